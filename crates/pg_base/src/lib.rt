@@ -1,0 +1,23 @@
+//! Names, numbers and small texts that every part of Pangaea speaks of.
+#![tactic(auto)]
+
+mod bytes;
+mod cut;
+mod id;
+mod items;
+mod numeral;
+mod shared;
+mod stamp;
+mod version;
+
+pub use bytes::Bytes;
+pub use cut::cut_at;
+pub use id::{BadId, FileId, Kind};
+pub use items::Items;
+pub use numeral::{number, number_u32, push_number};
+pub use shared::SharedBytes;
+pub use stamp::{NodeId, Stamp};
+pub use version::Version;
+
+#[cfg(test)]
+mod tests;
