@@ -6,9 +6,10 @@ ghost use Rattle.pg_base.specs.declared.id.FileId.{FileId};
 
 use crate::bytes::Bytes;
 use crate::cut::cut_at;
-use crate::numeral::{number, number_u32, push_number};
+use crate::numeral::{number, number_u32};
 use std::alloc::AllocError;
 use std::cmp::Ordering;
+use std::fmt;
 
 /// Whether an id names a directory or a file.
 #[derive(Clone, Copy, Debug, PartialEq, Eq, PartialOrd, Ord, Hash)]
@@ -54,14 +55,7 @@ impl FileId {
     pub fn write(&self, out: &mut Bytes) -> Result<(), AllocError>
         ensures ok { OnOk result (out.new ≡ out.old ++ spelling self.now) }
     {
-        let letter = match self.kind {
-            Kind::Dir => b'd',
-            Kind::File => b'f',
-        };
-        out.push(letter)?;
-        push_number(out, u64::from(self.server))?;
-        out.push(b'.')?;
-        push_number(out, self.number)
+        write!(out, "{self}")
     }
 
     /// Directories come first, then the lesser server, then the lesser number.
@@ -94,3 +88,31 @@ fn pair(text: &[u8]) -> Option<(u32, u64)>
 pub fn one_spelling()
     ensures { (a b : FileId) → Fits a → Fits b → spelling a ≡ spelling b → a ≡ b }
 {}
+
+impl fmt::Display for Kind {
+    ghost use Rattle.std.specs.Prelude.{Some, ◌∷◌, []};
+    ghost use Rattle.pg_base.specs.Id.{letter};
+
+    ghost output = { λ k. Some (letter k ∷ []) };
+
+    fn fmt<W: fmt::Write>(&self, f: &mut fmt::Formatter<W>) -> fmt::Result {
+        match self {
+            Kind::Dir => write!(f, "d"),
+            Kind::File => write!(f, "f"),
+        }
+    }
+}
+
+impl fmt::Display for FileId {
+    ghost use Rattle.std.specs.Prelude.{Some};
+    ghost use Rattle.pg_base.specs.Id.{spelling};
+
+    ghost output = { λ id. Some (spelling id) };
+
+    fn fmt<W: fmt::Write>(&self, f: &mut fmt::Formatter<W>) -> fmt::Result {
+        let kind = self.kind;
+        let server = self.server;
+        let number = self.number;
+        write!(f, "{kind}{server}.{number}")
+    }
+}

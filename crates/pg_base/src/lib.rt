@@ -14,7 +14,7 @@ pub use bytes::Bytes;
 pub use cut::cut_at;
 pub use id::{BadId, FileId, Kind};
 pub use items::Items;
-pub use numeral::{number, number_u32, push_number};
+pub use numeral::{number, number_u32};
 pub use shared::SharedBytes;
 pub use stamp::{NodeId, Stamp};
 pub use version::Version;
