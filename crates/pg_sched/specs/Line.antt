@@ -1,0 +1,55 @@
+-- A line of a schedule: what it is spelled as.
+use Rattle.std.specs.Prelude.{ℕ, ◌≡◌, ◌<◌, ◌≤◌, ◌^◌, List, [], ◌∷◌, length, decimal, codes}
+use Rattle.std.specs.List.{join_with_byte, AllByRecursion}
+use Rattle.hex.specs.Hex.{encode_lower}
+use Rattle.pg_base.specs.declared.id.Kind.TheVariants.{File}
+use Rattle.pg_base.specs.declared.id.FileId.{FileId}
+use Rattle.pg_base.specs.Id as id
+use Rattle.pg_sched.specs.declared.line.Event.{Event}
+use Rattle.pg_sched.specs.declared.line.Event.TheVariants.{Put, Deliver, Lose, Repeat}
+use Rattle.pg_sched.specs.declared.line.Line.{Line}
+use Rattle.pg_sched.specs.declared.line.Line.TheVariants.{Happens, Show}
+
+-- bytes as pairs of hexadecimal digits, or a dash for none
+abbrev pub hex_word : List ℕ → List ℕ
+hex_word [] = codes "-"
+hex_word (b ∷ bs) = encode_lower (b ∷ bs)
+
+-- the words of a write whose words after the verb are these
+abbrev pub put_words : List ℕ → List ℕ → List ℕ → List ℕ → List (List ℕ)
+put_words server moment file body = codes "put" ∷ server ∷ moment ∷ file ∷ body ∷ []
+
+abbrev pub event_words : Event → List (List ℕ)
+event_words (Put server moment file body) = put_words (decimal server) (decimal moment) (id.spelling file) (hex_word body)
+event_words (Deliver place) = codes "deliver" ∷ decimal place ∷ []
+event_words (Lose place) = codes "lose" ∷ decimal place ∷ []
+event_words (Repeat place) = codes "repeat" ∷ decimal place ∷ []
+
+abbrev pub line_words : Line → List (List ℕ)
+line_words (Happens event) = event_words event
+line_words (Show file) = codes "show" ∷ id.spelling file ∷ []
+
+-- the words with a space between two of them
+abbrev pub line_body : Line → List ℕ
+line_body line = join_with_byte 32 (line_words line)
+
+-- the id of a file, no directory
+pub record IsFile (file : FileId) : Type 0 where
+  pub kind : file.kind ≡ File
+  pub fits : id.Fits file
+
+-- what one write may bring: bytes, and not too many
+pub record IsBody (body : List ℕ) : Type 0 where
+  pub bytes : AllByRecursion (λ b. b < 256) body
+  pub few : length body ≤ 32768
+
+abbrev pub IsEvent : Event → Type 0
+IsEvent (Put server moment file body) = (server < 2 ^ 32) × (moment < 2 ^ 64) × IsFile file × IsBody body
+IsEvent (Deliver place) = place < 2 ^ 64
+IsEvent (Lose place) = place < 2 ^ 64
+IsEvent (Repeat place) = place < 2 ^ 64
+
+-- what has a spelling
+abbrev pub IsLine : Line → Type 0
+IsLine (Happens event) = IsEvent event
+IsLine (Show file) = IsFile file

@@ -1,0 +1,16 @@
+//! Schedules: what happens in a run, as text; what a run's journal says of it; how a command ends.
+#![tactic(auto)]
+
+mod entry;
+mod error;
+mod leaves;
+mod line;
+mod reading;
+mod schedule;
+mod status;
+
+pub use entry::{Entry, Message, Refusal, Reply, Update, VoidCause};
+pub use error::ReadError;
+pub use line::{Event, Line, MOST_BYTES};
+pub use schedule::{Schedule, read};
+pub use status::Status;
