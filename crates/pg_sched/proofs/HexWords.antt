@@ -1,13 +1,32 @@
 -- Words of hexadecimal digits.
-use Rattle.std.proofs.Common.{ℕ, ◌≡◌, ◌<◌, ◌≤◌, ◌*◌, List, [], ◌∷◌, length, Ok, Err, refl, ap, ◌∙◌, sym, arith, codes, zero, suc}
+use Rattle.std.proofs.Common.{ℕ, ◌≡◌, ◌<◌, ◌≤◌, ◌*◌, List, [], ◌∷◌, length, Ok, Err, refl, ap, ◌∙◌, sym, arith, codes, zero, suc, ◌++◌, ◌/◌, ◌%◌, slice_index}
 use Rattle.hex.specs.declared.error.FromHexError.{FromHexError}
 use Rattle.std.specs.List.{AllByRecursion}
-use Rattle.hex.specs.Hex.{encode_lower, decode_of, IsBytes, lower_digits}
-use Rattle.hex.proofs.HexLemmas.{decode_of-ok, decode_of-encode_lower, length-encode_with}
+use Rattle.std.specs.Str.{IsAscii}
+use Rattle.hex.specs.Hex.{encode_lower, encode_with, decode_of, IsBytes, lower_digits}
+use Rattle.hex.proofs.HexLemmas.{decode_of-ok, decode_of-encode_lower, length-encode_with, IsAscii-encode_with}
 use Rattle.pg_sched.specs.Line.{hex_word}
 
 pub length-encode : (bs : List ℕ) → length (encode_lower bs) ≡ 2 * length bs
 length-encode bs = length-encode_with lower_digits bs
+
+ascii : (xs : List ℕ) → AllByRecursion (λ x. x < 128) xs → IsAscii xs
+ascii [] h i = omega arith
+ascii (x ∷ xs) h zero = h.0
+ascii (x ∷ xs) h (suc i) = ascii xs h.1 i
+
+pub IsAscii-encode : (bs : List ℕ) → IsAscii (encode_lower bs)
+IsAscii-encode bs = IsAscii-encode_with lower_digits bs (ascii lower_digits (omega arith))
+
+pub encode-nil : [] ≡ encode_lower []
+unfolding encode_with
+encode-nil = refl
+
+-- the digits of joined bytes are their digits joined
+pub encode-append : (xs ys : List ℕ) → encode_lower (xs ++ ys) ≡ encode_lower xs ++ encode_lower ys
+unfolding encode_with
+encode-append [] ys = refl
+encode-append (x ∷ xs) ys = ap (λ ds. slice_index lower_digits (x / 16) ∷ slice_index lower_digits (x % 16) ∷ ds) (encode-append xs ys)
 
 pub hex_word-some : (bs : List ℕ) → 0 < length bs → hex_word bs ≡ encode_lower bs
 hex_word-some [] h = absurd (omega arith)

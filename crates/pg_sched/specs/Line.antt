@@ -25,6 +25,10 @@ event_words (Deliver place) = codes "deliver" ∷ decimal place ∷ []
 event_words (Lose place) = codes "lose" ∷ decimal place ∷ []
 event_words (Repeat place) = codes "repeat" ∷ decimal place ∷ []
 
+-- an event's words with a space between two of them
+abbrev pub event_body : Event → List ℕ
+event_body event = join_with_byte 32 (event_words event)
+
 abbrev pub line_words : Line → List (List ℕ)
 line_words (Happens event) = event_words event
 line_words (Show file) = codes "show" ∷ id.spelling file ∷ []

@@ -8,9 +8,11 @@ mod line;
 mod reading;
 mod schedule;
 mod status;
+mod text;
 
 pub use entry::{Entry, Message, Refusal, Reply, Update, VoidCause};
 pub use error::ReadError;
 pub use line::{Event, Line, MOST_BYTES};
-pub use schedule::{Schedule, read};
+pub use schedule::{Schedule, read, write};
 pub use status::Status;
+pub use text::HexWord;

@@ -2,8 +2,10 @@
 
 ghost use Rattle.std.specs.Prelude.{◌≡◌, IfOk};
 
+use crate::text::HexWord;
 use pg_base::{FileId, NodeId, SharedBytes};
 use std::alloc::AllocError;
+use std::fmt;
 
 /// What happens in a run.
 #[derive(Debug, Drop)]
@@ -47,6 +49,30 @@ impl Event {
     }
 }
 
+impl fmt::Display for Event {
+    ghost use Rattle.std.specs.Prelude.{Some};
+    ghost use Rattle.pg_sched.specs.Line.{event_body};
+
+    ghost output = { λ e. Some (event_body e) };
+
+    fn fmt<W: fmt::Write>(&self, f: &mut fmt::Formatter<W>) -> fmt::Result {
+        match self {
+            Event::Put {
+                server,
+                moment,
+                file,
+                body,
+            } => {
+                let word = HexWord(body.as_slice());
+                write!(f, "put {server} {moment} {file} {word}")
+            }
+            Event::Deliver(place) => write!(f, "deliver {place}"),
+            Event::Lose(place) => write!(f, "lose {place}"),
+            Event::Repeat(place) => write!(f, "repeat {place}"),
+        }
+    }
+}
+
 /// A line behind the first.
 #[derive(Debug, Drop)]
 pub enum Line {
@@ -54,6 +80,20 @@ pub enum Line {
     Happens(Event),
     /// Each server's replica of a file is to be shown.
     Show(FileId),
+}
+
+impl fmt::Display for Line {
+    ghost use Rattle.std.specs.Prelude.{Some};
+    ghost use Rattle.pg_sched.specs.Line.{line_body};
+
+    ghost output = { λ l. Some (line_body l) };
+
+    fn fmt<W: fmt::Write>(&self, f: &mut fmt::Formatter<W>) -> fmt::Result {
+        match self {
+            Line::Happens(event) => write!(f, "{event}"),
+            Line::Show(file) => write!(f, "show {file}"),
+        }
+    }
 }
 
 /// The most bytes that one write has.

@@ -1,6 +1,6 @@
 //! A whole schedule.
 
-ghost use Rattle.std.specs.Prelude.{◌≡◌, ◌≢◌, ◌++◌, ◌+◌, ◌<◌, ℕ, List, [], IfOk, IfErr, IsErrOf, length, IfSome, IfNone};
+ghost use Rattle.std.specs.Prelude.{◌≡◌, ◌≢◌, ◌++◌, ◌+◌, ◌<◌, ℕ, List, [], IfOk, IfErr, IsErrOf, OnOk, length, IfSome, IfNone};
 ghost use Rattle.pg_sched.specs.Schedule.{spelling, header, line_text, lines_text, IsCount, AreLines, LacksLine, LacksHeader, StopsAfter, IsFirstBad};
 ghost use Rattle.pg_sched.specs.Line.{IsLine};
 ghost use Rattle.pg_sched.specs.declared.error.ReadError.TheVariants.{BadLine};
@@ -9,8 +9,8 @@ ghost use Rattle.pg_sched.specs.declared.line.Line.{Line};
 use crate::error::{LineError, ReadError};
 use crate::line::Line;
 use crate::reading::read_line;
-use pg_base::{Items, cut_at, number_u32};
-use std::alloc::Global;
+use pg_base::{Bytes, Items, cut_at, number_u32};
+use std::alloc::{AllocError, Global};
 
 /// The servers of a run, and what happens in it.
 #[derive(Debug, Drop)]
@@ -78,4 +78,16 @@ pub fn read(alloc: Global, text: &[u8]) -> Result<Schedule, ReadError>
         servers,
         lines: Items::from_vec(lines),
     })
+}
+
+/// Writes the schedule at the end, as `read` reads it.
+pub fn write(schedule: &Schedule, out: &mut Bytes) -> Result<(), AllocError>
+    ensures ok { OnOk result (out.new ≡ out.old ++ spelling schedule.now.servers schedule.now.lines) }
+{
+    let servers = schedule.servers;
+    write!(out, "pangaea 1 {servers}\n")?;
+    for line in schedule.lines.as_slice() {
+        write!(out, "{line}\n")?;
+    }
+    Ok(())
 }

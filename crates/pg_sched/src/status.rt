@@ -39,3 +39,22 @@ impl Status {
         }
     }
 }
+
+impl fmt::Display for Status {
+    ghost use Rattle.std.specs.Prelude.{Some};
+    ghost use Rattle.pg_sched.specs.Status.{status_text};
+
+    ghost output = { λ s. Some (status_text s) };
+
+    fn fmt<W: fmt::Write>(&self, f: &mut fmt::Formatter<W>) -> fmt::Result {
+        match self {
+            Status::Done => Ok(()),
+            Status::Usage(word) => write!(f, "usage at word {word}"),
+            Status::ReadFault => write!(f, "read fault"),
+            Status::WriteFault => write!(f, "write fault"),
+            Status::InputLong => write!(f, "input too long"),
+            Status::BadLine(line) => write!(f, "line {line}"),
+            Status::OutOfMemory => write!(f, "out of memory"),
+        }
+    }
+}
