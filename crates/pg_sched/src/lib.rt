@@ -13,6 +13,6 @@ mod text;
 pub use entry::{Entry, Message, Refusal, Reply, Update, VoidCause};
 pub use error::ReadError;
 pub use line::{Event, Line, MOST_BYTES};
-pub use schedule::{Schedule, read, write};
+pub use schedule::{Schedule, one_spelling, read, write};
 pub use status::Status;
 pub use text::HexWord;

@@ -1,9 +1,9 @@
 //! A whole schedule.
 
-ghost use Rattle.std.specs.Prelude.{◌≡◌, ◌≢◌, ◌++◌, ◌+◌, ◌<◌, ℕ, List, [], IfOk, IfErr, IsErrOf, OnOk, length, IfSome, IfNone};
+ghost use Rattle.std.specs.Prelude.{◌≡◌, ◌≢◌, ◌++◌, ◌+◌, ◌<◌, ℕ, List, [], IfOk, IfErr, IsErrOf, IsErrAnd, MatchResult, ◌⊎◌, OnOk, length, IfSome, IfNone};
 ghost use Rattle.pg_sched.specs.Schedule.{spelling, header, line_text, lines_text, IsCount, AreLines, LacksLine, LacksHeader, StopsAfter, IsFirstBad};
 ghost use Rattle.pg_sched.specs.Line.{IsLine};
-ghost use Rattle.pg_sched.specs.declared.error.ReadError.TheVariants.{BadLine};
+ghost use Rattle.pg_sched.specs.declared.error.ReadError.TheVariants.{BadLine, OutOfMemory};
 ghost use Rattle.pg_sched.specs.declared.line.Line.{Line};
 
 use crate::error::{LineError, ReadError};
@@ -69,6 +69,8 @@ fn lines_of(alloc: Global, text: &[u8]) -> Result<Vec<Line>, ReadError>
 pub fn read(alloc: Global, text: &[u8]) -> Result<Schedule, ReadError>
     ensures found { IfOk result (λ s. IsCount s.servers × AreLines s.lines × (text.now ≡ spelling s.servers s.lines)) }
     ensures bad { IfErr result (λ e. (n : ℕ) → e ≡ BadLine n → IsFirstBad text.now n) }
+    ensures complete { (servers : ℕ) (lines : List Line) → IsCount servers → AreLines lines → text.now ≡ spelling servers lines → MatchResult result (λ s. (s.servers ≡ servers) × (s.lines ≡ lines)) (λ e. e ≡ OutOfMemory) }
+    ensures first { (n : ℕ) → IsFirstBad text.now n → IsErrAnd result (λ e. (e ≡ BadLine n) ⊎ (e ≡ OutOfMemory)) }
 {
     let Some((servers, rest)) = servers_of(text) else {
         return Err(ReadError::BadLine(1));
@@ -91,3 +93,8 @@ pub fn write(schedule: &Schedule, out: &mut Bytes) -> Result<(), AllocError>
     }
     Ok(())
 }
+
+/// No two schedules have one spelling, so what was written is read again.
+pub fn one_spelling()
+    ensures { (n m : ℕ) (xs ys : List Line) → IsCount n → IsCount m → AreLines xs → AreLines ys → spelling n xs ≡ spelling m ys → (n ≡ m) × (xs ≡ ys) }
+{}
