@@ -1,5 +1,5 @@
 -- The words of a line have no space and no line feed, so a line is cut into its words again.
-use Rattle.std.proofs.Common.{ℕ, ◌≡◌, ◌≢◌, ◌<◌, ◌^◌, List, [], ◌∷◌, true, false, eqb, refl, sym, ap, ◌∙◌, arith, codes, decimal, All, eq-eqb, inl, inr}
+use Rattle.std.proofs.Common.{ℕ, ◌≡◌, ◌≢◌, ◌<◌, ◌^◌, List, [], ◌∷◌, true, false, eqb, refl, sym, ap, ◌∙◌, arith, codes, decimal, All, eq-eqb, inl, inr, take, length, zero, suc}
 use Rattle.std.proofs.lemmas.Bool.Decides.{eqb_tells}
 use Rattle.std.specs.List.{AllByRecursion, join_with_byte, slice_split}
 use Rattle.std.proofs.lemmas.List.Elements.{All-from_recursion, All-append, All-cons, All-weaker}
@@ -87,3 +87,32 @@ words-again (Show f) fits = split-join 32 _ _ (line_words-lack 32 (Show f) space
 
 pub text-again : (text : List ℕ) (line : Line) → slice_split (λ b. eqb b 32) text ≡ line_words line → text ≡ line_body line
 text-again text line e = sym (join_with_byte-slice_split 32 text) ∙ ap (join_with_byte 32) e
+
+-- no line has more than five words
+pub all_words : (line : Line) → take 6 (line_words line) ≡ line_words line
+all_words (Happens (Put s m f b)) = refl
+all_words (Happens (Deliver n)) = refl
+all_words (Happens (Lose n)) = refl
+all_words (Happens (Repeat n)) = refl
+all_words (Show f) = refl
+
+few_words : (line : Line) → length (line_words line) < 6
+few_words (Happens (Put s m f b)) = omega arith
+few_words (Happens (Deliver n)) = omega arith
+few_words (Happens (Lose n)) = omega arith
+few_words (Happens (Repeat n)) = omega arith
+few_words (Show f) = omega arith
+
+take_short : (n : ℕ) (xs ys : List (List ℕ)) → take n xs ≡ ys → length ys < n → xs ≡ ys
+take_short zero xs ys e h = absurd (omega arith)
+take_short (suc n) [] ys e h = e
+take_short (suc n) (x ∷ xs) [] e h = absurd (let m = ap length e in omega arith)
+take_short (suc n) (x ∷ xs) (y ∷ ys) e h =
+    let first : x ≡ y = cc in
+    let more : take n xs ≡ ys = cc in
+    let rest : xs ≡ ys = take_short n xs ys more (omega arith) in
+    cc
+
+-- words whose first six are those of a line are no more
+pub no_more : (line : Line) (words : List (List ℕ)) → take 6 words ≡ line_words line → words ≡ line_words line
+no_more line words e = take_short 6 words (line_words line) e (few_words line)

@@ -1,6 +1,6 @@
 //! The words that lines are made of.
 
-ghost use Rattle.std.specs.Prelude.{◌≡◌, ℕ, List, IfOk, IfErr, IsErrOf, map, IsTrue, ◌↔◌};
+ghost use Rattle.std.specs.Prelude.{◌≡◌, ℕ, List, IfOk, IfErr, IsErrOf, map, IsTrue, ◌↔◌, take};
 ghost use Rattle.std.specs.List.{slice_split};
 ghost use Rattle.std.specs.Prelude.{◌==◌};
 ghost use Rattle.pg_base.specs.Id.{spelling, Fits};
@@ -12,6 +12,9 @@ use crate::line::MOST_BYTES;
 use hex::FromHexError;
 use pg_base::{FileId, Kind, SharedBytes};
 use std::alloc::{AllocError, Global};
+
+/// More words than any line has.
+const TOO_MANY: usize = 6;
 
 /// Whether two words are the same.
 pub fn is_same(word: &[u8], other: &[u8]) -> bool
@@ -64,9 +67,9 @@ pub fn file_of(word: &[u8]) -> Result<FileId, LineError>
     Ok(id)
 }
 
-/// The words of a line, with a space between two of them.
+/// The first words of a line, with a space between two of them: no more than are needed, however long the line is.
 pub fn words_of(alloc: Global, line: &[u8]) -> Result<Vec<&[u8]>, AllocError>
-    ensures { IfOk result (λ v. map (λ w. w.now) v.items ≡ slice_split (λ b. b == 32) line.now) }
+    ensures { IfOk result (λ v. map (λ w. w.now) v.items ≡ take 6 (slice_split (λ b. b == 32) line.now)) }
 {
-    line.split(|b| *b == b' ').collect(alloc)
+    line.split(|b| *b == b' ').take(TOO_MANY).collect(alloc)
 }
