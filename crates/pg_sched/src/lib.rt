@@ -16,3 +16,6 @@ pub use line::{Event, Line, MOST_BYTES};
 pub use schedule::{Schedule, one_spelling, read, write};
 pub use status::Status;
 pub use text::HexWord;
+
+#[cfg(test)]
+mod tests;

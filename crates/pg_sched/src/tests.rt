@@ -1,0 +1,134 @@
+//! That the grammar is the one that is meant, and that each call that takes memory succeeds where there is enough.
+
+use super::*;
+use pg_base::{Bytes, FileId, Items, Kind, SharedBytes, Stamp, Version};
+use std::alloc::Global;
+use std::test::Fail;
+
+/// The number of the first bad line, where the text has one.
+fn bad_line(alloc: Global, text: &[u8]) -> Option<u64> {
+    match read(alloc, text) {
+        Err(ReadError::BadLine(line)) => Some(line),
+        _ => None,
+    }
+}
+
+#[test]
+fn names_the_first_bad_line(rt: HostRuntime) {
+    let table = [
+        (b"".as_slice(), 1),
+        (b"pangaea 1 1".as_slice(), 1),
+        (b"pangaea 1 0\n".as_slice(), 1),
+        (b"pangaea 1 65\n".as_slice(), 1),
+        (b"pangaea 1 01\n".as_slice(), 1),
+        (b"pangaea 1 2 \n".as_slice(), 1),
+        (b"pangaea 2 2\n".as_slice(), 1),
+        (b"pangaea 1 2\n\n".as_slice(), 2),
+        (b"pangaea 1 2\nshow f1.1".as_slice(), 2),
+        (b"pangaea 1 2\nshow d1.1\n".as_slice(), 2),
+        (b"pangaea 1 2\nshow f1.1\nshow f1.1\r\n".as_slice(), 3),
+        (b"pangaea 1 2\ndeliver 1\ndeliver 01\n".as_slice(), 3),
+        (b"pangaea 1 2\ndeliver +1\n".as_slice(), 2),
+        (b"pangaea 1 2\ndeliver\n".as_slice(), 2),
+        (b"pangaea 1 2\ndeliver 1 \n".as_slice(), 2),
+        (b"pangaea 1 2\ndeliver  1\n".as_slice(), 2),
+        (b"pangaea 1 2\n deliver 1\n".as_slice(), 2),
+        (b"pangaea 1 2\ndeliver 18446744073709551616\n".as_slice(), 2),
+        (b"pangaea 1 2\nDeliver 1\n".as_slice(), 2),
+        (b"pangaea 1 2\nput 1 1 f1.1 616\n".as_slice(), 2),
+        (b"pangaea 1 2\nput 1 1 f1.1 6A\n".as_slice(), 2),
+        (b"pangaea 1 2\nput 1 1 f1.1 \n".as_slice(), 2),
+        (b"pangaea 1 2\nput 1 1 f1.1\n".as_slice(), 2),
+        (b"pangaea 1 2\nput 4294967296 1 f1.1 -\n".as_slice(), 2),
+        (b"pangaea 1 2\nput 1 1 f1.1 61 62\n".as_slice(), 2),
+        (b"pangaea 1 2\nlose 1\nrepeat \xc2\xb9\n".as_slice(), 3),
+    ];
+    for (text, line) in table {
+        assert_eq!(rt; bad_line(rt.alloc(), text), Some(line), "at {text:?}");
+    }
+}
+
+/// A schedule of one write of so many bytes.
+fn one_write(alloc: Global, bytes: usize) -> Result<Bytes, Fail> {
+    let mut text = Bytes::from_slice(alloc, b"pangaea 1 1\nput 1 1 f1.1 ")?;
+    for _ in 0..bytes {
+        text.extend(b"61")?;
+    }
+    text.push(b'\n')?;
+    Ok(text)
+}
+
+#[test]
+fn bodies_have_a_limit(rt: HostRuntime) -> Result<(), Fail> {
+    let most = one_write(rt.alloc(), MOST_BYTES)?;
+    assert!(rt; read(rt.alloc(), most.as_slice()).is_ok());
+    let more = one_write(rt.alloc(), MOST_BYTES + 1)?;
+    assert_eq!(rt; bad_line(rt.alloc(), more.as_slice()), Some(2));
+    Ok(())
+}
+
+#[test]
+fn reads_what_it_writes(rt: HostRuntime) -> Result<(), Fail> {
+    let table = [
+        b"pangaea 1 1\n".as_slice(),
+        b"pangaea 1 64\nput 1 40 f1.1 61ff00\nput 4294967295 18446744073709551615 f0.0 -\ndeliver 1\nlose 2\nrepeat 3\nshow f1.1\n".as_slice(),
+    ];
+    for text in table {
+        let schedule = read(rt.alloc(), text)?;
+        let mut out = Bytes::new(rt.alloc());
+        write(&schedule, &mut out)?;
+        assert_eq!(rt; out.as_slice(), text);
+    }
+    Ok(())
+}
+
+#[test]
+fn copies(rt: HostRuntime) -> Result<(), Fail> {
+    let file = FileId {
+        kind: Kind::File,
+        server: 1,
+        number: 2,
+    };
+    let event = Event::Put {
+        server: 1,
+        moment: 5,
+        file,
+        body: SharedBytes::from_slice(rt.alloc(), b"a")?,
+    };
+    let text = format!(in rt.alloc(); "{}", event.copy()?)?;
+    assert_eq!(rt; text.as_str(), "put 1 5 f1.2 61");
+    let stamp = Stamp { time: 5, server: 1 };
+    let body = SharedBytes::from_slice(rt.alloc(), b"a")?;
+    let update = Update {
+        file,
+        version: Version { stamp, body },
+    };
+    let again = update.copy()?;
+    assert_eq!(rt; again.version.body.as_slice(), b"a".as_slice());
+    let message = Message {
+        to: 2,
+        file,
+        version: again.version,
+    };
+    assert_eq!(rt; message.copy()?.version.stamp, stamp);
+    Ok(())
+}
+
+#[test]
+fn statuses_have_their_texts(rt: HostRuntime) -> Result<(), Fail> {
+    let table = [
+        (Status::Done, 0, ""),
+        (Status::Usage(2), 2, "usage at word 2"),
+        (Status::ReadFault, 3, "read fault"),
+        (Status::WriteFault, 4, "write fault"),
+        (Status::InputLong, 8, "input too long"),
+        (Status::BadLine(7), 9, "line 7"),
+        (Status::OutOfMemory, 13, "out of memory"),
+    ];
+    for (status, number, text) in table {
+        assert_eq!(rt; status.number(), number);
+        let shown = format!(in rt.alloc(); "{status}")?;
+        assert_eq!(rt; shown.as_str(), text);
+    }
+    Ok(())
+}
