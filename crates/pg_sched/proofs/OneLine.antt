@@ -1,18 +1,18 @@
 -- No two lines have one spelling.
-use Rattle.std.proofs.Common.{ℕ, ◌≡◌, ◌<◌, ◌^◌, ◌*◌, ◌++◌, List, [], ◌∷◌, Ok, refl, sym, ap, ◌∙◌, arith, decimal, codes, length, zero, suc, Result}
+use Rattle.std.proofs.Common.{ℕ, ◌≡◌, ◌<◌, ◌^◌, List, [], ◌∷◌, Ok, refl, sym, ap, ◌∙◌, arith, decimal, codes, length, zero, suc, Result}
 use Rattle.std.specs.List.{slice_split}
 use Rattle.std.proofs.lemmas.Fmt.{decimal_injective}
 use Rattle.hex.specs.Hex.{encode_lower, decode_of}
 use Rattle.hex.proofs.HexLemmas.{decode_of-encode_lower}
 use Rattle.pg_base.specs.declared.id.Kind.{Kind}
 use Rattle.pg_base.specs.declared.id.FileId.{FileId}
-use Rattle.pg_base.specs.Id.{spelling, letter}
+use Rattle.pg_base.specs.Id.{spelling}
 use Rattle.pg_base.proofs.Parts.{pair_same}
 use Rattle.std.proofs.Common.{eqb}
 use Rattle.pg_sched.specs.declared.line.Line.{Line}
 use Rattle.pg_sched.specs.declared.line.Line.TheVariants.{Happens, Show}
 use Rattle.pg_sched.specs.declared.line.Event.TheVariants.{Put, Deliver, Lose, Repeat}
-use Rattle.pg_sched.specs.Line.{hex_word, line_words, line_body, put_words, IsLine, IsFile, IsBody}
+use Rattle.pg_sched.specs.Line.{hex_word, line_words, line_body, IsLine, IsFile, IsBody}
 use Rattle.pg_sched.proofs.HexWords.{IsBytes-from_all, length-encode}
 use Rattle.pg_sched.proofs.Words.{words-again}
 

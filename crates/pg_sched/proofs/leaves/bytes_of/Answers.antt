@@ -1,6 +1,6 @@
-use Rattle.std.proofs.Common.{rules, arith, ◌≡◌, ◌*◌, ◌≤◌, Bool, true, false, length, IsTrue, inl, inr, ap, sym, ◌∙◌}
+use Rattle.std.proofs.Common.{rules, arith, ◌≡◌, ◌≤◌, Bool, true, false, length, IsTrue, inl, inr, ap, sym, ◌∙◌}
 use Rattle.hex.specs.Hex.{encode_lower}
-use Rattle.pg_sched.specs.Line.{IsBody, hex_word}
+use Rattle.pg_sched.specs.Line.{IsBody}
 use Rattle.pg_sched.proofs.HexWords.{not_empty, not_long, not_decoded, not_encoded, found, all_bytes, length-encode}
 use Rattle.pg_sched.proofs.leaves.bytes_of.Goals as goal
 
