@@ -1,0 +1,90 @@
+-- What a journal says: which messages are under way, which versions were made, which versions each server took, and
+-- what a set of versions comes to. A journal is the list of its entries, the latest first.
+use Rattle.std.specs.Prelude.{ℕ, ◌≡◌, ◌≢◌, ◌-◌, ◌==◌, Bool, ◌&&◌, if◌then◌else◌, max, List, [], ◌∷◌, ◌++◌, All, Contains, Option, None, Some, slice_get, remove}
+use Rattle.pg_base.specs.declared.id.FileId.{FileId}
+use Rattle.pg_base.specs.declared.version.Version.{Version}
+use Rattle.pg_base.specs.Id.{is_same_file}
+use Rattle.pg_base.specs.Stamp.{UpTo, is_before}
+use Rattle.pg_sched.specs.declared.line.Event.{Event}
+use Rattle.pg_sched.specs.declared.line.Event.TheVariants.{Put, Deliver, Lose, Repeat}
+use Rattle.pg_sched.specs.declared.entry.Update.{Update}
+use Rattle.pg_sched.specs.declared.entry.Message.{Message}
+use Rattle.pg_sched.specs.declared.entry.Entry.{Entry}
+use Rattle.pg_node.specs.Local.{has_time}
+
+-- all versions that were made
+abbrev pub history : List Entry → List Update
+history [] = []
+history (entry ∷ earlier) = entry.made ++ history earlier
+
+-- the message with this number; messages are counted from 1, in order of sending
+abbrev pub message_at : List Message → ℕ → Option Message
+message_at bag place = if place == 0 then None else slice_get bag (place - 1)
+
+-- without the message of this number, where there is one
+abbrev pub without : List Message → ℕ → Option Message → List Message
+without bag place None = bag
+without bag place (Some m) = remove bag (place - 1)
+
+-- with this message once more at the end
+abbrev pub with_copy : List Message → Option Message → List Message
+with_copy bag None = bag
+with_copy bag (Some m) = bag ++ m ∷ []
+
+-- what is left of the messages under way, with what an event sends or copies
+abbrev pub bag_after : List Message → Event → List Message → List Message
+bag_after bag (Put server moment file body) sent = bag ++ sent
+bag_after bag (Deliver place) sent = without bag place (message_at bag place) ++ sent
+bag_after bag (Lose place) sent = without bag place (message_at bag place)
+bag_after bag (Repeat place) sent = with_copy bag (message_at bag place)
+
+-- the messages under way, in order of sending
+abbrev pub bag : List Entry → List Message
+bag [] = []
+bag (entry ∷ earlier) = bag_after (bag earlier) entry.event entry.sent
+
+-- the greatest time among these versions' stamps
+abbrev pub last_of : List Update → ℕ
+last_of [] = 0
+last_of (u ∷ us) = max (last_of us) u.version.stamp.time
+
+-- the version that a message carries
+abbrev pub carried_by : Message → Update
+carried_by m = record { file = m.file; version = m.version }
+
+-- what a server takes of a message, if it is for it and its clock is not at its end
+abbrev pub taken_from : ℕ → List Update → Option Message → List Update
+taken_from server before None = []
+taken_from server before (Some m) = if m.to == server && has_time (last_of before) then carried_by m ∷ [] else []
+
+-- what a server, which took these before, takes by an event, where this bag was under way and these were made
+abbrev pub taken_by : ℕ → List Update → List Message → Event → List Update → List Update
+taken_by server before bag (Put maker moment file body) made = if maker == server then made else []
+taken_by server before bag (Deliver place) made = taken_from server before (message_at bag place)
+taken_by server before bag (Lose place) made = []
+taken_by server before bag (Repeat place) made = []
+
+-- the versions that a server made or was delivered, the latest first
+abbrev pub taken : ℕ → List Entry → List Update
+taken server [] = []
+taken server (entry ∷ earlier) = taken_by server (taken server earlier) (bag earlier) entry.event entry.made ++ taken server earlier
+
+-- the one of greater stamp
+abbrev pub greater : Option Version → Version → Version
+greater None v = v
+greater (Some old) v = if is_before old.stamp v.stamp then v else old
+
+-- what a set of versions comes to for a file: its version of greatest stamp
+abbrev pub state_of : FileId → List Update → Option Version
+state_of file [] = None
+state_of file (u ∷ us) = if is_same_file file u.file then Some (greater (state_of file us) u.version) else state_of file us
+
+-- this version of the file is among these, and none of the file has a greater stamp
+pub record IsGreatest (file : FileId) (updates : List Update) (v : Version) : Type 0 where
+  pub among : Contains updates (record { file = file; version = v })
+  pub greatest : All (λ u. u.file ≡ file → UpTo u.version.stamp v.stamp) updates
+
+-- none of these, or the one of greatest stamp
+abbrev pub IsStateOf : FileId → List Update → Option Version → Type 0
+IsStateOf file updates None = All (λ u. u.file ≢ file) updates
+IsStateOf file updates (Some v) = IsGreatest file updates v

@@ -1,0 +1,4 @@
+pub mod Local
+pub mod Journal
+pub mod Run
+pub mod Laws
