@@ -1,0 +1,5 @@
+pub mod Stands
+pub mod Played
+pub mod PlayedInside
+pub mod Text
+pub mod Written

@@ -1,0 +1,107 @@
+//! The program's commands.
+
+ghost use Rattle.std.specs.Prelude.{◌≡◌, ◌≢◌, ◌<◌, ◌≤◌, ◌↔◌, ◌⊎◌, ℕ, List, IfSome, Some, IsTrue, length, vec_len};
+ghost use Rattle.std.specs.Io.KnownBytes.{IsAtEnd};
+ghost use Rattle.pg_io.specs.Causes.{Rose};
+ghost use Rattle.pg_sched.specs.Schedule.{IsFirstBad};
+ghost use Rattle.pg_node.specs.Laws.{HoldsWhatItTook, StateIsGreatest, StateIsDetermined};
+ghost use Rattle.pangaea.specs.Written.{WritesAll, WritesFront, IsGoodInput, FirstIsReplay, AreGoodWords, most_input};
+
+use crate::journal::journal_of;
+use pg_io::{ReadAllError, Sink, Source, read_all, write_all};
+use pg_sched::{ReadError, Status, read};
+use std::alloc::Global;
+
+/// The most bytes that an input may have.
+pub const LIMIT: usize = 1 << 26;
+
+/// Reads a schedule and writes the journal of its run. Nothing is written before the whole input was read.
+pub fn replay<S: Source, K: Sink>(alloc: Global, source: &mut S, sink: &mut K) -> Status
+    // What is written.
+    ensures done { result ≡ Status.Done → WritesAll (S.left source.old) (K.held sink.old) (K.held sink.new) }
+    ensures whole { result ≡ Status.Done → IsAtEnd (S.left source.new) }
+    ensures front { result ≡ Status.WriteFault → WritesFront (S.left source.old) (K.held sink.old) (K.held sink.new) }
+    ensures untouched { result ≢ Status.Done → result ≢ Status.WriteFault → sink.new ≡ sink.old }
+
+    // When it ends how.
+    ensures read { result ≡ Status.ReadFault → Rose (S.faults source.old) (S.faults source.new) }
+    ensures write { result ≡ Status.WriteFault → Rose (K.faults sink.old) (K.faults sink.new) }
+    ensures long { result ≡ Status.InputLong → IfSome (S.left source.old) (λ input. most_input < length input) }
+    ensures short { (input : List ℕ) → S.left source.old ≡ Some input → most_input < length input → ¬ (Rose (S.faults source.old) (S.faults source.new)) → (result ≡ Status.InputLong) ⊎ (result ≡ Status.OutOfMemory) }
+    ensures bad { (n : ℕ) → result ≡ Status.BadLine n → IfSome (S.left source.old) (λ input. IsFirstBad input n) }
+    ensures first_bad { (input : List ℕ) (n : ℕ) → S.left source.old ≡ Some input → length input ≤ most_input → IsFirstBad input n → ¬ (Rose (S.faults source.old) (S.faults source.new)) → (result ≡ Status.BadLine n) ⊎ (result ≡ Status.OutOfMemory) }
+    ensures usage { (n : ℕ) → result ≢ Status.Usage n }
+    ensures complete { IsGoodInput (S.left source.old) → ¬ (Rose (S.faults source.old) (S.faults source.new)) → ¬ (Rose (K.faults sink.old) (K.faults sink.new)) → (result ≡ Status.Done) ⊎ (result ≡ Status.OutOfMemory) }
+{
+    let input = match read_all(alloc, source, LIMIT) {
+        Ok(input) => input,
+        Err(error) => match error {
+            ReadAllError::Fault => return Status::ReadFault,
+            ReadAllError::Long => return Status::InputLong,
+            ReadAllError::OutOfMemory => return Status::OutOfMemory,
+        },
+    };
+    let schedule = match read(alloc, &input) {
+        Ok(schedule) => schedule,
+        Err(error) => match error {
+            ReadError::BadLine(number) => return Status::BadLine(number),
+            ReadError::OutOfMemory => return Status::OutOfMemory,
+        },
+    };
+    let Ok(text) = journal_of(alloc, &schedule) else {
+        return Status::OutOfMemory;
+    };
+    match write_all(sink, text.as_slice()) {
+        Ok(()) => Status::Done,
+        Err(_) => Status::WriteFault,
+    }
+}
+
+/// Does what the words ask for. Word 0 is the program's name.
+pub fn run<S: Source, K: Sink>(
+    alloc: Global,
+    words: &Vec<String>,
+    source: &mut S,
+    sink: &mut K,
+) -> Status
+    // What is written.
+    ensures done { result ≡ Status.Done → WritesAll (S.left source.old) (K.held sink.old) (K.held sink.new) }
+    ensures whole { result ≡ Status.Done → IsAtEnd (S.left source.new) }
+    ensures front { result ≡ Status.WriteFault → WritesFront (S.left source.old) (K.held sink.old) (K.held sink.new) }
+    ensures untouched { result ≢ Status.Done → result ≢ Status.WriteFault → sink.new ≡ sink.old }
+
+    // What is shown: of each run, every replica is the version of greatest stamp among exactly those that it took.
+    ensures merge { (servers : ℕ) → HoldsWhatItTook servers }
+    ensures greatest { StateIsGreatest }
+    ensures determined { (servers : ℕ) → StateIsDetermined servers }
+
+    // When it ends how.
+    ensures first_word { result ≡ Status.Usage 1 ↔ ¬ (FirstIsReplay words.now) }
+    ensures second_word { result ≡ Status.Usage 2 ↔ (FirstIsReplay words.now × (2 < vec_len words.now)) }
+    ensures usage { (n : ℕ) → result ≡ Status.Usage n → (n ≡ 1) ⊎ (n ≡ 2) }
+    ensures read { result ≡ Status.ReadFault → Rose (S.faults source.old) (S.faults source.new) }
+    ensures write { result ≡ Status.WriteFault → Rose (K.faults sink.old) (K.faults sink.new) }
+    ensures long { result ≡ Status.InputLong → IfSome (S.left source.old) (λ input. most_input < length input) }
+    ensures short { (input : List ℕ) → AreGoodWords words.now → S.left source.old ≡ Some input → most_input < length input → ¬ (Rose (S.faults source.old) (S.faults source.new)) → (result ≡ Status.InputLong) ⊎ (result ≡ Status.OutOfMemory) }
+    ensures bad { (n : ℕ) → result ≡ Status.BadLine n → IfSome (S.left source.old) (λ input. IsFirstBad input n) }
+    ensures first_bad { (input : List ℕ) (n : ℕ) → AreGoodWords words.now → S.left source.old ≡ Some input → length input ≤ most_input → IsFirstBad input n → ¬ (Rose (S.faults source.old) (S.faults source.new)) → (result ≡ Status.BadLine n) ⊎ (result ≡ Status.OutOfMemory) }
+    ensures complete { AreGoodWords words.now → IsGoodInput (S.left source.old) → ¬ (Rose (S.faults source.old) (S.faults source.new)) → ¬ (Rose (K.faults sink.old) (K.faults sink.new)) → (result ≡ Status.Done) ⊎ (result ≡ Status.OutOfMemory) }
+{
+    if !is_replay(words) {
+        return Status::Usage(1);
+    }
+    if words.len() > 2 {
+        return Status::Usage(2);
+    }
+    replay(alloc, source, sink)
+}
+
+/// Whether the word behind the program's name is `replay`.
+fn is_replay(words: &Vec<String>) -> bool
+    ensures { IsTrue result ↔ FirstIsReplay words.now }
+{
+    match words.get(1) {
+        Some(word) => word.as_str() == "replay",
+        None => false,
+    }
+}

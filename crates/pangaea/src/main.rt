@@ -1,0 +1,39 @@
+//! Pangaea: what its servers do, replayed from a schedule.
+#![tactic(auto)]
+
+mod command;
+mod journal;
+mod machine;
+mod text;
+mod world;
+
+pub use command::{LIMIT, replay, run};
+use pg_io::{Reading, Writing};
+use pg_sched::Status;
+use std::alloc::AllocError;
+use std::process::ExitCode;
+use std::{env, io};
+pub use world::{StepError, World};
+
+fn words(rt: &HostRuntime) -> io::Result<Vec<String>> {
+    let mut words = Vec::new(rt.alloc());
+    for word in env::args(rt)? {
+        words.push(word).map_err(AllocError::from)?;
+    }
+    Ok(words)
+}
+
+fn main(rt: HostRuntime) -> ExitCode {
+    let status = match words(&rt) {
+        Ok(words) => {
+            let mut source = Reading::new(rt.stdin());
+            let mut sink = Writing::new(rt.stdout());
+            run(rt.alloc(), &words, &mut source, &mut sink)
+        }
+        Err(_) => Status::OutOfMemory,
+    };
+    if status != Status::Done {
+        let _ = eprintln!(rt; "pangaea: {status}");
+    }
+    ExitCode::from(status.number())
+}
