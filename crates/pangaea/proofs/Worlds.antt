@@ -1,18 +1,14 @@
 -- The program's servers and messages, after an event, are the world's.
-use Rattle.std.proofs.Common.{ℕ, ◌≡◌, ◌<◌, ◌≤◌, ◌+◌, ◌-◌, ◌++◌, Bool, true, false, cond, Option, None, Some, List, [], ◌∷◌, get_or, set, length, refl, sym, ap, subst, ◌∙◌, append-nil}
-use Rattle.pg_base.specs.declared.id.FileId.{FileId}
+use Rattle.std.proofs.Common.{ℕ, ◌≡◌, ◌++◌, Bool, true, cond, Option, Some, List, [], ◌∷◌, refl, sym, ap, subst, ◌∙◌}
 use Rattle.pg_sched.specs.declared.line.Event.{Event}
-use Rattle.pg_sched.specs.declared.line.Event.TheVariants.{Put, Deliver, Lose, Repeat}
+use Rattle.pg_sched.specs.declared.line.Event.TheVariants.{Deliver}
 use Rattle.pg_sched.specs.declared.entry.Message.{Message}
-use Rattle.pg_sched.specs.declared.entry.Entry.{Entry}
-use Rattle.pg_sched.specs.declared.entry.VoidCause.TheVariants.{NoMessage, NoServer}
-use Rattle.pg_node.specs.declared.input.Input.{Input}
 use Rattle.pg_node.specs.declared.input.Input.TheVariants as input
-use Rattle.pg_node.specs.Local.{Store, Effect, effect}
-use Rattle.pg_node.specs.Journal.{bag, bag_after, message_at, without, with_copy}
-use Rattle.pg_node.specs.Run.{World, Step, after, void, still, acted, is_server, called, delivered, moved, next, entered, run_from}
+use Rattle.pg_node.specs.Local.{Store, effect}
+use Rattle.pg_node.specs.Journal.{bag, message_at, without}
+use Rattle.pg_node.specs.Run.{World, Step, after, still, acted, is_server, delivered, next, entered, run_from}
 use Rattle.pangaea.specs.declared.machine.Machine.{Machine}
-use Rattle.pangaea.specs.Stands.{Stands, EachStands, done_entry}
+use Rattle.pangaea.specs.Stands.{Stands, EachStands}
 
 -- a choice that was tested
 pub chosen_stands : (m : Machine) (w : World) (t : Bool) (x y : Step) → t ≡ true → Stands m (entered w x) → Stands m (entered w (cond t x y))

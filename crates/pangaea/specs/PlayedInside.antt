@@ -1,5 +1,5 @@
 -- What a run keeps.
-use Rattle.std.specs.Prelude.{◌≡◌, ◌≤◌, length, false}
+use Rattle.std.specs.Prelude.{◌≡◌, length, false}
 use Rattle.pg_node.specs.Run.{run}
 use Rattle.pangaea.specs.Stands.{Stands}
 use Rattle.pangaea.specs.Played.{Played}

@@ -1,5 +1,5 @@
 -- What the program writes of an input, and when it ends how.
-use Rattle.std.specs.Prelude.{ℕ, ◌≡◌, ◌≤◌, ◌<◌, ◌⊎◌, List, Vec, String, Option, Some, IfSome, vec_len, length, codes, slice_get, take, IsSomeAnd}
+use Rattle.std.specs.Prelude.{ℕ, ◌≡◌, ◌≤◌, ◌<◌, List, Vec, String, Option, Some, IfSome, vec_len, length, codes, slice_get, take, IsSomeAnd}
 use Rattle.std.specs.String.{string_bytes}
 use Rattle.std.specs.Global.{Global}
 use Rattle.std.specs.Io.KnownBytes.{Appends}
