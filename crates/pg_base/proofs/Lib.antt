@@ -2,3 +2,5 @@ pub mod Numerals
 pub mod Orders
 pub mod Parts
 pub mod Maps
+pub mod Entries
+pub mod Vectors

@@ -8,6 +8,7 @@ mod items;
 mod numeral;
 mod shared;
 mod stamp;
+mod vector;
 mod version;
 
 pub use bytes::Bytes;
@@ -17,6 +18,7 @@ pub use items::Items;
 pub use numeral::{number, number_u32};
 pub use shared::SharedBytes;
 pub use stamp::{NodeId, Stamp};
+pub use vector::{Actor, Vector};
 pub use version::Version;
 
 #[cfg(test)]
