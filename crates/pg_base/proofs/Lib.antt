@@ -4,3 +4,4 @@ pub mod Parts
 pub mod Maps
 pub mod Entries
 pub mod Vectors
+pub mod Prefixes
