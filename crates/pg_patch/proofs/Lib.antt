@@ -1,0 +1,4 @@
+pub mod Composed
+pub mod Pieces
+pub mod Parts
+pub mod Same

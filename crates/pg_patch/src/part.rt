@@ -1,0 +1,34 @@
+//! Bytes at a place.
+
+ghost use Rattle.std.specs.Prelude.{◌≡◌, ◌<◌, ◌^◌, IfOk};
+ghost use Rattle.pg_patch.specs.Parts.{end_of};
+
+use pg_base::SharedBytes;
+use std::alloc::AllocError;
+
+/// Bytes, and the place in a body where the first of them stands.
+#[derive(Debug, Drop)]
+pub struct Part {
+    pub offset: u32,
+    pub bytes: SharedBytes,
+}
+
+impl Part {
+    /// The same part again. Its bytes are shared.
+    pub fn copy(&self) -> Result<Part, AllocError>
+        ensures { IfOk result (λ p. p ≡ self.now) }
+    {
+        Ok(Part {
+            offset: self.offset,
+            bytes: self.bytes.copy()?,
+        })
+    }
+
+    /// The place behind the last byte.
+    pub(crate) fn end(&self) -> usize
+        requires { end_of self.now < 2 ^ 32 }
+        ensures { result ≡ end_of self.now }
+    {
+        self.offset as usize + self.bytes.len()
+    }
+}
