@@ -1,4 +1,6 @@
+pub mod Built
 pub mod Composed
-pub mod Pieces
 pub mod Parts
+pub mod Passing
+pub mod Pieces
 pub mod Same

@@ -1,6 +1,7 @@
 //! What ranges make of a body.
 
-ghost use Rattle.std.specs.Prelude.{◌≡◌, IfOk};
+ghost use Rattle.std.specs.Prelude.{◌≡◌, ◌≤◌, length, IfOk, OnOk};
+ghost use Rattle.pg_patch.specs.Filling.{Fills};
 ghost use Rattle.pg_patch.specs.Ranges.{applied};
 
 use crate::ranges::{kept_length, length_after, Ranges};
@@ -24,11 +25,13 @@ pub fn apply(body: &[u8], ranges: &Ranges) -> Result<Bytes, AllocError>
 }
 
 /// Brings the bytes up to the length: with those that the body has there, and then with zeros.
-fn fill(out: &mut Vec<u8>, body: &[u8], len: usize) -> Result<(), AllocError> {
-    let from = out.len();
+fn fill(out: &mut Vec<u8>, body: &[u8], len: usize) -> Result<(), AllocError>
+    requires { length out.old.items ≤ len }
+    ensures { OnOk result (Fills out.old.items out.new.items body.now len) }
+{
     let until = len.min(body.len());
-    if from < until {
-        out.extend_from_slice(&body[from..until])?;
-    }
-    out.resize(len, 0)
+    let from = out.len().min(until);
+    out.extend_from_slice(&body[from..until])?;
+    out.resize(len, 0)?;
+    Ok(())
 }
