@@ -4,6 +4,7 @@ use Rattle.pg_patch.specs.declared.part.Part.{Part}
 use Rattle.pg_patch.specs.declared.laying.Open.{Open}
 use Rattle.pg_patch.specs.declared.laying.Open.TheVariants.{Nothing, Whole, Joined}
 use Rattle.pg_patch.specs.declared.laying.Laying.{Laying}
+use Rattle.pg_patch.specs.Ranges.{RangesValue, all}
 use Rattle.pg_patch.specs.Parts.{end_of, byte_of, byte_or, AreInOrder}
 
 abbrev pub opened : Open → List Part
@@ -23,3 +24,15 @@ pub record IsLaid (l : Laying) (at : ℕ) : Type 0 where
 -- the bytes of the part from `start` to `end` were laid too
 pub record Adds (old new : List Part) (p : Part) (start «end» : ℕ) : Type 0 where
   pub bytes : (place other : ℕ) → byte_or new place other ≡ (if nat_le start place && nat_lt place «end» then byte_of p place else byte_or old place other)
+
+-- behind the old parts, the new ones have what the others have from one place to another, and the rest has all that the others have behind it
+pub record Between (old new others rest : List Part) (from to : ℕ) : Type 0 where
+  pub begins : (place other : ℕ) → place < from → byte_or new place other ≡ byte_or old place other
+  pub goes_on : (place other : ℕ) → from ≤ place → place < to → byte_or new place other ≡ byte_or others place other
+  pub rest_holds : (place other : ℕ) → to ≤ place → byte_or others place other ≡ byte_or rest place other
+  pub rest_order : AreInOrder 0 rest all
+
+-- the upper parts over the lower ones, which are cut at the limit
+pub record IsLaidOver (lower upper : RangesValue) (limit : ℕ) (new : List Part) : Type 0 where
+  pub order : AreInOrder 0 new (max limit upper.least)
+  pub bytes : (place other : ℕ) → byte_or new place other ≡ byte_or upper.parts place (if nat_lt place limit then byte_or lower.parts place other else other)
