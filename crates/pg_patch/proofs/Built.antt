@@ -98,8 +98,8 @@ built-all_of : (x out new : List ℕ) (r : RangesValue) (j : ℕ) → Built r.pa
 built-all_of x out new r j h g le f =
     let m = kept r.keep (length x) in
     applied_from x new r f.long (λ i lt.
-        built-gap r.parts (take m x) out new (length_of (length x) r) i h f (omega (arith, lt, f.long)) (λ k d. passed_all r.parts j (length out) r.least le g i d k) (cases_lt i (length out))
-        ∙ ap (byte_or r.parts i) (stays_by x m i (cases_lt i m)))
+    built-gap r.parts (take m x) out new (length_of (length x) r) i h f (omega (arith, lt, f.long)) (λ k d. passed_all r.parts j (length out) r.least le g i d k) (cases_lt i (length out))
+    ∙ ap (byte_or r.parts i) (stays_by x m i (cases_lt i m)))
 
 pub built-all : (x out new : List ℕ) (r : RangesValue) (j m len : ℕ) → m ≡ kept r.keep (length x) → len ≡ length_of (length x) r → Built r.parts (take m x) out → Passed r.parts (drop j r.parts) (length out) r.least → length r.parts ≤ j
     → Fills out new (take m x) len → new ≡ applied x r

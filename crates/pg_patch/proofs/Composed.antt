@@ -106,12 +106,12 @@ two_applies a b c ra rb h x =
     let ka : a.keep ≤ all = omega (arith, ra.keep) in
     let kb : b.keep ≤ all = omega (arith, rb.keep) in
     let long : length (applied (applied x a) b) ≡ length_of n c =
-        length-applied (applied x a) b ∙ ap (λ m. length_of m b) ea
-        ∙ length_steps a.keep a.least b.keep b.least c.keep c.least n (kept a.keep n) (kept b.keep (length_of n a)) (kept c.keep n) p q r ka kb la h.keep h.least in
+    length-applied (applied x a) b ∙ ap (λ m. length_of m b) ea
+    ∙ length_steps a.keep a.least b.keep b.least c.keep c.least n (kept a.keep n) (kept b.keep (length_of n a)) (kept c.keep n) p q r ka kb la h.keep h.least in
     applied_from x (applied (applied x a) b) c long (λ i k.
-        get_or-applied (applied x a) b i 0 (omega (arith, k, length-applied (applied x a) b))
-        ∙ ap (byte_or b.parts i)
-            (ap (λ m. cond (ltb i (kept b.keep m)) (get_or (applied x a) i 0) 0) ea
-             ∙ read_applied x a i (kept b.keep (length_of n a)) (kept_upto b.keep (length_of n a) (kept b.keep (length_of n a)) q)
-             ∙ lower_steps a.parts a.least a.keep b.keep c.keep n (kept a.keep n) (kept b.keep (length_of n a)) (kept c.keep n) i (get_or x i 0) p q r ka kb la h.keep ra.parts (cases_lt i (kept b.keep (length_of n a))) (cases_lt i b.keep))
-        ∙ sym (h.parts i (cond (ltb i (kept c.keep n)) (get_or x i 0) 0)))
+    get_or-applied (applied x a) b i 0 (omega (arith, k, length-applied (applied x a) b))
+    ∙ ap (byte_or b.parts i)
+    (ap (λ m. cond (ltb i (kept b.keep m)) (get_or (applied x a) i 0) 0) ea
+    ∙ read_applied x a i (kept b.keep (length_of n a)) (kept_upto b.keep (length_of n a) (kept b.keep (length_of n a)) q)
+    ∙ lower_steps a.parts a.least a.keep b.keep c.keep n (kept a.keep n) (kept b.keep (length_of n a)) (kept c.keep n) i (get_or x i 0) p q r ka kb la h.keep ra.parts (cases_lt i (kept b.keep (length_of n a))) (cases_lt i b.keep))
+    ∙ sym (h.parts i (cond (ltb i (kept c.keep n)) (get_or x i 0) 0)))

@@ -8,7 +8,7 @@ use Rattle.pg_patch.specs.Ranges.{RangesValue, IsRanges, IsComposed, all}
 use Rattle.pg_patch.specs.Laying.{Adds, Between, IsLaidOver}
 use Rattle.pg_patch.proofs.Composed.{below_yes, below_no}
 use Rattle.pg_patch.proofs.Parts.{byte_or-before, byte_or-behind, byte_or-here, byte_or-skip, holds-within, holds-behind, in_order-wider}
-use Rattle.pg_patch.proofs.Passing.{Passed, passed-more, passed-gap, passed_all}
+use Rattle.pg_patch.proofs.Passing.{Passed, passed-more, passed-gap, passed_at, passed_all}
 use Rattle.pg_patch.proofs.Pieces.{within_yes, within_below, within_behind}
 
 -- ---- a part within two places
@@ -93,6 +93,23 @@ between_all old new others parts j from at to le k o h =
     let Q : List Part → Type 0 = λ xs. Between old new others xs from to in
     subst Q (sym none) (between-end old new others from at to k o (subst P none h))
 
+-- the next part was laid, and the one behind it is next
+pub between_next : (old cur new others parts : List Part) (j : ℕ) (p : Part) (from at until to : ℕ) → j < length parts → p ≡ get_or parts j p → from ≤ at → AreInOrder 0 cur at → Between old cur others (drop j parts) from at
+    → Adds cur new p (max at p.offset) (min until (end_of p)) → to ≡ reached at until p → end_of p ≤ until → Between old new others (drop (j + 1) parts) from to
+between_next old cur new others parts j p from at until to lt is k o h f e le =
+    let here = between-here old cur new others p (drop (j + 1) parts) from at until k o (between_at old cur others parts j p from at lt is h) f in
+    let P : ℕ → Type 0 = λ n. Between old new others (p ∷ drop (j + 1) parts) from n in
+    between-behind old new others p (drop (j + 1) parts) from to (omega arith) (subst P (sym e) here)
+
+-- the next part goes on behind the second place
+pub between_stop : (old cur new others parts : List Part) (j : ℕ) (p : Part) (from at until : ℕ) → j < length parts → p ≡ get_or parts j p → from ≤ at → at ≤ max from until → AreInOrder 0 cur at → Between old cur others (drop j parts) from at
+    → Adds cur new p (max at p.offset) (min until (end_of p)) → until < end_of p → Between old new others (drop j parts) from (max from until)
+between_stop old cur new others parts j p from at until lt is k m o h f le =
+    let here = between-here old cur new others p (drop (j + 1) parts) from at until k o (between_at old cur others parts j p from at lt is h) f in
+    let P : ℕ → Type 0 = λ n. Between old new others (p ∷ drop (j + 1) parts) from n in
+    let e : reached at until p ≡ max from until = omega arith in
+    between_from old new others parts j p from (max from until) lt is (subst P e here)
+
 -- ---- all the upper parts
 -- up to the place, what was laid is the upper parts over the lower ones, and behind it the rest of the lower parts has all that they have
 pub record Over (lower upper new rest : List Part) (limit at : ℕ) : Type 0 where
@@ -137,6 +154,20 @@ over-more lower upper old mid new rest left p ps limit at least h g o f q = reco
   rest_holds = λ i d a. h.rest_holds i d (omega (arith, a, g.order.0)) ∙ f.rest_holds i d (omega (arith, a, g.order.0));
   rest_order = f.rest_order;
 }
+
+pub over_next : (lower upper old mid new rest left : List Part) (j : ℕ) (p : Part) (limit at least stop fin to : ℕ) → j < length upper → p ≡ get_or upper j p → Over lower upper old rest limit at → Passed upper (drop j upper) at least → stop ≡ min limit p.offset → fin ≡ end_of p → to ≡ end_of p
+    → AreInOrder 0 mid (max at stop) → Between old mid rest left at (max at stop) → Adds mid new p p.offset fin → Over lower upper new left limit to
+over_next lower upper old mid new rest left j p limit at least stop fin to lt is h g e d t o f q =
+    let P : ℕ → Type 0 = λ n. AreInOrder 0 mid (max at n) in
+    let Q : ℕ → Type 0 = λ n. Between old mid rest left at (max at n) in
+    let R : ℕ → Type 0 = λ n. Adds mid new p p.offset n in
+    let S : ℕ → Type 0 = λ n. Over lower upper new left limit n in
+    subst S (sym t) (over-more lower upper old mid new rest left p (drop (j + 1) upper) limit at least h (passed_at upper j p at least lt is g) (subst P e o) (subst Q e f) (subst R d q))
+
+pub passed_next : (upper : List Part) (j : ℕ) (p : Part) (at least to : ℕ) → j < length upper → p ≡ get_or upper j p → Passed upper (drop j upper) at least → to ≡ end_of p → Passed upper (drop (j + 1) upper) to least
+passed_next upper j p at least to lt is g e =
+    let P : ℕ → Type 0 = λ n. Passed upper (drop (j + 1) upper) n least in
+    subst P (sym e) (passed-more upper p (drop (j + 1) upper) at least (passed_at upper j p at least lt is g))
 
 last_byte : (lower upper : RangesValue) (old new rest left : List Part) (j limit at i d : ℕ) → Over lower.parts upper.parts old rest limit at → Passed upper.parts (drop j upper.parts) at upper.least → length upper.parts ≤ j
     → AreInOrder 0 new (max at limit) → Between old new rest left at (max at limit) → (i < at) ⊎ (at ≤ i) → (i < limit) ⊎ (limit ≤ i)

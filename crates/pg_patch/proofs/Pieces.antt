@@ -8,7 +8,8 @@ use Rattle.pg_patch.specs.declared.part.Part.{Part}
 use Rattle.pg_patch.specs.declared.laying.Open.{Open}
 use Rattle.pg_patch.specs.declared.laying.Open.TheVariants.{Nothing, Whole, Joined}
 use Rattle.pg_patch.specs.Parts.{end_of, holds, byte_of, byte_or, AreInOrder}
-use Rattle.pg_patch.specs.Laying.{opened, Adds}
+use Rattle.pg_patch.specs.declared.laying.Laying.{Laying}
+use Rattle.pg_patch.specs.Laying.{opened, laid, IsLaid, Adds}
 use Rattle.pg_patch.proofs.Parts.{holds-below, holds-behind, holds-within, byte_or-append, byte_or-skip, byte_or-here, byte_or-behind, in_order-push, in_order-grown, in_order-but_last, in_order-wider, last_to, last_from}
 
 -- the bytes of a part from one place to another, as a part
@@ -144,11 +145,16 @@ pub grown_adds : (ds os ns : List Part) (p r : Part) (start to : ℕ) → AreInO
 grown_adds ds os ns p r start to o h e t f =
     let q = grown r (piece p start to) in
     let P : List Part → Type 0 = λ xs. AreInOrder 0 (ds ++ xs) start in
-    record { bytes = λ i d.
-      ap (λ xs. byte_or (ds ++ xs) i d) f ∙ byte_or-append ds (q ∷ []) i d
-      ∙ grown_byte ds p q r start to i d (subst P e o) h t refl refl (at start to i)
-      ∙ ap (cond (leb start i && ltb i to) (byte_of p i)) (sym (ap (λ xs. byte_or (ds ++ xs) i d) e ∙ byte_or-append ds (r ∷ []) i d)) }
+    record {
+      bytes = λ i d.
+          ap (λ xs. byte_or (ds ++ xs) i d) f ∙ byte_or-append ds (q ∷ []) i d
+          ∙ grown_byte ds p q r start to i d (subst P e o) h t refl refl (at start to i)
+          ∙ ap (cond (leb start i && ltb i to) (byte_of p i)) (sym (ap (λ xs. byte_or (ds ++ xs) i d) e ∙ byte_or-append ds (r ∷ []) i d));
+    }
 
 -- the open part ends where the laid ones end
 pub open_to : (ds os : List Part) (p : Part) (start : ℕ) → AreInOrder 0 (ds ++ os) start → os ≡ p ∷ [] → end_of p ≤ start
 open_to ds os p start o e = let P : List Part → Type 0 = λ xs. AreInOrder 0 (ds ++ xs) start in last_to 0 start ds p (subst P e o)
+
+pub laid-wider : (l : Laying) (from to : ℕ) → from ≤ to → IsLaid l from → IsLaid l to
+laid-wider l from to le h = record { parts = in_order-wider 0 from 0 to (laid l) (omega arith) le h.parts; begun = h.begun }

@@ -4,7 +4,7 @@ ghost use Rattle.std.specs.Prelude.{◌≡◌, ◌≤◌, length, IfOk, OnOk};
 ghost use Rattle.pg_patch.specs.Filling.{Fills};
 ghost use Rattle.pg_patch.specs.Ranges.{applied};
 
-use crate::ranges::{kept_length, length_after, Ranges};
+use crate::ranges::{Ranges, kept_length, length_after};
 use pg_base::Bytes;
 use std::alloc::AllocError;
 

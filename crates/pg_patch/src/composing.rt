@@ -3,7 +3,7 @@
 ghost use Rattle.std.specs.Prelude.{◌≡◌, ℕ, List, IfOk, ◌<◌, ◌^◌, drop, max, min};
 ghost use Rattle.pg_patch.specs.Laying.{laid, IsLaid, IsLaidOver, Between, Adds};
 ghost use Rattle.pg_patch.specs.Parts.{end_of, AreInOrder};
-ghost use Rattle.pg_patch.specs.Ranges.{all, applied, IsComposed};
+ghost use Rattle.pg_patch.specs.Ranges.{all, applied, IsComposed, IsRanges};
 
 use crate::laying::Laying;
 use crate::part::Part;
@@ -24,7 +24,9 @@ pub fn compose(a: &Ranges, b: &Ranges) -> Result<Ranges, AllocError>
 
 /// The parts of `b` over those of `a`, which are cut at the limit.
 fn laid_over(a: &Ranges, b: &Ranges, limit: usize) -> Result<Vec<Part>, AllocError>
-    ensures { IfOk result (λ v. IsLaidOver a.now b.now limit v.items) }
+    ensures over { IfOk result (λ v. IsLaidOver a.now b.now limit v.items) }
+    ensures lower { IsRanges a.now }
+    ensures upper { IsRanges b.now }
 {
     let lower = a.parts();
     let mut laying = Laying::new(b.allocator());
@@ -38,12 +40,18 @@ fn laid_over(a: &Ranges, b: &Ranges, limit: usize) -> Result<Vec<Part>, AllocErr
         at = part.end();
     }
     let (laying, _) = laid_between(laying, lower, next, at, limit)?;
-    laying.into_parts()
+    Ok(laying.into_parts()?)
 }
 
 /// Lays what the parts from the number `first` on have between two places, and tells from which part on some have
 /// bytes behind them.
-fn laid_between(laying: Laying, parts: &[Part], first: usize, from: usize, until: usize) -> Result<(Laying, usize), AllocError>
+fn laid_between(
+    laying: Laying,
+    parts: &[Part],
+    first: usize,
+    from: usize,
+    until: usize,
+) -> Result<(Laying, usize), AllocError>
     requires laid { IsLaid laying from }
     requires parts { AreInOrder 0 (drop first parts.now) all }
     ensures laid { IfOk result (λ r. IsLaid r.0 (max from until)) }

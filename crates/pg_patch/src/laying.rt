@@ -94,7 +94,8 @@ pub(crate) struct Laying {
 
 impl Laying {
     pub(crate) fn new(alloc: Global) -> Laying
-        ensures { laid result ≡ [] }
+        ensures empty { laid result ≡ [] }
+        ensures laid { IsLaid result 0 }
     {
         Laying {
             done: Vec::new(alloc),

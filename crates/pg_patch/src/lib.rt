@@ -14,7 +14,7 @@ pub use composing::compose;
 pub use error::RangeError;
 pub use laws::{compose_is_two_applies, one_composition};
 pub use part::Part;
-pub use ranges::{cut, length_after, make, Ranges, ALL, LIMIT};
+pub use ranges::{ALL, LIMIT, Ranges, cut, length_after, make};
 
 #[cfg(test)]
 mod tests;

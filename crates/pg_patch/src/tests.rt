@@ -1,6 +1,6 @@
 use super::*;
-use std::test::Fail;
 use pg_base::SharedBytes;
+use std::test::Fail;
 
 #[test]
 fn cuts_a_write(rt: HostRuntime) -> Result<(), Fail> {

@@ -28,5 +28,5 @@ pub returns : goal.returns
 returns c =
     c.from_vec.ensures
     ∙ built-all c.args.body.now c.loop-part.out.items c.fill-2.new.out.items c.args.ranges.now c.loop-part.part-index c.kept_length-kept.result c.length_after-len.result
-        (c.kept_length-kept.ensures ∙ ap (λ k. kept k (length c.args.body.now)) c.keep.ensures) c.length_after-len.ensures.length
-        c.loop-part.invariant.built c.loop-part.invariant.passed (omega (arith, c.loop-part-test.false, ap length c.parts-part-items.ensures.parts)) c.in_ok-fill-2.ensures
+    (c.kept_length-kept.ensures ∙ ap (λ k. kept k (length c.args.body.now)) c.keep.ensures) c.length_after-len.ensures.length
+    c.loop-part.invariant.built c.loop-part.invariant.passed (omega (arith, c.loop-part-test.false, ap length c.parts-part-items.ensures.parts)) c.in_ok-fill-2.ensures

@@ -6,7 +6,7 @@ abbrev pub invariant-loop-next : goal.invariant-loop-next
 invariant-loop-next l = record {
   low : l.from ≤ l.at;
   high : l.at ≤ max l.from l.until;
-  laid : IsLaid l.laying l.at;
+  order : IsLaid l.laying l.at;
   between : Between (laid l.fn.laying) (laid l.laying) (drop l.first l.parts) (drop l.next l.parts) l.from l.at;
 }
 
