@@ -4,9 +4,9 @@ use Rattle.std.proofs.lemmas.List.{get_or_append_left, get_or-append_right, leng
 use Rattle.std.proofs.lemmas.List.Edits.{get_or-between, length-between}
 use Rattle.std.proofs.lemmas.Bool.{cases_lt}
 use Rattle.pg_patch.specs.declared.part.Part.{Part}
-use Rattle.pg_patch.specs.Parts.{end_of, byte_of, byte_or, AreInOrder}
+use Rattle.pg_patch.specs.Parts.{end_of, byte_or}
 use Rattle.pg_patch.specs.Filling.{Fills}
-use Rattle.pg_patch.specs.Ranges.{RangesValue, kept, length_of, byte_at, applied}
+use Rattle.pg_patch.specs.Ranges.{RangesValue, kept, length_of, applied}
 use Rattle.pg_patch.proofs.Composed.{applied_from, below_yes, below_no}
 use Rattle.pg_patch.proofs.Parts.{byte_or-here, holds-within}
 use Rattle.pg_patch.proofs.Passing.{Passed, passed-more, passed-gap, passed_all}

@@ -1,11 +1,11 @@
 -- What ranges make of a body, byte by byte, and what two of them make of it.
-use Rattle.std.proofs.Common.{ℕ, Bool, true, false, cond, ◌≡◌, ◌<◌, ◌≤◌, ◌+◌, ◌-◌, ◌⊎◌, inl, inr, min, max, List, [], ◌∷◌, ◌++◌, length, get_or, refl, sym, ap, ◌∙◌, arith, ltb, eqb}
+use Rattle.std.proofs.Common.{ℕ, cond, ◌≡◌, ◌<◌, ◌≤◌, ◌⊎◌, inl, inr, min, max, List, length, get_or, sym, ap, ◌∙◌, arith, ltb}
 use Rattle.std.proofs.lemmas.List.{ext_get_or}
 use Rattle.std.proofs.lemmas.List.FromFn.{length-map-range_with_len, get_or-map-range_with_len}
 use Rattle.std.proofs.lemmas.Bool.{cases_lt}
 use Rattle.std.proofs.lemmas.Bool.Decides.{nat_tests}
 use Rattle.pg_patch.specs.declared.part.Part.{Part}
-use Rattle.pg_patch.specs.Parts.{end_of, byte_or, AreInOrder}
+use Rattle.pg_patch.specs.Parts.{byte_or, AreInOrder}
 use Rattle.pg_patch.specs.Ranges.{RangesValue, IsRanges, IsComposed, all, kept, length_of, byte_at, applied}
 use Rattle.pg_patch.proofs.Parts.{byte_or-behind}
 

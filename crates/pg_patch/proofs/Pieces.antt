@@ -1,16 +1,16 @@
 -- One more piece behind what was laid.
-use Rattle.std.proofs.Common.{ℕ, Bool, true, false, cond, ◌≡◌, ◌≢◌, ◌<◌, ◌≤◌, ◌+◌, ◌-◌, ◌⊎◌, inl, inr, List, [], ◌∷◌, ◌++◌, length, get_or, refl, sym, ap, subst, ◌∙◌, arith, ltb, leb, ◌&&◌, slice_range}
-use Rattle.std.proofs.lemmas.List.{get_or_append_left, get_or-append_right, append_assoc, append-nil, length-append}
+use Rattle.std.proofs.Common.{ℕ, cond, ◌≡◌, ◌≢◌, ◌<◌, ◌≤◌, ◌-◌, ◌⊎◌, inl, inr, List, [], ◌∷◌, ◌++◌, length, get_or, refl, sym, ap, subst, ◌∙◌, arith, ltb, leb, ◌&&◌, slice_range}
+use Rattle.std.proofs.lemmas.List.{get_or_append_left, get_or-append_right, length-append}
 use Rattle.std.proofs.lemmas.List.Edits.{get_or-between, length-between}
 use Rattle.std.proofs.lemmas.Bool.{cases_lt}
 use Rattle.std.proofs.lemmas.Bool.Decides.{nat_tests}
 use Rattle.pg_patch.specs.declared.part.Part.{Part}
 use Rattle.pg_patch.specs.declared.laying.Open.{Open}
 use Rattle.pg_patch.specs.declared.laying.Open.TheVariants.{Nothing, Whole, Joined}
-use Rattle.pg_patch.specs.Parts.{end_of, holds, byte_of, byte_or, AreInOrder}
+use Rattle.pg_patch.specs.Parts.{end_of, byte_of, byte_or, AreInOrder}
 use Rattle.pg_patch.specs.declared.laying.Laying.{Laying}
 use Rattle.pg_patch.specs.Laying.{opened, laid, IsLaid, Adds}
-use Rattle.pg_patch.proofs.Parts.{holds-below, holds-behind, holds-within, byte_or-append, byte_or-skip, byte_or-here, byte_or-behind, in_order-push, in_order-grown, in_order-but_last, in_order-wider, last_to, last_from}
+use Rattle.pg_patch.proofs.Parts.{holds-below, holds-behind, holds-within, byte_or-append, byte_or-skip, byte_or-here, byte_or-behind, in_order-push, in_order-grown, in_order-but_last, in_order-wider, last_to}
 
 -- the bytes of a part from one place to another, as a part
 abbrev pub piece : Part → ℕ → ℕ → List ℕ

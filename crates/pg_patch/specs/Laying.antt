@@ -5,7 +5,7 @@ use Rattle.pg_patch.specs.declared.laying.Open.{Open}
 use Rattle.pg_patch.specs.declared.laying.Open.TheVariants.{Nothing, Whole, Joined}
 use Rattle.pg_patch.specs.declared.laying.Laying.{Laying}
 use Rattle.pg_patch.specs.Ranges.{RangesValue, all}
-use Rattle.pg_patch.specs.Parts.{end_of, byte_of, byte_or, AreInOrder}
+use Rattle.pg_patch.specs.Parts.{byte_of, byte_or, AreInOrder}
 
 abbrev pub opened : Open → List Part
 opened Nothing = []

@@ -1,12 +1,12 @@
 //! Ranges: a write or a cut of a body, or several of them in one.
 
-ghost use Rattle.std.specs.Prelude.{◌≡◌, ◌≢◌, ◌<◌, ◌↔◌, ℕ, List, length, IfOk, IsErrOf};
+ghost use Rattle.std.specs.Prelude.{◌≡◌, ◌≢◌, ◌<◌, ◌↔◌, ℕ, List, length, IfOk, IsErrOf, IsTrue};
 ghost use Rattle.pg_patch.specs.Parts.{AreInOrder};
 ghost use Rattle.pg_patch.specs.Ranges.{written, write_end, cut_to, length_of, kept, applied, IsRanges};
 
 use crate::error::RangeError;
 use crate::part::Part;
-use pg_base::SharedBytes;
+use pg_base::{Items, SharedBytes};
 use std::alloc::{AllocError, Global};
 use std::marker::Model;
 
@@ -72,6 +72,14 @@ impl Ranges {
         })
     }
 
+    /// Ranges of these numbers and parts. `are_in_order` is the test of what it asks for.
+    pub fn from_parts(keep: u32, least: u32, parts: Items<Part>) -> Ranges
+        requires { AreInOrder 0 parts least }
+        ensures { result ≡ record { keep = keep; least = least; parts = parts } }
+    {
+        Ranges::new(keep, least, parts.into_vec())
+    }
+
     pub(crate) fn allocator(&self) -> Global {
         *self.parts.allocator()
     }
@@ -82,6 +90,23 @@ impl Ranges {
     {
         Ranges { keep, least, parts }
     }
+}
+
+/// Whether the parts are in order, have bytes, neither overlap nor touch, and end at `least` or before it.
+pub fn are_in_order(parts: &[Part], least: u32) -> bool
+    ensures { IsTrue result ↔ AreInOrder 0 parts.now least }
+{
+    let least = least as usize;
+    let mut from = 0;
+    for part in parts {
+        let offset = part.offset as usize;
+        let len = part.bytes.len();
+        if offset < from || len == 0 || least < offset || least - offset < len {
+            return false;
+        }
+        from = offset + len + 1;
+    }
+    true
 }
 
 /// A write of the bytes at the offset.

@@ -1,9 +1,9 @@
-use Rattle.std.proofs.Common.{◌≡◌, ◌<◌, ◌∷◌, ◌++◌, ◌+◌, length, take, drop, get_or, ◌∙◌, ap, arith}
+use Rattle.std.proofs.Common.{◌≡◌, ◌<◌, ◌++◌, ◌+◌, length, take, drop, get_or, ◌∙◌, ap, arith}
 use Rattle.pg_patch.specs.declared.part.Part.{Part}
 use Rattle.pg_patch.specs.Filling.{Fills}
 use Rattle.pg_patch.specs.Ranges.{kept}
-use Rattle.pg_patch.proofs.Built.{Built, built-more, passed-built, built-all}
-use Rattle.pg_patch.proofs.Passing.{Passed, passed_at}
+use Rattle.pg_patch.proofs.Built.{built-more, passed-built, built-all}
+use Rattle.pg_patch.proofs.Passing.{passed_at}
 use Rattle.pg_patch.proofs.applying.apply.Goals as goal
 
 pub loop-part-preserved : goal.loop-part-preserved

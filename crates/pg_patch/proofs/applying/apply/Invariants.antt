@@ -1,4 +1,4 @@
-use Rattle.std.proofs.Common.{◌≡◌, length, take, drop}
+use Rattle.std.proofs.Common.{length, drop}
 use Rattle.pg_patch.proofs.Built.{Built}
 use Rattle.pg_patch.proofs.Passing.{Passed}
 use Rattle.pg_patch.proofs.applying.apply.Given as goal

@@ -1,5 +1,4 @@
-use Rattle.std.proofs.Common.{◌≡◌, min, max, arith, ap, ◌∙◌}
-use Rattle.pg_patch.specs.Ranges.{IsComposed}
+use Rattle.std.proofs.Common.{◌≡◌, min, max, arith}
 use Rattle.pg_patch.proofs.Composed.{two_applies}
 use Rattle.pg_patch.proofs.Over.{composed_from}
 use Rattle.pg_patch.proofs.composing.compose.Goals as goal

@@ -1,6 +1,6 @@
-use Rattle.std.proofs.Common.{◌≤◌, arith, drop, max, min}
+use Rattle.std.proofs.Common.{arith, drop, max, min}
 use Rattle.pg_patch.specs.Parts.{end_of}
-use Rattle.pg_patch.specs.Laying.{laid, IsLaid, Between}
+use Rattle.pg_patch.specs.Laying.{laid}
 use Rattle.pg_patch.proofs.Over.{between-start, between_at, between_next, between_stop, between_all}
 use Rattle.pg_patch.proofs.Pieces.{laid-wider}
 use Rattle.pg_patch.proofs.composing.laid_between.Goals as goal

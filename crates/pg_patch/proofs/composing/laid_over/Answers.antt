@@ -1,4 +1,4 @@
-use Rattle.std.proofs.Common.{◌≡◌, ◌<◌, ◌≤◌, ◌+◌, length, drop, get_or, max, ap, ◌∙◌, arith}
+use Rattle.std.proofs.Common.{◌≡◌, ◌<◌, ◌≤◌, length, drop, get_or, max, ap, ◌∙◌, arith}
 use Rattle.pg_patch.specs.declared.part.Part.{Part}
 use Rattle.pg_patch.specs.Laying.{laid}
 use Rattle.pg_patch.specs.Ranges.{all}

@@ -1,4 +1,4 @@
-use Rattle.std.proofs.Common.{◌≡◌, [], List, arith, ap, ◌∙◌}
+use Rattle.std.proofs.Common.{arith}
 use Rattle.pg_patch.specs.Laying.{opened}
 use Rattle.pg_patch.proofs.Pieces.{IsPiece, open_to, grown_order, grown_adds, new_order, new_adds}
 use Rattle.pg_patch.proofs.laying.Laying.put.Goals as goal
