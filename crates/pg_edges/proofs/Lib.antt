@@ -1,3 +1,4 @@
 pub mod Orders
 pub mod Lists
 pub mod Edits
+pub mod Lookups
