@@ -137,10 +137,10 @@ impl Edges {
     }
 
     /// The present tag of a key on the edge to this birth of a peer.
-    pub fn tag(&self, peer: NodeId, birth: u64, key: &Key) -> Option<u64>
-        ensures { result ≡ tag_at self.now peer birth key.now }
+    pub fn tag(&self, peer: NodeId, birth: u64, key: Key) -> Option<u64>
+        ensures { result ≡ tag_at self.now peer birth key }
     {
-        self.keys(peer, birth)?.get(key)
+        self.keys(peer, birth)?.get(&key)
     }
 
     /// Makes this edge the one to its peer. After a refusal all edges are as before.
@@ -226,7 +226,7 @@ impl Edges {
     pub fn ack(&mut self, peer: NodeId, birth: u64, key: Key, tag: u64)
         ensures { self.new ≡ acked self.old peer birth key tag }
     {
-        if self.tag(peer, birth, &key) == Some(tag) {
+        if self.tag(peer, birth, key) == Some(tag) {
             self.take_off(peer, &key);
         }
     }
