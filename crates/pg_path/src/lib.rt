@@ -8,7 +8,7 @@ mod path;
 
 pub use error::{BadName, BadPath};
 pub use name::{Name, is_client_name};
-pub use path::{Path, one_spelling};
+pub use path::{Path, name_is_component, one_spelling};
 
 #[cfg(test)]
 mod tests;

@@ -3,6 +3,7 @@
 ghost use Rattle.std.specs.Prelude.{◌≡◌, ◌≢◌, ◌+◌, ◌<◌, ◌≤◌, ◌==◌, ◌↔◌, ◌++◌, ℕ, List, length, All, IsTrue, IfOk, IfSome, IfNone, OnOk, OnErr, IsOkUnless, slice_get, slice_index};
 ghost use Rattle.std.specs.List.{slice_split};
 ghost use Rattle.pg_path.specs.First.{IsFirstWithout};
+ghost use Rattle.pg_path.specs.Name.{IsClientName};
 ghost use Rattle.pg_path.specs.Path.{IsComponent, IsPath, path_text, parts_of, IsLong, IsTooDeep, HasBadName, AreCuts};
 
 use crate::bytes::is_component_byte;
@@ -163,4 +164,9 @@ impl Path {
 /// No two paths have one text, so what was written is read again.
 pub fn one_spelling()
     ensures { (a b : List (List ℕ)) → IsPath a → IsPath b → path_text a ≡ path_text b → a ≡ b }
+{}
+
+/// Each client name can stand in a path.
+pub fn name_is_component()
+    ensures { (name : List ℕ) → IsClientName name → IsComponent name }
 {}

@@ -14,9 +14,9 @@ fn reads_names(rt: HostRuntime) -> Result<(), Fail> {
         assert_eq!(rt; Name::read(rt.alloc(), text).err(), Some(want));
         assert!(rt; !is_client_name(text));
     }
-    let longest = Name::read(rt.alloc(), &long[1..])?;
-    assert_eq!(rt; longest.text().len(), 255);
-    let name = Name::read(rt.alloc(), b"..")?.copy()?;
+    assert!(rt; is_client_name(&long[1..]));
+    let name = Name::read(rt.alloc(), b"..")?;
+    assert_eq!(rt; name.copy()?.text().as_slice(), b"..".as_slice());
     assert_eq!(rt; name.as_slice(), b"..".as_slice());
     Ok(())
 }
@@ -24,7 +24,41 @@ fn reads_names(rt: HostRuntime) -> Result<(), Fail> {
 #[test]
 fn refuses_paths(rt: HostRuntime) -> Result<(), Fail> {
     let deep = b"/a".repeat(rt.alloc(), 65)?;
-    let long = b"/aaaaaaaaaaaaaaaa".repeat(rt.alloc(), 241)?;
-    let wide = [b'a'; 290];
+    let long = b"/".repeat(rt.alloc(), 4097)?;
+    let mut wide = [b'a'; 290];
+    wide[0] = b'/';
+    for (text, want) in [
+        (b"".as_slice(), BadPath::NoSlash),
+        (b"a".as_slice(), BadPath::NoSlash),
+        (long.as_slice(), BadPath::Long),
+        (&long[1..], BadPath::TooDeep),
+        (deep.as_slice(), BadPath::TooDeep),
+        (wide.as_slice(), BadPath::BadName(1)),
+        (b"/a//b".as_slice(), BadPath::BadName(2)),
+        (b"/a/".as_slice(), BadPath::BadName(2)),
+        (b"//".as_slice(), BadPath::BadName(1)),
+    ] {
+        assert_eq!(rt; Path::read(rt.alloc(), text).err(), Some(want));
+    }
+    assert_eq!(rt; Path::read(rt.alloc(), &wide[..289])?.len(), 1);
+    Ok(())
+}
+
+#[test]
+fn reads_paths(rt: HostRuntime) -> Result<(), Fail> {
+    let deep = b"/a".repeat(rt.alloc(), 64)?;
+    assert_eq!(rt; Path::read(rt.alloc(), deep.as_slice())?.len(), 64);
+    assert!(rt; Path::read(rt.alloc(), b"/")?.is_empty());
+    let path = Path::read(rt.alloc(), b"/a/x~f2.1/..")?;
+    let mut out = Bytes::new(rt.alloc());
+    path.write(&mut out)?;
+    assert_eq!(rt; out.as_slice(), b"/a/x~f2.1/..".as_slice());
+    let mut k = 0;
+    for want in [b"a".as_slice(), b"x~f2.1".as_slice(), b"..".as_slice()] {
+        assert!(rt; k < path.len());
+        assert_eq!(rt; path.part(k), want);
+        k += 1;
+    }
+    assert_eq!(rt; path.len(), k);
     Ok(())
 }
