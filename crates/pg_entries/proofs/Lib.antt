@@ -1,0 +1,4 @@
+pub mod Joining
+pub mod Claims
+pub mod Tildes
+pub mod Differ

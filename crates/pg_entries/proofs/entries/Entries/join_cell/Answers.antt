@@ -1,0 +1,74 @@
+use Rattle.std.proofs.Common.{◌≡◌, List, Option, Some, None, sym, ap, ◌∙◌, subst}
+use Rattle.std.specs.declared.cmp.Ordering.{Ordering}
+use Rattle.std.specs.List.{All}
+use Rattle.std.specs.List.Sorted.{IsStrictlySortedBy}
+use Rattle.std.specs.Map.{lookup, set_value, keys_of}
+use Rattle.std.specs.BTreeMap.{BTreeMap, is_at, insert_entry}
+use Rattle.pg_base.specs.declared.id.FileId.{FileId}
+use Rattle.pg_base.proofs.Orders.{file_order_is}
+use Rattle.pg_entries.specs.declared.entry.Entry.{Entry}
+use Rattle.pg_entries.specs.Entry.{entry_of, join_entry, brings}
+use Rattle.pg_entries.proofs.Joining.{joined_there, joined_new, own_set, own_insert, Own}
+use Rattle.pg_entries.proofs.entries.Entries.join_cell.Goals as goal
+
+abbrev Order : Type 0
+Order = FileId → FileId → Ordering
+
+pub invariant_of-self : goal.invariant_of-self
+invariant_of-self c =
+    let P : List (FileId × Entry) → Type 0 = All Own in
+    let w = c.join.new.self in
+    subst P (sym (c.get_mut.follows.holds w).0) (own_set _ c.in-Some.held.now w c.self.inside.entries.entries (sym c.in-Some.ensures.value) c.join.ensures.child c.self.invariant)
+
+pub invariant_of-self-in-Some : goal.invariant_of-self-in-Some
+invariant_of-self-in-Some c =
+    let P : List (FileId × Entry) → Type 0 = All Own in
+    let w = c.join.new.self in
+    subst P (sym (c.get_mut.follows.holds w).0) (own_set _ c.in-Some.held.now w c.self.inside.entries.entries (sym c.in-Some.ensures.value) c.join.ensures.child c.self.invariant)
+
+pub returns-in_ok-join-in-Some-clause-joined : goal.returns-in_ok-join-in-Some-clause-joined
+returns-in_ok-join-in-Some-clause-joined c =
+    let w = c.join.new.self in
+    let es = c.self.inside.entries.entries in
+    let e = c.args.entry in
+    let P : Order → Type 0 = (λ r. (c.get_mut.follows.lender w).entries ≡ set_value (is_at (r e.child)) es w) in
+    let Q : Order → Type 0 = (λ r. lookup (is_at (r e.child)) es ≡ Some c.in-Some.held.now) in
+    let S : Order → Type 0 = (λ r. IsStrictlySortedBy r (keys_of es)) in
+    joined_there es _ e c.in-Some.held.now w (subst S file_order_is c.get_mut.ensures.ordered) (subst Q file_order_is (sym c.in-Some.ensures.value)) c.in_ok-join-in-Some.ensures.joined (subst P file_order_is (c.get_mut.follows.holds w).0)
+    ∙ ap (λ xs. join_entry xs e) c.self.view_is
+
+pub returns-in_ok-join-in-Some-clause-news : goal.returns-in_ok-join-in-Some-clause-news
+returns-in_ok-join-in-Some-clause-news c =
+    let e = c.args.entry in
+    let Q : Order → Type 0 = (λ r. lookup (is_at (r e.child)) c.self.inside.entries.entries ≡ Some c.in-Some.held.now) in
+    let there = subst Q file_order_is (sym c.in-Some.ensures.value) in
+    c.in_ok-join-in-Some.ensures.news ∙ sym (ap (λ (o : Option Entry). brings o e) there) ∙ ap (λ (xs : List (FileId × Entry)). brings (entry_of xs e.child) e) c.self.view_is
+
+put_new : {K X : Type 0} (m n o : BTreeMap K X) (R : K → K → Ordering) (k : K) (v : X) → n ≡ m → o.entries ≡ insert_entry R n.entries k v → o.entries ≡ insert_entry R m.entries k v
+put_new {K} {X} m n o R k v same put = put ∙ ap (λ (x : BTreeMap K X). insert_entry R x.entries k v) same
+
+pub invariant_of-self-in-None : goal.invariant_of-self-in-None
+invariant_of-self-in-None c =
+    let e = c.args.entry in
+    let es = c.self.inside.entries.entries in
+    let R : Order → Type 0 = (λ r. c.insert.new.self.entries ≡ insert_entry r es e.child e) in
+    let P : List (FileId × Entry) → Type 0 = All Own in
+    subst P (sym (subst R file_order_is (put_new c.self.inside.entries _ c.insert.new.self _ e.child e c.get_mut.follows.holds-at-none c.in_ok-insert-in-None.ensures.entries))) (own_insert e es c.self.invariant)
+
+pub returns-in_ok-insert-in-None-clause-joined : goal.returns-in_ok-insert-in-None-clause-joined
+returns-in_ok-insert-in-None-clause-joined c =
+    let e = c.args.entry in
+    let es = c.self.inside.entries.entries in
+    let R : Order → Type 0 = (λ r. c.insert.new.self.entries ≡ insert_entry r es e.child e) in
+    let Q : Order → Type 0 = (λ r. ◌≡◌ {A = Option Entry} (lookup (is_at (r e.child)) es) None) in
+    joined_new es _ e (subst Q file_order_is (sym c.in-None.ensures.value))
+    (subst R file_order_is (put_new c.self.inside.entries _ c.insert.new.self _ e.child e c.get_mut.follows.holds-at-none c.in_ok-insert-in-None.ensures.entries))
+    ∙ ap (λ xs. join_entry xs e) c.self.view_is
+
+pub returns-in_ok-insert-in-None-clause-news : goal.returns-in_ok-insert-in-None-clause-news
+returns-in_ok-insert-in-None-clause-news c =
+    let e = c.args.entry in
+    let es = c.self.inside.entries.entries in
+    let Q : Order → Type 0 = (λ r. ◌≡◌ {A = Option Entry} (lookup (is_at (r e.child)) es) None) in
+    let none = subst Q file_order_is (sym c.in-None.ensures.value) in
+    sym (ap (λ (o : Option Entry). brings o e) none) ∙ ap (λ (xs : List (FileId × Entry)). brings (entry_of xs e.child) e) c.self.view_is

@@ -1,0 +1,5 @@
+pub mod Entry
+pub mod EntriesInside
+pub mod Names
+pub mod Shown
+pub mod Firsts

@@ -1,0 +1,184 @@
+//! What a directory knows of its children.
+
+ghost use Rattle.std.specs.Prelude.{◌≡◌, ◌&&◌, [], IfOk, OnOk, IsTrue, length, slice_get, true, IfSome, IfNone};
+ghost use Rattle.std.specs.List.{find};
+ghost use Rattle.std.specs.Ordering.{is_lt};
+ghost use Rattle.std.specs.Option.{option_copied, option_map};
+ghost use Rattle.std.specs.Map.{values_of};
+ghost use Rattle.pg_entries.specs.Entry.{IsByChild, brings, entry_of, is_listed, join_entry, lists};
+ghost use Rattle.pg_entries.specs.Shown.{claim_of, find_of, first_claim, is_beaten, is_hidden, is_rival, lesser, shows};
+ghost use Rattle.pg_entries.specs.Names.{same_name};
+
+use crate::claim::Claim;
+use crate::entry::Entry;
+use crate::tilde::is_with_id;
+use pg_base::FileId;
+use std::alloc::{AllocError, Global};
+use std::collections::BTreeMap;
+use std::marker::Model;
+
+/// The entries of a directory, one for each child, by child.
+#[derive(Debug, Drop)]
+pub struct Entries {
+    pub(crate) alloc: Global,
+    pub(crate) entries: BTreeMap<FileId, Entry>,
+}
+
+impl Model for Entries {
+    ghost use Rattle.std.specs.Prelude.{List};
+    ghost use Rattle.pg_base.specs.declared.id.FileId.{FileId};
+    ghost use Rattle.pg_entries.specs.declared.entry.Entry.{Entry};
+
+    ghost Value = { List (FileId × Entry) };
+
+    ghost use Rattle.pg_entries.specs.EntriesInside.{AreOwn};
+
+    ghost view = { λ s. s.entries.entries };
+
+    ghost invariant = { AreOwn };
+}
+
+impl Entries {
+    /// No entry. It takes no memory.
+    pub fn new(alloc: Global) -> Entries
+        ensures { result ≡ [] }
+    {
+        Entries {
+            alloc,
+            entries: BTreeMap::new(alloc),
+        }
+    }
+
+    pub fn count(&self) -> usize
+        ensures { result ≡ length self.now }
+    {
+        self.entries.len()
+    }
+
+    /// The entry of a child.
+    pub fn get(&self, child: FileId) -> Option<&Entry>
+        ensures { option_copied result ≡ entry_of self.now child }
+    {
+        self.entries.get(&child)
+    }
+
+    /// The entry in place `k`, counted from 0, by child.
+    pub fn at(&self, k: usize) -> Option<&Entry>
+        ensures entry { option_copied result ≡ option_map (λ e. e.1) (slice_get self.now k) }
+        ensures by_child { IsByChild self.now }
+    {
+        self.entries.values().nth(k)
+    }
+
+    /// Whether the directory lists the child.
+    pub fn lists(&self, dir: FileId, child: FileId) -> bool
+        ensures { result ≡ lists self.now dir child }
+    {
+        match self.get(child) {
+            Some(entry) => entry.is_listed(dir),
+            None => false,
+        }
+    }
+
+    /// Takes what is newer in the entry, or the whole entry of a new child. Tells whether something changed. After want
+    /// of memory a part may be taken.
+    pub fn join_cell(&mut self, entry: Entry) -> Result<bool, AllocError>
+        ensures joined { OnOk result (self.new ≡ join_entry self.old entry) }
+        ensures news { IfOk result (λ changed. changed ≡ brings (entry_of self.old entry.child) entry) }
+    {
+        match self.entries.get_mut(&entry.child) {
+            Some(held) => Ok(held.join(entry)?),
+            None => {
+                self.entries.insert(entry.child, entry)?;
+                Ok(true)
+            }
+        }
+    }
+
+    /// The child that shows this name in the directory.
+    pub fn find(&self, dir: FileId, shown: &[u8]) -> Option<FileId>
+        ensures { result ≡ find_of self.now dir shown.now }
+    {
+        let first = self.first_claim(dir, shown);
+        match self.showing(dir, shown, &first) {
+            Some(entry) => Some(entry.child),
+            None => None,
+        }
+    }
+
+    /// The same entries again.
+    pub fn copy(&self) -> Result<Entries, AllocError>
+        ensures { IfOk result (λ entries. entries ≡ self.now) }
+    {
+        Ok(Entries {
+            alloc: self.alloc,
+            entries: self.entries.clone()?,
+        })
+    }
+
+    /// The first claim on this name, among the children of the directory that have it.
+    pub(crate) fn first_claim(&self, dir: FileId, name: &[u8]) -> Option<Claim>
+        ensures { result ≡ first_claim self.now dir name.now }
+    {
+        let mut first = None;
+        for entry in self.entries.values() {
+            if is_rival(entry, dir, name) {
+                first = Some(lesser(&first, Claim::of(entry)));
+            }
+        }
+        first
+    }
+
+    /// The entry of the child that shows this name, where `first` is the first claim on it.
+    fn showing(&self, dir: FileId, shown: &[u8], first: &Option<Claim>) -> Option<&Entry>
+        requires { first.now ≡ first_claim self.now dir shown.now }
+        ensures { option_copied result ≡ find (shows self.now dir shown.now) (values_of self.now) }
+    {
+        self.entries
+            .values()
+            .find(|entry| self.shows(dir, entry, shown, first))
+    }
+
+    /// Whether the entry's child shows this name, where `first` is the first claim on it.
+    fn shows(&self, dir: FileId, entry: &Entry, shown: &[u8], first: &Option<Claim>) -> bool
+        requires { first.now ≡ first_claim self.now dir shown.now }
+        ensures { result ≡ shows self.now dir shown.now entry.now }
+    {
+        let name = entry.place.name.as_slice();
+        if !entry.is_listed(dir) {
+            false
+        } else if name.cmp(shown).is_eq() {
+            !is_beaten(first, &Claim::of(entry))
+        } else {
+            is_with_id(shown, name, entry.child)
+                && is_beaten(&self.first_claim(dir, name), &Claim::of(entry))
+        }
+    }
+}
+
+/// Whether the entry's child stands in the directory with this name.
+pub(crate) fn is_rival(entry: &Entry, dir: FileId, name: &[u8]) -> bool
+    ensures { result ≡ is_rival dir name.now entry.now }
+{
+    entry.is_listed(dir) && entry.place.name.as_slice().cmp(name).is_eq()
+}
+
+/// The claim that goes first.
+pub(crate) fn lesser(first: &Option<Claim>, claim: Claim) -> Claim
+    ensures { result ≡ lesser first.now claim }
+{
+    match first {
+        Some(held) if !claim.goes_first(held) => *held,
+        _ => claim,
+    }
+}
+
+/// Whether a claim goes before this one.
+pub(crate) fn is_beaten(first: &Option<Claim>, claim: &Claim) -> bool
+    ensures { result ≡ is_beaten first.now claim.now }
+{
+    match first {
+        Some(held) => held.goes_first(claim),
+        None => false,
+    }
+}

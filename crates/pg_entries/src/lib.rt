@@ -1,0 +1,19 @@
+//! What a directory knows of its children, and the names that it shows.
+#![tactic(auto)]
+
+mod cell;
+mod claim;
+mod entries;
+mod entry;
+mod laws;
+mod listing;
+mod tilde;
+
+pub use cell::Cell;
+pub use entries::Entries;
+pub use entry::Entry;
+pub use laws::shown_names_differ;
+pub use listing::{Listing, Row};
+
+#[cfg(test)]
+mod tests;

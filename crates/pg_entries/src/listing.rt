@@ -1,0 +1,103 @@
+//! The names that a directory shows, in order.
+
+ghost use Rattle.std.specs.Prelude.{◌≡◌, IfOk, map};
+ghost use Rattle.std.specs.List.Sorted.{IsPermutation, IsSortedBy};
+ghost use Rattle.std.specs.Ordering.{is_lt};
+ghost use Rattle.pg_entries.specs.Shown.{row_cmp, row_of, rows_of, shown_name};
+ghost use Rattle.pg_entries.specs.Firsts.{Firsts};
+
+use crate::claim::Claim;
+use crate::entries::{Entries, is_beaten, is_rival, lesser};
+use crate::entry::Entry;
+use crate::tilde::with_id;
+use pg_base::{FileId, Items, SharedBytes};
+use std::alloc::AllocError;
+use std::cmp::Ordering;
+use std::collections::BTreeMap;
+
+/// A child and the name that it shows.
+#[derive(Debug, Drop)]
+pub struct Row {
+    pub name: SharedBytes,
+    pub child: FileId,
+}
+
+/// Rows in the byte order of their names.
+pub type Listing = Items<Row>;
+
+impl Row {
+    /// By the bytes of the name, and then by child.
+    fn compare(&self, other: &Row) -> Ordering
+        ensures { result ≡ row_cmp self.now other.now }
+    {
+        let by_name = self.name.as_slice().cmp(other.name.as_slice());
+        by_name.then(self.child.compare(&other.child))
+    }
+}
+
+impl Entries {
+    /// The children that the directory lists, each with the name that it shows, in the byte order of these names.
+    pub fn listing(&self, dir: FileId) -> Result<Listing, AllocError>
+        ensures rows { IfOk result (λ rows. IsPermutation (rows_of self.now dir) rows) }
+        ensures in_order { IfOk result (λ rows. IsSortedBy (λ a b. is_lt (row_cmp a b)) rows) }
+    {
+        let firsts = self.first_claims(dir)?;
+        let mut rows = self.rows(dir, &firsts)?;
+        rows.sort_by(|a, b| a.compare(b))?;
+        Ok(Items::from_vec(rows))
+    }
+
+    /// The first claim on each name that a child in the directory has.
+    fn first_claims(&self, dir: FileId) -> Result<BTreeMap<&[u8], Claim>, AllocError>
+        ensures { IfOk result (Firsts self.now dir) }
+    {
+        let mut firsts = BTreeMap::new(self.alloc);
+        for entry in self.entries.values() {
+            if entry.is_listed(dir) {
+                let name = entry.place.name.as_slice();
+                let first = lesser(&firsts.get(&name).copied(), Claim::of(entry));
+                firsts.insert(name, first)?;
+            }
+        }
+        Ok(firsts)
+    }
+
+    /// The rows, by child.
+    fn rows<'a>(
+        &'a self,
+        dir: FileId,
+        firsts: &BTreeMap<&'a [u8], Claim>,
+    ) -> Result<Vec<Row>, AllocError>
+        requires { Firsts self.now dir firsts.now }
+        ensures { IfOk result (λ rows. rows.items ≡ rows_of self.now dir) }
+    {
+        let mut rows = Vec::new(self.alloc);
+        for entry in self.entries.values() {
+            if entry.is_listed(dir) {
+                rows.push(self.row(entry, dir, firsts)?)?;
+            }
+        }
+        Ok(rows)
+    }
+
+    fn row<'a>(
+        &'a self,
+        entry: &'a Entry,
+        dir: FileId,
+        firsts: &BTreeMap<&'a [u8], Claim>,
+    ) -> Result<Row, AllocError>
+        requires { Firsts self.now dir firsts.now }
+        ensures { IfOk result (λ row. row ≡ row_of self.now dir entry.now) }
+    {
+        let name = entry.place.name.as_slice();
+        let name = if is_beaten(&firsts.get(&name).copied(), &Claim::of(entry)) {
+            with_id(self.alloc, name, entry.child)?
+        } else {
+            entry.place.name.copy()?
+        };
+        Ok(Row {
+            name,
+            child: entry.child,
+        })
+    }
+}
