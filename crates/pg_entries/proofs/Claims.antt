@@ -1,5 +1,5 @@
 -- Who goes first among the children with one name.
-use Rattle.std.proofs.Common.{◌≡◌, ℕ, Bool, true, false, cond, ◌||◌, ◌&&◌, not, IsTrue, ◌↔◌, Option, None, Some, List, [], ◌∷◌, ◌++◌, map, refl, sym, ap, ◌∙◌, Less, Equal, Greater}
+use Rattle.std.proofs.Common.{◌≡◌, ℕ, Bool, true, false, cond, ◌||◌, ◌&&◌, not, IsTrue, ◌↔◌, Option, None, Some, List, [], ◌∷◌, ◌++◌, map, refl, sym, ap, ◌∙◌}
 use Rattle.std.specs.declared.cmp.Ordering.{Ordering}
 use Rattle.std.specs.Ordering.{nat_cmp, is_lt, is_eq}
 use Rattle.std.specs.List.{fold, list_any}
@@ -11,7 +11,7 @@ use Rattle.pg_base.specs.declared.stamp.Stamp.{Stamp}
 use Rattle.std.specs.Cmp.Lexicographic.{slice_cmp, lists_total}
 use Rattle.std.proofs.lemmas.Map.Lookups.{exact_bytes}
 use Rattle.std.proofs.lemmas.Bool.{or_right, or_left, or_from, false_from_ne_true, and_right, and_from}
-use Rattle.pg_base.specs.Id.{file_cmp, spelling}
+use Rattle.pg_base.specs.Id.{spelling}
 use Rattle.pg_register.specs.Place.{tilde_name}
 use Rattle.pg_entries.specs.Entry.{is_listed}
 use Rattle.pg_entries.specs.Names.{same_name}

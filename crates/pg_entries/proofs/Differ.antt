@@ -11,7 +11,6 @@ use Rattle.pg_base.specs.Id.{file_cmp}
 use Rattle.pg_base.proofs.Orders.{is_same_file-true}
 use Rattle.pg_register.specs.Place.{tilde_name}
 use Rattle.pg_entries.specs.declared.entry.Entry.{Entry}
-use Rattle.pg_entries.specs.declared.claim.Claim.{Claim}
 use Rattle.pg_entries.specs.Entry.{is_listed}
 use Rattle.pg_entries.specs.Names.{HasName}
 use Rattle.pg_entries.specs.Shown.{claim_of, claim_cmp, is_rival, is_hidden, shown_name}

@@ -1,5 +1,5 @@
 -- The entries of a directory after an entry came.
-use Rattle.std.proofs.Common.{◌≡◌, Bool, true, false, cond, Option, None, Some, List, [], ◌∷◌, refl, sym, ap, ◌∙◌, subst, Less, Equal, Greater}
+use Rattle.std.proofs.Common.{◌≡◌, ◌≢◌, ◌↔◌, IsTrue, ◌⊎◌, inl, inr, Bool, true, false, cond, Option, None, Some, List, [], ◌∷◌, refl, sym, ap, ◌∙◌, Less, Equal, Greater}
 use Rattle.std.specs.declared.cmp.Ordering.{Ordering}
 use Rattle.std.specs.Ordering.{match_ordering, is_eq}
 use Rattle.std.specs.List.{All}
@@ -7,6 +7,7 @@ use Rattle.std.specs.List.Sorted.{IsStrictlySortedBy}
 use Rattle.std.specs.Map.{lookup, set_value, keys_of}
 use Rattle.std.specs.BTreeMap.{is_at, insert_entry}
 use Rattle.std.proofs.lemmas.Map.{lookup-none}
+use Rattle.std.proofs.lemmas.Map.Steps.{set_value_same}
 use Rattle.std.proofs.lemmas.Map.Keys.{sorted_tail}
 use Rattle.std.proofs.lemmas.Map.Entries.{none_below_head}
 use Rattle.std.proofs.lemmas.List.Elements.{All-nil, All-cons, All-head, All-tail}
@@ -63,3 +64,34 @@ own_insert_by w e es Greater o own more = All-cons Own e (insert_entry file_cmp 
 pub own_insert : (w : Entry) (es : List (FileId × Entry)) → All Own es → All Own (insert_entry file_cmp es w.child w)
 own_insert w [] own = All-cons Own (w.child, w) [] refl (All-nil Own)
 own_insert w (e ∷ es) own = own_insert_by w e es (file_cmp w.child e.0) refl own (own_insert w es (All-tail Own e es own))
+
+-- ---- whether something changed
+
+set_found_by : (p : FileId → Bool) (w : Entry) (e : FileId × Entry) (es : List (FileId × Entry)) (t : Bool) → p e.0 ≡ t → lookup p (set_value p es w) ≡ Some w ⊎ (lookup p es ≡ None) → lookup p (cond t ((e.0, w) ∷ es) (e ∷ set_value p es w)) ≡ Some w ⊎ (cond t (Some e.1) (lookup p es) ≡ None)
+set_found_by p w e es true o more = inl (ap (λ r. cond r (Some w) (lookup p es)) o)
+set_found_by p w e es false o (inl more) = inl (ap (λ r. cond r (Some e.1) (lookup p (set_value p es w))) o ∙ more)
+set_found_by p w e es false o (inr none) = inr none
+
+set_found : (p : FileId → Bool) (w : Entry) (es : List (FileId × Entry)) → lookup p (set_value p es w) ≡ Some w ⊎ (lookup p es ≡ None)
+set_found p w [] = inr refl
+set_found p w (e ∷ es) = set_found_by p w e es (p e.0) refl (set_found p w es)
+
+set_changed : (p : FileId → Bool) (v w : Entry) (es : List (FileId × Entry)) → lookup p es ≡ Some v → set_value p es w ≡ es → w ≡ v
+set_changed p v w es there same =
+    elim (set_found p w es) [
+      | inl found ↦ let x : ◌≡◌ {A = Option Entry} (Some w) (Some v) = sym found ∙ ap (lookup p) same ∙ there in (let y : w ≡ v = cc in y)
+      | inr none ↦ absurd (let x : ◌≡◌ {A = Option Entry} None (Some v) = sym none ∙ there in cc)
+    ]
+
+-- the entries changed where the entry of the child did
+pub set_changes : (p : FileId → Bool) (v w : Entry) (es ns : List (FileId × Entry)) (changed : Bool) → lookup p es ≡ Some v → ns ≡ set_value p es w → IsTrue changed ↔ (w ≢ v) → IsTrue changed ↔ (ns ≢ es)
+set_changes p v w es ns true there set h = (λ _ same. h.0 refl (set_changed p v w es there (sym set ∙ same)), λ _. refl)
+set_changes p v w es ns false there set h = (
+  λ k. absurd (let x : false ≡ true = k in cc),
+  λ other. absurd (let no : IsTrue false → ⊥ = (λ k. (let x : false ≡ true = k in cc)) in
+      no (h.1 (λ same. other (set ∙ ap (set_value p es) same ∙ set_value_same p es v there)))),
+)
+
+-- a new child changes the entries
+pub new_changes : (p : FileId → Bool) (e : Entry) (es ns : List (FileId × Entry)) → lookup p es ≡ None → lookup p ns ≡ Some e → IsTrue true ↔ (ns ≢ es)
+new_changes p e es ns none there = (λ _ same. (let x : ◌≡◌ {A = Option Entry} None (Some e) = sym none ∙ sym (ap (lookup p) same) ∙ there in cc), λ _. refl)

@@ -1,6 +1,6 @@
 //! What a directory knows of its children.
 
-ghost use Rattle.std.specs.Prelude.{◌≡◌, ◌&&◌, [], IfOk, OnOk, IsTrue, length, slice_get, true, IfSome, IfNone};
+ghost use Rattle.std.specs.Prelude.{◌≡◌, ◌≢◌, ◌↔◌, [], IfOk, OnOk, IsTrue, length, slice_get, true, IfSome, IfNone};
 ghost use Rattle.std.specs.List.{find};
 ghost use Rattle.std.specs.Ordering.{is_lt};
 ghost use Rattle.std.specs.Option.{option_copied, option_map};
@@ -85,6 +85,7 @@ impl Entries {
     pub fn join_cell(&mut self, entry: Entry) -> Result<bool, AllocError>
         ensures joined { OnOk result (self.new ≡ join_entry self.old entry) }
         ensures news { IfOk result (λ changed. changed ≡ brings (entry_of self.old entry.child) entry) }
+        ensures changed { IfOk result (λ changed. IsTrue changed ↔ (self.new ≢ self.old)) }
     {
         match self.entries.get_mut(&entry.child) {
             Some(held) => Ok(held.join(entry)?),

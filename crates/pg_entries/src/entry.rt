@@ -1,6 +1,6 @@
 //! What a directory knows of one child.
 
-ghost use Rattle.std.specs.Prelude.{◌≡◌, IfOk, OnOk};
+ghost use Rattle.std.specs.Prelude.{◌≡◌, ◌≢◌, ◌↔◌, IfOk, OnOk, IsTrue};
 ghost use Rattle.pg_entries.specs.Entry.{brings_change, is_listed, joined};
 
 use pg_base::FileId;
@@ -28,6 +28,7 @@ impl Entry {
     pub fn join(&mut self, other: Entry) -> Result<bool, AllocError>
         ensures joined { OnOk result (self.new ≡ joined self.old other) }
         ensures news { IfOk result (λ changed. changed ≡ brings_change self.old other) }
+        ensures changed { IfOk result (λ changed. IsTrue changed ↔ (self.new ≢ self.old)) }
         ensures child { self.new.child ≡ self.old.child }
     {
         let moved = self.place.join(other.place);

@@ -1,6 +1,6 @@
-use Rattle.std.proofs.Common.{◌≡◌, true, sym, ap, ◌∙◌, None, cond, Some, map}
+use Rattle.std.proofs.Common.{sym, ap, ◌∙◌, None, cond, Some, map}
 use Rattle.std.specs.List.{fold}
-use Rattle.pg_entries.specs.Shown.{claim_of, lesser, take_claim}
+use Rattle.pg_entries.specs.Shown.{lesser, take_claim}
 use Rattle.pg_entries.specs.Names.{same_name}
 use Rattle.pg_entries.proofs.Claims.{firsts_more}
 use Rattle.pg_entries.proofs.entries.Entries.first_claims.Goals as goal

@@ -1,4 +1,4 @@
-use Rattle.std.proofs.Common.{◌≡◌, List, Option, Some, None, sym, ap, ◌∙◌, subst}
+use Rattle.std.proofs.Common.{◌≡◌, ◌≢◌, ◌↔◌, IsTrue, true, List, Option, Some, None, sym, ap, ◌∙◌, subst}
 use Rattle.std.specs.declared.cmp.Ordering.{Ordering}
 use Rattle.std.specs.List.{All}
 use Rattle.std.specs.List.Sorted.{IsStrictlySortedBy}
@@ -8,7 +8,7 @@ use Rattle.pg_base.specs.declared.id.FileId.{FileId}
 use Rattle.pg_base.proofs.Orders.{file_order_is}
 use Rattle.pg_entries.specs.declared.entry.Entry.{Entry}
 use Rattle.pg_entries.specs.Entry.{entry_of, join_entry, brings}
-use Rattle.pg_entries.proofs.Joining.{joined_there, joined_new, own_set, own_insert, Own}
+use Rattle.pg_entries.proofs.Joining.{joined_there, joined_new, own_set, own_insert, set_changes, new_changes, Own}
 use Rattle.pg_entries.proofs.entries.Entries.join_cell.Goals as goal
 
 abbrev Order : Type 0
@@ -72,3 +72,19 @@ returns-in_ok-insert-in-None-clause-news c =
     let Q : Order → Type 0 = (λ r. ◌≡◌ {A = Option Entry} (lookup (is_at (r e.child)) es) None) in
     let none = subst Q file_order_is (sym c.in-None.ensures.value) in
     sym (ap (λ (o : Option Entry). brings o e) none) ∙ ap (λ (xs : List (FileId × Entry)). brings (entry_of xs e.child) e) c.self.view_is
+
+pub returns-in_ok-join-in-Some-clause-changed : goal.returns-in_ok-join-in-Some-clause-changed
+returns-in_ok-join-in-Some-clause-changed c =
+    let w = c.join.new.self in
+    let es = c.self.inside.entries.entries in
+    let ns = (c.get_mut.follows.lender w).entries in
+    let r = c.in_ok-join-in-Some.field-0 in
+    let P : List (FileId × Entry) → Type 0 = (λ xs. IsTrue r ↔ (ns ≢ xs)) in
+    subst P c.self.view_is (set_changes _ c.in-Some.held.now w es ns r (sym c.in-Some.ensures.value) (c.get_mut.follows.holds w).0 c.in_ok-join-in-Some.ensures.changed)
+
+pub returns-in_ok-insert-in-None-clause-changed : goal.returns-in_ok-insert-in-None-clause-changed
+returns-in_ok-insert-in-None-clause-changed c =
+    let es = c.self.inside.entries.entries in
+    let ns = c.insert.new.self.entries in
+    let P : List (FileId × Entry) → Type 0 = (λ xs. IsTrue true ↔ (ns ≢ xs)) in
+    subst P c.self.view_is (new_changes _ c.args.entry es ns (sym c.in-None.ensures.value) c.in_ok-insert-in-None.ensures.updates.1)

@@ -1,6 +1,6 @@
-use Rattle.std.proofs.Common.{◌≡◌, true, false, ◌++◌, sym, ap, ◌∙◌, List, ℕ}
+use Rattle.std.proofs.Common.{◌≡◌, ◌++◌, sym, ap, ◌∙◌}
 use Rattle.pg_register.specs.Place.{tilde_name}
-use Rattle.pg_entries.specs.Shown.{claim_of, first_claim, is_beaten, is_hidden}
+use Rattle.pg_entries.specs.Shown.{first_claim, is_beaten, is_hidden}
 use Rattle.pg_entries.proofs.Claims.{is_hidden-first, row_hidden, row_plain}
 use Rattle.pg_entries.proofs.entries.Entries.row.Goals as goal
 use Rattle.pg_entries.proofs.entries.Entries.row.Goals.{then-is_beaten+in_ok-name, else-is_beaten+in_ok-name-2}

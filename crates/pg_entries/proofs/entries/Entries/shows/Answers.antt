@@ -1,6 +1,5 @@
 use Rattle.std.proofs.Common.{◌≡◌, true, false, not, ◌&&◌, IsTrue, ◌↔◌, List, ℕ, ◌++◌, sym, ap, ◌∙◌, subst}
-use Rattle.std.specs.Ordering.{nat_cmp, is_eq}
-use Rattle.std.specs.Cmp.Lexicographic.{slice_cmp}
+use Rattle.std.specs.Ordering.{is_eq}
 use Rattle.pg_register.specs.Place.{tilde_name}
 use Rattle.pg_entries.specs.Entry.{is_listed}
 use Rattle.pg_entries.specs.Names.{same_name}
