@@ -11,6 +11,7 @@ pub use command::{LIMIT, replay, run};
 use pg_io::{Reading, Writing};
 use pg_sched::Status;
 use std::alloc::AllocError;
+use std::io::ErrorKind;
 use std::process::ExitCode;
 use std::{env, io};
 pub use world::{StepError, World};
@@ -23,6 +24,14 @@ fn words(rt: &HostRuntime) -> io::Result<Vec<String>> {
     Ok(words)
 }
 
+/// How the program ends where its words could not be had: a word that is no text is no `replay` either.
+fn wordless(error: &io::Error) -> Status {
+    match error.kind() {
+        ErrorKind::InvalidData => Status::Usage(1),
+        _ => Status::OutOfMemory,
+    }
+}
+
 fn main(rt: HostRuntime) -> ExitCode {
     let status = match words(&rt) {
         Ok(words) => {
@@ -30,7 +39,7 @@ fn main(rt: HostRuntime) -> ExitCode {
             let mut sink = Writing::new(rt.stdout());
             run(rt.alloc(), &words, &mut source, &mut sink)
         }
-        Err(_) => Status::OutOfMemory,
+        Err(error) => wordless(&error),
     };
     if status != Status::Done {
         let _ = eprintln!(rt; "pangaea: {status}");

@@ -13,12 +13,12 @@ mod version;
 
 pub use bytes::Bytes;
 pub use cut::cut_at;
-pub use id::{BadId, FileId, Kind};
+pub use id::{BadId, FileId, Kind, one_bad_place, one_spelling};
 pub use items::Items;
 pub use numeral::{number, number_u32};
 pub use shared::SharedBytes;
 pub use stamp::{NodeId, Stamp};
-pub use vector::{Actor, Vector};
+pub use vector::{Actor, Vector, join_laws, same_vector};
 pub use version::Version;
 
 #[cfg(test)]

@@ -16,7 +16,7 @@ use Rattle.pg_register.specs.Place.{tilde_name}
 use Rattle.pg_entries.specs.Entry.{is_listed}
 use Rattle.pg_entries.specs.Names.{same_name}
 use Rattle.pg_base.specs.Stamp.{stamp_cmp}
-use Rattle.pg_base.proofs.Orders.{file_total}
+use Rattle.pg_base.proofs.Orders.{file_total, stamp_total}
 use Rattle.pg_entries.specs.declared.entry.Entry.{Entry}
 use Rattle.pg_entries.specs.declared.claim.Claim.{Claim}
 use Rattle.pg_entries.specs.Shown.{claim_of, claim_cmp, is_rival, is_hidden, lesser, take_claim, first_claim, is_beaten, shown_name, shows, row_of, row_cmp}
@@ -27,9 +27,6 @@ use Rattle.std.proofs.lemmas.List.{map-append}
 use Rattle.std.proofs.lemmas.List.Sums.{fold-append}
 use denote.Ref.{Bor}
 use denote.Param.Members.{Mut}
-
-stamp_total : IsTotalOrder stamp_cmp
-stamp_total = then_total (on_total (λ (s : Stamp). s.time) nat_cmp_total) (on_total (λ (s : Stamp). s.server) nat_cmp_total)
 
 pub claim_total : IsTotalOrder claim_cmp
 claim_total = then_total (on_total (λ (c : Claim). c.stamp) stamp_total) (on_total (λ (c : Claim). c.child) file_total)

@@ -11,7 +11,8 @@ use Rattle.pg_base.specs.declared.id.Kind.{Kind}
 use Rattle.pg_base.specs.declared.id.Kind.TheVariants.{Dir, File}
 use Rattle.pg_base.specs.declared.id.FileId.{FileId}
 use Rattle.pg_base.specs.Id.{spelling, letter, Fits, is_same_file}
-use Rattle.pg_base.proofs.Parts.{decimal-without, not_cut, pair_same}
+use Rattle.pg_base.proofs.Parts.{decimal-without, not_cut}
+use Rattle.pg_base.proofs.Spellings.{spelling-same}
 use Rattle.pg_base.proofs.Orders.{is_same_file-true, is_same_file-refl}
 
 tilde_other : ¬ (IsInRange 48 57 126)
@@ -36,23 +37,6 @@ cut_last c [] b [] y h k e = cc
 cut_last c [] b (z ∷ zs) y h k e = let rest : b ≡ zs ++ c ∷ y = cc in absurd (not_cut c b zs y h rest)
 cut_last c (z ∷ zs) b [] y h k e = let rest : zs ++ c ∷ b ≡ y = cc in absurd (not_cut c y zs b k (sym rest))
 cut_last c (z ∷ zs) b (w ∷ ws) y h k e = let rest : zs ++ c ∷ b ≡ ws ++ c ∷ y = cc in cut_last c zs b ws y h k rest
-
-letter-same : (a b : Kind) → letter a ≡ letter b → a ≡ b
-letter-same Dir Dir e = refl
-letter-same File File e = refl
-letter-same Dir File e = absurd (let h : ◌≡◌ {A = ℕ} 100 102 = e in omega arith)
-letter-same File Dir e = absurd (let h : ◌≡◌ {A = ℕ} 102 100 = e in omega arith)
-
-id_of_parts : (k j : Kind) (s t n m : ℕ) → k ≡ j → s ≡ t → n ≡ m → ◌≡◌ {A = FileId} (record { kind = k; server = s; number = n }) (record { kind = j; server = t; number = m })
-id_of_parts k j s t n m e f g = cc
-
--- no two ids have one spelling
-pub spelling-same : (a b : FileId) → Fits a → Fits b → spelling a ≡ spelling b → a ≡ b
-spelling-same a b fa fb e =
-    let first : letter a.kind ≡ letter b.kind = cc in
-    let rest : decimal a.server ++ 46 ∷ decimal a.number ≡ decimal b.server ++ 46 ∷ decimal b.number = cc in
-    let p = pair_same a.server a.number b.server b.number fa.server fa.number fb.server fb.number rest in
-    id_of_parts a.kind b.kind a.server b.server a.number b.number (letter-same a.kind b.kind first) p.0 p.1
 
 -- an id was read of a text: the text spells another exactly where that is the same id
 pub read_is : (text : List ℕ) (read id : FileId) (t : Bool) → Fits read → Fits id → text ≡ spelling read → t ≡ is_same_file read id → IsTrue t ↔ (text ≡ spelling id)

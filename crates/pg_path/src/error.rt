@@ -33,7 +33,7 @@ pub enum BadPath {
     #[error("a path has at most 64 components")]
     TooDeep,
     /// The first bad component, counted from 1.
-    #[error("component {0} is no name")]
+    #[error("component {0} is outside the grammar")]
     BadName(u64),
 }
 

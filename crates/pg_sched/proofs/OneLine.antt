@@ -7,7 +7,7 @@ use Rattle.hex.proofs.HexLemmas.{decode_of-encode_lower}
 use Rattle.pg_base.specs.declared.id.Kind.{Kind}
 use Rattle.pg_base.specs.declared.id.FileId.{FileId}
 use Rattle.pg_base.specs.Id.{spelling}
-use Rattle.pg_base.proofs.Parts.{pair_same}
+use Rattle.pg_base.proofs.Spellings.{spelling-same}
 use Rattle.std.proofs.Common.{eqb}
 use Rattle.pg_sched.specs.declared.line.Line.{Line}
 use Rattle.pg_sched.specs.declared.line.Line.TheVariants.{Happens, Show}
@@ -35,13 +35,8 @@ word_at n [] = []
 word_at zero (word ∷ words) = word
 word_at (suc n) (word ∷ words) = word_at n words
 
-file_of_parts : (k j : Kind) (s t n m : ℕ) → k ≡ j → s ≡ t → n ≡ m → ◌≡◌ {A = FileId} (record { kind = k; server = s; number = n }) (record { kind = j; server = t; number = m })
-file_of_parts k j s t n m e f g = cc
-
 same_file : (a b : FileId) → IsFile a → IsFile b → spelling a ≡ spelling b → a ≡ b
-same_file a b ha hb e =
-    let p = pair_same a.server a.number b.server b.number ha.fits.server ha.fits.number hb.fits.server hb.fits.number (ap tail e) in
-    file_of_parts a.kind b.kind a.server b.server a.number b.number (ha.kind ∙ sym hb.kind) p.0 p.1
+same_file a b ha hb e = spelling-same a b ha.fits hb.fits e
 
 ok_same : {E : Type 0} (a b : List ℕ) → ◌≡◌ {A = Result (List ℕ) E} (Ok a) (Ok b) → a ≡ b
 ok_same {E} a b e = cc
