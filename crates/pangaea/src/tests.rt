@@ -1,9 +1,10 @@
 //! Worked runs, from the words and the text to the text; and each way in which a command ends.
 
 use super::*;
-use pg_base::{FileId, Kind, SharedBytes, Stamp};
+use pg_base::{Bytes, FileId, Items, Kind, SharedBytes, Stamp, Version};
 use pg_io::{MemorySink, MemorySource};
-use pg_sched::{Event, Reply};
+use pg_node::{Input, Node};
+use pg_sched::{Event, Message, Reply};
 use std::alloc::{AllocError, Global};
 use std::test::Fail;
 
@@ -149,5 +150,63 @@ fn a_run_is_its_events(rt: HostRuntime) -> Result<(), Fail> {
     assert_eq!(rt; entry.void, None);
     assert!(rt; !world.has_failed());
     assert_eq!(rt; world.replica(1, &file).map(|v| v.stamp), Some(stamp));
+    Ok(())
+}
+
+#[test]
+fn stamps_rise(rt: HostRuntime) {
+    let rows = [(5, 7, 8), (9, 7, 9), (1 << 63, 7, 1 << 62)];
+    for (moment, last, time) in rows {
+        assert_eq!(rt; Stamp::next(moment, last, 2), Stamp { time, server: 2 });
+    }
+}
+
+#[test]
+fn a_server_answers(rt: HostRuntime) -> Result<(), Fail> {
+    let file = FileId {
+        kind: Kind::File,
+        server: 1,
+        number: 1,
+    };
+    let stamp = Stamp { time: 8, server: 1 };
+    let mut node = Node::new(rt.alloc(), 2, 3);
+    let message = Message {
+        to: 2,
+        file,
+        version: Version {
+            stamp,
+            body: SharedBytes::from_vec(rt.alloc(), vec![in rt.alloc(); 1, 2]?)?,
+        },
+    };
+    node.step(Input::Arrival(message))?;
+    assert_eq!(rt; node.replica(&file).map(|v| v.stamp), Some(stamp));
+    let out = node.step(Input::Put {
+        moment: 3,
+        file,
+        body: SharedBytes::from_slice(rt.alloc(), b"")?,
+    })?;
+    let next = Stamp { time: 9, server: 2 };
+    assert_eq!(rt; out.reply, Some(Reply::Wrote(next)));
+    assert_eq!(rt; out.sent.len(), 2);
+    Ok(())
+}
+
+#[test]
+fn bytes_are_kept(rt: HostRuntime) -> Result<(), Fail> {
+    let mut bytes = Bytes::from_slice(rt.alloc(), b"ab")?;
+    bytes.push(b'c')?;
+    bytes.extend(b"de")?;
+    assert_eq!(rt; bytes.copy()?.as_slice(), b"abcde".as_slice());
+    let version = Version {
+        stamp: Stamp { time: 1, server: 1 },
+        body: SharedBytes::from_slice(rt.alloc(), bytes.as_slice())?,
+    };
+    assert_eq!(rt;
+        version.copy()?.body.copy()?.as_slice(),
+        b"abcde".as_slice()
+    );
+    let mut items = Items::new(rt.alloc());
+    items.push(7)?;
+    assert_eq!(rt; items.as_slice(), [7].as_slice());
     Ok(())
 }
