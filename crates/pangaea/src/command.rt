@@ -20,6 +20,7 @@ pub fn replay<S: Source, K: Sink>(alloc: Global, source: &mut S, sink: &mut K) -
     // What is written.
     ensures done { result ≡ Status.Done → WritesAll (S.left source.old) (K.held sink.old) (K.held sink.new) }
     ensures whole { result ≡ Status.Done → IsAtEnd (S.left source.new) }
+    ensures whole_first { result ≡ Status.WriteFault → IsAtEnd (S.left source.new) }
     ensures front { result ≡ Status.WriteFault → WritesFront (S.left source.old) (K.held sink.old) (K.held sink.new) }
     ensures untouched { result ≢ Status.Done → result ≢ Status.WriteFault → sink.new ≡ sink.old }
 
@@ -67,6 +68,7 @@ pub fn run<S: Source, K: Sink>(
     // What is written.
     ensures done { result ≡ Status.Done → WritesAll (S.left source.old) (K.held sink.old) (K.held sink.new) }
     ensures whole { result ≡ Status.Done → IsAtEnd (S.left source.new) }
+    ensures whole_first { result ≡ Status.WriteFault → IsAtEnd (S.left source.new) }
     ensures front { result ≡ Status.WriteFault → WritesFront (S.left source.old) (K.held sink.old) (K.held sink.new) }
     ensures untouched { result ≢ Status.Done → result ≢ Status.WriteFault → sink.new ≡ sink.old }
 
