@@ -1,0 +1,18 @@
+//! What a file holds: the versions that stand side by side, and what is shown of them.
+#![tactic(auto)]
+
+mod content;
+mod error;
+mod head;
+mod policy;
+mod version;
+mod writing;
+
+pub use content::Content;
+pub use error::WriteError;
+pub use head::Head;
+pub use policy::Policy;
+pub use version::Version;
+
+#[cfg(test)]
+mod tests;
