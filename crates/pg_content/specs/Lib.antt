@@ -1,3 +1,5 @@
 pub mod Version
 pub mod Shown
 pub mod Content
+pub mod History
+pub mod StandsFor

@@ -4,6 +4,7 @@
 mod content;
 mod error;
 mod head;
+mod laws;
 mod policy;
 mod version;
 mod writing;
@@ -11,6 +12,7 @@ mod writing;
 pub use content::Content;
 pub use error::WriteError;
 pub use head::Head;
+pub use laws::ancestry_by_vectors;
 pub use policy::Policy;
 pub use version::Version;
 
