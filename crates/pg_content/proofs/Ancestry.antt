@@ -1,5 +1,5 @@
 -- Histories: vectors tell who is an ancestor of whom.
-use Rattle.std.proofs.Common.{◌≡◌, ◌≢◌, ℕ, suc, zero, ◌+◌, ◌-◌, ◌<◌, ◌≤◌, ◌^◌, min, max, Bool, true, false, cond, not, eqb, ◌&&◌, List, [], ◌∷◌, map, ◌⊎◌, ◌↔◌, IsTrue, inl, inr, refl, sym, ap, subst, ◌∙◌, arith}
+use Rattle.std.proofs.Common.{◌≡◌, ℕ, ◌+◌, ◌<◌, ◌≤◌, ◌^◌, max, Bool, true, false, cond, List, [], ◌∷◌, map, ◌⊎◌, ◌↔◌, inl, inr, refl, sym, ap, subst, ◌∙◌, arith}
 use Rattle.std.specs.List.{fold}
 use Rattle.std.specs.Ordering.{eq_by_cmp}
 use Rattle.std.specs.Cmp.{tied_itself}
@@ -9,10 +9,10 @@ use Rattle.std.proofs.lemmas.Bool.{cases_lt}
 use Rattle.std.proofs.lemmas.Map.Views.{tells_apart}
 use Rattle.pg_base.specs.declared.stamp.Stamp.{Stamp}
 use Rattle.pg_base.specs.declared.vector.Actor.{Actor}
-use Rattle.pg_base.specs.Vector.{IsVector, actor_cmp, number_at, raised, joined, Covers}
+use Rattle.pg_base.specs.Vector.{IsVector, actor_cmp, number_at, joined, Covers}
 use Rattle.pg_base.proofs.Vectors.{IsVector-nil, actor_exact, actor_total, number_at-raised, number_at-joined, IsVector-raised, IsVector-joined}
 use Rattle.pg_content.specs.Content.{Among, joined_all, one_more}
-use Rattle.pg_content.specs.History.{Made, maker, is_same_stamp, IsMember, IsAncestor, vector_of, number_of, IsNext, IsHistory}
+use Rattle.pg_content.specs.History.{Made, maker, is_same_stamp, IsMember, IsAncestor, vector_of, number_of, IsHistory}
 
 -- ---- stamps
 
@@ -79,7 +79,7 @@ all_vector : (vs : List (List (Actor × ℕ))) (start : List (Actor × ℕ)) →
 all_vector [] start is each = is
 all_vector (v ∷ vs) start is each = all_vector vs (joined start v) (IsVector-joined start v is (each v (inl refl))) (λ w k. each w (inr k))
 
-among_map : {A B : Type 0} (f : A → B) (xs : List A) (y : B) → Among y (map f xs) → (x : A) × Among x xs × (y ≡ f x)
+pub among_map : {A B : Type 0} (f : A → B) (xs : List A) (y : B) → Among y (map f xs) → (x : A) × Among x xs × (y ≡ f x)
 among_map f [] y k = absurd k
 among_map f (x ∷ xs) y k = elim k [ inl same ↦ (x, inl refl, same) | inr later ↦ (let r = among_map f xs y later in (r.0, inr r.1, r.2)) ]
 

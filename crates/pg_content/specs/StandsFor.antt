@@ -1,7 +1,8 @@
 -- What a content stands for: a set of versions of one history.
-use Rattle.std.specs.Prelude.{ℕ, ◌≡◌, ◌⊎◌, ◌↔◌, All, List, [], ◌∷◌}
+use Rattle.std.specs.Prelude.{◌≡◌, ◌⊎◌, ◌↔◌, All, List, [], ◌∷◌}
 use Rattle.pg_base.specs.declared.stamp.Stamp.{Stamp}
 use Rattle.pg_base.specs.Stamp.{IsBefore}
+use Rattle.pg_content.specs.declared.policy.Policy.{Policy}
 use Rattle.pg_content.specs.Version.{VersionValue}
 use Rattle.pg_content.specs.Content.{ContentValue, Among}
 use Rattle.pg_content.specs.History.{Made, IsMember, IsAncestor, IsHead, version_of}
@@ -17,17 +18,17 @@ pub record IsClosed (h : List Made) (set : List Stamp) : Type 0 where
   pub ancestors : (s u : Stamp) → Among s set → IsAncestor h u s → Among u set
 
 -- v is the version of the history, whole, that is a head of the set
-pub record IsHeadVersion (c : ContentValue) (h : List Made) (set : List Stamp) (v : VersionValue) : Type 0 where
+pub record IsHeadVersion (policy : Policy) (h : List Made) (set : List Stamp) (v : VersionValue) : Type 0 where
   pub made : Made
   pub member : Among made h
-  pub version : v ≡ version_of c.policy h made
+  pub version : v ≡ version_of policy h made
   pub head : IsHead h set made.stamp
 
 -- the content's heads are the heads of the set, each once and whole, in the order of their stamps: each is one, and each member of the set is one or an ancestor of one
 pub record StandsFor (c : ContentValue) (h : List Made) (set : List Stamp) : Type 0 where
   pub closed : IsClosed h set
   pub order : InStrictOrder c.heads
-  pub heads : (v : VersionValue) → Among v c.heads → IsHeadVersion c h set v
+  pub heads : (v : VersionValue) → Among v c.heads → IsHeadVersion c.policy h set v
   pub all : (s : Stamp) → Among s set → (v : VersionValue) × Among v c.heads × ((s ≡ v.head.stamp) ⊎ IsAncestor h s v.head.stamp)
 
 -- the set with the version and its ancestors

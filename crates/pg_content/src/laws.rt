@@ -1,10 +1,13 @@
 //! Laws of histories and contents.
 
-ghost use Rattle.std.specs.Prelude.{◌≡◌, ◌⊎◌, ◌↔◌, List};
+ghost use Rattle.std.specs.Prelude.{◌≡◌, ◌⊎◌, ◌↔◌, List, [], ◌∷◌, map};
 ghost use Rattle.pg_base.specs.declared.stamp.Stamp.{Stamp};
 ghost use Rattle.pg_base.specs.Vector.{Covers, IsVector};
-ghost use Rattle.pg_content.specs.Content.{Among};
-ghost use Rattle.pg_content.specs.History.{IsAncestor, IsHistory, Made, maker, number_of, vector_of};
+ghost use Rattle.pg_content.specs.Content.{Among, ContentValue, joined_content, written};
+ghost use Rattle.pg_content.specs.History.{IsAncestor, IsHead, IsHistory, Made, maker, number_of, vector_of, version_of};
+ghost use Rattle.pg_content.specs.StandsFor.{IsWith, StandsFor};
+ghost use Rattle.pg_content.specs.Version.{stamp_of};
+ghost use Rattle.pg_content.specs.declared.policy.Policy.{Policy};
 
 /// A version's vector covers exactly the version itself and its ancestors.
 pub fn ancestry_by_vectors()
@@ -12,4 +15,15 @@ pub fn ancestry_by_vectors()
     ensures vector { (h : List Made) → IsHistory h → (s : Stamp) → IsVector (vector_of h s) }
     ensures transitive { (h : List Made) → IsHistory h → (a b c : Stamp) → IsAncestor h a b → IsAncestor h b c → IsAncestor h a c }
     ensures other { (h : List Made) → IsHistory h → (s : Stamp) → IsAncestor h s s → ⊥ }
+{}
+
+/// A content has the heads of the set of versions that it stands for. Joins and writes keep it so, and contents that
+/// stand for the same versions are one.
+pub fn content_is_its_heads()
+    ensures empty { (policy : Policy) (h : List Made) → StandsFor (record { policy = policy; heads = [] }) h [] }
+    ensures join { (h : List Made) → IsHistory h → (c : ContentValue) (old new : List Stamp) → StandsFor c h old → (m : Made) → Among m h → IsWith h old m.stamp new → StandsFor (joined_content c (version_of c.policy h m)) h new }
+    ensures write { (m : Made) (h : List Made) → IsHistory (m ∷ h) → (c : ContentValue) (set : List Stamp) → StandsFor c h set → m.bases ≡ map stamp_of c.heads → StandsFor (written c (maker m) m.stamp m.ranges) (m ∷ h) (m.stamp ∷ set) }
+    ensures later { (m : Made) (h : List Made) → IsHistory (m ∷ h) → (c : ContentValue) (set : List Stamp) → StandsFor c h set → StandsFor c (m ∷ h) set }
+    ensures heads { (h : List Made) → IsHistory h → (c : ContentValue) (set : List Stamp) → StandsFor c h set → (m : Made) → Among m h → IsHead h set m.stamp ↔ Among (version_of c.policy h m) c.heads }
+    ensures same { (h : List Made) (c d : ContentValue) (first second : List Stamp) → IsHistory h → StandsFor c h first → StandsFor d h second → c.policy ≡ d.policy → ((s : Stamp) → Among s first ↔ Among s second) → c ≡ d }
 {}

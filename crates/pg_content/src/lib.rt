@@ -12,7 +12,7 @@ mod writing;
 pub use content::Content;
 pub use error::WriteError;
 pub use head::Head;
-pub use laws::ancestry_by_vectors;
+pub use laws::{ancestry_by_vectors, content_is_its_heads};
 pub use policy::Policy;
 pub use version::Version;
 

@@ -1,0 +1,17 @@
+use Rattle.pg_content.proofs.Standing.{among_head, head_among, same_content, stands_joined, stands_later, stands_written}
+use Rattle.pg_content.proofs.laws.content_is_its_heads.Goals as goal
+
+pub returns-clause-join : goal.returns-clause-join
+returns-clause-join c = λ h k content old new f m is more. stands_joined h k content old new f m is more
+
+pub returns-clause-write : goal.returns-clause-write
+returns-clause-write c = λ m h k content set f based. stands_written m h k content set f based
+
+pub returns-clause-later : goal.returns-clause-later
+returns-clause-later c = λ m h k content set f. stands_later m h k content set f
+
+pub returns-clause-heads : goal.returns-clause-heads
+returns-clause-heads c = λ h k content set f m is. (head_among content h k set f m is, among_head content h k set f m is)
+
+pub returns-clause-same : goal.returns-clause-same
+returns-clause-same c = same_content
