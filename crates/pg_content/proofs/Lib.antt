@@ -1,3 +1,5 @@
 pub mod Heads
 pub mod Ancestry
 pub mod Standing
+pub mod HeadsOf
+pub mod Rows

@@ -39,7 +39,7 @@ module _ (x : VersionValue) where
   ]
   placed_by v w ws false rest k = k
 
-  among_placed : (v : VersionValue) (ws : List VersionValue) → Among x (placed stamp_of v ws) → (x ≡ v) ⊎ Among x ws
+  pub among_placed : (v : VersionValue) (ws : List VersionValue) → Among x (placed stamp_of v ws) → (x ≡ v) ⊎ Among x ws
   among_placed v [] k = k
   among_placed v (w ∷ ws) k = placed_by v w ws (is_before w.head.stamp v.head.stamp) (among_placed v ws) k
 
@@ -50,7 +50,7 @@ module _ (x : VersionValue) where
   ]
   put_by v w ws false rest k = k
 
-  placed_among : (v : VersionValue) (ws : List VersionValue) → (x ≡ v) ⊎ Among x ws → Among x (placed stamp_of v ws)
+  pub placed_among : (v : VersionValue) (ws : List VersionValue) → (x ≡ v) ⊎ Among x ws → Among x (placed stamp_of v ws)
   placed_among v [] k = k
   placed_among v (w ∷ ws) k = put_by v w ws (is_before w.head.stamp v.head.stamp) (placed_among v ws) k
 
@@ -123,7 +123,7 @@ order_by v w ws false e other h k =
     let first : Before v w = before_is v.head.stamp w.head.stamp (is_before-false w.head.stamp v.head.stamp e) other in
     (All-cons (Before v) w ws first (All-weaker (Before w) (Before v) (λ x l. before_trans v.head.stamp w.head.stamp x.head.stamp first l) ws h.0), h)
 
-InStrictOrder-placed : (v : VersionValue) (ws : List VersionValue) → ((w : VersionValue) → Among w ws → v.head.stamp ≡ w.head.stamp → ⊥) → InStrictOrder ws → InStrictOrder (placed stamp_of v ws)
+pub InStrictOrder-placed : (v : VersionValue) (ws : List VersionValue) → ((w : VersionValue) → Among w ws → v.head.stamp ≡ w.head.stamp → ⊥) → InStrictOrder ws → InStrictOrder (placed stamp_of v ws)
 InStrictOrder-placed v [] other h = (All-nil (Before v), tt)
 InStrictOrder-placed v (w ∷ ws) other h = order_by v w ws (is_before w.head.stamp v.head.stamp) refl (other w (inl refl)) h (InStrictOrder-placed v ws (λ x k. other x (inr k)) h.1)
 
@@ -152,7 +152,7 @@ rest_among v w x vs ws h e k l = elim l [
   | inr later ↦ later
 ]
 
-same_heads : (vs ws : List VersionValue) → InStrictOrder vs → InStrictOrder ws → ((v : VersionValue) → Among v vs → Among v ws) → ((v : VersionValue) → Among v ws → Among v vs) → vs ≡ ws
+pub same_heads : (vs ws : List VersionValue) → InStrictOrder vs → InStrictOrder ws → ((v : VersionValue) → Among v vs → Among v ws) → ((v : VersionValue) → Among v ws → Among v vs) → vs ≡ ws
 same_heads [] [] h k there back = refl
 same_heads [] (w ∷ ws) h k there back = absurd (back w (inl refl))
 same_heads (v ∷ vs) [] h k there back = absurd (there v (inl refl))
@@ -211,7 +211,7 @@ module _ (c : ContentValue) (h : List Made) where
       let stamp : m.stamp ≡ r.made.stamp = ap (λ (v : VersionValue). v.head.stamp) r.version in
       subst (λ s. IsHead h set s) (sym stamp) r.head
 
-content_of_parts : (p q : Policy) (vs ws : List VersionValue) → p ≡ q → vs ≡ ws → ◌≡◌ {A = ContentValue} (record { policy = p; heads = vs }) (record { policy = q; heads = ws })
+pub content_of_parts : (p q : Policy) (vs ws : List VersionValue) → p ≡ q → vs ≡ ws → ◌≡◌ {A = ContentValue} (record { policy = p; heads = vs }) (record { policy = q; heads = ws })
 content_of_parts p q vs ws e f = cc
 
 module _ (h : List Made) (k : IsHistory h) (c d : ContentValue) (first second : List Stamp) where

@@ -1,5 +1,6 @@
 -- The history of one file: the versions as they were made. What a version is, and which are shown, is read from it alone.
-use Rattle.std.specs.Prelude.{ℕ, Bool, ◌≡◌, ◌^◌, ◌<◌, ◌⊎◌, ◌==◌, ◌&&◌, if◌then◌else◌, List, [], ◌∷◌, map}
+use Rattle.std.specs.Prelude.{ℕ, Bool, true, false, ◌≡◌, ◌^◌, ◌<◌, ◌⊎◌, ◌==◌, ◌&&◌, if◌then◌else◌, List, [], ◌∷◌, map, ◌||◌, not, filter}
+use Rattle.std.specs.List.{list_any}
 use Rattle.pg_base.specs.declared.stamp.Stamp.{Stamp}
 use Rattle.pg_base.specs.declared.vector.Actor.{Actor}
 use Rattle.pg_base.specs.Vector.{number_at}
@@ -68,3 +69,22 @@ IsHistory (m ∷ h) = IsNext h m × IsHistory h
 -- s is one of a set of versions, and an ancestor of no other of them
 abbrev pub IsHead : List Made → List Stamp → Stamp → Type 0
 IsHead h set s = Among s set × ((t : Stamp) → Among t set → IsAncestor h s t → ⊥)
+
+-- ---- the same as tests
+
+-- whether u is an ancestor of v
+abbrev pub is_ancestor : List Made → Stamp → Stamp → Bool
+is_ancestor [] u v = false
+is_ancestor (m ∷ h) u v = (is_same_stamp v m.stamp && list_any (λ b. is_same_stamp u b || is_ancestor h u b) m.bases) || is_ancestor h u v
+
+-- whether s is one of the set
+abbrev pub is_among : List Stamp → Stamp → Bool
+is_among set s = list_any (is_same_stamp s) set
+
+-- whether s is one of the set, and an ancestor of no other of it
+abbrev pub is_head : List Made → List Stamp → Stamp → Bool
+is_head h set s = is_among set s && not (list_any (is_ancestor h s) set)
+
+-- the heads of a set of versions, the latest first
+abbrev pub heads_of : List Made → List Stamp → List Made
+heads_of h set = filter (λ m. is_head h set m.stamp) h

@@ -1,11 +1,12 @@
 -- What a content stands for: a set of versions of one history.
-use Rattle.std.specs.Prelude.{◌≡◌, ◌⊎◌, ◌↔◌, All, List, [], ◌∷◌}
+use Rattle.std.specs.Prelude.{◌≡◌, ◌⊎◌, ◌↔◌, All, List, [], ◌∷◌, map}
 use Rattle.pg_base.specs.declared.stamp.Stamp.{Stamp}
 use Rattle.pg_base.specs.Stamp.{IsBefore}
 use Rattle.pg_content.specs.declared.policy.Policy.{Policy}
-use Rattle.pg_content.specs.Version.{VersionValue}
+use Rattle.pg_content.specs.Version.{VersionValue, stamp_of}
+use Rattle.pg_content.specs.Shown.{by_stamp}
 use Rattle.pg_content.specs.Content.{ContentValue, Among}
-use Rattle.pg_content.specs.History.{Made, IsMember, IsAncestor, IsHead, version_of}
+use Rattle.pg_content.specs.History.{Made, IsMember, IsAncestor, IsHead, version_of, heads_of}
 
 -- each stamp is before those behind it
 abbrev pub InStrictOrder : List VersionValue → Type 0
@@ -34,3 +35,7 @@ pub record StandsFor (c : ContentValue) (h : List Made) (set : List Stamp) : Typ
 -- the set with the version and its ancestors
 abbrev pub IsWith : List Made → List Stamp → Stamp → List Stamp → Type 0
 IsWith h old s new = (t : Stamp) → Among t new ↔ (Among t old ⊎ ((t ≡ s) ⊎ IsAncestor h t s))
+
+-- the content of a set of versions: its heads, whole, in the order of their stamps
+abbrev pub content_of : Policy → List Made → List Stamp → ContentValue
+content_of policy h set = record { policy = policy; heads = by_stamp stamp_of (map (version_of policy h) (heads_of h set)) }

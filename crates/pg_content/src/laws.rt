@@ -5,7 +5,7 @@ ghost use Rattle.pg_base.specs.declared.stamp.Stamp.{Stamp};
 ghost use Rattle.pg_base.specs.Vector.{Covers, IsVector};
 ghost use Rattle.pg_content.specs.Content.{Among, ContentValue, joined_content, written};
 ghost use Rattle.pg_content.specs.History.{IsAncestor, IsHead, IsHistory, Made, maker, number_of, vector_of, version_of};
-ghost use Rattle.pg_content.specs.StandsFor.{IsWith, StandsFor};
+ghost use Rattle.pg_content.specs.StandsFor.{IsClosed, IsWith, StandsFor, content_of};
 ghost use Rattle.pg_content.specs.Version.{stamp_of};
 ghost use Rattle.pg_content.specs.declared.policy.Policy.{Policy};
 
@@ -25,5 +25,7 @@ pub fn content_is_its_heads()
     ensures write { (m : Made) (h : List Made) → IsHistory (m ∷ h) → (c : ContentValue) (set : List Stamp) → StandsFor c h set → m.bases ≡ map stamp_of c.heads → StandsFor (written c (maker m) m.stamp m.ranges) (m ∷ h) (m.stamp ∷ set) }
     ensures later { (m : Made) (h : List Made) → IsHistory (m ∷ h) → (c : ContentValue) (set : List Stamp) → StandsFor c h set → StandsFor c (m ∷ h) set }
     ensures heads { (h : List Made) → IsHistory h → (c : ContentValue) (set : List Stamp) → StandsFor c h set → (m : Made) → Among m h → IsHead h set m.stamp ↔ Among (version_of c.policy h m) c.heads }
+    ensures closed { (policy : Policy) (h : List Made) → IsHistory h → (set : List Stamp) → IsClosed h set → StandsFor (content_of policy h set) h set }
+    ensures whole { (h : List Made) → IsHistory h → (c : ContentValue) (set : List Stamp) → StandsFor c h set → c ≡ content_of c.policy h set }
     ensures same { (h : List Made) (c d : ContentValue) (first second : List Stamp) → IsHistory h → StandsFor c h first → StandsFor d h second → c.policy ≡ d.policy → ((s : Stamp) → Among s first ↔ Among s second) → c ≡ d }
 {}

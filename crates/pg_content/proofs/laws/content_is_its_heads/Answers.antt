@@ -1,4 +1,5 @@
 use Rattle.pg_content.proofs.Standing.{among_head, head_among, same_content, stands_joined, stands_later, stands_written}
+use Rattle.pg_content.proofs.HeadsOf.{content_is, content_stands}
 use Rattle.pg_content.proofs.laws.content_is_its_heads.Goals as goal
 
 pub returns-clause-join : goal.returns-clause-join
@@ -15,3 +16,9 @@ returns-clause-heads c = λ h k content set f m is. (head_among content h k set 
 
 pub returns-clause-same : goal.returns-clause-same
 returns-clause-same c = same_content
+
+pub returns-clause-whole : goal.returns-clause-whole
+returns-clause-whole c = λ h k content set f. content_is h k content set f
+
+pub returns-clause-closed : goal.returns-clause-closed
+returns-clause-closed c = λ policy h k set closed. content_stands policy h k set closed
