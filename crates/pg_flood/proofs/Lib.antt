@@ -1,0 +1,14 @@
+pub mod Flood
+pub mod Draws
+pub mod Touch
+pub mod Retire
+pub mod Link
+pub mod Unlink
+pub mod Servers
+pub mod Steps
+pub mod OneFile
+pub mod Made
+pub mod Dropped
+pub mod Answer
+pub mod Sends
+pub mod Worlds

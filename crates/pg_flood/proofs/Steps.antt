@@ -1,0 +1,49 @@
+-- What a server does in an event, as a chain of steps.
+use Rattle.std.proofs.Common.{ℕ, ◌≡◌, ◌<◌, List, [], Option, Some, ◌⊎◌, All}
+use Rattle.pg_base.specs.declared.id.FileId.{FileId}
+use Rattle.pg_flood.specs.Promises.{Saying}
+use Rattle.pg_flood.specs.Server.{Slot, peer_of}
+use Rattle.pg_flood.specs.Protocol.{Protocol, tags_of, tag, Has, Covers}
+use Rattle.pg_flood.proofs.Flood.{Local, MaySend, Moves, Moves-refl, Moves-trans, by_moves, goes_on}
+
+module _ {N M C : Type 0} (p : Protocol N M C) where
+  -- every tag that stands was given out
+  abbrev pub IsBounded : N → Type 0
+  IsBounded a = (q : Slot) (g : ℕ) → tag p a q ≡ Some g → g < tags_of p a
+
+  -- births that are over stay over
+  abbrev pub OverStays : N → N → Type 0
+  OverStays a b = (file : FileId) (birth : ℕ) (c : C) → p.IsOver a file birth c → p.IsOver b file birth c
+
+  -- the rule for one server, and what it may send
+  abbrev pub Rule : ℕ → N → N → Saying Slot C → List M → Type 0
+  Rule s a b heard sent = Local p.says (tags_of p) (tag p) (Has p) (Covers p) peer_of p.Noted s a b heard sent
+
+  abbrev pub May : ℕ → N → N → Saying Slot C → Saying Slot C → Type 0
+  May s a b heard x = MaySend p.says (tags_of p) (tag p) (Has p) (Covers p) peer_of p.Noted s a b heard x
+
+  abbrev pub AllMay : ℕ → N → N → Saying Slot C → List M → Type 0
+  AllMay s a b heard sent = All (λ m. May s a b heard (p.says m)) sent
+
+  -- what the server heard and may still answer, it heard before, or in this event
+  abbrev pub NotesFrom : N → N → Saying Slot C → Type 0
+  NotesFrom a b heard = (x : Saying Slot C) → p.Noted b x → p.Noted a x ⊎ (heard ≡ x)
+
+  -- a step that hears no answer, and after which every tag that stands was given out
+  pub record Steps (a b : N) : Type 0 where
+    pub moves : Moves p.says (tags_of p) (tag p) (Has p) (Covers p) peer_of p.Noted a b
+    pub bounded : IsBounded a → IsBounded b
+
+  pub Steps-refl : (a : N) → Steps a a
+  Steps-refl a = record { moves = Moves-refl p.says (tags_of p) (tag p) (Has p) (Covers p) peer_of p.Noted a; bounded = λ h. h }
+
+  pub Steps-trans : {a b c : N} → Steps a b → Steps b c → Steps a c
+  Steps-trans {a} {b} {c} f g = record { moves = Moves-trans p.says (tags_of p) (tag p) (Has p) (Covers p) peer_of p.Noted a b c f.moves g.moves; bounded = λ h. g.bounded (f.bounded h) }
+
+  -- THE RULE, for an event that is such a chain
+  pub by_steps : (s : ℕ) (a b : N) (heard : Saying Slot C) (sent : List M) → Steps a b → NotesFrom a b heard → AllMay s a b heard sent → Rule s a b heard sent
+  by_steps s a b heard sent f notes sends = by_moves p.says (tags_of p) (tag p) (Has p) (Covers p) peer_of p.Noted s a b heard sent f.moves notes sends
+
+  -- the same, where an answer was heard first
+  pub then_steps : (s : ℕ) (a b c : N) (heard : Saying Slot C) (sent : List M) → Rule s a b heard [] → Steps b c → NotesFrom a c heard → AllMay s a c heard sent → Rule s a c heard sent
+  then_steps s a b c heard sent l f notes sends = goes_on p.says (tags_of p) (tag p) (Has p) (Covers p) peer_of p.Noted s a b c heard sent l f.moves notes sends

@@ -1,0 +1,57 @@
+-- All servers and the messages under way: what an event keeps, and what follows where nothing is owed.
+use Rattle.std.proofs.Common.{ℕ, ◌≡◌, true, List, [], ◌∷◌, ◌++◌, None, Some, refl, sym, ap, ◌∙◌, inl, inr, All}
+use Rattle.std.proofs.lemmas.List.Elements.{All-nil}
+use Rattle.pg_base.specs.declared.id.FileId.{FileId}
+use Rattle.pg_edges.specs.declared.key.Key.{Key}
+use Rattle.pg_edges.specs.Edges.{is_listed, tag_at}
+use Rattle.pg_flood.specs.World.{after}
+use Rattle.pg_flood.specs.Promises.{Saying}
+use Rattle.pg_flood.specs.Server.{Replica, Server, Slot, slot, peer_of, tag_on, HasCell, HoldsAll, HoldsThere}
+use Rattle.pg_flood.specs.Protocol.{Protocol, IsSound, tags_of, tag, Has, Covers, Promised, KeepsEdges}
+use Rattle.pg_flood.specs.Laws.{IsClean, IsQuiet, AreLinked, AreConnected, Agree, LinkedAgree, ConnectedAgree}
+use Rattle.pg_flood.proofs.Flood.{step_keeps}
+use Rattle.pg_flood.proofs.Servers.{there_parts}
+use Rattle.pg_flood.proofs.Steps.{Rule}
+use Rattle.pg_flood.proofs.Sends.{HoldsAll-trans}
+
+module _ {N M C : Type 0} (p : Protocol N M C) where
+  -- WHAT ONE SERVER DOES BY THE RULE IS KEPT: these are left of the messages under way, and these are sent
+  pub event_keeps : (nodes : ℕ → N) (s : ℕ) (b : N) (heard : Saying Slot C) (sent bag rest : List M) → KeepsEdges p nodes bag → Rule p s (nodes s) b heard sent → Promised p nodes heard
+      → All (λ m. Promised p nodes (p.says m)) rest → KeepsEdges p (after nodes s b) (rest ++ sent)
+  event_keeps nodes s b heard sent bag rest k l heard_kept rest_kept = step_keeps p.says (tags_of p) (tag p) (Has p) (Covers p) peer_of p.Noted nodes s b heard sent bag rest k l heard_kept rest_kept
+
+  -- where messages are lost or copied
+  pub bag_keeps : (nodes : ℕ → N) (bag rest : List M) → KeepsEdges p nodes bag → All (λ m. Promised p nodes (p.says m)) rest → KeepsEdges p nodes rest
+  bag_keeps nodes bag rest k h = record { edges = k.edges; promises = h; notes = k.notes }
+
+  -- a world in which no message is under way or noted, and of each edge with an acknowledged key the other end covers the cell
+  pub start_keeps : (nodes : ℕ → N) → ((s : ℕ) (q : Slot) (c : C) → Has p (nodes s) q c → tag p (nodes s) q ≡ None → Covers p (nodes q.peer) q c) → ((s : ℕ) (x : Saying Slot C) → p.Noted (nodes s) x → ⊥)
+      → KeepsEdges p nodes []
+  start_keeps nodes edges none = record { edges = edges; promises = All-nil (λ m. Promised p nodes (p.says m)); notes = λ s x h. absurd (none s x h) }
+
+  -- ACROSS AN EDGE without unacknowledged keys, to a replica that is held, the other end holds all that this end holds
+  pub across : IsSound p → (nodes : ℕ → N) (bag : List M) → KeepsEdges p nodes bag → (file : FileId) (s t : ℕ) (x y : Replica C) → (p.see (nodes s)).replicas file ≡ Some x → (p.see (nodes t)).replicas file ≡ Some y
+      → is_listed x.edges t y.birth ≡ true → ((key : Key) → tag_at x.edges t y.birth key ≡ None) → HoldsAll p.IsUpTo x.cells y.cells
+  across sound nodes bag k file s t x y one two there clean key c is =
+      let q = slot file x.birth t y.birth key in
+      elim (k.edges s q c (record { replica = x; is = one; own = refl; listed = there; cell = is }) (ap (λ o. tag_on o q) one ∙ clean key)) [
+        | inl h ↦ (there_parts p.IsUpTo (p.see (nodes t)) q c y two h).1
+        | inr over ↦ absurd (sound.ends (nodes t) file y.birth c y over two refl)
+      ]
+
+  pub linked_agree : LinkedAgree p
+  linked_agree sound nodes bag k quiet file s t x y l = (
+    across sound nodes bag k file s t x y l.one l.two l.there (quiet.owed s file x l.one t y.birth),
+    across sound nodes bag k file t s y x l.two l.one l.back (quiet.owed t file y l.two s x.birth),
+  )
+
+  Agree-trans : IsSound p → (x y z : Replica C) → Agree p x y → Agree p y z → Agree p x z
+  Agree-trans sound x y z one two = (
+    HoldsAll-trans p.IsUpTo sound.further x.cells y.cells z.cells one.0 two.0,
+    HoldsAll-trans p.IsUpTo sound.further z.cells y.cells x.cells two.1 one.1,
+  )
+
+  pub connected_agree : ConnectedAgree p
+  connected_agree sound nodes bag k quiet file [] s t x y l = linked_agree sound nodes bag k quiet file s t x y l
+  connected_agree sound nodes bag k quiet file (u ∷ us) s t x y l =
+      Agree-trans sound x u.1 y (linked_agree sound nodes bag k quiet file s u.0 x u.1 l.0) (connected_agree sound nodes bag k quiet file us u.0 t u.1 y l.1)
