@@ -16,8 +16,8 @@ use Rattle.pg_flood.specs.Promises.Saying.{AckTo}
 use Rattle.pg_flood.specs.Server.{Replica, Server, Slot, slot, tag_on}
 use Rattle.pg_flood.specs.Protocol.{Protocol, IsSound, tags_of, tag, Has, Covers}
 use Rattle.pg_flood.proofs.Draws.{listed_as, listed_by_tag}
-use Rattle.pg_flood.proofs.Servers.{OthersStay, AtFile, by_file, has_parts, there_parts, has_same, there_same}
-use Rattle.pg_flood.proofs.Steps.{IsBounded, OverStays, NotesFrom, Rule, May}
+use Rattle.pg_flood.proofs.Servers.{slot_of_parts, OthersStay, AtFile, by_file, has_parts, there_parts, has_same, there_same}
+use Rattle.pg_flood.proofs.Steps.{HasSoundTags, fewer_tags, OverStays, NotesFrom, Rule, May}
 
 -- an answer with another tag than the present one takes nothing off
 pub old_answer : (es : List Edge) (peer birth : ℕ) (key : Key) (g : ℕ) → option_eq nat_eq (tag_at es peer birth key) (Some g) ≡ false → acked es peer birth key g ≡ es
@@ -52,10 +52,6 @@ answered_by es peer birth key g p b k false e = inr (acks es peer birth key g p 
 
 pub answered : (es : List Edge) (peer birth : ℕ) (key : Key) (g p b : ℕ) (k : Key) → Answered es peer birth key g p b k ⊎ (slot_at (acked es peer birth key g) p b k ≡ slot_at es p b k)
 answered es peer birth key g p b k = answered_by es peer birth key g p b k (is_answered es peer birth key g p b k) refl
-
-slot_of_parts : (f f' : FileId) (o o' t t' b b' : ℕ) (k k' : Key) → f ≡ f' → o ≡ o' → t ≡ t' → b ≡ b' → k ≡ k'
-    → ◌≡◌ {A = Slot} (record { file = f; own = o; peer = t; birth = b; key = k }) (record { file = f'; own = o'; peer = t'; birth = b'; key = k' })
-slot_of_parts f f' o o' t t' b b' k k' d e h i j = cc
 
 module _ {N M C : Type 0} (p : Protocol N M C) where
   abbrev pub with_answered : Replica C → ℕ → ℕ → Key → ℕ → Replica C
@@ -114,13 +110,13 @@ module _ {N M C : Type 0} (p : Protocol N M C) where
       ]
   answered_free s a b file x peer birth key g q c (inr w) h now = (has_same (p.see a) (p.see b) q c w h, inl (sym (ap (λ o. tag_on o q) w) ∙ now))
 
-  answered_bound : (a b : N) (file : FileId) (x : Replica C) (peer birth : ℕ) (key : Key) (g : ℕ) (q : Slot) (j : ℕ)
+  answered_stood : (a b : N) (file : FileId) (x : Replica C) (peer birth : ℕ) (key : Key) (g : ℕ) (q : Slot) (j : ℕ)
       → AtFile (p.see a) (p.see b) file (Some x) (Some (with_answered x peer birth key g)) q.file → tag p b q ≡ Some j → tag p a q ≡ Some j
-  answered_bound a b file x peer birth key g q j (inl w) now =
+  answered_stood a b file x peer birth key g q j (inl w) now =
       let old = ap (λ o. tag_on o q) w.1 in
       let new = ap (λ o. tag_on o q) w.2 in
       elim (keeps_or_brings (Ack peer birth key g) x.edges q.peer q.birth q.key j (sym new ∙ now)) [ inl z ↦ old ∙ z | inr z ↦ absurd z ]
-  answered_bound a b file x peer birth key g q j (inr w) now = sym (ap (λ o. tag_on o q) w) ∙ now
+  answered_stood a b file x peer birth key g q j (inr w) now = sym (ap (λ o. tag_on o q) w) ∙ now
 
   -- THE RULE, for an answer to the replica that is held, whether its tag is the present one or an old one
   pub answer_rule : (s : ℕ) (a b : N) (file : FileId) (x : Replica C) (peer birth : ℕ) (key : Key) (g : ℕ) → Answers a b file x peer birth key g
@@ -139,9 +135,8 @@ module _ {N M C : Type 0} (p : Protocol N M C) where
         sends = All-nil (λ m. May p s a b (AckTo s (slot file x.birth peer birth key) g) (p.says m));
       }
 
-  -- and every tag that stands after it was given out
-  pub answer_bounded : (a b : N) (file : FileId) (x : Replica C) (peer birth : ℕ) (key : Key) (g : ℕ) → Answers a b file x peer birth key g → IsBounded p a → IsBounded p b
-  answer_bounded a b file x peer birth key g k low q j now =
-      let lt = low q j (answered_bound a b file x peer birth key g q j (at_answer a b file x peer birth key g k q.file) now) in
+  -- and tags stay sound
+  pub answer_tags : (a b : N) (file : FileId) (x : Replica C) (peer birth : ℕ) (key : Key) (g : ℕ) → Answers a b file x peer birth key g → HasSoundTags p a → HasSoundTags p b
+  answer_tags a b file x peer birth key g k sound =
       let same = k.tags in
-      omega arith
+      fewer_tags p a b (omega arith) (λ q j now. answered_stood a b file x peer birth key g q j (at_answer a b file x peer birth key g k q.file) now) sound

@@ -5,7 +5,7 @@ use Rattle.pg_edges.specs.Edges.{is_listed, tag_at}
 use Rattle.pg_flood.specs.Server.{Replica, Server, Slot, tag_on, Holds, HoldsAll, HoldsThere}
 use Rattle.pg_flood.specs.Protocol.{Protocol, IsSound, tags_of, tag, Has, Covers}
 use Rattle.pg_flood.proofs.Servers.{OthersStay, AtFile, by_file, has_parts, there_parts, has_none, has_same, there_same}
-use Rattle.pg_flood.proofs.Steps.{IsBounded, OverStays, Steps}
+use Rattle.pg_flood.proofs.Steps.{fewer_tags, OverStays, Steps}
 
 module _ {N M C : Type 0} (p : Protocol N M C) where
   dropped_covers : (a b : N) (file : FileId) (x : Replica C) → OverStays p a b → ((c : C) → Holds p.IsUpTo x.cells c → p.IsOver b file x.birth c) → (q : Slot) (c : C)
@@ -24,12 +24,9 @@ module _ {N M C : Type 0} (p : Protocol N M C) where
   dropped_slots a b file x q c (inl w) h = absurd (has_none (p.see b) q c w.2 h)
   dropped_slots a b file x q c (inr w) h = inr (has_same (p.see a) (p.see b) q c w h, ap (λ o. tag_on o q) w)
 
-  dropped_bounded : (a b : N) (file : FileId) (x : Replica C) → tags_of p a ≤ tags_of p b → IsBounded p a → (q : Slot) (g : ℕ)
-      → AtFile (p.see a) (p.see b) file (Some x) None q.file → tag p b q ≡ Some g → g < tags_of p b
-  dropped_bounded a b file x up low q g (inl w) h = absurd (let z : None ≡ Some g = sym (ap (λ o. tag_on o q) w.2) ∙ h in cc)
-  dropped_bounded a b file x up low q g (inr w) h =
-      let lt = low q g (sym (ap (λ o. tag_on o q) w) ∙ h) in
-      omega arith
+  dropped_stood : (a b : N) (file : FileId) (x : Replica C) (q : Slot) (g : ℕ) → AtFile (p.see a) (p.see b) file (Some x) None q.file → tag p b q ≡ Some g → tag p a q ≡ Some g
+  dropped_stood a b file x q g (inl w) h = absurd (let z : None ≡ Some g = sym (ap (λ o. tag_on o q) w.2) ∙ h in cc)
+  dropped_stood a b file x q g (inr w) h = sym (ap (λ o. tag_on o q) w) ∙ h
 
   -- a replica is dropped, and with its birth over what it held counts as covered
   pub drop_steps : (a b : N) (file : FileId) (x : Replica C) → (p.see a).replicas file ≡ Some x → (p.see b).replicas file ≡ None → tags_of p a ≤ tags_of p b
@@ -42,5 +39,5 @@ module _ {N M C : Type 0} (p : Protocol N M C) where
           covers = λ q c h. dropped_covers a b file x over ended q c (split q.file) h;
           slots = λ q c h. dropped_slots a b file x q c (split q.file) h;
         };
-        bounded = λ low q g h. dropped_bounded a b file x up low q g (split q.file) h;
+        tags = fewer_tags p a b up (λ q g h. dropped_stood a b file x q g (split q.file) h);
       }

@@ -5,7 +5,7 @@ use Rattle.pg_edges.specs.Edges.{is_listed, tag_at}
 use Rattle.pg_flood.specs.Server.{Replica, Server, Slot, tag_on, Holds, HoldsAll, HoldsThere}
 use Rattle.pg_flood.specs.Protocol.{Protocol, IsSound, tags_of, tag, Has, Covers}
 use Rattle.pg_flood.proofs.Servers.{OthersStay, AtFile, by_file, has_parts, there_parts, has_none, has_same, there_same}
-use Rattle.pg_flood.proofs.Steps.{IsBounded, OverStays, Steps}
+use Rattle.pg_flood.proofs.Steps.{fewer_tags, OverStays, Steps}
 
 module _ {N M C : Type 0} (p : Protocol N M C) where
   made_covers : (a b : N) (file : FileId) (y : Replica C) → OverStays p a b → (q : Slot) (c : C)
@@ -22,13 +22,10 @@ module _ {N M C : Type 0} (p : Protocol N M C) where
       absurd (let z : false ≡ true = sym (ap (λ es. is_listed es q.peer q.birth) none) ∙ t.1 in cc)
   made_slots a b file y none q c (inr w) h = inr (has_same (p.see a) (p.see b) q c w h, ap (λ o. tag_on o q) w)
 
-  made_bounded : (a b : N) (file : FileId) (y : Replica C) → y.edges ≡ [] → tags_of p a ≤ tags_of p b → IsBounded p a → (q : Slot) (g : ℕ)
-      → AtFile (p.see a) (p.see b) file None (Some y) q.file → tag p b q ≡ Some g → g < tags_of p b
-  made_bounded a b file y none up low q g (inl w) h =
+  made_stood : (a b : N) (file : FileId) (y : Replica C) → y.edges ≡ [] → (q : Slot) (g : ℕ) → AtFile (p.see a) (p.see b) file None (Some y) q.file → tag p b q ≡ Some g → tag p a q ≡ Some g
+  made_stood a b file y none q g (inl w) h =
       absurd (let z : None ≡ Some g = sym (ap (λ es. tag_at es q.peer q.birth q.key) none) ∙ sym (ap (λ o. tag_on o q) w.2) ∙ h in cc)
-  made_bounded a b file y none up low q g (inr w) h =
-      let lt = low q g (sym (ap (λ o. tag_on o q) w) ∙ h) in
-      omega arith
+  made_stood a b file y none q g (inr w) h = sym (ap (λ o. tag_on o q) w) ∙ h
 
   -- a replica is made, and has no edge yet
   pub make_steps : (a b : N) (file : FileId) (y : Replica C) → (p.see a).replicas file ≡ None → (p.see b).replicas file ≡ Some y → y.edges ≡ [] → tags_of p a ≤ tags_of p b
@@ -41,5 +38,5 @@ module _ {N M C : Type 0} (p : Protocol N M C) where
           covers = λ q c h. made_covers a b file y over q c (split q.file) h;
           slots = λ q c h. made_slots a b file y none q c (split q.file) h;
         };
-        bounded = λ low q g h. made_bounded a b file y none up low q g (split q.file) h;
+        tags = fewer_tags p a b up (λ q g h. made_stood a b file y none q g (split q.file) h);
       }

@@ -2,11 +2,11 @@
 use Rattle.std.proofs.Common.{ℕ, ◌≡◌, ◌<◌, ◌≤◌, true, false, [], Option, None, Some, refl, sym, ap, subst, ◌∙◌, inl, inr, arith, ◌⊎◌}
 use Rattle.pg_base.specs.declared.id.FileId.{FileId}
 use Rattle.pg_edges.specs.Edges.{is_listed, tag_at}
-use Rattle.pg_flood.specs.Server.{Replica, Server, Slot, tag_on, Holds, HoldsAll, HoldsThere}
+use Rattle.pg_flood.specs.Server.{Replica, Server, Slot, slot, tag_on, Holds, HoldsAll, HoldsThere}
 use Rattle.pg_flood.specs.Protocol.{Protocol, IsSound, tags_of, tag, Has, Covers}
 use Rattle.pg_flood.proofs.Servers.{OthersStay, AtFile, by_file, has_parts, there_parts, has_none, has_same, there_same}
-use Rattle.pg_flood.proofs.Steps.{IsBounded, OverStays, Steps}
-use Rattle.pg_flood.proofs.Draws.{Draws}
+use Rattle.pg_flood.proofs.Steps.{IsSamePlace, HasSoundTags, fewer_tags, OverStays, Steps}
+use Rattle.pg_flood.proofs.Draws.{IsBelow, IsSingle, Draws, Draws-below}
 
 module _ {N M C : Type 0} (p : Protocol N M C) where
   file_covers : IsSound p → (a b : N) (file : FileId) (x y : Replica C) → y.birth ≡ x.birth → HoldsAll p.IsUpTo x.cells y.cells → OverStays p a b → (q : Slot) (c : C)
@@ -32,30 +32,57 @@ module _ {N M C : Type 0} (p : Protocol N M C) where
       ]
   file_slots a b file x y d q c (inr w) h = inr (has_same (p.see a) (p.see b) q c w h, ap (λ o. tag_on o q) w)
 
-  file_bounded : (a b : N) (file : FileId) (x y : Replica C) → Draws (tags_of p a) x (tags_of p b) y → IsBounded p a → (q : Slot) (g : ℕ)
+  -- the tags of one replica, of all that stand at a server
+  replica_below : (a : N) (file : FileId) (x : Replica C) → (p.see a).replicas file ≡ Some x → HasSoundTags p a → IsBelow (tags_of p a) x.edges
+  replica_below a file x old k peer birth key g h = k.below (slot file 0 peer birth key) g (ap (λ o. tag_on o (slot file 0 peer birth key)) old ∙ h)
+
+  replica_single : (a : N) (file : FileId) (x : Replica C) → (p.see a).replicas file ≡ Some x → HasSoundTags p a → IsSingle x.edges
+  replica_single a file x old k p1 b1 p2 b2 k1 k2 g h i =
+      let same = k.single (slot file 0 p1 b1 k1) (slot file 0 p2 b2 k2) g (ap (λ o. tag_on o (slot file 0 p1 b1 k1)) old ∙ h) (ap (λ o. tag_on o (slot file 0 p2 b2 k2)) old ∙ i) in
+      (same.1, same.2, same.3)
+
+  -- a tag that stands in the replica that changed, and one that stands elsewhere
+  new_and_old : (a b : N) (file : FileId) (x y : Replica C) → Draws (tags_of p a) x (tags_of p b) y → HasSoundTags p a → (q r : Slot) (g : ℕ) → (p.see a).replicas q.file ≡ Some x → (p.see b).replicas q.file ≡ Some y
+      → tag p b q ≡ Some g → tag p a r ≡ Some g → IsSamePlace q r
+  new_and_old a b file x y d k q r g old new h i = elim (d.brings q.peer q.birth q.key g (sym (ap (λ o. tag_on o q) new) ∙ h)) [
+    | inl z ↦ k.single q r g (ap (λ o. tag_on o q) old ∙ z) i
+    | inr z ↦ absurd (let lt = k.below r g i in let le = z.0 in omega arith)
+  ]
+
+  file_single : (a b : N) (file : FileId) (x y : Replica C) → (p.see a).replicas file ≡ Some x → Draws (tags_of p a) x (tags_of p b) y → HasSoundTags p a → (q r : Slot) (g : ℕ)
+      → AtFile (p.see a) (p.see b) file (Some x) (Some y) q.file → AtFile (p.see a) (p.see b) file (Some x) (Some y) r.file → tag p b q ≡ Some g → tag p b r ≡ Some g → IsSamePlace q r
+  file_single a b file x y here d k q r g (inl w) (inl v) h i =
+      let same = d.single (replica_below a file x here k) (replica_single a file x here k) q.peer q.birth r.peer r.birth q.key r.key g (sym (ap (λ o. tag_on o q) w.2) ∙ h) (sym (ap (λ o. tag_on o r) v.2) ∙ i) in
+      (w.0 ∙ sym v.0, same.0, same.1, same.2)
+  file_single a b file x y here d k q r g (inl w) (inr v) h i = new_and_old a b file x y d k q r g w.1 w.2 h (sym (ap (λ o. tag_on o r) v) ∙ i)
+  file_single a b file x y here d k q r g (inr w) (inl v) h i =
+      let same = new_and_old a b file x y d k r q g v.1 v.2 i (sym (ap (λ o. tag_on o q) w) ∙ h) in
+      (sym same.0, sym same.1, sym same.2, sym same.3)
+  file_single a b file x y here d k q r g (inr w) (inr v) h i = k.single q r g (sym (ap (λ o. tag_on o q) w) ∙ h) (sym (ap (λ o. tag_on o r) v) ∙ i)
+
+  file_below : (a b : N) (file : FileId) (x y : Replica C) → (p.see a).replicas file ≡ Some x → Draws (tags_of p a) x (tags_of p b) y → HasSoundTags p a → (q : Slot) (g : ℕ)
       → AtFile (p.see a) (p.see b) file (Some x) (Some y) q.file → tag p b q ≡ Some g → g < tags_of p b
-  file_bounded a b file x y d low q g (inl w) h =
-      let old = ap (λ o. tag_on o q) w.1 in
-      let new = ap (λ o. tag_on o q) w.2 in
+  file_below a b file x y here d k q g (inl w) h = Draws-below d (replica_below a file x here k) q.peer q.birth q.key g (sym (ap (λ o. tag_on o q) w.2) ∙ h)
+  file_below a b file x y here d k q g (inr w) h =
       let up = d.up in
-      elim (d.brings q.peer q.birth q.key g (sym new ∙ h)) [ inl z ↦ let lt = low q g (old ∙ z) in omega arith | inr r ↦ r.1 ]
-  file_bounded a b file x y d low q g (inr w) h =
-      let up = d.up in
-      let lt = low q g (sym (ap (λ o. tag_on o q) w) ∙ h) in
+      let lt = k.below q g (sym (ap (λ o. tag_on o q) w) ∙ h) in
       omega arith
 
   -- one replica is changed, and holds no less than before
   pub file_steps : IsSound p → (a b : N) (file : FileId) (x y : Replica C) → (p.see a).replicas file ≡ Some x → (p.see b).replicas file ≡ Some y
       → Draws (tags_of p a) x (tags_of p b) y → HoldsAll p.IsUpTo x.cells y.cells → OthersStay (p.see a) (p.see b) file → OverStays p a b → Steps p a b
-  file_steps k a b file x y old new d grows others over =
+  file_steps sound a b file x y old new d grows others over =
       let split = by_file (p.see a) (p.see b) file (Some x) (Some y) old new others in
       record {
         moves = record {
           tags_up = d.up;
-          covers = λ q c h. file_covers k a b file x y d.birth grows over q c (split q.file) h;
+          covers = λ q c h. file_covers sound a b file x y d.birth grows over q c (split q.file) h;
           slots = λ q c h. file_slots a b file x y d q c (split q.file) h;
         };
-        bounded = λ low q g h. file_bounded a b file x y d low q g (split q.file) h;
+        tags = λ k. record {
+          below = λ q g h. file_below a b file x y old d k q g (split q.file) h;
+          single = λ q r g h i. file_single a b file x y old d k q r g (split q.file) (split r.file) h i;
+        };
       }
 
   -- no replica is changed
@@ -66,5 +93,5 @@ module _ {N M C : Type 0} (p : Protocol N M C) where
       covers = λ q c h. elim h [ inl t ↦ inl (there_same p.IsUpTo (p.see a) (p.see b) q c (same q.file) t) | inr o ↦ inr (over q.file q.birth c o) ];
       slots = λ q c h. inr (has_same (p.see a) (p.see b) q c (same q.file) h, ap (λ o. tag_on o q) (same q.file));
     };
-    bounded = λ low q g h. let lt = low q g (sym (ap (λ o. tag_on o q) (same q.file)) ∙ h) in omega arith;
+    tags = fewer_tags p a b up (λ q g h. sym (ap (λ o. tag_on o q) (same q.file)) ∙ h);
   }

@@ -2,14 +2,14 @@
 use Rattle.std.proofs.Common.{ℕ, ◌≡◌, Bool, true, false, cond, Option, None, Some, refl, sym, ap, ◌∙◌, inl, inr, arith, ◌⊎◌}
 use Rattle.pg_edges.specs.declared.key.Key.{Key}
 use Rattle.pg_edges.specs.Key.{is_same_key}
-use Rattle.pg_edges.specs.Edges.{is_listed, slot_at, retired}
+use Rattle.pg_edges.specs.Edges.{is_listed, slot_at, tag_at, retired}
 use Rattle.pg_edges.specs.Laws.{acknowledged}
 use Rattle.pg_edges.specs.Laws.Change.{Retire}
 use Rattle.pg_edges.proofs.Orders.{is_same_key-true}
 use Rattle.pg_edges.proofs.Lookups.{retires}
 use Rattle.pg_edges.proofs.Tags.{keeps_or_brings}
 use Rattle.pg_flood.specs.Server.{Replica}
-use Rattle.pg_flood.proofs.Draws.{IsFreshAt, IsAsBefore, Draws, stays}
+use Rattle.pg_flood.proofs.Draws.{IsFreshAt, IsAsBefore, Draws, fewer_single, stays}
 use Rattle.pg_flood.proofs.Touch.{SameBut}
 
 module _ {C : Type 0} where
@@ -22,11 +22,15 @@ module _ {C : Type 0} where
   retired_slot t x key cells others none p b k c false apart listed cell =
       inr (stays x (with_retired x key cells) p b k c (retires x.edges key p b k ∙ ap (λ z. cond z (acknowledged (slot_at x.edges p b k)) (slot_at x.edges p b k)) apart) (others k apart) listed cell)
 
+  stood : (x : Replica C) (key : Key) (p b : ℕ) (k : Key) (g : ℕ) → tag_at (retired x.edges key) p b k ≡ Some g → tag_at x.edges p b k ≡ Some g
+  stood x key p b k g h = elim (keeps_or_brings (Retire key) x.edges p b k g h) [ inl old ↦ old | inr r ↦ absurd r ]
+
   -- the cell at the key goes, and the key with it
   pub retire_draws : (t : ℕ) (x : Replica C) (key : Key) (cells : Key → Option C) → SameBut key x.cells cells → cells key ≡ None → Draws t x t (with_retired x key cells)
   retire_draws t x key cells others none = record {
     birth = refl;
     up = omega arith;
-    brings = λ p b k g h. elim (keeps_or_brings (Retire key) x.edges p b k g h) [ inl old ↦ inl old | inr r ↦ absurd r ];
+    brings = λ p b k g h. inl (stood x key p b k g h);
+    single = λ low one. fewer_single x.edges (retired x.edges key) (stood x key) one;
     slots = λ p b k c listed cell. retired_slot t x key cells others none p b k c (is_same_key k key) refl listed cell;
   }

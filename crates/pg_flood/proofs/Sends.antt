@@ -1,12 +1,14 @@
 -- What a server may send.
-use Rattle.std.proofs.Common.{ℕ, ◌≡◌, ◌<◌, Option, Some, refl, sym, ap, ◌∙◌, inl, inr, ◌⊎◌}
+use Rattle.std.proofs.Common.{ℕ, ◌≡◌, ◌<◌, List, [], ◌∷◌, ◌++◌, Option, Some, refl, sym, ap, ◌∙◌, inl, inr, ◌⊎◌}
+use Rattle.std.proofs.lemmas.List.Elements.{All-append, All-nil, All-cons}
+use Rattle.pg_base.specs.declared.id.FileId.{FileId}
 use Rattle.pg_edges.specs.declared.key.Key.{Key}
 use Rattle.pg_flood.specs.Promises.{Saying}
 use Rattle.pg_flood.specs.Promises.Saying.{CellFor, AckTo}
-use Rattle.pg_flood.specs.Server.{Replica, Server, Slot, Holds, HoldsAll}
+use Rattle.pg_flood.specs.Server.{Replica, Server, Slot, HasCell, Holds, HoldsAll}
 use Rattle.pg_flood.specs.Protocol.{Protocol, IsSound, tags_of, tag, Covers}
-use Rattle.pg_flood.proofs.Servers.{some_same, has_parts}
-use Rattle.pg_flood.proofs.Steps.{IsBounded, May}
+use Rattle.pg_flood.proofs.Servers.{some_same, slot_of_parts, has_parts}
+use Rattle.pg_flood.proofs.Steps.{IsSamePlace, HasSoundTags, May, AllMay}
 
 module _ {C : Type 0} where
   -- what a replica has, it holds
@@ -23,10 +25,18 @@ module _ {C : Type 0} where
       record { key = b.key; cell = b.cell; is = b.is; upto = further c a.cell b.cell a.upto b.upto }
 
 module _ {N M C : Type 0} (p : Protocol N M C) where
+  -- a tag stands at one slot with a cell
+  one_slot : (b : N) (q r : Slot) (y : Replica C) (c d : C) → (p.see b).replicas q.file ≡ Some y → y.birth ≡ q.own → y.cells q.key ≡ Some c → IsSamePlace r q → HasCell (p.see b) r d → (r ≡ q) × (d ≡ c)
+  one_slot b q r y c d is own cell same h =
+      let t = has_parts (p.see b) r d y (ap (p.see b).replicas same.0 ∙ is) h in (
+        slot_of_parts r.file q.file r.own q.own r.peer q.peer r.birth q.birth r.key q.key same.0 (sym t.0 ∙ own) same.1 same.2 same.3,
+        some_same d c (sym t.2 ∙ ap y.cells same.3 ∙ cell),
+      )
+
   -- the present cell of an unacknowledged key, under its present tag, whichever event drew it
-  pub cell_may : (s : ℕ) (a b : N) (heard : Saying Slot C) (q : Slot) (y : Replica C) (c : C) (g : ℕ) → IsBounded p b → (p.see b).replicas q.file ≡ Some y → y.cells q.key ≡ Some c → tag p b q ≡ Some g
+  pub cell_may : (s : ℕ) (a b : N) (heard : Saying Slot C) (q : Slot) (y : Replica C) (c : C) (g : ℕ) → HasSoundTags p b → (p.see b).replicas q.file ≡ Some y → y.birth ≡ q.own → y.cells q.key ≡ Some c → tag p b q ≡ Some g
       → May p s a b heard (CellFor s q g c)
-  cell_may s a b heard q y c g low is cell stands = (refl, low q g stands, λ d h t. some_same d c (sym (has_parts (p.see b) q d y is h).2 ∙ cell))
+  cell_may s a b heard q y c g sound is own cell stands = (refl, sound.below q g stands, λ r d h t. one_slot b q r y c d is own cell (sound.single r q g t stands) h)
 
   -- the held replica covers what it holds
   pub held_covers : (b : N) (q : Slot) (c : C) (y : Replica C) → (p.see b).replicas q.file ≡ Some y → y.birth ≡ q.birth → Holds p.IsUpTo y.cells c → Covers p b q c
@@ -34,8 +44,19 @@ module _ {N M C : Type 0} (p : Protocol N M C) where
 
   -- the answer to the cell that was heard in this event
   pub answer_may : (s : ℕ) (a b : N) (owner : ℕ) (q : Slot) (g : ℕ) (c : C) → q.peer ≡ s → Covers p b q c → May p s a b (CellFor owner q g c) (AckTo owner q g)
-  answer_may s a b owner q g c here covers = (here, (c, inl refl, covers))
+  answer_may s a b owner q g c here covers = (q, c, here, inl refl, covers)
 
-  -- the answer to a cell that was heard earlier
-  pub late_answer_may : (s : ℕ) (a b : N) (heard : Saying Slot C) (owner : ℕ) (q : Slot) (g : ℕ) (c : C) → q.peer ≡ s → p.Noted a (CellFor owner q g c) → Covers p b q c → May p s a b heard (AckTo owner q g)
-  late_answer_may s a b heard owner q g c here noted covers = (here, (c, inr noted, covers))
+  -- the answer to a cell that was heard earlier, also where it names other births than that cell
+  pub late_answer_may : (s : ℕ) (a b : N) (heard : Saying Slot C) (owner : ℕ) (q r : Slot) (g : ℕ) (c : C) → q.peer ≡ s → p.Noted a (CellFor owner q g c) → Covers p b q c → May p s a b heard (AckTo owner r g)
+  late_answer_may s a b heard owner q r g c here noted covers = (q, c, here, inr noted, covers)
+
+  -- ---- lists of what is sent
+
+  pub none_sent : (s : ℕ) (a b : N) (heard : Saying Slot C) → AllMay p s a b heard []
+  none_sent s a b heard = All-nil (λ m. May p s a b heard (p.says m))
+
+  pub one_sent : (s : ℕ) (a b : N) (heard : Saying Slot C) (m : M) (ms : List M) → May p s a b heard (p.says m) → AllMay p s a b heard ms → AllMay p s a b heard (m ∷ ms)
+  one_sent s a b heard m ms h hs = All-cons (λ m. May p s a b heard (p.says m)) m ms h hs
+
+  pub both_sent : (s : ℕ) (a b : N) (heard : Saying Slot C) (ms ns : List M) → AllMay p s a b heard ms → AllMay p s a b heard ns → AllMay p s a b heard (ms ++ ns)
+  both_sent s a b heard ms ns h k = All-append (λ m. May p s a b heard (p.says m)) ms ns h k

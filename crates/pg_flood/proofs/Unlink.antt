@@ -2,12 +2,12 @@
 use Rattle.std.proofs.Common.{ℕ, ◌≡◌, Bool, true, false, cond, ◌==◌, ◌&&◌, List, Option, None, Some, is_some, option_map, refl, sym, ap, ◌∙◌, inl, inr, arith, ◌⊎◌}
 use Rattle.pg_edges.specs.declared.key.Key.{Key}
 use Rattle.pg_edges.specs.Keys.{tag_in}
-use Rattle.pg_edges.specs.Edges.{keys_at, is_listed, unlinked}
+use Rattle.pg_edges.specs.Edges.{keys_at, is_listed, tag_at, unlinked}
 use Rattle.pg_edges.specs.Laws.Change.{Unlink}
 use Rattle.pg_edges.proofs.Lookups.{unlinks}
 use Rattle.pg_edges.proofs.Tags.{keeps_or_brings}
 use Rattle.pg_flood.specs.Server.{Replica}
-use Rattle.pg_flood.proofs.Draws.{IsFreshAt, IsAsBefore, Draws, stays}
+use Rattle.pg_flood.proofs.Draws.{IsFreshAt, IsAsBefore, Draws, fewer_single, stays}
 
 module _ {C : Type 0} where
   abbrev pub with_unlinked : Replica C → ℕ → ℕ → Replica C
@@ -21,11 +21,15 @@ module _ {C : Type 0} where
   unlinked_slot t x peer birth p b k c false e listed cell =
       inr (stays x (with_unlinked x peer birth) p b k c (ap (option_map (λ (q : List (Key × ℕ)). tag_in q k)) (unlinks x.edges peer birth p b ∙ ap (λ z. cond z None (keys_at x.edges p b)) e)) refl listed cell)
 
+  stood : (x : Replica C) (peer birth p b : ℕ) (k : Key) (g : ℕ) → tag_at (unlinked x.edges peer birth) p b k ≡ Some g → tag_at x.edges p b k ≡ Some g
+  stood x peer birth p b k g h = elim (keeps_or_brings (Unlink peer birth) x.edges p b k g h) [ inl old ↦ old | inr r ↦ absurd r ]
+
   -- the edge to this birth of the peer goes, where it is listed
   pub unlink_draws : (t : ℕ) (x : Replica C) (peer birth : ℕ) → Draws t x t (with_unlinked x peer birth)
   unlink_draws t x peer birth = record {
     birth = refl;
     up = omega arith;
-    brings = λ p b k g h. elim (keeps_or_brings (Unlink peer birth) x.edges p b k g h) [ inl old ↦ inl old | inr r ↦ absurd r ];
+    brings = λ p b k g h. inl (stood x peer birth p b k g h);
+    single = λ low one. fewer_single x.edges (unlinked x.edges peer birth) (stood x peer birth) one;
     slots = λ p b k c listed cell. unlinked_slot t x peer birth p b k c (p == peer && b == birth) refl listed cell;
   }

@@ -16,10 +16,11 @@ pub data Saying (S C : Type 0) : Type 0 where
 -- peer: the server at the other end of a slot's edge
 -- Noted: a server heard this, and may answer it in a later event
 module _ {N S C M : Type 0} (says : M → Saying S C) (tags : N → ℕ) (tag : N → S → Option ℕ) (Has Covers : N → S → C → Type 0) (peer : S → ℕ) (Noted : N → Saying S C → Type 0) where
-  -- A promise speaks of its tag alone: where the tag still stands at the slot, the cell there is the one that was sent;
-  -- and of an answer, the peer covers the cell that stands there. A tag that no longer stands is no promise any more
+  -- A promise speaks of its tag, and is empty once that stands nowhere. Of a cell: where the tag stands at some slot of the
+  -- owner, it is the slot that was named, and the cell there is the one that was sent. Of an answer: where the tag stands at
+  -- the slot that is named, the peer covers the cell there
   abbrev pub Promise : (ℕ → N) → Saying S C → Type 0
-  Promise nodes (CellFor o q g c) = (g < tags (nodes o)) × ((d : C) → Has (nodes o) q d → tag (nodes o) q ≡ Some g → d ≡ c)
+  Promise nodes (CellFor o q g c) = (g < tags (nodes o)) × ((r : S) (d : C) → Has (nodes o) r d → tag (nodes o) r ≡ Some g → (r ≡ q) × (d ≡ c))
   Promise nodes (AckTo o q g) = (g < tags (nodes o)) × ((d : C) → Has (nodes o) q d → tag (nodes o) q ≡ Some g → Covers (nodes (peer q)) q d)
   Promise nodes Other = Unit {0}
 
