@@ -12,3 +12,4 @@ pub mod Dropped
 pub mod Answer
 pub mod Sends
 pub mod Worlds
+pub mod Rows

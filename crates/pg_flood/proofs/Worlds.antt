@@ -1,9 +1,11 @@
 -- All servers and the messages under way: what an event keeps, and what follows where nothing is owed.
-use Rattle.std.proofs.Common.{ℕ, ◌≡◌, true, List, [], ◌∷◌, ◌++◌, None, Some, refl, sym, ap, ◌∙◌, inl, inr, All}
-use Rattle.std.proofs.lemmas.List.Elements.{All-nil}
+use Rattle.std.proofs.Common.{ℕ, ◌≡◌, ◌==◌, Bool, true, false, cond, List, [], ◌∷◌, ◌++◌, Option, None, Some, option_map, refl, sym, ap, ◌∙◌, inl, inr, All}
+use Rattle.std.proofs.lemmas.List.Elements.{All-nil, All-head, All-tail}
 use Rattle.pg_base.specs.declared.id.FileId.{FileId}
 use Rattle.pg_edges.specs.declared.key.Key.{Key}
-use Rattle.pg_edges.specs.Edges.{is_listed, tag_at}
+use Rattle.pg_edges.specs.declared.edge.Edge.{Edge}
+use Rattle.pg_edges.specs.Keys.{tag_in}
+use Rattle.pg_edges.specs.Edges.{edge_to, keys_if_born, is_listed, tag_of, tag_at}
 use Rattle.pg_flood.specs.World.{after}
 use Rattle.pg_flood.specs.Promises.{Saying}
 use Rattle.pg_flood.specs.Server.{Replica, Server, Slot, slot, peer_of, tag_on, HasCell, HoldsAll, HoldsThere}
@@ -13,6 +15,21 @@ use Rattle.pg_flood.proofs.Flood.{step_keeps}
 use Rattle.pg_flood.proofs.Servers.{there_parts}
 use Rattle.pg_flood.proofs.Steps.{Rule}
 use Rattle.pg_flood.proofs.Sends.{HoldsAll-trans}
+
+-- at a clean edge no tag stands
+clean_by : (e : Edge) (es : List Edge) (p b : ℕ) (k : Key) (s t : Bool) → (e.peer == p) ≡ s → (e.birth == b) ≡ t → e.keys ≡ [] → (tag_at es p b k ≡ None) → tag_at (e ∷ es) p b k ≡ None
+clean_by e es p b k true true peer birth none next =
+    ap (λ z. tag_of (option_map (λ (keys : List (Key × ℕ)). tag_in keys k) (keys_if_born (cond z (Some e) (edge_to es p)) b))) peer
+    ∙ ap (λ z. tag_of (option_map (λ (keys : List (Key × ℕ)). tag_in keys k) (cond z (Some e.keys) None))) birth ∙ ap (λ keys. tag_in keys k) none
+clean_by e es p b k true false peer birth none next =
+    ap (λ z. tag_of (option_map (λ (keys : List (Key × ℕ)). tag_in keys k) (keys_if_born (cond z (Some e) (edge_to es p)) b))) peer
+    ∙ ap (λ z. tag_of (option_map (λ (keys : List (Key × ℕ)). tag_in keys k) (cond z (Some e.keys) None))) birth
+clean_by e es p b k false t peer birth none next = ap (λ z. tag_of (option_map (λ (keys : List (Key × ℕ)). tag_in keys k) (keys_if_born (cond z (Some e) (edge_to es p)) b))) peer ∙ next
+
+pub clean_tags : (es : List Edge) (p b : ℕ) (k : Key) → IsClean es → tag_at es p b k ≡ None
+clean_tags [] p b k clean = refl
+clean_tags (e ∷ es) p b k clean =
+    clean_by e es p b k (e.peer == p) (e.birth == b) refl refl (All-head (λ (x : Edge). x.keys ≡ []) e es clean) (clean_tags es p b k (All-tail (λ (x : Edge). x.keys ≡ []) e es clean))
 
 module _ {N M C : Type 0} (p : Protocol N M C) where
   -- WHAT ONE SERVER DOES BY THE RULE IS KEPT: these are left of the messages under way, and these are sent
@@ -41,8 +58,8 @@ module _ {N M C : Type 0} (p : Protocol N M C) where
 
   pub linked_agree : LinkedAgree p
   linked_agree sound nodes bag k quiet file s t x y l = (
-    across sound nodes bag k file s t x y l.one l.two l.there (quiet.owed s file x l.one t y.birth),
-    across sound nodes bag k file t s y x l.two l.one l.back (quiet.owed t file y l.two s x.birth),
+    across sound nodes bag k file s t x y l.one l.two l.there (λ key. clean_tags x.edges t y.birth key (quiet.owed s file x l.one)),
+    across sound nodes bag k file t s y x l.two l.one l.back (λ key. clean_tags y.edges s x.birth key (quiet.owed t file y l.two)),
   )
 
   Agree-trans : IsSound p → (x y z : Replica C) → Agree p x y → Agree p y z → Agree p x z

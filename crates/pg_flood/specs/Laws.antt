@@ -1,15 +1,14 @@
 -- What holds wherever nothing is owed.
-use Rattle.std.specs.Prelude.{ℕ, ◌≡◌, true, List, [], ◌∷◌, None, Some}
+use Rattle.std.specs.Prelude.{ℕ, ◌≡◌, true, List, [], ◌∷◌, All, Some}
 use Rattle.pg_base.specs.declared.id.FileId.{FileId}
-use Rattle.pg_edges.specs.declared.key.Key.{Key}
 use Rattle.pg_edges.specs.declared.edge.Edge.{Edge}
-use Rattle.pg_edges.specs.Edges.{is_listed, tag_at}
+use Rattle.pg_edges.specs.Edges.{is_listed}
 use Rattle.pg_flood.specs.Server.{Replica, Server, HoldsAll}
 use Rattle.pg_flood.specs.Protocol.{Protocol, IsSound, KeepsEdges}
 
--- no key of any edge is unacknowledged
+-- no edge has an unacknowledged key
 abbrev pub IsClean : List Edge → Type 0
-IsClean es = (peer birth : ℕ) (key : Key) → tag_at es peer birth key ≡ None
+IsClean es = All (λ e. e.keys ≡ []) es
 
 module _ {N M C : Type 0} (p : Protocol N M C) where
   -- no message is under way, and no key of any replica is unacknowledged
