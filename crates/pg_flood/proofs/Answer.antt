@@ -1,20 +1,20 @@
 -- An answer is heard.
-use Rattle.std.proofs.Common.{ℕ, ◌≡◌, ◌<◌, ◌≤◌, Bool, true, false, cond, nat_eq, ◌==◌, ◌&&◌, List, [], Option, None, Some, is_some, refl, sym, ap, subst, ◌∙◌, inl, inr, arith, ◌⊎◌}
+use Rattle.std.proofs.Common.{ℕ, ◌≡◌, Bool, true, false, cond, nat_eq, ◌==◌, ◌&&◌, List, [], None, Some, refl, sym, ap, ◌∙◌, inl, inr, arith, ◌⊎◌}
 use Rattle.std.specs.Option.{option_eq}
 use Rattle.std.proofs.lemmas.List.Elements.{All-nil}
 use Rattle.pg_base.specs.declared.id.FileId.{FileId}
 use Rattle.pg_edges.specs.declared.key.Key.{Key}
 use Rattle.pg_edges.specs.declared.edge.Edge.{Edge}
 use Rattle.pg_edges.specs.Key.{is_same_key}
-use Rattle.pg_edges.specs.Edges.{is_listed, slot_at, tag_of, tag_at, taken_off, acked}
+use Rattle.pg_edges.specs.Edges.{slot_at, tag_of, tag_at, taken_off, acked}
 use Rattle.pg_edges.specs.Laws.Change.{Ack}
 use Rattle.pg_edges.proofs.Tags.{keeps_or_brings}
 use Rattle.pg_edges.proofs.Orders.{is_same_key-true}
 use Rattle.pg_edges.proofs.Lookups.{same_number, both, same_tag, acks}
 use Rattle.pg_flood.specs.Promises.{Saying}
 use Rattle.pg_flood.specs.Promises.Saying.{AckTo}
-use Rattle.pg_flood.specs.Server.{Replica, Server, Slot, slot, tag_on}
-use Rattle.pg_flood.specs.Protocol.{Protocol, IsSound, tags_of, tag, Has, Covers}
+use Rattle.pg_flood.specs.Server.{Replica, Slot, slot, tag_on}
+use Rattle.pg_flood.specs.Protocol.{Protocol, tags_of, tag, Has, Covers}
 use Rattle.pg_flood.proofs.Draws.{listed_as, listed_by_tag}
 use Rattle.pg_flood.proofs.Servers.{slot_of_parts, OthersStay, AtFile, by_file, has_parts, there_parts, has_same, there_same}
 use Rattle.pg_flood.proofs.Steps.{HasSoundTags, fewer_tags, OverStays, NotesFrom, Rule, May}

@@ -1,10 +1,10 @@
 -- A replica is made.
-use Rattle.std.proofs.Common.{ℕ, ◌≡◌, ◌<◌, ◌≤◌, true, false, [], Option, None, Some, refl, sym, ap, subst, ◌∙◌, inl, inr, arith, ◌⊎◌}
+use Rattle.std.proofs.Common.{ℕ, ◌≡◌, ◌≤◌, true, false, [], None, Some, sym, ap, ◌∙◌, inl, inr, ◌⊎◌}
 use Rattle.pg_base.specs.declared.id.FileId.{FileId}
 use Rattle.pg_edges.specs.Edges.{is_listed, tag_at}
-use Rattle.pg_flood.specs.Server.{Replica, Server, Slot, tag_on, Holds, HoldsAll, HoldsThere}
-use Rattle.pg_flood.specs.Protocol.{Protocol, IsSound, tags_of, tag, Has, Covers}
-use Rattle.pg_flood.proofs.Servers.{OthersStay, AtFile, by_file, has_parts, there_parts, has_none, has_same, there_same}
+use Rattle.pg_flood.specs.Server.{Replica, Slot, tag_on}
+use Rattle.pg_flood.specs.Protocol.{Protocol, tags_of, tag, Has, Covers}
+use Rattle.pg_flood.proofs.Servers.{OthersStay, AtFile, by_file, has_parts, has_same, there_same}
 use Rattle.pg_flood.proofs.Steps.{fewer_tags, OverStays, Steps}
 
 module _ {N M C : Type 0} (p : Protocol N M C) where

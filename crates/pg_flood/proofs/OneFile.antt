@@ -1,10 +1,9 @@
 -- One replica is changed, or none.
-use Rattle.std.proofs.Common.{ℕ, ◌≡◌, ◌<◌, ◌≤◌, true, false, [], Option, None, Some, refl, sym, ap, subst, ◌∙◌, inl, inr, arith, ◌⊎◌}
+use Rattle.std.proofs.Common.{ℕ, ◌≡◌, ◌<◌, ◌≤◌, Some, sym, ap, ◌∙◌, inl, inr, arith, ◌⊎◌}
 use Rattle.pg_base.specs.declared.id.FileId.{FileId}
-use Rattle.pg_edges.specs.Edges.{is_listed, tag_at}
-use Rattle.pg_flood.specs.Server.{Replica, Server, Slot, slot, tag_on, Holds, HoldsAll, HoldsThere}
+use Rattle.pg_flood.specs.Server.{Replica, Slot, slot, tag_on, HoldsAll}
 use Rattle.pg_flood.specs.Protocol.{Protocol, IsSound, tags_of, tag, Has, Covers}
-use Rattle.pg_flood.proofs.Servers.{OthersStay, AtFile, by_file, has_parts, there_parts, has_none, has_same, there_same}
+use Rattle.pg_flood.proofs.Servers.{OthersStay, AtFile, by_file, has_parts, there_parts, has_same, there_same}
 use Rattle.pg_flood.proofs.Steps.{IsSamePlace, HasSoundTags, fewer_tags, OverStays, Steps}
 use Rattle.pg_flood.proofs.Draws.{IsBelow, IsSingle, Draws, Draws-below}
 

@@ -1,8 +1,7 @@
 -- The premises of the laws can be met: servers 1 and 2 hold one cell of every file, with clean edges to each other.
-use Rattle.std.proofs.Common.{ℕ, ◌≡◌, subst, ◌≤◌, ◌==◌, Bool, true, false, cond, List, [], ◌∷◌, Option, None, Some, is_some, refl, sym, ap, ◌∙◌, inl, arith}
+use Rattle.std.proofs.Common.{ℕ, ◌≡◌, subst, ◌≤◌, ◌==◌, Bool, true, false, cond, List, [], ◌∷◌, None, Some, is_some, refl, inl, arith}
 use Rattle.std.proofs.lemmas.List.Elements.{All-nil, All-cons}
 use Rattle.pg_base.specs.declared.id.FileId.{FileId}
-use Rattle.pg_edges.specs.declared.key.Key.{Key}
 use Rattle.pg_edges.specs.declared.key.Key.TheVariants.{Place}
 use Rattle.pg_edges.specs.declared.edge.Edge.{Edge}
 use Rattle.pg_edges.specs.Edges.{keys_if_born}

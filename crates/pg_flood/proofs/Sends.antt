@@ -1,12 +1,11 @@
 -- What a server may send.
-use Rattle.std.proofs.Common.{ℕ, ◌≡◌, ◌<◌, List, [], ◌∷◌, ◌++◌, Option, Some, refl, sym, ap, ◌∙◌, inl, inr, ◌⊎◌}
+use Rattle.std.proofs.Common.{ℕ, ◌≡◌, List, [], ◌∷◌, ◌++◌, Option, Some, refl, sym, ap, ◌∙◌, inl, inr}
 use Rattle.std.proofs.lemmas.List.Elements.{All-append, All-nil, All-cons}
-use Rattle.pg_base.specs.declared.id.FileId.{FileId}
 use Rattle.pg_edges.specs.declared.key.Key.{Key}
 use Rattle.pg_flood.specs.Promises.{Saying}
 use Rattle.pg_flood.specs.Promises.Saying.{CellFor, AckTo}
-use Rattle.pg_flood.specs.Server.{Replica, Server, Slot, HasCell, Holds, HoldsAll}
-use Rattle.pg_flood.specs.Protocol.{Protocol, IsSound, tags_of, tag, Covers}
+use Rattle.pg_flood.specs.Server.{Replica, Slot, HasCell, Holds, HoldsAll}
+use Rattle.pg_flood.specs.Protocol.{Protocol, tag, Covers}
 use Rattle.pg_flood.proofs.Servers.{some_same, slot_of_parts, has_parts}
 use Rattle.pg_flood.proofs.Steps.{IsSamePlace, HasSoundTags, May, AllMay}
 

@@ -1,5 +1,5 @@
 -- All servers and the messages under way: what an event keeps, and what follows where nothing is owed.
-use Rattle.std.proofs.Common.{ℕ, ◌≡◌, ◌==◌, Bool, true, false, cond, List, [], ◌∷◌, ◌++◌, Option, None, Some, option_map, refl, sym, ap, ◌∙◌, inl, inr, All}
+use Rattle.std.proofs.Common.{ℕ, ◌≡◌, ◌==◌, Bool, true, false, cond, List, [], ◌∷◌, ◌++◌, None, Some, option_map, refl, ap, ◌∙◌, inl, inr, All}
 use Rattle.std.proofs.lemmas.List.Elements.{All-nil, All-head, All-tail}
 use Rattle.pg_base.specs.declared.id.FileId.{FileId}
 use Rattle.pg_edges.specs.declared.key.Key.{Key}
@@ -8,9 +8,9 @@ use Rattle.pg_edges.specs.Keys.{tag_in}
 use Rattle.pg_edges.specs.Edges.{edge_to, keys_if_born, is_listed, tag_of, tag_at}
 use Rattle.pg_flood.specs.World.{after}
 use Rattle.pg_flood.specs.Promises.{Saying}
-use Rattle.pg_flood.specs.Server.{Replica, Server, Slot, slot, peer_of, tag_on, HasCell, HoldsAll, HoldsThere}
+use Rattle.pg_flood.specs.Server.{Replica, Slot, slot, peer_of, tag_on, HoldsAll}
 use Rattle.pg_flood.specs.Protocol.{Protocol, IsSound, tags_of, tag, Has, Covers, Promised, KeepsEdges}
-use Rattle.pg_flood.specs.Laws.{IsClean, IsQuiet, AreLinked, AreConnected, Agree, LinkedAgree, ConnectedAgree}
+use Rattle.pg_flood.specs.Laws.{IsClean, Agree, LinkedAgree, ConnectedAgree}
 use Rattle.pg_flood.proofs.Flood.{step_keeps}
 use Rattle.pg_flood.proofs.Servers.{there_parts}
 use Rattle.pg_flood.proofs.Steps.{Rule}

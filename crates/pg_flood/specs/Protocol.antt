@@ -1,5 +1,5 @@
 -- What a protocol says of its servers and messages, so that the edges can be read in them.
-use Rattle.std.specs.Prelude.{ℕ, ◌≡◌, ◌≢◌, ◌⊎◌, ◌<◌, List, Option, Some}
+use Rattle.std.specs.Prelude.{ℕ, ◌≡◌, ◌≢◌, ◌⊎◌, List, Option, Some}
 use Rattle.pg_base.specs.declared.id.FileId.{FileId}
 use Rattle.pg_flood.specs.Promises.{Saying, Promise, Kept}
 use Rattle.pg_flood.specs.Server.{Replica, Server, Slot, peer_of, tag_on, HasCell, HoldsThere}
