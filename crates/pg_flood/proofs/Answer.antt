@@ -1,12 +1,12 @@
 -- An answer is heard.
-use Rattle.std.proofs.Common.{ℕ, ◌≡◌, Bool, true, false, cond, nat_eq, ◌==◌, ◌&&◌, List, [], None, Some, refl, sym, ap, ◌∙◌, inl, inr, arith, ◌⊎◌}
+use Rattle.std.proofs.Common.{ℕ, ◌≡◌, Bool, true, false, cond, nat_eq, ◌==◌, ◌&&◌, List, [], Option, None, Some, is_some, refl, sym, ap, ◌∙◌, inl, inr, arith, ◌⊎◌}
 use Rattle.std.specs.Option.{option_eq}
 use Rattle.std.proofs.lemmas.List.Elements.{All-nil}
 use Rattle.pg_base.specs.declared.id.FileId.{FileId}
 use Rattle.pg_edges.specs.declared.key.Key.{Key}
 use Rattle.pg_edges.specs.declared.edge.Edge.{Edge}
 use Rattle.pg_edges.specs.Key.{is_same_key}
-use Rattle.pg_edges.specs.Edges.{slot_at, tag_of, tag_at, taken_off, acked}
+use Rattle.pg_edges.specs.Edges.{is_listed, slot_at, tag_of, tag_at, taken_off, acked}
 use Rattle.pg_edges.specs.Laws.Change.{Ack}
 use Rattle.pg_edges.proofs.Tags.{keeps_or_brings}
 use Rattle.pg_edges.proofs.Orders.{is_same_key-true}
@@ -15,7 +15,7 @@ use Rattle.pg_flood.specs.Promises.{Saying}
 use Rattle.pg_flood.specs.Promises.Saying.{AckTo}
 use Rattle.pg_flood.specs.Server.{Replica, Slot, slot, tag_on}
 use Rattle.pg_flood.specs.Protocol.{Protocol, tags_of, tag, Has, Covers}
-use Rattle.pg_flood.proofs.Draws.{listed_as, listed_by_tag}
+use Rattle.pg_flood.proofs.Draws.{slot_listed, listed_as, listed_by_tag}
 use Rattle.pg_flood.proofs.Servers.{slot_of_parts, OthersStay, AtFile, by_file, has_parts, there_parts, has_same, there_same}
 use Rattle.pg_flood.proofs.Steps.{HasSoundTags, fewer_tags, OverStays, NotesFrom, Rule, May}
 
@@ -52,6 +52,13 @@ answered_by es peer birth key g p b k false e = inr (acks es peer birth key g p 
 
 pub answered : (es : List Edge) (peer birth : ℕ) (key : Key) (g p b : ℕ) (k : Key) → Answered es peer birth key g p b k ⊎ (slot_at (acked es peer birth key g) p b k ≡ slot_at es p b k)
 answered es peer birth key g p b k = answered_by es peer birth key g p b k (is_answered es peer birth key g p b k) refl
+
+-- no edge goes
+pub acked_listed : (es : List Edge) (peer birth : ℕ) (key : Key) (g p b : ℕ) → is_listed (acked es peer birth key g) p b ≡ is_listed es p b
+acked_listed es peer birth key g p b = elim (answered es peer birth key g p b key) [
+  | inl f ↦ slot_listed (acked es peer birth key g) p b key ∙ ap (λ (o : Option (Option ℕ)). is_some o) f.now ∙ sym (listed_by_tag es p b key g f.tag_is)
+  | inr e ↦ listed_as es (acked es peer birth key g) p b key e
+]
 
 module _ {N M C : Type 0} (p : Protocol N M C) where
   abbrev pub with_answered : Replica C → ℕ → ℕ → Key → ℕ → Replica C

@@ -72,10 +72,13 @@ some_of_map : {A B : Type 0} (f : A → B) (o : Option A) → is_some (option_ma
 some_of_map f None = refl
 some_of_map f (Some a) = refl
 
+-- an edge is listed where each of its slots is
+pub slot_listed : (es : List Edge) (peer birth : ℕ) (key : Key) → is_listed es peer birth ≡ is_some (slot_at es peer birth key)
+slot_listed es peer birth key = sym (some_of_map (λ keys. tag_in keys key) (keys_at es peer birth))
+
 -- where one slot stands as in another list of edges, the edge is listed as there
 pub listed_as : (es fs : List Edge) (peer birth : ℕ) (key : Key) → slot_at fs peer birth key ≡ slot_at es peer birth key → is_listed fs peer birth ≡ is_listed es peer birth
-listed_as es fs peer birth key e =
-    sym (some_of_map (λ keys. tag_in keys key) (keys_at fs peer birth)) ∙ ap (λ (o : Option (Option ℕ)). is_some o) e ∙ some_of_map (λ keys. tag_in keys key) (keys_at es peer birth)
+listed_as es fs peer birth key e = slot_listed fs peer birth key ∙ ap (λ (o : Option (Option ℕ)). is_some o) e ∙ sym (slot_listed es peer birth key)
 
 -- a slot that stands as before, with its cell
 pub stays : {C : Type 0} (x y : Replica C) (peer birth : ℕ) (key : Key) (c : C) → slot_at y.edges peer birth key ≡ slot_at x.edges peer birth key → y.cells key ≡ x.cells key
@@ -88,4 +91,4 @@ tagged_some (Some t) g h = refl
 
 -- an edge on which a tag stands is listed
 pub listed_by_tag : (es : List Edge) (peer birth : ℕ) (key : Key) (g : ℕ) → tag_at es peer birth key ≡ Some g → is_listed es peer birth ≡ true
-listed_by_tag es peer birth key g h = sym (some_of_map (λ keys. tag_in keys key) (keys_at es peer birth)) ∙ tagged_some (slot_at es peer birth key) g h
+listed_by_tag es peer birth key g h = slot_listed es peer birth key ∙ tagged_some (slot_at es peer birth key) g h

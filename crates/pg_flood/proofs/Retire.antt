@@ -1,6 +1,7 @@
 -- A cell goes, and its key leaves every edge.
-use Rattle.std.proofs.Common.{ℕ, ◌≡◌, Bool, true, false, cond, Option, None, Some, refl, sym, ap, ◌∙◌, inl, inr, arith, ◌⊎◌}
+use Rattle.std.proofs.Common.{ℕ, ◌≡◌, Bool, true, false, cond, List, Option, None, Some, is_some, refl, sym, ap, ◌∙◌, inl, inr, arith, ◌⊎◌}
 use Rattle.pg_edges.specs.declared.key.Key.{Key}
+use Rattle.pg_edges.specs.declared.edge.Edge.{Edge}
 use Rattle.pg_edges.specs.Key.{is_same_key}
 use Rattle.pg_edges.specs.Edges.{is_listed, slot_at, tag_at, retired}
 use Rattle.pg_edges.specs.Laws.{acknowledged}
@@ -9,8 +10,17 @@ use Rattle.pg_edges.proofs.Orders.{is_same_key-true}
 use Rattle.pg_edges.proofs.Lookups.{retires}
 use Rattle.pg_edges.proofs.Tags.{keeps_or_brings}
 use Rattle.pg_flood.specs.Server.{Replica}
-use Rattle.pg_flood.proofs.Draws.{IsFreshAt, IsAsBefore, Draws, fewer_single, stays}
+use Rattle.pg_flood.proofs.Draws.{IsFreshAt, IsAsBefore, Draws, fewer_single, stays, slot_listed}
 use Rattle.pg_flood.proofs.Touch.{SameBut}
+
+listed_by : (c : Bool) (slot new : Option (Option ℕ)) → new ≡ cond c (acknowledged slot) slot → is_some new ≡ is_some slot
+listed_by true None new e = ap (λ (o : Option (Option ℕ)). is_some o) e
+listed_by true (Some t) new e = ap (λ (o : Option (Option ℕ)). is_some o) e
+listed_by false slot new e = ap (λ (o : Option (Option ℕ)). is_some o) e
+
+-- no edge goes
+pub retired_listed : (es : List Edge) (key : Key) (p b : ℕ) → is_listed (retired es key) p b ≡ is_listed es p b
+retired_listed es key p b = slot_listed (retired es key) p b key ∙ listed_by (is_same_key key key) (slot_at es p b key) (slot_at (retired es key) p b key) (retires es key p b key) ∙ sym (slot_listed es p b key)
 
 module _ {C : Type 0} where
   abbrev pub with_retired : Replica C → Key → (Key → Option C) → Replica C

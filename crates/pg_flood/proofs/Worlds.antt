@@ -1,5 +1,5 @@
 -- All servers and the messages under way: what an event keeps, and what follows where nothing is owed.
-use Rattle.std.proofs.Common.{ℕ, ◌≡◌, ◌==◌, Bool, true, false, cond, List, [], ◌∷◌, ◌++◌, None, Some, option_map, refl, ap, ◌∙◌, inl, inr, All}
+use Rattle.std.proofs.Common.{ℕ, ◌≡◌, ◌==◌, Bool, true, false, cond, List, [], ◌∷◌, ◌++◌, Option, None, Some, option_map, refl, sym, ap, ◌∙◌, inl, inr, All}
 use Rattle.std.proofs.lemmas.List.Elements.{All-nil, All-head, All-tail}
 use Rattle.pg_base.specs.declared.id.FileId.{FileId}
 use Rattle.pg_edges.specs.declared.key.Key.{Key}
@@ -13,7 +13,7 @@ use Rattle.pg_flood.specs.Protocol.{Protocol, IsSound, tags_of, tag, Has, Covers
 use Rattle.pg_flood.specs.Laws.{IsClean, Agree, LinkedAgree, ConnectedAgree}
 use Rattle.pg_flood.proofs.Flood.{step_keeps}
 use Rattle.pg_flood.proofs.Servers.{there_parts}
-use Rattle.pg_flood.proofs.Steps.{Rule}
+use Rattle.pg_flood.proofs.Steps.{HasSoundTags, Rule}
 use Rattle.pg_flood.proofs.Sends.{HoldsAll-trans}
 
 -- at a clean edge no tag stands
@@ -45,6 +45,17 @@ module _ {N M C : Type 0} (p : Protocol N M C) where
   pub start_keeps : (nodes : ℕ → N) → ((s : ℕ) (q : Slot) (c : C) → Has p (nodes s) q c → tag p (nodes s) q ≡ None → Covers p (nodes q.peer) q c) → ((s : ℕ) (x : Saying Slot C) → p.Noted (nodes s) x → ⊥)
       → KeepsEdges p nodes []
   start_keeps nodes edges none = record { edges = edges; promises = All-nil (λ m. Promised p nodes (p.says m)); notes = λ s x h. absurd (none s x h) }
+
+  no_tag : (a : N) → ((file : FileId) (x : Replica C) → (p.see a).replicas file ≡ Some x → IsClean x.edges) → (q : Slot) (g : ℕ) (o : Option (Replica C)) → (p.see a).replicas q.file ≡ o → tag_on o q ≡ Some g → ⊥
+  no_tag a clean q g None is h = let z : None ≡ Some g = h in cc
+  no_tag a clean q g (Some x) is h = let z : None ≡ Some g = sym (clean_tags x.edges q.peer q.birth q.key (clean q.file x is)) ∙ h in cc
+
+  -- a server all of whose edges are clean
+  pub clean_server : (a : N) → ((file : FileId) (x : Replica C) → (p.see a).replicas file ≡ Some x → IsClean x.edges) → HasSoundTags p a
+  clean_server a clean = record {
+    below = λ q g h. absurd (no_tag a clean q g ((p.see a).replicas q.file) refl h);
+    single = λ q r g h i. absurd (no_tag a clean q g ((p.see a).replicas q.file) refl h);
+  }
 
   -- ACROSS AN EDGE without unacknowledged keys, to a replica that is held, the other end holds all that this end holds
   pub across : IsSound p → (nodes : ℕ → N) (bag : List M) → KeepsEdges p nodes bag → (file : FileId) (s t : ℕ) (x y : Replica C) → (p.see (nodes s)).replicas file ≡ Some x → (p.see (nodes t)).replicas file ≡ Some y
