@@ -15,9 +15,9 @@ use Rattle.pg_flood.specs.Promises.{Saying}
 use Rattle.pg_flood.specs.Promises.Saying.{AckTo}
 use Rattle.pg_flood.specs.Server.{Replica, Slot, slot, tag_on}
 use Rattle.pg_flood.specs.Protocol.{Protocol, tags_of, tag, Has, Covers}
-use Rattle.pg_flood.proofs.Draws.{slot_listed, listed_as, listed_by_tag}
 use Rattle.pg_flood.proofs.Servers.{slot_of_parts, OthersStay, AtFile, by_file, has_parts, there_parts, has_same, there_same}
 use Rattle.pg_flood.proofs.Steps.{HasSoundTags, fewer_tags, OverStays, NotesFrom, Rule, May}
+use Rattle.pg_flood.proofs.Single.{slot_listed, listed_as, listed_by_tag}
 
 -- an answer with another tag than the present one takes nothing off
 pub old_answer : (es : List Edge) (peer birth : ℕ) (key : Key) (g : ℕ) → option_eq nat_eq (tag_at es peer birth key) (Some g) ≡ false → acked es peer birth key g ≡ es

@@ -5,9 +5,10 @@ use Rattle.pg_edges.specs.declared.key.Key.{Key}
 use Rattle.pg_edges.specs.Edges.{is_listed, tag_at}
 use Rattle.pg_flood.specs.Server.{Replica, Slot, tag_on}
 use Rattle.pg_flood.specs.Protocol.{Protocol, tags_of, tag, Has, Covers}
-use Rattle.pg_flood.proofs.Draws.{IsBelow, IsSingle, Draws, Draws-below}
+use Rattle.pg_flood.proofs.Draws.{Draws, Draws-below}
 use Rattle.pg_flood.proofs.Servers.{OthersStay, AtFile, by_file, has_parts, has_same, there_same}
 use Rattle.pg_flood.proofs.Steps.{IsSamePlace, HasSoundTags, OverStays, Steps}
+use Rattle.pg_flood.proofs.Single.{IsBelow, IsSingle}
 
 module _ {C : Type 0} where
   -- on no edge no tag stands

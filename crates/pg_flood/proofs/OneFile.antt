@@ -5,7 +5,8 @@ use Rattle.pg_flood.specs.Server.{Replica, Slot, slot, tag_on, HoldsAll}
 use Rattle.pg_flood.specs.Protocol.{Protocol, IsSound, tags_of, tag, Has, Covers}
 use Rattle.pg_flood.proofs.Servers.{OthersStay, AtFile, by_file, has_parts, there_parts, has_same, there_same}
 use Rattle.pg_flood.proofs.Steps.{IsSamePlace, HasSoundTags, fewer_tags, OverStays, Steps}
-use Rattle.pg_flood.proofs.Draws.{IsBelow, IsSingle, Draws, Draws-below}
+use Rattle.pg_flood.proofs.Draws.{Draws, Draws-below}
+use Rattle.pg_flood.proofs.Single.{IsBelow, IsSingle}
 
 module _ {N M C : Type 0} (p : Protocol N M C) where
   file_covers : IsSound p → (a b : N) (file : FileId) (x y : Replica C) → y.birth ≡ x.birth → HoldsAll p.IsUpTo x.cells y.cells → OverStays p a b → (q : Slot) (c : C)
