@@ -13,16 +13,13 @@ use Rattle.pg_sched.specs.declared.line.Event.{Event}
 use Rattle.pg_sched.specs.declared.line.Event.TheVariants.{Put, Deliver, Lose, Repeat}
 use Rattle.pg_sched.specs.declared.entry.Update.{Update}
 use Rattle.pg_sched.specs.declared.entry.Message.{Message}
-use Rattle.pg_sched.specs.declared.entry.Entry.{Entry}
 use Rattle.pg_sched.specs.declared.entry.VoidCause.{VoidCause}
 use Rattle.pg_sched.specs.declared.entry.VoidCause.TheVariants.{NoMessage, NoServer}
-use Rattle.pg_node.specs.declared.input.Input.TheVariants as input
-use Rattle.pg_node.specs.Local.{Store, Effect, new_store, held, put, arrived, effect, has_time}
-use Rattle.pg_node.specs.Journal.{history, message_at, without, with_copy, bag_after, bag, last_of, carried_by, taken_from, taken_by, taken, state_of, IsGreatest, IsStateOf}
-use Rattle.pg_node.specs.Run.{World, Step, after, void, still, acted, is_server, called, delivered, moved, next, entered, start, run_from, run}
-use Rattle.pg_node.specs.Laws.{HoldsWhatItTook, StateIsGreatest, TookWhatWasMade, OneVersionAStamp, StateIsDetermined}
-use Rattle.pg_node.proofs.States.{state_is_greatest}
-use Rattle.pg_node.proofs.Taking.{Stands, chosen, Stands-put, Stands-arrived, Good, put_good, arrived_good}
+use Rattle.pg_node.specs.Local.{Store, Effect, put, arrived, has_time}
+use Rattle.pg_node.specs.Journal.{history, message_at, without, with_copy, bag_after, bag, last_of, carried_by, taken_from, taken_by, taken, IsStateOf}
+use Rattle.pg_node.specs.Run.{World, Step, after, void, still, acted, is_server, delivered, moved, next, entered, start, run_from, run}
+use Rattle.pg_node.specs.Laws.{HoldsWhatItTook, TookWhatWasMade, OneVersionAStamp, StateIsDetermined}
+use Rattle.pg_node.proofs.Taking.{Stands, Stands-put, Stands-arrived, Good, put_good, arrived_good}
 
 -- what a message carries was made
 abbrev IsMade : List Update → Message → Type 0

@@ -1,11 +1,11 @@
 -- What a server holds after it took a version is the state of one version more.
-use Rattle.std.proofs.Common.{ℕ, ◌≡◌, ◌≤◌, ◌<◌, ◌^◌, Bool, true, false, cond, max, nat_lt, Option, None, Some, List, [], ◌∷◌, ◌++◌, refl, sym, ap, subst, ◌∙◌, arith, All, inl, inr, zero, suc, eqb}
+use Rattle.std.proofs.Common.{ℕ, ◌≡◌, ◌≤◌, ◌<◌, Bool, true, false, cond, max, Option, None, Some, List, [], ◌∷◌, ◌++◌, refl, sym, ap, subst, ◌∙◌, arith, All, inl, inr, zero, suc, eqb}
 use Rattle.std.specs.Prelude.{Contains}
 use Rattle.std.proofs.lemmas.List.Elements.{All-nil, All-cons, All-append, Contains-push, Contains-push_cases}
 use Rattle.pg_base.specs.declared.id.FileId.{FileId}
 use Rattle.pg_base.specs.declared.version.Version.{Version}
 use Rattle.pg_base.specs.Id.{file_cmp, is_same_file}
-use Rattle.pg_base.specs.Stamp.{UpTo, is_before, next_stamp}
+use Rattle.pg_base.specs.Stamp.{next_stamp}
 use Rattle.pg_base.proofs.Orders.{is_same_file-true, file_total, is_before-false}
 use Rattle.pg_base.proofs.Maps.{lookup-insert_entry}
 use Rattle.pg_sched.specs.declared.entry.Update.{Update}

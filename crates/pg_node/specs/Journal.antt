@@ -1,6 +1,6 @@
 -- What a journal says: which messages are under way, which versions were made, which versions each server took, and
 -- what a set of versions comes to. A journal is the list of its entries, the latest first.
-use Rattle.std.specs.Prelude.{ℕ, ◌≡◌, ◌≢◌, ◌-◌, ◌==◌, Bool, ◌&&◌, if◌then◌else◌, max, List, [], ◌∷◌, ◌++◌, All, Contains, Option, None, Some, slice_get, remove}
+use Rattle.std.specs.Prelude.{ℕ, ◌≡◌, ◌≢◌, ◌-◌, ◌==◌, ◌&&◌, if◌then◌else◌, max, List, [], ◌∷◌, ◌++◌, All, Contains, Option, None, Some, slice_get, remove}
 use Rattle.pg_base.specs.declared.id.FileId.{FileId}
 use Rattle.pg_base.specs.declared.version.Version.{Version}
 use Rattle.pg_base.specs.Id.{is_same_file}
