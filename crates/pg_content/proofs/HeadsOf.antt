@@ -1,11 +1,11 @@
 -- The heads of a set as a function of the history and the set, and the content that has them.
-use Rattle.std.proofs.Common.{◌≡◌, ℕ, zero, suc, ◌+◌, ◌<◌, arith, Bool, true, false, cond, not, ◌&&◌, ◌||◌, List, [], ◌∷◌, map, ◌⊎◌, ◌↔◌, inl, inr, refl, sym, ap, subst, ◌∙◌}
+use Rattle.std.proofs.Common.{◌≡◌, ℕ, zero, suc, ◌+◌, ◌<◌, arith, Bool, true, false, cond, not, ◌&&◌, ◌||◌, List, [], ◌∷◌, map, ◌⊎◌, inl, inr, refl, sym, ap, subst, ◌∙◌}
 use Rattle.std.specs.List.{filter, list_any}
 use Rattle.std.proofs.Math.Bool.{or-true}
 use Rattle.pg_base.specs.declared.stamp.Stamp.{Stamp}
 use Rattle.pg_content.specs.declared.policy.Policy.{Policy}
 use Rattle.pg_content.specs.Version.{VersionValue, stamp_of}
-use Rattle.pg_content.specs.Shown.{placed, by_stamp}
+use Rattle.pg_content.specs.Shown.{by_stamp}
 use Rattle.pg_content.specs.Content.{ContentValue, Among}
 use Rattle.pg_content.specs.History.{Made, IsMember, is_same_stamp, is_ancestor, is_among, is_head, heads_of, IsAncestor, IsHead, IsHistory, version_of}
 use Rattle.pg_content.specs.StandsFor.{InStrictOrder, IsClosed, StandsFor, content_of}

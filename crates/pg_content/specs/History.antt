@@ -1,5 +1,5 @@
 -- The history of one file: the versions as they were made. What a version is, and which are shown, is read from it alone.
-use Rattle.std.specs.Prelude.{ℕ, Bool, true, false, ◌≡◌, ◌^◌, ◌<◌, ◌⊎◌, ◌==◌, ◌&&◌, if◌then◌else◌, List, [], ◌∷◌, map, ◌||◌, not, filter}
+use Rattle.std.specs.Prelude.{ℕ, Bool, false, ◌≡◌, ◌^◌, ◌<◌, ◌⊎◌, ◌==◌, ◌&&◌, if◌then◌else◌, List, [], ◌∷◌, map, ◌||◌, not, filter}
 use Rattle.std.specs.List.{list_any}
 use Rattle.pg_base.specs.declared.stamp.Stamp.{Stamp}
 use Rattle.pg_base.specs.declared.vector.Actor.{Actor}
