@@ -139,6 +139,14 @@ comes_from q (w ∷ vs) start is each =
       | inr r ↦ inr (r.0, inr r.1, r.2)
     ]
 
+-- what versions know together, none of them or one of them knows
+pub bases_from : (h : List Made) → IsHistory h → (bs : List Stamp) (q : Actor) → (number_at (joined_all (map (vector_of h) bs)) q ≡ 0) ⊎ ((b : Stamp) × Among b bs × (number_at (joined_all (map (vector_of h) bs)) q ≡ number_at (vector_of h b) q))
+bases_from h k bs q =
+    elim (comes_from q (map (vector_of h) bs) [] empty_vector (λ v r. let x = among_map (vector_of h) bs v r in subst IsVector (sym x.2) (vector_is h k x.0))) [
+      | inl none ↦ inl none
+      | inr r ↦ (let x = among_map (vector_of h) bs r.0 r.1 in inr (x.0, x.1, r.2 ∙ ap (λ v. number_at v q) x.2))
+    ]
+
 -- ---- one more at an actor
 
 more_here : (es : List (Actor × ℕ)) (a q : Actor) → number_at (one_more es a) q ≡ cond (eq_by_cmp actor_cmp q a) (number_at es a + 1) (number_at es q)
@@ -179,9 +187,9 @@ module _ (m : Made) (h : List Made) (k : IsHistory (m ∷ h)) where
 
   pub known_from : (q : Actor) → 1 ≤ number_at known q → (b : Stamp) × Among b m.bases × (number_at known q ≡ number_at (vector_of h b) q)
   known_from q some =
-      elim (comes_from q (map (vector_of h) m.bases) [] empty_vector each_is) [
-        | inl none ↦ absurd (let z : number_at [] q ≡ 0 = refl in omega arith)
-        | inr r ↦ (let x = among_map (vector_of h) m.bases r.0 r.1 in (x.0, x.1, r.2 ∙ ap (λ v. number_at v q) x.2))
+      elim (bases_from h k.1 m.bases q) [
+        | inl none ↦ absurd (omega arith)
+        | inr r ↦ r
       ]
 
   -- none of the earlier versions has its stamp

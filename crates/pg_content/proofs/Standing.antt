@@ -1,5 +1,5 @@
 -- Contents and the sets of versions that they stand for.
-use Rattle.std.proofs.Common.{◌≡◌, ℕ, ◌≤◌, Bool, true, false, cond, not, leb, List, [], ◌∷◌, map, ◌⊎◌, ◌↔◌, inl, inr, refl, sym, ap, subst, ◌∙◌, arith}
+use Rattle.std.proofs.Common.{◌≡◌, ℕ, ◌≤◌, Bool, true, false, cond, not, leb, List, [], ◌∷◌, map, ◌⊎◌, ◌↔◌, inl, inr, refl, sym, ap, subst, ◌∙◌, arith, ◌<◌, ◌^◌}
 use Rattle.std.specs.List.{All, filter}
 use Rattle.std.proofs.lemmas.Bool.{cases_lt}
 use Rattle.std.proofs.lemmas.Bool.Decides.{nat_tests}
@@ -13,10 +13,10 @@ use Rattle.pg_content.specs.declared.policy.Policy.{Policy}
 use Rattle.pg_content.specs.Version.{VersionValue, stamp_of}
 use Rattle.pg_content.specs.Shown.{placed, shown}
 use Rattle.pg_content.specs.Content.{ContentValue, Among, IsCovered, is_covered, covers_version, put_version, joined_content, joined_all, one_more, next_vector, version_with, next_version, written, shown_bytes}
-use Rattle.pg_content.specs.History.{Made, maker, IsMember, IsAncestor, IsHead, vector_of, body_of, number_of, version_of, IsHistory}
+use Rattle.pg_content.specs.History.{Made, maker, IsMember, IsAncestor, IsHead, vector_of, body_of, number_of, IsNext, version_of, IsHistory}
 use Rattle.pg_content.specs.StandsFor.{InStrictOrder, IsClosed, IsHeadVersion, StandsFor, IsWith}
 use Rattle.pg_content.proofs.Heads.{covered_is, is_covered_by}
-use Rattle.pg_content.proofs.Ancestry.{among_map, map_among, same_true, stamps_differ, member_of, ancestor_member, ancestor_trans, ancestor_other, not_own_ancestor, vector_here, earlier_vector, earlier_differs, covers_ancestor, covered_ancestor, one_made}
+use Rattle.pg_content.proofs.Ancestry.{among_map, map_among, bases_from, same_true, stamps_differ, member_of, ancestor_member, ancestor_trans, ancestor_other, not_own_ancestor, vector_here, earlier_vector, earlier_differs, covers_ancestor, covered_ancestor, one_made}
 
 -- ---- members of lists
 
@@ -471,4 +471,41 @@ module _ (m : Made) (h : List Made) (k : IsHistory (m ∷ h)) (c : ContentValue)
         | inr there ↦ (let a = f.all s there in inr (inl (refl, a.0.head.stamp, head_base a.0 a.1, a.2)))
       ],
     );
+  }
+
+-- ---- a version over all heads may be made
+
+module _ (m : Made) (h : List Made) (c : ContentValue) (set : List Stamp) (f : StandsFor c h set) (based : m.bases ≡ map stamp_of c.heads) where
+  base_member : (b : Stamp) → Among b m.bases → IsMember h b
+  base_member b l =
+      let x = among_map stamp_of c.heads b (subst (Among b) based l) in
+      let r = f.heads x.0 x.1 in
+      subst (IsMember h) (sym (x.2 ∙ ap (λ (v : VersionValue). v.head.stamp) r.version)) (member_of h r.made r.member)
+
+  base_below : (s : Stamp) → Among s set → (b : Stamp) × Among b m.bases × ((s ≡ b) ⊎ IsAncestor h s b)
+  base_below s l = let a = f.all s l in (a.0.head.stamp, subst (Among a.0.head.stamp) (sym based) (map_among stamp_of c.heads a.0 a.1), a.2)
+
+  base_room : IsHistory h → All (λ (v : VersionValue). number_at v.head.vector (maker m) < 2 ^ 63) c.heads → number_at (joined_all (map (vector_of h) m.bases)) (maker m) < 2 ^ 63
+  base_room k room =
+      elim (bases_from h k m.bases (maker m)) [
+        | inl none ↦ omega arith
+        | inr r ↦
+            let x = among_map stamp_of c.heads r.0 (subst (Among r.0) based r.1) in
+            let w = f.heads x.0 x.1 in
+            let P : VersionValue → Type 0 = λ v. vector_of h v.head.stamp ≡ v.head.vector in
+            let same : vector_of h x.0.head.stamp ≡ x.0.head.vector = subst P (sym w.version) refl in
+            let vector : vector_of h r.0 ≡ x.0.head.vector = ap (vector_of h) x.2 ∙ same in
+            let e : number_at (joined_all (map (vector_of h) m.bases)) (maker m) ≡ number_at x.0.head.vector (maker m) = r.2 ∙ ap (λ v. number_at v (maker m)) vector in
+            let below : number_at x.0.head.vector (maker m) < 2 ^ 63 = all_among (λ (v : VersionValue). number_at v.head.vector (maker m) < 2 ^ 63) c.heads x.0 room x.1 in
+            omega arith
+      ]
+
+  pub may_be_made : IsHistory h → (IsMember h m.stamp → ⊥) → ((e : Made) → Among e h → maker e ≡ maker m → Among e.stamp set) → m.stamp.server < 2 ^ 32 → m.birth < 2 ^ 64 → All (λ (v : VersionValue). number_at v.head.vector (maker m) < 2 ^ 63) c.heads → IsNext h m
+  may_be_made k fresh own server birth room = record {
+    fresh = fresh;
+    bases = base_member;
+    own = λ e l same. base_below e.stamp (own e l same);
+    server = server;
+    birth = birth;
+    number = base_room k room;
   }

@@ -1,10 +1,10 @@
 //! Laws of histories and contents.
 
-ghost use Rattle.std.specs.Prelude.{◌≡◌, ◌⊎◌, ◌↔◌, List, [], ◌∷◌, map};
+ghost use Rattle.std.specs.Prelude.{◌≡◌, ◌<◌, ◌^◌, All, ◌⊎◌, ◌↔◌, List, [], ◌∷◌, map};
 ghost use Rattle.pg_base.specs.declared.stamp.Stamp.{Stamp};
-ghost use Rattle.pg_base.specs.Vector.{Covers, IsVector};
+ghost use Rattle.pg_base.specs.Vector.{Covers, IsVector, number_at};
 ghost use Rattle.pg_content.specs.Content.{Among, ContentValue, joined_content, written};
-ghost use Rattle.pg_content.specs.History.{IsAncestor, IsHead, IsHistory, Made, maker, number_of, vector_of, version_of};
+ghost use Rattle.pg_content.specs.History.{IsAncestor, IsHead, IsHistory, IsMember, IsNext, Made, maker, number_of, vector_of, version_of};
 ghost use Rattle.pg_content.specs.StandsFor.{IsClosed, IsWith, StandsFor, content_of};
 ghost use Rattle.pg_content.specs.Version.{stamp_of};
 ghost use Rattle.pg_content.specs.declared.policy.Policy.{Policy};
@@ -22,6 +22,7 @@ pub fn ancestry_by_vectors()
 pub fn content_is_its_heads()
     ensures empty { (policy : Policy) (h : List Made) → StandsFor (record { policy = policy; heads = [] }) h [] }
     ensures join { (h : List Made) → IsHistory h → (c : ContentValue) (old new : List Stamp) → StandsFor c h old → (m : Made) → Among m h → IsWith h old m.stamp new → StandsFor (joined_content c (version_of c.policy h m)) h new }
+    ensures next { (m : Made) (h : List Made) → IsHistory h → (c : ContentValue) (set : List Stamp) → StandsFor c h set → m.bases ≡ map stamp_of c.heads → (IsMember h m.stamp → ⊥) → ((e : Made) → Among e h → maker e ≡ maker m → Among e.stamp set) → m.stamp.server < 2 ^ 32 → m.birth < 2 ^ 64 → All (λ v. number_at v.head.vector (maker m) < 2 ^ 63) c.heads → IsNext h m }
     ensures write { (m : Made) (h : List Made) → IsHistory (m ∷ h) → (c : ContentValue) (set : List Stamp) → StandsFor c h set → m.bases ≡ map stamp_of c.heads → StandsFor (written c (maker m) m.stamp m.ranges) (m ∷ h) (m.stamp ∷ set) }
     ensures later { (m : Made) (h : List Made) → IsHistory (m ∷ h) → (c : ContentValue) (set : List Stamp) → StandsFor c h set → StandsFor c (m ∷ h) set }
     ensures heads { (h : List Made) → IsHistory h → (c : ContentValue) (set : List Stamp) → StandsFor c h set → (m : Made) → Among m h → IsHead h set m.stamp ↔ Among (version_of c.policy h m) c.heads }

@@ -1,4 +1,4 @@
-use Rattle.pg_content.proofs.Standing.{among_head, head_among, same_content, stands_joined, stands_later, stands_written}
+use Rattle.pg_content.proofs.Standing.{among_head, head_among, may_be_made, same_content, stands_joined, stands_later, stands_written}
 use Rattle.pg_content.proofs.HeadsOf.{content_is, content_stands}
 use Rattle.pg_content.proofs.laws.content_is_its_heads.Goals as goal
 
@@ -22,3 +22,6 @@ returns-clause-whole c = λ h k content set f. content_is h k content set f
 
 pub returns-clause-closed : goal.returns-clause-closed
 returns-clause-closed c = λ policy h k set closed. content_stands policy h k set closed
+
+pub returns-clause-next : goal.returns-clause-next
+returns-clause-next c = λ m h k content set f based. may_be_made m h content set f based k
