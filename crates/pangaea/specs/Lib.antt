@@ -1,5 +1,4 @@
-pub mod Stands
-pub mod Played
-pub mod PlayedInside
+pub mod Settling
 pub mod Text
+pub mod Laws
 pub mod Written

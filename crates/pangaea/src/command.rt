@@ -4,7 +4,9 @@ ghost use Rattle.std.specs.Prelude.{◌≡◌, ◌≢◌, ◌<◌, ◌≤◌, �
 ghost use Rattle.std.specs.Io.KnownBytes.{IsAtEnd};
 ghost use Rattle.pg_io.specs.Causes.{Rose};
 ghost use Rattle.pg_sched.specs.Schedule.{IsFirstBad};
-ghost use Rattle.pg_node.specs.Laws.{HoldsWhatItTook, StateIsGreatest, StateIsDetermined};
+ghost use Rattle.pg_sched.specs.declared.fault.Fault.{Fault};
+ghost use Rattle.pg_world.specs.Laws.{HoldsWhatItTook, StateIsGreatest, StateIsDetermined, QuietServersAgree, QuietIsTold, TicksSendWhatIsOwed};
+ghost use Rattle.pangaea.specs.Laws.{LinesAreEvents};
 ghost use Rattle.pangaea.specs.Written.{WritesAll, WritesFront, IsGoodInput, FirstIsReplay, AreGoodWords, most_input};
 
 use crate::journal::journal_of;
@@ -29,8 +31,8 @@ pub fn replay<S: Source, K: Sink>(alloc: Global, source: &mut S, sink: &mut K) -
     ensures write { result ≡ Status.WriteFault → Rose (K.faults sink.old) (K.faults sink.new) }
     ensures long { result ≡ Status.InputLong → IfSome (S.left source.old) (λ input. most_input < length input) }
     ensures short { (input : List ℕ) → S.left source.old ≡ Some input → most_input < length input → ¬ (Rose (S.faults source.old) (S.faults source.new)) → (result ≡ Status.InputLong) ⊎ (result ≡ Status.OutOfMemory) }
-    ensures bad { (n : ℕ) → result ≡ Status.BadLine n → IfSome (S.left source.old) (λ input. IsFirstBad input n) }
-    ensures first_bad { (input : List ℕ) (n : ℕ) → S.left source.old ≡ Some input → length input ≤ most_input → IsFirstBad input n → ¬ (Rose (S.faults source.old) (S.faults source.new)) → (result ≡ Status.BadLine n) ⊎ (result ≡ Status.OutOfMemory) }
+    ensures bad { (n : ℕ) (f : Fault) → result ≡ Status.BadLine n f → IfSome (S.left source.old) (λ input. IsFirstBad input n f) }
+    ensures first_bad { (input : List ℕ) (n : ℕ) (f : Fault) → S.left source.old ≡ Some input → length input ≤ most_input → IsFirstBad input n f → ¬ (Rose (S.faults source.old) (S.faults source.new)) → (result ≡ Status.BadLine n f) ⊎ (result ≡ Status.OutOfMemory) }
     ensures usage { (n : ℕ) → result ≢ Status.Usage n }
     ensures complete { IsGoodInput (S.left source.old) → ¬ (Rose (S.faults source.old) (S.faults source.new)) → ¬ (Rose (K.faults sink.old) (K.faults sink.new)) → (result ≡ Status.Done) ⊎ (result ≡ Status.OutOfMemory) }
 {
@@ -45,7 +47,7 @@ pub fn replay<S: Source, K: Sink>(alloc: Global, source: &mut S, sink: &mut K) -
     let schedule = match read(alloc, &input) {
         Ok(schedule) => schedule,
         Err(error) => match error {
-            ReadError::BadLine(number) => return Status::BadLine(number),
+            ReadError::BadLine(number, fault) => return Status::BadLine(number, fault),
             ReadError::OutOfMemory => return Status::OutOfMemory,
         },
     };
@@ -77,6 +79,13 @@ pub fn run<S: Source, K: Sink>(
     ensures greatest { StateIsGreatest }
     ensures determined { (servers : ℕ) → StateIsDetermined servers }
 
+    // What holds where all is done: each line is events of the run, and at every front of them that is quiet, also within a
+    // settling, all replicas of a file agree.
+    ensures events { (servers : ℕ) → LinesAreEvents servers }
+    ensures agree { (servers : ℕ) → QuietServersAgree servers }
+    ensures quiet { QuietIsTold }
+    ensures owed { (servers : ℕ) → TicksSendWhatIsOwed servers }
+
     // When it ends how.
     ensures first_word { result ≡ Status.Usage 1 ↔ ¬ (FirstIsReplay words.now) }
     ensures second_word { result ≡ Status.Usage 2 ↔ (FirstIsReplay words.now × (2 < vec_len words.now)) }
@@ -85,8 +94,8 @@ pub fn run<S: Source, K: Sink>(
     ensures write { result ≡ Status.WriteFault → Rose (K.faults sink.old) (K.faults sink.new) }
     ensures long { result ≡ Status.InputLong → IfSome (S.left source.old) (λ input. most_input < length input) }
     ensures short { (input : List ℕ) → AreGoodWords words.now → S.left source.old ≡ Some input → most_input < length input → ¬ (Rose (S.faults source.old) (S.faults source.new)) → (result ≡ Status.InputLong) ⊎ (result ≡ Status.OutOfMemory) }
-    ensures bad { (n : ℕ) → result ≡ Status.BadLine n → IfSome (S.left source.old) (λ input. IsFirstBad input n) }
-    ensures first_bad { (input : List ℕ) (n : ℕ) → AreGoodWords words.now → S.left source.old ≡ Some input → length input ≤ most_input → IsFirstBad input n → ¬ (Rose (S.faults source.old) (S.faults source.new)) → (result ≡ Status.BadLine n) ⊎ (result ≡ Status.OutOfMemory) }
+    ensures bad { (n : ℕ) (f : Fault) → result ≡ Status.BadLine n f → IfSome (S.left source.old) (λ input. IsFirstBad input n f) }
+    ensures first_bad { (input : List ℕ) (n : ℕ) (f : Fault) → AreGoodWords words.now → S.left source.old ≡ Some input → length input ≤ most_input → IsFirstBad input n f → ¬ (Rose (S.faults source.old) (S.faults source.new)) → (result ≡ Status.BadLine n f) ⊎ (result ≡ Status.OutOfMemory) }
     ensures complete { AreGoodWords words.now → IsGoodInput (S.left source.old) → ¬ (Rose (S.faults source.old) (S.faults source.new)) → ¬ (Rose (K.faults sink.old) (K.faults sink.new)) → (result ≡ Status.Done) ⊎ (result ≡ Status.OutOfMemory) }
 {
     if !is_replay(words) {

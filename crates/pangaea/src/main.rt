@@ -3,9 +3,6 @@
 
 mod command;
 mod journal;
-mod machine;
-mod text;
-mod world;
 
 pub use command::{LIMIT, replay, run};
 use pg_io::{Reading, Writing};
@@ -14,7 +11,6 @@ use std::alloc::AllocError;
 use std::io::ErrorKind;
 use std::process::ExitCode;
 use std::{env, io};
-pub use world::{StepError, World};
 
 fn words(rt: &HostRuntime) -> io::Result<Vec<String>> {
     let mut words = Vec::new(rt.alloc());

@@ -1,3 +1,6 @@
-pub mod States
-pub mod Taking
-pub mod RunLaws
+mod FirstEdges
+mod Replicas
+mod Lists
+mod Merging
+mod Indexed
+mod FirstKey

@@ -1,4 +1,5 @@
 pub mod Local
-pub mod Journal
-pub mod Run
-pub mod Laws
+pub mod FirstEdges
+pub mod Flooded
+pub mod Index
+pub mod StoreInside

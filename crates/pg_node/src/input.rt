@@ -1,7 +1,8 @@
 //! What comes to a server, and what comes of it.
 
 use pg_base::{FileId, Items, SharedBytes};
-use pg_sched::{Message, Reply, Update};
+use pg_msg::{Packet, Sent, Update};
+use pg_sched::Reply;
 
 /// What comes to a server.
 #[derive(Debug, Drop)]
@@ -12,14 +13,20 @@ pub enum Input {
         file: FileId,
         body: SharedBytes,
     },
-    /// A message arrives.
-    Arrival(Message),
+    /// Time to send again what is not acknowledged. The word is a random one.
+    Tick {
+        moment: u64,
+        word: u64,
+    },
+    /// A packet arrives.
+    Arrival(Packet),
 }
 
-/// What comes of an input: the reply to a client, the versions that were made, and the messages that were sent.
+/// What comes of an input: the reply to a client, the versions that were made, and the messages that were sent, in their
+/// order.
 #[derive(Debug, Drop)]
 pub struct Out {
     pub reply: Option<Reply>,
     pub made: Items<Update>,
-    pub sent: Items<Message>,
+    pub sent: Items<Sent>,
 }

@@ -1,10 +1,19 @@
 //! A server: what it holds, and what it does with what comes to it.
 #![tactic(auto)]
 
+mod effect;
+mod error;
 mod input;
-mod laws;
 mod node;
+mod owing;
+mod replica;
+mod sending;
+mod store;
+#[cfg(test)]
+mod tests;
 
+pub use error::StepError;
 pub use input::{Input, Out};
-pub use laws::{one_version_a_stamp, replicas_are_states};
 pub use node::Node;
+pub use replica::Replica;
+pub use store::Store;

@@ -1,33 +1,24 @@
 -- No two lines have one spelling.
-use Rattle.std.proofs.Common.{ℕ, ◌≡◌, ◌<◌, ◌^◌, List, [], ◌∷◌, Ok, refl, sym, ap, ◌∙◌, arith, decimal, codes, length, zero, suc, Result}
+use Rattle.std.proofs.Common.{ℕ, ◌≡◌, List, [], ◌∷◌, Ok, refl, sym, ap, ◌∙◌, arith, codes, length, zero, suc, Result, eqb, subst}
 use Rattle.std.specs.List.{slice_split}
 use Rattle.std.proofs.lemmas.Fmt.{decimal_injective}
 use Rattle.hex.specs.Hex.{encode_lower, decode_of}
 use Rattle.hex.proofs.HexLemmas.{decode_of-encode_lower}
-use Rattle.pg_base.specs.declared.id.Kind.{Kind}
 use Rattle.pg_base.specs.declared.id.FileId.{FileId}
 use Rattle.pg_base.specs.Id.{spelling}
 use Rattle.pg_base.proofs.Spellings.{spelling-same}
-use Rattle.std.proofs.Common.{eqb}
 use Rattle.pg_sched.specs.declared.line.Line.{Line}
-use Rattle.pg_sched.specs.declared.line.Line.TheVariants.{Happens, Show}
-use Rattle.pg_sched.specs.declared.line.Event.TheVariants.{Put, Deliver, Lose, Repeat}
-use Rattle.pg_sched.specs.Line.{hex_word, line_words, line_body, IsLine, IsFile, IsBody}
+use Rattle.pg_sched.specs.declared.line.Line.TheVariants.{Happens, Settle, Show, Quiet, Trace}
+use Rattle.pg_sched.specs.declared.line.Event.TheVariants.{Put, Tick, Deliver, Lose, Repeat}
+use Rattle.pg_sched.specs.declared.line.Form.{Form}
+use Rattle.pg_sched.specs.declared.line.Form.TheVariants.{Full, Short}
+use Rattle.pg_sched.specs.declared.verb.Verb.{Verb}
+use Rattle.pg_sched.specs.declared.verb.Verb.TheVariants as verb
+use Rattle.pg_sched.specs.Fields.{verb_word}
+use Rattle.pg_sched.specs.Line.{hex_word, form_word, line_words, line_body, IsLine, IsFile, IsBody}
 use Rattle.pg_sched.proofs.HexWords.{IsBytes-from_all, length-encode}
+use Rattle.pg_sched.proofs.Table.{same_verb}
 use Rattle.pg_sched.proofs.Words.{words-again}
-
-abbrev first : List ℕ → ℕ
-first [] = 0
-first (x ∷ xs) = x
-
-abbrev tail : List ℕ → List ℕ
-tail [] = []
-tail (x ∷ xs) = xs
-
--- the first byte of a line's verb, which tells what the line is
-abbrev mark : List (List ℕ) → ℕ
-mark [] = 0
-mark (word ∷ words) = first word
 
 -- the word at a place
 abbrev word_at : ℕ → List (List ℕ) → List ℕ
@@ -53,11 +44,69 @@ same_body (x ∷ xs) (y ∷ ys) ha hb e =
     let right = decode_of-encode_lower (y ∷ ys) (IsBytes-from_all (y ∷ ys) hb.bytes) in
     ok_same (x ∷ xs) (y ∷ ys) (sym left ∙ ap decode_of e ∙ right)
 
-place : (n k : ℕ) → n < 2 ^ 64 → k < 2 ^ 64 → (verb : List ℕ) → verb ∷ decimal n ∷ [] ≡ verb ∷ decimal k ∷ [] → n ≡ k
-place n k ln lk verb e = decimal_injective n k ln lk (ap (word_at 1) e)
+same_form : (a b : Form) → form_word a ≡ form_word b → a ≡ b
+same_form Full Full e = refl
+same_form Short Short e = refl
+same_form Full Short e = absurd (let n : 4 ≡ 5 = ap length e in omega arith)
+same_form Short Full e = absurd (let n : 5 ≡ 4 = ap length e in omega arith)
 
-same_words : (x y : Line) → IsLine x → IsLine y → line_words x ≡ line_words y → x ≡ y
-same_words (Happens (Put s m f b)) (Happens (Put t n g d)) hx hy e =
+-- the line is one of the verb
+abbrev Shape : Verb → Line → Type 0
+Shape verb.Put line = (s m : ℕ) × (f : FileId) × (b : List ℕ) × (line ≡ Happens (Put s m f b))
+Shape verb.Tick line = (s m w : ℕ) × (line ≡ Happens (Tick s m w))
+Shape verb.Deliver line = (n : ℕ) × (line ≡ Happens (Deliver n))
+Shape verb.Lose line = (n : ℕ) × (line ≡ Happens (Lose n))
+Shape verb.Repeat line = (n : ℕ) × (line ≡ Happens (Repeat n))
+Shape verb.Settle line = (r m : ℕ) × (line ≡ Settle r m)
+Shape verb.Quiet line = line ≡ Quiet
+Shape verb.Trace line = (f : Form) × (line ≡ Trace f)
+Shape verb.Show line = (f : FileId) × (line ≡ Show f)
+
+abbrev verb_of : Line → Verb
+verb_of (Happens (Put s m f b)) = verb.Put
+verb_of (Happens (Tick s m w)) = verb.Tick
+verb_of (Happens (Deliver n)) = verb.Deliver
+verb_of (Happens (Lose n)) = verb.Lose
+verb_of (Happens (Repeat n)) = verb.Repeat
+verb_of (Settle r m) = verb.Settle
+verb_of Quiet = verb.Quiet
+verb_of (Trace f) = verb.Trace
+verb_of (Show f) = verb.Show
+
+shape : (line : Line) → Shape (verb_of line) line
+shape (Happens (Put s m f b)) = (s, m, f, b, refl)
+shape (Happens (Tick s m w)) = (s, m, w, refl)
+shape (Happens (Deliver n)) = (n, refl)
+shape (Happens (Lose n)) = (n, refl)
+shape (Happens (Repeat n)) = (n, refl)
+shape (Settle r m) = (r, m, refl)
+shape Quiet = refl
+shape (Trace f) = (f, refl)
+shape (Show f) = (f, refl)
+
+first_word : (line : Line) → word_at 0 (line_words line) ≡ verb_word (verb_of line)
+first_word (Happens (Put s m f b)) = refl
+first_word (Happens (Tick s m w)) = refl
+first_word (Happens (Deliver n)) = refl
+first_word (Happens (Lose n)) = refl
+first_word (Happens (Repeat n)) = refl
+first_word (Settle r m) = refl
+first_word Quiet = refl
+first_word (Trace f) = refl
+first_word (Show f) = refl
+
+-- lines with the same words have the same shape
+same_shape : (x y : Line) → line_words x ≡ line_words y → Shape (verb_of x) y
+same_shape x y e =
+    let same : verb_of y ≡ verb_of x = same_verb (verb_of y) (verb_of x) (sym (first_word y) ∙ ap (word_at 0) (sym e) ∙ first_word x) in
+    let P : Verb → Type 0 = λ v. Shape v y in subst P same (shape y)
+
+-- what is to be shown of a line of the same words
+abbrev Same : Line → Line → Type 0
+Same x y = IsLine x → IsLine y → line_words x ≡ line_words y → x ≡ y
+
+same_put : (s m t n : ℕ) (f g : FileId) (b d : List ℕ) → Same (Happens (Put s m f b)) (Happens (Put t n g d))
+same_put s m t n f g b d hx hy e =
     let ls = hx.0 in
     let lt = hy.0 in
     let server : s ≡ t = decimal_injective s t (omega arith) (omega arith) (ap (word_at 1) e) in
@@ -65,30 +114,39 @@ same_words (Happens (Put s m f b)) (Happens (Put t n g d)) hx hy e =
     let file : f ≡ g = same_file f g hx.2 hy.2 (ap (word_at 3) e) in
     let body : b ≡ d = same_body b d hx.3 hy.3 (ap (word_at 4) e) in
     cc
-same_words (Happens (Deliver n)) (Happens (Deliver k)) hx hy e = ap (λ q. Happens (Deliver q)) (place n k hx hy (codes "deliver") e)
-same_words (Happens (Lose n)) (Happens (Lose k)) hx hy e = ap (λ q. Happens (Lose q)) (place n k hx hy (codes "lose") e)
-same_words (Happens (Repeat n)) (Happens (Repeat k)) hx hy e = ap (λ q. Happens (Repeat q)) (place n k hx hy (codes "repeat") e)
-same_words (Show f) (Show g) hx hy e = ap Show (same_file f g hx hy (ap (word_at 1) e))
-same_words (Happens (Put s m f b)) (Happens (Deliver k)) hx hy e = absurd (let h : 112 ≡ 100 = ap mark e in omega arith)
-same_words (Happens (Put s m f b)) (Happens (Lose k)) hx hy e = absurd (let h : 112 ≡ 108 = ap mark e in omega arith)
-same_words (Happens (Put s m f b)) (Happens (Repeat k)) hx hy e = absurd (let h : 112 ≡ 114 = ap mark e in omega arith)
-same_words (Happens (Put s m f b)) (Show g) hx hy e = absurd (let h : 112 ≡ 115 = ap mark e in omega arith)
-same_words (Happens (Deliver n)) (Happens (Put t u g d)) hx hy e = absurd (let h : 100 ≡ 112 = ap mark e in omega arith)
-same_words (Happens (Deliver n)) (Happens (Lose k)) hx hy e = absurd (let h : 100 ≡ 108 = ap mark e in omega arith)
-same_words (Happens (Deliver n)) (Happens (Repeat k)) hx hy e = absurd (let h : 100 ≡ 114 = ap mark e in omega arith)
-same_words (Happens (Deliver n)) (Show g) hx hy e = absurd (let h : 100 ≡ 115 = ap mark e in omega arith)
-same_words (Happens (Lose n)) (Happens (Put t u g d)) hx hy e = absurd (let h : 108 ≡ 112 = ap mark e in omega arith)
-same_words (Happens (Lose n)) (Happens (Deliver k)) hx hy e = absurd (let h : 108 ≡ 100 = ap mark e in omega arith)
-same_words (Happens (Lose n)) (Happens (Repeat k)) hx hy e = absurd (let h : 108 ≡ 114 = ap mark e in omega arith)
-same_words (Happens (Lose n)) (Show g) hx hy e = absurd (let h : 108 ≡ 115 = ap mark e in omega arith)
-same_words (Happens (Repeat n)) (Happens (Put t u g d)) hx hy e = absurd (let h : 114 ≡ 112 = ap mark e in omega arith)
-same_words (Happens (Repeat n)) (Happens (Deliver k)) hx hy e = absurd (let h : 114 ≡ 100 = ap mark e in omega arith)
-same_words (Happens (Repeat n)) (Happens (Lose k)) hx hy e = absurd (let h : 114 ≡ 108 = ap mark e in omega arith)
-same_words (Happens (Repeat n)) (Show g) hx hy e = absurd (let h : 114 ≡ 115 = ap mark e in omega arith)
-same_words (Show f) (Happens (Put t u g d)) hx hy e = absurd (let h : 115 ≡ 112 = ap mark e in omega arith)
-same_words (Show f) (Happens (Deliver k)) hx hy e = absurd (let h : 115 ≡ 100 = ap mark e in omega arith)
-same_words (Show f) (Happens (Lose k)) hx hy e = absurd (let h : 115 ≡ 108 = ap mark e in omega arith)
-same_words (Show f) (Happens (Repeat k)) hx hy e = absurd (let h : 115 ≡ 114 = ap mark e in omega arith)
+
+same_tick : (s m w t n u : ℕ) → Same (Happens (Tick s m w)) (Happens (Tick t n u))
+same_tick s m w t n u hx hy e =
+    let ls = hx.0 in
+    let lt = hy.0 in
+    let server : s ≡ t = decimal_injective s t (omega arith) (omega arith) (ap (word_at 1) e) in
+    let moment : m ≡ n = decimal_injective m n hx.1 hy.1 (ap (word_at 2) e) in
+    let word : w ≡ u = decimal_injective w u hx.2 hy.2 (ap (word_at 3) e) in
+    cc
+
+same_settle : (r m q n : ℕ) → Same (Settle r m) (Settle q n)
+same_settle r m q n hx hy e =
+    let lr = hx.0 in
+    let lq = hy.0 in
+    let rounds : r ≡ q = decimal_injective r q (omega arith) (omega arith) (ap (word_at 1) e) in
+    let moment : m ≡ n = decimal_injective m n hx.1 hy.1 (ap (word_at 2) e) in
+    cc
+
+same_as : (x y z : Line) → y ≡ z → Same x z → Same x y
+same_as x y z e h = let P : Line → Type 0 = Same x in subst P (sym e) h
+
+same_words : (x y : Line) → Shape (verb_of x) y → Same x y
+same_words (Happens (Put s m f b)) y h = same_as _ y _ h.4 (same_put s m h.0 h.1 f h.2 b h.3)
+same_words (Happens (Tick s m w)) y h = same_as _ y _ h.3 (same_tick s m w h.0 h.1 h.2)
+same_words (Happens (Deliver n)) y h = same_as _ y _ h.1 (λ hx hy e. ap (λ q. Happens (Deliver q)) (decimal_injective n h.0 hx hy (ap (word_at 1) e)))
+same_words (Happens (Lose n)) y h = same_as _ y _ h.1 (λ hx hy e. ap (λ q. Happens (Lose q)) (decimal_injective n h.0 hx hy (ap (word_at 1) e)))
+same_words (Happens (Repeat n)) y h = same_as _ y _ h.1 (λ hx hy e. ap (λ q. Happens (Repeat q)) (decimal_injective n h.0 hx hy (ap (word_at 1) e)))
+same_words (Settle r m) y h = same_as _ y _ h.2 (same_settle r m h.0 h.1)
+same_words Quiet y h = λ hx hy e. sym h
+same_words (Trace f) y h = same_as _ y _ h.1 (λ hx hy e. ap Trace (same_form f h.0 (ap (word_at 1) e)))
+same_words (Show f) y h = same_as _ y _ h.1 (λ hx hy e. ap Show (same_file f h.0 hx hy (ap (word_at 1) e)))
 
 pub one_line : (x y : Line) → IsLine x → IsLine y → line_body x ≡ line_body y → x ≡ y
-one_line x y hx hy e = same_words x y hx hy (sym (words-again x hx) ∙ ap (slice_split (λ b. eqb b 32)) e ∙ words-again y hy)
+one_line x y hx hy e =
+    let words = sym (words-again x hx) ∙ ap (slice_split (λ b. eqb b 32)) e ∙ words-again y hy in
+    same_words x y (same_shape x y words) hx hy words

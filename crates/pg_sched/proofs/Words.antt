@@ -1,118 +1,157 @@
--- The words of a line have no space and no line feed, so a line is cut into its words again.
-use Rattle.std.proofs.Common.{ℕ, ◌≡◌, ◌≢◌, ◌<◌, ◌^◌, List, [], ◌∷◌, true, false, eqb, refl, sym, ap, ◌∙◌, arith, codes, decimal, All, eq-eqb, inl, inr, take, length, zero, suc}
+-- The words of a line have no space, so a line is cut into its words again; and a line is printable, and not long.
+use Rattle.std.proofs.Common.{ℕ, ◌≡◌, ◌≢◌, ◌<◌, ◌≤◌, ◌+◌, List, [], ◌∷◌, false, eqb, refl, sym, ap, ◌∙◌, arith, All, eq-eqb, inl, inr, take, length, zero, suc, subst, length-append, take_all}
 use Rattle.std.proofs.lemmas.Bool.Decides.{eqb_tells}
 use Rattle.std.specs.List.{AllByRecursion, join_with_byte, slice_split}
-use Rattle.std.proofs.lemmas.List.Elements.{All-from_recursion, All-append, All-cons, All-weaker}
+use Rattle.std.proofs.lemmas.List.Elements.{All-append, All-cons, All-weaker, All-nil}
 use Rattle.std.proofs.lemmas.List.Splits.{slice_split_none, slice_split_at, join_with_byte-slice_split}
-use Rattle.hex.specs.Hex.{encode_lower, is_hex_digit}
-use Rattle.hex.proofs.HexLemmas.{decode_of-ok, decode_of-encode_lower}
-use Rattle.pg_base.specs.declared.id.Kind.{Kind}
-use Rattle.pg_base.specs.declared.id.Kind.TheVariants.{Dir, File}
-use Rattle.pg_base.specs.declared.id.FileId.{FileId}
-use Rattle.pg_base.specs.Id as id
-use Rattle.pg_base.proofs.Parts.{decimal-without}
+use Rattle.pg_sched.specs.Cause.{IsPrintable, IsWordsCause, IsRestCause, words_in}
+use Rattle.pg_sched.specs.Fields.{Field, fields, verb_word, AreWordsOf, AreCounted}
+use Rattle.pg_sched.specs.Line.{line_words, line_body, IsLine}
+use Rattle.pg_sched.specs.declared.fault.Fault.{Fault}
 use Rattle.pg_sched.specs.declared.line.Line.{Line}
-use Rattle.pg_sched.specs.declared.line.Line.TheVariants.{Happens, Show}
-use Rattle.pg_sched.specs.declared.line.Event.TheVariants.{Put, Deliver, Lose, Repeat}
-use Rattle.pg_sched.specs.Line.{hex_word, line_words, line_body, IsLine}
-use Rattle.pg_sched.proofs.HexWords.{IsBytes-from_all}
+use Rattle.pg_sched.specs.declared.verb.Verb.{Verb}
+use Rattle.pg_sched.specs.declared.verb.Verb.TheVariants as verb
+use Rattle.pg_sched.proofs.Table.{tabled, no_words_cause, same_count}
+use Rattle.pg_sched.proofs.WordBytes.{IsWordByte, most, word_few, word_each, verb_each}
 
 abbrev pub Lacks : ℕ → List ℕ → Type 0
 Lacks c word = All (λ b. b ≢ c) word
 
--- a byte at which words or lines end: below the dash, and no digit
-pub record Ends (c : ℕ) : Type 0 where
-  pub low : c < 45
-  pub other : is_hex_digit c ≡ false
+each_of : (fs : List Field) (words : List (List ℕ)) → AreWordsOf fs words → AllByRecursion (All IsWordByte) words
+each_of [] [] h = tt
+each_of [] (word ∷ words) h = absurd h
+each_of (field ∷ fs) [] h = absurd h
+each_of (field ∷ fs) (word ∷ words) h = (word_each field word h.0, each_of fs words h.1)
 
-Lacks-decimal : (c n : ℕ) → Ends c → n < 2 ^ 64 → Lacks c (decimal n)
-Lacks-decimal c n h lt = let low = h.low in decimal-without c n (λ r. omega arith) lt
+lacks_space : (word : List ℕ) → All IsWordByte word → Lacks 32 word
+lacks_space word h = All-weaker IsWordByte (λ b. b ≢ 32) (λ b p e. let low = p.0 in let e' : b ≡ 32 = e in omega arith) word h
 
-Lacks-letter : (c : ℕ) (k : Kind) → Ends c → id.letter k ≢ c
-Lacks-letter c Dir h e = let low = h.low in let e' : 100 ≡ c = e in omega arith
-Lacks-letter c File h e = let low = h.low in let e' : 102 ≡ c = e in omega arith
-
-Lacks-spelling : (c : ℕ) (file : FileId) → Ends c → id.Fits file → Lacks c (id.spelling file)
-Lacks-spelling c file h fits =
-    let low = h.low in
-    let server = fits.server in
-    All-cons (λ b. b ≢ c) (id.letter file.kind) _ (Lacks-letter c file.kind h)
-    (All-append (λ b. b ≢ c) (decimal file.server) (46 ∷ decimal file.number) (Lacks-decimal c file.server h (omega arith))
-    (All-cons (λ b. b ≢ c) 46 (decimal file.number) (λ e. omega arith) (Lacks-decimal c file.number h fits.number)))
-
-passes_other : (c : ℕ) → is_hex_digit c ≡ false → (x : ℕ) → is_hex_digit x ≡ true → x ≢ c
-passes_other c h x p e = let q : is_hex_digit c ≡ true = ap is_hex_digit (sym e) ∙ p in cc
-
-Lacks-hex : (c : ℕ) (bs : List ℕ) → Ends c → AllByRecursion (λ b. b < 256) bs → Lacks c (hex_word bs)
-Lacks-hex c [] h fits = let low = h.low in All-from_recursion (λ b. b ≢ c) (codes "-") (omega arith)
-Lacks-hex c (b ∷ bs) h fits =
-    let d = decode_of-ok (encode_lower (b ∷ bs)) (b ∷ bs) (decode_of-encode_lower (b ∷ bs) (IsBytes-from_all (b ∷ bs) fits)) in
-    All-weaker (λ x. is_hex_digit x ≡ true) (λ x. x ≢ c) (passes_other c h.other) (encode_lower (b ∷ bs)) d.1
-
-verb : (c : ℕ) (word : List ℕ) → AllByRecursion (λ b. b ≢ c) word → Lacks c word
-verb c word h = All-from_recursion (λ b. b ≢ c) word h
-
-pub line_words-lack : (c : ℕ) (line : Line) → Ends c → IsLine line → AllByRecursion (Lacks c) (line_words line)
-line_words-lack c (Happens (Put s m f b)) h fits =
-    let low = h.low in
-    let server = fits.0 in
-    (verb c (codes "put") (omega arith), (Lacks-decimal c s h (omega arith), (Lacks-decimal c m h fits.1, (Lacks-spelling c f h fits.2.fits, (Lacks-hex c b h fits.3.bytes, tt)))))
-line_words-lack c (Happens (Deliver n)) h fits = let low = h.low in (verb c (codes "deliver") (omega arith), (Lacks-decimal c n h fits, tt))
-line_words-lack c (Happens (Lose n)) h fits = let low = h.low in (verb c (codes "lose") (omega arith), (Lacks-decimal c n h fits, tt))
-line_words-lack c (Happens (Repeat n)) h fits = let low = h.low in (verb c (codes "repeat") (omega arith), (Lacks-decimal c n h fits, tt))
-line_words-lack c (Show f) h fits = let low = h.low in (verb c (codes "show") (omega arith), (Lacks-spelling c f h fits.fits, tt))
-
-eqb-off : (x c : ℕ) → x ≢ c → eqb x c ≡ false
+pub eqb-off : (x c : ℕ) → x ≢ c → eqb x c ≡ false
 eqb-off x c h = elim (eqb_tells x c) [ inl p ↦ absurd (h p.1) | inr p ↦ p.0 ]
 
 eqb-other : (c : ℕ) (xs : List ℕ) → Lacks c xs → All (λ x. eqb x c ≡ false) xs
 eqb-other c xs h = All-weaker (λ x. x ≢ c) (λ x. eqb x c ≡ false) (λ x. eqb-off x c) xs h
 
 -- words that were joined are cut apart again
-pub split-join : (c : ℕ) (word : List ℕ) (words : List (List ℕ)) → AllByRecursion (Lacks c) (word ∷ words) → slice_split (λ b. eqb b c) (join_with_byte c (word ∷ words)) ≡ word ∷ words
-split-join c word [] h = slice_split_none (λ b. eqb b c) word (eqb-other c word h.0)
-split-join c word (next ∷ words) h =
-    slice_split_at (λ b. eqb b c) word c (join_with_byte c (next ∷ words)) (eqb-other c word h.0) (eq-eqb c c refl) ∙ ap (λ ws. word ∷ ws) (split-join c next words h.1)
+split-join : (word : List ℕ) (words : List (List ℕ)) → AllByRecursion (All IsWordByte) (word ∷ words) → slice_split (λ b. eqb b 32) (join_with_byte 32 (word ∷ words)) ≡ word ∷ words
+split-join word [] h = slice_split_none (λ b. eqb b 32) word (eqb-other 32 word (lacks_space word h.0))
+split-join word (next ∷ words) h =
+    slice_split_at (λ b. eqb b 32) word 32 (join_with_byte 32 (next ∷ words)) (eqb-other 32 word (lacks_space word h.0)) (eq-eqb 32 32 refl) ∙ ap (λ ws. word ∷ ws) (split-join next words h.1)
 
-space : Ends 32
-space = record { low = omega arith; other = refl }
+words_same : (ws : List (List ℕ)) (v : Verb) (rest : List (List ℕ)) → ws ≡ verb_word v ∷ rest → AreWordsOf (fields v) rest → slice_split (λ b. eqb b 32) (join_with_byte 32 ws) ≡ ws
+words_same ws v rest e h = ap (λ t. slice_split (λ b. eqb b 32) (join_with_byte 32 t)) e ∙ split-join (verb_word v) rest (verb_each v, each_of (fields v) rest h) ∙ sym e
 
 -- the words of a line, from its text
 pub words-again : (line : Line) → IsLine line → slice_split (λ b. eqb b 32) (line_body line) ≡ line_words line
-words-again (Happens (Put s m f b)) fits = split-join 32 _ _ (line_words-lack 32 (Happens (Put s m f b)) space fits)
-words-again (Happens (Deliver n)) fits = split-join 32 _ _ (line_words-lack 32 (Happens (Deliver n)) space fits)
-words-again (Happens (Lose n)) fits = split-join 32 _ _ (line_words-lack 32 (Happens (Lose n)) space fits)
-words-again (Happens (Repeat n)) fits = split-join 32 _ _ (line_words-lack 32 (Happens (Repeat n)) space fits)
-words-again (Show f) fits = split-join 32 _ _ (line_words-lack 32 (Show f) space fits)
+words-again line h = let t = tabled line h in words_same (line_words line) t.verb t.rest t.words_are t.each
 
 pub text-again : (text : List ℕ) (line : Line) → slice_split (λ b. eqb b 32) text ≡ line_words line → text ≡ line_body line
 text-again text line e = sym (join_with_byte-slice_split 32 text) ∙ ap (join_with_byte 32) e
 
+-- a text whose words have a fault is no line
+pub no_line : (text : List ℕ) (f : Fault) → IsWordsCause (words_in text) f → (line : Line) → IsLine line → text ≡ line_body line → ⊥
+no_line text f cause line h e =
+    let P : List (List ℕ) → Type 0 = λ ws. IsWordsCause ws f in
+    no_words_cause line f h (subst P (ap (slice_split (λ b. eqb b 32)) e ∙ words-again line h) cause)
+
 -- no line has more than five words
-pub all_words : (line : Line) → take 6 (line_words line) ≡ line_words line
-all_words (Happens (Put s m f b)) = refl
-all_words (Happens (Deliver n)) = refl
-all_words (Happens (Lose n)) = refl
-all_words (Happens (Repeat n)) = refl
-all_words (Show f) = refl
+few_fields : (v : Verb) → length (fields v) < 5
+few_fields verb.Put = omega arith
+few_fields verb.Tick = omega arith
+few_fields verb.Deliver = omega arith
+few_fields verb.Lose = omega arith
+few_fields verb.Repeat = omega arith
+few_fields verb.Settle = omega arith
+few_fields verb.Quiet = omega arith
+few_fields verb.Trace = omega arith
+few_fields verb.Show = omega arith
 
-few_words : (line : Line) → length (line_words line) < 6
-few_words (Happens (Put s m f b)) = omega arith
-few_words (Happens (Deliver n)) = omega arith
-few_words (Happens (Lose n)) = omega arith
-few_words (Happens (Repeat n)) = omega arith
-few_words (Show f) = omega arith
+take_short : (n : ℕ) (xs : List (List ℕ)) → length (take n xs) < n → take n xs ≡ xs
+take_short zero xs h = absurd (omega arith)
+take_short (suc n) [] h = refl
+take_short (suc n) (x ∷ xs) h = ap (λ ys. x ∷ ys) (take_short n xs (omega arith))
 
-take_short : (n : ℕ) (xs ys : List (List ℕ)) → take n xs ≡ ys → length ys < n → xs ≡ ys
-take_short zero xs ys e h = absurd (omega arith)
-take_short (suc n) [] ys e h = e
-take_short (suc n) (x ∷ xs) [] e h = absurd (let m = ap length e in omega arith)
-take_short (suc n) (x ∷ xs) (y ∷ ys) e h =
-    let first : x ≡ y = cc in
-    let more : take n xs ≡ ys = cc in
-    let rest : xs ≡ ys = take_short n xs ys more (omega arith) in
-    cc
+few_words : (line : Line) → IsLine line → length (line_words line) < 6
+few_words line h =
+    let t = tabled line h in
+    let n = same_count (fields t.verb) t.rest t.each in
+    let m = few_fields t.verb in
+    let e = ap length t.words_are in
+    omega arith
 
 -- words whose first six are those of a line are no more
-pub no_more : (line : Line) (words : List (List ℕ)) → take 6 words ≡ line_words line → words ≡ line_words line
-no_more line words e = take_short 6 words (line_words line) e (few_words line)
+pub no_more : (line : Line) (words : List (List ℕ)) → IsLine line → take 6 words ≡ line_words line → words ≡ line_words line
+no_more line words h e = let n = few_words line h in let m = ap length e in sym (take_short 6 words (omega arith)) ∙ e
+
+rest_cause : (v : Verb) (words : List (List ℕ)) (f : Fault) → IsRestCause v (take 5 words) f → IsRestCause v words f
+rest_cause v words f (inl b) =
+    inl (
+      λ h. let few = few_fields v in let n = h.count in
+          let same : take 5 words ≡ words = take_all 5 words (omega arith) in
+          let P : List (List ℕ) → Type 0 = AreCounted v in b.0 (subst P (sym same) h),
+      b.1,
+    )
+rest_cause v words f (inr b) =
+    let counted = b.0 in
+    let few = few_fields v in
+    let n = counted.count in
+    let P : List (List ℕ) → Type 0 = λ ws. IsRestCause v ws f in
+    subst P (take_short 5 words (omega arith)) (inr b)
+
+-- a fault of the first six words is one of all
+pub words_cause : (words : List (List ℕ)) (f : Fault) → IsWordsCause (take 6 words) f → IsWordsCause words f
+words_cause [] f h = h
+words_cause (word ∷ words) f (inl h) = inl h
+words_cause (word ∷ words) f (inr h) = inr (h.0, h.1, rest_cause h.0 words f h.2)
+
+-- a line's bytes, and how many
+abbrev room : List Field → ℕ
+room [] = 0
+room (field ∷ fs) = 1 + most field + room fs
+
+body_short : (word : List ℕ) (fs : List Field) (words : List (List ℕ)) → AreWordsOf fs words → length (join_with_byte 32 (word ∷ words)) ≤ length word + room fs
+body_short word [] [] h = omega arith
+body_short word [] (next ∷ words) h = absurd h
+body_short word (field ∷ fs) [] h = absurd h
+body_short word (field ∷ fs) (next ∷ words) h =
+    let few = word_few field next h.0 in
+    let more = body_short next fs words h.1 in
+    let e = length-append word (32 ∷ join_with_byte 32 (next ∷ words)) in
+    omega arith
+
+room_short : (v : Verb) → length (verb_word v) + room (fields v) ≤ 70000
+room_short verb.Put = omega arith
+room_short verb.Tick = omega arith
+room_short verb.Deliver = omega arith
+room_short verb.Lose = omega arith
+room_short verb.Repeat = omega arith
+room_short verb.Settle = omega arith
+room_short verb.Quiet = omega arith
+room_short verb.Trace = omega arith
+room_short verb.Show = omega arith
+
+-- no line is longer than any may be
+pub line_short : (line : Line) → IsLine line → length (line_body line) ≤ 70000
+line_short line h =
+    let t = tabled line h in
+    let P : List (List ℕ) → Type 0 = λ ws. length (join_with_byte 32 ws) ≤ 70000 in
+    let short = body_short (verb_word t.verb) (fields t.verb) t.rest t.each in
+    let most = room_short t.verb in
+    subst P (sym t.words_are) (omega arith)
+
+printable : (word : List ℕ) → All IsWordByte word → All IsPrintable word
+printable word h = All-weaker IsWordByte IsPrintable (λ b p. let low = p.0 in let high = p.1 in (omega arith, omega arith)) word h
+
+join_printable : (words : List (List ℕ)) → AllByRecursion (All IsWordByte) words → All IsPrintable (join_with_byte 32 words)
+join_printable [] h = All-nil IsPrintable
+join_printable (word ∷ []) h = printable word h.0
+join_printable (word ∷ next ∷ words) h =
+    All-append IsPrintable word (32 ∷ join_with_byte 32 (next ∷ words)) (printable word h.0)
+    (All-cons IsPrintable 32 (join_with_byte 32 (next ∷ words)) (omega arith, omega arith) (join_printable (next ∷ words) h.1))
+
+-- a line is printable
+pub line_printable : (line : Line) → IsLine line → All IsPrintable (line_body line)
+line_printable line h =
+    let t = tabled line h in
+    let P : List (List ℕ) → Type 0 = λ ws. All IsPrintable (join_with_byte 32 ws) in
+    subst P (sym t.words_are) (join_printable (verb_word t.verb ∷ t.rest) (verb_each t.verb, each_of (fields t.verb) t.rest t.each))

@@ -1,3 +1,7 @@
+pub mod Cause
+pub mod Fault
+pub mod Fields
 pub mod Line
+pub mod Quiet
 pub mod Schedule
 pub mod Status

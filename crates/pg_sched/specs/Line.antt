@@ -6,9 +6,11 @@ use Rattle.pg_base.specs.declared.id.Kind.TheVariants.{File}
 use Rattle.pg_base.specs.declared.id.FileId.{FileId}
 use Rattle.pg_base.specs.Id as id
 use Rattle.pg_sched.specs.declared.line.Event.{Event}
-use Rattle.pg_sched.specs.declared.line.Event.TheVariants.{Put, Deliver, Lose, Repeat}
+use Rattle.pg_sched.specs.declared.line.Event.TheVariants.{Put, Tick, Deliver, Lose, Repeat}
+use Rattle.pg_sched.specs.declared.line.Form.{Form}
+use Rattle.pg_sched.specs.declared.line.Form.TheVariants.{Full, Short}
 use Rattle.pg_sched.specs.declared.line.Line.{Line}
-use Rattle.pg_sched.specs.declared.line.Line.TheVariants.{Happens, Show}
+use Rattle.pg_sched.specs.declared.line.Line.TheVariants.{Happens, Settle, Show, Quiet, Trace}
 
 -- bytes as pairs of hexadecimal digits, or a dash for none
 abbrev pub hex_word : List ℕ → List ℕ
@@ -19,8 +21,17 @@ hex_word (b ∷ bs) = encode_lower (b ∷ bs)
 abbrev pub put_words : List ℕ → List ℕ → List ℕ → List ℕ → List (List ℕ)
 put_words server moment file body = codes "put" ∷ server ∷ moment ∷ file ∷ body ∷ []
 
+-- the words of a tick whose words after the verb are these
+abbrev pub tick_words : List ℕ → List ℕ → List ℕ → List (List ℕ)
+tick_words server moment word = codes "tick" ∷ server ∷ moment ∷ word ∷ []
+
+-- the words of a settling whose words after the verb are these
+abbrev pub settle_words : List ℕ → List ℕ → List (List ℕ)
+settle_words rounds moment = codes "settle" ∷ rounds ∷ moment ∷ []
+
 abbrev pub event_words : Event → List (List ℕ)
 event_words (Put server moment file body) = put_words (decimal server) (decimal moment) (id.spelling file) (hex_word body)
+event_words (Tick server moment word) = tick_words (decimal server) (decimal moment) (decimal word)
 event_words (Deliver place) = codes "deliver" ∷ decimal place ∷ []
 event_words (Lose place) = codes "lose" ∷ decimal place ∷ []
 event_words (Repeat place) = codes "repeat" ∷ decimal place ∷ []
@@ -29,9 +40,16 @@ event_words (Repeat place) = codes "repeat" ∷ decimal place ∷ []
 abbrev pub event_body : Event → List ℕ
 event_body event = join_with_byte 32 (event_words event)
 
+abbrev pub form_word : Form → List ℕ
+form_word Full = codes "full"
+form_word Short = codes "short"
+
 abbrev pub line_words : Line → List (List ℕ)
 line_words (Happens event) = event_words event
+line_words (Settle rounds moment) = settle_words (decimal rounds) (decimal moment)
 line_words (Show file) = codes "show" ∷ id.spelling file ∷ []
+line_words Quiet = codes "quiet" ∷ []
+line_words (Trace form) = codes "trace" ∷ form_word form ∷ []
 
 -- the words with a space between two of them
 abbrev pub line_body : Line → List ℕ
@@ -49,6 +67,7 @@ pub record IsBody (body : List ℕ) : Type 0 where
 
 abbrev pub IsEvent : Event → Type 0
 IsEvent (Put server moment file body) = (server < 2 ^ 32) × (moment < 2 ^ 64) × IsFile file × IsBody body
+IsEvent (Tick server moment word) = (server < 2 ^ 32) × (moment < 2 ^ 64) × (word < 2 ^ 64)
 IsEvent (Deliver place) = place < 2 ^ 64
 IsEvent (Lose place) = place < 2 ^ 64
 IsEvent (Repeat place) = place < 2 ^ 64
@@ -56,4 +75,7 @@ IsEvent (Repeat place) = place < 2 ^ 64
 -- what has a spelling
 abbrev pub IsLine : Line → Type 0
 IsLine (Happens event) = IsEvent event
+IsLine (Settle rounds moment) = (rounds < 2 ^ 32) × (moment < 2 ^ 64)
 IsLine (Show file) = IsFile file
+IsLine Quiet = Unit {0}
+IsLine (Trace form) = Unit {0}

@@ -1,50 +1,8 @@
 //! What a run's journal says of one event.
 
-ghost use Rattle.std.specs.Prelude.{◌≡◌, IfOk};
-
 use crate::line::Event;
-use pg_base::{FileId, Items, NodeId, Stamp, Version};
-use std::alloc::AllocError;
-
-/// A version of a file that was made.
-#[derive(Debug, Drop)]
-pub struct Update {
-    pub file: FileId,
-    pub version: Version,
-}
-
-impl Update {
-    /// The same update again.
-    pub fn copy(&self) -> Result<Update, AllocError>
-        ensures { IfOk result (λ u. u ≡ self.now) }
-    {
-        Ok(Update {
-            file: self.file,
-            version: self.version.copy()?,
-        })
-    }
-}
-
-/// A version of a file on its way to a server.
-#[derive(Debug, Drop)]
-pub struct Message {
-    pub to: NodeId,
-    pub file: FileId,
-    pub version: Version,
-}
-
-impl Message {
-    /// The same message again.
-    pub fn copy(&self) -> Result<Message, AllocError>
-        ensures { IfOk result (λ m. m ≡ self.now) }
-    {
-        Ok(Message {
-            to: self.to,
-            file: self.file,
-            version: self.version.copy()?,
-        })
-    }
-}
+use pg_base::{Items, Stamp};
+use pg_msg::{Sent, Update};
 
 /// Why a server refuses what a client asks for.
 #[derive(Clone, Copy, Debug, PartialEq, Eq)]
@@ -56,6 +14,8 @@ pub enum Refusal {
 /// What a client is told.
 #[derive(Clone, Copy, Debug, PartialEq, Eq)]
 pub enum Reply {
+    /// It was done.
+    Done,
     /// The version with this stamp was made.
     Wrote(Stamp),
     Refused(Refusal),
@@ -78,5 +38,5 @@ pub struct Entry {
     pub void: Option<VoidCause>,
     pub reply: Option<Reply>,
     pub made: Items<Update>,
-    pub sent: Items<Message>,
+    pub sent: Items<Sent>,
 }

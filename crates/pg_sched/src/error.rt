@@ -1,16 +1,32 @@
 //! Why a line could not be read.
 
 ghost use Rattle.std.specs.Prelude.{◌≡◌};
-ghost use Rattle.pg_sched.specs.declared.error.LineError.TheVariants.{OutOfMemory};
+ghost use Rattle.pg_sched.specs.declared.error.LineError.TheVariants.{OutOfMemory, Bad};
+ghost use Rattle.pg_sched.specs.declared.error.ReadError.TheVariants as read;
+ghost use Rattle.pg_sched.specs.declared.fault.Fault.{Fault};
 
+use crate::fault::Fault;
 use std::alloc::{AllocError, AllocFailed};
 use thiserror::Error;
 
 #[derive(Clone, Copy, Debug, PartialEq, Eq)]
 pub(crate) enum LineError {
     OutOfMemory,
-    /// The line is outside the grammar.
-    Bad,
+    /// The line is outside the grammar, for this cause.
+    Bad(Fault),
+}
+
+impl LineError {
+    /// The same of the line with this number.
+    pub(crate) fn at(self, number: u64) -> ReadError
+        ensures memory { self ≡ OutOfMemory → result ≡ read.OutOfMemory }
+        ensures bad { (f : Fault) → self ≡ Bad f → result ≡ read.BadLine number f }
+    {
+        match self {
+            LineError::OutOfMemory => ReadError::OutOfMemory,
+            LineError::Bad(fault) => ReadError::BadLine(number, fault),
+        }
+    }
 }
 
 impl From<AllocError> for LineError {
@@ -34,9 +50,9 @@ impl<T: Drop> From<AllocFailed<T>> for LineError {
 pub enum ReadError {
     #[error("out of memory")]
     OutOfMemory,
-    /// The first line outside the grammar, by its number. The first line has number 1.
-    #[error("line {0}")]
-    BadLine(u64),
+    /// The first line outside the grammar, by its number, and why it is. The first line has number 1.
+    #[error("line {0}: {1}")]
+    BadLine(u64, Fault),
 }
 
 impl From<AllocError> for ReadError {

@@ -3,16 +3,22 @@
 
 mod entry;
 mod error;
+mod fault;
 mod leaves;
 mod line;
+mod quiet;
 mod reading;
 mod schedule;
 mod status;
 mod text;
+mod verb;
 
-pub use entry::{Entry, Message, Refusal, Reply, Update, VoidCause};
+pub use entry::{Entry, Refusal, Reply, VoidCause};
 pub use error::ReadError;
-pub use line::{Event, Line, MOST_BYTES};
+pub use fault::Fault;
+pub use line::{Event, Form, Line, MOST_BYTES};
+pub use quiet::{Cause, Owing, Quiet};
+pub use reading::read_line;
 pub use schedule::{Schedule, one_spelling, read, write};
 pub use status::Status;
 pub use text::HexWord;

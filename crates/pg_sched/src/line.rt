@@ -17,6 +17,12 @@ pub enum Event {
         file: FileId,
         body: SharedBytes,
     },
+    /// A server sends again what is not acknowledged. The word is a random one.
+    Tick {
+        server: NodeId,
+        moment: u64,
+        word: u64,
+    },
     /// The message with this number in the bag arrives. Messages are counted from 1, in order of sending.
     Deliver(u64),
     /// It is lost.
@@ -42,6 +48,15 @@ impl Event {
                 file: *file,
                 body: body.copy()?,
             }),
+            Event::Tick {
+                server,
+                moment,
+                word,
+            } => Ok(Event::Tick {
+                server: *server,
+                moment: *moment,
+                word: *word,
+            }),
             Event::Deliver(place) => Ok(Event::Deliver(*place)),
             Event::Lose(place) => Ok(Event::Lose(*place)),
             Event::Repeat(place) => Ok(Event::Repeat(*place)),
@@ -66,9 +81,37 @@ impl fmt::Display for Event {
                 let word = HexWord(body.as_slice());
                 write!(f, "put {server} {moment} {file} {word}")
             }
+            Event::Tick {
+                server,
+                moment,
+                word,
+            } => write!(f, "tick {server} {moment} {word}"),
             Event::Deliver(place) => write!(f, "deliver {place}"),
             Event::Lose(place) => write!(f, "lose {place}"),
             Event::Repeat(place) => write!(f, "repeat {place}"),
+        }
+    }
+}
+
+/// How much a journal says.
+#[derive(Clone, Copy, Debug, PartialEq, Eq)]
+pub enum Form {
+    /// Each event, what it made and what it sent.
+    Full,
+    /// Only what clients are told, and what lines ask for.
+    Short,
+}
+
+impl fmt::Display for Form {
+    ghost use Rattle.std.specs.Prelude.{Some};
+    ghost use Rattle.pg_sched.specs.Line.{form_word};
+
+    ghost output = { λ w. Some (form_word w) };
+
+    fn fmt<W: fmt::Write>(&self, f: &mut fmt::Formatter<W>) -> fmt::Result {
+        match self {
+            Form::Full => f.write_str("full"),
+            Form::Short => f.write_str("short"),
         }
     }
 }
@@ -78,6 +121,12 @@ impl fmt::Display for Event {
 pub enum Line {
     /// Something happens.
     Happens(Event),
+    /// Messages are delivered and servers tick until all is done, for at most so many rounds, each tick at this moment.
+    Settle { rounds: u32, moment: u64 },
+    /// Whether all is done is to be told.
+    Quiet,
+    /// The journal has this form from the next line on.
+    Trace(Form),
     /// Each server's replica of a file is to be shown.
     Show(FileId),
 }
@@ -91,6 +140,9 @@ impl fmt::Display for Line {
     fn fmt<W: fmt::Write>(&self, f: &mut fmt::Formatter<W>) -> fmt::Result {
         match self {
             Line::Happens(event) => write!(f, "{event}"),
+            Line::Settle { rounds, moment } => write!(f, "settle {rounds} {moment}"),
+            Line::Quiet => f.write_str("quiet"),
+            Line::Trace(form) => write!(f, "trace {form}"),
             Line::Show(file) => write!(f, "show {file}"),
         }
     }

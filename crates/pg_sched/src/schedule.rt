@@ -1,16 +1,25 @@
 //! A whole schedule.
 
-ghost use Rattle.std.specs.Prelude.{◌≡◌, ◌≢◌, ◌++◌, ◌+◌, ◌<◌, ℕ, List, [], IfOk, IfErr, IsErrOf, IsErrAnd, MatchResult, ◌⊎◌, OnOk, length, IfSome, IfNone};
-ghost use Rattle.pg_sched.specs.Schedule.{spelling, header, line_text, lines_text, IsCount, AreLines, LacksLine, LacksHeader, StopsAfter, IsFirstBad};
+ghost use Rattle.std.specs.Prelude.{◌≡◌, ◌++◌, ◌∷◌, ◌+◌, ◌<◌, ◌≤◌, ℕ, List, All, IfOk, IfErr, IsErrAnd, MatchResult, ◌⊎◌, OnOk, OnErr, length, IfSome, IfNone, decimal, codes};
+ghost use Rattle.pg_sched.specs.Cause.{Unless, IsPrintable, IsCutCause, IsCause};
+ghost use Rattle.pg_sched.specs.Schedule.{spelling, header, line_text, lines_text, IsCount, AreLines, LacksHeader, StopsAfter, IsFirstBad};
 ghost use Rattle.pg_sched.specs.Line.{IsLine};
+ghost use Rattle.pg_sched.specs.declared.error.LineError.TheVariants.{Bad};
 ghost use Rattle.pg_sched.specs.declared.error.ReadError.TheVariants.{BadLine, OutOfMemory};
+ghost use Rattle.pg_sched.specs.declared.fault.Fault.{Fault};
+ghost use Rattle.pg_sched.specs.declared.fault.Fault.TheVariants.{Byte, Long};
 ghost use Rattle.pg_sched.specs.declared.line.Line.{Line};
 
 use crate::error::{LineError, ReadError};
+use crate::fault::Fault;
+use crate::leaves::are_printable;
 use crate::line::Line;
-use crate::reading::read_line;
+use crate::reading::spelled_line;
 use pg_base::{Bytes, Items, cut_at, number_u32};
 use std::alloc::{AllocError, Global};
+
+/// The most bytes that a line has, its line feed not counted.
+const MOST_IN_LINE: usize = 70_000;
 
 /// The servers of a run, and what happens in it.
 #[derive(Debug, Drop)]
@@ -19,45 +28,95 @@ pub struct Schedule {
     pub lines: Items<Line>,
 }
 
+/// Whether the bytes can be a line at all, its line feed not counted.
+fn check(line: &[u8]) -> Result<(), Fault>
+    ensures printable { OnOk result (All IsPrintable line.now) }
+    ensures short { OnOk result (length line.now ≤ 70000) }
+    ensures bad { IfErr result (λ f. Unless (All IsPrintable line.now) (f ≡ Byte) ((70000 < length line.now) × (f ≡ Long))) }
+{
+    if !are_printable(line) {
+        return Err(Fault::Byte);
+    }
+    if line.len() > MOST_IN_LINE {
+        return Err(Fault::Long);
+    }
+    Ok(())
+}
+
+/// The first line of a text, and what stands behind it.
+fn cut_line(text: &[u8]) -> Result<(&[u8], &[u8]), Fault>
+    requires some { 0 < length text.now }
+    ensures whole { IfOk result (λ x. text.now ≡ x.0.now ++ 10 ∷ x.1.now) }
+    ensures first { IfOk result (λ x. All IsPrintable x.0.now) }
+    ensures short { IfOk result (λ x. length x.0.now ≤ 70000) }
+    ensures bad { IfErr result (λ f. IsCutCause text.now f) }
+{
+    match cut_at(text, b'\n') {
+        Some((line, rest)) => {
+            check(line)?;
+            Ok((line, rest))
+        }
+        None => {
+            check(text)?;
+            Err(Fault::End)
+        }
+    }
+}
+
 /// The line at the front of a text, and what stands behind it.
 fn first_line(alloc: Global, text: &[u8]) -> Result<(Line, &[u8]), LineError>
-    requires { 0 < length text.now }
+    requires some { 0 < length text.now }
     ensures found { IfOk result (λ x. IsLine x.0 × (text.now ≡ line_text x.0 ++ x.1.now)) }
-    ensures bad { IsErrOf result LineError.Bad → LacksLine text.now }
+    ensures bad { IfErr result (λ e. (f : Fault) → e ≡ Bad f → (n : ℕ) → 2 ≤ n → IsCause n text.now f) }
 {
-    let Some((line, rest)) = cut_at(text, b'\n') else {
-        return Err(LineError::Bad);
+    let (line, rest) = match cut_line(text) {
+        Ok(cut) => cut,
+        Err(fault) => return Err(LineError::Bad(fault)),
     };
-    let line = read_line(alloc, line)?;
+    let line = spelled_line(alloc, line)?;
     Ok((line, rest))
 }
 
-/// The servers that the first line names, and what stands behind it.
-fn servers_of(text: &[u8]) -> Option<(u32, &[u8])>
-    ensures found { IfSome result (λ x. IsCount x.0 × (text.now ≡ header x.0 ++ x.1.now)) }
-    ensures none { IfNone result (LacksHeader text.now) }
+/// The servers that a first line names.
+fn count_in(line: &[u8]) -> Option<u32>
+    ensures found { IfSome result (λ n. IsCount n × (line.now ≡ codes "pangaea 1 " ++ decimal n)) }
+    ensures none { IfNone result ((n : ℕ) → IsCount n → line.now ≡ codes "pangaea 1 " ++ decimal n → ⊥) }
 {
-    let rest = text.strip_prefix(b"pangaea 1 ")?;
-    let (word, rest) = cut_at(rest, b'\n')?;
+    let word = line.strip_prefix(b"pangaea 1 ")?;
     let servers = number_u32(word)?;
     if servers == 0 || servers > 64 {
         return None;
     }
-    Some((servers, rest))
+    Some(servers)
 }
 
-/// The lines that a text spells. After an error the count is that of the lines before the bad one.
+/// The servers that the first line names, and what stands behind it.
+fn servers_of(text: &[u8]) -> Result<(u32, &[u8]), Fault>
+    ensures found { IfOk result (λ x. IsCount x.0 × (text.now ≡ header x.0 ++ x.1.now)) }
+    ensures none { OnErr result (LacksHeader text.now) }
+    ensures cause { IfErr result (λ f. IsCause 1 text.now f) }
+{
+    if text.is_empty() {
+        return Err(Fault::Header);
+    }
+    let (line, rest) = cut_line(text)?;
+    match count_in(line) {
+        Some(servers) => Ok((servers, rest)),
+        None => Err(Fault::Header),
+    }
+}
+
+/// The lines that a text behind the header spells.
 fn lines_of(alloc: Global, text: &[u8]) -> Result<Vec<Line>, ReadError>
     ensures found { IfOk result (λ v. AreLines v.items × (text.now ≡ lines_text v.items)) }
-    ensures bad { IfErr result (λ e. (n : ℕ) → e ≡ BadLine n → (count : ℕ) × StopsAfter text.now count × (n ≡ count + 2)) }
+    ensures bad { IfErr result (λ e. (n : ℕ) (f : Fault) → e ≡ BadLine n f → (count : ℕ) × StopsAfter text.now count f × (n ≡ count + 2)) }
 {
     let mut lines = Vec::new(alloc);
     let mut rest = text;
     while !rest.is_empty() {
         let (line, after) = match first_line(alloc, rest) {
             Ok(found) => found,
-            Err(LineError::OutOfMemory) => return Err(ReadError::OutOfMemory),
-            Err(LineError::Bad) => return Err(ReadError::BadLine(lines.len() as u64 + 2)),
+            Err(e) => return Err(e.at(lines.len() as u64 + 2)),
         };
         lines.push(line)?;
         rest = after;
@@ -65,15 +124,17 @@ fn lines_of(alloc: Global, text: &[u8]) -> Result<Vec<Line>, ReadError>
     Ok(lines)
 }
 
-/// The schedule that the text spells.
+/// The schedule that the text spells, or its first bad line and why that is bad. Want of memory can come in place of
+/// either; only words of good lines, and the first six words of a bad one, take memory.
 pub fn read(alloc: Global, text: &[u8]) -> Result<Schedule, ReadError>
     ensures found { IfOk result (λ s. IsCount s.servers × AreLines s.lines × (text.now ≡ spelling s.servers s.lines)) }
-    ensures bad { IfErr result (λ e. (n : ℕ) → e ≡ BadLine n → IsFirstBad text.now n) }
+    ensures bad { IfErr result (λ e. (n : ℕ) (f : Fault) → e ≡ BadLine n f → IsFirstBad text.now n f) }
     ensures complete { (servers : ℕ) (lines : List Line) → IsCount servers → AreLines lines → text.now ≡ spelling servers lines → MatchResult result (λ s. (s.servers ≡ servers) × (s.lines ≡ lines)) (λ e. e ≡ OutOfMemory) }
-    ensures first { (n : ℕ) → IsFirstBad text.now n → IsErrAnd result (λ e. (e ≡ BadLine n) ⊎ (e ≡ OutOfMemory)) }
+    ensures first { (n : ℕ) (f : Fault) → IsFirstBad text.now n f → IsErrAnd result (λ e. (e ≡ BadLine n f) ⊎ (e ≡ OutOfMemory)) }
 {
-    let Some((servers, rest)) = servers_of(text) else {
-        return Err(ReadError::BadLine(1));
+    let (servers, rest) = match servers_of(text) {
+        Ok(found) => found,
+        Err(fault) => return Err(ReadError::BadLine(1, fault)),
     };
     let lines = lines_of(alloc, rest)?;
     Ok(Schedule {

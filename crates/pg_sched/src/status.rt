@@ -3,6 +3,7 @@
 ghost use Rattle.std.specs.Prelude.{◌≡◌};
 ghost use Rattle.pg_sched.specs.Status.{number_of};
 
+use crate::fault::Fault;
 use std::fmt;
 
 /// How a command ends.
@@ -18,8 +19,8 @@ pub enum Status {
     WriteFault,
     /// The input has more than 2^26 bytes.
     InputLong,
-    /// The line with this number is the first outside the grammar. The first line has number 1.
-    BadLine(u64),
+    /// The line with this number is the first outside the grammar, for this cause. The first line has number 1.
+    BadLine(u64, Fault),
     OutOfMemory,
 }
 
@@ -34,7 +35,7 @@ impl Status {
             Status::ReadFault => 3,
             Status::WriteFault => 4,
             Status::InputLong => 8,
-            Status::BadLine(_) => 9,
+            Status::BadLine(_, _) => 9,
             Status::OutOfMemory => 13,
         }
     }
@@ -53,7 +54,7 @@ impl fmt::Display for Status {
             Status::ReadFault => write!(f, "read fault"),
             Status::WriteFault => write!(f, "write fault"),
             Status::InputLong => write!(f, "input too long"),
-            Status::BadLine(line) => write!(f, "line {line}"),
+            Status::BadLine(line, fault) => write!(f, "line {line}: {fault}"),
             Status::OutOfMemory => write!(f, "out of memory"),
         }
     }

@@ -1,14 +1,14 @@
 //! That the grammar is the one that is meant, and that each call that takes memory succeeds where there is enough.
 
 use super::*;
-use pg_base::{Bytes, FileId, Items, Kind, SharedBytes, Stamp, Version};
+use pg_base::{Bytes, FileId, Kind, SharedBytes};
 use std::alloc::Global;
 use std::test::Fail;
 
-/// The number of the first bad line, where the text has one.
-fn bad_line(alloc: Global, text: &[u8]) -> Option<u64> {
+/// The number of the first bad line and why it is bad, where the text has one.
+fn bad_line(alloc: Global, text: &[u8]) -> Option<(u64, Fault)> {
     match read(alloc, text) {
-        Err(ReadError::BadLine(line)) => Some(line),
+        Err(ReadError::BadLine(line, fault)) => Some((line, fault)),
         _ => None,
     }
 }
@@ -16,36 +16,135 @@ fn bad_line(alloc: Global, text: &[u8]) -> Option<u64> {
 #[test]
 fn names_the_first_bad_line(rt: HostRuntime) {
     let table = [
-        (b"".as_slice(), 1),
-        (b"pangaea 1 1".as_slice(), 1),
-        (b"pangaea 1 0\n".as_slice(), 1),
-        (b"pangaea 1 65\n".as_slice(), 1),
-        (b"pangaea 1 01\n".as_slice(), 1),
-        (b"pangaea 1 2 \n".as_slice(), 1),
-        (b"pangaea 2 2\n".as_slice(), 1),
-        (b"pangaea 1 2\n\n".as_slice(), 2),
-        (b"pangaea 1 2\nshow f1.1".as_slice(), 2),
-        (b"pangaea 1 2\nshow d1.1\n".as_slice(), 2),
-        (b"pangaea 1 2\nshow f1.1\nshow f1.1\r\n".as_slice(), 3),
-        (b"pangaea 1 2\ndeliver 1\ndeliver 01\n".as_slice(), 3),
-        (b"pangaea 1 2\ndeliver +1\n".as_slice(), 2),
-        (b"pangaea 1 2\ndeliver\n".as_slice(), 2),
-        (b"pangaea 1 2\ndeliver 1 \n".as_slice(), 2),
-        (b"pangaea 1 2\ndeliver  1\n".as_slice(), 2),
-        (b"pangaea 1 2\n deliver 1\n".as_slice(), 2),
-        (b"pangaea 1 2\ndeliver 18446744073709551616\n".as_slice(), 2),
-        (b"pangaea 1 2\nDeliver 1\n".as_slice(), 2),
-        (b"pangaea 1 2\nput 1 1 f1.1 616\n".as_slice(), 2),
-        (b"pangaea 1 2\nput 1 1 f1.1 6A\n".as_slice(), 2),
-        (b"pangaea 1 2\nput 1 1 f1.1 \n".as_slice(), 2),
-        (b"pangaea 1 2\nput 1 1 f1.1\n".as_slice(), 2),
-        (b"pangaea 1 2\nput 4294967296 1 f1.1 -\n".as_slice(), 2),
-        (b"pangaea 1 2\nput 1 1 f1.1 61 62\n".as_slice(), 2),
-        (b"pangaea 1 2\nlose 1\nrepeat \xc2\xb9\n".as_slice(), 3),
+        (b"".as_slice(), 1, Fault::Header),
+        (b"\n".as_slice(), 1, Fault::Header),
+        (b"pangaea 1 1".as_slice(), 1, Fault::End),
+        (b"pangaea 1 0\n".as_slice(), 1, Fault::Header),
+        (b"pangaea 1 65\n".as_slice(), 1, Fault::Header),
+        (b"pangaea 1 01\n".as_slice(), 1, Fault::Header),
+        (b"pangaea 1 2 \n".as_slice(), 1, Fault::Header),
+        (b"pangaea 2 2\n".as_slice(), 1, Fault::Header),
+        (b"pangaea 1 2\t".as_slice(), 1, Fault::Byte),
+        (b"pangaea 1 1\nmkdir /a\n".as_slice(), 2, Fault::Verb),
+        (b"pangaea 1 2\n\n".as_slice(), 2, Fault::Verb),
+        (b"pangaea 1 2\n deliver 1\n".as_slice(), 2, Fault::Verb),
+        (b"pangaea 1 2\nDeliver 1\n".as_slice(), 2, Fault::Verb),
+        (b"pangaea 1 2\nshow f1.1".as_slice(), 2, Fault::End),
+        (
+            b"pangaea 1 2\nshow f1.1\nshow f1.1\r\n".as_slice(),
+            3,
+            Fault::Byte,
+        ),
+        (
+            b"pangaea 1 2\nlose 1\nrepeat \xc2\xb9\n".as_slice(),
+            3,
+            Fault::Byte,
+        ),
+        (b"pangaea 1 2\nlose \x7f".as_slice(), 2, Fault::Byte),
+        (b"pangaea 1 2\ndeliver\n".as_slice(), 2, Fault::Words),
+        (b"pangaea 1 2\ndeliver 1 \n".as_slice(), 2, Fault::Words),
+        (b"pangaea 1 2\ndeliver  1\n".as_slice(), 2, Fault::Words),
+        (b"pangaea 1 2\nput 1 1 f1.1 \n".as_slice(), 2, Fault::Words),
+        (b"pangaea 1 2\nput 1 1 f1.1\n".as_slice(), 2, Fault::Words),
+        (
+            b"pangaea 1 2\nput 1 1 f1.1 61 62\n".as_slice(),
+            2,
+            Fault::Words,
+        ),
+        (
+            b"pangaea 1 2\nput x x x x x x x x\n".as_slice(),
+            2,
+            Fault::Words,
+        ),
+        (b"pangaea 1 2\nquiet \n".as_slice(), 2, Fault::Words),
+        (b"pangaea 1 2\nquiet 1\n".as_slice(), 2, Fault::Words),
+        (b"pangaea 1 2\ntick 1 1\n".as_slice(), 2, Fault::Words),
+        (b"pangaea 1 2\nsettle 1\n".as_slice(), 2, Fault::Words),
+        (
+            b"pangaea 1 2\ndeliver 1\ndeliver 01\n".as_slice(),
+            3,
+            Fault::Number,
+        ),
+        (b"pangaea 1 2\ndeliver +1\n".as_slice(), 2, Fault::Number),
+        (
+            b"pangaea 1 2\ndeliver 18446744073709551616\n".as_slice(),
+            2,
+            Fault::Number,
+        ),
+        (
+            b"pangaea 1 2\nput 4294967296 1 f1.1 -\n".as_slice(),
+            2,
+            Fault::Number,
+        ),
+        (
+            b"pangaea 1 2\ntick 4294967296 1 1\n".as_slice(),
+            2,
+            Fault::Number,
+        ),
+        (
+            b"pangaea 1 2\nsettle 4294967296 1\n".as_slice(),
+            2,
+            Fault::Number,
+        ),
+        (
+            b"pangaea 1 2\nput x y f1.1 6A\n".as_slice(),
+            2,
+            Fault::Number,
+        ),
+        (b"pangaea 1 2\nput 1 1 d1.1 6A\n".as_slice(), 2, Fault::Id),
+        (b"pangaea 1 2\nshow d1.1\n".as_slice(), 2, Fault::Id),
+        (b"pangaea 1 2\nshow g1.1\n".as_slice(), 2, Fault::Id),
+        (
+            b"pangaea 1 2\nshow f4294967296.1\n".as_slice(),
+            2,
+            Fault::Id,
+        ),
+        (b"pangaea 1 2\nput 1 1 f1.1 616\n".as_slice(), 2, Fault::Hex),
+        (b"pangaea 1 2\nput 1 1 f1.1 6A\n".as_slice(), 2, Fault::Hex),
+        (b"pangaea 1 2\nput 1 1 f1.1 --\n".as_slice(), 2, Fault::Hex),
+        (b"pangaea 1 2\ntrace on\n".as_slice(), 2, Fault::Mode),
     ];
-    for (text, line) in table {
-        assert_eq!(rt; bad_line(rt.alloc(), text), Some(line), "at {text:?}");
+    for (text, line, fault) in table {
+        assert_eq!(rt;
+            bad_line(rt.alloc(), text),
+            Some((line, fault)),
+            "at {text:?}"
+        );
     }
+}
+
+/// A schedule whose second line has so many bytes, and is nothing but spaces.
+fn spaces(alloc: Global, bytes: usize) -> Result<Bytes, Fail> {
+    let mut text = Bytes::from_slice(alloc, b"pangaea 1 1\n")?;
+    for _ in 0..bytes {
+        text.push(b' ')?;
+    }
+    Ok(text)
+}
+
+#[test]
+fn lines_have_a_limit(rt: HostRuntime) -> Result<(), Fail> {
+    let mut most = spaces(rt.alloc(), 70_000)?;
+    assert_eq!(rt;
+        bad_line(rt.alloc(), most.as_slice()),
+        Some((2, Fault::End))
+    );
+    most.push(b'\n')?;
+    assert_eq!(rt;
+        bad_line(rt.alloc(), most.as_slice()),
+        Some((2, Fault::Verb))
+    );
+    let mut more = spaces(rt.alloc(), 70_001)?;
+    assert_eq!(rt;
+        bad_line(rt.alloc(), more.as_slice()),
+        Some((2, Fault::Long))
+    );
+    more.push(b'\t')?;
+    assert_eq!(rt;
+        bad_line(rt.alloc(), more.as_slice()),
+        Some((2, Fault::Byte))
+    );
+    Ok(())
 }
 
 /// A schedule of one write of so many bytes.
@@ -63,7 +162,10 @@ fn bodies_have_a_limit(rt: HostRuntime) -> Result<(), Fail> {
     let most = one_write(rt.alloc(), MOST_BYTES)?;
     assert!(rt; read(rt.alloc(), most.as_slice()).is_ok());
     let more = one_write(rt.alloc(), MOST_BYTES + 1)?;
-    assert_eq!(rt; bad_line(rt.alloc(), more.as_slice()), Some(2));
+    assert_eq!(rt;
+        bad_line(rt.alloc(), more.as_slice()),
+        Some((2, Fault::Hex))
+    );
     Ok(())
 }
 
@@ -71,13 +173,53 @@ fn bodies_have_a_limit(rt: HostRuntime) -> Result<(), Fail> {
 fn reads_what_it_writes(rt: HostRuntime) -> Result<(), Fail> {
     let table = [
         b"pangaea 1 1\n".as_slice(),
-        b"pangaea 1 64\nput 1 40 f1.1 61ff00\nput 4294967295 18446744073709551615 f0.0 -\ndeliver 1\nlose 2\nrepeat 3\nshow f1.1\n".as_slice(),
+        b"pangaea 1 64\nput 1 40 f1.1 61ff00\nput 4294967295 18446744073709551615 f0.0 -\ntick 4294967295 0 18446744073709551615\ndeliver 1\nlose 2\nrepeat 3\nsettle 4294967295 18446744073709551615\nquiet\ntrace full\ntrace short\nshow f4294967295.18446744073709551615\n".as_slice(),
     ];
     for text in table {
         let schedule = read(rt.alloc(), text)?;
         let mut out = Bytes::new(rt.alloc());
         write(&schedule, &mut out)?;
         assert_eq!(rt; out.as_slice(), text);
+    }
+    Ok(())
+}
+
+#[test]
+fn reads_one_line(rt: HostRuntime) -> Result<(), Fail> {
+    let table = [
+        (b"settle 3 70".as_slice(), true),
+        (b"settle 3 70\n".as_slice(), false),
+        (b"settle 3".as_slice(), false),
+        (b"pangaea 1 1".as_slice(), false),
+        (b"".as_slice(), false),
+    ];
+    for (text, is_line) in table {
+        assert_eq!(rt;
+            read_line(rt.alloc(), text)?.is_some(),
+            is_line,
+            "at {text:?}"
+        );
+    }
+    Ok(())
+}
+
+#[test]
+fn faults_have_their_names(rt: HostRuntime) -> Result<(), Fail> {
+    let table = [
+        (Fault::Byte, "Byte"),
+        (Fault::Long, "Long"),
+        (Fault::End, "End"),
+        (Fault::Header, "Header"),
+        (Fault::Verb, "Verb"),
+        (Fault::Words, "Words"),
+        (Fault::Number, "Number"),
+        (Fault::Id, "Id"),
+        (Fault::Hex, "Hex"),
+        (Fault::Mode, "Mode"),
+    ];
+    for (fault, name) in table {
+        let shown = format!(in rt.alloc(); "{fault}")?;
+        assert_eq!(rt; shown.as_str(), name);
     }
     Ok(())
 }
@@ -97,20 +239,6 @@ fn copies(rt: HostRuntime) -> Result<(), Fail> {
     };
     let text = format!(in rt.alloc(); "{}", event.copy()?)?;
     assert_eq!(rt; text.as_str(), "put 1 5 f1.2 61");
-    let stamp = Stamp { time: 5, server: 1 };
-    let body = SharedBytes::from_slice(rt.alloc(), b"a")?;
-    let update = Update {
-        file,
-        version: Version { stamp, body },
-    };
-    let again = update.copy()?;
-    assert_eq!(rt; again.version.body.as_slice(), b"a".as_slice());
-    let message = Message {
-        to: 2,
-        file,
-        version: again.version,
-    };
-    assert_eq!(rt; message.copy()?.version.stamp, stamp);
     Ok(())
 }
 
@@ -122,7 +250,7 @@ fn statuses_have_their_texts(rt: HostRuntime) -> Result<(), Fail> {
         (Status::ReadFault, 3, "read fault"),
         (Status::WriteFault, 4, "write fault"),
         (Status::InputLong, 8, "input too long"),
-        (Status::BadLine(7), 9, "line 7"),
+        (Status::BadLine(7, Fault::Verb), 9, "line 7: Verb"),
         (Status::OutOfMemory, 13, "out of memory"),
     ];
     for (status, number, text) in table {

@@ -1,4 +1,7 @@
-use Rattle.std.proofs.Common.{◌≡◌, ℕ, List, Option, Some, IfSome, inl, inr, sym, subst, ◌∙◌}
+use Rattle.std.proofs.Common.{◌≡◌, ℕ, List, Option, None, Some, IfSome, inl, inr, sym, subst, ◌∙◌}
+use Rattle.pg_sched.specs.declared.error.ReadError.TheVariants as error
+use Rattle.pg_sched.specs.declared.fault.Fault.{Fault}
+use Rattle.pg_sched.specs.declared.status.Status.TheVariants as status
 use Rattle.pg_sched.specs.Schedule.{IsFirstBad}
 use Rattle.pangaea.proofs.command.replay.Goals as goal
 
@@ -6,21 +9,35 @@ use Rattle.pangaea.proofs.command.replay.Goals as goal
 whole_is : (left : Option (List ℕ)) (read all : List ℕ) → left ≡ Some all → IfSome left (λ bytes. read ≡ bytes) → read ≡ all
 whole_is left read all e h = let P : Option (List ℕ) → Type 0 = (λ o. IfSome o (λ bytes. read ≡ bytes)) in subst P e h
 
-moved : (left : Option (List ℕ)) (read text all : List ℕ) (n : ℕ) → left ≡ Some all → IfSome left (λ bytes. read ≡ bytes) → text ≡ read → IsFirstBad all n → IsFirstBad text n
-moved left read text all n e h same bad = let P : List ℕ → Type 0 = (λ bytes. IsFirstBad bytes n) in subst P (sym (same ∙ whole_is left read all e h)) bad
+moved : (left : Option (List ℕ)) (read text all : List ℕ) (n : ℕ) (f : Fault) → left ≡ Some all → IfSome left (λ bytes. read ≡ bytes) → text ≡ read → IsFirstBad all n f → IsFirstBad text n f
+moved left read text all n f e h same bad = let P : List ℕ → Type 0 = (λ bytes. IsFirstBad bytes n f) in subst P (sym (same ∙ whole_is left read all e h)) bad
+
+-- what is said of the text that was read is said of the input
+of_input : (left : Option (List ℕ)) (read text : List ℕ) (n : ℕ) (f : Fault) → IfSome left (λ bytes. read ≡ bytes) → text ≡ read → IsFirstBad text n f → IfSome left (λ input. IsFirstBad input n f)
+of_input None read text n f h same bad = h
+of_input (Some all) read text n f h same bad = let P : List ℕ → Type 0 = (λ bytes. IsFirstBad bytes n f) in subst P (same ∙ h) bad
+
+same_line : (a n : ℕ) (b f : Fault) → status.BadLine a b ≡ status.BadLine n f → error.BadLine a b ≡ error.BadLine n f
+same_line a n b f e = cc
+
+pub returns-in-BadLine-clause-bad : goal.returns-in-BadLine-clause-bad
+returns-in-BadLine-clause-bad g c = λ n f e.
+    let is = c.in-BadLine.is in
+    of_input (g.S.Source.left c.args.source.now) c.in-Ok.input.items c.deref.result.now n f c.in-Ok.ensures.whole c.deref.ensures.value
+    (c.in-Err-read.ensures.bad n f (is ∙ same_line c.in-BadLine.number n c.in-BadLine.fault f e))
 
 pub returns-in-BadLine-clause-first_bad : goal.returns-in-BadLine-clause-first_bad
-returns-in-BadLine-clause-first_bad g c = λ input n left short bad calm.
+returns-in-BadLine-clause-first_bad g c = λ input n f left short bad calm.
     let is = c.in-BadLine.is in
-    elim (c.in-Err-read.ensures.first n (moved (g.S.Source.left c.args.source.now) c.in-Ok.input.items c.deref.result.now input n left c.in-Ok.ensures.whole c.deref.ensures.value bad)) [
+    elim (c.in-Err-read.ensures.first n f (moved (g.S.Source.left c.args.source.now) c.in-Ok.input.items c.deref.result.now input n f left c.in-Ok.ensures.whole c.deref.ensures.value bad)) [
       | inl e ↦ inl (cc)
       | inr e ↦ absurd (cc)
     ]
 
 pub returns-in-Ok-write_all-clause-first_bad : goal.returns-in-Ok-write_all-clause-first_bad
-returns-in-Ok-write_all-clause-first_bad g c = λ input n left short bad calm.
-    absurd (c.in-Ok-read.ensures.first n (moved (g.S.Source.left c.args.source.now) c.in-Ok.input.items c.deref.result.now input n left c.in-Ok.ensures.whole c.deref.ensures.value bad))
+returns-in-Ok-write_all-clause-first_bad g c = λ input n f left short bad calm.
+    absurd (c.in-Ok-read.ensures.first n f (moved (g.S.Source.left c.args.source.now) c.in-Ok.input.items c.deref.result.now input n f left c.in-Ok.ensures.whole c.deref.ensures.value bad))
 
 pub returns-clause-first_bad : goal.returns-clause-first_bad
-returns-clause-first_bad g c = λ input n left short bad calm.
-    absurd (c.in-Ok-read.ensures.first n (moved (g.S.Source.left c.args.source.now) c.in-Ok.input.items c.deref.result.now input n left c.in-Ok.ensures.whole c.deref.ensures.value bad))
+returns-clause-first_bad g c = λ input n f left short bad calm.
+    absurd (c.in-Ok-read.ensures.first n f (moved (g.S.Source.left c.args.source.now) c.in-Ok.input.items c.deref.result.now input n f left c.in-Ok.ensures.whole c.deref.ensures.value bad))

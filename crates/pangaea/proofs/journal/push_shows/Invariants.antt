@@ -1,5 +1,5 @@
 use Rattle.std.proofs.Common.{◌≡◌, ◌++◌}
-use Rattle.pangaea.specs.Played.{final}
+use Rattle.pg_world.specs.Played.{final}
 use Rattle.pangaea.specs.Text.{shows_text}
 use Rattle.pangaea.proofs.journal.push_shows.Given as goal
 

@@ -7,26 +7,26 @@ use Rattle.pg_sched.proofs.schedule.read.Goals as goal
 pub returns-in_err-lines-clause-complete : goal.returns-in_err-lines-clause-complete
 returns-in_err-lines-clause-complete c n lines count each same =
     let p = err_from_is_err_and c.from_residual.result c.from_residual.ensures.1 in
-    let h = c.in-Some.ensures.found in
-    rw (p.1, p.2) (refused_never c.args.text.now c.in_err-lines.field-0.0 (stops_there c.args.text.now c.in-Some.rest.now c.in-Some.servers c.in_err-lines.field-0.0 h.0 h.1 c.in_err-lines.ensures.bad) n lines count each same)
+    let h = c.in-Ok.ensures.found in
+    rw (p.1, p.2) (refused_never c.args.text.now c.in_err-lines.field-0.0 (stops_there c.args.text.now c.in-Ok.found.1.now c.in-Ok.found.0 c.in_err-lines.field-0.0 h.0 h.1 c.in_err-lines.ensures.bad) n lines count each same)
 
 pub returns-in_err-lines-clause-first : goal.returns-in_err-lines-clause-first
-returns-in_err-lines-clause-first c n bad =
+returns-in_err-lines-clause-first c n f bad =
     let p = err_from_is_err_and c.from_residual.result c.from_residual.ensures.1 in
-    let h = c.in-Some.ensures.found in
-    rw (p.1, p.2) (refused_there c.args.text.now c.in_err-lines.field-0.0 (stops_there c.args.text.now c.in-Some.rest.now c.in-Some.servers c.in_err-lines.field-0.0 h.0 h.1 c.in_err-lines.ensures.bad) n bad)
+    let h = c.in-Ok.ensures.found in
+    rw (p.1, p.2) (refused_there c.args.text.now c.in_err-lines.field-0.0 (stops_there c.args.text.now c.in-Ok.found.1.now c.in-Ok.found.0 c.in_err-lines.field-0.0 h.0 h.1 c.in_err-lines.ensures.bad) n f bad)
 
 pub returns-clause-complete : goal.returns-clause-complete
 returns-clause-complete c n lines count each same =
-    let h = c.in-Some.ensures.found in
+    let h = c.in-Ok.ensures.found in
     let k = c.in_ok-lines.ensures.found in
-    let whole : c.args.text.now ≡ spelling c.in-Some.servers c.in_ok-lines.lines.items = h.1 ∙ ap (λ z. header c.in-Some.servers ++ z) k.1 in
-    let one = one_schedule c.in-Some.servers n c.in_ok-lines.lines.items lines h.0 count k.0 each (sym whole ∙ same) in
+    let whole : c.args.text.now ≡ spelling c.in-Ok.found.0 c.in_ok-lines.lines.items = h.1 ∙ ap (λ z. header c.in-Ok.found.0 ++ z) k.1 in
+    let one = one_schedule c.in-Ok.found.0 n c.in_ok-lines.lines.items lines h.0 count k.0 each (sym whole ∙ same) in
     (one.0, c.from_vec.ensures ∙ one.1)
 
 pub returns-clause-first : goal.returns-clause-first
-returns-clause-first c n bad =
-    let h = c.in-Some.ensures.found in
+returns-clause-first c n f bad =
+    let h = c.in-Ok.ensures.found in
     let k = c.in_ok-lines.ensures.found in
-    let whole : c.args.text.now ≡ spelling c.in-Some.servers c.in_ok-lines.lines.items = h.1 ∙ ap (λ z. header c.in-Some.servers ++ z) k.1 in
-    none_bad_in c.args.text.now c.in-Some.servers c.in_ok-lines.lines.items n h.0 k.0 whole bad
+    let whole : c.args.text.now ≡ spelling c.in-Ok.found.0 c.in_ok-lines.lines.items = h.1 ∙ ap (λ z. header c.in-Ok.found.0 ++ z) k.1 in
+    none_bad_in c.args.text.now c.in-Ok.found.0 c.in_ok-lines.lines.items n f h.0 k.0 whole bad

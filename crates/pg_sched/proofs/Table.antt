@@ -1,0 +1,101 @@
+-- Each line's words are those that the table asks for, and words that are those have no fault.
+use Rattle.std.proofs.Common.{ℕ, ◌≡◌, ◌<◌, List, [], ◌∷◌, length, refl, sym, ap, ◌∙◌, All, inl, inr, subst, cond, ◌==◌, suc}
+use Rattle.std.proofs.lemmas.List.Elements.{All-nil, All-cons}
+use Rattle.pg_sched.specs.Cause.{IsRestCause, IsWordsCause}
+use Rattle.pg_sched.specs.Fields.{Field, fields, verb_word, AreWordsOf, IsBadWord}
+use Rattle.pg_sched.specs.Line.{line_words, IsLine}
+use Rattle.pg_sched.specs.declared.fault.Fault.{Fault}
+use Rattle.pg_sched.specs.declared.line.Line.{Line}
+use Rattle.pg_sched.specs.declared.line.Line.TheVariants.{Happens, Settle, Show, Quiet, Trace}
+use Rattle.pg_sched.specs.declared.line.Event.TheVariants.{Put, Tick, Deliver, Lose, Repeat}
+use Rattle.pg_sched.specs.declared.verb.Verb.{Verb}
+use Rattle.pg_sched.specs.declared.verb.Verb.TheVariants as verb
+use Rattle.pg_sched.proofs.WordBytes.{word_some}
+
+-- the words are a verb's
+pub record IsTabled (words : List (List ℕ)) : Type 0 where
+  pub verb : Verb
+  pub rest : List (List ℕ)
+  pub words_are : words ≡ verb_word verb ∷ rest
+  pub each : AreWordsOf (fields verb) rest
+
+pub tabled : (line : Line) → IsLine line → IsTabled (line_words line)
+tabled (Happens (Put s m f b)) h = record { verb = verb.Put; rest = _; words_are = refl; each = ((s, h.0, refl), ((m, h.1, refl), ((f, h.2, refl), ((b, h.3, refl), tt)))) }
+tabled (Happens (Tick s m w)) h = record { verb = verb.Tick; rest = _; words_are = refl; each = ((s, h.0, refl), ((m, h.1, refl), ((w, h.2, refl), tt))) }
+tabled (Happens (Deliver n)) h = record { verb = verb.Deliver; rest = _; words_are = refl; each = ((n, h, refl), tt) }
+tabled (Happens (Lose n)) h = record { verb = verb.Lose; rest = _; words_are = refl; each = ((n, h, refl), tt) }
+tabled (Happens (Repeat n)) h = record { verb = verb.Repeat; rest = _; words_are = refl; each = ((n, h, refl), tt) }
+tabled (Settle r m) h = record { verb = verb.Settle; rest = _; words_are = refl; each = ((r, h.0, refl), ((m, h.1, refl), tt)) }
+tabled (Show f) h = record { verb = verb.Show; rest = _; words_are = refl; each = ((f, h, refl), tt) }
+tabled Quiet h = record { verb = verb.Quiet; rest = _; words_are = refl; each = tt }
+tabled (Trace form) h = record { verb = verb.Trace; rest = _; words_are = refl; each = ((form, refl), tt) }
+
+-- the verb of a word, by its first two bytes
+abbrev second : List ℕ → ℕ
+second [] = 0
+second (x ∷ []) = 0
+second (x ∷ y ∷ ys) = y
+
+abbrev first : List ℕ → ℕ
+first [] = 0
+first (x ∷ xs) = x
+
+abbrev verb_from : List ℕ → Verb
+verb_from word =
+    cond (first word == 112) verb.Put
+    (cond (first word == 100) verb.Deliver
+    (cond (first word == 108) verb.Lose
+    (cond (first word == 113) verb.Quiet
+    (cond (first word == 114) verb.Repeat
+    (cond (second word == 101) verb.Settle
+    (cond (second word == 104) verb.Show
+    (cond (second word == 105) verb.Tick verb.Trace)))))))
+
+verb_again : (v : Verb) → verb_from (verb_word v) ≡ v
+verb_again verb.Put = refl
+verb_again verb.Tick = refl
+verb_again verb.Deliver = refl
+verb_again verb.Lose = refl
+verb_again verb.Repeat = refl
+verb_again verb.Settle = refl
+verb_again verb.Quiet = refl
+verb_again verb.Trace = refl
+verb_again verb.Show = refl
+
+-- no two verbs are one word
+pub same_verb : (v u : Verb) → verb_word v ≡ verb_word u → v ≡ u
+same_verb v u e = sym (verb_again v) ∙ ap verb_from e ∙ verb_again u
+
+pub no_bad_word : (fs : List Field) (words : List (List ℕ)) (f : Fault) → AreWordsOf fs words → IsBadWord fs words f → ⊥
+no_bad_word [] [] f h b = b
+no_bad_word [] (word ∷ words) f h b = b
+no_bad_word (field ∷ fs) [] f h b = b
+no_bad_word (field ∷ fs) (word ∷ words) f h (inl b) = b.0 h.0
+no_bad_word (field ∷ fs) (word ∷ words) f h (inr b) = no_bad_word fs words f h.1 b.1
+
+pub same_count : (fs : List Field) (words : List (List ℕ)) → AreWordsOf fs words → length words ≡ length fs
+same_count [] [] h = refl
+same_count [] (word ∷ words) h = absurd h
+same_count (field ∷ fs) [] h = absurd h
+same_count (field ∷ fs) (word ∷ words) h = ap suc (same_count fs words h.1)
+
+all_some : (fs : List Field) (words : List (List ℕ)) → AreWordsOf fs words → All (λ w. 0 < length w) words
+all_some [] [] h = All-nil (λ w. 0 < length w)
+all_some [] (word ∷ words) h = absurd h
+all_some (field ∷ fs) [] h = absurd h
+all_some (field ∷ fs) (word ∷ words) h = All-cons (λ w. 0 < length w) word words (word_some field word h.0) (all_some fs words h.1)
+
+no_rest_cause : (v : Verb) (rest : List (List ℕ)) (f : Fault) → AreWordsOf (fields v) rest → IsRestCause v rest f → ⊥
+no_rest_cause v rest f h (inl b) = b.0 (record { count = same_count (fields v) rest h; some = all_some (fields v) rest h })
+no_rest_cause v rest f h (inr b) = no_bad_word (fields v) rest f h b.1
+
+no_verb_cause : (v : Verb) (rest : List (List ℕ)) (f : Fault) → AreWordsOf (fields v) rest → IsWordsCause (verb_word v ∷ rest) f → ⊥
+no_verb_cause v rest f h (inl b) = b.0 v refl
+no_verb_cause v rest f h (inr b) = let P : Verb → Type 0 = λ u. IsRestCause u rest f in no_rest_cause v rest f h (subst P (sym (same_verb v b.0 b.1)) b.2)
+
+-- the words of a line have no fault
+pub no_words_cause : (line : Line) (f : Fault) → IsLine line → IsWordsCause (line_words line) f → ⊥
+no_words_cause line f h b =
+    let t = tabled line h in
+    let P : List (List ℕ) → Type 0 = λ ws. IsWordsCause ws f in
+    no_verb_cause t.verb t.rest f t.each (subst P t.words_are b)

@@ -1,0 +1,9 @@
+pub mod Behinds
+pub mod Cuts
+pub mod HexBytes
+pub mod Lacking
+pub mod OneJournal
+pub mod OnePrinted
+pub mod PrintedWords
+pub mod Updates
+pub mod WordPlaces

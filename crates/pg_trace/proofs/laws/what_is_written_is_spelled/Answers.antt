@@ -1,0 +1,91 @@
+use Rattle.std.proofs.Common.{arith, ℕ, ◌≤◌, ◌<◌, ◌^◌, List, [], ◌∷◌, ◌++◌, length, map, take, zero, suc, Option, None, Some}
+use Rattle.std.proofs.lemmas.List.{length-take}
+use Rattle.std.specs.List.{AllByRecursion}
+use Rattle.pg_base.specs.declared.id.FileId.{FileId}
+use Rattle.pg_base.specs.declared.version.Version.{Version}
+use Rattle.pg_msg.specs.declared.message.Sent.{Sent}
+use Rattle.pg_msg.specs.declared.update.Update.{Update}
+use Rattle.pg_msg.specs.Sent.{summary}
+use Rattle.pg_sched.specs.declared.entry.Entry.{Entry}
+use Rattle.pg_sched.specs.declared.entry.Reply.{Reply}
+use Rattle.pg_sched.specs.declared.entry.Reply.TheVariants.{Done, Wrote, Refused}
+use Rattle.pg_sched.specs.declared.entry.VoidCause.{VoidCause}
+use Rattle.pg_sched.specs.declared.line.Event.{Event}
+use Rattle.pg_sched.specs.declared.line.Event.TheVariants.{Put, Tick, Deliver, Lose, Repeat}
+use Rattle.pg_sched.specs.declared.line.Form.{Form}
+use Rattle.pg_sched.specs.declared.line.Form.TheVariants.{Full, Short}
+use Rattle.pg_sched.specs.declared.line.Line.{Line}
+use Rattle.pg_sched.specs.Line.{IsFile, IsLine}
+use Rattle.pg_trace.specs.declared.printed.Printed.{Printed}
+use Rattle.pg_trace.specs.declared.printed.Printed.TheVariants as printed
+use Rattle.pg_trace.specs.Printed.{ArePrinted, IsPrinted, IsSummary, IsTickReply, IsUpdate}
+use Rattle.pg_trace.specs.Spelled.{IsTold, IsEntry, IsShown}
+use Rattle.pg_trace.specs.Text.{tick_lines, told_lines, done_lines, outcome_lines, head_lines, show_line}
+use Rattle.pg_trace.proofs.laws.what_is_written_is_spelled.Goals as goal
+
+joined : (xs ys : List Printed) → ArePrinted xs → ArePrinted ys → ArePrinted (xs ++ ys)
+joined [] ys a b = b
+joined (x ∷ xs) ys a b = (a.0, joined xs ys a.1 b)
+
+all_made : (us : List Update) → AllByRecursion IsUpdate us → ArePrinted (map printed.Made us)
+all_made [] h = tt
+all_made (u ∷ us) h = (h.0, all_made us h.1)
+
+all_sent : (ms : List Sent) → AllByRecursion (λ m. IsSummary (summary m)) ms → ArePrinted (map (λ m. printed.Sent (summary m)) ms)
+all_sent [] h = tt
+all_sent (m ∷ ms) h = (h.0, all_sent ms h.1)
+
+done : (form : Form) (made : List Update) (sent : List Sent) → AllByRecursion IsUpdate made → AllByRecursion (λ m. IsSummary (summary m)) sent → ArePrinted (done_lines form made sent)
+done Full made sent a b = joined (map printed.Made made) (map (λ m. printed.Sent (summary m)) sent) (all_made made a) (all_sent sent b)
+done Short made sent a b = tt
+
+ticked : (form : Form) (server : ℕ) (reply : Reply) → server < 2 ^ 32 → IsTickReply reply → ArePrinted (tick_lines form server reply)
+ticked Full server reply a b = ((a, b), tt)
+ticked Short server Done a b = tt
+ticked Short server (Wrote stamp) a b = tt
+ticked Short server (Refused refusal) a b = ((a, tt), tt)
+
+told : (form : Form) (event : Event) (reply : Option Reply) → IsTold event reply → ArePrinted (told_lines form event reply)
+told form (Put server moment file body) None h = tt
+told form (Put server moment file body) (Some reply) h = (h, tt)
+told form (Tick server moment word) None h = tt
+told form (Tick server moment word) (Some reply) h = ticked form server reply h.0 h.1
+told form (Deliver place) reply h = tt
+told form (Lose place) reply h = tt
+told form (Repeat place) reply h = tt
+
+written : (line : ℕ) (form : Form) (void : Option VoidCause) (entry : Entry) → line < 2 ^ 64 → IsEntry entry → ArePrinted (outcome_lines line form void entry)
+written line form (Some cause) entry fits h = (fits, tt)
+written line form None entry fits h = joined (told_lines form entry.event entry.reply) (done_lines form entry.made entry.sent) (told form entry.event entry.reply h.told) (done form entry.made entry.sent h.made h.sent)
+
+in_front : (line : ℕ) (form : Form) (what : Line) → line < 2 ^ 64 → IsLine what → ArePrinted (head_lines line form what)
+in_front line Full what fits h = ((fits, h), tt)
+in_front line Short what fits h = tt
+
+all_taken : (n : ℕ) (bs : List ℕ) → AllByRecursion (λ b. b < 256) bs → AllByRecursion (λ b. b < 256) (take n bs)
+all_taken zero bs h = tt
+all_taken (suc n) [] h = tt
+all_taken (suc n) (b ∷ bs) h = (h.0, all_taken n bs h.1)
+
+few_taken : (n : ℕ) (bs : List ℕ) → length (take n bs) ≤ n
+few_taken n bs = omega (arith, length-take n bs)
+
+shown : (server : ℕ) (file : FileId) (version : Option Version) → server < 2 ^ 32 → IsFile file → IsShown version → IsPrinted (show_line server file version)
+shown server file None fits about h = (fits, about, tt, omega arith, record { each = tt; few = omega arith })
+shown server file (Some v) fits about h =
+    let few = h.1.few in (
+      fits,
+      about,
+      h.0,
+      omega arith,
+      record { each = all_taken 16 v.body h.1.bytes; few = few_taken 16 v.body },
+    )
+
+pub returns-clause-head : goal.returns-clause-head
+returns-clause-head c = in_front
+
+pub returns-clause-entry : goal.returns-clause-entry
+returns-clause-entry c = λ line form entry fits h. written line form entry.void entry fits h
+
+pub returns-clause-show : goal.returns-clause-show
+returns-clause-show c = shown

@@ -1,0 +1,9 @@
+use Rattle.std.proofs.Common.{◌≡◌, ◌++◌, map, take}
+use Rattle.std.specs.List.{flat_map}
+use Rattle.pg_msg.specs.Sent.{summary}
+use Rattle.pg_trace.specs.declared.printed.Printed.TheVariants as printed
+use Rattle.pg_trace.specs.Printed.{printed_text}
+use Rattle.pg_trace.proofs.writing.write_sent.Given as goal
+
+abbrev pub invariant-loop-message : goal.invariant-loop-message
+invariant-loop-message l = l.out ≡ l.fn.out ++ flat_map printed_text (map (λ m. printed.Sent (summary m)) (take l.message-index l.sent))

@@ -1,0 +1,5 @@
+pub mod Journal
+pub mod Printed
+pub mod Reading
+pub mod Text
+pub mod Spelled

@@ -1,0 +1,186 @@
+//! The lines of a journal.
+
+ghost use Rattle.std.specs.Prelude.{◌≡◌, IfOk};
+
+use crate::words::{MadeWords, ReplyWords, ShowWords, VoidWord};
+use pg_base::{FileId, NodeId, SharedBytes, Stamp};
+use pg_msg::{Summary, Update};
+use pg_sched::{Line, Quiet, Reply, VoidCause};
+use std::alloc::AllocError;
+use std::fmt;
+
+/// Where a journal tells whether all is done.
+#[derive(Clone, Copy, Debug, PartialEq, Eq)]
+pub enum Word {
+    /// Behind a settling.
+    Settle,
+    /// Where a line asks for it.
+    Quiet,
+    /// At the end of the run.
+    End,
+}
+
+impl fmt::Display for Word {
+    ghost use Rattle.std.specs.Prelude.{Some};
+    ghost use Rattle.pg_trace.specs.Printed.{asked_word};
+
+    ghost output = { λ w. Some (asked_word w) };
+
+    fn fmt<W: fmt::Write>(&self, f: &mut fmt::Formatter<W>) -> fmt::Result {
+        match self {
+            Word::Settle => f.write_str("settle"),
+            Word::Quiet => f.write_str("quiet"),
+            Word::End => f.write_str("end"),
+        }
+    }
+}
+
+/// One line of a journal.
+#[derive(Debug, Drop)]
+pub enum Printed {
+    /// The schedule's line with this number, in front of what comes of it. The header has number 1.
+    Event {
+        line: u64,
+        what: Line,
+    },
+    /// What the client of a write was told.
+    Put {
+        server: NodeId,
+        reply: Reply,
+    },
+    /// What came of a tick.
+    Tick {
+        server: NodeId,
+        reply: Reply,
+    },
+    /// The event on this line changes nothing.
+    Void {
+        line: u64,
+        cause: VoidCause,
+    },
+    /// A version was made.
+    Made(Update),
+    /// A message was sent.
+    Sent(Summary),
+    /// Whether all is done.
+    Asked {
+        word: Word,
+        quiet: Quiet,
+    },
+    /// What a server shows of a file: the stamp of its version, the length of the body in bytes, and the first of them,
+    /// at most 16. Without a version there is no stamp, no length and no byte.
+    Show {
+        server: NodeId,
+        file: FileId,
+        head: Option<Stamp>,
+        length: u64,
+        first: SharedBytes,
+    },
+}
+
+fn copy_line(line: &Line) -> Result<Line, AllocError>
+    ensures { IfOk result (λ l. l ≡ line.now) }
+{
+    match line {
+        Line::Happens(event) => Ok(Line::Happens(event.copy()?)),
+        Line::Settle { rounds, moment } => Ok(Line::Settle {
+            rounds: *rounds,
+            moment: *moment,
+        }),
+        Line::Quiet => Ok(Line::Quiet),
+        Line::Trace(form) => Ok(Line::Trace(*form)),
+        Line::Show(file) => Ok(Line::Show(*file)),
+    }
+}
+
+impl Printed {
+    /// The same line again. Bodies are shared, not moved.
+    pub fn copy(&self) -> Result<Printed, AllocError>
+        ensures { IfOk result (λ p. p ≡ self.now) }
+    {
+        match self {
+            Printed::Event { line, what } => Ok(Printed::Event {
+                line: *line,
+                what: copy_line(what)?,
+            }),
+            Printed::Put { server, reply } => Ok(Printed::Put {
+                server: *server,
+                reply: *reply,
+            }),
+            Printed::Tick { server, reply } => Ok(Printed::Tick {
+                server: *server,
+                reply: *reply,
+            }),
+            Printed::Void { line, cause } => Ok(Printed::Void {
+                line: *line,
+                cause: *cause,
+            }),
+            Printed::Made(update) => Ok(Printed::Made(update.copy()?)),
+            Printed::Sent(summary) => Ok(Printed::Sent(*summary)),
+            Printed::Asked { word, quiet } => Ok(Printed::Asked {
+                word: *word,
+                quiet: *quiet,
+            }),
+            Printed::Show {
+                server,
+                file,
+                head,
+                length,
+                first,
+            } => Ok(Printed::Show {
+                server: *server,
+                file: *file,
+                head: *head,
+                length: *length,
+                first: first.copy()?,
+            }),
+        }
+    }
+}
+
+impl fmt::Display for Printed {
+    ghost use Rattle.std.specs.Prelude.{Some};
+    ghost use Rattle.pg_trace.specs.Printed.{printed_body};
+
+    ghost output = { λ p. Some (printed_body p) };
+
+    fn fmt<W: fmt::Write>(&self, f: &mut fmt::Formatter<W>) -> fmt::Result {
+        match self {
+            Printed::Event { line, what } => write!(f, "event {line} {what}"),
+            Printed::Put { server, reply } => {
+                let told = ReplyWords(*reply);
+                write!(f, "put {server} -> {told}")
+            }
+            Printed::Tick { server, reply } => {
+                let told = ReplyWords(*reply);
+                write!(f, "tick {server} -> {told}")
+            }
+            Printed::Void { line, cause } => {
+                let why = VoidWord(*cause);
+                write!(f, "void {line} {why}")
+            }
+            Printed::Made(update) => {
+                let words = MadeWords(update);
+                write!(f, "{words}")
+            }
+            Printed::Sent(summary) => write!(f, "sent {summary}"),
+            Printed::Asked { word, quiet } => write!(f, "{word} {quiet}"),
+            Printed::Show {
+                server,
+                file,
+                head,
+                length,
+                first,
+            } => {
+                let words = ShowWords {
+                    server: *server,
+                    file: *file,
+                    head: *head,
+                    length: *length,
+                    first: first.as_slice(),
+                };
+                write!(f, "{words}")
+            }
+        }
+    }
+}

@@ -1,0 +1,178 @@
+//! What is written of a run, and a whole journal.
+
+ghost use Rattle.std.specs.Prelude.{◌≡◌, ◌++◌, OnOk, Some, None, map};
+ghost use Rattle.std.specs.List.{flat_map};
+ghost use Rattle.std.specs.Option.{option_copied};
+ghost use Rattle.pg_msg.specs.Sent.{summary};
+ghost use Rattle.pg_trace.specs.declared.printed.Printed.TheVariants as printed;
+ghost use Rattle.pg_trace.specs.Printed.{printed_text, journal_spelling};
+ghost use Rattle.pg_trace.specs.Text.{told_lines, tick_lines, done_lines, entry_text, head_text, show_text, quiet_text};
+
+use crate::printed::{Printed, Word};
+use crate::words::{MadeWords, ShowWords};
+use pg_base::{Bytes, FileId, NodeId, Version};
+use pg_msg::{Sent, Update};
+use pg_sched::{Entry, Event, Form, Line, Quiet, Reply};
+use std::alloc::AllocError;
+
+/// The most bytes of a body that are shown.
+const SHOWN: usize = 16;
+
+fn write_line(line: &Printed, out: &mut Bytes) -> Result<(), AllocError>
+    ensures { OnOk result (out.new ≡ out.old ++ printed_text line.now) }
+{
+    write!(out, "{line}\n")
+}
+
+/// Writes a whole journal at the end.
+pub fn write(journal: &[Printed], out: &mut Bytes) -> Result<(), AllocError>
+    ensures { OnOk result (out.new ≡ out.old ++ journal_spelling journal.now) }
+{
+    for line in journal {
+        write_line(line, out)?;
+    }
+    Ok(())
+}
+
+/// Writes what stands in front of the output of the line with this number: in full form the line, in short form nothing.
+pub fn write_head(line: u64, form: Form, what: &Line, out: &mut Bytes) -> Result<(), AllocError>
+    ensures { OnOk result (out.new ≡ out.old ++ head_text line form what.now) }
+{
+    match form {
+        Form::Full => write!(out, "event {line} {what}\n"),
+        Form::Short => Ok(()),
+    }
+}
+
+/// Writes what comes of an event on the line with this number.
+pub fn write_entry(line: u64, form: Form, entry: &Entry, out: &mut Bytes) -> Result<(), AllocError>
+    ensures { OnOk result (out.new ≡ out.old ++ entry_text line form entry.now) }
+{
+    match entry.void {
+        Some(cause) => write_line(&Printed::Void { line, cause }, out),
+        None => {
+            write_told(form, &entry.event, entry.reply, out)?;
+            write_done(form, entry.made.as_slice(), entry.sent.as_slice(), out)?;
+            Ok(())
+        }
+    }
+}
+
+fn write_told(
+    form: Form,
+    event: &Event,
+    reply: Option<Reply>,
+    out: &mut Bytes,
+) -> Result<(), AllocError>
+    ensures { OnOk result (out.new ≡ out.old ++ flat_map printed_text (told_lines form event.now reply)) }
+{
+    match (event, reply) {
+        (Event::Put { server, .. }, Some(reply)) => {
+            let server = *server;
+            write_line(&Printed::Put { server, reply }, out)
+        }
+        (Event::Tick { server, .. }, Some(reply)) => write_tick(form, *server, reply, out),
+        _ => Ok(()),
+    }
+}
+
+fn write_tick(form: Form, server: NodeId, reply: Reply, out: &mut Bytes) -> Result<(), AllocError>
+    ensures { OnOk result (out.new ≡ out.old ++ flat_map printed_text (tick_lines form server reply)) }
+{
+    match (form, reply) {
+        (Form::Short, Reply::Done | Reply::Wrote(_)) => Ok(()),
+        _ => write_line(&Printed::Tick { server, reply }, out),
+    }
+}
+
+fn write_done(form: Form, made: &[Update], sent: &[Sent], out: &mut Bytes) -> Result<(), AllocError>
+    ensures { OnOk result (out.new ≡ out.old ++ flat_map printed_text (done_lines form made.now sent.now)) }
+{
+    match form {
+        Form::Full => {
+            write_made(made, out)?;
+            write_sent(sent, out)?;
+            Ok(())
+        }
+        Form::Short => Ok(()),
+    }
+}
+
+fn write_update(update: &Update, out: &mut Bytes) -> Result<(), AllocError>
+    ensures { OnOk result (out.new ≡ out.old ++ printed_text (printed.Made update.now)) }
+{
+    let words = MadeWords(update);
+    write!(out, "{words}\n")
+}
+
+fn write_made(made: &[Update], out: &mut Bytes) -> Result<(), AllocError>
+    ensures { OnOk result (out.new ≡ out.old ++ flat_map printed_text (map printed.Made made.now)) }
+{
+    for update in made {
+        write_update(update, out)?;
+    }
+    Ok(())
+}
+
+fn write_sent(sent: &[Sent], out: &mut Bytes) -> Result<(), AllocError>
+    ensures { OnOk result (out.new ≡ out.old ++ flat_map printed_text (map (λ m. printed.Sent (summary m)) sent.now)) }
+{
+    for message in sent {
+        write_line(&Printed::Sent(message.summary()), out)?;
+    }
+    Ok(())
+}
+
+/// Writes what a server shows of a file: the stamp of its version, the length of the body, and its first 16 bytes.
+pub fn write_show(
+    server: NodeId,
+    file: &FileId,
+    version: Option<&Version>,
+    out: &mut Bytes,
+) -> Result<(), AllocError>
+    ensures { OnOk result (out.new ≡ out.old ++ show_text server file.now (option_copied version.entry)) }
+{
+    match version {
+        None => write_no_version(server, file, out),
+        Some(version) => write_version(server, file, version, out),
+    }
+}
+
+fn write_no_version(server: NodeId, file: &FileId, out: &mut Bytes) -> Result<(), AllocError>
+    ensures { OnOk result (out.new ≡ out.old ++ show_text server file.now None) }
+{
+    let words = ShowWords {
+        server,
+        file: *file,
+        head: None,
+        length: 0,
+        first: &[],
+    };
+    write!(out, "{words}\n")
+}
+
+fn write_version(
+    server: NodeId,
+    file: &FileId,
+    version: &Version,
+    out: &mut Bytes,
+) -> Result<(), AllocError>
+    ensures { OnOk result (out.new ≡ out.old ++ show_text server file.now (Some version.now)) }
+{
+    let body = version.body.as_slice();
+    let words = ShowWords {
+        server,
+        file: *file,
+        head: Some(version.stamp),
+        length: body.len() as u64,
+        first: &body[..body.len().min(SHOWN)],
+    };
+    write!(out, "{words}\n")
+}
+
+/// Writes whether all is done, behind this word.
+pub fn write_quiet(word: Word, quiet: &Quiet, out: &mut Bytes) -> Result<(), AllocError>
+    ensures { OnOk result (out.new ≡ out.old ++ quiet_text word quiet.now) }
+{
+    write!(out, "{word} {quiet}\n")
+}

@@ -1,0 +1,13 @@
+pub mod Wholes
+pub mod Standing
+pub mod States
+pub mod Taking
+pub mod Inputs
+pub mod Ticks
+pub mod RunLaws
+pub mod Told
+pub mod Rows
+pub mod Flooding
+pub mod Edges
+pub mod Agreement
+pub mod QuietAgree

@@ -1,0 +1,30 @@
+use Rattle.std.proofs.Common.{◌≡◌, ◌↔◌, subst, sym, ap, ◌∙◌}
+use Rattle.pg_sched.specs.declared.quiet.Quiet.{Quiet}
+use Rattle.pg_sched.specs.declared.quiet.Quiet.TheVariants as told
+use Rattle.pg_world.specs.Quiet.{IsQuiet, quiet_of}
+use Rattle.pg_world.specs.Run.{run}
+use Rattle.pg_world.specs.Played.{Played, final}
+use Rattle.pg_world.proofs.Told.{quiet_is_told}
+use Rattle.pg_world.proofs.QuietAgree.{quiet_servers_agree}
+use Rattle.pg_world.proofs.world.World.is_quiet.Goals as goal
+
+-- what is answered is what is said of the run
+pub returns-clause-answer : goal.returns-clause-answer
+returns-clause-answer c =
+    let going = ap (λ (p : Played). p.failed) c.self.view_is ∙ c.requires in
+    let n = c.self.inside.servers in
+    let w = run n c.self.inside.events in
+    let P : Played → Type 0 = (λ p. c.quiet.result ≡ quiet_of p.servers (final p)) in
+    subst P c.self.view_is (c.quiet.ensures w (c.self.invariant.stands going) ∙ ap (λ k. quiet_of k w) (c.self.invariant.count going))
+
+pub returns-clause-quiet : goal.returns-clause-quiet
+returns-clause-quiet c =
+    let p = c.args.self.now in
+    let P : Quiet → Type 0 = (λ q. (q ≡ told.Quiet) ↔ IsQuiet p.servers (final p)) in
+    subst P (sym (returns-clause-answer c)) (quiet_is_told p.servers (final p))
+
+pub returns-clause-agree : goal.returns-clause-agree
+returns-clause-agree c quiet =
+    let p = c.args.self.now in
+    let is : IsQuiet p.servers (final p) = (quiet_is_told p.servers (final p)).0 (sym (returns-clause-answer c) ∙ quiet) in
+    quiet_servers_agree p.servers p.events is

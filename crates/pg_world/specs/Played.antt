@@ -1,0 +1,27 @@
+-- A run by its events.
+use Rattle.std.specs.Prelude.{ℕ, Bool, List, Option}
+use Rattle.pg_base.specs.declared.id.FileId.{FileId}
+use Rattle.pg_base.specs.declared.version.Version.{Version}
+use Rattle.pg_sched.specs.declared.line.Event.{Event}
+use Rattle.pg_sched.specs.declared.entry.Entry.{Entry}
+use Rattle.pg_world.specs.Journal.{taken, state_of}
+use Rattle.pg_world.specs.Run.{World, next, run}
+
+-- events: all that happened, void events too
+-- failed: an event ran out of memory
+pub record Played : Type 0 where
+  pub servers : ℕ
+  pub events : List Event
+  pub failed : Bool
+
+-- the world after these events
+abbrev pub final : Played → World
+final p = run p.servers p.events
+
+-- the entry of one event more
+abbrev pub next_entry : Played → Event → Entry
+next_entry p event = (next p.servers (final p) event).entry
+
+-- what the versions of a file come to that a server took
+abbrev pub shown : Played → ℕ → FileId → Option Version
+shown p server file = state_of file (taken server (final p).journal)
