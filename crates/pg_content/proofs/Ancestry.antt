@@ -87,7 +87,7 @@ pub map_among : {A B : Type 0} (f : A → B) (xs : List A) (x : A) → Among x x
 map_among f [] x k = absurd k
 map_among f (y ∷ xs) x k = elim k [ inl same ↦ inl (ap f same) | inr later ↦ inr (map_among f xs x later) ]
 
-empty_vector : IsVector []
+pub empty_vector : IsVector []
 empty_vector = IsVector-nil [] refl
 
 joined_vector : (h : List Made) (bs : List Stamp) → ((s : Stamp) → IsVector (vector_of h s)) → IsVector (joined_all (map (vector_of h) bs))
@@ -115,7 +115,7 @@ all_covers q (v ∷ vs) start is each =
     let rest = all_covers q vs (joined start v) (IsVector-joined start v is w) (λ u k. each u (inr k)) in
     omega arith
 
-each_covered : (q : Actor) (vs : List (List (Actor × ℕ))) (start : List (Actor × ℕ)) → IsVector start → ((v : List (Actor × ℕ)) → Among v vs → IsVector v) → (v : List (Actor × ℕ)) → Among v vs → number_at v q ≤ number_at (fold joined start vs) q
+pub each_covered : (q : Actor) (vs : List (List (Actor × ℕ))) (start : List (Actor × ℕ)) → IsVector start → ((v : List (Actor × ℕ)) → Among v vs → IsVector v) → (v : List (Actor × ℕ)) → Among v vs → number_at v q ≤ number_at (fold joined start vs) q
 each_covered q [] start is each v k = absurd k
 each_covered q (w ∷ vs) start is each v k =
     let j = IsVector-joined start w is (each w (inl refl)) in

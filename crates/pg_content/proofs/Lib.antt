@@ -1,5 +1,6 @@
 pub mod Heads
 pub mod Ancestry
 pub mod Standing
+pub mod Covering
 pub mod HeadsOf
 pub mod Rows

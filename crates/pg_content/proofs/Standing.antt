@@ -70,7 +70,7 @@ module _ (x : VersionValue) where
     stays_by w ws true e rest k t = elim k [ inl same ↦ inl same | inr later ↦ inr (rest later) ]
     stays_by w ws false e rest k t = elim k [ inl same ↦ absurd (let f : true ≡ false = sym t ∙ ap keeps same ∙ e in cc) | inr later ↦ rest later ]
 
-    filter_among : (ws : List VersionValue) → Among x ws → keeps x ≡ true → Among x (filter keeps ws)
+    pub filter_among : (ws : List VersionValue) → Among x ws → keeps x ≡ true → Among x (filter keeps ws)
     filter_among [] k t = absurd k
     filter_among (w ∷ ws) k t = stays_by w ws (keeps w) refl (λ l. filter_among ws l t) k t
 

@@ -3,3 +3,4 @@ pub mod Shown
 pub mod Content
 pub mod History
 pub mod StandsFor
+pub mod Covering

@@ -12,7 +12,10 @@ mod writing;
 pub use content::Content;
 pub use error::WriteError;
 pub use head::Head;
-pub use laws::{ancestry_by_vectors, content_is_its_heads};
+pub use laws::{
+    ancestry_by_vectors, content_is_its_heads, covering_goes_on, covering_heads_are_the_same,
+    covering_is_pointwise,
+};
 pub use policy::Policy;
 pub use version::Version;
 

@@ -1,0 +1,76 @@
+-- A replica with its heads and edges: which keys and cells it has, and what a version, a write and an answer make of it.
+use Rattle.std.specs.Prelude.{ℕ, ◌+◌, Bool, if◌then◌else◌, List, [], ◌∷◌, filter, length, map, Option, None, Some}
+use Rattle.pg_base.specs.declared.stamp.Stamp.{Stamp}
+use Rattle.pg_base.specs.declared.vector.Actor.{Actor}
+use Rattle.pg_patch.specs.Ranges.{RangesValue}
+use Rattle.pg_edges.specs.declared.key.Key.{Key}
+use Rattle.pg_edges.specs.declared.key.Key.TheVariants as key
+use Rattle.pg_edges.specs.declared.edge.Edge.{Edge}
+use Rattle.pg_edges.specs.Key.{is_same_key}
+use Rattle.pg_edges.specs.Edges.{touched, retired, acked}
+use Rattle.pg_content.specs.Version.{VersionValue, actor_of}
+use Rattle.pg_content.specs.Content.{is_covered, covers_version, joined_content, written}
+use Rattle.pg_replica.specs.declared.replica.Replica.{Replica}
+
+-- ---- keys and cells
+
+-- the key of a version
+abbrev pub key_of : VersionValue → Key
+key_of v = key.Version v.head.stamp
+
+-- the keys of the heads, in their order
+abbrev pub keys : List VersionValue → List Key
+keys heads = map key_of heads
+
+-- the head that a key names, if there is one
+abbrev pub cell_at : List VersionValue → Key → Option VersionValue
+cell_at [] k = None
+cell_at (v ∷ vs) k = if is_same_key k (key_of v) then Some v else cell_at vs k
+
+-- ---- a version comes
+
+-- some head's vector has the version's number at its actor
+abbrev pub covers : Replica → VersionValue → Bool
+covers x v = is_covered x.content.heads (actor_of v.head) v.head.number
+
+-- the heads that the version's vector covers, in their order
+abbrev pub gone : List VersionValue → VersionValue → List VersionValue
+gone heads v = filter (covers_version v.head.vector) heads
+
+-- each of these keys leaves every edge
+abbrev pub without_keys : List Edge → List Key → List Edge
+without_keys es [] = es
+without_keys es (k ∷ ks) = without_keys (retired es k) ks
+
+-- the keys of the heads that go leave every edge, and the version's own key is touched on every edge, from this tag on
+abbrev pub with_head : Replica → VersionValue → ℕ → Replica
+with_head x v tags = record {
+  birth = x.birth;
+  content = joined_content x.content v;
+  edges = touched (without_keys x.edges (keys (gone x.content.heads v))) (key_of v) tags;
+}
+
+-- a version that is covered changes nothing; any other is a head from then on
+abbrev pub with_version : Replica → VersionValue → ℕ → Replica
+with_version x v tags = if covers x v then x else with_head x v tags
+
+-- the next tag then: each edge took one, if the version was not covered
+abbrev pub tags_after : Replica → VersionValue → ℕ → ℕ
+tags_after x v tags = if covers x v then tags else tags + length x.edges
+
+-- ---- a write
+
+-- what the actor writes is the only head: the keys of all heads leave every edge, and the key of its stamp is touched on
+-- every edge, from this tag on
+abbrev pub with_write : Replica → Actor → Stamp → RangesValue → ℕ → Replica
+with_write x actor stamp ranges tags = record {
+  birth = x.birth;
+  content = written x.content actor stamp ranges;
+  edges = touched (without_keys x.edges (keys x.content.heads)) (key.Version stamp) tags;
+}
+
+-- ---- an answer
+
+-- the key goes off the edge to this birth of the peer where the tag is the present one there
+abbrev pub acknowledged : Replica → ℕ → ℕ → Key → ℕ → Replica
+acknowledged x peer birth k tag = record { birth = x.birth; content = x.content; edges = acked x.edges peer birth k tag }

@@ -1,0 +1,55 @@
+//! Keys of heads leave the edges.
+
+ghost use Rattle.std.specs.Prelude.{◌≡◌, if◌then◌else◌, length};
+ghost use Rattle.pg_content.specs.Content.{covers_version};
+ghost use Rattle.pg_edges.specs.Edges.{retired};
+ghost use Rattle.pg_replica.specs.Replica.{gone, key_of, keys, without_keys};
+
+use pg_base::Vector;
+use pg_content::Version;
+use pg_edges::{Edges, Key};
+
+/// The key of a version.
+pub(crate) fn key_of(version: &Version) -> Key
+    ensures { result ≡ key_of version.now }
+{
+    Key::Version(version.head().stamp)
+}
+
+/// The keys of all these heads leave every edge. No edge goes.
+pub(crate) fn retire_all(edges: &mut Edges, heads: &[Version])
+    ensures edges { edges.new ≡ without_keys edges.old (keys heads.now) }
+    ensures count { length edges.new ≡ length edges.old }
+{
+    for head in heads {
+        edges.retire(key_of(head));
+    }
+}
+
+/// The keys of those heads that the version's vector covers leave every edge. No edge goes.
+pub(crate) fn retire_gone(edges: &mut Edges, heads: &[Version], version: &Version)
+    ensures edges { edges.new ≡ without_keys edges.old (keys (gone heads.now version.now)) }
+    ensures count { length edges.new ≡ length edges.old }
+{
+    let vector = &version.head().vector;
+    for head in heads {
+        retire_if_gone(edges, head, vector);
+    }
+}
+
+/// The key of the head leaves every edge, if the vector has the head's number at its actor.
+fn retire_if_gone(edges: &mut Edges, head: &Version, vector: &Vector)
+    ensures { edges.new ≡ (if covers_version vector.now head.now then retired edges.old (key_of head.now) else edges.old) }
+{
+    if has_number(vector, head) {
+        edges.retire(key_of(head));
+    }
+}
+
+/// Whether the vector has the version's number at its actor.
+fn has_number(vector: &Vector, version: &Version) -> bool
+    ensures { result ≡ covers_version vector.now version.now }
+{
+    let head = version.head();
+    head.number <= vector.get(head.actor())
+}
