@@ -1,5 +1,5 @@
 -- Each event keeps that every server holds what it took, and that no two versions have one stamp.
-use Rattle.std.proofs.Common.{ℕ, ◌≡◌, ◌≢◌, ◌<◌, ◌≤◌, ◌+◌, ◌==◌, ◌&&◌, Bool, true, false, cond, Option, None, Some, List, [], ◌∷◌, ◌++◌, refl, sym, ap, subst, ◌∙◌, inl, inr, arith, All}
+use Rattle.std.proofs.Common.{ℕ, ◌≡◌, ◌≢◌, ◌<◌, ◌≤◌, ◌+◌, ◌==◌, ◌&&◌, Bool, true, false, cond, Option, None, Some, List, [], ◌∷◌, ◌++◌, refl, sym, ap, subst, ◌∙◌, inl, inr, arith, All, map}
 use Rattle.std.specs.Prelude.{Contains}
 use Rattle.std.proofs.lemmas.Bool.{ne_eqb, eq-eqb}
 use Rattle.std.proofs.lemmas.Bool.Decides.{nat_tests}
@@ -15,15 +15,16 @@ use Rattle.pg_msg.specs.declared.message.Message.{Message}
 use Rattle.pg_msg.specs.declared.message.Message.TheVariants as message
 use Rattle.pg_msg.specs.declared.message.Sent.{Sent}
 use Rattle.pg_msg.specs.declared.update.Update.{Update}
+use Rattle.pg_msg.specs.Sent.{summary}
 use Rattle.pg_sched.specs.declared.line.Event.{Event}
 use Rattle.pg_sched.specs.declared.line.Event.TheVariants.{Put, Tick, Deliver, Lose, Repeat}
 use Rattle.pg_sched.specs.declared.entry.Reply.TheVariants.{Done}
 use Rattle.pg_sched.specs.declared.entry.VoidCause.{VoidCause}
 use Rattle.pg_sched.specs.declared.entry.VoidCause.TheVariants.{NoMessage, NoServer}
-use Rattle.pg_node.specs.Local.{Store, Effect, replica_of, told, put, tick, refused, arrived, has_time, update, unacknowledged_cells}
+use Rattle.pg_node.specs.Local.{Store, Effect, replica_of, told, put, tick, refused, arrived, has_time, update, unacknowledged_cells, owed}
 use Rattle.pg_world.specs.Journal.{history, message_at, without, bag_after, bag, last_of, cells_of, drawn_by, drawn, carried_by, taken_from, taken_by, taken, state_of, IsGreatest, IsStateOf}
-use Rattle.pg_world.specs.Run.{World, still, acted, is_server, delivered, moved, next, entered, start, run_from, run}
-use Rattle.pg_world.specs.Laws.{HoldsWhatItTook, TookWhatWasMade, OneVersionAStamp, StateIsDetermined, TicksSendWhatIsOwed}
+use Rattle.pg_world.specs.Run.{World, still, acted, acted_entry, is_server, delivered, moved, next, entered, start, run_from, run}
+use Rattle.pg_world.specs.Laws.{HoldsWhatItTook, TookWhatWasMade, OneVersionAStamp, StateIsDetermined, SendsOrRefuses, owed_cell, TicksSendWhatIsOwed}
 use Rattle.pg_world.proofs.Wholes.{IsWhole, IsOfRun, AreWhole, IsIn, is_in, chosen, tested, left_without, left_copied, at_message, whole_next, whole_start}
 use Rattle.pg_world.proofs.States.{state_is_greatest}
 use Rattle.pg_world.proofs.Taking.{Stands, IsFrom, IsFrom-more, no_cells}
@@ -356,8 +357,22 @@ took_what_was_made n events s u h = (kept n events).inv.took s u h
 pub one_version_a_stamp : (n : ℕ) → OneVersionAStamp n
 one_version_a_stamp n events u v h k same = (kept n events).inv.told.one u v h k same
 
+-- whether the clock is at its end or not
+sends_or_refuses : (a : Store) (e : Event) (going : Bool) → map summary (unacknowledged_cells a) ≡ map owed_cell (owed a)
+    → SendsOrRefuses (acted_entry e (cond going (record { store = a; out = told (Some Done) (unacknowledged_cells a) }) (refused a))) (owed a)
+sends_or_refuses a e true h = inl (refl, h)
+sends_or_refuses a e false h = inr (refl, refl)
+
+one_of : (n s : ℕ) → 1 ≤ s → s ≤ n → is_server n s ≡ true
+one_of n s least most = grind (arith, nat_tests)
+
 pub ticks_send_what_is_owed : (n : ℕ) → TicksSendWhatIsOwed n
-ticks_send_what_is_owed n events s least most = tick_sends n s ((run n events).stores s) ((whole_run n events).stores s)
+ticks_send_what_is_owed n events s moment word least most =
+    let w = run n events in
+    let a = w.stores s in
+    let tick_event = Tick s moment word in
+    let P : Bool → Type 0 = (λ b. SendsOrRefuses (cond b (acted w tick_event s (tick a)) (still w tick_event (Some NoServer))).entry (owed a)) in
+    subst P (sym (one_of n s least most)) (sends_or_refuses a tick_event (has_time a.last a.tags) (tick_sends n s a ((whole_run n events).stores s)))
 
 same_state : (file : FileId) (us : List Update) → ((u v : Update) → Contains us u → Contains us v → u.version.stamp ≡ v.version.stamp → u ≡ v) → (a b : Option Version) → IsStateOf file us a → IsStateOf file us b → a ≡ b
 same_state file us one None None h k = refl

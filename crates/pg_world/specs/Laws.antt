@@ -1,17 +1,21 @@
 -- What holds after any events.
-use Rattle.std.specs.Prelude.{ℕ, ◌≡◌, ◌≤◌, ◌↔◌, List, Contains, Option, map}
+use Rattle.std.specs.Prelude.{ℕ, Some, [], ◌⊎◌, ◌≡◌, ◌≤◌, ◌↔◌, List, Contains, Option, map}
 use Rattle.pg_base.specs.declared.id.FileId.{FileId}
 use Rattle.pg_base.specs.declared.version.Version.{Version}
 use Rattle.pg_msg.specs.declared.summary.Summary.{Summary}
 use Rattle.pg_msg.specs.declared.summary.Kind.TheVariants.{Cell}
 use Rattle.pg_msg.specs.declared.update.Update.{Update}
 use Rattle.pg_msg.specs.Sent.{summary}
+use Rattle.pg_sched.specs.declared.entry.Entry.{Entry}
+use Rattle.pg_sched.specs.declared.entry.Refusal.TheVariants.{ClockEnd}
+use Rattle.pg_sched.specs.declared.entry.Reply.TheVariants.{Done, Refused}
 use Rattle.pg_sched.specs.declared.line.Event.{Event}
+use Rattle.pg_sched.specs.declared.line.Event.TheVariants.{Tick}
 use Rattle.pg_sched.specs.declared.quiet.Owing.{Owing}
 use Rattle.pg_sched.specs.declared.quiet.Quiet.TheVariants.{Quiet}
-use Rattle.pg_node.specs.Local.{held, owed, unacknowledged_cells}
+use Rattle.pg_node.specs.Local.{held, owed}
 use Rattle.pg_world.specs.Journal.{history, taken, state_of, IsStateOf}
-use Rattle.pg_world.specs.Run.{World, run}
+use Rattle.pg_world.specs.Run.{World, next, run}
 use Rattle.pg_world.specs.Quiet.{IsQuiet, quiet_of}
 
 -- what each server holds of each file is the state of exactly the versions that it took
@@ -56,7 +60,12 @@ QuietIsTold = (servers : ℕ) (w : World) → (quiet_of servers w ≡ Quiet) ↔
 abbrev pub owed_cell : Owing → Summary
 owed_cell o = record { from = o.server; to = o.peer; kind = Cell; file = o.file; key = o.key }
 
--- what a tick sends is one cell for each key that is owed, and nothing else
+-- one cell for each of these keys was sent, and nothing else; or the tick was refused, and nothing was sent
+abbrev pub SendsOrRefuses : Entry → List Owing → Type 0
+SendsOrRefuses entry owing = ((entry.reply ≡ Some Done) × (map summary entry.sent ≡ map owed_cell owing))
+    ⊎ ((entry.reply ≡ Some (Refused ClockEnd)) × (entry.sent ≡ []))
+
+-- a tick that is not refused sends one cell for each key that its server owes, in their order, and nothing else
 abbrev pub TicksSendWhatIsOwed : ℕ → Type 0
-TicksSendWhatIsOwed servers = (events : List Event) (server : ℕ) → 1 ≤ server → server ≤ servers
-    → map summary (unacknowledged_cells ((run servers events).stores server)) ≡ map owed_cell (owed ((run servers events).stores server))
+TicksSendWhatIsOwed servers = (events : List Event) (server moment word : ℕ) → 1 ≤ server → server ≤ servers
+    → SendsOrRefuses (next servers (run servers events) (Tick server moment word)).entry (owed ((run servers events).stores server))
