@@ -20,7 +20,7 @@ fn words(rt: &HostRuntime) -> io::Result<Vec<String>> {
     Ok(words)
 }
 
-/// How the program ends where its words could not be had: a word that is no text is no `replay` either.
+/// How the program ends where its words could not be had. Which word is no text is not known, so it is told as word 1.
 fn wordless(error: &io::Error) -> Status {
     match error.kind() {
         ErrorKind::InvalidData => Status::Usage(1),

@@ -7,7 +7,7 @@ use pg_msg::{Sent, Update};
 /// Why a server refuses what a client asks for.
 #[derive(Clone, Copy, Debug, PartialEq, Eq)]
 pub enum Refusal {
-    /// The server's clock is at its end: its greatest time is 2^62 or more.
+    /// The server's clock is at its end: its greatest time, or a tag that it gave out, is 2^62 or more.
     ClockEnd,
 }
 
@@ -18,6 +18,7 @@ pub enum Reply {
     Done,
     /// The version with this stamp was made.
     Wrote(Stamp),
+    /// It was not done, and this is why.
     Refused(Refusal),
 }
 

@@ -9,6 +9,7 @@ use crate::fault::Fault;
 use std::alloc::{AllocError, AllocFailed};
 use thiserror::Error;
 
+/// Why a line could not be read.
 #[derive(Clone, Copy, Debug, PartialEq, Eq)]
 pub(crate) enum LineError {
     OutOfMemory,

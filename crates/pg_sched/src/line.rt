@@ -98,7 +98,8 @@ impl fmt::Display for Event {
 pub enum Form {
     /// Each event, what it made and what it sent.
     Full,
-    /// Only what clients are told, and what lines ask for.
+    /// Only what clients are told, which ticks were refused, which events were void, what lines ask for, and how the run
+    /// ends.
     Short,
 }
 

@@ -99,7 +99,7 @@ taken_by server going bag (Deliver place) made = taken_from server going (messag
 taken_by server going bag (Lose place) made = []
 taken_by server going bag (Repeat place) made = []
 
--- the versions that a server made or was delivered, the latest first
+-- the versions that a server made, or was delivered while its clock was not at its end, the latest first
 abbrev pub taken : ℕ → List Entry → List Update
 taken server [] = []
 taken server (entry ∷ earlier) =

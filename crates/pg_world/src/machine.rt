@@ -25,6 +25,7 @@ pub struct Machine {
 }
 
 impl Machine {
+    /// Servers 1 to so many, that have taken nothing, and no message.
     pub fn new(alloc: Global, servers: u32) -> Result<Machine, AllocError>
         ensures stands { IfOk result (λ m. Stands m (start servers)) }
         ensures count { IfOk result (λ m. length m.nodes.items ≡ servers) }

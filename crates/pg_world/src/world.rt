@@ -57,6 +57,7 @@ impl World {
         self.events.as_slice()
     }
 
+    /// How many servers the run has.
     pub fn servers(&self) -> u32
         ensures { result ≡ self.now.servers }
     {
