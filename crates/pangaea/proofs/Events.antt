@@ -108,7 +108,7 @@ ticked_text n number form w0 w moment k start out out' h o e =
     ∙ append_assoc start before (inner_text n number form (run_from n w0 (ticks moment k)) tick)
     ∙ ap (λ xs. start ++ xs) (sym (inner_text-append n number form w0 (ticks moment k) tick))
 
-add_one : (k : ℕ) → suc k ≡ k + 1
+pub add_one : (k : ℕ) → suc k ≡ k + 1
 add_one k = omega arith
 
 -- m: the servers of the world that was reached

@@ -13,10 +13,10 @@ use Rattle.pg_world.specs.Run.{World, next, start}
 use Rattle.pg_world.specs.Quiet.{quiet_of}
 use Rattle.pangaea.specs.Settling.{after_event, most_deliveries, settling, after_line}
 
--- what the first servers show, in increasing order: of each the version of greatest stamp among exactly those that it took
+-- what the first servers show, in increasing order: of each the state of exactly the versions that it took
 abbrev pub shows_text : World → FileId → ℕ → List ℕ
 shows_text w file zero = []
-shows_text w file (suc k) = shows_text w file k ++ show_text (suc k) file (state_of file (taken (suc k) w.journal))
+shows_text w file (suc k) = shows_text w file k ++ show_text (suc k) file (state_of file w.journal (taken (suc k) file w.journal))
 
 abbrev pub event_text : ℕ → ℕ → Form → World → Event → List ℕ
 event_text servers number form w event = entry_text number form (next servers w event).entry

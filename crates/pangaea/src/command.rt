@@ -1,11 +1,11 @@
 //! The program's commands.
 
-ghost use Rattle.std.specs.Prelude.{◌≡◌, ◌≢◌, ◌<◌, ◌≤◌, ◌↔◌, ◌⊎◌, ℕ, List, IfSome, Some, IsTrue, length, vec_len};
+ghost use Rattle.std.specs.Prelude.{◌≡◌, ◌≢◌, ◌<◌, ◌≤◌, ◌^◌, ◌↔◌, ◌⊎◌, ℕ, List, IfSome, Some, IsTrue, length, vec_len};
 ghost use Rattle.std.specs.Io.KnownBytes.{IsAtEnd};
 ghost use Rattle.pg_io.specs.Causes.{Rose};
 ghost use Rattle.pg_sched.specs.Schedule.{IsFirstBad};
 ghost use Rattle.pg_sched.specs.declared.fault.Fault.{Fault};
-ghost use Rattle.pg_world.specs.Laws.{HoldsWhatItTook, StateIsGreatest, StateIsDetermined, QuietServersAgree, QuietIsTold, TicksSendWhatIsOwed};
+ghost use Rattle.pg_world.specs.Laws.{AncestryByVectors, CarriesHistory, ClockEndsFirst, HoldsWhatItTook, MakesHistories, OneVersionAStamp, QuietIsTold, QuietServersAgree, StateIsDetermined, StateIsItsHeads, TakesWhatCame, TicksSendWhatIsOwed};
 ghost use Rattle.pangaea.specs.Laws.{LinesAreEvents};
 ghost use Rattle.pangaea.specs.Written.{WritesAll, WritesFront, IsGoodInput, FirstIsReplay, AreGoodWords, most_input};
 
@@ -74,15 +74,24 @@ pub fn run<S: Source, K: Sink>(
     ensures front { result ≡ Status.WriteFault → WritesFront (S.left source.old) (K.held sink.old) (K.held sink.new) }
     ensures untouched { result ≢ Status.Done → result ≢ Status.WriteFault → sink.new ≡ sink.old }
 
-    // What is shown: of each run, every replica is the version of greatest stamp among exactly those that it took.
-    ensures merge { (servers : ℕ) → HoldsWhatItTook servers }
-    ensures greatest { StateIsGreatest }
-    ensures determined { (servers : ℕ) → StateIsDetermined servers }
+    // What is shown: of each run, every replica is the state of exactly the versions that it took, in whatever order they
+    // came: their heads, with the bodies that the history gives them.
+    ensures merge { (servers : ℕ) → servers < 2 ^ 32 → HoldsWhatItTook servers }
+    ensures took { (servers : ℕ) → servers < 2 ^ 32 → TakesWhatCame servers }
+    ensures heads { (servers : ℕ) → servers < 2 ^ 32 → StateIsItsHeads servers }
+    ensures determined { (servers : ℕ) → servers < 2 ^ 32 → StateIsDetermined servers }
+
+    // What was made: the versions of a file are a history, whose vectors tell ancestry, and messages carry it.
+    ensures histories { (servers : ℕ) → servers < 2 ^ 32 → MakesHistories servers }
+    ensures one { (servers : ℕ) → servers < 2 ^ 32 → OneVersionAStamp servers }
+    ensures ancestry { (servers : ℕ) → servers < 2 ^ 32 → AncestryByVectors servers }
+    ensures carried { (servers : ℕ) → servers < 2 ^ 32 → CarriesHistory servers }
+    ensures clock { (servers : ℕ) → servers < 2 ^ 32 → ClockEndsFirst servers }
 
     // What holds where all is done: each line is events of the run, and at every front of them that is quiet, also within a
     // settling, all replicas of a file agree.
     ensures events { (servers : ℕ) → LinesAreEvents servers }
-    ensures agree { (servers : ℕ) → QuietServersAgree servers }
+    ensures agree { (servers : ℕ) → servers < 2 ^ 32 → QuietServersAgree servers }
     ensures quiet { QuietIsTold }
     ensures owed { (servers : ℕ) → TicksSendWhatIsOwed servers }
 

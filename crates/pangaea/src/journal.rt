@@ -140,7 +140,7 @@ fn push_shows(out: &mut Bytes, world: &World, file: &FileId) -> Result<(), Alloc
 {
     for k in 0..world.servers() {
         let server = k + 1;
-        write_show(server, file, world.head(server, file), out)?;
+        write_show(server, file, world.content(server, file), out)?;
     }
     Ok(())
 }

@@ -35,7 +35,7 @@ const TWO_WRITES: &[u8] =
     b"pangaea 1 2\nput 1 40 f1.1 61\nput 2 39 f1.1 6262\nshow f1.1\nrepeat 1\ndeliver 1\nsettle 9 50\nshow f1.1\n";
 
 const TWO_WRITES_JOURNAL: &[u8] =
-    b"put 1 -> wrote 40@1\nput 2 -> wrote 39@2\nat 1 f1.1 heads 40@1 shown 1 61\nat 2 f1.1 heads 39@2 shown 2 6262\nsettle quiet\nat 1 f1.1 heads 40@1 shown 1 61\nat 2 f1.1 heads 40@1 shown 1 61\nend quiet\n";
+    b"put 1 -> wrote 40@1\nput 2 -> wrote 39@2\nat 1 f1.1 heads 40@1 shown 1 61\nat 2 f1.1 heads 39@2 shown 2 6262\nsettle quiet\nat 1 f1.1 heads 39@2,40@1 shown 1 61\nat 2 f1.1 heads 39@2,40@1 shown 1 61\nend quiet\n";
 
 const LOST: &[u8] =
     b"pangaea 1 2\ntrace full\nput 1 10 f1.1 61\nlose 1\nquiet\ntick 1 20 0\ndeliver 1\ndeliver 1\ndeliver 1\ndeliver 1\n";
@@ -52,7 +52,7 @@ const SETTLED_JOURNAL: &[u8] =
 
 #[test]
 fn writes_the_journal_of_the_run(rt: HostRuntime) -> Result<(), Fail> {
-    let rows: [(&[u8], &[u8]); 8] = [
+    let rows: [(&[u8], &[u8]); 11] = [
         (TWO_WRITES, TWO_WRITES_JOURNAL),
         (LOST, LOST_JOURNAL),
         (SETTLED, SETTLED_JOURNAL),
@@ -72,6 +72,22 @@ fn writes_the_journal_of_the_run(rt: HostRuntime) -> Result<(), Fail> {
         (
             b"pangaea 1 2\nput 1 1 f1.1 000102030405060708090a0b0c0d0e0f1011\nshow f1.1\nquiet\nput 2 1 f1.2 -\nshow f1.2\n",
             b"put 1 -> wrote 1@1\nat 1 f1.1 heads 1@1 shown 18 000102030405060708090a0b0c0d0e0f\nat 2 f1.1 heads - shown 0 -\nquiet waits message 1 2 cell f1.1 version:1@1\nput 2 -> wrote 1@2\nat 1 f1.2 heads - shown 0 -\nat 2 f1.2 heads 1@2 shown 0 -\nend waits message 1 2 cell f1.1 version:1@1\n",
+        ),
+        // Two writes side by side: all heads are shown one behind the other, and a write over part of them is based on both. A trim
+        // past the greatest length is refused.
+        (
+            b"pangaea 1 2\nput 1 40 f1.2 6161\nput 2 40 f1.2 6262\nsettle 9 50\nshow f1.2\npatch 1 60 f1.2 0 63\nsettle 9 70\nshow f1.2\ntrim 1 80 f1.2 1048577\n",
+            b"put 1 -> wrote 40@1\nput 2 -> wrote 40@2\nsettle quiet\nat 1 f1.2 heads 40@1,40@2 shown 4 61616262\nat 2 f1.2 heads 40@1,40@2 shown 4 61616262\npatch 1 -> wrote 60@1\nsettle quiet\nat 1 f1.2 heads 60@1 shown 4 63616262\nat 2 f1.2 heads 60@1 shown 4 63616262\ntrim 1 -> refused 12 TooLong\nend quiet\n",
+        ),
+        // What a write is based on, what its ranges are, and the key of a version that is no head any more is not sent again.
+        (
+            b"pangaea 1 2\nput 1 10 f1.1 616263\nput 2 10 f1.1 64\ndeliver 1\ntrace full\npatch 2 12 f1.1 5 65\ntrim 2 13 f1.1 1\nput 2 14 f1.1 -\ntrace short\nlose 1\nlose 1\nlose 1\nlose 1\nlose 1\nlose 1\ntrace full\ntick 2 20 0\ntick 1 20 0\ntrace short\nsettle 9 30\nshow f1.1\n",
+            b"put 1 -> wrote 10@1\nput 2 -> wrote 10@2\nevent 6 patch 2 12 f1.1 5 65\npatch 2 -> wrote 12@2\nmade version f1.1 12@2 from 10@1,10@2 keep all least 6 parts 5:65\nsent 2 1 cell f1.1 version:12@2\nevent 7 trim 2 13 f1.1 1\ntrim 2 -> wrote 13@2\nmade version f1.1 13@2 from 12@2 keep 1 least 1 parts -\nsent 2 1 cell f1.1 version:13@2\nevent 8 put 2 14 f1.1 -\nput 2 -> wrote 14@2\nmade version f1.1 14@2 from 13@2 keep 0 least 0 parts -\nsent 2 1 cell f1.1 version:14@2\nevent 17 tick 2 20 0\ntick 2 -> done\nsent 2 1 cell f1.1 version:14@2\nevent 18 tick 1 20 0\ntick 1 -> done\nsent 1 2 cell f1.1 version:10@1\nsettle quiet\nat 1 f1.1 heads 14@2 shown 0 -\nat 2 f1.1 heads 14@2 shown 0 -\nend quiet\n",
+        ),
+        // A body that is too long only because of two heads, a patch past the greatest length, and the order of the refusals.
+        (
+            b"pangaea 1 2\ntrim 1 10 f1.2 1048576\nput 2 10 f1.2 6262\nsettle 9 20\nshow f1.2\npatch 1 30 f1.2 0 63\npatch 1 31 f1.2 4294967295 63\ntrim 2 4611686018427387904 f1.2 2\ntrim 2 40 f1.2 1048577\nshow f1.2\n",
+            b"trim 1 -> wrote 10@1\nput 2 -> wrote 10@2\nsettle quiet\nat 1 f1.2 heads 10@1,10@2 shown 1048578 00000000000000000000000000000000\nat 2 f1.2 heads 10@1,10@2 shown 1048578 00000000000000000000000000000000\npatch 1 -> refused 12 TooLong\npatch 1 -> refused 12 TooLong\ntrim 2 -> wrote 4611686018427387904@2\ntrim 2 -> refused 2 ClockEnd\nat 1 f1.2 heads 10@1,10@2 shown 1048578 00000000000000000000000000000000\nat 2 f1.2 heads 4611686018427387904@2 shown 2 0000\nend waits message 2 1 cell f1.2 version:4611686018427387904@2\n",
         ),
         // A settling that has no round left.
         (

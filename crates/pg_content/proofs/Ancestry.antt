@@ -163,7 +163,7 @@ more_by es a q true e = inl (tells_apart actor_exact q a e)
 more_by es a q false e = inr refl
 
 -- at any other actor the number stays
-more_cases : (es : List (Actor × ℕ)) (a q : Actor) → (q ≡ a) ⊎ (number_at (one_more es a) q ≡ number_at es q)
+pub more_cases : (es : List (Actor × ℕ)) (a q : Actor) → (q ≡ a) ⊎ (number_at (one_more es a) q ≡ number_at es q)
 more_cases es a q = elim (more_by es a q (eq_by_cmp actor_cmp q a) refl) [ inl same ↦ inl same | inr stays ↦ inr (more_here es a q ∙ stays) ]
 
 pub more_covers : (es : List (Actor × ℕ)) (a q : Actor) → number_at es q ≤ number_at (one_more es a) q

@@ -6,8 +6,8 @@ use Rattle.pg_base.specs.declared.stamp.Stamp.{Stamp}
 use Rattle.pg_base.specs.declared.vector.Actor.{Actor}
 use Rattle.pg_base.specs.Vector.{IsVector, number_at, Covers}
 use Rattle.pg_patch.specs.Ranges.{RangesValue}
-use Rattle.pg_content.specs.declared.policy.Policy.{Policy}
-use Rattle.pg_content.specs.Version.{VersionValue}
+use Rattle.pg_base.specs.declared.policy.Policy.{Policy}
+use Rattle.pg_base.specs.Version.{VersionValue}
 use Rattle.pg_content.specs.Content.{ContentValue, Among, IsCovered, is_covered, covers_version, put_version, joined_version, joined_all, one_more, next_version, written}
 use Rattle.pg_content.specs.History.{Made, maker, IsMember, IsAncestor, vector_of, number_of, version_of, IsHistory}
 use Rattle.pg_content.specs.StandsFor.{StandsFor}

@@ -1,8 +1,12 @@
 -- Heads: their order, where a version goes, and what is shown of them.
-use Rattle.std.proofs.Common.{◌≡◌, ℕ, suc, ◌+◌, ◌-◌, ◌<◌, ◌≤◌, ◌^◌, min, max, Bool, true, false, cond, not, eqb, ltb, leb, ◌||◌, None, Some, Option, List, [], ◌∷◌, ◌++◌, length, map, take, drop, get_or, ◌⊎◌, IsTrue, inl, inr, refl, sym, ap, subst, ◌∙◌, arith}
-use Rattle.std.specs.List.{All, filter, insert, position, position_or_len}
+use Rattle.std.proofs.Common.{◌≡◌, ℕ, suc, ◌+◌, ◌-◌, ◌<◌, ◌≤◌, ◌^◌, min, max, Bool, true, false, cond, not, ◌≢◌, zero, eqb, leb, ◌||◌, None, Some, Option, Bor, is_some, option_copied, List, [], ◌∷◌, ◌++◌, length, map, take, drop, get_or, ◌⊎◌, IsTrue, inl, inr, refl, sym, ap, subst, ◌∙◌, arith}
+use Rattle.std.specs.List.{All, filter, insert, position_or_len, slice_get}
+use Rattle.std.specs.List.Sorted.{IsPartitionPoint, IsPartitionedBy}
+use Rattle.std.specs.Ordering.{eq_by_cmp, is_eq}
+use Rattle.std.specs.Cmp.{tied_itself}
+use Rattle.std.proofs.lemmas.Map.Views.{tells_apart}
 use Rattle.std.specs.Option.{MatchOption}
-use Rattle.std.proofs.lemmas.Bool.{ltb-false, cases_lt}
+use Rattle.std.proofs.lemmas.Bool.{cases_lt}
 use Rattle.std.proofs.lemmas.Bool.Decides.{nat_tests, leb_tells}
 use Rattle.std.proofs.lemmas.List.{drop_more, drop_all, take_all, append_assoc, append-nil, length-take-le, take-append-le, drop-append-le}
 use Rattle.std.proofs.Math.Bool.{or-true}
@@ -11,15 +15,15 @@ use Rattle.std.proofs.lemmas.List.Sums.{prefix_len-le-length}
 use Rattle.std.proofs.lemmas.List.Elements.{All-head, All-tail, All-cons, All-nil, All-weaker}
 use Rattle.pg_base.specs.declared.stamp.Stamp.{Stamp}
 use Rattle.pg_base.specs.declared.vector.Actor.{Actor}
-use Rattle.pg_base.specs.Stamp.{UpTo, is_before}
+use Rattle.pg_base.specs.Stamp.{UpTo, is_before, stamp_cmp}
 use Rattle.pg_base.specs.Vector.{number_at}
-use Rattle.pg_base.proofs.Orders.{UpTo-trans, is_before-true, is_before-false}
+use Rattle.pg_base.proofs.Orders.{UpTo-refl, UpTo-same, UpTo-trans, is_before-true, is_before-false, stamp_exact, stamp_total}
 use Rattle.pg_patch.specs.Ranges.{RangesValue, applied, length_of}
 use Rattle.pg_patch.proofs.Composed.{length-applied}
-use Rattle.pg_content.specs.declared.policy.Policy.TheVariants.{Last, Join}
-use Rattle.pg_content.specs.Version.{VersionValue, stamp_of}
+use Rattle.pg_base.specs.declared.policy.Policy.TheVariants.{Last, Join}
+use Rattle.pg_base.specs.Version.{VersionValue, stamp_of}
 use Rattle.pg_content.specs.Shown.{placed, by_stamp, last_body, all_bodies, shown}
-use Rattle.pg_content.specs.Content.{ContentValue, InStampOrder, Among, is_covered, IsCovered, covers_version, put_version, bodies_of, shown_bytes, body_limit}
+use Rattle.pg_content.specs.Content.{ContentValue, InStampOrder, Among, is_covered, IsCovered, head_at, covers_version, put_version, bodies_of, shown_bytes, body_limit}
 
 -- ---- where a version goes
 
@@ -30,14 +34,6 @@ module _ {A : Type 0} (stamp : A → Stamp) (s : Stamp) where
 
   pub place-most : (ys : List A) → position_or_len stops ys ≤ length ys
   place-most ys = prefix_len-le-length (λ y. not (stops y)) ys
-
-  place_by : (ys : List A) (t : Bool) → ltb (position_or_len stops ys) (length ys) ≡ t → MatchOption (cond t (Some (position_or_len stops ys)) None) (length ys ≡ position_or_len stops ys) (λ i. i ≡ position_or_len stops ys)
-  place_by ys true e = refl
-  place_by ys false e = let most = place-most ys in let least = ltb-false (position_or_len stops ys) (length ys) e in omega arith
-
-  -- the place, as a search gives it
-  pub place-found : (ys : List A) (o : Option ℕ) → o ≡ position stops ys → MatchOption o (length ys ≡ position_or_len stops ys) (λ i. i ≡ position_or_len stops ys)
-  place-found ys o e = rw e (place_by ys (ltb (position_or_len stops ys) (length ys)) refl)
 
   insert_behind : (y x : A) (ys : List A) (i j : ℕ) → j ≡ suc i → insert (y ∷ ys) j x ≡ y ∷ insert ys i x
   insert_behind y x ys i j e = rw e refl
@@ -51,6 +47,19 @@ module _ {A : Type 0} (stamp : A → Stamp) (s : Stamp) where
   insert_is x same (y ∷ ys) =
       let P : Stamp → Type 0 = λ t. insert (y ∷ ys) (position_or_len stops (y ∷ ys)) x ≡ cond (is_before (stamp y) t) (y ∷ placed stamp x ys) (x ∷ y ∷ ys) in
       subst P (sym same) (placed_by x y ys (is_before (stamp y) s) (insert_is x same ys))
+
+  parted_by : (y : A) (ys : List A) (b : Bool) (i : ℕ) → is_before (stamp y) s ≡ b → i ≡ cond b (1 + position_or_len stops ys) 0 → i ≡ position_or_len stops (y ∷ ys)
+  parted_by y ys true i e at = at ∙ sym (ap (λ b. cond (not (not b)) (1 + position_or_len stops ys) 0) e)
+  parted_by y ys false i e at = at ∙ sym (ap (λ b. cond (not (not b)) (1 + position_or_len stops ys) 0) e)
+
+  -- the place, as a search by halves gives it
+  pub place-parted : (ys : List A) (i : ℕ) → i ≤ length ys → IsPartitionPoint (λ y. is_before (stamp y) s ≡ true) (λ y. is_before (stamp y) s ≡ false) ys i → i ≡ position_or_len stops ys
+  place-parted [] zero le parts = refl
+  place-parted [] (suc i) le parts = absurd (omega arith)
+  place-parted (y ∷ ys) zero le parts = parted_by y ys false zero (parts.1 0 y (omega arith) (omega arith)) refl
+  place-parted (y ∷ ys) (suc i) le parts =
+      let rest = place-parted ys i (omega arith) ((λ k d from lt. parts.0 (suc k) d (omega arith) (omega arith)), (λ k d from lt. parts.1 (suc k) d (omega arith) (omega arith))) in
+      parted_by y ys true (suc i) (parts.0 0 y (omega arith) (omega arith)) (omega arith)
 
   -- an insert there puts it in its place
   pub insert_placed : (x : A) (ys : List A) (i : ℕ) → stamp x ≡ s → i ≡ position_or_len stops ys → insert ys i x ≡ placed stamp x ys
@@ -101,6 +110,98 @@ module _ (keeps : VersionValue → Bool) where
   InStampOrder-filter [] h = tt
   InStampOrder-filter (w ∷ ws) h = order_kept w ws (keeps w) h (InStampOrder-filter ws h.1)
 
+-- no stamp comes after a later one, by the places
+pub places_rise : (vs : List VersionValue) → InStampOrder vs → (i j : ℕ) (d : VersionValue) → i ≤ j → j < length vs → UpTo (get_or vs i d).head.stamp (get_or vs j d).head.stamp
+places_rise [] order i j d up lt = absurd (omega arith)
+places_rise (v ∷ vs) order zero zero d up lt = UpTo-refl v.head.stamp
+places_rise (v ∷ vs) order zero (suc j) d up lt = order.0 j d (omega arith)
+places_rise (v ∷ vs) order (suc i) zero d up lt = absurd (omega arith)
+places_rise (v ∷ vs) order (suc i) (suc j) d up lt = places_rise vs order.1 i j d (omega arith) (omega arith)
+
+before_upto : (a b s : Stamp) → UpTo a b → is_before b s ≡ true → is_before a s ≡ true
+before_upto a b s le h = let p = le.time in let q = le.server in grind (arith, nat_tests)
+
+-- so a search by halves finds where the stamps come to be no longer before one
+pub parted : (vs : List VersionValue) (s : Stamp) → InStampOrder vs → IsPartitionedBy (λ v. is_before v.head.stamp s) vs
+parted vs s order i j d up lt h = before_upto (get_or vs i d).head.stamp (get_or vs j d).head.stamp s (places_rise vs order i j d up lt) h
+
+-- ---- the head of a stamp
+
+before_itself : (s t : Stamp) → is_before s t ≡ true → s ≡ t → ⊥
+before_itself s t h e = let P : Stamp → Type 0 = λ x. is_before x t ≡ true in let f : is_before t t ≡ true = subst P e h in grind (arith, nat_tests)
+
+one_more : (n : ℕ) → suc n ≡ 1 + n
+one_more n = omega arith
+
+same_key : (s t : Stamp) → s ≡ t → eq_by_cmp stamp_cmp s t ≡ true
+same_key s t e = subst (λ x. eq_by_cmp stamp_cmp s x ≡ true) e (ap is_eq (tied_itself stamp_total s))
+
+other_by : (s t : Stamp) (b : Bool) → eq_by_cmp stamp_cmp s t ≡ b → (s ≡ t → ⊥) → b ≡ false
+other_by s t true e other = absurd (other (tells_apart stamp_exact s t e))
+other_by s t false e other = refl
+
+other_key : (s t : Stamp) → (s ≡ t → ⊥) → eq_by_cmp stamp_cmp s t ≡ false
+other_key s t other = other_by s t (eq_by_cmp stamp_cmp s t) refl other
+
+-- the first head is of the stamp, or the head is one of the others
+pub head_first : (v : VersionValue) (vs : List VersionValue) (s : Stamp) → s ≡ v.head.stamp → head_at (v ∷ vs) s ≡ Some v
+head_first v vs s e = ap (λ b. cond b (Some v) (head_at vs s)) (same_key s v.head.stamp e)
+
+pub head_later : (v : VersionValue) (vs : List VersionValue) (s : Stamp) → (s ≡ v.head.stamp → ⊥) → head_at (v ∷ vs) s ≡ head_at vs s
+head_later v vs s other = ap (λ b. cond b (Some v) (head_at vs s)) (other_key s v.head.stamp other)
+
+pub head_none : (vs : List VersionValue) (s : Stamp) → All (λ v. v.head.stamp ≢ s) vs → head_at vs s ≡ None
+head_none [] s none = refl
+head_none (v ∷ vs) s none =
+    head_later v vs s (λ e. All-head (λ (w : VersionValue). w.head.stamp ≢ s) v vs none (sym e)) ∙ head_none vs s (All-tail (λ (w : VersionValue). w.head.stamp ≢ s) v vs none)
+
+none_by : (v : VersionValue) (vs : List VersionValue) (s : Stamp) (b : Bool) → eq_by_cmp stamp_cmp s v.head.stamp ≡ b → cond b (Some v) (head_at vs s) ≡ None → (v.head.stamp ≢ s) × (head_at vs s ≡ None)
+none_by v vs s true e h = absurd (let z : Some v ≡ None = h in cc)
+none_by v vs s false e h = (λ same. (let z : true ≡ false = sym (same_key s v.head.stamp (sym same)) ∙ e in cc), h)
+
+pub none_head : (vs : List VersionValue) (s : Stamp) → head_at vs s ≡ None → All (λ v. v.head.stamp ≢ s) vs
+none_head [] s none = All-nil (λ (w : VersionValue). w.head.stamp ≢ s)
+none_head (v ∷ vs) s none =
+    let h = none_by v vs s (eq_by_cmp stamp_cmp s v.head.stamp) refl none in
+    All-cons (λ (w : VersionValue). w.head.stamp ≢ s) v vs h.0 (none_head vs s h.1)
+
+pub copied_none : (o : Option (Bor VersionValue)) → is_some o ≡ false → option_copied o ≡ None
+copied_none None h = refl
+copied_none (Some v) h = absurd (let z : true ≡ false = h in cc)
+
+pub none_copied : (o : Option (Bor VersionValue)) → option_copied o ≡ None → is_some o ≡ false
+none_copied None h = refl
+none_copied (Some v) h = absurd (let z : Some v.now ≡ None = h in cc)
+
+-- what stands where the stamps come to be no longer before it decides
+abbrev pub Decides : List VersionValue → Stamp → Option VersionValue → Type 0
+Decides vs s o = MatchOption o (head_at vs s ≡ None) (λ v. (v.head.stamp ≡ s → head_at vs s ≡ Some v) × ((v.head.stamp ≢ s) → head_at vs s ≡ None))
+
+after_differs : (v w : VersionValue) (s : Stamp) → is_before v.head.stamp s ≡ false → v.head.stamp ≢ s → UpTo v.head.stamp w.head.stamp → w.head.stamp ≢ s
+after_differs v w s from other le same = other (UpTo-same v.head.stamp s (subst (λ x. UpTo v.head.stamp x) same le) (is_before-false v.head.stamp s from))
+
+decides_behind : (v : VersionValue) (vs : List VersionValue) (s : Stamp) (o : Option VersionValue) → is_before v.head.stamp s ≡ true → Decides vs s o → Decides (v ∷ vs) s o
+decides_behind v vs s None before h = head_later v vs s (λ e. before_itself v.head.stamp s before (sym e)) ∙ h
+decides_behind v vs s (Some w) before h = let e = head_later v vs s (λ e. before_itself v.head.stamp s before (sym e)) in (λ same. e ∙ h.0 same, λ other. e ∙ h.1 other)
+
+decides_here : (v : VersionValue) (vs : List VersionValue) (s : Stamp) → is_before v.head.stamp s ≡ false → After v vs → Decides (v ∷ vs) s (Some v)
+decides_here v vs s from after = (
+  λ same. head_first v vs s (sym same),
+  λ other. head_later v vs s (λ e. other (sym e)) ∙ head_none vs s (All-weaker (λ (w : VersionValue). UpTo v.head.stamp w.head.stamp) (λ (w : VersionValue). w.head.stamp ≢ s) (λ w le. after_differs v w s from other le) vs after),
+)
+
+decides_by : (v : VersionValue) (vs : List VersionValue) (s : Stamp) (b : Bool) → is_before v.head.stamp s ≡ b → After v vs → Decides vs s (slice_get vs (position_or_len (stops stamp_of s) vs))
+    → Decides (v ∷ vs) s (slice_get (v ∷ vs) (cond (not (not b)) (1 + position_or_len (stops stamp_of s) vs) 0))
+decides_by v vs s true e after rest = subst (λ n. Decides (v ∷ vs) s (slice_get (v ∷ vs) n)) (one_more (position_or_len (stops stamp_of s) vs)) (decides_behind v vs s (slice_get vs (position_or_len (stops stamp_of s) vs)) e rest)
+decides_by v vs s false e after rest = decides_here v vs s e after
+
+decides : (vs : List VersionValue) (s : Stamp) → InStampOrder vs → Decides vs s (slice_get vs (position_or_len (stops stamp_of s) vs))
+decides [] s order = refl
+decides (v ∷ vs) s order = decides_by v vs s (is_before v.head.stamp s) refl order.0 (decides vs s order.1)
+
+pub head_found : (vs : List VersionValue) (s : Stamp) (i : ℕ) (o : Option VersionValue) → InStampOrder vs → i ≡ position_or_len (stops stamp_of s) vs → o ≡ slice_get vs i → Decides vs s o
+head_found vs s i o order at read = subst (Decides vs s) (sym (read ∙ ap (slice_get vs) at)) (decides vs s order)
+
 -- ---- covered, as a fact
 
 covered_first : (n m : ℕ) (P : Type 0) (b : Bool) → (IsTrue b → P) → IsTrue (leb n m || b) → (n ≤ m) ⊎ P
@@ -138,6 +239,26 @@ covered_among (v ∷ vs) actor n w h covers = covered_by n (number_at v.head.vec
 
 pub is_covered_by : (vs : List VersionValue) (actor : Actor) (n : ℕ) → IsCovered vs actor n → IsTrue (is_covered vs actor n)
 is_covered_by vs actor n h = covered_among vs actor n h.0 h.1 h.2
+
+-- ---- below a number
+
+room_by : (n m : ℕ) (b : Bool) → (leb n m || b) ≡ false → (m < n) × (b ≡ false)
+room_by n m true h = absurd (let z : true ≡ false = sym (or-true (leb n m)) ∙ h in cc)
+room_by n m false h = (grind (arith, nat_tests), refl)
+
+-- where none of them knows the number each knows less
+pub room_from : (vs : List VersionValue) (actor : Actor) (n : ℕ) → is_covered vs actor n ≡ false → All (λ v. number_at v.head.vector actor < n) vs
+room_from [] actor n h = All-nil (λ (v : VersionValue). number_at v.head.vector actor < n)
+room_from (v ∷ vs) actor n h =
+    let r = room_by n (number_at v.head.vector actor) (is_covered vs actor n) h in
+    All-cons (λ (w : VersionValue). number_at w.head.vector actor < n) v vs r.0 (room_from vs actor n r.1)
+
+pub none_from_room : (vs : List VersionValue) (actor : Actor) (n : ℕ) → All (λ v. number_at v.head.vector actor < n) vs → is_covered vs actor n ≡ false
+none_from_room [] actor n h = refl
+none_from_room (v ∷ vs) actor n h =
+    let P : VersionValue → Type 0 = λ w. number_at w.head.vector actor < n in
+    let first : leb n (number_at v.head.vector actor) ≡ false = (let lt = All-head P v vs h in grind (arith, nat_tests)) in
+    ap (λ b. b || is_covered vs actor n) first ∙ none_from_room vs actor n (All-tail P v vs h)
 
 -- ---- what is shown
 
@@ -255,8 +376,8 @@ taken_all out all left skip none = ap (λ zs. out ++ take left (drop skip zs)) n
 
 -- ---- what a join puts
 
-pub put_is : (v : VersionValue) (old reserved kept lent new : List VersionValue) (vector : List (Actor × ℕ)) (s : Stamp) (i : ℕ) → new ≡ insert kept i v → i ≡ position_or_len (λ (w : VersionValue). not (is_before w.head.stamp s)) lent → lent ≡ kept → s ≡ v.head.stamp
-    → kept ≡ filter (λ h. not (covers_version vector h)) reserved → reserved ≡ old → vector ≡ v.head.vector → new ≡ put_version old v
-put_is v old reserved kept lent new vector s i made at lends same stays room knows =
-    let place = at ∙ ap (λ vs. position_or_len (λ (w : VersionValue). not (is_before w.head.stamp s)) vs) lends in
-    made ∙ insert_placed stamp_of s v kept i (sym same) place ∙ ap (λ vs. placed stamp_of v vs) (stays ∙ (λ k. filter (λ h. not (covers_version (knows k) h)) (room k)))
+pub inserted : (v : VersionValue) (old lent new : List VersionValue) (s : Stamp) (i : ℕ) → new ≡ insert old i v → i ≡ position_or_len (stops stamp_of s) lent → lent ≡ old → s ≡ v.head.stamp → new ≡ placed stamp_of v old
+inserted v old lent new s i made at lends same = made ∙ insert_placed stamp_of s v old i (sym same) (at ∙ ap (position_or_len (stops stamp_of s)) lends)
+
+pub InStampOrder-put : (v : VersionValue) (vs : List VersionValue) → InStampOrder vs → InStampOrder (put_version vs v)
+InStampOrder-put v vs order = InStampOrder-placed v (filter (λ h. not (covers_version v.head.vector h)) vs) (InStampOrder-filter (λ h. not (covers_version v.head.vector h)) vs order)

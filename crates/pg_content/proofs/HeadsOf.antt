@@ -3,8 +3,8 @@ use Rattle.std.proofs.Common.{◌≡◌, ℕ, zero, suc, ◌+◌, ◌<◌, arith
 use Rattle.std.specs.List.{filter, list_any}
 use Rattle.std.proofs.Math.Bool.{or-true}
 use Rattle.pg_base.specs.declared.stamp.Stamp.{Stamp}
-use Rattle.pg_content.specs.declared.policy.Policy.{Policy}
-use Rattle.pg_content.specs.Version.{VersionValue, stamp_of}
+use Rattle.pg_base.specs.declared.policy.Policy.{Policy}
+use Rattle.pg_base.specs.Version.{VersionValue, stamp_of}
 use Rattle.pg_content.specs.Shown.{by_stamp}
 use Rattle.pg_content.specs.Content.{ContentValue, Among}
 use Rattle.pg_content.specs.History.{Made, IsMember, is_same_stamp, is_ancestor, is_among, is_head, heads_of, IsAncestor, IsHead, IsHistory, version_of}
@@ -18,18 +18,18 @@ any_first : {A : Type 0} (p : A → Bool) (y : A) (xs : List A) (b : Bool) → p
 any_first p y xs true e rest h = (y, inl refl, e)
 any_first p y xs false e rest h = let r = rest h in (r.0, inr r.1, r.2)
 
-any_found : {A : Type 0} (p : A → Bool) (xs : List A) → list_any p xs ≡ true → (x : A) × Among x xs × (p x ≡ true)
+pub any_found : {A : Type 0} (p : A → Bool) (xs : List A) → list_any p xs ≡ true → (x : A) × Among x xs × (p x ≡ true)
 any_found p [] e = absurd (let f : false ≡ true = e in cc)
 any_found p (x ∷ xs) e = any_first p x xs (p x) refl (any_found p xs) e
 
-any_by : {A : Type 0} (p : A → Bool) (xs : List A) (x : A) → Among x xs → p x ≡ true → list_any p xs ≡ true
+pub any_by : {A : Type 0} (p : A → Bool) (xs : List A) (x : A) → Among x xs → p x ≡ true → list_any p xs ≡ true
 any_by p [] x k e = absurd k
 any_by p (y ∷ xs) x k e = elim k [
   | inl same ↦ ap (λ b. b || list_any p xs) (ap p (sym same) ∙ e)
   | inr later ↦ ap (λ b. p y || b) (any_by p xs x later e) ∙ or-true (p y)
 ]
 
-or_parts : (a b : Bool) → (a || b) ≡ true → (a ≡ true) ⊎ (b ≡ true)
+pub or_parts : (a b : Bool) → (a || b) ≡ true → (a ≡ true) ⊎ (b ≡ true)
 or_parts true b e = inl refl
 or_parts false b e = inr e
 
@@ -40,10 +40,10 @@ and_parts false b e = absurd (let f : false ≡ true = e in cc)
 both : (a b : Bool) → a ≡ true → b ≡ true → (a && b) ≡ true
 both a b e f = ap (λ x. x && b) e ∙ f
 
-left_true : (a b : Bool) → a ≡ true → (a || b) ≡ true
+pub left_true : (a b : Bool) → a ≡ true → (a || b) ≡ true
 left_true a b e = ap (λ x. x || b) e
 
-right_true : (a b : Bool) → b ≡ true → (a || b) ≡ true
+pub right_true : (a b : Bool) → b ≡ true → (a || b) ≡ true
 right_true a b e = ap (λ x. a || x) e ∙ or-true a
 
 not_true : (b : Bool) → (b ≡ true → ⊥) → not b ≡ true
@@ -112,7 +112,7 @@ module _ (keeps : Made → Bool) where
   made_kept_by x m h true e rest k = elim k [ inl same ↦ (inl same, ap keeps same ∙ e) | inr later ↦ (let r = rest later in (inr r.0, r.1)) ]
   made_kept_by x m h false e rest k = let r = rest k in (inr r.0, r.1)
 
-  made_kept : (x : Made) (h : List Made) → Among x (filter keeps h) → Among x h × (keeps x ≡ true)
+  pub made_kept : (x : Made) (h : List Made) → Among x (filter keeps h) → Among x h × (keeps x ≡ true)
   made_kept x [] k = absurd k
   made_kept x (m ∷ h) k = made_kept_by x m h (keeps m) refl (made_kept x h) k
 
@@ -120,7 +120,7 @@ module _ (keeps : Made → Bool) where
   made_stays_by x m h true e rest k t = elim k [ inl same ↦ inl same | inr later ↦ inr (rest later) ]
   made_stays_by x m h false e rest k t = elim k [ inl same ↦ absurd (let f : true ≡ false = sym t ∙ ap keeps same ∙ e in cc) | inr later ↦ rest later ]
 
-  made_stays : (x : Made) (h : List Made) → Among x h → keeps x ≡ true → Among x (filter keeps h)
+  pub made_stays : (x : Made) (h : List Made) → Among x h → keeps x ≡ true → Among x (filter keeps h)
   made_stays x [] k t = absurd k
   made_stays x (m ∷ h) k t = made_stays_by x m h (keeps m) refl (λ l. made_stays x h l t) k t
 

@@ -1,4 +1,5 @@
 pub mod Heads
+pub mod Indexes
 pub mod Ancestry
 pub mod Standing
 pub mod Covering

@@ -3,7 +3,7 @@ use Rattle.std.proofs.Common.{◌≡◌, ℕ, List, [], ◌∷◌, inl, inr, ref
 use Rattle.pg_base.specs.declared.stamp.Stamp.{Stamp}
 use Rattle.pg_base.specs.declared.vector.Actor.{Actor}
 use Rattle.pg_patch.specs.Ranges.{applied, written}
-use Rattle.pg_content.specs.declared.policy.Policy.TheVariants.{Join}
+use Rattle.pg_base.specs.declared.policy.Policy.TheVariants.{Join}
 use Rattle.pg_content.specs.History.{Made, IsHistory, IsNext, vector_of, body_of, heads_of}
 
 abbrev stamp : ℕ → ℕ → Stamp

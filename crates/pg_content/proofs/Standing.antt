@@ -9,8 +9,8 @@ use Rattle.pg_base.specs.Stamp.{IsBefore, UpTo, is_before}
 use Rattle.pg_base.specs.Vector.{number_at}
 use Rattle.pg_base.proofs.Orders.{UpTo-same, is_before-true, is_before-false}
 use Rattle.pg_patch.specs.Ranges.{applied}
-use Rattle.pg_content.specs.declared.policy.Policy.{Policy}
-use Rattle.pg_content.specs.Version.{VersionValue, stamp_of}
+use Rattle.pg_base.specs.declared.policy.Policy.{Policy}
+use Rattle.pg_base.specs.Version.{VersionValue, stamp_of}
 use Rattle.pg_content.specs.Shown.{placed, shown}
 use Rattle.pg_content.specs.Content.{ContentValue, Among, IsCovered, is_covered, covers_version, put_version, joined_content, joined_all, one_more, next_vector, version_with, next_version, written, shown_bytes}
 use Rattle.pg_content.specs.History.{Made, maker, IsMember, IsAncestor, IsHead, vector_of, body_of, number_of, IsNext, version_of, IsHistory}
@@ -27,7 +27,7 @@ all_among P (w ∷ vs) v h k = elim k [
   | inr later ↦ all_among P vs v (All-tail P w vs h) later
 ]
 
-among_all : (P : VersionValue → Type 0) (vs : List VersionValue) → ((v : VersionValue) → Among v vs → P v) → All P vs
+pub among_all : (P : VersionValue → Type 0) (vs : List VersionValue) → ((v : VersionValue) → Among v vs → P v) → All P vs
 among_all P [] h = All-nil P
 among_all P (w ∷ vs) h = All-cons P w vs (h w (inl refl)) (among_all P vs (λ v k. h v (inr k)))
 
@@ -365,7 +365,7 @@ module _ (h : List Made) (k : IsHistory h) (c : ContentValue) (old new : List St
 -- ---- one version more in the history
 
 module _ (m : Made) (h : List Made) (k : IsHistory (m ∷ h)) where
-  earlier_ancestor : (u s : Stamp) → IsMember h s → IsAncestor (m ∷ h) u s → IsAncestor h u s
+  pub earlier_ancestor : (u s : Stamp) → IsMember h s → IsAncestor (m ∷ h) u s → IsAncestor h u s
   earlier_ancestor u s is a = elim a [
     | inl last ↦ absurd (earlier_differs m h k s is last.0)
     | inr later ↦ later
@@ -374,7 +374,7 @@ module _ (m : Made) (h : List Made) (k : IsHistory (m ∷ h)) where
   earlier_body : (policy : Policy) (s : Stamp) → IsMember h s → body_of policy (m ∷ h) s ≡ body_of policy h s
   earlier_body policy s is = ap (λ b. cond b (applied (shown policy (map (λ b. (b, body_of policy h b)) m.bases)) m.ranges) (body_of policy h s)) (stamps_differ s m.stamp (earlier_differs m h k s is))
 
-  earlier_version : (policy : Policy) (n : Made) → Among n h → version_of policy h n ≡ version_of policy (m ∷ h) n
+  pub earlier_version : (policy : Policy) (n : Made) → Among n h → version_of policy h n ≡ version_of policy (m ∷ h) n
   earlier_version policy n is =
       let e = sym (earlier_vector m h k n.stamp (member_of h n is)) in
       let b = sym (earlier_body policy n.stamp (member_of h n is)) in

@@ -1,18 +1,24 @@
 -- Contents of files: the heads, what they show, and what a join and a write make of them.
-use Rattle.std.specs.Prelude.{ℕ, Bool, ◌≡◌, ◌+◌, ◌⊎◌, All, if◌then◌else◌, nat_le, not, List, [], ◌∷◌, ◌++◌, filter, fold, length, map}
+use Rattle.std.specs.Prelude.{ℕ, Bool, ◌≡◌, ◌+◌, ◌⊎◌, All, if◌then◌else◌, nat_le, not, List, [], ◌∷◌, ◌++◌, filter, fold, length, map, Option, None, Some}
 use Rattle.std.specs.List.{list_any}
+use Rattle.std.specs.Ordering.{eq_by_cmp}
 use Rattle.pg_base.specs.declared.stamp.Stamp.{Stamp}
 use Rattle.pg_base.specs.declared.vector.Actor.{Actor}
-use Rattle.pg_base.specs.Stamp.{UpTo}
+use Rattle.pg_base.specs.Stamp.{UpTo, stamp_cmp}
 use Rattle.pg_base.specs.Vector.{number_at, raised, joined, Covers}
 use Rattle.pg_patch.specs.Ranges.{RangesValue, applied}
-use Rattle.pg_content.specs.declared.policy.Policy.{Policy}
-use Rattle.pg_content.specs.Version.{VersionValue, actor_of, stamp_of}
+use Rattle.pg_base.specs.declared.policy.Policy.{Policy}
+use Rattle.pg_base.specs.Version.{VersionValue, actor_of, stamp_of}
 use Rattle.pg_content.specs.Shown.{placed, shown}
 
 pub record ContentValue : Type 0 where
   pub policy : Policy
   pub heads : List VersionValue
+
+-- a content that may not be there yet: without one, no version
+abbrev pub or_empty : Policy → Option ContentValue → ContentValue
+or_empty policy None = record { policy = policy; heads = [] }
+or_empty policy (Some c) = c
 
 -- no stamp comes after a later one
 abbrev pub InStampOrder : List VersionValue → Type 0
@@ -46,6 +52,15 @@ joined_version heads v = if is_covered heads (actor_of v.head) v.head.number the
 
 abbrev pub joined_content : ContentValue → VersionValue → ContentValue
 joined_content c v = record { policy = c.policy; heads = joined_version c.heads v }
+
+-- the same content with other heads
+abbrev pub with_heads : ContentValue → List VersionValue → ContentValue
+with_heads c heads = record { policy = c.policy; heads = heads }
+
+-- the first head of the stamp, if there is one
+abbrev pub head_at : List VersionValue → Stamp → Option VersionValue
+head_at [] stamp = None
+head_at (v ∷ vs) stamp = if eq_by_cmp stamp_cmp stamp v.head.stamp then Some v else head_at vs stamp
 
 -- the bodies one after another
 abbrev pub bodies_of : List VersionValue → List ℕ

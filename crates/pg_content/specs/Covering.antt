@@ -2,8 +2,8 @@
 use Rattle.std.specs.Prelude.{ℕ, ◌≡◌, ◌≤◌, List}
 use Rattle.pg_base.specs.declared.vector.Actor.{Actor}
 use Rattle.pg_base.specs.Vector.{number_at}
-use Rattle.pg_content.specs.declared.policy.Policy.{Policy}
-use Rattle.pg_content.specs.Version.{VersionValue}
+use Rattle.pg_base.specs.declared.policy.Policy.{Policy}
+use Rattle.pg_base.specs.Version.{VersionValue}
 use Rattle.pg_content.specs.Content.{Among}
 use Rattle.pg_content.specs.History.{Made, version_of}
 

@@ -5,8 +5,8 @@ use Rattle.pg_base.specs.declared.stamp.Stamp.{Stamp}
 use Rattle.pg_base.specs.declared.vector.Actor.{Actor}
 use Rattle.pg_base.specs.Vector.{number_at}
 use Rattle.pg_patch.specs.Ranges.{RangesValue, applied}
-use Rattle.pg_content.specs.declared.policy.Policy.{Policy}
-use Rattle.pg_content.specs.Version.{VersionValue}
+use Rattle.pg_base.specs.declared.policy.Policy.{Policy}
+use Rattle.pg_base.specs.Version.{VersionValue}
 use Rattle.pg_content.specs.Shown.{shown}
 use Rattle.pg_content.specs.Content.{Among, joined_all, one_more, version_with}
 

@@ -1,6 +1,7 @@
-pub mod Version
 pub mod Shown
 pub mod Content
+pub mod Index
+pub mod Indexed
 pub mod History
 pub mod StandsFor
 pub mod Covering

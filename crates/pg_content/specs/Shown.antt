@@ -2,8 +2,8 @@
 use Rattle.std.specs.Prelude.{ℕ, if◌then◌else◌, List, [], ◌∷◌, ◌++◌}
 use Rattle.pg_base.specs.declared.stamp.Stamp.{Stamp}
 use Rattle.pg_base.specs.Stamp.{is_before}
-use Rattle.pg_content.specs.declared.policy.Policy.{Policy}
-use Rattle.pg_content.specs.declared.policy.Policy.TheVariants.{Last, Join}
+use Rattle.pg_base.specs.declared.policy.Policy.{Policy}
+use Rattle.pg_base.specs.declared.policy.Policy.TheVariants.{Last, Join}
 
 -- x in front of the first whose stamp is not before its own
 abbrev pub placed : {A : Type 0} → (A → Stamp) → A → List A → List A

@@ -2,8 +2,8 @@
 use Rattle.std.specs.Prelude.{◌≡◌, ◌⊎◌, ◌↔◌, All, List, [], ◌∷◌, map}
 use Rattle.pg_base.specs.declared.stamp.Stamp.{Stamp}
 use Rattle.pg_base.specs.Stamp.{IsBefore}
-use Rattle.pg_content.specs.declared.policy.Policy.{Policy}
-use Rattle.pg_content.specs.Version.{VersionValue, stamp_of}
+use Rattle.pg_base.specs.declared.policy.Policy.{Policy}
+use Rattle.pg_base.specs.Version.{VersionValue, stamp_of}
 use Rattle.pg_content.specs.Shown.{by_stamp}
 use Rattle.pg_content.specs.Content.{ContentValue, Among}
 use Rattle.pg_content.specs.History.{Made, IsMember, IsAncestor, IsHead, version_of, heads_of}

@@ -1,17 +1,20 @@
 //! The heads of a file, and what is shown of them.
 
-ghost use Rattle.std.specs.Prelude.{◌≡◌, ◌≢◌, ◌<◌, ◌≤◌, ◌^◌, ◌-◌, ◌↔◌, [], All, IfOk, IfErr, IfNone, IfSome, IsErrOf, OnOk, OnErr, IsTrue, drop, length, min, not, take};
+ghost use Rattle.std.specs.Prelude.{ℕ, ◌≡◌, ◌≢◌, ◌<◌, ◌≤◌, ◌^◌, ◌-◌, ◌↔◌, [], All, IfOk, IfErr, IfNone, IfSome, IsErrOf, OnOk, OnErr, IsTrue, drop, false, length, map, min, nat_le, nat_lt, not, option_copied, take};
+ghost use Rattle.std.specs.List.{list_any};
+ghost use Rattle.pg_base.specs.declared.vector.Actor.{Actor};
+ghost use Rattle.pg_base.specs.Stamp.{clock_end};
 ghost use Rattle.pg_base.specs.Vector.{number_at};
 ghost use Rattle.pg_patch.specs.Ranges.{applied};
-ghost use Rattle.pg_content.specs.Version.{actor_of};
-ghost use Rattle.pg_content.specs.Content.{InStampOrder, IsCovered, actor_limit, bodies_of, body_limit, is_covered, joined_content, joined_version, next_vector, next_version, shown_bytes, written};
+ghost use Rattle.pg_base.specs.Version.{actor_of};
+ghost use Rattle.pg_content.specs.Content.{InStampOrder, IsCovered, actor_limit, bodies_of, body_limit, covers_version, head_at, is_covered, joined_all, joined_content, next_vector, next_version, put_version, shown_bytes, with_heads, written};
 
 use crate::error::WriteError;
-use crate::head::Head;
-use crate::policy::Policy;
-use crate::version::Version;
-use crate::writing::{can_write, is_covered, next_vector, put_version, write_over};
-use pg_base::{Actor, Bytes, Stamp};
+use crate::index::{Index, take_index};
+use crate::writing::{
+    head_at, insert_version, is_covered, is_some_covered, put_version, write_over,
+};
+use pg_base::{Actor, Bytes, Head, Policy, Stamp, Vector, Version};
 use pg_patch::{LIMIT, Ranges, length_after};
 use std::alloc::{AllocError, Global};
 use std::marker::Model;
@@ -21,16 +24,20 @@ use std::marker::Model;
 pub struct Content {
     policy: Policy,
     heads: Vec<Version>,
+    /// The index of the heads. Where memory was wanting there is none, until a version that is brought in makes it anew.
+    index: Option<Index>,
 }
 
 impl Model for Content {
-    ghost use Rattle.pg_content.specs.Content.{ContentValue, InStampOrder};
+    ghost use Rattle.pg_content.specs.Content.{ContentValue};
 
     ghost Value = { ContentValue };
 
+    ghost use Rattle.pg_content.specs.Indexed.{IsIndexed};
+
     ghost view = { λ c. record { policy = c.policy; heads = c.heads.items } };
 
-    ghost invariant = { λ c. InStampOrder c.heads.items };
+    ghost invariant = { IsIndexed };
 }
 
 /// The most actors that a vector may have.
@@ -44,6 +51,7 @@ impl Content {
         Content {
             policy,
             heads: Vec::new(alloc),
+            index: Some(Index::new(alloc)),
         }
     }
 
@@ -66,7 +74,28 @@ impl Content {
         ensures test { result ≡ is_covered self.now.heads actor number }
         ensures covers { IsTrue result ↔ IsCovered self.now.heads actor number }
     {
-        is_covered(&self.heads, actor, number)
+        match &self.index {
+            Some(index) => !self.heads.is_empty() && number <= index.known().get(actor),
+            None => is_covered(&self.heads, actor, number),
+        }
+    }
+
+    /// Whether the version's vector covers some head. Such a head goes where the version is brought in.
+    pub fn replaces(&self, version: &Version) -> bool
+        ensures { result ≡ list_any (covers_version version.now.head.vector) self.now.heads }
+    {
+        let vector = &version.head().vector;
+        match &self.index {
+            Some(index) => index.is_some_covered(vector),
+            None => is_some_covered(&self.heads, vector),
+        }
+    }
+
+    /// The first head of the stamp.
+    pub fn at(&self, stamp: Stamp) -> Option<&Version>
+        ensures { option_copied result ≡ head_at self.now.heads stamp }
+    {
+        head_at(&self.heads, stamp)
     }
 
     /// How many bytes are shown. Where they are more, the greatest `u64`.
@@ -91,15 +120,60 @@ impl Content {
         if self.covers(head.actor(), head.number) {
             return Ok(false);
         }
-        put_version(&mut self.heads, v)?;
+        if self.replaces(&v) {
+            self.put_over(v)?;
+        } else {
+            self.put_beside(v)?;
+        }
         Ok(true)
+    }
+
+    /// The heads that the version's vector covers go, and the version is a head. The index is made anew, where there is
+    /// memory for it.
+    fn put_over(&mut self, v: Version) -> Result<(), AllocError>
+        ensures put { OnOk result (self.new ≡ with_heads self.old (put_version self.old.heads v)) }
+        ensures err { OnErr result (self.new ≡ self.old) }
+    {
+        let alloc = *self.heads.allocator();
+        put_version(&mut self.heads, v)?;
+        self.index = Index::of(alloc, &self.heads).ok();
+        Ok(())
+    }
+
+    /// The version is a head beside the others, none of which its vector covers.
+    fn put_beside(&mut self, v: Version) -> Result<(), AllocError>
+        requires { list_any (covers_version v.head.vector) self.old.heads ≡ false }
+        ensures put { OnOk result (self.new ≡ with_heads self.old (put_version self.old.heads v)) }
+        ensures err { OnErr result (self.new ≡ self.old) }
+    {
+        let alloc = *self.heads.allocator();
+        let mut index = take_index(&mut self.index, alloc, &self.heads)?;
+        index.add(&v)?;
+        insert_version(&mut self.heads, v)?;
+        self.index = Some(index);
+        Ok(())
+    }
+
+    /// Whether all numbers of the actor that the heads know are below `Stamp::LATEST`. Then `write` has room at the actor.
+    pub fn has_room(&self, actor: Actor) -> bool
+        ensures test { result ≡ not (list_any (λ v. nat_le clock_end (number_at v.head.vector actor)) self.now.heads) }
+        ensures room { IsTrue result → All (λ v. number_at v.head.vector actor < 2 ^ 63) self.now.heads }
+    {
+        !self.covers(actor, Stamp::LATEST)
+    }
+
+    /// Whether what the ranges make of what is shown is longer than a body may be, so that `write` refuses it.
+    pub fn is_too_long(&self, ranges: &Ranges) -> bool
+        ensures { result ≡ nat_lt body_limit (length (applied (shown_bytes self.now) ranges.now)) }
+    {
+        self.next_length(ranges).is_none()
     }
 
     /// The test of what `write` asks for: no head has the stamp, and each head's vector has room at the actor.
     pub fn can_write(&self, actor: Actor, stamp: Stamp) -> bool
         ensures { IsTrue result ↔ (All (λ v. v.head.stamp ≢ stamp) self.now.heads × All (λ v. number_at v.head.vector actor < 2 ^ 63) self.now.heads) }
     {
-        can_write(&self.heads, actor, stamp)
+        self.at(stamp).is_none() && !self.covers(actor, 1 << 63)
     }
 
     /// Makes a version of what the ranges make of what is shown, with all heads as its bases. It is the only head
@@ -117,7 +191,9 @@ impl Content {
         let version = self.next_version(actor, stamp, ranges)?;
         let mut heads = Vec::with_capacity(*self.heads.allocator(), 1)?;
         heads.push(version)?;
+        let index = Index::of(*self.heads.allocator(), &heads)?;
         self.heads = heads;
+        self.index = Some(index);
         Ok(())
     }
 
@@ -148,9 +224,14 @@ impl Content {
         for version in self.heads.iter() {
             heads.push(version.copy()?)?;
         }
+        let index = match &self.index {
+            Some(index) => Some(index.copy()?),
+            None => None,
+        };
         Ok(Content {
             policy: self.policy,
             heads,
+            index,
         })
     }
 
@@ -195,7 +276,7 @@ impl Content {
             Some(length) => length,
             None => return Err(WriteError::TooLong),
         };
-        let vector = next_vector(alloc, &self.heads, actor)?;
+        let vector = self.next_vector(actor)?;
         if vector.len() > MOST_ACTORS {
             return Err(WriteError::ManyActors);
         }
@@ -208,5 +289,27 @@ impl Content {
             length,
         };
         Ok(Version::new(head, body))
+    }
+
+    /// What all heads know, and one more of the actor.
+    fn next_vector(&self, actor: Actor) -> Result<Vector, AllocError>
+        requires { All (λ v. number_at v.head.vector actor < 2 ^ 63) self.now.heads }
+        ensures { IfOk result (λ v. v ≡ next_vector self.now.heads actor) }
+    {
+        let mut vector = self.known()?;
+        let number = vector.get(actor) + 1;
+        vector.raise(actor, number)?;
+        Ok(vector)
+    }
+
+    /// What all heads know. At no actor is it more than one of them knows.
+    fn known(&self) -> Result<Vector, AllocError>
+        ensures all { IfOk result (λ v. v ≡ joined_all (map (λ h. h.head.vector) self.now.heads)) }
+        ensures most { IfOk result (λ v. (a : Actor) (n : ℕ) → 0 < n → All (λ h. number_at h.head.vector a < n) self.now.heads → number_at v a < n) }
+    {
+        match &self.index {
+            Some(index) => Ok(index.known().copy()?),
+            None => Ok(Index::of(*self.heads.allocator(), &self.heads)?.into_known()),
+        }
     }
 }

@@ -9,8 +9,8 @@ ghost use Rattle.pg_content.specs.Content.{Among, ContentValue, IsCovered, joine
 ghost use Rattle.pg_content.specs.Covering.{AreCoveredBy, AreVersionsOf, IsUpToHead, IsVectorUpTo};
 ghost use Rattle.pg_content.specs.History.{IsAncestor, IsHead, IsHistory, IsMember, IsNext, Made, maker, number_of, vector_of, version_of};
 ghost use Rattle.pg_content.specs.StandsFor.{IsClosed, IsWith, StandsFor, content_of};
-ghost use Rattle.pg_content.specs.Version.{VersionValue, stamp_of};
-ghost use Rattle.pg_content.specs.declared.policy.Policy.{Policy};
+ghost use Rattle.pg_base.specs.Version.{VersionValue, stamp_of};
+ghost use Rattle.pg_base.specs.declared.policy.Policy.{Policy};
 
 /// A version's vector covers exactly the version itself and its ancestors.
 pub fn ancestry_by_vectors()

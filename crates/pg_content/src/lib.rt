@@ -3,21 +3,16 @@
 
 mod content;
 mod error;
-mod head;
+mod index;
 mod laws;
-mod policy;
-mod version;
 mod writing;
 
 pub use content::Content;
 pub use error::WriteError;
-pub use head::Head;
 pub use laws::{
     ancestry_by_vectors, content_is_its_heads, covering_goes_on, covering_heads_are_the_same,
     covering_is_pointwise,
 };
-pub use policy::Policy;
-pub use version::Version;
 
 #[cfg(test)]
 mod tests;

@@ -1,7 +1,7 @@
 ghost use Rattle.std.specs.Prelude.{◌<◌, ◌^◌, length};
 
 use super::*;
-use pg_base::{Actor, SharedBytes, Stamp, Vector};
+use pg_base::{Actor, Head, Policy, SharedBytes, Stamp, Vector, Version};
 use pg_patch::{cut, make};
 use std::alloc::Global;
 use std::test::Fail;
@@ -14,7 +14,8 @@ fn version(
     number: u64,
     bytes: &[u8],
 ) -> Result<Version, Fail>
-    requires { length bytes.now < 2 ^ 32 }
+    requires width { length bytes.now < 2 ^ 32 }
+    requires some { 0 < number }
 {
     let server = stamp.server;
     let mut vector = Vector::new(alloc);

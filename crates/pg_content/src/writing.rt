@@ -1,14 +1,14 @@
 //! The steps of a join and of a write.
 
-ghost use Rattle.std.specs.Prelude.{◌≡◌, ◌≢◌, ◌<◌, ◌^◌, ◌↔◌, All, IfOk, OnOk, OnErr, IsTrue, not};
-ghost use Rattle.std.specs.List.{position, position_or_len};
+ghost use Rattle.std.specs.Prelude.{◌≡◌, ◌<◌, ◌≤◌, IfOk, IsOk, OnOk, OnErr, not, option_copied, vec_capacity, vec_len};
+ghost use Rattle.std.specs.List.{filter, list_any, position_or_len};
 ghost use Rattle.pg_base.specs.Stamp.{is_before};
-ghost use Rattle.pg_base.specs.Vector.{number_at};
 ghost use Rattle.pg_patch.specs.Ranges.{applied};
-ghost use Rattle.pg_content.specs.Content.{bodies_of, covers_version, is_covered, next_vector, put_version};
+ghost use Rattle.pg_base.specs.Version.{stamp_of};
+ghost use Rattle.pg_content.specs.Content.{InStampOrder, bodies_of, covers_version, head_at, is_covered, put_version};
+ghost use Rattle.pg_content.specs.Shown.{placed};
 
-use crate::version::Version;
-use pg_base::{Actor, Bytes, SharedBytes, Stamp, Vector};
+use pg_base::{Actor, Bytes, SharedBytes, Stamp, Vector, Version};
 use pg_patch::{Ranges, apply};
 use std::alloc::{AllocError, Global};
 
@@ -19,14 +19,42 @@ pub(crate) fn is_covered(heads: &[Version], actor: Actor, number: u64) -> bool
     heads.iter().any(|v| number <= v.head().vector.get(actor))
 }
 
+/// Whether the vector covers some head.
+pub(crate) fn is_some_covered(heads: &[Version], vector: &Vector) -> bool
+    ensures { result ≡ list_any (covers_version vector.now) heads.now }
+{
+    heads.iter().any(|head| covers_version(vector, head))
+}
+
 /// The heads that the version's vector covers go, and the version is a head, in the order of the stamps.
 pub(crate) fn put_version(heads: &mut Vec<Version>, v: Version) -> Result<(), AllocError>
+    requires { InStampOrder heads.old.items }
     ensures ok { OnOk result (heads.new.items ≡ put_version heads.old.items v) }
     ensures err { OnErr result (heads.new.items ≡ heads.old.items) }
 {
     heads.reserve(1)?;
+    drop_covered(heads, &v);
+    insert_version(heads, v)?;
+    Ok(())
+}
+
+/// The heads that the version's vector covers go. Their room stays.
+fn drop_covered(heads: &mut Vec<Version>, v: &Version)
+    ensures heads { heads.new.items ≡ filter (λ h. not (covers_version v.now.head.vector h)) heads.old.items }
+    ensures len { vec_len heads.new ≤ vec_len heads.old }
+    ensures room { vec_capacity heads.new ≡ vec_capacity heads.old }
+{
     let vector = &v.head().vector;
     heads.retain(|h| !covers_version(vector, h));
+}
+
+/// The version is a head, in the order of the stamps. With room for it this does not fail.
+pub(crate) fn insert_version(heads: &mut Vec<Version>, v: Version) -> Result<(), AllocError>
+    requires { InStampOrder heads.old.items }
+    ensures ok { OnOk result (heads.new.items ≡ placed stamp_of v heads.old.items) }
+    ensures err { OnErr result (heads.new.items ≡ heads.old.items) }
+    ensures room { vec_len heads.old < vec_capacity heads.old → IsOk result }
+{
     let place = place(heads, v.head().stamp);
     heads.insert(place, v)?;
     Ok(())
@@ -40,52 +68,25 @@ fn covers_version(vector: &Vector, v: &Version) -> bool
     head.number <= vector.get(head.actor())
 }
 
+/// The first head of the stamp.
+pub(crate) fn head_at(heads: &[Version], stamp: Stamp) -> Option<&Version>
+    requires { InStampOrder heads.now }
+    ensures { option_copied result ≡ head_at heads.now stamp }
+{
+    let head = heads.get(place(heads, stamp))?;
+    if head.head().stamp == stamp {
+        Some(head)
+    } else {
+        None
+    }
+}
+
 /// Where a version of the stamp stands, or would stand.
 fn place(heads: &[Version], stamp: Stamp) -> usize
+    requires { InStampOrder heads.now }
     ensures { result ≡ position_or_len (λ v. not (is_before v.head.stamp stamp)) heads.now }
 {
-    match first_from(heads, stamp) {
-        Some(place) => place,
-        None => heads.len(),
-    }
-}
-
-/// The place of the first stamp that is not before this one.
-fn first_from(heads: &[Version], stamp: Stamp) -> Option<usize>
-    ensures { result ≡ position (λ v. not (is_before v.head.stamp stamp)) heads.now }
-{
-    heads.iter().position(|v| !v.head().stamp.is_before(stamp))
-}
-
-/// Whether no head has the stamp, and each head's vector has room at the actor.
-pub(crate) fn can_write(heads: &[Version], actor: Actor, stamp: Stamp) -> bool
-    ensures { IsTrue result ↔ (All (λ v. v.head.stamp ≢ stamp) heads.now × All (λ v. number_at v.head.vector actor < 2 ^ 63) heads.now) }
-{
-    for version in heads {
-        let head = version.head();
-        if head.stamp == stamp || head.vector.get(actor) >= 1 << 63 {
-            return false;
-        }
-    }
-    true
-}
-
-/// What all heads know, and one more of the actor.
-pub(crate) fn next_vector(
-    alloc: Global,
-    heads: &[Version],
-    actor: Actor,
-) -> Result<Vector, AllocError>
-    requires { All (λ v. number_at v.head.vector actor < 2 ^ 63) heads.now }
-    ensures { IfOk result (λ v. v ≡ next_vector heads.now actor) }
-{
-    let mut vector = Vector::new(alloc);
-    for version in heads {
-        vector.join(&version.head().vector)?;
-    }
-    let number = vector.get(actor) + 1;
-    vector.raise(actor, number)?;
-    Ok(vector)
+    heads.partition_point(|v| v.head().stamp.is_before(stamp))
 }
 
 /// What the ranges make of the bodies one after another. One body alone is not copied before.

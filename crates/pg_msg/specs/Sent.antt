@@ -9,7 +9,7 @@ use Rattle.pg_msg.specs.declared.summary.Summary.{Summary}
 
 -- the kind, the file and the key of a message from one server to another
 abbrev pub told : ℕ → ℕ → Message → Summary
-told from to (message.Cell ends tag version) = record { from = from; to = to; kind = kind.Cell; file = ends.file; key = Version version.stamp }
+told from to (message.Cell ends tag version) = record { from = from; to = to; kind = kind.Cell; file = ends.file; key = Version version.head.stamp }
 told from to (message.Ack ends key tag) = record { from = from; to = to; kind = kind.Ack; file = ends.file; key = key }
 
 abbrev pub summary : Sent → Summary

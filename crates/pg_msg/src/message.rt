@@ -63,7 +63,7 @@ impl Message {
                 to,
                 kind: Kind::Cell,
                 file: ends.file,
-                key: Key::Version(version.stamp),
+                key: Key::Version(version.head().stamp),
             },
             Message::Ack { ends, key, .. } => Summary {
                 from,

@@ -1,8 +1,9 @@
 //! That what is sent is copied and told as it is.
 
 use super::*;
-use pg_base::{FileId, Kind as FileKind, SharedBytes, Stamp, Version};
+use pg_base::{FileId, Head, Items, Kind as FileKind, SharedBytes, Stamp, Vector, Version};
 use pg_edges::Key;
+use pg_patch::make;
 use std::test::Fail;
 
 #[test]
@@ -21,17 +22,18 @@ fn messages_are_copied_and_told(rt: HostRuntime) -> Result<(), Fail> {
         time: 40,
         server: 1,
     };
-    let update = Update {
-        file,
-        version: Version {
-            stamp,
-            body: SharedBytes::from_slice(rt.alloc(), b"ab")?,
-        },
+    let head = Head {
+        stamp,
+        birth: 1,
+        number: 1,
+        vector: Vector::new(rt.alloc()),
+        length: 2,
     };
+    let version = Version::new(head, SharedBytes::from_slice(rt.alloc(), b"ab")?);
     let cell = Message::Cell {
         ends,
         tag: 7,
-        version: update.copy()?.version,
+        version: version.copy()?,
     };
     let sent = Sent {
         to: 2,
@@ -56,5 +58,32 @@ fn messages_are_copied_and_told(rt: HostRuntime) -> Result<(), Fail> {
     };
     let told = format!(in rt.alloc(); "{}", sent.summary())?;
     assert_eq!(rt; told.as_str(), "2 1 ack f1.2 entry:f1.2");
+    Ok(())
+}
+
+#[test]
+fn updates_are_copied(rt: HostRuntime) -> Result<(), Fail> {
+    let stamp = Stamp {
+        time: 40,
+        server: 1,
+    };
+    let mut bases = Items::new(rt.alloc());
+    bases.push(stamp)?;
+    let update = Update {
+        file: FileId {
+            kind: FileKind::File,
+            server: 1,
+            number: 2,
+        },
+        stamp: Stamp {
+            time: 41,
+            server: 1,
+        },
+        bases,
+        ranges: make(rt.alloc(), 3, b"ab").ok().ok_or("ranges")?,
+    };
+    let copy = update.copy()?;
+    assert_eq!(rt; copy.bases.as_slice(), [stamp].as_slice());
+    assert_eq!(rt; copy.ranges.least(), 5);
     Ok(())
 }

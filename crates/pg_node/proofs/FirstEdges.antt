@@ -41,6 +41,6 @@ first_edges server zero p b = none_of_none server p b
 first_edges server (suc k) p b = next_listed server k p b (suc k == server) refl (first_edges server k p b)
 
 -- so which messages are accepted there
-pub accepted_anew : (server servers from : ℕ) (ends : Ends) → ends.receiver ≡ 1 → is_first_edge server servers from ends.sender ≡ is_accepted (new_replica server servers) from ends
+pub accepted_anew : (server servers from : ℕ) (ends : Ends) → ends.receiver ≡ 1 → is_first_edge server servers from ends.sender ≡ is_accepted (new_replica server servers ends.file) from ends
 accepted_anew server servers from ends born =
     sym (first_edges server servers from ends.sender) ∙ sym (ap (λ b. b && is_listed (clean_edges server servers) from ends.sender) (eq-eqb ends.receiver 1 born))

@@ -18,8 +18,9 @@ use Rattle.pg_edges.specs.Keys.{without}
 use Rattle.pg_edges.specs.Edges.{acked, take_off, taken_off, tag_at}
 use Rattle.pg_edges.proofs.Lookups.{both}
 use Rattle.pg_sched.specs.declared.quiet.Owing.{Owing}
-use Rattle.pg_node.specs.declared.replica.Replica.{Replica}
-use Rattle.pg_node.specs.Local.{cell_at, edge_cells, edge_owes, key_cell, replica_cells, replica_owes}
+use Rattle.pg_replica.specs.declared.replica.Replica.{Replica}
+use Rattle.pg_replica.specs.Replica.{cell_at}
+use Rattle.pg_node.specs.Local.{edge_cells, edge_owes, key_cell, replica_cells, replica_owes}
 use Rattle.pg_node.specs.Index.{is_none, are_clean, IsIndex, ListsUnacknowledged, known_cells, known_owes}
 use Rattle.pg_node.proofs.Lists.{pieces_from}
 use Rattle.pg_node.proofs.Merging.{by_index}
@@ -41,7 +42,7 @@ clean_pieces f none (e ∷ es) h =
 
 no_cells : (server : ℕ) (file : FileId) (x : Replica) → are_clean x.edges ≡ true → replica_cells server (file, x) ≡ []
 no_cells server file x h =
-    clean_pieces (edge_cells server file x) (λ e none. ap (flat_map (λ (k : Key × ℕ). key_cell server file x.birth e (cell_at x.head k.0) k.1)) none) x.edges h
+    clean_pieces (edge_cells server file x) (λ e none. ap (flat_map (λ (k : Key × ℕ). key_cell server file x.birth e (cell_at x.content.heads k.0) k.1)) none) x.edges h
 
 abbrev owing : ℕ → FileId → ℕ → Key × ℕ → Owing
 owing server file peer k = record { server = server; file = file; peer = peer; key = k.0 }
@@ -60,9 +61,9 @@ none_from false (k ∷ keys) h = refl
 pub clean_at : (es : List Edge) (i : ℕ) (e : Edge) (b : Bool) → i < length es → e ≡ get_or es i e → IsTrue b ↔ (e.keys ≡ []) → are_clean (drop i es) ≡ (b && are_clean (drop (i + 1) es))
 clean_at es i e b lt at h = ap are_clean (pieces_from es i e lt at) ∙ ap (λ t. t && are_clean (drop (i + 1) es)) (sym (none_from b e.keys h))
 
-pub clean_answer : (x w : Replica) (t : Bool) (es : List Edge) → w ≡ cond t (record { birth = x.birth; head = x.head; edges = es }) x → (are_clean x.edges ≡ true → are_clean es ≡ true) → are_clean x.edges ≡ true → are_clean w.edges ≡ true
-clean_answer x w true es is more h = ap (λ (y : Replica). are_clean y.edges) is ∙ more h
-clean_answer x w false es is more h = ap (λ (y : Replica). are_clean y.edges) is ∙ h
+pub clean_answer : (x w y : Replica) (t : Bool) → w ≡ cond t y x → (are_clean x.edges ≡ true → are_clean y.edges ≡ true) → are_clean x.edges ≡ true → are_clean w.edges ≡ true
+clean_answer x w y true is more h = ap (λ (z : Replica). are_clean z.edges) is ∙ more h
+clean_answer x w y false is more h = ap (λ (y : Replica). are_clean y.edges) is ∙ h
 
 -- so it is enough to go over the listed files
 pub listed_cells : (server : ℕ) (us : List (FileId × Unit {0})) (es : List (FileId × Replica)) → IsStrictlySortedBy file_cmp (keys_of us) → IsIndex us es

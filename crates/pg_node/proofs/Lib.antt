@@ -4,3 +4,8 @@ mod Lists
 mod Merging
 mod Indexed
 mod FirstKey
+mod Times
+mod Results
+mod Lengths
+mod Sound
+mod Wrote

@@ -9,7 +9,7 @@ use Rattle.pg_edges.specs.declared.key.Key.{Key}
 use Rattle.pg_edges.specs.declared.edge.Edge.{Edge}
 use Rattle.pg_msg.specs.declared.message.Sent.{Sent}
 use Rattle.pg_sched.specs.declared.quiet.Owing.{Owing}
-use Rattle.pg_node.specs.declared.replica.Replica.{Replica}
+use Rattle.pg_replica.specs.declared.replica.Replica.{Replica}
 use Rattle.pg_node.specs.Local.{replica_cells, replica_owes}
 
 abbrev pub is_none : List (Key × ℕ) → Bool

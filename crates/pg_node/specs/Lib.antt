@@ -1,5 +1,6 @@
 pub mod Local
 pub mod FirstEdges
-pub mod Flooded
 pub mod Index
+pub mod Last
 pub mod StoreInside
+pub mod Writing

@@ -3,14 +3,13 @@
 ghost use Rattle.std.specs.Prelude.{◌≡◌, ◌≤◌, ◌^◌, [], Some, None, OnOk, IfOk};
 ghost use Rattle.pg_msg.specs.declared.message.Message.TheVariants as message;
 ghost use Rattle.pg_sched.specs.declared.entry.Reply.TheVariants.{Done, Refused};
-ghost use Rattle.pg_sched.specs.declared.entry.Refusal.TheVariants.{ClockEnd};
-ghost use Rattle.pg_node.specs.Local.{arrived, effect, heard, put, tick, told, took, unacknowledged_cells, wrote};
+ghost use Rattle.pg_node.specs.Local.{arrived, effect, heard, tick, told, took, unacknowledged_cells};
 
 use crate::input::{Input, Out};
 use crate::sending::ack_to;
 use crate::store::Store;
-use pg_base::{FileId, Items, NodeId, SharedBytes, Version};
-use pg_msg::{Ends, Message, Packet, Sent, Update};
+use pg_base::{Items, NodeId, Version};
+use pg_msg::{Ends, Message, Packet, Sent};
 use pg_sched::{Refusal, Reply};
 use std::alloc::{AllocError, Global};
 
@@ -25,15 +24,11 @@ fn told(alloc: Global, reply: Option<Reply>, sent: Items<Sent>) -> Out
     }
 }
 
-/// At the end of the clock a write and a tick are refused.
-fn refused(alloc: Global) -> Out
-    ensures { result ≡ told (Some (Refused ClockEnd)) [] }
+/// Nothing is done, and the client is told why.
+pub(crate) fn refused(alloc: Global, refusal: Refusal) -> Out
+    ensures { result ≡ told (Some (Refused refusal)) [] }
 {
-    told(
-        alloc,
-        Some(Reply::Refused(Refusal::ClockEnd)),
-        Items::new(alloc),
-    )
+    told(alloc, Some(Reply::Refused(refusal)), Items::new(alloc))
 }
 
 /// Nothing is answered.
@@ -50,42 +45,14 @@ impl Store {
         ensures out { IfOk result (λ out. out ≡ (effect self.old input).out) }
     {
         match input {
-            Input::Put { moment, file, body } => Ok(self.put(moment, file, body)?),
+            Input::Write {
+                moment,
+                file,
+                change,
+            } => Ok(self.write(moment, file, change)?),
             Input::Tick { .. } => Ok(self.tick()?),
             Input::Arrival(packet) => Ok(self.arrive(packet)?),
         }
-    }
-
-    fn put(&mut self, moment: u64, file: FileId, body: SharedBytes) -> Result<Out, AllocError>
-        ensures store { OnOk result (self.new ≡ (put self.old moment file body).store) }
-        ensures out { IfOk result (λ out. out ≡ (put self.old moment file body).out) }
-    {
-        if !self.has_time() {
-            return Ok(refused(self.alloc()));
-        }
-        let stamp = self.next_stamp(moment);
-        Ok(self.write(file, Version { stamp, body })?)
-    }
-
-    /// Makes a version, which is held from then on and goes to every peer.
-    fn write(&mut self, file: FileId, version: Version) -> Result<Out, AllocError>
-        requires { self.old.tags ≤ 2 ^ 62 }
-        ensures store { OnOk result (self.new ≡ (wrote self.old file version).store) }
-        ensures out { IfOk result (λ out. out ≡ (wrote self.old file version).out) }
-    {
-        let stamp = version.stamp;
-        let mut made = Items::new(self.alloc());
-        made.push(Update {
-            file,
-            version: version.copy()?,
-        })?;
-        let mut sent = Items::new(self.alloc());
-        self.keep(file, version, &mut sent)?;
-        Ok(Out {
-            reply: Some(Reply::Wrote(stamp)),
-            made,
-            sent,
-        })
     }
 
     /// Sends again what is not acknowledged, but at the end of the clock.
@@ -96,7 +63,7 @@ impl Store {
         if self.has_time() {
             Ok(self.send_again()?)
         } else {
-            Ok(refused(self.alloc()))
+            Ok(refused(self.alloc(), Refusal::ClockEnd))
         }
     }
 
@@ -149,7 +116,8 @@ impl Store {
         Ok(self.take(from, ends, tag, version)?)
     }
 
-    /// A newer version is held from then on and goes to every peer, the sender too. The cell is answered in any case.
+    /// A version that is not covered is a head from then on and goes to every peer, the sender too. The cell is answered
+    /// in any case.
     fn take(
         &mut self,
         from: NodeId,
@@ -163,10 +131,10 @@ impl Store {
     {
         let mut sent = Items::new(self.alloc());
         sent.push(ack_to(self.server(), from, &ends, &version, tag))?;
-        if !self.lacks(&ends.file, &version) {
+        if self.covers(&ends.file, &version) {
             return Ok(told(self.alloc(), None, sent));
         }
-        self.keep(ends.file, version, &mut sent)?;
+        self.flood(ends.file, version, &mut sent)?;
         Ok(told(self.alloc(), None, sent))
     }
 }

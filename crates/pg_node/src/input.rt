@@ -1,17 +1,17 @@
 //! What comes to a server, and what comes of it.
 
-use pg_base::{FileId, Items, SharedBytes};
+use pg_base::{FileId, Items};
 use pg_msg::{Packet, Sent, Update};
-use pg_sched::Reply;
+use pg_sched::{Change, Reply};
 
 /// What comes to a server.
 #[derive(Debug, Drop)]
 pub enum Input {
-    /// A client writes a whole file at a moment of the server's clock.
-    Put {
+    /// A client changes a file at a moment of the server's clock.
+    Write {
         moment: u64,
         file: FileId,
-        body: SharedBytes,
+        change: Change,
     },
     /// Time to send again what is not acknowledged. The word is a random one.
     Tick {

@@ -1,6 +1,7 @@
 //! A server: what it holds, and what it does with what comes to it.
 #![tactic(auto)]
 
+mod changing;
 mod effect;
 mod error;
 mod input;
@@ -11,9 +12,9 @@ mod sending;
 mod store;
 #[cfg(test)]
 mod tests;
+mod writing;
 
 pub use error::StepError;
 pub use input::{Input, Out};
 pub use node::Node;
-pub use replica::Replica;
 pub use store::Store;

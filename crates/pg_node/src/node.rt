@@ -2,12 +2,14 @@
 
 ghost use Rattle.std.specs.Prelude.{◌≡◌, ◌↔◌, OnOk, OnErr, IfOk, IsErrOf, slice_get, false, true};
 ghost use Rattle.std.specs.Option.{option_copied};
-ghost use Rattle.pg_node.specs.Local.{effect, held, new_store, owed};
+ghost use Rattle.pg_content.specs.Content.{or_empty};
+ghost use Rattle.pg_node.specs.Local.{effect, held, new_store, owed, policy_of};
 
 use crate::error::StepError;
 use crate::input::{Input, Out};
 use crate::store::Store;
-use pg_base::{FileId, NodeId, Version};
+use pg_base::{FileId, NodeId};
+use pg_content::Content;
 use pg_sched::Owing;
 use std::alloc::Global;
 
@@ -62,10 +64,10 @@ impl Node {
         self.store.owed()
     }
 
-    /// The version of a file that the server holds.
-    pub fn head(&self, file: &FileId) -> Option<&Version>
-        ensures { option_copied result ≡ held self.now.store file.now }
+    /// What the server holds of a file. Without a content it has no version.
+    pub fn content(&self, file: &FileId) -> Option<&Content>
+        ensures { or_empty (policy_of file.now) (option_copied result) ≡ held self.now.store file.now }
     {
-        self.store.head(file)
+        self.store.content(file)
     }
 }

@@ -3,9 +3,9 @@
 ghost use Rattle.std.specs.Prelude.{◌≡◌, slice_get};
 ghost use Rattle.pg_node.specs.Local.{edge_owes, replica_owes};
 
-use crate::replica::Replica;
 use pg_base::{FileId, NodeId};
 use pg_edges::Edge;
+use pg_replica::Replica;
 use pg_sched::Owing;
 
 /// The first unacknowledged key of an edge.

@@ -1,15 +1,23 @@
 //! What a server sends.
 
 ghost use Rattle.std.specs.Prelude.{◌≡◌, ◌++◌, OnOk, IfOk};
-ghost use Rattle.pg_edges.specs.declared.key.Key.TheVariants as key_of;
+ghost use Rattle.std.specs.List.{flat_map};
 ghost use Rattle.pg_edges.specs.Keys.{tag_in};
-ghost use Rattle.pg_node.specs.Local.{ack_to, cell_at, cell_to, cells, edge_cells, key_cell, replica_cells, tagged_cell};
+ghost use Rattle.pg_replica.specs.Replica.{cell_at, key_of};
+ghost use Rattle.pg_node.specs.Local.{ack_to, cell_to, cells, edge_cells, key_cell, replica_cells, tagged_cell};
 
-use crate::replica::Replica;
 use pg_base::{FileId, Items, NodeId, Version};
 use pg_edges::{Edge, Key};
 use pg_msg::{Ends, Message, Packet, Sent};
+use pg_replica::Replica;
 use std::alloc::AllocError;
+
+/// The key of a version.
+fn key_of(version: &Version) -> Key
+    ensures { result ≡ key_of version.now }
+{
+    Key::Version(version.head().stamp)
+}
 
 /// A version under a tag, to the peer of an edge, from a replica of this birth.
 fn cell_to(
@@ -52,7 +60,7 @@ pub(crate) fn ack_to(server: NodeId, from: NodeId, ends: &Ends, version: &Versio
     };
     let message = Message::Ack {
         ends,
-        key: Key::Version(version.stamp),
+        key: key_of(version),
         tag,
     };
     Sent {
@@ -73,9 +81,9 @@ fn send_tagged(
     version: &Version,
     sent: &mut Items<Sent>,
 ) -> Result<(), AllocError>
-    ensures { OnOk result (sent.new ≡ sent.old ++ tagged_cell server file birth edge.now version.now (tag_in edge.now.keys (key_of.Version version.now.stamp))) }
+    ensures { OnOk result (sent.new ≡ sent.old ++ tagged_cell server file birth edge.now version.now (tag_in edge.now.keys (key_of version.now))) }
 {
-    match edge.keys.get(&Key::Version(version.stamp)) {
+    match edge.keys.get(&key_of(version)) {
         Some(tag) => {
             sent.push(cell_to(server, file, birth, edge, version, tag)?)?;
             Ok(())
@@ -100,7 +108,22 @@ pub(crate) fn send_cells(
     Ok(())
 }
 
-/// The version that an unacknowledged key names, where it is held.
+/// Each head to each peer that has not acknowledged it, by stamp and peer.
+pub(crate) fn send_heads(
+    server: NodeId,
+    file: FileId,
+    replica: &Replica,
+    sent: &mut Items<Sent>,
+) -> Result<(), AllocError>
+    ensures { OnOk result (sent.new ≡ sent.old ++ flat_map (cells server file replica.now) replica.now.content.heads) }
+{
+    for version in replica.content.heads() {
+        send_cells(server, file, replica, version, sent)?;
+    }
+    Ok(())
+}
+
+/// The version that an unacknowledged key names, where it is a head.
 fn send_key(
     server: NodeId,
     file: FileId,
@@ -110,7 +133,7 @@ fn send_key(
     tag: u64,
     sent: &mut Items<Sent>,
 ) -> Result<(), AllocError>
-    ensures { OnOk result (sent.new ≡ sent.old ++ key_cell server file replica.now.birth edge.now (cell_at replica.now.head key.now) tag) }
+    ensures { OnOk result (sent.new ≡ sent.old ++ key_cell server file replica.now.birth edge.now (cell_at replica.now.content.heads key.now) tag) }
 {
     match replica.cell_at(key) {
         Some(version) => {

@@ -1,20 +1,28 @@
 //! What a server holds.
 
-ghost use Rattle.std.specs.Prelude.{◌≡◌, ◌++◌, ◌≤◌, ◌^◌, ◌<◌, OnOk, Some, slice_get};
+ghost use Rattle.std.specs.Prelude.{◌≡◌, ◌≢◌, ◌++◌, ◌≤◌, ◌^◌, ◌<◌, ◌&&◌, true, false, IfErr, IfOk, OnOk, None, Some, slice_get};
+ghost use Rattle.std.specs.List.{flat_map};
 ghost use Rattle.std.specs.Option.{option_copied};
 ghost use Rattle.pg_base.specs.Stamp.{next_stamp};
+ghost use Rattle.pg_base.specs.declared.stamp.Stamp.{Stamp};
+ghost use Rattle.pg_content.specs.Content.{or_empty};
+ghost use Rattle.pg_replica.specs.declared.replica.Replica.{Replica};
+ghost use Rattle.pg_replica.specs.Replica.{covers, with_head, with_write};
 ghost use Rattle.pg_node.specs.FirstEdges.{is_first_edge, is_other};
-ghost use Rattle.pg_node.specs.declared.replica.Replica.{Replica};
-ghost use Rattle.pg_node.specs.Flooded.{flooded};
 ghost use Rattle.pg_node.specs.Index.{are_clean, known_cells, known_owes};
-ghost use Rattle.pg_node.specs.Local.{answered, cells, has_time, held, is_accepted, is_newer, keep, known, new_replica, new_store, owed, replica_of, unacknowledged_cells, with_head};
+ghost use Rattle.pg_node.specs.Local.{actor_at, answered, cells, has_room, has_time, held, is_accepted, keep, known, new_replica, new_store, owed, policy_of, replica_of, unacknowledged_cells};
+ghost use Rattle.pg_sched.specs.declared.entry.Refusal.TheVariants as refusal;
+ghost use Rattle.pg_node.specs.Writing.{maker, refusal_of};
 
 use crate::owing::first_of_replica;
-use crate::replica::Replica;
-use crate::sending::send_replica;
+use crate::replica::{acknowledge, is_accepted, is_clean, join, new_replica, write};
+use crate::sending::{send_cells, send_heads, send_replica};
 use pg_base::{FileId, Items, NodeId, Stamp, Version};
+use pg_content::{Content, WriteError};
 use pg_edges::Key;
 use pg_msg::{Ends, Sent};
+use pg_patch::Ranges;
+use pg_replica::Replica;
 use pg_sched::Owing;
 use std::alloc::{AllocError, Global};
 use std::collections::BTreeMap;
@@ -41,9 +49,9 @@ impl Model for Store {
 
     ghost view = { λ s. record { server = s.server; servers = s.servers; last = s.last; tags = s.tags; replicas = s.replicas.entries } };
 
-    ghost use Rattle.pg_node.specs.StoreInside.{IsIndexed};
+    ghost use Rattle.pg_node.specs.StoreInside.{IsSound};
 
-    ghost invariant = { IsIndexed };
+    ghost invariant = { IsSound };
 }
 
 /// Whether a server starts with an edge to this birth of a peer.
@@ -108,23 +116,33 @@ impl Store {
         self.replicas.get(file)
     }
 
-    /// The version of a file that the server holds.
-    pub(crate) fn head(&self, file: &FileId) -> Option<&Version>
-        ensures { option_copied result ≡ held self.now file.now }
+    /// What the server holds of a file. Without a content it has no version.
+    pub(crate) fn content(&self, file: &FileId) -> Option<&Content>
+        ensures { or_empty (policy_of file.now) (option_copied result) ≡ held self.now file.now }
     {
         match self.known(file) {
-            Some(replica) => replica.head.as_ref(),
+            Some(replica) => Some(&replica.content),
             None => None,
         }
     }
 
-    /// Whether a version has a greater stamp than what is held of its file.
-    pub(crate) fn lacks(&self, file: &FileId, version: &Version) -> bool
-        ensures { result ≡ is_newer (held self.now file.now) version.now }
+    /// Whether no head of a file knows of a version of the server's replica with a number of 2^62 or more.
+    pub(crate) fn has_room(&self, file: &FileId) -> bool
+        ensures { result ≡ has_room (held self.now file.now).heads (actor_at self.now (replica_of self.now file.now)) }
     {
-        match self.head(file) {
-            Some(held) => held.stamp.is_before(version.stamp),
+        match self.known(file) {
+            Some(replica) => replica.has_room(self.server),
             None => true,
+        }
+    }
+
+    /// Whether a version, or one that was made after it and knew it, was taken.
+    pub(crate) fn covers(&self, file: &FileId, version: &Version) -> bool
+        ensures { result ≡ covers (replica_of self.now file.now) version.now }
+    {
+        match self.known(file) {
+            Some(replica) => replica.covers(version),
+            None => false,
         }
     }
 
@@ -133,58 +151,115 @@ impl Store {
         ensures { result ≡ is_accepted (replica_of self.now ends.now.file) from ends.now }
     {
         match self.known(&ends.file) {
-            Some(replica) => replica.is_accepted(from, ends),
+            Some(replica) => is_accepted(replica, from, ends),
             None => self.is_accepted_anew(from, ends),
         }
     }
 
     /// The same of a replica that nobody has touched.
     fn is_accepted_anew(&self, from: NodeId, ends: &Ends) -> bool
-        ensures { result ≡ is_accepted (new_replica self.now.server self.now.servers) from ends.now }
+        ensures { result ≡ is_accepted (new_replica self.now.server self.now.servers ends.now.file) from ends.now }
     {
         ends.receiver == 1 && is_first_edge(self.server, self.servers, from, ends.sender)
     }
 
-    /// The version is held from now on, and goes to every peer. After a refusal a part may be done.
-    pub(crate) fn keep(
+    /// A version that is not covered is a head from now on, and goes to every peer. After a refusal a part may be done.
+    pub(crate) fn flood(
         &mut self,
         file: FileId,
         version: Version,
         sent: &mut Items<Sent>,
     ) -> Result<(), AllocError>
-        requires { self.old.tags ≤ 2 ^ 62 }
-        ensures store { OnOk result (self.new ≡ keep self.old file version) }
+        requires tags { self.old.tags ≤ 2 ^ 62 }
+        requires news { covers (replica_of self.old file) version ≡ false }
+        ensures store { OnOk result (self.new ≡ keep self.old file (with_head (replica_of self.old file) version self.old.tags) version.head.stamp) }
         ensures sent { OnOk result (sent.new ≡ sent.old ++ cells self.old.server file (with_head (replica_of self.old file) version self.old.tags) version) }
     {
-        self.last = self.last.max(version.stamp.time);
-        self.flood(file, version, sent)?;
+        let copy = version.copy()?;
+        self.join_version(file, version)?;
+        self.send_version(file, &copy, sent)?;
         self.unlist(&file);
         Ok(())
     }
 
-    /// The version is held, and goes to every peer.
-    fn flood(
-        &mut self,
-        file: FileId,
-        version: Version,
-        sent: &mut Items<Sent>,
-    ) -> Result<(), AllocError>
-        requires { self.old.tags ≤ 2 ^ 62 }
-        ensures store { OnOk result (self.new ≡ flooded self.old file version) }
-        ensures sent { OnOk result (sent.new ≡ sent.old ++ cells self.old.server file (with_head (replica_of self.old file) version self.old.tags) version) }
+    /// The version is a head from now on.
+    fn join_version(&mut self, file: FileId, version: Version) -> Result<(), AllocError>
+        requires tags { self.old.tags ≤ 2 ^ 62 }
+        requires news { covers (replica_of self.old file) version ≡ false }
+        ensures { OnOk result (self.new ≡ keep self.old file (with_head (replica_of self.old file) version self.old.tags) version.head.stamp) }
     {
         self.unacknowledged.insert(file, ())?;
         match self.replicas.get_mut(&file) {
             Some(replica) => {
-                replica.flood(self.server, file, version, &mut self.tags, sent)?;
+                join(replica, version, &mut self.last, &mut self.tags)?;
                 Ok(())
             }
             None => {
-                let mut replica = Replica::new(self.alloc, self.server, self.servers)?;
-                replica.flood(self.server, file, version, &mut self.tags, sent)?;
+                let mut replica = new_replica(self.alloc, self.server, self.servers, &file)?;
+                join(&mut replica, version, &mut self.last, &mut self.tags)?;
                 self.replicas.insert(file, replica)?;
                 Ok(())
             }
+        }
+    }
+
+    /// Sends a version of a file to each peer that has not acknowledged it, by peer.
+    fn send_version(
+        &self,
+        file: FileId,
+        version: &Version,
+        sent: &mut Items<Sent>,
+    ) -> Result<(), AllocError>
+        ensures { (x : Replica) → known self.now file ≡ Some x → OnOk result (sent.new ≡ sent.old ++ cells self.now.server file x version.now) }
+    {
+        match self.known(&file) {
+            Some(replica) => {
+                send_cells(self.server, file, replica, version, sent)?;
+                Ok(())
+            }
+            None => Ok(()),
+        }
+    }
+
+    /// A version is made of what the ranges make of what is shown, on all heads. It is the only head from now on. Where
+    /// that is too long or has too many actors nothing changes.
+    pub(crate) fn write_version(
+        &mut self,
+        file: FileId,
+        stamp: Stamp,
+        ranges: &Ranges,
+    ) -> Result<(), WriteError>
+        requires tags { self.old.tags ≤ 2 ^ 62 }
+        requires later { self.old.last < stamp.time }
+        requires room { has_room (held self.old file).heads (maker (replica_of self.old file) stamp) ≡ true }
+        ensures wrote { OnOk result (self.new ≡ keep self.old file (with_write (replica_of self.old file) (maker (replica_of self.old file) stamp) stamp ranges.now self.old.tags) stamp) }
+        ensures allowed { OnOk result (refusal_of (held self.old file) (maker (replica_of self.old file) stamp) ranges.now ≡ None) }
+        ensures too_long { IfErr result (λ e. e ≡ WriteError.TooLong → refusal_of (held self.old file) (maker (replica_of self.old file) stamp) ranges.now ≡ Some refusal.TooLong) }
+        ensures many_actors { IfErr result (λ e. e ≡ WriteError.ManyActors → refusal_of (held self.old file) (maker (replica_of self.old file) stamp) ranges.now ≡ Some refusal.ManyActors) }
+        ensures same { IfErr result (λ e. e ≢ WriteError.OutOfMemory → self.new ≡ self.old) }
+    {
+        self.unacknowledged.insert(file, ())?;
+        match self.replicas.get_mut(&file) {
+            Some(replica) => write(replica, stamp, ranges, &mut self.last, &mut self.tags),
+            None => {
+                let mut replica = new_replica(self.alloc, self.server, self.servers, &file)?;
+                write(&mut replica, stamp, ranges, &mut self.last, &mut self.tags)?;
+                self.replicas.insert(file, replica)?;
+                Ok(())
+            }
+        }
+    }
+
+    /// Sends each head of a file to each peer that has not acknowledged it, by stamp and peer.
+    pub(crate) fn send_heads(&self, file: FileId, sent: &mut Items<Sent>) -> Result<(), AllocError>
+        ensures { OnOk result (sent.new ≡ sent.old ++ flat_map (cells self.now.server file (replica_of self.now file)) (held self.now file).heads) }
+    {
+        match self.known(&file) {
+            Some(replica) => {
+                send_heads(self.server, file, replica, sent)?;
+                Ok(())
+            }
+            None => Ok(()),
         }
     }
 
@@ -193,13 +268,13 @@ impl Store {
         ensures { (x : Replica) → known self.now file.now ≡ Some x → result ≡ are_clean x.edges }
     {
         match self.known(file) {
-            Some(replica) => replica.is_clean(),
+            Some(replica) => is_clean(replica),
             None => true,
         }
     }
 
     /// A file without unacknowledged keys is listed no longer.
-    fn unlist(&mut self, file: &FileId)
+    pub(crate) fn unlist(&mut self, file: &FileId)
         ensures { self.new ≡ self.old }
     {
         if !self.is_clean(file) {
@@ -222,7 +297,7 @@ impl Store {
         let Some(replica) = self.replicas.get_mut(&ends.file) else {
             return;
         };
-        replica.acknowledge(from, ends, key, tag);
+        acknowledge(replica, from, ends, key, tag);
     }
 
     /// Sends the cell of each unacknowledged key, by file, peer and key.

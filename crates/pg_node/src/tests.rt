@@ -1,10 +1,10 @@
 //! Each public call once.
 
 use super::*;
-use pg_base::{FileId, Items, Kind, SharedBytes, Stamp, Version};
+use pg_base::{Actor, Bytes, FileId, Head, Items, Kind, SharedBytes, Stamp, Vector, Version};
 use pg_edges::Key;
 use pg_msg::{Ends, Message, Packet, Sent};
-use pg_sched::{Owing, Refusal, Reply};
+use pg_sched::{Change, Owing, Refusal, Reply};
 use std::test::Fail;
 
 const FILE: FileId = FileId {
@@ -13,28 +13,45 @@ const FILE: FileId = FileId {
     number: 1,
 };
 
-const ENDS: Ends = Ends {
-    file: FILE,
-    sender: 1,
-    receiver: 1,
+/// A file that shows all heads.
+const JOINED: FileId = FileId {
+    kind: Kind::File,
+    server: 1,
+    number: 2,
 };
 
-fn put(rt: HostRuntime, moment: u64) -> Result<Input, Fail> {
-    let body = SharedBytes::from_slice(rt.alloc(), b"ab")?;
-    Ok(Input::Put {
+fn write(moment: u64, file: FileId, change: Change) -> Input {
+    Input::Write {
         moment,
-        file: FILE,
-        body,
-    })
+        file,
+        change,
+    }
 }
 
-fn cell(rt: HostRuntime, time: u64) -> Result<Input, Fail> {
-    let version = Version {
-        stamp: Stamp { time, server: 1 },
-        body: SharedBytes::from_slice(rt.alloc(), b"ab")?,
+fn put(rt: HostRuntime, moment: u64, file: FileId) -> Result<Input, Fail> {
+    let bytes = SharedBytes::from_slice(rt.alloc(), b"ab")?;
+    Ok(write(moment, file, Change::Put(bytes)))
+}
+
+/// The first version of a server, which knows of no other, as it comes from server 1.
+fn cell(rt: HostRuntime, file: FileId, time: u64, server: u32) -> Result<Input, Fail> {
+    let mut vector = Vector::new(rt.alloc());
+    vector.raise(Actor { server, birth: 1 }, 1)?;
+    let head = Head {
+        stamp: Stamp { time, server },
+        birth: 1,
+        number: 1,
+        vector,
+        length: 2,
+    };
+    let version = Version::new(head, SharedBytes::from_slice(rt.alloc(), b"cd")?);
+    let ends = Ends {
+        file,
+        sender: 1,
+        receiver: 1,
     };
     let message = Message::Cell {
-        ends: ENDS,
+        ends,
         tag: 7,
         version,
     };
@@ -42,8 +59,13 @@ fn cell(rt: HostRuntime, time: u64) -> Result<Input, Fail> {
 }
 
 fn ack(tag: u64) -> Input {
+    let ends = Ends {
+        file: FILE,
+        sender: 1,
+        receiver: 1,
+    };
     let message = Message::Ack {
-        ends: ENDS,
+        ends,
         key: Key::Version(Stamp { time: 5, server: 1 }),
         tag,
     };
@@ -62,11 +84,18 @@ fn summaries(rt: HostRuntime, sent: &Items<Sent>) -> Result<String, Fail> {
     Ok(text)
 }
 
+/// The first bytes that a server shows of a file.
+fn shown(node: &Node, file: FileId) -> Result<Bytes, Fail> {
+    let content = node.content(&file).ok_or("no content")?;
+    Ok(content.view(0, 16)?)
+}
+
 #[test]
 fn a_write_goes_to_every_peer(rt: HostRuntime) -> Result<(), Fail> {
     let mut node = Node::new(rt.alloc(), 1, 3);
     assert_eq!(rt; node.owed(), None);
-    let out = node.step(put(rt, 5)?)?;
+    assert!(rt; node.content(&FILE).is_none());
+    let out = node.step(put(rt, 5, FILE)?)?;
     assert_eq!(rt; out.reply, Some(Reply::Wrote(Stamp { time: 5, server: 1 })));
     assert_eq!(rt; out.made.len(), 1);
     let told = summaries(rt, &out.sent)?;
@@ -74,21 +103,20 @@ fn a_write_goes_to_every_peer(rt: HostRuntime) -> Result<(), Fail> {
         told.as_str(),
         "1 2 cell f1.1 version:5@1 1\n1 3 cell f1.1 version:5@1 2\n"
     );
-    let head = node.head(&FILE).map(|v| v.stamp);
-    assert_eq!(rt; head, Some(Stamp { time: 5, server: 1 }));
+    assert_eq!(rt; shown(&node, FILE)?.as_slice(), b"ab".as_slice());
     Ok(())
 }
 
 #[test]
 fn a_cell_is_answered_and_passed_on(rt: HostRuntime) -> Result<(), Fail> {
     let mut node = Node::new(rt.alloc(), 2, 3);
-    let out = node.step(cell(rt, 5)?)?;
+    let out = node.step(cell(rt, FILE, 5, 1)?)?;
     let told = summaries(rt, &out.sent)?;
     assert_eq!(rt;
         told.as_str(),
         "2 1 ack f1.1 version:5@1 7\n2 1 cell f1.1 version:5@1 1\n2 3 cell f1.1 version:5@1 2\n"
     );
-    let out = node.step(cell(rt, 5)?)?;
+    let out = node.step(cell(rt, FILE, 5, 1)?)?;
     let told = summaries(rt, &out.sent)?;
     assert_eq!(rt; told.as_str(), "2 1 ack f1.1 version:5@1 7\n");
     assert!(rt; !node.has_failed());
@@ -98,7 +126,7 @@ fn a_cell_is_answered_and_passed_on(rt: HostRuntime) -> Result<(), Fail> {
 #[test]
 fn an_answer_takes_its_key_off(rt: HostRuntime) -> Result<(), Fail> {
     let mut node = Node::new(rt.alloc(), 1, 3);
-    node.step(put(rt, 5)?)?;
+    node.step(put(rt, 5, FILE)?)?;
     node.step(ack(2))?;
     let first = Owing {
         server: 1,
@@ -116,19 +144,63 @@ fn an_answer_takes_its_key_off(rt: HostRuntime) -> Result<(), Fail> {
     Ok(())
 }
 
+// A second head stands beside the first. A write is based on both, and takes their place.
+#[test]
+fn a_write_takes_the_place_of_two_heads(rt: HostRuntime) -> Result<(), Fail> {
+    let mut node = Node::new(rt.alloc(), 2, 3);
+    node.step(cell(rt, JOINED, 5, 3)?)?;
+    node.step(cell(rt, JOINED, 5, 1)?)?;
+    assert_eq!(rt; shown(&node, JOINED)?.as_slice(), b"cdcd".as_slice());
+    let bytes = SharedBytes::from_slice(rt.alloc(), b"xyz")?;
+    let out = node.step(write(9, JOINED, Change::Patch { offset: 2, bytes }))?;
+    let bases = out
+        .made
+        .as_slice()
+        .first()
+        .ok_or("no update")?
+        .bases
+        .as_slice();
+    assert!(rt; bases == [Stamp { time: 5, server: 1 }, Stamp { time: 5, server: 3 }].as_slice());
+    assert_eq!(rt; shown(&node, JOINED)?.as_slice(), b"cdxyz".as_slice());
+    let told = summaries(rt, &out.sent)?;
+    assert_eq!(rt;
+        told.as_str(),
+        "2 1 cell f1.2 version:9@2 5\n2 3 cell f1.2 version:9@2 6\n"
+    );
+    Ok(())
+}
+
+#[test]
+fn a_body_does_not_grow_over_its_limit(rt: HostRuntime) -> Result<(), Fail> {
+    let mut node = Node::new(rt.alloc(), 1, 3);
+    let refused = Some(Reply::Refused(Refusal::TooLong));
+    let out = node.step(write(5, FILE, Change::Trim(1_048_577)))?;
+    assert_eq!(rt; out.reply, refused);
+    assert!(rt; node.content(&FILE).is_none());
+    let bytes = SharedBytes::from_slice(rt.alloc(), b"ab")?;
+    let late = Change::Patch {
+        offset: 1_048_575,
+        bytes,
+    };
+    assert_eq!(rt; node.step(write(5, FILE, late))?.reply, refused);
+    let out = node.step(write(5, FILE, Change::Trim(3)))?;
+    assert_eq!(rt; out.reply, Some(Reply::Wrote(Stamp { time: 5, server: 1 })));
+    assert_eq!(rt; shown(&node, FILE)?.as_slice(), b"\0\0\0".as_slice());
+    Ok(())
+}
+
 #[test]
 fn nothing_more_at_the_end_of_the_clock(rt: HostRuntime) -> Result<(), Fail> {
     let mut node = Node::new(rt.alloc(), 2, 3);
-    node.step(cell(rt, 1 << 62)?)?;
+    node.step(cell(rt, FILE, 1 << 62, 1)?)?;
     let refused = Some(Reply::Refused(Refusal::ClockEnd));
-    assert_eq!(rt; node.step(put(rt, 5)?)?.reply, refused);
+    assert_eq!(rt; node.step(put(rt, 5, FILE)?)?.reply, refused);
     assert_eq!(rt;
         node.step(Input::Tick { moment: 6, word: 0 })?.reply,
         refused
     );
-    let out = node.step(cell(rt, (1 << 62) + 1)?)?;
+    let out = node.step(cell(rt, FILE, (1 << 62) + 1, 3)?)?;
     assert!(rt; out.sent.is_empty());
-    let head = node.head(&FILE).map(|v| v.stamp.time);
-    assert_eq!(rt; head, Some(1 << 62));
+    assert_eq!(rt; shown(&node, FILE)?.as_slice(), b"cd".as_slice());
     Ok(())
 }

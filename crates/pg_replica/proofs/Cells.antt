@@ -8,7 +8,8 @@ use Rattle.pg_edges.specs.declared.key.Key.{Key}
 use Rattle.pg_edges.specs.declared.key.Key.TheVariants as key
 use Rattle.pg_edges.specs.Key.{is_same_key}
 use Rattle.pg_edges.proofs.Orders.{is_same_key-true}
-use Rattle.pg_content.specs.Version.{VersionValue, stamp_of}
+use Rattle.pg_base.specs.Version.{VersionValue, stamp_of}
+use Rattle.pg_content.specs.Content.{head_at}
 use Rattle.pg_content.specs.Shown.{placed}
 use Rattle.pg_content.specs.StandsFor.{InStrictOrder}
 use Rattle.pg_replica.specs.Replica.{key_of, keys, cell_at}
@@ -104,7 +105,32 @@ module _ (test : VersionValue → Bool) (q : Key) where
   cell_at-kept [] h = refl
   cell_at-kept (v ∷ vs) h = stays_by v vs (test v) (is_same_key q (key_of v)) refl h.0 (cell_at-kept vs h.1)
 
+-- ---- a look-up
+
+other_cell : (v : VersionValue) (vs : List VersionValue) (k : Key) (b : Bool) → is_same_key k (key_of v) ≡ b → ((stamp : Stamp) → k ≡ key.Version stamp → ⊥) → cell_at vs k ≡ None → cond b (Some v) (cell_at vs k) ≡ None
+other_cell v vs k true e other rest = absurd (other v.head.stamp (is_same_key-true k (key_of v) e))
+other_cell v vs k false e other rest = rest
+
+-- at a version's key it is the head of that stamp
+pub cell_at-version : (vs : List VersionValue) (stamp : Stamp) → cell_at vs (key.Version stamp) ≡ head_at vs stamp
+cell_at-version [] stamp = refl
+cell_at-version (v ∷ vs) stamp = ap (cond (is_same_key (key.Version stamp) (key_of v)) (Some v)) (cell_at-version vs stamp)
+
+-- at any other key there is none
+pub cell_at-other : (vs : List VersionValue) (k : Key) → ((stamp : Stamp) → k ≡ key.Version stamp → ⊥) → cell_at vs k ≡ None
+cell_at-other [] k other = refl
+cell_at-other (v ∷ vs) k other = other_cell v vs k (is_same_key k (key_of v)) refl other (cell_at-other vs k other)
+
 -- ---- a version comes
+
+gone_by : (v : VersionValue) (off : List VersionValue) (t b : Bool) → (t || b) ≡ false → (b ≡ false → off ≡ []) → cond t (v ∷ off) off ≡ []
+gone_by v off true b h rest = absurd (let z : true ≡ false = h in cc)
+gone_by v off false b h rest = rest h
+
+-- where the vector covers no head none goes
+pub none_gone : (test : VersionValue → Bool) (vs : List VersionValue) → list_any test vs ≡ false → filter test vs ≡ []
+none_gone test [] h = refl
+none_gone test (v ∷ vs) h = gone_by v (filter test vs) (test v) (list_any test vs) h (none_gone test vs)
 
 module _ (v : VersionValue) (q : Key) where
   placed_by : (w : VersionValue) (ws : List VersionValue) (b : Bool) → is_same_key q (key_of v) ≡ false → cell_at (placed stamp_of v ws) q ≡ cell_at ws q

@@ -6,7 +6,7 @@ use Rattle.pg_patch.specs.Ranges.{RangesValue}
 use Rattle.pg_edges.specs.declared.key.Key.{Key}
 use Rattle.pg_edges.specs.Edges.{touched, retired}
 use Rattle.pg_edges.proofs.Orders.{is_same_key-refl}
-use Rattle.pg_content.specs.Version.{VersionValue}
+use Rattle.pg_base.specs.Version.{VersionValue}
 use Rattle.pg_content.specs.Content.{covers_version, put_version, next_version}
 use Rattle.pg_content.specs.StandsFor.{InStrictOrder}
 use Rattle.pg_flood.specs.Server.{Replica as Seen}

@@ -12,7 +12,7 @@ use Rattle.pg_patch.specs.Ranges.{RangesValue}
 use Rattle.pg_edges.specs.declared.key.Key.{Key}
 use Rattle.pg_edges.specs.Key.{is_same_key}
 use Rattle.pg_edges.proofs.Orders.{is_same_key-true, is_same_key-refl}
-use Rattle.pg_content.specs.Version.{VersionValue, actor_of, stamp_of}
+use Rattle.pg_base.specs.Version.{VersionValue, actor_of, stamp_of}
 use Rattle.pg_content.specs.Shown.{placed}
 use Rattle.pg_content.specs.Content.{Among, covers_version, put_version, joined_all, next_vector, next_version}
 use Rattle.pg_content.specs.StandsFor.{InStrictOrder}

@@ -13,7 +13,7 @@ use Rattle.pg_edges.specs.Laws.Change.{Touch, Ack}
 use Rattle.pg_edges.proofs.Orders.{is_same_key-true, is_same_key-refl}
 use Rattle.pg_edges.proofs.Lookups.{retires}
 use Rattle.pg_edges.proofs.Tags.{keeps_or_brings}
-use Rattle.pg_content.specs.Version.{VersionValue}
+use Rattle.pg_base.specs.Version.{VersionValue}
 use Rattle.pg_content.specs.Content.{Among, covers_version, put_version, next_version}
 use Rattle.pg_content.proofs.Standing.{placed_among}
 use Rattle.pg_flood.proofs.Worlds.{clean_tags}

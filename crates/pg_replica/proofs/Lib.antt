@@ -1,4 +1,4 @@
-mod Listed
+pub mod Listed
 mod Cells
 pub mod Heads
 pub mod Drawn

@@ -5,7 +5,7 @@ use Rattle.std.proofs.lemmas.List.Elements.{All-nil, All-cons, All-head, All-tai
 use Rattle.pg_base.specs.declared.stamp.Stamp.{Stamp}
 use Rattle.pg_base.specs.declared.vector.Actor.{Actor}
 use Rattle.pg_patch.specs.Ranges.{RangesValue}
-use Rattle.pg_content.specs.Version.{VersionValue}
+use Rattle.pg_base.specs.Version.{VersionValue}
 use Rattle.pg_content.specs.Content.{Among, covers_version, put_version, next_version}
 use Rattle.pg_content.specs.StandsFor.{InStrictOrder}
 use Rattle.pg_content.proofs.Standing.{InStrictOrder-placed}

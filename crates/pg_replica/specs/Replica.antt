@@ -1,14 +1,17 @@
 -- A replica with its heads and edges: which keys and cells it has, and what a version, a write and an answer make of it.
-use Rattle.std.specs.Prelude.{ℕ, ◌+◌, Bool, if◌then◌else◌, List, [], ◌∷◌, filter, length, map, Option, None, Some}
+use Rattle.std.specs.Prelude.{ℕ, ◌+◌, Bool, if◌then◌else◌, List, [], ◌∷◌, filter, length, map, nat_le, not, Option, None, Some}
+use Rattle.std.specs.List.{list_any}
 use Rattle.pg_base.specs.declared.stamp.Stamp.{Stamp}
 use Rattle.pg_base.specs.declared.vector.Actor.{Actor}
+use Rattle.pg_base.specs.Stamp.{clock_end}
+use Rattle.pg_base.specs.Vector.{number_at}
 use Rattle.pg_patch.specs.Ranges.{RangesValue}
 use Rattle.pg_edges.specs.declared.key.Key.{Key}
 use Rattle.pg_edges.specs.declared.key.Key.TheVariants as key
 use Rattle.pg_edges.specs.declared.edge.Edge.{Edge}
 use Rattle.pg_edges.specs.Key.{is_same_key}
 use Rattle.pg_edges.specs.Edges.{touched, retired, acked}
-use Rattle.pg_content.specs.Version.{VersionValue, actor_of}
+use Rattle.pg_base.specs.Version.{VersionValue, actor_of}
 use Rattle.pg_content.specs.Content.{is_covered, covers_version, joined_content, written}
 use Rattle.pg_replica.specs.declared.replica.Replica.{Replica}
 
@@ -68,6 +71,14 @@ with_write x actor stamp ranges tags = record {
   content = written x.content actor stamp ranges;
   edges = touched (without_keys x.edges (keys x.content.heads)) (key.Version stamp) tags;
 }
+
+-- the server's replica as an actor
+abbrev pub own_actor : Replica → ℕ → Actor
+own_actor x server = record { server = server; birth = x.birth }
+
+-- no head knows a number of it that is at the end of the clock
+abbrev pub has_room : Replica → ℕ → Bool
+has_room x server = not (list_any (λ v. nat_le clock_end (number_at v.head.vector (own_actor x server))) x.content.heads)
 
 -- ---- an answer
 

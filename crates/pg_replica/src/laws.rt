@@ -5,7 +5,7 @@ ghost use Rattle.pg_base.specs.declared.stamp.Stamp.{Stamp};
 ghost use Rattle.pg_base.specs.declared.vector.Actor.{Actor};
 ghost use Rattle.pg_patch.specs.Ranges.{RangesValue};
 ghost use Rattle.pg_edges.specs.declared.key.Key.{Key};
-ghost use Rattle.pg_content.specs.Version.{VersionValue};
+ghost use Rattle.pg_base.specs.Version.{VersionValue};
 ghost use Rattle.pg_replica.specs.declared.replica.Replica.{Replica};
 ghost use Rattle.pg_replica.specs.Replica.{acknowledged, with_version, with_write};
 ghost use Rattle.pg_replica.specs.Laws.{KeysAreHeads};

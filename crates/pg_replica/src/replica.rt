@@ -1,14 +1,14 @@
 //! One server's replica of a file whose versions may stand side by side.
 
-ghost use Rattle.std.specs.Prelude.{◌≡◌, ◌≢◌, ◌+◌, ◌<◌, ◌≤◌, ◌^◌, All, IfErr, IfOk, OnErr, OnOk, length, not};
+ghost use Rattle.std.specs.Prelude.{◌≡◌, ◌≢◌, ◌+◌, ◌<◌, ◌≤◌, ◌^◌, ◌↔◌, All, IfErr, IfOk, IsErrOf, IsTrue, OnErr, OnOk, length, nat_lt, not, option_copied};
 ghost use Rattle.pg_base.specs.Vector.{number_at};
 ghost use Rattle.pg_patch.specs.Ranges.{applied};
 ghost use Rattle.pg_content.specs.Content.{actor_limit, body_limit, next_vector, shown_bytes};
-ghost use Rattle.pg_replica.specs.Replica.{acknowledged, covers, keys, tags_after, with_head, with_version, with_write};
+ghost use Rattle.pg_replica.specs.Replica.{acknowledged, cell_at, covers, has_room, keys, own_actor, tags_after, with_head, with_version, with_write};
 
 use crate::retiring::{key_of, retire_all, retire_gone};
-use pg_base::{Actor, Items, NodeId, Stamp};
-use pg_content::{Content, Version, WriteError};
+use pg_base::{Actor, Items, NodeId, Stamp, Version};
+use pg_content::{Content, WriteError};
 use pg_edges::{Edges, Key};
 use pg_patch::Ranges;
 use std::alloc::{AllocError, Global};
@@ -44,14 +44,44 @@ impl Replica {
         Ok(keys)
     }
 
+    /// The head that the key names.
+    pub fn cell_at(&self, key: &Key) -> Option<&Version>
+        ensures { option_copied result ≡ cell_at self.now.content.heads key.now }
+    {
+        match key {
+            Key::Version(stamp) => self.content.at(*stamp),
+            _ => None,
+        }
+    }
+
+    /// Whether all numbers of the server at this replica that the heads know are below `Stamp::LATEST`. Then `write`
+    /// has room at it.
+    pub fn has_room(&self, server: NodeId) -> bool
+        ensures test { result ≡ has_room self.now server }
+        ensures room { IsTrue result → All (λ v. number_at v.head.vector (own_actor self.now server) < 2 ^ 63) self.now.content.heads }
+    {
+        self.content.has_room(Actor {
+            server,
+            birth: self.birth,
+        })
+    }
+
+    /// Whether what the ranges make of what is shown is longer than a body may be, so that `write` refuses it.
+    pub fn is_too_long(&self, ranges: &Ranges) -> bool
+        ensures { result ≡ nat_lt body_limit (length (applied (shown_bytes self.now.content) ranges.now)) }
+    {
+        self.content.is_too_long(ranges)
+    }
+
     /// Brings in a version with all that its vector covers, touches its key on every edge, and tells whether it is a
-    /// head now. A version that is covered changes nothing. `tags` is the next tag to give. After a refusal a part may
-    /// be done.
+    /// head now. A version that is covered changes nothing. `tags` is the next tag to give. After a refusal the content
+    /// is as before, but edges and tags may be changed in part.
     pub fn join_version(&mut self, version: Version, tags: &mut u64) -> Result<bool, AllocError>
         requires { tags.old + length self.old.edges < 2 ^ 64 }
         ensures replica { OnOk result (self.new ≡ with_version self.old version tags.old) }
         ensures tags { OnOk result (tags.new ≡ tags_after self.old version tags.old) }
         ensures changed { IfOk result (λ changed. changed ≡ not (covers self.old version)) }
+        ensures err { OnErr result (self.new.content ≡ self.old.content) }
     {
         if self.covers(&version) {
             return Ok(false);
@@ -65,8 +95,9 @@ impl Replica {
         requires { tags.old + length self.old.edges < 2 ^ 64 }
         ensures replica { OnOk result (self.new ≡ with_head self.old version tags.old) }
         ensures tags { OnOk result (tags.new ≡ tags.old + length self.old.edges) }
+        ensures err { OnErr result (self.new.content ≡ self.old.content) }
     {
-        retire_gone(&mut self.edges, self.content.heads(), &version);
+        retire_gone(&mut self.edges, &self.content, &version);
         self.edges.touch(key_of(&version), tags)?;
         self.content.join_version(version)?;
         Ok(())
@@ -88,7 +119,7 @@ impl Replica {
         requires tags { tags.old + length self.old.edges < 2 ^ 64 }
         ensures replica { OnOk result (self.new ≡ with_write self.old actor stamp ranges.now tags.old) }
         ensures next { OnOk result (tags.new ≡ tags.old + length self.old.edges) }
-        ensures too_long { IfErr result (λ e. e ≡ WriteError.TooLong → body_limit < length (applied (shown_bytes self.old.content) ranges.now)) }
+        ensures too_long { IsErrOf result WriteError.TooLong ↔ (body_limit < length (applied (shown_bytes self.old.content) ranges.now)) }
         ensures short { OnOk result (length (applied (shown_bytes self.old.content) ranges.now) ≤ body_limit) }
         ensures many_actors { IfErr result (λ e. e ≡ WriteError.ManyActors → actor_limit < length (next_vector self.old.content.heads actor)) }
         ensures not_long { IfErr result (λ e. e ≡ WriteError.ManyActors → length (applied (shown_bytes self.old.content) ranges.now) ≤ body_limit) }
@@ -96,6 +127,9 @@ impl Replica {
         ensures err { OnErr result (self.new ≡ self.old) }
         ensures unused { OnErr result (tags.new ≡ tags.old) }
     {
+        if self.content.is_too_long(ranges) {
+            return Err(WriteError::TooLong);
+        }
         let mut edges = self.edges.copy()?;
         let mut next = *tags;
         retire_all(&mut edges, self.content.heads());

@@ -5,8 +5,8 @@ ghost use Rattle.pg_content.specs.Content.{covers_version};
 ghost use Rattle.pg_edges.specs.Edges.{retired};
 ghost use Rattle.pg_replica.specs.Replica.{gone, key_of, keys, without_keys};
 
-use pg_base::Vector;
-use pg_content::Version;
+use pg_base::{Vector, Version};
+use pg_content::Content;
 use pg_edges::{Edges, Key};
 
 /// The key of a version.
@@ -26,8 +26,19 @@ pub(crate) fn retire_all(edges: &mut Edges, heads: &[Version])
     }
 }
 
-/// The keys of those heads that the version's vector covers leave every edge. No edge goes.
-pub(crate) fn retire_gone(edges: &mut Edges, heads: &[Version], version: &Version)
+/// The keys of those heads that the version's vector covers leave every edge. No edge goes. Where it covers none the
+/// heads are not gone over.
+pub(crate) fn retire_gone(edges: &mut Edges, content: &Content, version: &Version)
+    ensures edges { edges.new ≡ without_keys edges.old (keys (gone content.now.heads version.now)) }
+    ensures count { length edges.new ≡ length edges.old }
+{
+    if content.replaces(version) {
+        retire_covered(edges, content.heads(), version);
+    }
+}
+
+/// The same, of these heads.
+fn retire_covered(edges: &mut Edges, heads: &[Version], version: &Version)
     ensures edges { edges.new ≡ without_keys edges.old (keys (gone heads.now version.now)) }
     ensures count { length edges.new ≡ length edges.old }
 {

@@ -1,6 +1,6 @@
 use super::*;
-use pg_base::{Actor, SharedBytes, Stamp, Vector};
-use pg_content::{Content, Head, Policy, Version};
+use pg_base::{Actor, Head, Policy, SharedBytes, Stamp, Vector, Version};
+use pg_content::Content;
 use pg_edges::{Edges, Key};
 use pg_patch::make;
 use std::alloc::{AllocError, Global};

@@ -1,5 +1,5 @@
 -- Words of hexadecimal digits.
-use Rattle.std.proofs.Common.{ℕ, ◌≡◌, ◌<◌, ◌≤◌, ◌*◌, ◌+◌, List, [], ◌∷◌, length, Option, Some, None, Result, Ok, Err, refl, ap, ◌∙◌, sym, arith, codes, zero, suc, ◌++◌, ◌/◌, ◌%◌, slice_index, All, inl, inr, true}
+use Rattle.std.proofs.Common.{ℕ, ◌≡◌, ◌<◌, ◌≤◌, ◌*◌, ◌+◌, List, [], ◌∷◌, length, Option, Some, None, Result, Ok, Err, refl, ap, ◌∙◌, sym, arith, zero, suc, ◌++◌, ◌/◌, ◌%◌, slice_index, All, inl, inr, true}
 use Rattle.hex.specs.declared.error.FromHexError.{FromHexError}
 use Rattle.std.specs.List.{AllByRecursion}
 use Rattle.std.specs.Result.{result_unwrap_or}
@@ -8,7 +8,7 @@ use Rattle.std.proofs.lemmas.List.Elements.{All-cons, All-nil, All-head, All-tai
 use Rattle.hex.specs.Hex.{encode_lower, encode_with, decode_of, decode_pairs, pair_value, value_at, digit_or_error, hex_digit_value, is_hex_digit, IsBytes, lower_digits, ◌>>=◌}
 use Rattle.hex.proofs.HexLemmas.{decode_of-ok, decode_of-even, decode_of-digits, length-encode_with, IsAscii-encode_with, IsDigits-lower_digits}
 use Rattle.pg_sched.specs.Fields.{IsLowerDigit, ArePairs}
-use Rattle.pg_sched.specs.Line.{hex_word, IsBody}
+use Rattle.pg_sched.specs.Change.{hex_word, AreBytes}
 
 pub length-encode : (bs : List ℕ) → length (encode_lower bs) ≡ 2 * length bs
 length-encode bs = length-encode_with lower_digits bs
@@ -64,15 +64,22 @@ encode_each (b ∷ bs) h =
     All-cons IsLowerDigit (slice_index lower_digits (b / 16)) (slice_index lower_digits (b % 16) ∷ encode_lower bs) (digit_lower (b / 16) (omega arith))
     (All-cons IsLowerDigit (slice_index lower_digits (b % 16)) (encode_lower bs) (digit_lower (b % 16) (omega arith)) (encode_each bs h.1))
 
--- a word that spells bytes and is no dash is pairs of digits
-pub pairs : (word body : List ℕ) → (word ≡ codes "-" → ⊥) → IsBody body → word ≡ hex_word body → ArePairs word
-pairs word [] other h e = absurd (other e)
-pairs word (b ∷ bs) other h e =
-    let few = h.few in
-    let twice = length-encode (b ∷ bs) in
-    rw e (record { some = omega arith; few = omega arith; even = omega arith; each = encode_each (b ∷ bs) h.bytes })
+-- a word that spells bytes is pairs of digits
+pub pairs : (word bytes : List ℕ) (most : ℕ) → AreBytes most bytes → word ≡ encode_lower bytes → ArePairs word
+pairs word bytes most h e =
+    let some = h.some in
+    let twice = length-encode bytes in
+    rw e (record { some = omega arith; even = omega arith; each = encode_each bytes h.each })
 
--- and what they decode to is encoded as the word
+-- as many pairs as bytes
+pub few_pairs : (word bytes : List ℕ) (most : ℕ) → AreBytes most bytes → word ≡ encode_lower bytes → length word / 2 ≤ most
+few_pairs word bytes most h e =
+    let few = h.few in
+    let twice = length-encode bytes in
+    let same = ap length e in
+    omega arith
+
+-- what pairs of digits decode to is encoded as the word
 
 numeral : (c v : ℕ) → 48 ≤ c → c ≤ 57 → hex_digit_value c ≡ Some v → c ≡ 48 + v
 numeral c v low high e = grind arith
@@ -131,17 +138,16 @@ pairs_back i (a ∷ b ∷ rest) bytes each h =
     let low : slice_index lower_digits (p0.0 % 16) ≡ b = ap (λ n. slice_index lower_digits (n % 16)) (sym byte) ∙ ap (λ n. slice_index lower_digits n) (low_of p1.0 p2.0 lt) ∙ digit_back b p2.0 (All-head IsLowerDigit b rest tail) eb in
     ap encode_lower (sym e) ∙ ap (λ x. x ∷ slice_index lower_digits (p0.0 % 16) ∷ encode_lower p3.0) high ∙ ap (λ x. a ∷ x ∷ encode_lower p3.0) low ∙ ap (λ xs. a ∷ b ∷ xs) ih
 
-hex_word-some : (bs word : List ℕ) → 0 < length word → encode_lower bs ≡ word → word ≡ hex_word bs
-hex_word-some [] word some e = let n = length-encode [] in let m = ap length e in absurd (omega arith)
-hex_word-some (b ∷ bs) word some e = sym e
-
 -- the bytes of pairs of digits
-pub spelled : (word bytes : List ℕ) → ArePairs word → decode_of word ≡ Ok bytes → IsBody bytes × (word ≡ hex_word bytes)
+pub spelled : (word bytes : List ℕ) → ArePairs word → decode_of word ≡ Ok bytes → AreBytes (length word / 2) bytes × (word ≡ encode_lower bytes)
 spelled word bytes h e =
+    let some = h.some in
+    let even = h.even in
     let ok = decode_of-ok word bytes e in
-    let few = h.few in
-    let twice = ok.2 in
-    (record { bytes = all-from_IsBytes bytes ok.3; few = omega arith }, hex_word-some bytes word h.some (pairs_back 0 word bytes h.each (sym (decode_of-even word h.even) ∙ e)))
+    let twice = ok.2 in (
+      record { each = all-from_IsBytes bytes ok.3; some = omega arith; few = omega arith },
+      sym (pairs_back 0 word bytes h.each (sym (decode_of-even word h.even) ∙ e)),
+    )
 
 numeral_digit : (c : ℕ) → 48 ≤ c → c ≤ 57 → is_hex_digit c ≡ true
 numeral_digit c low high = grind arith

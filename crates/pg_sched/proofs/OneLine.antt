@@ -7,15 +7,18 @@ use Rattle.hex.proofs.HexLemmas.{decode_of-encode_lower}
 use Rattle.pg_base.specs.declared.id.FileId.{FileId}
 use Rattle.pg_base.specs.Id.{spelling}
 use Rattle.pg_base.proofs.Spellings.{spelling-same}
+use Rattle.pg_sched.specs.declared.change.Change.{Change}
+use Rattle.pg_sched.specs.declared.change.Change.TheVariants as change
 use Rattle.pg_sched.specs.declared.line.Line.{Line}
 use Rattle.pg_sched.specs.declared.line.Line.TheVariants.{Happens, Settle, Show, Quiet, Trace}
-use Rattle.pg_sched.specs.declared.line.Event.TheVariants.{Put, Tick, Deliver, Lose, Repeat}
+use Rattle.pg_sched.specs.declared.line.Event.TheVariants.{Write, Tick, Deliver, Lose, Repeat}
 use Rattle.pg_sched.specs.declared.line.Form.{Form}
 use Rattle.pg_sched.specs.declared.line.Form.TheVariants.{Full, Short}
 use Rattle.pg_sched.specs.declared.verb.Verb.{Verb}
 use Rattle.pg_sched.specs.declared.verb.Verb.TheVariants as verb
 use Rattle.pg_sched.specs.Fields.{verb_word}
-use Rattle.pg_sched.specs.Line.{hex_word, form_word, line_words, line_body, IsLine, IsFile, IsBody}
+use Rattle.pg_sched.specs.Change.{hex_word, kind_of, change_words, IsBody, IsChange}
+use Rattle.pg_sched.specs.Line.{form_word, line_words, line_body, IsLine, IsFile}
 use Rattle.pg_sched.proofs.HexWords.{IsBytes-from_all, length-encode}
 use Rattle.pg_sched.proofs.Table.{same_verb}
 use Rattle.pg_sched.proofs.Words.{words-again}
@@ -52,7 +55,7 @@ same_form Short Full e = absurd (let n : 5 ≡ 4 = ap length e in omega arith)
 
 -- the line is one of the verb
 abbrev Shape : Verb → Line → Type 0
-Shape verb.Put line = (s m : ℕ) × (f : FileId) × (b : List ℕ) × (line ≡ Happens (Put s m f b))
+Shape (verb.Write k) line = (s m : ℕ) × (f : FileId) × (c : Change) × (kind_of c ≡ k) × (line ≡ Happens (Write s m f c))
 Shape verb.Tick line = (s m w : ℕ) × (line ≡ Happens (Tick s m w))
 Shape verb.Deliver line = (n : ℕ) × (line ≡ Happens (Deliver n))
 Shape verb.Lose line = (n : ℕ) × (line ≡ Happens (Lose n))
@@ -63,7 +66,7 @@ Shape verb.Trace line = (f : Form) × (line ≡ Trace f)
 Shape verb.Show line = (f : FileId) × (line ≡ Show f)
 
 abbrev verb_of : Line → Verb
-verb_of (Happens (Put s m f b)) = verb.Put
+verb_of (Happens (Write s m f c)) = verb.Write (kind_of c)
 verb_of (Happens (Tick s m w)) = verb.Tick
 verb_of (Happens (Deliver n)) = verb.Deliver
 verb_of (Happens (Lose n)) = verb.Lose
@@ -74,7 +77,7 @@ verb_of (Trace f) = verb.Trace
 verb_of (Show f) = verb.Show
 
 shape : (line : Line) → Shape (verb_of line) line
-shape (Happens (Put s m f b)) = (s, m, f, b, refl)
+shape (Happens (Write s m f c)) = (s, m, f, c, refl, refl)
 shape (Happens (Tick s m w)) = (s, m, w, refl)
 shape (Happens (Deliver n)) = (n, refl)
 shape (Happens (Lose n)) = (n, refl)
@@ -85,7 +88,7 @@ shape (Trace f) = (f, refl)
 shape (Show f) = (f, refl)
 
 first_word : (line : Line) → word_at 0 (line_words line) ≡ verb_word (verb_of line)
-first_word (Happens (Put s m f b)) = refl
+first_word (Happens (Write s m f c)) = refl
 first_word (Happens (Tick s m w)) = refl
 first_word (Happens (Deliver n)) = refl
 first_word (Happens (Lose n)) = refl
@@ -105,14 +108,31 @@ same_shape x y e =
 abbrev Same : Line → Line → Type 0
 Same x y = IsLine x → IsLine y → line_words x ≡ line_words y → x ≡ y
 
-same_put : (s m t n : ℕ) (f g : FileId) (b d : List ℕ) → Same (Happens (Put s m f b)) (Happens (Put t n g d))
-same_put s m t n f g b d hx hy e =
+-- changes of one kind with the same words, of which there are two at most, are the same
+same_change : (c d : Change) → IsChange c → IsChange d → kind_of c ≡ kind_of d → word_at 0 (change_words c) ≡ word_at 0 (change_words d) → word_at 1 (change_words c) ≡ word_at 1 (change_words d) → c ≡ d
+same_change (change.Put b) (change.Put d) hc hd k e f = ap change.Put (same_body b d hc hd e)
+same_change (change.Patch o b) (change.Patch p d) hc hd k e f =
+    let lo = hc.0 in
+    let lp = hd.0 in
+    let offset : o ≡ p = decimal_injective o p (omega arith) (omega arith) e in
+    let bytes : b ≡ d = same_body b d hc.1 hd.1 f in
+    cc
+same_change (change.Trim n) (change.Trim m) hc hd k e f = ap change.Trim (decimal_injective n m (omega arith) (omega arith) e)
+same_change (change.Put b) (change.Patch p d) hc hd k e f = cc
+same_change (change.Put b) (change.Trim m) hc hd k e f = cc
+same_change (change.Patch o b) (change.Put d) hc hd k e f = cc
+same_change (change.Patch o b) (change.Trim m) hc hd k e f = cc
+same_change (change.Trim n) (change.Put d) hc hd k e f = cc
+same_change (change.Trim n) (change.Patch p d) hc hd k e f = cc
+
+same_write : (s m t n : ℕ) (f g : FileId) (c d : Change) → kind_of d ≡ kind_of c → Same (Happens (Write s m f c)) (Happens (Write t n g d))
+same_write s m t n f g c d k hx hy e =
     let ls = hx.0 in
     let lt = hy.0 in
     let server : s ≡ t = decimal_injective s t (omega arith) (omega arith) (ap (word_at 1) e) in
     let moment : m ≡ n = decimal_injective m n hx.1 hy.1 (ap (word_at 2) e) in
     let file : f ≡ g = same_file f g hx.2 hy.2 (ap (word_at 3) e) in
-    let body : b ≡ d = same_body b d hx.3 hy.3 (ap (word_at 4) e) in
+    let change : c ≡ d = same_change c d hx.3 hy.3 (sym k) (ap (word_at 4) e) (ap (word_at 5) e) in
     cc
 
 same_tick : (s m w t n u : ℕ) → Same (Happens (Tick s m w)) (Happens (Tick t n u))
@@ -136,7 +156,7 @@ same_as : (x y z : Line) → y ≡ z → Same x z → Same x y
 same_as x y z e h = let P : Line → Type 0 = Same x in subst P (sym e) h
 
 same_words : (x y : Line) → Shape (verb_of x) y → Same x y
-same_words (Happens (Put s m f b)) y h = same_as _ y _ h.4 (same_put s m h.0 h.1 f h.2 b h.3)
+same_words (Happens (Write s m f c)) y h = same_as _ y _ h.5 (same_write s m h.0 h.1 f h.2 c h.3 h.4)
 same_words (Happens (Tick s m w)) y h = same_as _ y _ h.3 (same_tick s m w h.0 h.1 h.2)
 same_words (Happens (Deliver n)) y h = same_as _ y _ h.1 (λ hx hy e. ap (λ q. Happens (Deliver q)) (decimal_injective n h.0 hx hy (ap (word_at 1) e)))
 same_words (Happens (Lose n)) y h = same_as _ y _ h.1 (λ hx hy e. ap (λ q. Happens (Lose q)) (decimal_injective n h.0 hx hy (ap (word_at 1) e)))

@@ -1,13 +1,17 @@
 -- Each line's words are those that the table asks for, and words that are those have no fault.
-use Rattle.std.proofs.Common.{ℕ, ◌≡◌, ◌<◌, List, [], ◌∷◌, length, refl, sym, ap, ◌∙◌, All, inl, inr, subst, cond, ◌==◌, suc}
+use Rattle.std.proofs.Common.{ℕ, ◌≡◌, ◌<◌, List, [], ◌∷◌, length, refl, sym, ap, ◌∙◌, All, inl, inr, subst, cond, ◌==◌, zero, suc}
 use Rattle.std.proofs.lemmas.List.Elements.{All-nil, All-cons}
 use Rattle.pg_sched.specs.Cause.{IsRestCause, IsWordsCause}
-use Rattle.pg_sched.specs.Fields.{Field, fields, verb_word, AreWordsOf, IsBadWord}
+use Rattle.pg_sched.specs.Change.{kind_of, change_words, IsChange}
+use Rattle.pg_sched.specs.Fields.{Field, change_fields, fields, verb_word, AreWordsOf, IsBadWord}
 use Rattle.pg_sched.specs.Line.{line_words, IsLine}
+use Rattle.pg_sched.specs.declared.change.Change.{Change}
+use Rattle.pg_sched.specs.declared.change.Change.TheVariants as change
+use Rattle.pg_sched.specs.declared.change.ChangeKind.TheVariants as kind
 use Rattle.pg_sched.specs.declared.fault.Fault.{Fault}
 use Rattle.pg_sched.specs.declared.line.Line.{Line}
 use Rattle.pg_sched.specs.declared.line.Line.TheVariants.{Happens, Settle, Show, Quiet, Trace}
-use Rattle.pg_sched.specs.declared.line.Event.TheVariants.{Put, Tick, Deliver, Lose, Repeat}
+use Rattle.pg_sched.specs.declared.line.Event.TheVariants.{Write, Tick, Deliver, Lose, Repeat}
 use Rattle.pg_sched.specs.declared.verb.Verb.{Verb}
 use Rattle.pg_sched.specs.declared.verb.Verb.TheVariants as verb
 use Rattle.pg_sched.proofs.WordBytes.{word_some}
@@ -19,8 +23,14 @@ pub record IsTabled (words : List (List ℕ)) : Type 0 where
   pub words_are : words ≡ verb_word verb ∷ rest
   pub each : AreWordsOf (fields verb) rest
 
+change_tabled : (c : Change) → IsChange c → AreWordsOf (change_fields (kind_of c)) (change_words c)
+change_tabled (change.Put b) h = ((b, h, refl), tt)
+change_tabled (change.Patch o b) h = ((o, h.0, refl), ((b, h.1, refl), tt))
+change_tabled (change.Trim n) h = ((n, h, refl), tt)
+
 pub tabled : (line : Line) → IsLine line → IsTabled (line_words line)
-tabled (Happens (Put s m f b)) h = record { verb = verb.Put; rest = _; words_are = refl; each = ((s, h.0, refl), ((m, h.1, refl), ((f, h.2, refl), ((b, h.3, refl), tt)))) }
+tabled (Happens (Write s m f c)) h =
+    record { verb = verb.Write (kind_of c); rest = _; words_are = refl; each = ((s, h.0, refl), ((m, h.1, refl), ((f, h.2, refl), change_tabled c h.3))) }
 tabled (Happens (Tick s m w)) h = record { verb = verb.Tick; rest = _; words_are = refl; each = ((s, h.0, refl), ((m, h.1, refl), ((w, h.2, refl), tt))) }
 tabled (Happens (Deliver n)) h = record { verb = verb.Deliver; rest = _; words_are = refl; each = ((n, h, refl), tt) }
 tabled (Happens (Lose n)) h = record { verb = verb.Lose; rest = _; words_are = refl; each = ((n, h, refl), tt) }
@@ -30,29 +40,29 @@ tabled (Show f) h = record { verb = verb.Show; rest = _; words_are = refl; each 
 tabled Quiet h = record { verb = verb.Quiet; rest = _; words_are = refl; each = tt }
 tabled (Trace form) h = record { verb = verb.Trace; rest = _; words_are = refl; each = ((form, refl), tt) }
 
--- the verb of a word, by its first two bytes
-abbrev second : List ℕ → ℕ
-second [] = 0
-second (x ∷ []) = 0
-second (x ∷ y ∷ ys) = y
-
-abbrev first : List ℕ → ℕ
-first [] = 0
-first (x ∷ xs) = x
+-- the verb of a word, by its first three bytes
+abbrev byte_at : ℕ → List ℕ → ℕ
+byte_at n [] = 0
+byte_at zero (x ∷ xs) = x
+byte_at (suc n) (x ∷ xs) = byte_at n xs
 
 abbrev verb_from : List ℕ → Verb
 verb_from word =
-    cond (first word == 112) verb.Put
-    (cond (first word == 100) verb.Deliver
-    (cond (first word == 108) verb.Lose
-    (cond (first word == 113) verb.Quiet
-    (cond (first word == 114) verb.Repeat
-    (cond (second word == 101) verb.Settle
-    (cond (second word == 104) verb.Show
-    (cond (second word == 105) verb.Tick verb.Trace)))))))
+    cond (byte_at 0 word == 100) verb.Deliver
+    (cond (byte_at 0 word == 108) verb.Lose
+    (cond (byte_at 0 word == 113) verb.Quiet
+    (cond (byte_at 0 word == 114) verb.Repeat
+    (cond (byte_at 1 word == 97) (verb.Write kind.Patch)
+    (cond (byte_at 1 word == 101) verb.Settle
+    (cond (byte_at 1 word == 104) verb.Show
+    (cond (byte_at 1 word == 105) verb.Tick
+    (cond (byte_at 1 word == 117) (verb.Write kind.Put)
+    (cond (byte_at 2 word == 105) (verb.Write kind.Trim) verb.Trace)))))))))
 
 verb_again : (v : Verb) → verb_from (verb_word v) ≡ v
-verb_again verb.Put = refl
+verb_again (verb.Write kind.Put) = refl
+verb_again (verb.Write kind.Patch) = refl
+verb_again (verb.Write kind.Trim) = refl
 verb_again verb.Tick = refl
 verb_again verb.Deliver = refl
 verb_again verb.Lose = refl

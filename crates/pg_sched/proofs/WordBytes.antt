@@ -1,24 +1,27 @@
 -- The bytes of words: how many there are, and that they are printable and no space.
-use Rattle.std.proofs.Common.{ℕ, ◌<◌, ◌≤◌, ◌^◌, ◌/◌, ◌%◌, List, [], ◌∷◌, length, sym, arith, codes, decimal, All, subst, slice_index, length-append}
+use Rattle.std.proofs.Common.{ℕ, ◌<◌, ◌≤◌, ◌^◌, List, [], ◌∷◌, length, sym, arith, codes, decimal, All, subst, inl, inr, length-append}
 use Rattle.std.specs.List.{AllByRecursion}
 use Rattle.std.proofs.lemmas.Fmt.{digits_decimal, length-decimal-le, decimal_nonempty}
 use Rattle.std.proofs.lemmas.Str.Parse.{digit_at}
-use Rattle.std.proofs.lemmas.List.Elements.{All-from_recursion, All-append, All-cons, All-nil, All-weaker, All-from_get_or, All-get_or}
-use Rattle.hex.specs.Hex.{encode_lower, encode_with, lower_digits}
+use Rattle.std.proofs.lemmas.List.Elements.{All-from_recursion, All-append, All-cons, All-weaker, All-from_get_or}
+use Rattle.hex.specs.Hex.{encode_lower}
 use Rattle.pg_base.specs.declared.id.Kind.{Kind}
 use Rattle.pg_base.specs.declared.id.Kind.TheVariants.{Dir, File}
 use Rattle.pg_base.specs.declared.id.FileId.{FileId}
 use Rattle.pg_base.specs.Id as id
 use Rattle.pg_base.proofs.Numerals.{own}
 use Rattle.pg_sched.specs.Cause.{IsPrintable}
-use Rattle.pg_sched.specs.Fields.{Field, IsWordOf, verb_word}
+use Rattle.pg_sched.specs.Fields.{Field, IsLowerDigit, IsWordOf, verb_word}
 use Rattle.pg_sched.specs.Fields.Field.{Narrow, Wide, Name, Bytes, Mode}
-use Rattle.pg_sched.specs.Line.{hex_word, form_word}
+use Rattle.pg_sched.specs.Change.{hex_word, kind_word}
+use Rattle.pg_sched.specs.declared.change.ChangeKind.{ChangeKind}
+use Rattle.pg_sched.specs.declared.change.ChangeKind.TheVariants as kind
+use Rattle.pg_sched.specs.Line.{form_word}
 use Rattle.pg_sched.specs.declared.line.Form.{Form}
 use Rattle.pg_sched.specs.declared.line.Form.TheVariants.{Full, Short}
 use Rattle.pg_sched.specs.declared.verb.Verb.{Verb}
 use Rattle.pg_sched.specs.declared.verb.Verb.TheVariants as verb
-use Rattle.pg_sched.proofs.HexWords.{few_digits, hex_word-not_empty}
+use Rattle.pg_sched.proofs.HexWords.{encode_each, few_digits, hex_word-not_empty}
 
 abbrev pub IsWordByte : ℕ → Type 0
 IsWordByte b = (33 ≤ b) × (b ≤ 126)
@@ -58,20 +61,13 @@ spelling_word file fits =
           (All-cons IsWordByte 46 (decimal file.number) (omega arith, omega arith) n.each));
     }
 
-digit_byte : (d : ℕ) → d < 16 → IsWordByte (slice_index lower_digits d)
-digit_byte d lt = All-get_or IsWordByte lower_digits d 0 lt (All-from_recursion IsWordByte lower_digits (omega arith))
-
-encode_each : (bs : List ℕ) → AllByRecursion (λ b. b < 256) bs → All IsWordByte (encode_lower bs)
-unfolding encode_with
-encode_each [] h = All-nil IsWordByte
-encode_each (b ∷ bs) h =
-    let lt = h.0 in
-    All-cons IsWordByte (slice_index lower_digits (b / 16)) (slice_index lower_digits (b % 16) ∷ encode_lower bs) (digit_byte (b / 16) (omega arith))
-    (All-cons IsWordByte (slice_index lower_digits (b % 16)) (encode_lower bs) (digit_byte (b % 16) (omega arith)) (encode_each bs h.1))
+digit_byte : (b : ℕ) → IsLowerDigit b → IsWordByte b
+digit_byte b (inl h) = let low = h.0 in let high = h.1 in (omega arith, omega arith)
+digit_byte b (inr h) = let low = h.0 in let high = h.1 in (omega arith, omega arith)
 
 hex_each : (bs : List ℕ) → AllByRecursion (λ b. b < 256) bs → All IsWordByte (hex_word bs)
 hex_each [] h = All-from_recursion IsWordByte (codes "-") (omega arith)
-hex_each (b ∷ bs) h = encode_each (b ∷ bs) h
+hex_each (b ∷ bs) h = All-weaker IsLowerDigit IsWordByte digit_byte (encode_lower (b ∷ bs)) (encode_each (b ∷ bs) h)
 
 form_is_word : (form : Form) → IsWord 5 (form_word form)
 form_is_word Full = record { some = omega arith; few = omega arith; each = All-from_recursion IsWordByte (codes "full") (omega arith) }
@@ -107,8 +103,13 @@ word_each field word h = let w = is_word field word h in w.each
 verb_from_recursion : (word : List ℕ) → AllByRecursion IsWordByte word → All IsWordByte word
 verb_from_recursion word h = All-from_recursion IsWordByte word h
 
+kind_each : (k : ChangeKind) → All IsWordByte (kind_word k)
+kind_each kind.Put = verb_from_recursion (codes "put") (omega arith)
+kind_each kind.Patch = verb_from_recursion (codes "patch") (omega arith)
+kind_each kind.Trim = verb_from_recursion (codes "trim") (omega arith)
+
 pub verb_each : (v : Verb) → All IsWordByte (verb_word v)
-verb_each verb.Put = verb_from_recursion (codes "put") (omega arith)
+verb_each (verb.Write k) = kind_each k
 verb_each verb.Tick = verb_from_recursion (codes "tick") (omega arith)
 verb_each verb.Deliver = verb_from_recursion (codes "deliver") (omega arith)
 verb_each verb.Lose = verb_from_recursion (codes "lose") (omega arith)

@@ -7,6 +7,7 @@ use Rattle.std.proofs.lemmas.List.Splits.{slice_split_none, slice_split_at, join
 use Rattle.pg_sched.specs.Cause.{IsPrintable, IsWordsCause, IsRestCause, words_in}
 use Rattle.pg_sched.specs.Fields.{Field, fields, verb_word, AreWordsOf, AreCounted}
 use Rattle.pg_sched.specs.Line.{line_words, line_body, IsLine}
+use Rattle.pg_sched.specs.declared.change.ChangeKind.TheVariants as kind
 use Rattle.pg_sched.specs.declared.fault.Fault.{Fault}
 use Rattle.pg_sched.specs.declared.line.Line.{Line}
 use Rattle.pg_sched.specs.declared.verb.Verb.{Verb}
@@ -54,9 +55,11 @@ no_line text f cause line h e =
     let P : List (List ℕ) → Type 0 = λ ws. IsWordsCause ws f in
     no_words_cause line f h (subst P (ap (slice_split (λ b. eqb b 32)) e ∙ words-again line h) cause)
 
--- no line has more than five words
-few_fields : (v : Verb) → length (fields v) < 5
-few_fields verb.Put = omega arith
+-- no line has more than six words
+few_fields : (v : Verb) → length (fields v) < 6
+few_fields (verb.Write kind.Put) = omega arith
+few_fields (verb.Write kind.Patch) = omega arith
+few_fields (verb.Write kind.Trim) = omega arith
 few_fields verb.Tick = omega arith
 few_fields verb.Deliver = omega arith
 few_fields verb.Lose = omega arith
@@ -71,7 +74,7 @@ take_short zero xs h = absurd (omega arith)
 take_short (suc n) [] h = refl
 take_short (suc n) (x ∷ xs) h = ap (λ ys. x ∷ ys) (take_short n xs (omega arith))
 
-few_words : (line : Line) → IsLine line → length (line_words line) < 6
+few_words : (line : Line) → IsLine line → length (line_words line) < 7
 few_words line h =
     let t = tabled line h in
     let n = same_count (fields t.verb) t.rest t.each in
@@ -79,15 +82,15 @@ few_words line h =
     let e = ap length t.words_are in
     omega arith
 
--- words whose first six are those of a line are no more
-pub no_more : (line : Line) (words : List (List ℕ)) → IsLine line → take 6 words ≡ line_words line → words ≡ line_words line
-no_more line words h e = let n = few_words line h in let m = ap length e in sym (take_short 6 words (omega arith)) ∙ e
+-- words whose first seven are those of a line are no more
+pub no_more : (line : Line) (words : List (List ℕ)) → IsLine line → take 7 words ≡ line_words line → words ≡ line_words line
+no_more line words h e = let n = few_words line h in let m = ap length e in sym (take_short 7 words (omega arith)) ∙ e
 
-rest_cause : (v : Verb) (words : List (List ℕ)) (f : Fault) → IsRestCause v (take 5 words) f → IsRestCause v words f
+rest_cause : (v : Verb) (words : List (List ℕ)) (f : Fault) → IsRestCause v (take 6 words) f → IsRestCause v words f
 rest_cause v words f (inl b) =
     inl (
       λ h. let few = few_fields v in let n = h.count in
-          let same : take 5 words ≡ words = take_all 5 words (omega arith) in
+          let same : take 6 words ≡ words = take_all 6 words (omega arith) in
           let P : List (List ℕ) → Type 0 = AreCounted v in b.0 (subst P (sym same) h),
       b.1,
     )
@@ -96,10 +99,10 @@ rest_cause v words f (inr b) =
     let few = few_fields v in
     let n = counted.count in
     let P : List (List ℕ) → Type 0 = λ ws. IsRestCause v ws f in
-    subst P (take_short 5 words (omega arith)) (inr b)
+    subst P (take_short 6 words (omega arith)) (inr b)
 
--- a fault of the first six words is one of all
-pub words_cause : (words : List (List ℕ)) (f : Fault) → IsWordsCause (take 6 words) f → IsWordsCause words f
+-- a fault of the first seven words is one of all
+pub words_cause : (words : List (List ℕ)) (f : Fault) → IsWordsCause (take 7 words) f → IsWordsCause words f
 words_cause [] f h = h
 words_cause (word ∷ words) f (inl h) = inl h
 words_cause (word ∷ words) f (inr h) = inr (h.0, h.1, rest_cause h.0 words f h.2)
@@ -120,7 +123,9 @@ body_short word (field ∷ fs) (next ∷ words) h =
     omega arith
 
 room_short : (v : Verb) → length (verb_word v) + room (fields v) ≤ 70000
-room_short verb.Put = omega arith
+room_short (verb.Write kind.Put) = omega arith
+room_short (verb.Write kind.Patch) = omega arith
+room_short (verb.Write kind.Trim) = omega arith
 room_short verb.Tick = omega arith
 room_short verb.Deliver = omega arith
 room_short verb.Lose = omega arith

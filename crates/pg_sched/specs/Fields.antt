@@ -6,8 +6,11 @@ use Rattle.pg_sched.specs.declared.fault.Fault.{Fault}
 use Rattle.pg_sched.specs.declared.fault.Fault.TheVariants as fault
 use Rattle.pg_sched.specs.declared.line.Form.{Form}
 use Rattle.pg_sched.specs.declared.verb.Verb.{Verb}
-use Rattle.pg_sched.specs.declared.verb.Verb.TheVariants.{Put, Tick, Deliver, Lose, Repeat, Settle, Quiet, Trace, Show}
-use Rattle.pg_sched.specs.Line.{hex_word, form_word, IsFile, IsBody}
+use Rattle.pg_sched.specs.declared.verb.Verb.TheVariants.{Write, Tick, Deliver, Lose, Repeat, Settle, Quiet, Trace, Show}
+use Rattle.pg_sched.specs.declared.change.ChangeKind.{ChangeKind}
+use Rattle.pg_sched.specs.declared.change.ChangeKind.TheVariants as kind
+use Rattle.pg_sched.specs.Change.{kind_word, hex_word, IsBody}
+use Rattle.pg_sched.specs.Line.{form_word, IsFile}
 
 -- what a word behind a verb is: a number below 2^32 or below 2^64, the id of a file, bytes, or the form of a journal
 pub data Field : Type 0 where
@@ -19,7 +22,7 @@ pub data Field : Type 0 where
 
 -- the word that a verb is
 abbrev pub verb_word : Verb → List ℕ
-verb_word Put = codes "put"
+verb_word (Write kind) = kind_word kind
 verb_word Tick = codes "tick"
 verb_word Deliver = codes "deliver"
 verb_word Lose = codes "lose"
@@ -29,9 +32,15 @@ verb_word Quiet = codes "quiet"
 verb_word Trace = codes "trace"
 verb_word Show = codes "show"
 
--- the words behind it
+-- the words of a change: the bytes of a body; an offset and the bytes there; a length
+abbrev pub change_fields : ChangeKind → List Field
+change_fields kind.Put = Bytes ∷ []
+change_fields kind.Patch = Narrow ∷ Bytes ∷ []
+change_fields kind.Trim = Narrow ∷ []
+
+-- the words behind a verb
 abbrev pub fields : Verb → List Field
-fields Put = Narrow ∷ Wide ∷ Name ∷ Bytes ∷ []
+fields (Write kind) = Narrow ∷ Wide ∷ Name ∷ change_fields kind
 fields Tick = Narrow ∷ Wide ∷ Wide ∷ []
 fields Deliver = Wide ∷ []
 fields Lose = Wide ∷ []
@@ -79,9 +88,8 @@ pub record AreCounted (verb : Verb) (words : List (List ℕ)) : Type 0 where
 abbrev pub IsLowerDigit : ℕ → Type 0
 IsLowerDigit byte = ((48 ≤ byte) × (byte ≤ 57)) ⊎ ((97 ≤ byte) × (byte ≤ 102))
 
--- the word is pairs of such digits: of one byte at least, and of no more than a write brings
+-- the word is pairs of such digits, one at least
 pub record ArePairs (word : List ℕ) : Type 0 where
   pub some : 0 < length word
-  pub few : length word ≤ 65536
   pub even : length word % 2 ≡ 0
   pub each : All IsLowerDigit word

@@ -1,4 +1,5 @@
 pub mod Cause
+pub mod Change
 pub mod Fault
 pub mod Fields
 pub mod Line

@@ -1,25 +1,21 @@
 -- A line of a schedule: what it is spelled as.
-use Rattle.std.specs.Prelude.{ℕ, ◌≡◌, ◌<◌, ◌≤◌, ◌^◌, List, [], ◌∷◌, length, decimal, codes}
-use Rattle.std.specs.List.{join_with_byte, AllByRecursion}
-use Rattle.hex.specs.Hex.{encode_lower}
+use Rattle.std.specs.Prelude.{ℕ, ◌≡◌, ◌<◌, ◌^◌, List, [], ◌∷◌, decimal, codes}
+use Rattle.std.specs.List.{join_with_byte}
 use Rattle.pg_base.specs.declared.id.Kind.TheVariants.{File}
 use Rattle.pg_base.specs.declared.id.FileId.{FileId}
 use Rattle.pg_base.specs.Id as id
+use Rattle.pg_sched.specs.declared.change.ChangeKind.{ChangeKind}
+use Rattle.pg_sched.specs.Change.{kind_of, kind_word, change_words, IsChange}
 use Rattle.pg_sched.specs.declared.line.Event.{Event}
-use Rattle.pg_sched.specs.declared.line.Event.TheVariants.{Put, Tick, Deliver, Lose, Repeat}
+use Rattle.pg_sched.specs.declared.line.Event.TheVariants.{Write, Tick, Deliver, Lose, Repeat}
 use Rattle.pg_sched.specs.declared.line.Form.{Form}
 use Rattle.pg_sched.specs.declared.line.Form.TheVariants.{Full, Short}
 use Rattle.pg_sched.specs.declared.line.Line.{Line}
 use Rattle.pg_sched.specs.declared.line.Line.TheVariants.{Happens, Settle, Show, Quiet, Trace}
 
--- bytes as pairs of hexadecimal digits, or a dash for none
-abbrev pub hex_word : List ℕ → List ℕ
-hex_word [] = codes "-"
-hex_word (b ∷ bs) = encode_lower (b ∷ bs)
-
--- the words of a write whose words after the verb are these
-abbrev pub put_words : List ℕ → List ℕ → List ℕ → List ℕ → List (List ℕ)
-put_words server moment file body = codes "put" ∷ server ∷ moment ∷ file ∷ body ∷ []
+-- the words of a write of that kind whose words after the verb are these
+abbrev pub write_words : ChangeKind → List ℕ → List ℕ → List ℕ → List (List ℕ) → List (List ℕ)
+write_words kind server moment file change = kind_word kind ∷ server ∷ moment ∷ file ∷ change
 
 -- the words of a tick whose words after the verb are these
 abbrev pub tick_words : List ℕ → List ℕ → List ℕ → List (List ℕ)
@@ -30,7 +26,7 @@ abbrev pub settle_words : List ℕ → List ℕ → List (List ℕ)
 settle_words rounds moment = codes "settle" ∷ rounds ∷ moment ∷ []
 
 abbrev pub event_words : Event → List (List ℕ)
-event_words (Put server moment file body) = put_words (decimal server) (decimal moment) (id.spelling file) (hex_word body)
+event_words (Write server moment file change) = write_words (kind_of change) (decimal server) (decimal moment) (id.spelling file) (change_words change)
 event_words (Tick server moment word) = tick_words (decimal server) (decimal moment) (decimal word)
 event_words (Deliver place) = codes "deliver" ∷ decimal place ∷ []
 event_words (Lose place) = codes "lose" ∷ decimal place ∷ []
@@ -60,13 +56,8 @@ pub record IsFile (file : FileId) : Type 0 where
   pub kind : file.kind ≡ File
   pub fits : id.Fits file
 
--- what one write may bring: bytes, and not too many
-pub record IsBody (body : List ℕ) : Type 0 where
-  pub bytes : AllByRecursion (λ b. b < 256) body
-  pub few : length body ≤ 32768
-
 abbrev pub IsEvent : Event → Type 0
-IsEvent (Put server moment file body) = (server < 2 ^ 32) × (moment < 2 ^ 64) × IsFile file × IsBody body
+IsEvent (Write server moment file change) = (server < 2 ^ 32) × (moment < 2 ^ 64) × IsFile file × IsChange change
 IsEvent (Tick server moment word) = (server < 2 ^ 32) × (moment < 2 ^ 64) × (word < 2 ^ 64)
 IsEvent (Deliver place) = place < 2 ^ 64
 IsEvent (Lose place) = place < 2 ^ 64

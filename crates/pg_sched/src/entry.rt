@@ -7,8 +7,13 @@ use pg_msg::{Sent, Update};
 /// Why a server refuses what a client asks for.
 #[derive(Clone, Copy, Debug, PartialEq, Eq)]
 pub enum Refusal {
-    /// The server's clock is at its end: its greatest time, or a tag that it gave out, is 2^62 or more.
+    /// The server's clock is at its end: its greatest time, a tag that it gave out, or the number of a version of its own
+    /// in the file, is 2^62 or more.
     ClockEnd,
+    /// The new body would have more than 1,048,576 bytes.
+    TooLong,
+    /// The new version's vector would have more than 256 actors.
+    ManyActors,
 }
 
 /// What a client is told.

@@ -1,6 +1,7 @@
 //! Schedules: what happens in a run, as text; what a run's journal says of it; how a command ends.
 #![tactic(auto)]
 
+mod change;
 mod entry;
 mod error;
 mod fault;
@@ -13,9 +14,11 @@ mod status;
 mod text;
 mod verb;
 
+pub use change::{Change, ChangeKind};
 pub use entry::{Entry, Refusal, Reply, VoidCause};
 pub use error::ReadError;
 pub use fault::Fault;
+pub use leaves::{is_same, read_file, read_hex};
 pub use line::{Event, Form, Line, MOST_BYTES};
 pub use quiet::{Cause, Owing, Quiet};
 pub use reading::read_line;

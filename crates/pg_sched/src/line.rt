@@ -2,20 +2,20 @@
 
 ghost use Rattle.std.specs.Prelude.{◌≡◌, IfOk};
 
-use crate::text::HexWord;
-use pg_base::{FileId, NodeId, SharedBytes};
+use crate::change::{Change, ChangeWords};
+use pg_base::{FileId, NodeId};
 use std::alloc::AllocError;
 use std::fmt;
 
 /// What happens in a run.
 #[derive(Debug, Drop)]
 pub enum Event {
-    /// A client writes a whole file at a server, at a moment of its clock.
-    Put {
+    /// A client changes a file at a server, at a moment of its clock.
+    Write {
         server: NodeId,
         moment: u64,
         file: FileId,
-        body: SharedBytes,
+        change: Change,
     },
     /// A server sends again what is not acknowledged. The word is a random one.
     Tick {
@@ -37,16 +37,16 @@ impl Event {
         ensures { IfOk result (λ e. e ≡ self.now) }
     {
         match self {
-            Event::Put {
+            Event::Write {
                 server,
                 moment,
                 file,
-                body,
-            } => Ok(Event::Put {
+                change,
+            } => Ok(Event::Write {
                 server: *server,
                 moment: *moment,
                 file: *file,
-                body: body.copy()?,
+                change: change.copy()?,
             }),
             Event::Tick {
                 server,
@@ -72,14 +72,15 @@ impl fmt::Display for Event {
 
     fn fmt<W: fmt::Write>(&self, f: &mut fmt::Formatter<W>) -> fmt::Result {
         match self {
-            Event::Put {
+            Event::Write {
                 server,
                 moment,
                 file,
-                body,
+                change,
             } => {
-                let word = HexWord(body.as_slice());
-                write!(f, "put {server} {moment} {file} {word}")
+                let kind = change.kind();
+                let words = ChangeWords(change);
+                write!(f, "{kind} {server} {moment} {file} {words}")
             }
             Event::Tick {
                 server,

@@ -2,13 +2,16 @@
 
 ghost use Rattle.std.specs.Prelude.{◌≡◌, ◌<◌, ◌∷◌, [], IfOk, IfErr, IfSome, IfNone, IsTrue, ◌↔◌, map, length, All};
 ghost use Rattle.pg_sched.specs.Cause.{IsWordsCause, words_in};
-ghost use Rattle.pg_sched.specs.Fields.{AreCounted, IsBadWord, fields, verb_word};
-ghost use Rattle.pg_sched.specs.Line.{IsLine, line_words, line_body, put_words, tick_words, settle_words};
+ghost use Rattle.pg_sched.specs.Change.{IsChange, change_words, kind_of};
+ghost use Rattle.pg_sched.specs.Fields.{AreCounted, IsBadWord, change_fields, fields, verb_word};
+ghost use Rattle.pg_sched.specs.Line.{IsLine, line_words, line_body, write_words, tick_words, settle_words};
+ghost use Rattle.pg_sched.specs.declared.change.ChangeKind.TheVariants as kind;
 ghost use Rattle.pg_sched.specs.declared.error.LineError.TheVariants as line;
 ghost use Rattle.pg_sched.specs.declared.fault.Fault.{Fault};
 ghost use Rattle.pg_sched.specs.declared.line.Line.{Line};
 ghost use Rattle.pg_sched.specs.declared.verb.Verb.TheVariants as verb;
 
+use crate::change::{Change, ChangeKind};
 use crate::error::LineError;
 use crate::fault::Fault;
 use crate::leaves::{bytes_of, file_of, form_of, narrow_of, wide_of, words_of};
@@ -16,26 +19,53 @@ use crate::line::{Event, Line};
 use crate::verb::Verb;
 use std::alloc::{AllocError, Global};
 
-/// The line of a write, of the words after its verb.
-fn put_of(
+/// The change of this kind, of the words behind those that name the server, the moment and the file.
+fn change_of(alloc: Global, kind: ChangeKind, words: &[&[u8]]) -> Result<Change, LineError>
+    requires { length words.now ≡ length (change_fields kind) }
+    ensures kind { IfOk result (λ c. kind_of c ≡ kind) }
+    ensures found { IfOk result (λ c. IsChange c × (map (λ w. w.now) words.now ≡ change_words c)) }
+    ensures bad { IfErr result (λ e. (f : Fault) → e ≡ line.Bad f → IsBadWord (change_fields kind) (map (λ w. w.now) words.now) f) }
+{
+    match (kind, words) {
+        (ChangeKind::Put, [bytes]) => Ok(Change::Put(bytes_of(alloc, bytes)?)),
+        (ChangeKind::Patch, [offset, bytes]) => patch_of(alloc, offset, bytes),
+        (ChangeKind::Trim, [length]) => Ok(Change::Trim(narrow_of(length)?)),
+        _ => unreachable!(),
+    }
+}
+
+fn patch_of(alloc: Global, offset: &[u8], bytes: &[u8]) -> Result<Change, LineError>
+    ensures kind { IfOk result (λ c. kind_of c ≡ kind.Patch) }
+    ensures found { IfOk result (λ c. IsChange c × (offset.now ∷ bytes.now ∷ [] ≡ change_words c)) }
+    ensures bad { IfErr result (λ e. (f : Fault) → e ≡ line.Bad f → IsBadWord (change_fields kind.Patch) (offset.now ∷ bytes.now ∷ []) f) }
+{
+    let offset = narrow_of(offset)?;
+    let bytes = bytes_of(alloc, bytes)?;
+    Ok(Change::Patch { offset, bytes })
+}
+
+/// The line of a write of this kind, of the words after its verb.
+fn write_of(
     alloc: Global,
+    kind: ChangeKind,
     server: &[u8],
     moment: &[u8],
     file: &[u8],
-    body: &[u8],
+    change: &[&[u8]],
 ) -> Result<Line, LineError>
-    ensures found { IfOk result (λ l. IsLine l × (put_words server.now moment.now file.now body.now ≡ line_words l)) }
-    ensures bad { IfErr result (λ e. (f : Fault) → e ≡ line.Bad f → IsBadWord (fields verb.Put) (server.now ∷ moment.now ∷ file.now ∷ body.now ∷ []) f) }
+    requires { length change.now ≡ length (change_fields kind) }
+    ensures found { IfOk result (λ l. IsLine l × (write_words kind server.now moment.now file.now (map (λ w. w.now) change.now) ≡ line_words l)) }
+    ensures bad { IfErr result (λ e. (f : Fault) → e ≡ line.Bad f → IsBadWord (fields (verb.Write kind)) (server.now ∷ moment.now ∷ file.now ∷ map (λ w. w.now) change.now) f) }
 {
     let server = narrow_of(server)?;
     let moment = wide_of(moment)?;
     let file = file_of(file)?;
-    let body = bytes_of(alloc, body)?;
-    Ok(Line::Happens(Event::Put {
+    let change = change_of(alloc, kind, change)?;
+    Ok(Line::Happens(Event::Write {
         server,
         moment,
         file,
-        body,
+        change,
     }))
 }
 
@@ -107,7 +137,9 @@ fn rest_of(alloc: Global, verb: Verb, words: &[&[u8]]) -> Result<Line, LineError
     ensures bad { IfErr result (λ e. (f : Fault) → e ≡ line.Bad f → IsBadWord (fields verb) (map (λ w. w.now) words.now) f) }
 {
     match (verb, words) {
-        (Verb::Put, [server, moment, id, body]) => put_of(alloc, server, moment, id, body),
+        (Verb::Write(kind), [server, moment, id, change @ ..]) => {
+            write_of(alloc, kind, server, moment, id, change)
+        }
         (Verb::Tick, [server, moment, word]) => tick_of(server, moment, word),
         (Verb::Settle, [rounds, moment]) => settle_of(rounds, moment),
         (Verb::Quiet, []) => Ok(Line::Quiet),

@@ -125,7 +125,7 @@ fn lines_of(alloc: Global, text: &[u8]) -> Result<Vec<Line>, ReadError>
 }
 
 /// The schedule that the text spells, or its first bad line and why that is bad. Want of memory can come in place of
-/// either; only words of good lines, and the first six words of a bad one, take memory.
+/// either; only words of good lines, and the first seven words of a bad one, take memory.
 pub fn read(alloc: Global, text: &[u8]) -> Result<Schedule, ReadError>
     ensures found { IfOk result (λ s. IsCount s.servers × AreLines s.lines × (text.now ≡ spelling s.servers s.lines)) }
     ensures bad { IfErr result (λ e. (n : ℕ) (f : Fault) → e ≡ BadLine n f → IsFirstBad text.now n f) }

@@ -113,6 +113,59 @@ fn names_the_first_bad_line(rt: HostRuntime) {
     }
 }
 
+#[test]
+fn names_the_first_bad_change(rt: HostRuntime) {
+    let table = [
+        (b"pangaea 1 2\npatches\n".as_slice(), Fault::Verb),
+        (b"pangaea 1 2\nTrim 1 1 f1.1 1\n".as_slice(), Fault::Verb),
+        (b"pangaea 1 2\npatch 1 1 f1.1 0\n".as_slice(), Fault::Words),
+        (b"pangaea 1 2\npatch 1 1 f1.1 61\n".as_slice(), Fault::Words),
+        (
+            b"pangaea 1 2\npatch 1 1 f1.1 0 61 62\n".as_slice(),
+            Fault::Words,
+        ),
+        (
+            b"pangaea 1 2\npatch 1 1 f1.1  61\n".as_slice(),
+            Fault::Words,
+        ),
+        (
+            b"pangaea 1 2\npatch 1 1 f1.1 01 61\n".as_slice(),
+            Fault::Number,
+        ),
+        (
+            b"pangaea 1 2\npatch 1 1 f1.1 - 61\n".as_slice(),
+            Fault::Number,
+        ),
+        (
+            b"pangaea 1 2\npatch 1 1 f1.1 4294967296 61\n".as_slice(),
+            Fault::Number,
+        ),
+        (
+            b"pangaea 1 2\npatch 1 1 f1.1 x 6A\n".as_slice(),
+            Fault::Number,
+        ),
+        (b"pangaea 1 2\npatch 1 1 d1.1 x 6A\n".as_slice(), Fault::Id),
+        (b"pangaea 1 2\npatch 1 1 f1.1 0 6A\n".as_slice(), Fault::Hex),
+        (
+            b"pangaea 1 2\npatch 1 1 f1.1 0 616\n".as_slice(),
+            Fault::Hex,
+        ),
+        (b"pangaea 1 2\ntrim 1 1 f1.1\n".as_slice(), Fault::Words),
+        (
+            b"pangaea 1 2\ntrim 1 1 f1.1 1 61\n".as_slice(),
+            Fault::Words,
+        ),
+        (b"pangaea 1 2\ntrim 1 1 f1.1 -\n".as_slice(), Fault::Number),
+        (
+            b"pangaea 1 2\ntrim 1 1 f1.1 4294967296\n".as_slice(),
+            Fault::Number,
+        ),
+    ];
+    for (text, fault) in table {
+        assert_eq!(rt; bad_line(rt.alloc(), text), Some((2, fault)), "at {text:?}");
+    }
+}
+
 /// A schedule whose second line has so many bytes, and is nothing but spaces.
 fn spaces(alloc: Global, bytes: usize) -> Result<Bytes, Fail> {
     let mut text = Bytes::from_slice(alloc, b"pangaea 1 1\n")?;
@@ -147,9 +200,11 @@ fn lines_have_a_limit(rt: HostRuntime) -> Result<(), Fail> {
     Ok(())
 }
 
-/// A schedule of one write of so many bytes.
-fn one_write(alloc: Global, bytes: usize) -> Result<Bytes, Fail> {
-    let mut text = Bytes::from_slice(alloc, b"pangaea 1 1\nput 1 1 f1.1 ")?;
+/// A schedule of one line: these words, and a word of so many bytes.
+fn one_write(alloc: Global, words: &[u8], bytes: usize) -> Result<Bytes, Fail> {
+    let mut text = Bytes::from_slice(alloc, b"pangaea 1 1\n")?;
+    text.extend(words)?;
+    text.push(b' ')?;
     for _ in 0..bytes {
         text.extend(b"61")?;
     }
@@ -159,13 +214,16 @@ fn one_write(alloc: Global, bytes: usize) -> Result<Bytes, Fail> {
 
 #[test]
 fn bodies_have_a_limit(rt: HostRuntime) -> Result<(), Fail> {
-    let most = one_write(rt.alloc(), MOST_BYTES)?;
-    assert!(rt; read(rt.alloc(), most.as_slice()).is_ok());
-    let more = one_write(rt.alloc(), MOST_BYTES + 1)?;
-    assert_eq!(rt;
-        bad_line(rt.alloc(), more.as_slice()),
-        Some((2, Fault::Hex))
-    );
+    let table = [b"put 1 1 f1.1".as_slice(), b"patch 1 1 f1.1 0".as_slice()];
+    for words in table {
+        let most = one_write(rt.alloc(), words, MOST_BYTES)?;
+        assert!(rt; read(rt.alloc(), most.as_slice()).is_ok());
+        let more = one_write(rt.alloc(), words, MOST_BYTES + 1)?;
+        assert_eq!(rt;
+            bad_line(rt.alloc(), more.as_slice()),
+            Some((2, Fault::Hex))
+        );
+    }
     Ok(())
 }
 
@@ -173,6 +231,7 @@ fn bodies_have_a_limit(rt: HostRuntime) -> Result<(), Fail> {
 fn reads_what_it_writes(rt: HostRuntime) -> Result<(), Fail> {
     let table = [
         b"pangaea 1 1\n".as_slice(),
+        b"pangaea 1 2\npatch 1 60 f1.2 0 63\npatch 4294967295 18446744073709551615 f0.0 4294967295 -\ntrim 1 80 f1.2 1048577\ntrim 0 0 f1.1 4294967295\n".as_slice(),
         b"pangaea 1 64\nput 1 40 f1.1 61ff00\nput 4294967295 18446744073709551615 f0.0 -\ntick 4294967295 0 18446744073709551615\ndeliver 1\nlose 2\nrepeat 3\nsettle 4294967295 18446744073709551615\nquiet\ntrace full\ntrace short\nshow f4294967295.18446744073709551615\n".as_slice(),
     ];
     for text in table {
@@ -190,6 +249,9 @@ fn reads_one_line(rt: HostRuntime) -> Result<(), Fail> {
         (b"settle 3 70".as_slice(), true),
         (b"settle 3 70\n".as_slice(), false),
         (b"settle 3".as_slice(), false),
+        (b"patch 1 60 f1.2 0 63".as_slice(), true),
+        (b"patch 1 60 f1.2 0".as_slice(), false),
+        (b"trim 1 80 f1.2 1048577".as_slice(), true),
         (b"pangaea 1 1".as_slice(), false),
         (b"".as_slice(), false),
     ];
@@ -224,21 +286,64 @@ fn faults_have_their_names(rt: HostRuntime) -> Result<(), Fail> {
     Ok(())
 }
 
-#[test]
-fn copies(rt: HostRuntime) -> Result<(), Fail> {
-    let file = FileId {
-        kind: Kind::File,
-        server: 1,
-        number: 2,
-    };
-    let event = Event::Put {
+const FILE: FileId = FileId {
+    kind: Kind::File,
+    server: 1,
+    number: 2,
+};
+
+/// The text of a copy of the event of a change.
+fn copied(alloc: Global, change: Change) -> Result<String, Fail> {
+    let event = Event::Write {
         server: 1,
         moment: 5,
-        file,
-        body: SharedBytes::from_slice(rt.alloc(), b"a")?,
+        file: FILE,
+        change,
     };
-    let text = format!(in rt.alloc(); "{}", event.copy()?)?;
+    let text = format!(in alloc; "{}", event.copy()?)?;
+    Ok(text)
+}
+
+#[test]
+fn copies(rt: HostRuntime) -> Result<(), Fail> {
+    let put = Change::Put(SharedBytes::from_slice(rt.alloc(), b"a")?);
+    assert_eq!(rt; put.kind(), ChangeKind::Put);
+    let text = copied(rt.alloc(), put)?;
     assert_eq!(rt; text.as_str(), "put 1 5 f1.2 61");
+    let patch = Change::Patch {
+        offset: 3,
+        bytes: SharedBytes::from_slice(rt.alloc(), b"ab")?,
+    };
+    assert_eq!(rt; patch.kind(), ChangeKind::Patch);
+    let text = copied(rt.alloc(), patch)?;
+    assert_eq!(rt; text.as_str(), "patch 1 5 f1.2 3 6162");
+    let trim = Change::Trim(7);
+    assert_eq!(rt; trim.kind(), ChangeKind::Trim);
+    let text = copied(rt.alloc(), trim)?;
+    assert_eq!(rt; text.as_str(), "trim 1 5 f1.2 7");
+    Ok(())
+}
+
+#[test]
+fn reads_words(rt: HostRuntime) -> Result<(), Fail> {
+    assert!(rt; is_same(b"put", b"put"));
+    assert!(rt; !is_same(b"put", b"pu"));
+    assert_eq!(rt; read_file(b"f1.2"), Some(FILE));
+    assert_eq!(rt; read_file(b"d1.2"), None);
+    assert_eq!(rt; read_file(b"f01.2"), None);
+    let table = [
+        (b"6a00".as_slice(), 2, Some(b"j\x00".as_slice())),
+        (b"6a00".as_slice(), 1, None),
+        (b"6A00".as_slice(), 2, None),
+        (b"6a0".as_slice(), 2, None),
+        (b"-".as_slice(), 2, None),
+        (b"".as_slice(), 2, None),
+    ];
+    for (word, most, bytes) in table {
+        let found = read_hex(rt.alloc(), word, most)?;
+        let shown = found.as_ref().map(|bytes| bytes.as_slice());
+        assert_eq!(rt; shown, bytes, "at {word:?}");
+    }
     Ok(())
 }
 

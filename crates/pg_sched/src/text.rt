@@ -30,7 +30,7 @@ fn digits_of<'b>(bytes: &[u8], buffer: &'b mut [u8]) -> &'b str
 
 impl fmt::Display for HexWord<'_> {
     ghost use Rattle.std.specs.Prelude.{Some};
-    ghost use Rattle.pg_sched.specs.Line.{hex_word};
+    ghost use Rattle.pg_sched.specs.Change.{hex_word};
 
     ghost output = { λ w. Some (hex_word w.0.now) };
 

@@ -4,10 +4,12 @@ ghost use Rattle.std.specs.Prelude.{◌≡◌, ◌≢◌, IfSome, IfNone, length
 ghost use Rattle.pg_sched.specs.Fields.{verb_word, fields};
 ghost use Rattle.pg_sched.specs.declared.verb.Verb.{Verb};
 
+use crate::change::ChangeKind;
+
 /// The first word of a line, which says what the others are.
 #[derive(Clone, Copy, Debug, PartialEq, Eq)]
 pub(crate) enum Verb {
-    Put,
+    Write(ChangeKind),
     Tick,
     Deliver,
     Lose,
@@ -25,7 +27,9 @@ impl Verb {
         ensures none { IfNone result ((v : Verb) → word.now ≢ verb_word v) }
     {
         let verb = match word {
-            b"put" => Verb::Put,
+            b"put" => Verb::Write(ChangeKind::Put),
+            b"patch" => Verb::Write(ChangeKind::Patch),
+            b"trim" => Verb::Write(ChangeKind::Trim),
             b"tick" => Verb::Tick,
             b"deliver" => Verb::Deliver,
             b"lose" => Verb::Lose,
@@ -48,7 +52,10 @@ impl Verb {
             Verb::Deliver | Verb::Lose | Verb::Repeat | Verb::Trace | Verb::Show => 1,
             Verb::Settle => 2,
             Verb::Tick => 3,
-            Verb::Put => 4,
+            Verb::Write(kind) => match kind {
+                ChangeKind::Put | ChangeKind::Trim => 4,
+                ChangeKind::Patch => 5,
+            },
         }
     }
 }

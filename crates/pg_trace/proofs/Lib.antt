@@ -1,9 +1,1 @@
-pub mod Behinds
-pub mod Cuts
-pub mod HexBytes
-pub mod Lacking
-pub mod OneJournal
-pub mod OnePrinted
-pub mod PrintedWords
-pub mod Updates
-pub mod WordPlaces
+pub mod Joined

@@ -1,5 +1,3 @@
-pub mod Journal
 pub mod Printed
-pub mod Reading
 pub mod Text
 pub mod Spelled

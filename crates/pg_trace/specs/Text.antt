@@ -1,17 +1,19 @@
 -- What is written of a run, in the full form and in the short one.
-use Rattle.std.specs.Prelude.{ℕ, List, [], ◌∷◌, ◌++◌, map, length, take, Option, Some, None}
+use Rattle.std.specs.Prelude.{ℕ, ◌-◌, ◌^◌, min, List, [], ◌∷◌, ◌++◌, map, length, take, Option, Some, None}
 use Rattle.std.specs.List.{flat_map}
 use Rattle.pg_base.specs.declared.id.FileId.{FileId}
-use Rattle.pg_base.specs.declared.version.Version.{Version}
+use Rattle.pg_base.specs.Version.{stamp_of}
+use Rattle.pg_content.specs.Content.{ContentValue, shown_bytes}
 use Rattle.pg_msg.specs.declared.message.Sent.{Sent}
 use Rattle.pg_msg.specs.declared.update.Update.{Update}
 use Rattle.pg_msg.specs.Sent.{summary}
+use Rattle.pg_sched.specs.Change.{kind_of}
 use Rattle.pg_sched.specs.declared.entry.Entry.{Entry}
 use Rattle.pg_sched.specs.declared.entry.Reply.{Reply}
 use Rattle.pg_sched.specs.declared.entry.Reply.TheVariants.{Done, Wrote, Refused}
 use Rattle.pg_sched.specs.declared.entry.VoidCause.{VoidCause}
 use Rattle.pg_sched.specs.declared.line.Event.{Event}
-use Rattle.pg_sched.specs.declared.line.Event.TheVariants.{Put, Tick, Deliver, Lose, Repeat}
+use Rattle.pg_sched.specs.declared.line.Event.TheVariants.{Write, Tick, Deliver, Lose, Repeat}
 use Rattle.pg_sched.specs.declared.line.Form.{Form}
 use Rattle.pg_sched.specs.declared.line.Form.TheVariants.{Full, Short}
 use Rattle.pg_sched.specs.declared.line.Line.{Line}
@@ -30,8 +32,8 @@ tick_lines Short server (Refused refusal) = printed.Tick server (Refused refusal
 
 -- what the client was told
 abbrev pub told_lines : Form → Event → Option Reply → List Printed
-told_lines form (Put server moment file body) None = []
-told_lines form (Put server moment file body) (Some reply) = printed.Put server reply ∷ []
+told_lines form (Write server moment file what) None = []
+told_lines form (Write server moment file what) (Some reply) = printed.Write (kind_of what) server reply ∷ []
 told_lines form (Tick server moment word) None = []
 told_lines form (Tick server moment word) (Some reply) = tick_lines form server reply
 told_lines form (Deliver place) reply = []
@@ -62,13 +64,13 @@ head_lines line Short what = []
 abbrev pub head_text : ℕ → Form → Line → List ℕ
 head_text line form what = flat_map printed_text (head_lines line form what)
 
--- what a server shows of a file: the stamp of its version, the length of the body, and the first 16 bytes
-abbrev pub show_line : ℕ → FileId → Option Version → Printed
-show_line server file None = printed.Show server file None 0 []
-show_line server file (Some v) = printed.Show server file (Some v.stamp) (length v.body) (take 16 v.body)
+-- what a server shows of a file: the stamps of its heads, how many bytes are shown, or the greatest number of 64 bits where
+-- they are more, and the first 16 of them
+abbrev pub show_line : ℕ → FileId → ContentValue → Printed
+show_line server file c = printed.Show server file (map stamp_of c.heads) (min (length (shown_bytes c)) (2 ^ 64 - 1)) (take 16 (shown_bytes c))
 
-abbrev pub show_text : ℕ → FileId → Option Version → List ℕ
-show_text server file version = printed_text (show_line server file version)
+abbrev pub show_text : ℕ → FileId → ContentValue → List ℕ
+show_text server file c = printed_text (show_line server file c)
 
 -- what is said of whether all is done, at a settling, at a question, and at the end
 abbrev pub quiet_text : Word → Quiet → List ℕ

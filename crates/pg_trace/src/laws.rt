@@ -1,8 +1,8 @@
 //! What holds of all that is written.
 
-ghost use Rattle.std.specs.Prelude.{ℕ, ◌<◌, ◌^◌, Option};
+ghost use Rattle.std.specs.Prelude.{ℕ, ◌<◌, ◌^◌};
 ghost use Rattle.pg_base.specs.declared.id.FileId.{FileId};
-ghost use Rattle.pg_base.specs.declared.version.Version.{Version};
+ghost use Rattle.pg_content.specs.Content.{ContentValue};
 ghost use Rattle.pg_sched.specs.declared.entry.Entry.{Entry};
 ghost use Rattle.pg_sched.specs.declared.line.Form.{Form};
 ghost use Rattle.pg_sched.specs.declared.line.Line.{Line};
@@ -15,5 +15,5 @@ ghost use Rattle.pg_trace.specs.Text.{entry_lines, head_lines, show_line};
 pub fn what_is_written_is_spelled()
     ensures head { (line : ℕ) (form : Form) (what : Line) → line < 2 ^ 64 → IsLine what → ArePrinted (head_lines line form what) }
     ensures entry { (line : ℕ) (form : Form) (entry : Entry) → line < 2 ^ 64 → IsEntry entry → ArePrinted (entry_lines line form entry) }
-    ensures show { (server : ℕ) (file : FileId) (version : Option Version) → server < 2 ^ 32 → IsFile file → IsShown version → IsPrinted (show_line server file version) }
+    ensures show { (server : ℕ) (file : FileId) (c : ContentValue) → server < 2 ^ 32 → IsFile file → IsShown c → IsPrinted (show_line server file c) }
 {}

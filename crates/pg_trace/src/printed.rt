@@ -3,9 +3,9 @@
 ghost use Rattle.std.specs.Prelude.{◌≡◌, IfOk};
 
 use crate::words::{MadeWords, ReplyWords, ShowWords, VoidWord};
-use pg_base::{FileId, NodeId, SharedBytes, Stamp};
+use pg_base::{FileId, Items, NodeId, SharedBytes, Stamp};
 use pg_msg::{Summary, Update};
-use pg_sched::{Line, Quiet, Reply, VoidCause};
+use pg_sched::{ChangeKind, Line, Quiet, Reply, VoidCause};
 use std::alloc::AllocError;
 use std::fmt;
 
@@ -44,7 +44,8 @@ pub enum Printed {
         what: Line,
     },
     /// What the client of a write was told.
-    Put {
+    Write {
+        kind: ChangeKind,
         server: NodeId,
         reply: Reply,
     },
@@ -67,12 +68,12 @@ pub enum Printed {
         word: Word,
         quiet: Quiet,
     },
-    /// What a server shows of a file: the stamp of its version, the length of the body in bytes, and the first of them,
-    /// at most 16. Without a version there is no stamp, no length and no byte.
+    /// What a server shows of a file: the stamps of its heads in their order, how many bytes are shown, or the greatest
+    /// `u64` where they are more, and the first of them, at most 16.
     Show {
         server: NodeId,
         file: FileId,
-        head: Option<Stamp>,
+        heads: Items<Stamp>,
         length: u64,
         first: SharedBytes,
     },
@@ -103,7 +104,12 @@ impl Printed {
                 line: *line,
                 what: copy_line(what)?,
             }),
-            Printed::Put { server, reply } => Ok(Printed::Put {
+            Printed::Write {
+                kind,
+                server,
+                reply,
+            } => Ok(Printed::Write {
+                kind: *kind,
                 server: *server,
                 reply: *reply,
             }),
@@ -124,13 +130,13 @@ impl Printed {
             Printed::Show {
                 server,
                 file,
-                head,
+                heads,
                 length,
                 first,
             } => Ok(Printed::Show {
                 server: *server,
                 file: *file,
-                head: *head,
+                heads: heads.copy()?,
                 length: *length,
                 first: first.copy()?,
             }),
@@ -147,9 +153,13 @@ impl fmt::Display for Printed {
     fn fmt<W: fmt::Write>(&self, f: &mut fmt::Formatter<W>) -> fmt::Result {
         match self {
             Printed::Event { line, what } => write!(f, "event {line} {what}"),
-            Printed::Put { server, reply } => {
+            Printed::Write {
+                kind,
+                server,
+                reply,
+            } => {
                 let told = ReplyWords(*reply);
-                write!(f, "put {server} -> {told}")
+                write!(f, "{kind} {server} -> {told}")
             }
             Printed::Tick { server, reply } => {
                 let told = ReplyWords(*reply);
@@ -168,14 +178,14 @@ impl fmt::Display for Printed {
             Printed::Show {
                 server,
                 file,
-                head,
+                heads,
                 length,
                 first,
             } => {
                 let words = ShowWords {
                     server: *server,
                     file: *file,
-                    head: *head,
+                    heads: heads.as_slice(),
                     length: *length,
                     first: first.as_slice(),
                 };

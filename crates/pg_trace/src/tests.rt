@@ -1,10 +1,18 @@
 //! The spelling of each line, and what is written of a run in both forms.
 
+ghost use Rattle.std.specs.Prelude.{◌<◌, ◌^◌, length};
+
 use super::*;
-use pg_base::{Bytes, FileId, Items, Kind as FileKind, SharedBytes, Stamp, Version};
+use pg_base::{
+    Bytes, FileId, Head, Items, Kind as FileKind, Policy, SharedBytes, Stamp, Vector, Version,
+};
+use pg_content::Content;
 use pg_edges::Key;
 use pg_msg::{Ends, Kind, Message, Packet, Sent, Summary, Update};
-use pg_sched::{Cause, Entry, Event, Form, Line, Owing, Quiet, Refusal, Reply, VoidCause};
+use pg_patch::{ALL, Part, Ranges, are_in_order, cut, make};
+use pg_sched::{
+    Cause, Change, ChangeKind, Entry, Event, Form, Line, Owing, Quiet, Refusal, Reply, VoidCause,
+};
 use std::alloc::{AllocError, Global};
 use std::test::Fail;
 
@@ -35,21 +43,52 @@ const OWING: Owing = Owing {
 };
 
 /// A version with this body.
-fn version(alloc: Global, body: &[u8]) -> Result<Version, AllocError> {
-    Ok(Version {
-        stamp: STAMP,
-        body: SharedBytes::from_slice(alloc, body)?,
-    })
+fn version(alloc: Global, stamp: Stamp, body: &[u8]) -> Result<Version, AllocError>
+    requires { length body.now < 2 ^ 32 }
+{
+    let head = Head {
+        stamp,
+        birth: 1,
+        number: 1,
+        vector: Vector::new(alloc),
+        length: body.len() as u32,
+    };
+    Ok(Version::new(head, SharedBytes::from_slice(alloc, body)?))
 }
 
 /// A write of one byte at server 1.
 fn put(alloc: Global) -> Result<Event, AllocError> {
-    Ok(Event::Put {
+    let bytes = SharedBytes::from_slice(alloc, b"a")?;
+    Ok(Event::Write {
         server: 1,
         moment: 10,
         file: FILE,
-        body: SharedBytes::from_slice(alloc, b"a")?,
+        change: Change::Put(bytes),
     })
+}
+
+/// What a write of the whole body makes, at a server that had no head.
+fn put_update(alloc: Global) -> Result<Update, Fail> {
+    Ok(Update {
+        file: FILE,
+        stamp: STAMP,
+        bases: Items::new(alloc),
+        ranges: ranges(alloc, 0, 1, &[(0, b"a")])?,
+    })
+}
+
+fn ranges(alloc: Global, keep: u32, least: u32, rows: &[(u32, &[u8])]) -> Result<Ranges, Fail> {
+    let mut parts = Items::new(alloc);
+    for (offset, bytes) in rows {
+        parts.push(Part {
+            offset: *offset,
+            bytes: SharedBytes::from_slice(alloc, bytes)?,
+        })?;
+    }
+    if !are_in_order(parts.as_slice(), least) {
+        return Err("parts".into());
+    }
+    Ok(Ranges::from_parts(keep, least, parts))
 }
 
 /// A tick of server 1.
@@ -70,12 +109,9 @@ fn told(alloc: Global, event: Event, reply: Reply) -> Entry {
 }
 
 /// The entry of the write: one version, sent to server 2.
-fn put_entry(alloc: Global) -> Result<Entry, AllocError> {
+fn put_entry(alloc: Global) -> Result<Entry, Fail> {
     let mut entry = told(alloc, put(alloc)?, Reply::Wrote(STAMP));
-    entry.made.push(Update {
-        file: FILE,
-        version: version(alloc, b"a")?,
-    })?;
+    entry.made.push(put_update(alloc)?)?;
     let ends = Ends {
         file: FILE,
         sender: 1,
@@ -84,7 +120,7 @@ fn put_entry(alloc: Global) -> Result<Entry, AllocError> {
     let message = Message::Cell {
         ends,
         tag: 1,
-        version: version(alloc, b"a")?,
+        version: version(alloc, STAMP, b"a")?,
     };
     entry.sent.push(Sent {
         to: 2,
@@ -94,14 +130,26 @@ fn put_entry(alloc: Global) -> Result<Entry, AllocError> {
 }
 
 /// The lines that hold no body, and some that differ within one shape.
-const PLAIN_LINES: [Printed; 10] = [
-    Printed::Put {
+const PLAIN_LINES: [Printed; 12] = [
+    Printed::Write {
+        kind: ChangeKind::Put,
         server: 1,
         reply: Reply::Wrote(STAMP),
     },
-    Printed::Put {
+    Printed::Write {
+        kind: ChangeKind::Put,
         server: 2,
         reply: Reply::Refused(Refusal::ClockEnd),
+    },
+    Printed::Write {
+        kind: ChangeKind::Patch,
+        server: 2,
+        reply: Reply::Refused(Refusal::TooLong),
+    },
+    Printed::Write {
+        kind: ChangeKind::Trim,
+        server: 2,
+        reply: Reply::Refused(Refusal::ManyActors),
     },
     Printed::Tick {
         server: 1,
@@ -140,6 +188,8 @@ fn plain_lines_have_their_spelling(rt: HostRuntime) -> Result<(), Fail> {
     write(&PLAIN_LINES, &mut out)?;
     let text = b"put 1 -> wrote 10@1
 put 2 -> refused 2 ClockEnd
+patch 2 -> refused 12 TooLong
+trim 2 -> refused 20 ManyActors
 tick 1 -> done
 tick 2 -> refused 2 ClockEnd
 void 4 no-message
@@ -158,21 +208,86 @@ fn copy_spelling(line: &Printed, out: &mut Bytes) -> Result<(), AllocError> {
     write(&[line.copy()?], out)
 }
 
-fn made(alloc: Global, body: &[u8]) -> Result<Printed, AllocError> {
+/// Stamps of these times and servers.
+fn stamps(alloc: Global, rows: &[(u64, u32)]) -> Result<Items<Stamp>, AllocError> {
+    let mut stamps = Items::new(alloc);
+    for (time, server) in rows {
+        stamps.push(Stamp {
+            time: *time,
+            server: *server,
+        })?;
+    }
+    Ok(stamps)
+}
+
+fn made(alloc: Global, bases: &[(u64, u32)], ranges: Ranges) -> Result<Printed, AllocError> {
     Ok(Printed::Made(Update {
         file: FILE,
-        version: version(alloc, body)?,
+        stamp: STAMP,
+        bases: stamps(alloc, bases)?,
+        ranges,
     }))
 }
 
-fn shown(alloc: Global, head: Option<Stamp>, body: &[u8]) -> Result<Printed, AllocError> {
+fn shown(
+    alloc: Global,
+    heads: &[(u64, u32)],
+    length: u64,
+    first: &[u8],
+) -> Result<Printed, AllocError> {
     Ok(Printed::Show {
         server: 1,
         file: FILE,
-        head,
-        length: body.len() as u64,
-        first: SharedBytes::from_slice(alloc, body)?,
+        heads: stamps(alloc, heads)?,
+        length,
+        first: SharedBytes::from_slice(alloc, first)?,
     })
+}
+
+#[test]
+fn copies_of_what_was_made_have_their_spelling(rt: HostRuntime) -> Result<(), Fail> {
+    let alloc = rt.alloc();
+    let mut out = Bytes::new(alloc);
+    copy_spelling(&Printed::Made(put_update(alloc)?), &mut out)?;
+    copy_spelling(&made(alloc, &[], ranges(alloc, 0, 0, &[])?)?, &mut out)?;
+    copy_spelling(
+        &made(alloc, &[(8, 1)], ranges(alloc, ALL, 5, &[(3, b"jk")])?)?,
+        &mut out,
+    )?;
+    copy_spelling(
+        &made(
+            alloc,
+            &[(8, 1), (9, 2), (9, 3)],
+            ranges(alloc, 4, 12, &[(0, b"j"), (2, b"k"), (9, b"mno")])?,
+        )?,
+        &mut out,
+    )?;
+    let text = b"made version f1.1 10@1 from - keep 0 least 1 parts 0:61
+made version f1.1 10@1 from - keep 0 least 0 parts -
+made version f1.1 10@1 from 8@1 keep all least 5 parts 3:6a6b
+made version f1.1 10@1 from 8@1,9@2,9@3 keep 4 least 12 parts 0:6a,2:6b,9:6d6e6f
+";
+    assert_eq!(rt; out.as_slice(), text.as_slice());
+    Ok(())
+}
+
+/// What `patch` and `trim` of a schedule make.
+#[test]
+fn writes_and_cuts_have_their_spelling(rt: HostRuntime) -> Result<(), Fail> {
+    let alloc = rt.alloc();
+    let mut out = Bytes::new(alloc);
+    let patch = make(alloc, 1, b"bc").ok().ok_or("a write")?;
+    copy_spelling(&made(alloc, &[(8, 1), (9, 2)], patch)?, &mut out)?;
+    let nothing = make(alloc, 7, b"").ok().ok_or("a write")?;
+    copy_spelling(&made(alloc, &[(8, 1)], nothing)?, &mut out)?;
+    let trim = cut(alloc, 1024).ok().ok_or("a cut")?;
+    copy_spelling(&made(alloc, &[(11, 1)], trim)?, &mut out)?;
+    let text = b"made version f1.1 10@1 from 8@1,9@2 keep all least 3 parts 1:6263
+made version f1.1 10@1 from 8@1 keep all least 0 parts -
+made version f1.1 10@1 from 11@1 keep 1024 least 1024 parts -
+";
+    assert_eq!(rt; out.as_slice(), text.as_slice());
+    Ok(())
 }
 
 #[test]
@@ -181,14 +296,12 @@ fn copies_of_lines_with_bodies_have_their_spelling(rt: HostRuntime) -> Result<()
     let mut out = Bytes::new(alloc);
     let what = Line::Happens(put(alloc)?);
     copy_spelling(&Printed::Event { line: 3, what }, &mut out)?;
-    copy_spelling(&made(alloc, b"a")?, &mut out)?;
-    copy_spelling(&made(alloc, b"")?, &mut out)?;
-    copy_spelling(&shown(alloc, Some(STAMP), b"a")?, &mut out)?;
-    copy_spelling(&shown(alloc, None, b"")?, &mut out)?;
+    copy_spelling(&shown(alloc, &[(10, 1)], 1, b"a")?, &mut out)?;
+    copy_spelling(&shown(alloc, &[(40, 1), (40, 2)], 4, b"aabb")?, &mut out)?;
+    copy_spelling(&shown(alloc, &[], 0, b"")?, &mut out)?;
     let text = b"event 3 put 1 10 f1.1 61
-made version f1.1 10@1 from - keep 0 least 1 parts 0:61
-made version f1.1 10@1 from - keep 0 least 0 parts -
 at 1 f1.1 heads 10@1 shown 1 61
+at 1 f1.1 heads 40@1,40@2 shown 4 61616262
 at 1 f1.1 heads - shown 0 -
 ";
     assert_eq!(rt; out.as_slice(), text.as_slice());
@@ -247,11 +360,33 @@ fn a_void_event_is_told_by_its_line(rt: HostRuntime) -> Result<(), Fail> {
     Ok(())
 }
 
+/// The kind of a write is that of its change.
+#[test]
+fn a_refused_patch_is_told_as_one(rt: HostRuntime) -> Result<(), Fail> {
+    let bytes = SharedBytes::from_slice(rt.alloc(), b"a")?;
+    let patch = Event::Write {
+        server: 3,
+        moment: 10,
+        file: FILE,
+        change: Change::Patch { offset: 9, bytes },
+    };
+    let entry = told(rt.alloc(), patch, Reply::Refused(Refusal::TooLong));
+    let mut out = Bytes::new(rt.alloc());
+    write_entry(4, Form::Short, &entry, &mut out)?;
+    assert_eq!(rt;
+        out.as_slice(),
+        b"patch 3 -> refused 12 TooLong\n".as_slice()
+    );
+    Ok(())
+}
+
 #[test]
 fn sixteen_bytes_are_shown(rt: HostRuntime) -> Result<(), Fail> {
-    let long = version(rt.alloc(), b"abcdefghijklmnopqr")?;
+    let mut content = Content::new(rt.alloc(), Policy::Last);
+    let long = version(rt.alloc(), STAMP, b"abcdefghijklmnopqr")?;
+    assert!(rt; content.join_version(long)?);
     let mut out = Bytes::new(rt.alloc());
-    write_show(1, &FILE, Some(&long), &mut out)?;
+    write_show(1, &FILE, Some(&content), &mut out)?;
     write_show(2, &FILE, None, &mut out)?;
     write_quiet(Word::End, &Quiet::Quiet, &mut out)?;
     let text = b"at 1 f1.1 heads 10@1 shown 18 6162636465666768696a6b6c6d6e6f70
@@ -259,5 +394,33 @@ at 2 f1.1 heads - shown 0 -
 end quiet
 ";
     assert_eq!(rt; out.as_slice(), text.as_slice());
+    Ok(())
+}
+
+/// Two versions side by side: all heads are told, and what the policy shows of them.
+#[test]
+fn heads_are_told_in_their_order(rt: HostRuntime) -> Result<(), Fail> {
+    let rows = [
+        (
+            Policy::Last,
+            b"at 1 f1.1 heads 10@1,10@2 shown 2 6262\n".as_slice(),
+        ),
+        (
+            Policy::Join,
+            b"at 1 f1.1 heads 10@1,10@2 shown 3 616262\n".as_slice(),
+        ),
+    ];
+    let other = Stamp {
+        time: 10,
+        server: 2,
+    };
+    for (policy, text) in rows {
+        let mut content = Content::new(rt.alloc(), policy);
+        assert!(rt; content.join_version(version(rt.alloc(), other, b"bb")?)?);
+        assert!(rt; content.join_version(version(rt.alloc(), STAMP, b"a")?)?);
+        let mut out = Bytes::new(rt.alloc());
+        write_show(1, &FILE, Some(&content), &mut out)?;
+        assert_eq!(rt; out.as_slice(), text);
+    }
     Ok(())
 }

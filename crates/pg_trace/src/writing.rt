@@ -1,8 +1,11 @@
 //! What is written of a run, and a whole journal.
 
-ghost use Rattle.std.specs.Prelude.{◌≡◌, ◌++◌, OnOk, Some, None, map};
+ghost use Rattle.std.specs.Prelude.{◌≡◌, ◌++◌, IfOk, OnOk, None, map};
 ghost use Rattle.std.specs.List.{flat_map};
 ghost use Rattle.std.specs.Option.{option_copied};
+ghost use Rattle.pg_base.specs.declared.policy.Policy.{Policy};
+ghost use Rattle.pg_base.specs.Version.{stamp_of};
+ghost use Rattle.pg_content.specs.Content.{or_empty};
 ghost use Rattle.pg_msg.specs.Sent.{summary};
 ghost use Rattle.pg_trace.specs.declared.printed.Printed.TheVariants as printed;
 ghost use Rattle.pg_trace.specs.Printed.{printed_text, journal_spelling};
@@ -10,13 +13,14 @@ ghost use Rattle.pg_trace.specs.Text.{told_lines, tick_lines, done_lines, entry_
 
 use crate::printed::{Printed, Word};
 use crate::words::{MadeWords, ShowWords};
-use pg_base::{Bytes, FileId, NodeId, Version};
+use pg_base::{Bytes, FileId, NodeId, Stamp, Version};
+use pg_content::Content;
 use pg_msg::{Sent, Update};
 use pg_sched::{Entry, Event, Form, Line, Quiet, Reply};
-use std::alloc::AllocError;
+use std::alloc::{AllocError, Global};
 
-/// The most bytes of a body that are shown.
-const SHOWN: usize = 16;
+/// The most bytes that are shown of a file.
+const SHOWN: u32 = 16;
 
 fn write_line(line: &Printed, out: &mut Bytes) -> Result<(), AllocError>
     ensures { OnOk result (out.new ≡ out.old ++ printed_text line.now) }
@@ -67,9 +71,13 @@ fn write_told(
     ensures { OnOk result (out.new ≡ out.old ++ flat_map printed_text (told_lines form event.now reply)) }
 {
     match (event, reply) {
-        (Event::Put { server, .. }, Some(reply)) => {
-            let server = *server;
-            write_line(&Printed::Put { server, reply }, out)
+        (Event::Write { server, change, .. }, Some(reply)) => {
+            let line = Printed::Write {
+                kind: change.kind(),
+                server: *server,
+                reply,
+            };
+            write_line(&line, out)
         }
         (Event::Tick { server, .. }, Some(reply)) => write_tick(form, *server, reply, out),
         _ => Ok(()),
@@ -123,51 +131,63 @@ fn write_sent(sent: &[Sent], out: &mut Bytes) -> Result<(), AllocError>
     Ok(())
 }
 
-/// Writes what a server shows of a file: the stamp of its version, the length of the body, and its first 16 bytes.
+/// Writes what a server shows of a file: the stamps of its heads, how many bytes are shown, and the first 16 of them. A
+/// server that has no content of the file yet shows what one with no head does.
 pub fn write_show(
     server: NodeId,
     file: &FileId,
-    version: Option<&Version>,
+    content: Option<&Content>,
     out: &mut Bytes,
 ) -> Result<(), AllocError>
-    ensures { OnOk result (out.new ≡ out.old ++ show_text server file.now (option_copied version.entry)) }
+    ensures { OnOk result ((policy : Policy) → out.new ≡ out.old ++ show_text server file.now (or_empty policy (option_copied content.entry))) }
 {
-    match version {
-        None => write_no_version(server, file, out),
-        Some(version) => write_version(server, file, version, out),
+    match content {
+        None => write_nothing(server, file, out),
+        Some(content) => write_content(server, file, content, out),
     }
 }
 
-fn write_no_version(server: NodeId, file: &FileId, out: &mut Bytes) -> Result<(), AllocError>
-    ensures { OnOk result (out.new ≡ out.old ++ show_text server file.now None) }
+fn write_nothing(server: NodeId, file: &FileId, out: &mut Bytes) -> Result<(), AllocError>
+    ensures { OnOk result ((policy : Policy) → out.new ≡ out.old ++ show_text server file.now (or_empty policy None)) }
 {
     let words = ShowWords {
         server,
         file: *file,
-        head: None,
+        heads: &[],
         length: 0,
         first: &[],
     };
     write!(out, "{words}\n")
 }
 
-fn write_version(
+fn write_content(
     server: NodeId,
     file: &FileId,
-    version: &Version,
+    content: &Content,
     out: &mut Bytes,
 ) -> Result<(), AllocError>
-    ensures { OnOk result (out.new ≡ out.old ++ show_text server file.now (Some version.now)) }
+    ensures { OnOk result (out.new ≡ out.old ++ show_text server file.now content.now) }
 {
-    let body = version.body.as_slice();
+    let first = content.view(0, SHOWN)?.into_vec();
+    let heads = stamps_of(*first.allocator(), content.heads())?;
     let words = ShowWords {
         server,
         file: *file,
-        head: Some(version.stamp),
-        length: body.len() as u64,
-        first: &body[..body.len().min(SHOWN)],
+        heads: heads.as_slice(),
+        length: content.length(),
+        first: first.as_slice(),
     };
     write!(out, "{words}\n")
+}
+
+/// The stamps of some versions, in their order.
+fn stamps_of(alloc: Global, versions: &[Version]) -> Result<Vec<Stamp>, AllocError>
+    ensures { IfOk result (λ s. s.items ≡ map stamp_of versions.now) }
+{
+    versions
+        .iter()
+        .map(|version| version.head().stamp)
+        .collect(alloc)
 }
 
 /// Writes whether all is done, behind this word.

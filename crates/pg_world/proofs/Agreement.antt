@@ -1,31 +1,30 @@
 -- Wherever no message is under way and nothing is owed, all servers agree.
 use Rattle.std.proofs.Common.{ℕ, ◌≡◌, ◌≢◌, ◌≤◌, true, List, [], ◌∷◌, ◌++◌, Option, None, Some, refl, sym, ap, subst, ◌∙◌, inl, inr, All}
-use Rattle.std.specs.Prelude.{Contains, map}
+use Rattle.std.specs.Prelude.{map}
 use Rattle.std.specs.List.{flat_map}
 use Rattle.std.proofs.lemmas.Bool.Decides.{eqb_tells}
 use Rattle.std.proofs.lemmas.List.Elements.{All-nil, All-cons, All-weaker}
 use Rattle.pg_base.specs.declared.id.FileId.{FileId}
-use Rattle.pg_base.specs.declared.version.Version.{Version}
-use Rattle.pg_base.specs.Stamp.{UpTo}
-use Rattle.pg_base.proofs.Orders.{UpTo-same}
 use Rattle.pg_edges.specs.declared.edge.Edge.{Edge}
 use Rattle.pg_edges.specs.declared.key.Key.{Key}
-use Rattle.pg_edges.specs.declared.key.Key.TheVariants as key
 use Rattle.pg_edges.specs.Edges.{is_listed}
-use Rattle.pg_flood.specs.Server.{Holds}
 use Rattle.pg_flood.specs.Laws.{IsClean}
 use Rattle.pg_flood.proofs.Worlds.{across, clean_tags}
-use Rattle.pg_msg.specs.declared.update.Update.{Update}
+use Rattle.pg_content.specs.Covering.{AreCoveredBy}
+use Rattle.pg_content.proofs.Covering.{covered_same}
+use Rattle.pg_replica.specs.declared.replica.Replica.{Replica}
+use Rattle.pg_replica.proofs.Drawn.{seen}
 use Rattle.pg_sched.specs.declared.line.Event.{Event}
-use Rattle.pg_node.specs.declared.replica.Replica.{Replica}
-use Rattle.pg_node.specs.Local.{Store, known, or_new, replica_of, held, cell_at, edge_owes, replica_owes, owed, update}
-use Rattle.pg_world.specs.Journal.{bag, history, taken, state_of, IsGreatest, IsStateOf}
+use Rattle.pg_node.specs.Local.{Store, known, or_new, replica_of, held, edge_owes, replica_owes, owed}
+use Rattle.pg_world.specs.Journal.{bag, taken, state_of, versions as history_of}
 use Rattle.pg_world.specs.Run.{World, run}
 use Rattle.pg_world.specs.Quiet.{IsQuiet}
-use Rattle.pg_world.specs.Laws.{HoldsWhatItTook, StateIsGreatest, TookWhatWasMade, OneVersionAStamp, QuietServersAgree}
-use Rattle.pg_world.proofs.Wholes.{found_replica}
-use Rattle.pg_world.proofs.Flooding.{versions, is_sound, seen, own_cell, cell_is}
-use Rattle.pg_world.proofs.Edges.{IsKept, new_clean, run_kept}
+use Rattle.pg_world.specs.Laws.{HoldsWhatItTook, QuietServersAgree}
+use Rattle.pg_world.proofs.HoldsHistory.{HoldsHistory}
+use Rattle.pg_world.proofs.Wholes.{found_replica, new_clean}
+use Rattle.pg_world.proofs.Covered.{held_covered}
+use Rattle.pg_world.proofs.Flooding.{versions, is_sound}
+use Rattle.pg_world.proofs.Edges.{IsKept, run_kept}
 
 -- ---- where nothing is owed
 
@@ -46,7 +45,7 @@ clean_replica server r e =
     All-weaker (λ (x : Edge). edge_owes server r.0 x ≡ []) (λ (x : Edge). x.keys ≡ [])
     (λ x h. map_empty (λ (k : Key × ℕ). record { server = server; file = r.0; peer = x.peer; key = k.0 }) x.keys h) r.1.edges (all_empty (edge_owes server r.0) r.1.edges e)
 
-or_clean : (a : Store) (file : FileId) (o : Option Replica) → owed a ≡ [] → known a file ≡ o → IsClean (or_new a o).edges
+or_clean : (a : Store) (file : FileId) (o : Option Replica) → owed a ≡ [] → known a file ≡ o → IsClean (or_new a file o).edges
 or_clean a file None e is = new_clean a.servers a.server
 or_clean a file (Some x) e is =
     found_replica (λ z. IsClean z.edges) file x a.replicas
@@ -56,58 +55,32 @@ or_clean a file (Some x) e is =
 pub nothing_owed : (a : Store) (file : FileId) → owed a ≡ [] → IsClean (replica_of a file).edges
 nothing_owed a file e = or_clean a file (known a file) e refl
 
--- what one server holds of a file, another holds too, or more
-pub covered : (n : ℕ) (w : World) → IsKept n w → IsQuiet n w → (file : FileId) (s t : ℕ) (u : Version) → 1 ≤ s → s ≤ n → 1 ≤ t → t ≤ n → t ≢ s → held (w.stores s) file ≡ Some u
-    → Holds versions.IsUpTo (cell_at (held (w.stores t) file)) u
-covered n w k quiet file s t u ls ms lt mt apart e =
-    let x = replica_of (w.stores s) file in
-    let y = replica_of (w.stores t) file in
-    let P : ℕ → Type 0 = (λ b. is_listed x.edges t b ≡ true) in
-    let there : is_listed x.edges t y.birth ≡ true = subst P (sym ((k.whole.stores t).born file)) ((k.whole.stores s).listed file t lt mt apart) in
-    let clean = nothing_owed (w.stores s) file (quiet.nothing s ls ms) in
-    across versions is_sound w.stores (bag w.journal) k.edges file s t (seen x) (seen y) refl refl there (λ j. clean_tags x.edges t y.birth j clean) (key.Version u.stamp) u (ap (λ h. cell_at h (key.Version u.stamp)) e ∙ own_cell u)
+-- ---- two servers
 
--- ---- the same of both
+module _ (n : ℕ) (w : World) (holds : HoldsHistory n w) (k : IsKept n w) (quiet : IsQuiet n w) (file : FileId) where
+  -- the other server's replica knows what the heads of one know
+  covered : (s t : ℕ) → 1 ≤ s → s ≤ n → 1 ≤ t → t ≤ n → t ≢ s → AreCoveredBy (held (w.stores s) file).heads (held (w.stores t) file).heads
+  covered s t ls ms lt mt apart =
+      let x = replica_of (w.stores s) file in
+      let y = replica_of (w.stores t) file in
+      let P : ℕ → Type 0 = (λ b. is_listed x.edges t b ≡ true) in
+      let there : is_listed x.edges t y.birth ≡ true = subst P (sym ((k.whole.stores t).born file)) ((k.whole.stores s).listed file t lt mt apart) in
+      let clean = nothing_owed (w.stores s) file (quiet.nothing s ls ms) in
+      held_covered x.content.heads y.content.heads (holds.stands s ls ms file).order
+      (across versions is_sound w.stores (bag w.journal) k.edges file s t (seen x) (seen y) refl refl there (λ j. clean_tags x.edges t y.birth j clean))
 
-none_there : (u : Version) → Holds versions.IsUpTo (cell_at None) u → ⊥
-none_there u h = let z : None ≡ Some h.cell = h.is in cc
+  -- so both hold the same
+  pub same_held : (s t : ℕ) → 1 ≤ s → s ≤ n → 1 ≤ t → t ≤ n → t ≢ s → held (w.stores s) file ≡ held (w.stores t) file
+  same_held s t ls ms lt mt apart =
+      covered_same (history_of file w.journal) (holds.histories file) (held (w.stores s) file) (held (w.stores t) file) (taken s file w.journal) (taken t file w.journal)
+      (holds.stands s ls ms file) (holds.stands t lt mt file) (holds.policies s ls ms file ∙ sym (holds.policies t lt mt file))
+      (covered s t ls ms lt mt apart) (covered t s lt mt ls ms (λ q. apart (sym q)))
 
-upto_there : (u v : Version) → Holds versions.IsUpTo (cell_at (Some v)) u → UpTo u.stamp v.stamp
-upto_there u v h = let P : Version → Type 0 = (λ z. UpTo u.stamp z.stamp) in subst P (sym (cell_is v h.cell h.key h.is)) h.upto
-
--- what is held was made
-held_made : (n : ℕ) → HoldsWhatItTook n → TookWhatWasMade n → StateIsGreatest → (events : List Event) (file : FileId) (s : ℕ) (u : Version) → 1 ≤ s → s ≤ n → held ((run n events).stores s) file ≡ Some u
-    → Contains (history (run n events).journal) (update file u)
-held_made n holds took greatest events file s u least most e =
-    let w = run n events in
-    let P : Option Version → Type 0 = IsStateOf file (taken s w.journal) in
-    let g : IsGreatest file (taken s w.journal) u = subst P (sym (holds events s file least most) ∙ e) (greatest file (taken s w.journal)) in
-    took events s (update file u) g.among
-
-same_held : (n : ℕ) → HoldsWhatItTook n → TookWhatWasMade n → OneVersionAStamp n → StateIsGreatest → (events : List Event) → IsQuiet n (run n events) → (file : FileId) (s t : ℕ) (o p : Option Version)
-    → 1 ≤ s → s ≤ n → 1 ≤ t → t ≤ n → t ≢ s → held ((run n events).stores s) file ≡ o → held ((run n events).stores t) file ≡ p → o ≡ p
-same_held n holds took one greatest events quiet file s t None None ls ms lt mt apart e f = refl
-same_held n holds took one greatest events quiet file s t (Some u) None ls ms lt mt apart e f =
-    let P : Option Version → Type 0 = (λ h. Holds versions.IsUpTo (cell_at h) u) in
-    absurd (none_there u (subst P f (covered n (run n events) (run_kept n events) quiet file s t u ls ms lt mt apart e)))
-same_held n holds took one greatest events quiet file s t None (Some v) ls ms lt mt apart e f =
-    let P : Option Version → Type 0 = (λ h. Holds versions.IsUpTo (cell_at h) v) in
-    absurd (none_there v (subst P e (covered n (run n events) (run_kept n events) quiet file t s v lt mt ls ms (λ q. apart (sym q)) f)))
-same_held n holds took one greatest events quiet file s t (Some u) (Some v) ls ms lt mt apart e f =
-    let P : Option Version → Type 0 = (λ h. Holds versions.IsUpTo (cell_at h) u) in
-    let Q : Option Version → Type 0 = (λ h. Holds versions.IsUpTo (cell_at h) v) in
-    let there = upto_there u v (subst P f (covered n (run n events) (run_kept n events) quiet file s t u ls ms lt mt apart e)) in
-    let back = upto_there v u (subst Q e (covered n (run n events) (run_kept n events) quiet file t s v lt mt ls ms (λ q. apart (sym q)) f)) in
-    ap (λ (x : Update). Some x.version)
-    (one events (update file u) (update file v) (held_made n holds took greatest events file s u ls ms e) (held_made n holds took greatest events file t v lt mt f) (UpTo-same u.stamp v.stamp there back))
-
--- AGREEMENT WHEN QUIET, where servers hold the state of what they took, which was made, and no two versions have one stamp
-pub quiet_servers_agree_from : (n : ℕ) → HoldsWhatItTook n → TookWhatWasMade n → OneVersionAStamp n → StateIsGreatest → QuietServersAgree n
-quiet_servers_agree_from n holds took one greatest events quiet file s t ls ms lt mt =
+-- AGREEMENT WHEN QUIET, where what servers hold is of the history, and is the state of what they took
+pub quiet_servers_agree_from : (n : ℕ) → ((events : List Event) → HoldsHistory n (run n events)) → HoldsWhatItTook n → QuietServersAgree n
+quiet_servers_agree_from n holds took events quiet file s t ls ms lt mt =
     let w = run n events in
     elim (eqb_tells t s) [
-      | inl e ↦ ap (λ z. state_of file (taken z w.journal)) (sym e.1)
-      | inr e ↦
-          sym (holds events s file ls ms)
-          ∙ same_held n holds took one greatest events quiet file s t (held (w.stores s) file) (held (w.stores t) file) ls ms lt mt e.1 refl refl ∙ holds events t file lt mt
+      | inl e ↦ ap (λ z. state_of file w.journal (taken z file w.journal)) (sym e.1)
+      | inr e ↦ sym (took events s file ls ms) ∙ same_held n w (holds events) (run_kept n holds events) quiet file s t ls ms lt mt e.1 ∙ took events t file lt mt
     ]

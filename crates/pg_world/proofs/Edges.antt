@@ -1,9 +1,8 @@
 -- In every world that a run reaches, edges and messages keep what they promise.
 use Rattle.std.proofs.Common.{ℕ, ◌≡◌, List, [], ◌∷◌, ◌++◌, Option, None, Some, refl, sym, subst, inl, inr, All}
-use Rattle.std.proofs.lemmas.List.Elements.{All-nil, All-append, All-weaker}
+use Rattle.std.proofs.lemmas.List.Elements.{All-nil, All-append}
 use Rattle.pg_base.specs.declared.id.FileId.{FileId}
-use Rattle.pg_base.specs.declared.version.Version.{Version}
-use Rattle.pg_edges.specs.declared.edge.Edge.{Edge}
+use Rattle.pg_base.specs.Version.{VersionValue}
 use Rattle.pg_flood.specs.World.{after}
 use Rattle.pg_flood.specs.Promises.{Saying}
 use Rattle.pg_flood.specs.Promises.Saying.{Other}
@@ -16,26 +15,24 @@ use Rattle.pg_flood.proofs.Steps.{HasSoundTags}
 use Rattle.pg_flood.proofs.Worlds.{event_keeps, bag_keeps, start_keeps, clean_server}
 use Rattle.pg_msg.specs.declared.message.Sent.{Sent}
 use Rattle.pg_sched.specs.declared.line.Event.{Event}
-use Rattle.pg_sched.specs.declared.line.Event.TheVariants.{Put, Tick, Deliver, Lose, Repeat}
+use Rattle.pg_sched.specs.declared.line.Event.TheVariants.{Write, Tick, Deliver, Lose, Repeat}
 use Rattle.pg_sched.specs.declared.entry.VoidCause.{VoidCause}
 use Rattle.pg_sched.specs.declared.entry.VoidCause.TheVariants.{NoMessage, NoServer}
 use Rattle.pg_node.specs.declared.input.Input.TheVariants as input
-use Rattle.pg_node.specs.Local.{Store, Effect, new_store, clean_edges, put, tick, effect}
+use Rattle.pg_node.specs.Local.{Store, Effect, new_store, write, tick, effect}
 use Rattle.pg_world.specs.Journal.{bag, message_at, bag_after}
+use Rattle.pg_world.specs.Laws.{IsOfHistory}
 use Rattle.pg_world.specs.Run.{World, entered, next, start, still, acted, is_server, delivered, moved, run_from, run}
-use Rattle.pg_world.proofs.Wholes.{IsEdge, AreWhole, IsOfRun, chosen, none_of, at_message, left_without, left_copied, new_full, whole_next, whole_start}
-use Rattle.pg_world.proofs.Flooding.{versions, says, IsDated, IsGood, put_good, tick_good, arrived_good}
-
--- what holds of every server
-pub record AreSound (stores : ℕ → Store) : Type 0 where
-  pub tags : (s : ℕ) → HasSoundTags versions (stores s)
-  pub dated : (s : ℕ) → IsDated (stores s)
+use Rattle.pg_world.proofs.HoldsHistory.{HoldsHistory}
+use Rattle.pg_world.proofs.Wholes.{AreWhole, IsOfRun, chosen, tested, is_in, at_message, left_without, left_copied, new_clean, whole_next, whole_start}
+use Rattle.pg_world.proofs.Covered.{has_versions}
+use Rattle.pg_world.proofs.Flooding.{versions, says, IsGood, write_good, tick_good, arrived_good}
 
 -- THE INVARIANT
 pub record IsKept (n : ℕ) (w : World) : Type 0 where
   pub whole : AreWhole n w
   pub edges : KeepsEdges versions w.stores (bag w.journal)
-  pub sound : AreSound w.stores
+  pub tags : (s : ℕ) → HasSoundTags versions (w.stores s)
 
 abbrev Promise : (ℕ → Store) → Sent → Type 0
 Promise stores m = Promised versions stores (says m)
@@ -43,44 +40,40 @@ Promise stores m = Promised versions stores (says m)
 -- what an event does to the edges, and to every server
 record IsStep (w' : World) : Type 0 where
   pub edges : KeepsEdges versions w'.stores (bag w'.journal)
-  pub sound : AreSound w'.stores
+  pub tags : (s : ℕ) → HasSoundTags versions (w'.stores s)
 
-sound_after : (stores : ℕ → Store) (s : ℕ) (b : Store) → AreSound stores → HasSoundTags versions b → IsDated b → AreSound (after stores s b)
-sound_after stores s b k tags dated = record {
-  tags = λ j. elim (here stores s b j) [
-    | inl e ↦ let P : Store → Type 0 = (λ x. HasSoundTags versions x) in subst P (sym e.1) tags
-    | inr e ↦ let P : Store → Type 0 = (λ x. HasSoundTags versions x) in subst P (sym e.1) (k.tags j)
-  ];
-  dated = λ j. elim (here stores s b j) [
-    | inl e ↦ let P : Store → Type 0 = (λ x. IsDated x) in subst P (sym e.1) dated
-    | inr e ↦ let P : Store → Type 0 = (λ x. IsDated x) in subst P (sym e.1) (k.dated j)
-  ];
-}
+tags_after : (stores : ℕ → Store) (s : ℕ) (b : Store) → ((j : ℕ) → HasSoundTags versions (stores j)) → HasSoundTags versions b → (j : ℕ) → HasSoundTags versions (after stores s b j)
+tags_after stores s b k tags j =
+    let P : Store → Type 0 = (λ x. HasSoundTags versions x) in
+    elim (here stores s b j) [ inl e ↦ subst P (sym e.1) tags | inr e ↦ subst P (sym e.1) (k j) ]
 
 -- one server did this, having heard this, and these are left of the messages under way
-acted_step : (n : ℕ) (w : World) (event : Event) (s : ℕ) (heard : Saying Slot Version) (done : Effect) (rest : List Sent) → IsKept n w → IsGood s (w.stores s) heard done
+acted_step : (n : ℕ) (w : World) (event : Event) (s : ℕ) (heard : Saying Slot VersionValue) (done : Effect) (rest : List Sent) → IsKept n w → IsGood s (w.stores s) heard done
     → bag_after (bag w.journal) event done.out.sent ≡ rest ++ done.out.sent → Promised versions w.stores heard → All (Promise w.stores) rest → IsStep (entered w (acted w event s done))
 acted_step n w event s heard done rest k g e promised left = record {
   edges =
       let P : List Sent → Type 0 = KeepsEdges versions (after w.stores s done.store) in
       subst P (sym e) (event_keeps versions w.stores s done.store heard done.out.sent (bag w.journal) rest k.edges g.rule promised left);
-  sound = sound_after w.stores s done.store k.sound g.tags g.dated;
+  tags = tags_after w.stores s done.store k.tags g.tags;
 }
 
 still_step : (n : ℕ) (w : World) (event : Event) (cause : Option VoidCause) → IsKept n w → All (Promise w.stores) (bag_after (bag w.journal) event []) → IsStep (entered w (still w event cause))
-still_step n w event cause k left = record { edges = bag_keeps versions w.stores (bag w.journal) (bag_after (bag w.journal) event []) k.edges left; sound = k.sound }
+still_step n w event cause k left = record { edges = bag_keeps versions w.stores (bag w.journal) (bag_after (bag w.journal) event []) k.edges left; tags = k.tags }
 
 no_more : (stores : ℕ → Store) (ms : List Sent) → All (Promise stores) ms → All (Promise stores) (ms ++ [])
 no_more stores ms h = All-append (Promise stores) ms [] h (All-nil (Promise stores))
 
-delivered_step : (n : ℕ) (w : World) (place : ℕ) (o : Option Sent) → IsKept n w → message_at (bag w.journal) place ≡ o → IsStep (entered w (delivered n w (Deliver place) o))
-delivered_step n w place None k e =
+delivered_step : (n : ℕ) (w : World) (place : ℕ) (o : Option Sent) → HoldsHistory n w → IsKept n w → message_at (bag w.journal) place ≡ o → IsStep (entered w (delivered n w (Deliver place) o))
+delivered_step n w place None holds k e =
     still_step n w (Deliver place) (Some NoMessage) k (no_more w.stores _ (left_without (Promise w.stores) (bag w.journal) place (message_at (bag w.journal) place) k.edges.promises))
-delivered_step n w place (Some m) k e =
+delivered_step n w place (Some m) holds k e =
     let left = left_without (Promise w.stores) (bag w.journal) place (message_at (bag w.journal) place) k.edges.promises in
-    chosen (λ z. IsStep (entered w z)) (is_server n m.to) (acted w (Deliver place) m.to (effect (w.stores m.to) (input.Arrival m.packet))) (still w (Deliver place) None)
-    (acted_step n w (Deliver place) m.to (says m) (effect (w.stores m.to) (input.Arrival m.packet)) _ k
-    (arrived_good n m.to (w.stores m.to) m.packet (k.whole.stores m.to) (k.sound.tags m.to) (k.sound.dated m.to) (at_message (IsOfRun n) (bag w.journal) place m k.whole.bag e)) refl
+    let done = effect (w.stores m.to) (input.Arrival m.packet) in
+    tested (λ z. IsStep (entered w z)) (is_server n m.to) (acted w (Deliver place) m.to done) (still w (Deliver place) None)
+    (λ t. let s = is_in n m.to t in
+    acted_step n w (Deliver place) m.to (says m) done _ k
+    (arrived_good n m.to (w.stores m.to) m.packet w.journal (k.whole.stores m.to) (has_versions n w holds m.to s.least s.most) (k.tags m.to)
+    (at_message (λ x. IsOfHistory w.journal x.packet.message) (bag w.journal) place m holds.carried e) (at_message (IsOfRun n) (bag w.journal) place m k.whole.bag e)) refl
     (at_message (Promise w.stores) (bag w.journal) place m k.edges.promises e) left)
     (still_step n w (Deliver place) None k (no_more w.stores _ left))
 
@@ -88,54 +81,48 @@ moved_step : (n : ℕ) (w : World) (event : Event) (o : Option Sent) → IsKept 
 moved_step n w event None k left = still_step n w event (Some NoMessage) k left
 moved_step n w event (Some m) k left = still_step n w event None k left
 
-next_step : (n : ℕ) (w : World) (e : Event) → IsKept n w → IsStep (entered w (next n w e))
-next_step n w (Put s moment file body) k =
+next_step : (n : ℕ) (w : World) (e : Event) → HoldsHistory n w → IsKept n w → IsStep (entered w (next n w e))
+next_step n w (Write s moment file what) holds k =
+    tested (λ z. IsStep (entered w z)) (is_server n s) _ _
+    (λ t. let i = is_in n s t in
+    acted_step n w (Write s moment file what) s Other (write (w.stores s) moment file what) (bag w.journal) k
+    (write_good n s (w.stores s) moment file what _ (k.whole.stores s) (has_versions n w holds s i.least i.most file) (k.tags s)) refl tt k.edges.promises)
+    (still_step n w (Write s moment file what) (Some NoServer) k (no_more w.stores (bag w.journal) k.edges.promises))
+next_step n w (Tick s moment word) holds k =
     chosen (λ z. IsStep (entered w z)) (is_server n s) _ _
-    (acted_step n w (Put s moment file body) s Other (put (w.stores s) moment file body) (bag w.journal) k
-    (put_good n s (w.stores s) moment file body (k.whole.stores s) (k.sound.tags s) (k.sound.dated s)) refl tt k.edges.promises)
-    (still_step n w (Put s moment file body) (Some NoServer) k (no_more w.stores (bag w.journal) k.edges.promises))
-next_step n w (Tick s moment word) k =
-    chosen (λ z. IsStep (entered w z)) (is_server n s) _ _
-    (acted_step n w (Tick s moment word) s Other (tick (w.stores s)) (bag w.journal) k (tick_good n s (w.stores s) (k.whole.stores s) (k.sound.tags s) (k.sound.dated s)) refl tt k.edges.promises)
+    (acted_step n w (Tick s moment word) s Other (tick (w.stores s)) (bag w.journal) k (tick_good n s (w.stores s) (k.whole.stores s) (k.tags s)) refl tt k.edges.promises)
     (still_step n w (Tick s moment word) (Some NoServer) k (no_more w.stores (bag w.journal) k.edges.promises))
-next_step n w (Deliver place) k = delivered_step n w place (message_at (bag w.journal) place) k refl
-next_step n w (Lose place) k = moved_step n w (Lose place) (message_at (bag w.journal) place) k (left_without (Promise w.stores) (bag w.journal) place (message_at (bag w.journal) place) k.edges.promises)
-next_step n w (Repeat place) k =
+next_step n w (Deliver place) holds k = delivered_step n w place (message_at (bag w.journal) place) holds k refl
+next_step n w (Lose place) holds k = moved_step n w (Lose place) (message_at (bag w.journal) place) k (left_without (Promise w.stores) (bag w.journal) place (message_at (bag w.journal) place) k.edges.promises)
+next_step n w (Repeat place) holds k =
     moved_step n w (Repeat place) (message_at (bag w.journal) place) k
     (left_copied (Promise w.stores) (bag w.journal) (message_at (bag w.journal) place) k.edges.promises (λ m e. at_message (Promise w.stores) (bag w.journal) place m k.edges.promises e))
 
--- EVERY EVENT KEEPS IT
-next_keeps : (n : ℕ) (w : World) (e : Event) → IsKept n w → IsKept n (entered w (next n w e))
-next_keeps n w e k = let s = next_step n w e k in record { whole = whole_next n w e k.whole; edges = s.edges; sound = s.sound }
+-- EVERY EVENT KEEPS IT, where what the servers hold is of the history
+pub kept_next : (n : ℕ) (w : World) (e : Event) → HoldsHistory n w → IsKept n w → IsKept n (entered w (next n w e))
+kept_next n w e holds k = let s = next_step n w e holds k in record { whole = whole_next n w e k.whole; edges = s.edges; tags = s.tags }
 
 -- ---- the start
 
--- the edges of a replica that nobody has touched
-pub new_clean : (n s : ℕ) → IsClean (clean_edges s n)
-new_clean n s = All-weaker (IsEdge n s None) (λ (e : Edge). e.keys ≡ []) (λ e k. none_of e.keys k.keys) (clean_edges s n) (new_full n s).edges.each
-
-start_clean : (n s : ℕ) (file : FileId) (x : Seen Version) → (versions.see (new_store n s)).replicas file ≡ Some x → IsClean x.edges
+start_clean : (n s : ℕ) (file : FileId) (x : Seen VersionValue) → (versions.see (new_store n s)).replicas file ≡ Some x → IsClean x.edges
 start_clean n s file x e =
-    let P : Seen Version → Type 0 = (λ z. IsClean z.edges) in
+    let P : Seen VersionValue → Type 0 = (λ z. IsClean z.edges) in
     subst P (some_same _ x e) (new_clean n s)
 
-start_holds : (n s : ℕ) (q : Slot) (c : Version) → Has versions (new_store n s) q c → ⊥
+start_holds : (n s : ℕ) (q : Slot) (c : VersionValue) → Has versions (new_store n s) q c → ⊥
 start_holds n s q c h = let t = has_parts (versions.see (new_store n s)) q c _ refl h in let z : None ≡ Some c = t.2 in cc
 
 start_kept : (n : ℕ) → IsKept n (start n)
 start_kept n = record {
   whole = whole_start n;
   edges = start_keeps versions (new_store n) (λ s q c h t. absurd (start_holds n s q c h)) (λ s x h. h);
-  sound = record {
-    tags = λ s. clean_server versions (new_store n s) (λ file x e. start_clean n s file x e);
-    dated = λ s file w h. absurd (let z : None ≡ Some w = h in cc);
-  };
+  tags = λ s. clean_server versions (new_store n s) (λ file x e. start_clean n s file x e);
 }
 
-run_from_kept : (n : ℕ) (w : World) (events : List Event) → IsKept n w → IsKept n (run_from n w events)
-run_from_kept n w [] k = k
-run_from_kept n w (e ∷ es) k = run_from_kept n (entered w (next n w e)) es (next_keeps n w e k)
+run_from_kept : (n : ℕ) (w : World) (events : List Event) → ((some : List Event) → HoldsHistory n (run_from n w some)) → IsKept n w → IsKept n (run_from n w events)
+run_from_kept n w [] holds k = k
+run_from_kept n w (e ∷ es) holds k = run_from_kept n (entered w (next n w e)) es (λ some. holds (e ∷ some)) (kept_next n w e (holds []) k)
 
 -- AND SO DOES EVERY RUN
-pub run_kept : (n : ℕ) (events : List Event) → IsKept n (run n events)
-run_kept n events = run_from_kept n (start n) events (start_kept n)
+pub run_kept : (n : ℕ) → ((events : List Event) → HoldsHistory n (run n events)) → (events : List Event) → IsKept n (run n events)
+run_kept n holds events = run_from_kept n (start n) events holds (start_kept n)

@@ -1,74 +1,86 @@
 -- What a server does keeps what its edges and its messages promise.
-use Rattle.std.proofs.Common.{ℕ, ◌≡◌, ◌<◌, ◌≤◌, ◌+◌, ◌==◌, Bool, true, false, cond, max, List, [], ◌∷◌, ◌++◌, length, get_or, Option, None, Some, option_map, refl, sym, ap, subst, ◌∙◌, arith, All}
-use Rattle.std.specs.List.{flat_map}
-use Rattle.std.specs.Map.{lookup}
+use Rattle.std.proofs.Common.{ℕ, ◌≡◌, ◌≤◌, ◌+◌, ◌==◌, ◌&&◌, true, false, cond, List, [], ◌∷◌, length, get_or, Option, None, Some, option_map, refl, sym, ap, subst, ◌∙◌, arith, inl, All}
+use Rattle.std.specs.Prelude.{nat_lt}
+use Rattle.std.specs.List.Sorted.{IsStrictlySortedBy}
+use Rattle.std.specs.Map.{keys_of, lookup}
 use Rattle.std.specs.BTreeMap.{is_at, insert_entry}
 use Rattle.std.proofs.lemmas.Bool.{ne_eqb, eq-eqb}
-use Rattle.std.proofs.lemmas.List.Elements.{All-nil, All-cons}
+use Rattle.std.proofs.lemmas.List.Elements.{All-nil, All-cons, All-weaker}
 use Rattle.pg_base.specs.declared.id.FileId.{FileId}
-use Rattle.pg_base.specs.declared.version.Version.{Version}
+use Rattle.pg_base.specs.declared.stamp.Stamp.{Stamp}
 use Rattle.pg_base.specs.Id.{file_cmp, is_same_file}
-use Rattle.pg_base.specs.Stamp.{UpTo, next_stamp}
-use Rattle.pg_base.proofs.Orders.{file_total, is_same_file-true, is_same_file-refl, UpTo-refl, UpTo-trans, is_before-true, is_before-false}
+use Rattle.pg_base.specs.Stamp.{next_stamp}
+use Rattle.pg_base.specs.Version.{VersionValue}
+use Rattle.pg_base.proofs.Orders.{file_total, is_same_file-refl}
 use Rattle.pg_base.proofs.Maps.{lookup-insert_entry}
 use Rattle.pg_base.proofs.Entries.{lookup-place}
 use Rattle.pg_edges.specs.declared.edge.Edge.{Edge}
 use Rattle.pg_edges.specs.declared.key.Key.{Key}
-use Rattle.pg_edges.specs.declared.key.Key.TheVariants as key
-use Rattle.pg_edges.specs.Key.{is_same_key}
+use Rattle.pg_edges.specs.Key.{key_cmp}
 use Rattle.pg_edges.specs.Keys.{tag_in}
-use Rattle.pg_edges.specs.Edges.{edge_to, keys_if_born, tag_of, tag_at, acked, peers, AscendFrom}
+use Rattle.pg_edges.specs.Edges.{edge_to, keys_if_born, tag_of, tag_at, peers, AscendFrom}
 use Rattle.pg_edges.proofs.Lookups.{same_number}
 use Rattle.pg_edges.proofs.Lists.{peer_at}
-use Rattle.pg_edges.proofs.Orders.{is_same_key-refl}
+use Rattle.pg_edges.proofs.Orders.{key_total}
+use Rattle.pg_patch.specs.Ranges.{RangesValue, applied}
 use Rattle.pg_flood.specs.Promises.{Saying}
 use Rattle.pg_flood.specs.Promises.Saying.{CellFor, AckTo, Other}
-use Rattle.pg_flood.specs.Server.{Replica as Seen, Server, Slot, slot, Holds, HoldsAll}
+use Rattle.pg_flood.specs.Server.{Replica as Seen, Server, Slot, slot, Holds}
 use Rattle.pg_flood.specs.Protocol.{Protocol, IsSound}
-use Rattle.pg_flood.proofs.Servers.{some_same, OthersStay}
+use Rattle.pg_flood.proofs.Servers.{OthersStay}
 use Rattle.pg_flood.proofs.Steps.{HasSoundTags, Rule, May, AllMay, NotesFrom, OverStays, Steps, Steps-refl, by_steps}
-use Rattle.pg_flood.proofs.Draws.{Draws, Draws-refl, Draws-trans}
-use Rattle.pg_flood.proofs.Touch.{touch_draws}
-use Rattle.pg_flood.proofs.Retire.{retire_draws}
 use Rattle.pg_flood.proofs.OneFile.{file_steps}
 use Rattle.pg_flood.proofs.Sends.{cell_may, answer_may, held_covers, none_sent, one_sent}
 use Rattle.pg_flood.proofs.Answer.{Answers, answer_rule, answer_tags}
+use Rattle.pg_content.specs.Content.{Among, body_limit, actor_limit, next_vector, next_version, shown_bytes}
+use Rattle.pg_content.specs.History.{Made, version_of}
+use Rattle.pg_content.proofs.Covering.{upto_itself, upto_trans}
+use Rattle.pg_replica.specs.declared.replica.Replica.{Replica}
+use Rattle.pg_replica.specs.Replica.{acknowledged, cell_at, covers, key_of, with_head, with_write}
+use Rattle.pg_replica.proofs.Drawn.{seen}
+use Rattle.pg_replica.proofs.Growth.{cell_head, head_at}
 use Rattle.pg_msg.specs.declared.message.Ends.{Ends}
 use Rattle.pg_msg.specs.declared.message.Message.{Message}
 use Rattle.pg_msg.specs.declared.message.Message.TheVariants as message
 use Rattle.pg_msg.specs.declared.message.Packet.{Packet}
 use Rattle.pg_msg.specs.declared.message.Sent.{Sent}
+use Rattle.pg_sched.specs.declared.change.Change.{Change}
+use Rattle.pg_sched.specs.declared.entry.Entry.{Entry}
+use Rattle.pg_sched.specs.declared.entry.Refusal.TheVariants.{ClockEnd, TooLong, ManyActors}
 use Rattle.pg_sched.specs.declared.entry.Reply.{Reply}
 use Rattle.pg_sched.specs.declared.entry.Reply.TheVariants.{Done}
-use Rattle.pg_node.specs.declared.replica.Replica.{Replica}
-use Rattle.pg_node.specs.Local.{Store, Effect, new_replica, known, or_new, replica_of, held, without_head, with_head, keep, with_replica, is_newer, cell_to, tagged_cell, cells, cell_at, key_cell, edge_cells, replica_cells, unacknowledged_cells, ack_to, idle, refused, told, has_time, wrote, put, tick, is_accepted, took, answered, heard, arrived}
-use Rattle.pg_world.proofs.Wholes.{AreOf, IsFull, IsWhole, IsOfRun, chosen, tested, All-flat_map, full_head}
+use Rattle.pg_node.specs.Local.{Store, Effect, new_replica, known, or_new, replica_of, held, keep, with_replica, cell_to, tagged_cell, cells, key_cell, edge_cells, replica_cells, unacknowledged_cells, ack_to, idle, refused, told, has_time, has_room, actor_at, ranges_of, wrote, wrote_unless, write, tick, is_accepted, took, answered, heard, arrived}
+use Rattle.pg_world.specs.Journal.{versions as history_of}
+use Rattle.pg_world.specs.Laws.{IsOfHistory}
+use Rattle.pg_world.proofs.Wholes.{IsEdge, IsFull, IsWhole, IsOfRun, chosen, decided, tested, All-flat_map, full_head, full_write, whole_full}
+use Rattle.pg_world.proofs.Covered.{IsKnownBy, HasVersions, GoesOn, write_goes_on, head_goes_on, head_among, head_held, old_held}
 
 -- ---- what the edges see
 
--- what they see of a replica: its cell is the version that it holds, at its key
-abbrev pub seen : Replica → Seen Version
-seen x = record { birth = x.birth; edges = x.edges; cells = cell_at x.head }
-
 -- what a message from one server to another says
-abbrev pub saying : ℕ → ℕ → Message → Saying Slot Version
-saying from to (message.Cell ends tag v) = CellFor from (slot ends.file ends.sender to ends.receiver (key.Version v.stamp)) tag v
+abbrev pub saying : ℕ → ℕ → Message → Saying Slot VersionValue
+saying from to (message.Cell ends tag v) = CellFor from (slot ends.file ends.sender to ends.receiver (key_of v)) tag v
 saying from to (message.Ack ends k tag) = AckTo to (slot ends.file ends.receiver from ends.sender k) tag
 
-abbrev pub says : Sent → Saying Slot Version
+abbrev pub says : Sent → Saying Slot VersionValue
 says m = saying m.packet.from m.to m.packet.message
 
-abbrev pub see : Store → Server Version
+abbrev pub see : Store → Server VersionValue
 see a = record { tags = a.tags; replicas = λ file. Some (seen (replica_of a file)) }
 
--- every server holds every file, births end nowhere, and each cell is answered at once
-abbrev pub versions : Protocol Store Sent Version
-versions = record { see = see; IsUpTo = λ a b. UpTo a.stamp b.stamp; IsOver = λ a file birth c. ⊥; says = says; Noted = λ a x. ⊥ }
+-- every server holds every file, births end nowhere, and each cell is answered at once. Whoever holds a version that knows
+-- what another one knows covers that one
+abbrev pub versions : Protocol Store Sent VersionValue
+versions = record { see = see; IsUpTo = IsKnownBy; IsOver = λ a file birth c. ⊥; says = says; Noted = λ a x. ⊥ }
 
 pub is_sound : IsSound versions
-is_sound = record { same = λ c. UpTo-refl c.stamp; further = λ a b c h k. UpTo-trans a.stamp b.stamp c.stamp h k; ends = λ a f b c x h. absurd h }
+is_sound = record {
+  same = λ c. upto_itself c.head.vector;
+  further = λ a b c h k. upto_trans a.head.vector b.head.vector c.head.vector h k;
+  ends = λ a f b c x h. absurd h;
+}
 
-none_noted : (a b : Store) (heard : Saying Slot Version) → NotesFrom versions a b heard
+none_noted : (a b : Store) (heard : Saying Slot VersionValue) → NotesFrom versions a b heard
 none_noted a b heard x h = absurd h
 
 none_over : (a b : Store) → OverStays versions a b
@@ -85,23 +97,15 @@ pub record Changes (a b : Store) (file : FileId) (x : Replica) : Type 0 where
 known_after : (a b : Store) (file : FileId) (x : Replica) (f : FileId) → Changes a b file x → known b f ≡ cond (is_same_file f file) (Some x) (known a f)
 known_after a b file x f k = ap (lookup (is_at (file_cmp f))) k.replicas ∙ lookup-insert_entry file_cmp file_total f file x a.replicas
 
-or_new_same : (a b : Store) (o : Option Replica) → b.server ≡ a.server → b.servers ≡ a.servers → or_new b o ≡ or_new a o
-or_new_same a b None e f = ap (λ s. new_replica s b.servers) e ∙ ap (λ n. new_replica a.server n) f
-or_new_same a b (Some x) e f = refl
+or_new_same : (a b : Store) (file : FileId) (o : Option Replica) → b.server ≡ a.server → b.servers ≡ a.servers → or_new b file o ≡ or_new a file o
+or_new_same a b file None e f = ap (λ s. new_replica s b.servers file) e ∙ ap (λ n. new_replica a.server n file) f
+or_new_same a b file (Some x) e f = refl
 
 pub replica_here : (a b : Store) (file : FileId) (x : Replica) → Changes a b file x → replica_of b file ≡ x
-replica_here a b file x k = ap (or_new b) (known_after a b file x file k ∙ ap (λ t. cond t (Some x) (known a file)) (is_same_file-refl file))
+replica_here a b file x k = ap (or_new b file) (known_after a b file x file k ∙ ap (λ t. cond t (Some x) (known a file)) (is_same_file-refl file))
 
 pub replica_elsewhere : (a b : Store) (file : FileId) (x : Replica) (f : FileId) → Changes a b file x → is_same_file f file ≡ false → replica_of b f ≡ replica_of a f
-replica_elsewhere a b file x f k apart = ap (or_new b) (known_after a b file x f k ∙ ap (λ t. cond t (Some x) (known a f)) apart) ∙ or_new_same a b (known a f) k.server k.servers
-
--- a property of all replicas after one changed
-pub each_after : (P : FileId → Replica → Type 0) (a b : Store) (file : FileId) (x : Replica) → Changes a b file x → ((f : FileId) → P f (replica_of a f)) → P file x → (f : FileId) (t : Bool) → is_same_file f file ≡ t → P f (replica_of b f)
-each_after P a b file x k all one f true same =
-    let Q : FileId → Type 0 = (λ g. P g (replica_of b g)) in
-    let R : Replica → Type 0 = P file in
-    subst Q (sym (is_same_file-true f file same)) (subst R (sym (replica_here a b file x k)) one)
-each_after P a b file x k all one f false apart = let R : Replica → Type 0 = P f in subst R (sym (replica_elsewhere a b file x f k apart)) (all f)
+replica_elsewhere a b file x f k apart = ap (or_new b f) (known_after a b file x f k ∙ ap (λ t. cond t (Some x) (known a f)) apart) ∙ or_new_same a b f (known a f) k.server k.servers
 
 others_stay : (a b : Store) (file : FileId) (x : Replica) → Changes a b file x → OthersStay (see a) (see b) file
 others_stay a b file x k f apart = ap (λ z. Some (seen z)) (replica_elsewhere a b file x f k apart)
@@ -117,223 +121,214 @@ edges_found n (e ∷ es) a =
     (ap (λ t. cond t (Some e) (edge_to es e.peer)) (eq-eqb e.peer e.peer refl))
     (λ i d lt. next_edge e (get_or es i d) es (peer_at (e.peer + 1) i es d a.1 lt) (edges_found (e.peer + 1) es a.1 i d lt))
 
+-- each entry of an edge's keys is what a look-up of its key finds
+pub keys_found : (ks : List (Key × ℕ)) → IsStrictlySortedBy key_cmp (keys_of ks) → All (λ k. tag_in ks k.0 ≡ Some k.1) ks
+keys_found ks sorted = λ i d lt. lookup-place key_cmp key_total (get_or ks i d).0 (get_or ks i d).1 ks i d sorted lt refl
+
+-- and each of a server's replicas is that of its file
+pub entries_known : (a : Store) → IsStrictlySortedBy file_cmp (keys_of a.replicas) → All (λ (r : FileId × Replica). known a r.0 ≡ Some r.1) a.replicas
+entries_known a sorted = λ i d lt. lookup-place file_cmp file_total (get_or a.replicas i d).0 (get_or a.replicas i d).1 a.replicas i d sorted lt refl
+
 -- the tag at a key of an edge
 pub tag_on_edge : (es : List Edge) (e : Edge) (k : Key) (o : Option ℕ) → edge_to es e.peer ≡ Some e → tag_in e.keys k ≡ o → tag_at es e.peer e.birth k ≡ o
 tag_on_edge es e k o here tag =
     ap (λ z. tag_of (option_map (λ (keys : List (Key × ℕ)). tag_in keys k) (keys_if_born z e.birth))) here
     ∙ ap (λ t. tag_of (option_map (λ (keys : List (Key × ℕ)). tag_in keys k) (cond t (Some e.keys) None))) (eq-eqb e.birth e.birth refl) ∙ tag
 
--- the cell at the key of what is held
-pub own_cell : (v : Version) → cell_at (Some v) (key.Version v.stamp) ≡ Some v
-own_cell v = ap (λ t. cond t (Some v) None) (is_same_key-refl (key.Version v.stamp))
+-- ---- a replica goes on
 
--- ---- a version is taken
+keep_changes : (a : Store) (file : FileId) (x : Replica) (stamp : Stamp) → Changes a (keep a file x stamp) file x
+keep_changes a file x stamp = record { server = refl; servers = refl; replicas = refl }
 
-no_cell : (v : Version) (k : Key) → is_same_key k (key.Version v.stamp) ≡ false → cell_at (Some v) k ≡ None
-no_cell v k apart = ap (λ t. cond t (Some v) None) apart
-
-retires_head : (t : ℕ) (birth : ℕ) (es : List Edge) (head : Option Version)
-    → Draws t (record { birth = birth; edges = es; cells = cell_at head }) t (record { birth = birth; edges = without_head es head; cells = cell_at None })
-retires_head t birth es None = Draws-refl t (record { birth = birth; edges = es; cells = cell_at None })
-retires_head t birth es (Some old) = retire_draws t (record { birth = birth; edges = es; cells = cell_at (Some old) }) (key.Version old.stamp) (cell_at None) (λ k apart. sym (no_cell old k apart)) refl
-
-head_draws : (t : ℕ) (x : Replica) (v : Version) → Draws t (seen x) (t + length (without_head x.edges x.head)) (seen (with_head x v t))
-head_draws t x v =
-    Draws-trans (retires_head t x.birth x.edges x.head)
-    (touch_draws t (record { birth = x.birth; edges = without_head x.edges x.head; cells = cell_at None }) (key.Version v.stamp) (cell_at (Some v)) (λ k apart. no_cell v k apart))
-
--- what is held is up to this version
-abbrev pub IsUpToNew : Option Version → Version → Type 0
-IsUpToNew None v = Unit {0}
-IsUpToNew (Some old) v = UpTo old.stamp v.stamp
-
-found_cell : (old c : Version) (k : Key) (t : Bool) → cond t (Some old) None ≡ Some c → old ≡ c
-found_cell old c k true e = some_same old c e
-found_cell old c k false e = absurd (let z : None ≡ Some c = e in cc)
-
--- what a replica holds is the only cell that it has
-pub cell_is : (old c : Version) (k : Key) → cell_at (Some old) k ≡ Some c → old ≡ c
-cell_is old c k e = found_cell old c k (is_same_key k (key.Version old.stamp)) e
-
-head_grows : (head : Option Version) (v : Version) → IsUpToNew head v → HoldsAll versions.IsUpTo (cell_at head) (cell_at (Some v))
-head_grows None v h k c e = absurd (let z : None ≡ Some c = e in cc)
-head_grows (Some old) v h k c e =
-    let P : Version → Type 0 = (λ z. UpTo z.stamp v.stamp) in
-    record { key = key.Version v.stamp; cell = v; is = own_cell v; upto = subst P (cell_is old c k e) h }
-
-keep_changes : (a : Store) (file : FileId) (v : Version) → Changes a (keep a file v) file (with_head (replica_of a file) v a.tags)
-keep_changes a file v = record { server = refl; servers = refl; replicas = refl }
-
-keep_steps : (a : Store) (file : FileId) (v : Version) → IsUpToNew (held a file) v → Steps versions a (keep a file v)
-keep_steps a file v upto =
-    let k = keep_changes a file v in
-    file_steps versions is_sound a (keep a file v) file (seen (replica_of a file)) (seen (with_head (replica_of a file) v a.tags)) refl (ap (λ z. Some (seen z)) (replica_here a (keep a file v) file _ k))
-    (head_draws a.tags (replica_of a file) v) (head_grows (held a file) v upto) (others_stay a (keep a file v) file _ k) (none_over a (keep a file v))
+keep_steps : (a : Store) (file : FileId) (x : Replica) (stamp : Stamp) → GoesOn a.tags (replica_of a file) x → Steps versions a (keep a file x stamp)
+keep_steps a file x stamp g =
+    let k = keep_changes a file x stamp in
+    file_steps versions is_sound a (keep a file x stamp) file (seen (replica_of a file)) (seen x) refl (ap (λ z. Some (seen z)) (replica_here a (keep a file x stamp) file x k))
+    g.draws g.holds (others_stay a (keep a file x stamp) file x k) (none_over a (keep a file x stamp))
 
 -- ---- what is sent
 
 -- the cell of an edge's key
-edge_may : (s : ℕ) (a b : Store) (heard : Saying Slot Version) (file : FileId) (x : Replica) (e : Edge) (v : Version) (g : ℕ) → HasSoundTags versions b → b.server ≡ s → replica_of b file ≡ x
-    → edge_to x.edges e.peer ≡ Some e → tag_in e.keys (key.Version v.stamp) ≡ Some g → x.head ≡ Some v → May versions s a b heard (says (cell_to b.server file x.birth e v g))
-edge_may s a b heard file x e v g sound server here edge tag head =
-    let q = slot file x.birth e.peer e.birth (key.Version v.stamp) in
+edge_may : (s : ℕ) (a b : Store) (heard : Saying Slot VersionValue) (file : FileId) (x : Replica) (e : Edge) (v : VersionValue) (g : ℕ) → HasSoundTags versions b → b.server ≡ s → replica_of b file ≡ x
+    → edge_to x.edges e.peer ≡ Some e → tag_in e.keys (key_of v) ≡ Some g → cell_at x.content.heads (key_of v) ≡ Some v → May versions s a b heard (says (cell_to b.server file x.birth e v g))
+edge_may s a b heard file x e v g sound server here edge tag cell =
+    let q = slot file x.birth e.peer e.birth (key_of v) in
     let P : ℕ → Type 0 = (λ z. May versions s a b heard (CellFor z q g v)) in
-    let is : ◌≡◌ {A = Option (Seen Version)} (Some (seen (replica_of b file))) (Some (seen x)) = ap (λ z. Some (seen z)) here in
-    let stands : tag_at (replica_of b file).edges e.peer e.birth (key.Version v.stamp) ≡ Some g = ap (λ z. tag_at z.edges e.peer e.birth (key.Version v.stamp)) here ∙ tag_on_edge x.edges e (key.Version v.stamp) (Some g) edge tag in
-    subst P (sym server) (cell_may versions s a b heard q (seen x) v g sound is refl (ap (λ h. cell_at h (key.Version v.stamp)) head ∙ own_cell v) stands)
+    let is : ◌≡◌ {A = Option (Seen VersionValue)} (Some (seen (replica_of b file))) (Some (seen x)) = ap (λ z. Some (seen z)) here in
+    let stands : tag_at (replica_of b file).edges e.peer e.birth (key_of v) ≡ Some g = ap (λ z. tag_at z.edges e.peer e.birth (key_of v)) here ∙ tag_on_edge x.edges e (key_of v) (Some g) edge tag in
+    subst P (sym server) (cell_may versions s a b heard q (seen x) v g sound is refl cell stands)
 
-tagged_may : (s : ℕ) (a b : Store) (heard : Saying Slot Version) (file : FileId) (x : Replica) (e : Edge) (v : Version) (o : Option ℕ) → HasSoundTags versions b → b.server ≡ s → replica_of b file ≡ x
-    → edge_to x.edges e.peer ≡ Some e → tag_in e.keys (key.Version v.stamp) ≡ o → x.head ≡ Some v → AllMay versions s a b heard (tagged_cell b.server file x.birth e v o)
-tagged_may s a b heard file x e v None sound server here edge tag head = none_sent versions s a b heard
-tagged_may s a b heard file x e v (Some g) sound server here edge tag head =
-    one_sent versions s a b heard (cell_to b.server file x.birth e v g) [] (edge_may s a b heard file x e v g sound server here edge tag head) (none_sent versions s a b heard)
+tagged_may : (s : ℕ) (a b : Store) (heard : Saying Slot VersionValue) (file : FileId) (x : Replica) (e : Edge) (v : VersionValue) (o : Option ℕ) → HasSoundTags versions b → b.server ≡ s → replica_of b file ≡ x
+    → edge_to x.edges e.peer ≡ Some e → tag_in e.keys (key_of v) ≡ o → cell_at x.content.heads (key_of v) ≡ Some v → AllMay versions s a b heard (tagged_cell b.server file x.birth e v o)
+tagged_may s a b heard file x e v None sound server here edge tag cell = none_sent versions s a b heard
+tagged_may s a b heard file x e v (Some g) sound server here edge tag cell =
+    one_sent versions s a b heard (cell_to b.server file x.birth e v g) [] (edge_may s a b heard file x e v g sound server here edge tag cell) (none_sent versions s a b heard)
 
--- what is held goes to every peer
-pub cells_may : (s : ℕ) (a b : Store) (heard : Saying Slot Version) (file : FileId) (x : Replica) (v : Version) → HasSoundTags versions b → b.server ≡ s → replica_of b file ≡ x → AscendFrom 0 (peers x.edges) → x.head ≡ Some v
-    → AllMay versions s a b heard (cells b.server file x v)
-cells_may s a b heard file x v sound server here order head =
+-- a head goes to every peer
+cells_may : (s : ℕ) (a b : Store) (heard : Saying Slot VersionValue) (file : FileId) (x : Replica) (v : VersionValue) → HasSoundTags versions b → b.server ≡ s → replica_of b file ≡ x → AscendFrom 0 (peers x.edges)
+    → cell_at x.content.heads (key_of v) ≡ Some v → AllMay versions s a b heard (cells b.server file x v)
+cells_may s a b heard file x v sound server here order cell =
     let edge = edges_found 0 x.edges order in
-    All-flat_map (λ m. May versions s a b heard (says m)) (λ e. tagged_cell b.server file x.birth e v (tag_in e.keys (key.Version v.stamp))) x.edges
-    (λ i d lt. tagged_may s a b heard file x (get_or x.edges i d) v (tag_in (get_or x.edges i d).keys (key.Version v.stamp)) sound server here (edge i d lt) refl head)
+    All-flat_map (λ m. May versions s a b heard (says m)) (λ e. tagged_cell b.server file x.birth e v (tag_in e.keys (key_of v))) x.edges
+    (λ i d lt. tagged_may s a b heard file x (get_or x.edges i d) v (tag_in (get_or x.edges i d).keys (key_of v)) sound server here (edge i d lt) refl cell)
 
--- the cells of an edge's keys, of which there is one at most
-keys_may : (s : ℕ) (a b : Store) (heard : Saying Slot Version) (file : FileId) (x : Replica) (e : Edge) (head : Option Version) (keys : List (Key × ℕ)) → HasSoundTags versions b → b.server ≡ s → replica_of b file ≡ x
-    → edge_to x.edges e.peer ≡ Some e → e.keys ≡ keys → x.head ≡ head → AreOf head keys → AllMay versions s a b heard (flat_map (λ (k : Key × ℕ). key_cell b.server file x.birth e (cell_at head k.0) k.1) keys)
-keys_may s a b heard file x e head [] sound server here edge are is of = none_sent versions s a b heard
-keys_may s a b heard file x e None (k ∷ ks) sound server here edge are is of = absurd of
-keys_may s a b heard file x e (Some v) (k ∷ ks) sound server here edge are is of =
-    let P : List (Key × ℕ) → Type 0 = (λ zs. AllMay versions s a b heard (flat_map (λ (j : Key × ℕ). key_cell b.server file x.birth e (cell_at (Some v) j.0) j.1) (k ∷ zs))) in
-    let Q : Option Version → Type 0 = (λ o. AllMay versions s a b heard (key_cell b.server file x.birth e o k.1 ++ [])) in
-    let alone : e.keys ≡ k ∷ [] = are ∙ ap (λ zs. k ∷ zs) of.1 in
-    let tag : tag_in e.keys (key.Version v.stamp) ≡ Some k.1 = ap (λ zs. tag_in zs (key.Version v.stamp)) alone
-    ∙ ap (λ t. cond t (Some k.1) None) (ap (is_same_key (key.Version v.stamp)) of.0 ∙ is_same_key-refl (key.Version v.stamp)) in
-    subst P (sym of.1) (subst Q (sym (ap (cell_at (Some v)) of.0 ∙ own_cell v))
-    (one_sent versions s a b heard (cell_to b.server file x.birth e v k.1) [] (edge_may s a b heard file x e v k.1 sound server here edge tag is) (none_sent versions s a b heard)))
+-- the cell of one of an edge's keys
+key_may : (s : ℕ) (a b : Store) (heard : Saying Slot VersionValue) (file : FileId) (x : Replica) (e : Edge) (k : Key) (g : ℕ) (o : Option VersionValue) → HasSoundTags versions b → b.server ≡ s → replica_of b file ≡ x
+    → edge_to x.edges e.peer ≡ Some e → tag_in e.keys k ≡ Some g → cell_at x.content.heads k ≡ o → AllMay versions s a b heard (key_cell b.server file x.birth e o g)
+key_may s a b heard file x e k g None sound server here edge tag cell = none_sent versions s a b heard
+key_may s a b heard file x e k g (Some v) sound server here edge tag cell =
+    let own : k ≡ key_of v = (cell_head x.content.heads k v cell).1 in
+    one_sent versions s a b heard (cell_to b.server file x.birth e v g) []
+    (edge_may s a b heard file x e v g sound server here edge (ap (tag_in e.keys) (sym own) ∙ tag) (ap (cell_at x.content.heads) (sym own) ∙ cell)) (none_sent versions s a b heard)
 
-replica_may : (n s : ℕ) (a b : Store) (heard : Saying Slot Version) (r : FileId × Replica) → HasSoundTags versions b → b.server ≡ s → replica_of b r.0 ≡ r.1 → IsFull n s r.1 → AllMay versions s a b heard (replica_cells b.server r)
+-- the cells of an edge's keys
+keys_may : (n s : ℕ) (a b : Store) (heard : Saying Slot VersionValue) (file : FileId) (x : Replica) (e : Edge) → HasSoundTags versions b → b.server ≡ s → replica_of b file ≡ x
+    → edge_to x.edges e.peer ≡ Some e → IsEdge n s e → AllMay versions s a b heard (edge_cells b.server file x e)
+keys_may n s a b heard file x e sound server here edge is =
+    All-flat_map (λ m. May versions s a b heard (says m)) (λ (k : Key × ℕ). key_cell b.server file x.birth e (cell_at x.content.heads k.0) k.1) e.keys
+    (All-weaker (λ (k : Key × ℕ). tag_in e.keys k.0 ≡ Some k.1) (λ k. AllMay versions s a b heard (key_cell b.server file x.birth e (cell_at x.content.heads k.0) k.1))
+    (λ k tag. key_may s a b heard file x e k.0 k.1 (cell_at x.content.heads k.0) sound server here edge tag refl) e.keys (keys_found e.keys is.sorted))
+
+replica_may : (n s : ℕ) (a b : Store) (heard : Saying Slot VersionValue) (r : FileId × Replica) → HasSoundTags versions b → b.server ≡ s → replica_of b r.0 ≡ r.1 → IsFull n s r.1 → AllMay versions s a b heard (replica_cells b.server r)
 replica_may n s a b heard r sound server here full =
     let edge = edges_found 0 r.1.edges full.edges.order in
     All-flat_map (λ m. May versions s a b heard (says m)) (edge_cells b.server r.0 r.1) r.1.edges
-    (λ i d lt. keys_may s a b heard r.0 r.1 (get_or r.1.edges i d) r.1.head (get_or r.1.edges i d).keys sound server here (edge i d lt) refl refl (full.edges.each i d lt).keys)
+    (λ i d lt. keys_may n s a b heard r.0 r.1 (get_or r.1.edges i d) sound server here (edge i d lt) (full.edges.each i d lt))
 
 -- what a tick sends
-store_may : (n s : ℕ) (a b : Store) (heard : Saying Slot Version) → HasSoundTags versions b → IsWhole n s b → AllMay versions s a b heard (unacknowledged_cells b)
+store_may : (n s : ℕ) (a b : Store) (heard : Saying Slot VersionValue) → HasSoundTags versions b → IsWhole n s b → AllMay versions s a b heard (unacknowledged_cells b)
 store_may n s a b heard sound k =
     All-flat_map (λ m. May versions s a b heard (says m)) (replica_cells b.server) b.replicas
     (λ i d lt. replica_may n s a b heard (get_or b.replicas i d) sound k.server
-    (ap (or_new b) (lookup-place file_cmp file_total (get_or b.replicas i d).0 (get_or b.replicas i d).1 b.replicas i d k.order lt refl)) (k.replicas i d lt))
+    (ap (or_new b (get_or b.replicas i d).0) (entries_known b k.order i d lt)) (k.replicas i d lt))
 
 -- ---- what each input does
 
--- no version that is held is later than this
-abbrev pub IsDated : Store → Type 0
-IsDated a = (file : FileId) (w : Version) → held a file ≡ Some w → w.stamp.time ≤ a.last
-
--- the rule of the edges, and what holds of a server
-pub record IsGood (s : ℕ) (a : Store) (heard : Saying Slot Version) (done : Effect) : Type 0 where
+-- the rule of the edges, and the tags of a server
+pub record IsGood (s : ℕ) (a : Store) (heard : Saying Slot VersionValue) (done : Effect) : Type 0 where
   pub rule : Rule versions s a done.store heard done.out.sent
   pub tags : HasSoundTags versions done.store
-  pub dated : IsDated done.store
 
-idle_good : (s : ℕ) (a : Store) (heard : Saying Slot Version) (reply : Option Reply) (sent : List Sent) → HasSoundTags versions a → IsDated a → AllMay versions s a a heard sent → IsGood s a heard (record { store = a; out = told reply sent })
-idle_good s a heard reply sent tags dated may = record { rule = by_steps versions s a a heard sent (Steps-refl versions a) (none_noted a a heard) may; tags = tags; dated = dated }
+idle_good : (s : ℕ) (a : Store) (heard : Saying Slot VersionValue) (reply : Option Reply) (sent : List Sent) → HasSoundTags versions a → AllMay versions s a a heard sent → IsGood s a heard (record { store = a; out = told reply sent })
+idle_good s a heard reply sent tags may = record { rule = by_steps versions s a a heard sent (Steps-refl versions a) (none_noted a a heard) may; tags = tags }
 
-keep_dated : (a : Store) (file : FileId) (v : Version) → IsDated a → IsDated (keep a file v)
-keep_dated a file v dated f =
-    each_after (λ g x. (w : Version) → x.head ≡ Some w → w.stamp.time ≤ max a.last v.stamp.time) a (keep a file v) file _ (keep_changes a file v)
-    (λ g w h. (let le = dated g w h in omega arith))
-    (λ w h. let P : Version → Type 0 = (λ z. z.stamp.time ≤ max a.last v.stamp.time) in subst P (some_same v w h) (omega arith))
-    f (is_same_file f file) refl
+none_good : (s : ℕ) (a : Store) (heard : Saying Slot VersionValue) (reply : Option Reply) → HasSoundTags versions a → IsGood s a heard (record { store = a; out = told reply [] })
+none_good s a heard reply tags = idle_good s a heard reply [] tags (none_sent versions s a a heard)
 
--- a version is taken, and these are sent
-keep_good : (s : ℕ) (a : Store) (file : FileId) (v : Version) (heard : Saying Slot Version) (done : Effect) → done.store ≡ keep a file v → IsUpToNew (held a file) v → HasSoundTags versions a → IsDated a
-    → (HasSoundTags versions (keep a file v) → AllMay versions s a (keep a file v) heard done.out.sent) → IsGood s a heard done
-keep_good s a file v heard done is upto tags dated may =
-    let f = keep_steps a file v upto in
+-- a replica goes on, and these are sent
+keep_good : (s : ℕ) (a : Store) (file : FileId) (x : Replica) (stamp : Stamp) (heard : Saying Slot VersionValue) (done : Effect) → done.store ≡ keep a file x stamp → GoesOn a.tags (replica_of a file) x → HasSoundTags versions a
+    → (HasSoundTags versions (keep a file x stamp) → AllMay versions s a (keep a file x stamp) heard done.out.sent) → IsGood s a heard done
+keep_good s a file x stamp heard done is goes tags may =
+    let f = keep_steps a file x stamp goes in
     let P : Store → Type 0 = (λ b. Rule versions s a b heard done.out.sent) in
     let Q : Store → Type 0 = HasSoundTags versions in
-    let R : Store → Type 0 = IsDated in
     record {
-      rule = subst P (sym is) (by_steps versions s a (keep a file v) heard done.out.sent f (none_noted a (keep a file v) heard) (may (f.tags tags)));
+      rule = subst P (sym is) (by_steps versions s a (keep a file x stamp) heard done.out.sent f (none_noted a (keep a file x stamp) heard) (may (f.tags tags)));
       tags = subst Q (sym is) (f.tags tags);
-      dated = subst R (sym is) (keep_dated a file v dated);
     }
 
-kept_cells : (n s : ℕ) (a : Store) (file : FileId) (v : Version) (heard : Saying Slot Version) → IsWhole n s a → HasSoundTags versions (keep a file v)
-    → AllMay versions s a (keep a file v) heard (cells a.server file (with_head (replica_of a file) v a.tags) v)
-kept_cells n s a file v heard k sound =
-    cells_may s a (keep a file v) heard file (with_head (replica_of a file) v a.tags) v sound k.server (replica_here a (keep a file v) file _ (keep_changes a file v))
-    (full_head n s (replica_of a file) v a.tags (k.born file) (k.edges file)).edges.order refl
+-- a head of the replica as it is then goes to every peer
+kept_cells : (n s : ℕ) (a : Store) (file : FileId) (x : Replica) (stamp : Stamp) (v : VersionValue) (heard : Saying Slot VersionValue) → a.server ≡ s → IsFull n s x → GoesOn a.tags (replica_of a file) x → Among v x.content.heads
+    → HasSoundTags versions (keep a file x stamp) → AllMay versions s a (keep a file x stamp) heard (cells a.server file x v)
+kept_cells n s a file x stamp v heard server full goes there sound =
+    cells_may s a (keep a file x stamp) heard file x v sound server (replica_here a (keep a file x stamp) file x (keep_changes a file x stamp)) full.edges.order (head_at x.content.heads v goes.order there)
 
-new_later : (o : Option Version) (v : Version) (last : ℕ) → ((w : Version) → o ≡ Some w → w.stamp.time ≤ last) → last < v.stamp.time → IsUpToNew o v
-new_later None v last h lt = tt
-new_later (Some w) v last h lt = let le = h w refl in record { time = omega arith; server = λ back. omega arith }
+-- ---- a write
 
-pub put_good : (n s : ℕ) (a : Store) (moment : ℕ) (file : FileId) (body : List ℕ) → IsWhole n s a → HasSoundTags versions a → IsDated a → IsGood s a Other (put a moment file body)
-put_good n s a moment file body k tags dated =
-    let v : Version = record { stamp = next_stamp moment a.last a.server; body = body } in
-    chosen (IsGood s a Other) (has_time a.last a.tags) (wrote a file v) (refused a)
-    (keep_good s a file v Other (wrote a file v) refl (new_later (held a file) v a.last (dated file) (omega arith)) tags dated (λ sound. kept_cells n s a file v Other k sound))
-    (idle_good s a Other _ [] tags dated (none_sent versions s a a Other))
+wrote_good : (n s : ℕ) (a : Store) (file : FileId) (h : List Made) (stamp : Stamp) (ranges : RangesValue) → IsWhole n s a → HasVersions file h (held a file) → HasSoundTags versions a
+    → IsGood s a Other (wrote a file (replica_of a file) stamp ranges)
+wrote_good n s a file h stamp ranges k has tags =
+    let x = replica_of a file in
+    let y = with_write x (actor_at a x) stamp ranges a.tags in
+    let goes = write_goes_on file h x has (actor_at a x) stamp ranges a.tags in
+    keep_good s a file y stamp Other (wrote a file x stamp ranges) refl goes tags
+    (kept_cells n s a file y stamp (next_version x.content (actor_at a x) stamp ranges) Other k.server (full_write n s a x stamp ranges (whole_full n s a file k)) goes (inl refl))
 
-pub tick_good : (n s : ℕ) (a : Store) → IsWhole n s a → HasSoundTags versions a → IsDated a → IsGood s a Other (tick a)
-tick_good n s a k tags dated =
-    chosen (IsGood s a Other) (has_time a.last a.tags) (record { store = a; out = told (Some Done) (unacknowledged_cells a) }) (refused a)
-    (idle_good s a Other _ (unacknowledged_cells a) tags dated (store_may n s a a Other tags k))
-    (idle_good s a Other _ [] tags dated (none_sent versions s a a Other))
+unless_good : (n s : ℕ) (a : Store) (file : FileId) (h : List Made) (stamp : Stamp) (ranges : RangesValue) → IsWhole n s a → HasVersions file h (held a file) → HasSoundTags versions a
+    → IsGood s a Other (wrote_unless a file (replica_of a file) stamp ranges)
+unless_good n s a file h stamp ranges k has tags =
+    let x = replica_of a file in
+    let many = nat_lt actor_limit (length (next_vector x.content.heads (actor_at a x))) in
+    chosen (IsGood s a Other) (nat_lt body_limit (length (applied (shown_bytes x.content) ranges))) (refused a TooLong) (cond many (refused a ManyActors) (wrote a file x stamp ranges))
+    (none_good s a Other _ tags)
+    (chosen (IsGood s a Other) many (refused a ManyActors) (wrote a file x stamp ranges) (none_good s a Other _ tags) (wrote_good n s a file h stamp ranges k has tags))
+
+pub write_good : (n s : ℕ) (a : Store) (moment : ℕ) (file : FileId) (what : Change) (h : List Made) → IsWhole n s a → HasVersions file h (held a file) → HasSoundTags versions a → IsGood s a Other (write a moment file what)
+write_good n s a moment file what h k has tags =
+    let x = replica_of a file in
+    let stamp = next_stamp moment a.last a.server in
+    chosen (IsGood s a Other) (has_time a.last a.tags && has_room (held a file).heads (actor_at a x)) (wrote_unless a file x stamp (ranges_of what)) (refused a ClockEnd)
+    (unless_good n s a file h stamp (ranges_of what) k has tags) (none_good s a Other _ tags)
+
+-- ---- a tick
+
+pub tick_good : (n s : ℕ) (a : Store) → IsWhole n s a → HasSoundTags versions a → IsGood s a Other (tick a)
+tick_good n s a k tags =
+    chosen (IsGood s a Other) (has_time a.last a.tags) (record { store = a; out = told (Some Done) (unacknowledged_cells a) }) (refused a ClockEnd)
+    (idle_good s a Other _ (unacknowledged_cells a) tags (store_may n s a a Other tags k)) (none_good s a Other _ tags)
 
 -- ---- a cell comes
 
--- the answer, once a version up to which it is stands there
-answers_cell : (s from : ℕ) (a b : Store) (ends : Ends) (tag : ℕ) (v w : Version) → b.server ≡ s → (replica_of b ends.file).birth ≡ ends.receiver → (replica_of b ends.file).head ≡ Some w → UpTo v.stamp w.stamp
+-- the answer, once the version is held there
+answers_cell : (s from : ℕ) (a b : Store) (ends : Ends) (tag : ℕ) (v : VersionValue) → b.server ≡ s → (replica_of b ends.file).birth ≡ ends.receiver → Holds IsKnownBy (cell_at (held b ends.file).heads) v
     → May versions s a b (saying from s (message.Cell ends tag v)) (says (ack_to b.server from ends v tag))
-answers_cell s from a b ends tag v w server birth head upto =
-    let x = replica_of b ends.file in
-    let q = slot ends.file ends.sender s ends.receiver (key.Version v.stamp) in
-    let P : ℕ → Type 0 = (λ z. May versions s a b (CellFor from q tag v) (AckTo from (slot ends.file ends.sender z ends.receiver (key.Version v.stamp)) tag)) in
-    let holds : Holds versions.IsUpTo (cell_at x.head) v = record { key = key.Version w.stamp; cell = w; is = ap (λ h. cell_at h (key.Version w.stamp)) head ∙ own_cell w; upto = upto } in
-    subst P (sym server) (answer_may versions s a b from q tag v refl (held_covers versions b q v (seen x) refl birth holds))
+answers_cell s from a b ends tag v server birth holds =
+    let q = slot ends.file ends.sender s ends.receiver (key_of v) in
+    let P : ℕ → Type 0 = (λ z. May versions s a b (CellFor from q tag v) (AckTo from (slot ends.file ends.sender z ends.receiver (key_of v)) tag)) in
+    subst P (sym server) (answer_may versions s a b from q tag v refl (held_covers versions b q v (seen (replica_of b ends.file)) refl birth holds))
 
-newer_upto : (o : Option Version) (v : Version) → is_newer o v ≡ true → IsUpToNew o v
-newer_upto None v h = tt
-newer_upto (Some old) v h = is_before-true old.stamp v.stamp h
+module _ (n s : ℕ) (a : Store) (from : ℕ) (ends : Ends) (tag : ℕ) (h : List Made) (m : Made) (is : Among m h) (k : IsWhole n s a) (tags : HasSoundTags versions a) (born : ends.receiver ≡ 1) (has : HasVersions ends.file h (held a ends.file)) where
+  -- the replica to which the version comes
+  abbrev before : Replica
+  before = replica_of a ends.file
 
-took_good : (n s : ℕ) (a : Store) (from : ℕ) (ends : Ends) (tag : ℕ) (v : Version) (o : Option Version) (t : Bool) → IsWhole n s a → HasSoundTags versions a → IsDated a → ends.receiver ≡ 1 → held a ends.file ≡ o → is_newer o v ≡ t
-    → IsGood s a (saying from s (message.Cell ends tag v)) (took a from ends tag v)
-took_good n s a from ends tag v o true k tags dated born is newer =
-    let heard = saying from s (message.Cell ends tag v) in
-    let now : is_newer (held a ends.file) v ≡ true = ap (λ z. is_newer z v) is ∙ newer in
-    let here = replica_here a (keep a ends.file v) ends.file _ (keep_changes a ends.file v) in
-    let done : Effect = record { store = keep a ends.file v; out = told None (ack_to a.server from ends v tag ∷ cells a.server ends.file (with_head (replica_of a ends.file) v a.tags) v) } in
-    let P : Bool → Type 0 = (λ z. IsGood s a heard (cond z done (record { store = a; out = told None (ack_to a.server from ends v tag ∷ []) }))) in
-    subst P (sym now)
-    (keep_good s a ends.file v heard done refl (newer_upto (held a ends.file) v now) tags dated
-    (λ sound. one_sent versions s a (keep a ends.file v) heard (ack_to a.server from ends v tag) (cells a.server ends.file (with_head (replica_of a ends.file) v a.tags) v)
-    (answers_cell s from a (keep a ends.file v) ends tag v v k.server (ap (λ x. x.birth) here ∙ k.born ends.file ∙ sym born) (ap (λ x. x.head) here) (UpTo-refl v.stamp))
-    (kept_cells n s a ends.file v heard k sound)))
-took_good n s a from ends tag v None false k tags dated born is newer = absurd (let z : true ≡ false = newer in cc)
-took_good n s a from ends tag v (Some w) false k tags dated born is newer =
-    let heard = saying from s (message.Cell ends tag v) in
-    let now : is_newer (held a ends.file) v ≡ false = ap (λ z. is_newer z v) is ∙ newer in
-    let done : Effect = record { store = keep a ends.file v; out = told None (ack_to a.server from ends v tag ∷ cells a.server ends.file (with_head (replica_of a ends.file) v a.tags) v) } in
-    let P : Bool → Type 0 = (λ z. IsGood s a heard (cond z done (record { store = a; out = told None (ack_to a.server from ends v tag ∷ []) }))) in
-    subst P (sym now)
-    (idle_good s a heard None (ack_to a.server from ends v tag ∷ []) tags dated
-    (one_sent versions s a a heard (ack_to a.server from ends v tag) [] (answers_cell s from a a ends tag v w k.server (k.born ends.file ∙ sym born) is (is_before-false w.stamp v.stamp newer)) (none_sent versions s a a heard)))
+  -- the version
+  abbrev coming : VersionValue
+  coming = version_of (held a ends.file).policy h m
+
+  abbrev hearing : Saying Slot VersionValue
+  hearing = saying from s (message.Cell ends tag coming)
+
+  -- it is covered, and answered
+  old_good : covers before coming ≡ true → IsGood s a hearing (record { store = a; out = told None (ack_to a.server from ends coming tag ∷ []) })
+  old_good old =
+      idle_good s a hearing None (ack_to a.server from ends coming tag ∷ []) tags
+      (one_sent versions s a a hearing (ack_to a.server from ends coming tag) [] (answers_cell s from a a ends tag coming k.server (k.born ends.file ∙ sym born) (old_held ends.file h before has m is old)) (none_sent versions s a a hearing))
+
+  -- the replica with it
+  abbrev joined : Replica
+  joined = with_head before coming a.tags
+
+  -- it is a head from then on, is answered, and goes to every peer
+  new_good : covers before coming ≡ false → IsGood s a hearing (record { store = keep a ends.file joined coming.head.stamp; out = told None (ack_to a.server from ends coming tag ∷ cells a.server ends.file joined coming) })
+  new_good new =
+      let b = keep a ends.file joined coming.head.stamp in
+      let goes = head_goes_on ends.file h before has m is a.tags new in
+      let here = replica_here a b ends.file joined (keep_changes a ends.file joined coming.head.stamp) in
+      let H : Replica → Type 0 = (λ z. Holds IsKnownBy (cell_at z.content.heads) coming) in
+      let sent : List Sent = cells a.server ends.file joined coming in
+      let done : Effect = record { store = b; out = told None (ack_to a.server from ends coming tag ∷ sent) } in
+      keep_good s a ends.file joined coming.head.stamp hearing done refl goes tags
+      (λ sound. one_sent versions s a b hearing (ack_to a.server from ends coming tag) sent
+      (answers_cell s from a b ends tag coming k.server (ap (λ z. z.birth) here ∙ k.born ends.file ∙ sym born) (subst H (sym here) (head_held ends.file h before has m is a.tags new)))
+      (kept_cells n s a ends.file joined coming.head.stamp coming hearing k.server (full_head n s before coming a.tags new (whole_full n s a ends.file k)) goes (head_among ends.file h before has m is a.tags new) sound))
+
+  took_good : IsGood s a hearing (took a from ends tag coming)
+  took_good = decided (IsGood s a hearing) (covers before coming) _ _ old_good new_good
 
 -- ---- an answer comes
 
-answered_good : (s : ℕ) (a : Store) (from : ℕ) (ends : Ends) (j : Key) (g : ℕ) (o : Option Replica) → HasSoundTags versions a → IsDated a → known a ends.file ≡ o
+answered_good : (s : ℕ) (a : Store) (from : ℕ) (ends : Ends) (j : Key) (g : ℕ) (o : Option Replica) → HasSoundTags versions a → known a ends.file ≡ o
     → IsGood s a (saying from s (message.Ack ends j g)) (record { store = answered a from ends j g o; out = told None [] })
-answered_good s a from ends j g None tags dated is = idle_good s a (saying from s (message.Ack ends j g)) None [] tags dated (none_sent versions s a a (saying from s (message.Ack ends j g)))
-answered_good s a from ends j g (Some x) tags dated is =
+answered_good s a from ends j g None tags is = none_good s a (saying from s (message.Ack ends j g)) None tags
+answered_good s a from ends j g (Some x) tags is =
     let heard = saying from s (message.Ack ends j g) in
-    let y : Replica = record { birth = x.birth; head = x.head; edges = acked x.edges from ends.sender j g } in
+    let y : Replica = acknowledged x from ends.sender j g in
     let b = with_replica a ends.file y in
     tested (λ (z : Store). IsGood s a heard (record { store = z; out = told None [] })) (ends.receiver == x.birth) b a
     (λ t.
     let k : Changes a b ends.file y = record { server = refl; servers = refl; replicas = refl } in
-    let here : replica_of a ends.file ≡ x = ap (or_new a) is in
+    let here : replica_of a ends.file ≡ x = ap (or_new a ends.file) is in
     let answers : Answers versions a b ends.file (seen x) from ends.sender j g = record {
       old = ap (λ z. Some (seen z)) here;
       new = ap (λ z. Some (seen z)) (replica_here a b ends.file y k);
@@ -345,21 +340,25 @@ answered_good s a from ends j g (Some x) tags dated is =
     record {
       rule = subst P (sym (same_number ends.receiver x.birth t)) (answer_rule versions s a b ends.file (seen x) from ends.sender j g answers (none_noted a b (AckTo s (slot ends.file x.birth from ends.sender j) g)));
       tags = answer_tags versions a b ends.file (seen x) from ends.sender j g answers tags;
-      dated = λ f. each_after (λ f z. (w : Version) → z.head ≡ Some w → w.stamp.time ≤ a.last) a b ends.file y k dated (λ w h. dated ends.file w (ap (λ z. z.head) here ∙ h)) f (is_same_file f ends.file) refl;
     })
-    (idle_good s a heard None [] tags dated (none_sent versions s a a heard))
+    (none_good s a heard None tags)
 
 -- ---- a message comes
 
-heard_good : (n s : ℕ) (a : Store) (from : ℕ) (m : Message) → IsWhole n s a → HasSoundTags versions a → IsDated a → IsOfRun n (record { to = s; packet = record { from = from; message = m } }) → IsGood s a (saying from s m) (heard a from m)
-heard_good n s a from (message.Cell ends tag v) k tags dated m =
-    let heard = saying from s (message.Cell ends tag v) in
-    chosen (IsGood s a heard) (is_accepted (replica_of a ends.file) from ends) (took a from ends tag v) (idle a)
-    (took_good n s a from ends tag v (held a ends.file) (is_newer (held a ends.file) v) k tags dated m.receiver refl refl)
-    (idle_good s a heard None [] tags dated (none_sent versions s a a heard))
-heard_good n s a from (message.Ack ends j g) k tags dated m = answered_good s a from ends j g (known a ends.file) tags dated refl
+heard_good : (n s : ℕ) (a : Store) (from : ℕ) (m : Message) (journal : List Entry) → IsWhole n s a → ((file : FileId) → HasVersions file (history_of file journal) (held a file)) → HasSoundTags versions a → IsOfHistory journal m
+    → IsOfRun n (record { to = s; packet = record { from = from; message = m } }) → IsGood s a (saying from s m) (heard a from m)
+heard_good n s a from (message.Cell ends tag v) journal k has tags of m =
+    let file = ends.file in
+    let h = history_of file journal in
+    let P : VersionValue → Type 0 = (λ z. IsGood s a (saying from s (message.Cell ends tag z)) (took a from ends tag z)) in
+    let whole : v ≡ version_of (held a file).policy h of.0 = of.2 ∙ ap (λ p. version_of p h of.0) (sym (has file).policy) in
+    chosen (IsGood s a (saying from s (message.Cell ends tag v))) (is_accepted (replica_of a file) from ends) (took a from ends tag v) (idle a)
+    (subst P (sym whole) (took_good n s a from ends tag h of.0 of.1 k tags m.receiver (has file)))
+    (none_good s a (saying from s (message.Cell ends tag v)) None tags)
+heard_good n s a from (message.Ack ends j g) journal k has tags of m = answered_good s a from ends j g (known a ends.file) tags refl
 
-pub arrived_good : (n s : ℕ) (a : Store) (packet : Packet) → IsWhole n s a → HasSoundTags versions a → IsDated a → IsOfRun n (record { to = s; packet = packet }) → IsGood s a (saying packet.from s packet.message) (arrived a packet)
-arrived_good n s a packet k tags dated m =
+pub arrived_good : (n s : ℕ) (a : Store) (packet : Packet) (journal : List Entry) → IsWhole n s a → ((file : FileId) → HasVersions file (history_of file journal) (held a file)) → HasSoundTags versions a → IsOfHistory journal packet.message
+    → IsOfRun n (record { to = s; packet = packet }) → IsGood s a (saying packet.from s packet.message) (arrived a packet)
+arrived_good n s a packet journal k has tags of m =
     let heard = saying packet.from s packet.message in
-    chosen (IsGood s a heard) (has_time a.last a.tags) _ (idle a) (heard_good n s a packet.from packet.message k tags dated m) (idle_good s a heard None [] tags dated (none_sent versions s a a heard))
+    chosen (IsGood s a heard) (has_time a.last a.tags) _ (idle a) (heard_good n s a packet.from packet.message journal k has tags of m) (none_good s a heard None tags)

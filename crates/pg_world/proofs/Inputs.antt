@@ -1,174 +1,179 @@
--- What each input does to what a server stands for, and what it owes to the run.
-use Rattle.std.proofs.Common.{ℕ, ◌≡◌, ◌≤◌, ◌<◌, ◌+◌, Bool, true, false, cond, None, List, [], ◌∷◌, ◌++◌, refl, sym, ap, subst, ◌∙◌, arith, All, inl, inr}
-use Rattle.std.specs.Prelude.{Contains}
-use Rattle.std.proofs.lemmas.List.Elements.{All-nil, All-cons, Contains-push, Contains-push_cases}
+-- What each input does to what a server stands for, and what the server sends.
+use Rattle.std.proofs.Common.{ℕ, ◌≡◌, ◌≤◌, ◌+◌, Bool, true, false, cond, None, List, [], ◌∷◌, ◌++◌, length, map, refl, sym, ap, subst, ◌∙◌, arith, All, inl}
+use Rattle.std.proofs.lemmas.Bool.{cond_both}
+use Rattle.std.proofs.lemmas.List.Elements.{All-nil, All-cons}
 use Rattle.pg_base.specs.declared.id.FileId.{FileId}
-use Rattle.pg_base.specs.declared.version.Version.{Version}
+use Rattle.pg_base.specs.Id.{is_same_file}
 use Rattle.pg_base.specs.Stamp.{next_stamp}
+use Rattle.pg_base.specs.Version.{VersionValue, stamp_of}
+use Rattle.pg_base.proofs.Orders.{is_same_file-true}
+use Rattle.pg_patch.specs.Ranges.{RangesValue}
+use Rattle.pg_content.specs.Content.{joined_content, next_version, put_version, written}
+use Rattle.pg_replica.specs.declared.replica.Replica.{Replica}
+use Rattle.pg_replica.specs.Replica.{covers, gone, keys, with_head, with_write}
 use Rattle.pg_msg.specs.declared.message.Ends.{Ends}
 use Rattle.pg_msg.specs.declared.message.Message.{Message}
 use Rattle.pg_msg.specs.declared.message.Message.TheVariants as message
 use Rattle.pg_msg.specs.declared.message.Packet.{Packet}
+use Rattle.pg_msg.specs.declared.message.Sent.{Sent}
 use Rattle.pg_msg.specs.declared.update.Update.{Update}
-use Rattle.pg_node.specs.Local.{Store, Effect, known, replica_of, held, is_newer, with_head, keep, cells, ack_to, update, wrote, refused, idle, put, took, answered, is_accepted, heard, arrived, has_time}
-use Rattle.pg_world.specs.Journal.{last_of, cells_of, carried_by}
-use Rattle.pg_world.proofs.Wholes.{chosen}
-use Rattle.pg_world.proofs.Taking.{Stands, answered_same, stands_same, later_is_newer, held_in_time, stands_keep, stands_old, IsFrom, cells_from, ack_from, count_cells, count_ack}
+use Rattle.pg_node.specs.Local.{Store, Effect, ack_to, actor_at, arrived, cells, has_time, heard, held, idle, is_accepted, keep, known, replica_of, took, wrote}
+use Rattle.pg_world.specs.Journal.{Mark, carried_by, cells_of, last_of, made_for, made_of, stamps_for}
+use Rattle.pg_world.proofs.Histories.{own_file}
+use Rattle.pg_world.proofs.Taking.{HoldsFile, file_joined, held_version}
+use Rattle.pg_world.proofs.States.{IsServer, Stands, answered_same, came_members, covered_upto, held_put, mark, none_drawn, stands_came, stands_held, stands_wrote}
+use Rattle.pg_world.proofs.Lists.{chosen}
+use Rattle.pg_world.proofs.Writing.{IsWrite, next_file}
+use Rattle.pg_world.proofs.Sending.{Carries, IsFrom, IsVersionOf, ack_from, cells_from, count_ack, count_cells}
 
--- what each input owes to the run: the clock rises, and each version that is made has a time of its own
-pub record Good (a : Store) (done : Effect) : Type 0 where
-  pub server : done.store.server ≡ a.server
+-- the version that a server makes on all heads that it holds, as it is told
+abbrev pub new_update : Store → ℕ → FileId → RangesValue → Update
+new_update a moment file ranges = record { file = file; stamp = next_stamp moment a.last a.server; bases = map stamp_of (replica_of a file).content.heads; ranges = ranges }
+
+-- an effect that makes nothing: the clock does not fall, and what is sent is this server's and of the history
+pub record IsPassive (s : ℕ) (a : Store) (us : List Update) (done : Effect) : Type 0 where
+  pub none : done.out.made ≡ []
   pub last : a.last ≤ done.store.last
-  pub made : (u : Update) → Contains done.out.made u → (u.version.stamp.server ≡ a.server) × (a.last < u.version.stamp.time) × (u.version.stamp.time ≤ done.store.last)
-  pub single : (u v : Update) → Contains done.out.made u → Contains done.out.made v → u ≡ v
-
-pub nothing : {X : Type 0} (x : X) → Contains [] x → ⊥
-nothing x h = let lt = h.1 in omega arith
-
--- nothing is made
-pub none_made : (a : Store) (done : Effect) → done.out.made ≡ [] → done.store.server ≡ a.server → a.last ≤ done.store.last → Good a done
-none_made a done none server last =
-    let empty : (u : Update) → Contains done.out.made u → ⊥ = (λ u h. let P : List Update → Type 0 = (λ us. Contains us u) in nothing u (subst P none h)) in
-    record { server = server; last = last; made = λ u h. absurd (empty u h); single = λ u v h k. absurd (empty u h) }
-
--- no tag is given out
-pub none_drawn : (a : Store) (taken : List Update) (drawn : ℕ) → Stands a taken drawn → Stands a taken (0 + drawn)
-none_drawn a taken drawn s = let P : ℕ → Type 0 = Stands a taken in let same : drawn ≡ 0 + drawn = omega arith in subst P same s
-
--- ---- a write
-
-abbrev next_version : Store → ℕ → List ℕ → Version
-next_version a moment body = record { stamp = next_stamp moment a.last a.server; body = body }
-
-next_is_newer : (a : Store) (moment : ℕ) (file : FileId) (body : List ℕ) (taken : List Update) (drawn : ℕ) → Stands a taken drawn → is_newer (held a file) (next_version a moment body) ≡ true
-next_is_newer a moment file body taken drawn s =
-    let last = s.last in
-    later_is_newer (held a file) (next_version a moment body) (last_of taken) (held_in_time a file taken drawn s) (omega arith)
-
-stands_wrote : (a : Store) (file : FileId) (v : Version) (taken : List Update) (drawn : ℕ) → Stands a taken drawn → is_newer (held a file) v ≡ true
-    → Stands (wrote a file v).store ((wrote a file v).out.made ++ taken) (cells_of a.server (wrote a file v).out.sent + drawn)
-stands_wrote a file v taken drawn s e =
-    let P : ℕ → Type 0 = (λ n. Stands (keep a file v) (update file v ∷ taken) (n + drawn)) in
-    subst P (sym (count_cells a.server a file v)) (stands_keep a file v taken drawn s e)
-
--- a write is taken by its maker
-pub stands_put : (a : Store) (moment : ℕ) (file : FileId) (body : List ℕ) (taken : List Update) (drawn : ℕ) → Stands a taken drawn
-    → Stands (put a moment file body).store ((put a moment file body).out.made ++ taken) (cells_of a.server (put a moment file body).out.sent + drawn)
-stands_put a moment file body taken drawn s =
-    let v = next_version a moment body in
-    chosen (λ (e : Effect). Stands e.store (e.out.made ++ taken) (cells_of a.server e.out.sent + drawn)) (has_time a.last a.tags) (wrote a file v) (refused a)
-    (stands_wrote a file v taken drawn s (next_is_newer a moment file body taken drawn s)) (none_drawn a taken drawn s)
-
-one_only : (u v : Update) → Contains (u ∷ []) v → v ≡ u
-one_only u v h = elim (Contains-push_cases [] u v h) [ inl n ↦ absurd (nothing v n) | inr e ↦ sym e ]
-
-wrote_good : (a : Store) (file : FileId) (v : Version) → v.stamp.server ≡ a.server → a.last < v.stamp.time → Good a (wrote a file v)
-wrote_good a file v e lt = record {
-  server = refl;
-  last = omega arith;
-  made = λ u h. let P : Update → Type 0 = (λ z. (z.version.stamp.server ≡ a.server) × (a.last < z.version.stamp.time) × (z.version.stamp.time ≤ (keep a file v).last)) in
-      subst P (sym (one_only (update file v) u h)) (e, lt, omega arith);
-  single = λ u w h k. one_only (update file v) u h ∙ sym (one_only (update file v) w k);
-}
-
-pub put_good : (a : Store) (moment : ℕ) (file : FileId) (body : List ℕ) → Good a (put a moment file body)
-put_good a moment file body =
-    let v = next_version a moment body in
-    chosen (Good a) (has_time a.last a.tags) (wrote a file v) (refused a) (wrote_good a file v refl (omega arith)) (none_made a (refused a) refl refl (omega arith))
-
-pub put_from : (a : Store) (moment : ℕ) (file : FileId) (body : List ℕ) → All (IsFrom a.server (put a moment file body).out.made) (put a moment file body).out.sent
-put_from a moment file body =
-    let v = next_version a moment body in
-    chosen (λ (e : Effect). All (IsFrom a.server e.out.made) e.out.sent) (has_time a.last a.tags) (wrote a file v) (refused a)
-    (cells_from a.server (update file v ∷ []) file (with_head (replica_of a file) v a.tags) v (Contains-push [] (update file v))) (All-nil (IsFrom a.server []))
-
--- ---- a message that comes
-
-abbrev keeps_cell : Store → ℕ → Ends → ℕ → Version → Effect
-keeps_cell a from ends tag v = record {
-  store = keep a ends.file v;
-  out = record { reply = None; made = []; sent = ack_to a.server from ends v tag ∷ cells a.server ends.file (with_head (replica_of a ends.file) v a.tags) v };
-}
-
-abbrev has_cell : Store → ℕ → Ends → ℕ → Version → Effect
-has_cell a from ends tag v = record { store = a; out = record { reply = None; made = []; sent = ack_to a.server from ends v tag ∷ [] } }
-
-took_by : (t : Bool) (a : Store) (from : ℕ) (ends : Ends) (tag : ℕ) (v : Version) (taken : List Update) (drawn : ℕ) → is_newer (held a ends.file) v ≡ t → Stands a taken drawn
-    → Stands (cond t (keeps_cell a from ends tag v) (has_cell a from ends tag v)).store (update ends.file v ∷ taken) (cells_of a.server (cond t (keeps_cell a from ends tag v) (has_cell a from ends tag v)).out.sent + drawn)
-took_by true a from ends tag v taken drawn e s =
-    let P : ℕ → Type 0 = (λ n. Stands (keep a ends.file v) (update ends.file v ∷ taken) (n + drawn)) in
-    let sent = cells a.server ends.file (with_head (replica_of a ends.file) v a.tags) v in
-    subst P (sym (count_ack a.server a.server from ends v tag sent ∙ count_cells a.server a ends.file v)) (stands_keep a ends.file v taken drawn s e)
-took_by false a from ends tag v taken drawn e s =
-    let P : ℕ → Type 0 = (λ n. Stands a (update ends.file v ∷ taken) (n + drawn)) in
-    subst P (sym (count_ack a.server a.server from ends v tag [])) (none_drawn a (update ends.file v ∷ taken) drawn (stands_old a ends.file v taken drawn s e))
+  pub from : All (IsFrom s us) done.out.sent
 
 -- the message goes along an edge of its receiver
 abbrev pub IsAlongEdge : Store → ℕ → Message → Type 0
 IsAlongEdge a from (message.Cell ends tag v) = is_accepted (replica_of a ends.file) from ends ≡ true
 IsAlongEdge a from (message.Ack ends k tag) = Unit {0}
 
-abbrev pub StandsAfter : Store → List Update → List Update → ℕ → Effect → Type 0
-StandsAfter a more taken drawn done = Stands done.store (more ++ taken) (cells_of a.server done.out.sent + drawn)
+-- the server stands for these versions more, and for the cells that it sent
+abbrev pub StandsAfter : ℕ → List Update → List Mark → ℕ → List Mark → Effect → Type 0
+StandsAfter s us marks drawn more done = Stands s done.store us (more ++ marks) (cells_of s done.out.sent + drawn)
 
-stands_heard : (a : Store) (from : ℕ) (m : Message) (taken : List Update) (drawn : ℕ) → IsAlongEdge a from m → Stands a taken drawn → StandsAfter a (carried_by m) taken drawn (heard a from m)
-stands_heard a from (message.Cell ends tag v) taken drawn along s =
-    let P : Bool → Type 0 = (λ t. StandsAfter a (update ends.file v ∷ []) taken drawn (cond t (took a from ends tag v) (idle a))) in
-    subst P (sym along) (took_by (is_newer (held a ends.file) v) a from ends tag v taken drawn refl s)
-stands_heard a from (message.Ack ends k tag) taken drawn along s =
-    none_drawn (answered a from ends k tag (known a ends.file)) taken drawn
-    (stands_same a (answered a from ends k tag (known a ends.file)) taken drawn (answered_same a from ends k tag (known a ends.file) refl) s)
+-- the server's own number, and the one that it is known by
+all_own : (r s : ℕ) (us : List Update) (ms : List Sent) → r ≡ s → All (IsFrom r us) ms → All (IsFrom s us) ms
+all_own r s us ms e h = subst (λ i. All (IsFrom i us) ms) e h
 
-going : (t : Bool) (a : Store) (p : Packet) (taken : List Update) (drawn : ℕ) → IsAlongEdge a p.from p.message → Stands a taken drawn → StandsAfter a (cond t (carried_by p.message) []) taken drawn (cond t (heard a p.from p.message) (idle a))
-going true a p taken drawn along s = stands_heard a p.from p.message taken drawn along s
-going false a p taken drawn along s = none_drawn a taken drawn s
+-- ---- a write
 
--- a version that comes is taken, if the clock is not at its end
-pub stands_arrived : (a : Store) (p : Packet) (taken : List Update) (drawn : ℕ) → IsAlongEdge a p.from p.message → Stands a taken drawn
-    → StandsAfter a (cond (has_time (last_of taken) (drawn + 1)) (carried_by p.message) []) taken drawn (arrived a p)
-stands_arrived a p taken drawn along s =
-    let same : has_time a.last a.tags ≡ has_time (last_of taken) (drawn + 1) = ap (λ n. has_time n a.tags) s.last ∙ ap (has_time (last_of taken)) s.tags in
-    let P : Bool → Type 0 = (λ t. StandsAfter a (cond t (carried_by p.message) []) taken drawn (arrived a p)) in
-    subst P same (going (has_time a.last a.tags) a p taken drawn along s)
+module _ {s : ℕ} {a : Store} {us : List Update} {marks : List Mark} {drawn : ℕ} (k : IsServer s a us marks drawn) (moment : ℕ) (file : FileId) (ranges : RangesValue) (born : (replica_of a file).birth ≡ 1) (i : IsWrite s a us (new_update a moment file ranges)) where
+  abbrev update : Update
+  update = new_update a moment file ranges
 
--- what is asked of an effect that makes nothing
-pub record IsPassive (a : Store) (made : List Update) (done : Effect) : Type 0 where
-  pub none : done.out.made ≡ []
-  pub server : done.store.server ≡ a.server
-  pub last : a.last ≤ done.store.last
-  pub from : All (IsFrom a.server made) done.out.sent
+  abbrev x : Replica
+  x = replica_of a file
 
-idle_passive : (a : Store) (made : List Update) → IsPassive a made (idle a)
-idle_passive a made = record { none = refl; server = refl; last = omega arith; from = All-nil (IsFrom a.server made) }
+  abbrev now : Replica
+  now = with_write x (actor_at a x) update.stamp ranges a.tags
 
-took_passive : (a : Store) (from : ℕ) (ends : Ends) (tag : ℕ) (v : Version) → IsPassive a (update ends.file v ∷ []) (took a from ends tag v)
-took_passive a from ends tag v =
-    let made = update ends.file v ∷ [] in
-    let sent = cells a.server ends.file (with_head (replica_of a ends.file) v a.tags) v in
-    let ack = ack_to a.server from ends v tag in
-    chosen (IsPassive a made) (is_newer (held a ends.file) v) (keeps_cell a from ends tag v) (has_cell a from ends tag v)
-    (record {
-      none = refl;
-      server = refl;
-      last = omega arith;
-      from = All-cons (IsFrom a.server made) ack sent (ack_from a.server from made ends v tag)
-          (cells_from a.server made ends.file (with_head (replica_of a ends.file) v a.tags) v (Contains-push [] (update ends.file v)));
-    })
-    (record {
-      none = refl;
-      server = refl;
-      last = omega arith;
-      from = All-cons (IsFrom a.server made) ack [] (ack_from a.server from made ends v tag) (All-nil (IsFrom a.server made));
-    })
+  abbrev after : Store
+  after = keep a file now update.stamp
 
-heard_passive : (a : Store) (from : ℕ) (m : Message) → IsPassive a (carried_by m) (heard a from m)
-heard_passive a from (message.Cell ends tag v) =
-    chosen (IsPassive a (update ends.file v ∷ [])) (is_accepted (replica_of a ends.file) from ends) (took a from ends tag v) (idle a) (took_passive a from ends tag v) (idle_passive a (update ends.file v ∷ []))
-heard_passive a from (message.Ack ends k tag) =
-    let same = answered_same a from ends k tag (known a ends.file) refl in
-    let last = same.last in
-    record { none = refl; server = same.server; last = omega arith; from = All-nil (IsFrom a.server []) }
+  abbrev version : VersionValue
+  version = next_version x.content (actor_at a x) update.stamp ranges
 
-pub arrived_passive : (a : Store) (p : Packet) → IsPassive a (carried_by p.message) (arrived a p)
-arrived_passive a p =
-    chosen (IsPassive a (carried_by p.message)) (has_time a.last a.tags) (heard a p.from p.message) (idle a) (heard_passive a p.from p.message) (idle_passive a (carried_by p.message))
+  wrote_file : HoldsFile s file now.content (made_of update ∷ made_for file us) (update.stamp ∷ stamps_for file marks)
+  wrote_file =
+      let P : ℕ → Type 0 = (λ b. HoldsFile s file (written x.content (record { server = a.server; birth = b }) update.stamp ranges) (made_of update ∷ made_for file us) (update.stamp ∷ stamps_for file marks)) in
+      subst P (sym born) (next_file k update i)
+
+  wrote_count : cells_of s (cells a.server file now version) ≡ length x.edges
+  wrote_count = ap (λ j. cells_of s (cells j file now version)) k.server ∙ count_cells s file now version x.edges (keys x.content.heads) a.tags refl
+
+  -- the server stands for it from then on
+  pub wrote_stands : Stands s (wrote a file x update.stamp ranges).store (update ∷ us) (mark file update.stamp ∷ marks) (cells_of s (wrote a file x update.stamp ranges).out.sent + drawn)
+  wrote_stands =
+      subst (λ n. Stands s after (update ∷ us) (mark file update.stamp ∷ marks) (n + drawn)) (sym wrote_count)
+      (stands_wrote k.stands after (length x.edges) update.stamp refl refl update now.content refl (held_put a after file now refl) wrote_file)
+
+  wrote_version : IsVersionOf file (made_for file (update ∷ us)) version
+  wrote_version = subst (λ h. IsVersionOf file h version) (sym (own_file update us)) (held_version wrote_file version (inl refl))
+
+  -- and sends it to each peer
+  pub wrote_from : All (IsFrom s (update ∷ us)) (wrote a file x update.stamp ranges).out.sent
+  wrote_from = all_own a.server s (update ∷ us) (cells a.server file now version) k.server (cells_from a.server (update ∷ us) file now version wrote_version)
+
+-- ---- a version that comes
+
+module _ {s : ℕ} {a : Store} {us : List Update} {marks : List Mark} {drawn : ℕ} (k : IsServer s a us marks drawn) (from : ℕ) (ends : Ends) (tag : ℕ) (v : VersionValue) (is : IsVersionOf ends.file (made_for ends.file us) v) where
+  abbrev old : Replica
+  old = replica_of a ends.file
+
+  abbrev new : Replica
+  new = with_head old v a.tags
+
+  abbrev after_news : Store
+  after_news = keep a ends.file new v.head.stamp
+
+  abbrev news : Effect
+  news = record { store = after_news; out = record { reply = None; made = []; sent = ack_to a.server from ends v tag ∷ cells a.server ends.file new v } }
+
+  abbrev no_news : Effect
+  no_news = record { store = a; out = record { reply = None; made = []; sent = ack_to a.server from ends v tag ∷ [] } }
+
+  came_file : HoldsFile s ends.file (joined_content old.content v) (made_for ends.file us) (v.head.stamp ∷ stamps_for ends.file marks)
+  came_file = file_joined (k.stands.files ends.file) (came_members k ends.file) (k.made.histories ends.file) is.0 is.1 v is.2
+
+  -- a version that is covered changes nothing
+  covered_held : covers old v ≡ true → (q : FileId) → held a q ≡ cond (is_same_file q ends.file) (joined_content old.content v) (held a q)
+  covered_held e q =
+      let same : joined_content old.content v ≡ old.content = ap (λ t. record { policy = old.content.policy; heads = cond t old.content.heads (put_version old.content.heads v) }) e in
+      cond_both (is_same_file q ends.file) (joined_content old.content v) (held a q) (λ c. held a q ≡ c) (λ t. ap (held a) (is_same_file-true q ends.file t) ∙ sym same) (λ t. refl)
+
+  came_count : cells_of s (ack_to a.server from ends v tag ∷ cells a.server ends.file new v) ≡ length old.edges
+  came_count =
+      count_ack s a.server from ends v tag (cells a.server ends.file new v)
+      ∙ ap (λ j. cells_of s (cells j ends.file new v)) k.server ∙ count_cells s ends.file new v old.edges (keys (gone old.content.heads v)) a.tags refl
+
+  news_stands : StandsAfter s us marks drawn (mark ends.file v.head.stamp ∷ []) news
+  news_stands =
+      subst (λ n. Stands s after_news us (mark ends.file v.head.stamp ∷ marks) (n + drawn)) (sym came_count)
+      (stands_came k.stands after_news (length old.edges) v.head.stamp refl refl ends.file (joined_content old.content v) (held_put a after_news ends.file new refl) came_file)
+
+  no_news_stands : covers old v ≡ true → StandsAfter s us marks drawn (mark ends.file v.head.stamp ∷ []) no_news
+  no_news_stands e =
+      let upto = covered_upto k ends.file is.0 is.1 v is.2 e in
+      subst (λ n. Stands s a us (mark ends.file v.head.stamp ∷ marks) (n + drawn)) (sym (count_ack s a.server from ends v tag []))
+      (stands_came k.stands a 0 v.head.stamp (omega arith) (omega arith) ends.file (joined_content old.content v) (covered_held e) came_file)
+
+  took_stands : StandsAfter s us marks drawn (mark ends.file v.head.stamp ∷ []) (took a from ends tag v)
+  took_stands = cond_both (covers old v) no_news news (StandsAfter s us marks drawn (mark ends.file v.head.stamp ∷ [])) (λ e. no_news_stands e) (λ e. news_stands)
+
+  took_passive : IsPassive s a us (took a from ends tag v)
+  took_passive =
+      let ack = ack_from a.server from us ends v tag in
+      chosen (IsPassive s a us) (covers old v) no_news news
+      (record { none = refl; last = omega arith; from = all_own a.server s us no_news.out.sent k.server (All-cons (IsFrom a.server us) (ack_to a.server from ends v tag) [] ack (All-nil (IsFrom a.server us))) })
+      (record {
+        none = refl;
+        last = omega arith;
+        from = all_own a.server s us news.out.sent k.server (All-cons (IsFrom a.server us) (ack_to a.server from ends v tag) (cells a.server ends.file new v) ack (cells_from a.server us ends.file new v is));
+      })
+
+-- ---- a message that comes
+
+module _ {s : ℕ} {a : Store} {us : List Update} {marks : List Mark} {drawn : ℕ} (k : IsServer s a us marks drawn) where
+  idle_passive : IsPassive s a us (idle a)
+  idle_passive = record { none = refl; last = omega arith; from = All-nil (IsFrom s us) }
+
+  heard_passive : (from : ℕ) (m : Message) → Carries us m → IsPassive s a us (heard a from m)
+  heard_passive from (message.Cell ends tag v) c =
+      chosen (IsPassive s a us) (is_accepted (replica_of a ends.file) from ends) (took a from ends tag v) (idle a) (took_passive k from ends tag v c) idle_passive
+  heard_passive from (message.Ack ends j tag) c =
+      let last = (answered_same a from ends j tag (known a ends.file) refl).last in
+      record { none = refl; last = omega arith; from = All-nil (IsFrom s us) }
+
+  pub arrived_passive : (p : Packet) → Carries us p.message → IsPassive s a us (arrived a p)
+  arrived_passive p c = chosen (IsPassive s a us) (has_time a.last a.tags) (heard a p.from p.message) (idle a) (heard_passive p.from p.message c) idle_passive
+
+  heard_stands : (from : ℕ) (m : Message) → Carries us m → IsAlongEdge a from m → StandsAfter s us marks drawn (carried_by m) (heard a from m)
+  heard_stands from (message.Cell ends tag v) c along =
+      let P : Bool → Type 0 = (λ t. StandsAfter s us marks drawn (mark ends.file v.head.stamp ∷ []) (cond t (took a from ends tag v) (idle a))) in
+      subst P (sym along) (took_stands k from ends tag v c)
+  heard_stands from (message.Ack ends j tag) c along = none_drawn (stands_held (answered_same a from ends j tag (known a ends.file) refl) k.stands)
+
+  going_stands : (t : Bool) (p : Packet) → Carries us p.message → IsAlongEdge a p.from p.message → StandsAfter s us marks drawn (cond t (carried_by p.message) []) (cond t (heard a p.from p.message) (idle a))
+  going_stands true p c along = heard_stands p.from p.message c along
+  going_stands false p c along = none_drawn k.stands
+
+  -- a version that comes is taken, if the clock is not at its end
+  pub arrived_stands : (p : Packet) → Carries us p.message → IsAlongEdge a p.from p.message → StandsAfter s us marks drawn (cond (has_time (last_of marks) (drawn + 1)) (carried_by p.message) []) (arrived a p)
+  arrived_stands p c along =
+      let same : has_time a.last a.tags ≡ has_time (last_of marks) (drawn + 1) = ap (λ n. has_time n a.tags) k.stands.last ∙ ap (has_time (last_of marks)) k.stands.tags in
+      let P : Bool → Type 0 = (λ t. StandsAfter s us marks drawn (cond t (carried_by p.message) []) (arrived a p)) in
+      subst P same (going_stands (has_time a.last a.tags) p c along)

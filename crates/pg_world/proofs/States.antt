@@ -1,80 +1,202 @@
--- The state of some versions is the one of greatest stamp.
-use Rattle.std.proofs.Common.{◌≡◌, ◌≢◌, ◌≤◌, Bool, true, false, cond, Option, None, Some, List, [], ◌∷◌, refl, sym, subst, ◌∙◌, arith, All}
-use Rattle.std.specs.Prelude.{Contains}
-use Rattle.std.proofs.lemmas.List.Elements.{All-nil, All-cons, All-weaker, All-contains, Contains-append_left, Contains-append_right, Contains-push}
+-- What a server stands for: its clock, its tags, and the state of each file. What it holds changes at one file at a time.
+use Rattle.std.proofs.Common.{ℕ, ◌≡◌, ◌≢◌, ◌≤◌, ◌+◌, Bool, true, false, cond, max, ◌==◌, Option, None, Some, List, [], ◌∷◌, refl, sym, ap, subst, ◌∙◌, inl, inr, arith}
+use Rattle.std.specs.Map.{lookup}
+use Rattle.std.specs.BTreeMap.{is_at, insert_entry}
 use Rattle.pg_base.specs.declared.id.FileId.{FileId}
-use Rattle.pg_base.specs.declared.version.Version.{Version}
-use Rattle.pg_base.specs.Id.{is_same_file}
-use Rattle.pg_base.specs.Stamp.{UpTo, is_before}
-use Rattle.pg_base.proofs.Orders.{is_same_file-true, is_same_file-refl, UpTo-refl, UpTo-trans, is_before-true, is_before-false}
+use Rattle.pg_base.specs.declared.stamp.Stamp.{Stamp}
+use Rattle.pg_base.specs.declared.vector.Actor.{Actor}
+use Rattle.pg_base.specs.Id.{file_cmp, is_same_file}
+use Rattle.pg_base.specs.Vector.{number_at}
+use Rattle.pg_base.specs.Version.{VersionValue, actor_of}
+use Rattle.pg_base.proofs.Orders.{file_total, is_same_file-true}
+use Rattle.pg_base.proofs.Maps.{lookup-insert_entry}
+use Rattle.pg_content.specs.Content.{Among, ContentValue, is_covered, joined_content, put_version}
+use Rattle.pg_content.specs.History.{IsHistory, Made, version_of}
+use Rattle.pg_content.proofs.HeadsOf.{content_stands}
+use Rattle.pg_edges.specs.declared.key.Key.{Key}
+use Rattle.pg_replica.specs.declared.replica.Replica.{Replica}
+use Rattle.pg_replica.specs.Replica.{acknowledged}
+use Rattle.pg_msg.specs.declared.message.Ends.{Ends}
 use Rattle.pg_msg.specs.declared.update.Update.{Update}
-use Rattle.pg_world.specs.Journal.{greater, state_of, last_of, IsGreatest, IsStateOf}
+use Rattle.pg_node.specs.Local.{Store, answered, held, known, new_store, no_content, or_new, policy_of, with_replica}
+use Rattle.pg_world.specs.Journal.{Mark, last_of, made_for, made_of, stamps_for, with_ancestors}
+use Rattle.pg_world.proofs.Histories.{AreMade, by_file, own_file}
+use Rattle.pg_world.proofs.Brought.{AreKnown, AreMembers, itself_taken, known_members, stamp_in_time, taken_in_time, with_member}
+use Rattle.pg_world.proofs.Taking.{HoldsFile, file_joined, file_later}
 
-abbrev of : FileId → Version → Update
-of file v = record { file = file; version = v }
+-- server s holds, of the versions that were made, what those come to that came to it; its clock is at their greatest time, and it gave out so many tags
+pub record Stands (s : ℕ) (a : Store) (us : List Update) (marks : List Mark) (drawn : ℕ) : Type 0 where
+  pub last : a.last ≡ last_of marks
+  pub tags : a.tags ≡ drawn + 1
+  pub files : (file : FileId) → HoldsFile s file (held a file) (made_for file us) (stamps_for file marks)
 
--- what a test says of two files
-pub other_file : (a b : FileId) → is_same_file a b ≡ false → b ≢ a
-other_file a b h e =
-    let P : FileId → Type 0 = (λ x. is_same_file a x ≡ true) in
-    let k : is_same_file a b ≡ true = subst P (sym e) (is_same_file-refl a) in
-    let n : true ≡ false = sym k ∙ h in absurd (cc)
+-- ---- what is held after a change of one replica
 
-head : (u : Update) (us : List Update) → Contains (u ∷ us) u
-head u us = Contains-append_left (u ∷ []) us u (Contains-push [] u)
+abbrev content_or : FileId → Option Replica → ContentValue
+content_or file None = no_content file
+content_or file (Some x) = x.content
 
-tail : (u x : Update) (us : List Update) → Contains us x → Contains (u ∷ us) x
-tail u x us h = Contains-append_right (u ∷ []) us x h
+held_or : (a : Store) (file : FileId) (o : Option Replica) → (or_new a file o).content ≡ content_or file o
+held_or a file None = refl
+held_or a file (Some x) = refl
 
--- the greater of two, by the test between them
-greatest_of : (file : FileId) (u : Update) (us : List Update) (old : Version) (t : Bool) → u.file ≡ file → is_before old.stamp u.version.stamp ≡ t → IsGreatest file us old → IsGreatest file (u ∷ us) (cond t u.version old)
-greatest_of file u us old true same e g =
-    let P : FileId → Type 0 = (λ f. Contains (u ∷ us) (of f u.version)) in
-    record {
-      among = subst P same (head u us);
-      greatest = All-cons (λ x. x.file ≡ file → UpTo x.version.stamp u.version.stamp) u us (λ q. UpTo-refl u.version.stamp)
-          (All-weaker (λ x. x.file ≡ file → UpTo x.version.stamp old.stamp) (λ x. x.file ≡ file → UpTo x.version.stamp u.version.stamp)
-          (λ x h q. UpTo-trans x.version.stamp old.stamp u.version.stamp (h q) (is_before-true old.stamp u.version.stamp e)) us g.greatest);
-    }
-greatest_of file u us old false same e g = record {
-  among = tail u (of file old) us g.among;
-  greatest = All-cons (λ x. x.file ≡ file → UpTo x.version.stamp old.stamp) u us (λ q. is_before-false old.stamp u.version.stamp e) g.greatest;
+content_chosen : (file : FileId) (t : Bool) (x : Replica) (o : Option Replica) → content_or file (cond t (Some x) o) ≡ cond t x.content (content_or file o)
+content_chosen file true x o = refl
+content_chosen file false x o = refl
+
+-- the replica of one file is this one now, and no other changes
+pub held_put : (a b : Store) (file : FileId) (x : Replica) → b.replicas ≡ insert_entry file_cmp a.replicas file x → (q : FileId) → held b q ≡ cond (is_same_file q file) x.content (held a q)
+held_put a b file x e q =
+    let found : known b q ≡ cond (is_same_file q file) (Some x) (known a q) =
+    ap (lookup (is_at (file_cmp q))) e ∙ lookup-insert_entry file_cmp file_total q file x a.replicas in
+    held_or b q (known b q) ∙ ap (content_or q) found ∙ content_chosen q (is_same_file q file) x (known a q) ∙ ap (cond (is_same_file q file) x.content) (sym (held_or a q (known a q)))
+
+-- the second server holds what the first one held, and has its clock
+pub record SameHeld (a b : Store) : Type 0 where
+  pub last : b.last ≡ a.last
+  pub tags : b.tags ≡ a.tags
+  pub each : (file : FileId) → held b file ≡ held a file
+
+pub SameHeld-refl : (a : Store) → SameHeld a a
+SameHeld-refl a = record { last = refl; tags = refl; each = λ file. refl }
+
+same_content : (a : Store) (file : FileId) (x : Replica) (q : FileId) (t : Bool) → is_same_file q file ≡ t → known a file ≡ Some x → cond t x.content (held a q) ≡ held a q
+same_content a file x q true e h = sym (ap (held a) (is_same_file-true q file e) ∙ held_or a file (known a file) ∙ ap (content_or file) h)
+same_content a file x q false e h = refl
+
+answered_by : (t : Bool) (a : Store) (file : FileId) (x y : Replica) → known a file ≡ Some x → y.content ≡ x.content → SameHeld a (cond t (with_replica a file y) a)
+answered_by true a file x y h e = record {
+  last = refl;
+  tags = refl;
+  each = λ q. held_put a (with_replica a file y) file y refl q ∙ ap (λ c. cond (is_same_file q file) c (held a q)) e ∙ same_content a file x q (is_same_file q file) refl h;
+}
+answered_by false a file x y h e = SameHeld-refl a
+
+-- an answer changes no version
+pub answered_same : (a : Store) (from : ℕ) (ends : Ends) (k : Key) (tag : ℕ) (o : Option Replica) → known a ends.file ≡ o → SameHeld a (answered a from ends k tag o)
+answered_same a from ends k tag None h = SameHeld-refl a
+answered_same a from ends k tag (Some x) h = answered_by (ends.receiver == x.birth) a ends.file x (acknowledged x from ends.sender k tag) h refl
+
+pub stands_held : {s : ℕ} {a b : Store} {us : List Update} {marks : List Mark} {drawn : ℕ} → SameHeld a b → Stands s a us marks drawn → Stands s b us marks drawn
+stands_held {s = s} {us = us} {marks = marks} e k = record {
+  last = e.last ∙ k.last;
+  tags = e.tags ∙ k.tags;
+  files = λ file. subst (λ c. HoldsFile s file c (made_for file us) (stamps_for file marks)) (sym (e.each file)) (k.files file);
 }
 
-one_more : (file : FileId) (u : Update) (us : List Update) (o : Option Version) → u.file ≡ file → IsStateOf file us o → IsGreatest file (u ∷ us) (greater o u.version)
-one_more file u us None same h =
-    let P : FileId → Type 0 = (λ f. Contains (u ∷ us) (of f u.version)) in
-    record {
-      among = subst P same (head u us);
-      greatest = All-cons (λ x. x.file ≡ file → UpTo x.version.stamp u.version.stamp) u us (λ q. UpTo-refl u.version.stamp)
-          (All-weaker (λ x. x.file ≢ file) (λ x. x.file ≡ file → UpTo x.version.stamp u.version.stamp) (λ x k q. absurd (k q)) us h);
-    }
-one_more file u us (Some old) same h = greatest_of file u us old (is_before old.stamp u.version.stamp) same refl h
+-- no tag is given out
+pub none_drawn : {s : ℕ} {a : Store} {us : List Update} {marks : List Mark} {drawn : ℕ} → Stands s a us marks drawn → Stands s a us marks (0 + drawn)
+none_drawn {s = s} {a = a} {us = us} {marks = marks} {drawn = drawn} k = let same : drawn ≡ 0 + drawn = omega arith in subst (Stands s a us marks) same k
 
-passed : (file : FileId) (u : Update) (us : List Update) (o : Option Version) → u.file ≢ file → IsStateOf file us o → IsStateOf file (u ∷ us) o
-passed file u us None other h = All-cons (λ x. x.file ≢ file) u us other h
-passed file u us (Some v) other h = record {
-  among = tail u (of file v) us h.among;
-  greatest = All-cons (λ x. x.file ≡ file → UpTo x.version.stamp v.stamp) u us (λ q. absurd (other q)) h.greatest;
+-- ---- a version at one file
+
+abbrev pub mark : FileId → Stamp → Mark
+mark file stamp = record { file = file; stamp = stamp }
+
+-- one file's content is this now; the others stay
+files_put : (s : ℕ) (a b : Store) (file : FileId) (stamp : Stamp) (c : ContentValue) (us : List Update) (marks : List Mark) → ((q : FileId) → held b q ≡ cond (is_same_file q file) c (held a q))
+    → HoldsFile s file c (made_for file us) (stamp ∷ stamps_for file marks) → ((q : FileId) → is_same_file q file ≡ false → HoldsFile s q (held a q) (made_for q us) (stamps_for q marks))
+    → (q : FileId) → HoldsFile s q (held b q) (made_for q us) (stamps_for q (mark file stamp ∷ marks))
+files_put s a b file stamp c us marks held_now here there q =
+    let P : Bool → Type 0 = (λ t. HoldsFile s q (cond t c (held a q)) (made_for q us) (cond t (stamp ∷ stamps_for q marks) (stamps_for q marks))) in
+    let Q : FileId → Type 0 = (λ f. HoldsFile s f c (made_for f us) (stamp ∷ stamps_for f marks)) in
+    let by : (t : Bool) → is_same_file q file ≡ t → P t = (λ t. elim t as (λ t. is_same_file q file ≡ t → P t) [
+      | true ↦ λ e. subst Q (sym (is_same_file-true q file e)) here
+      | false ↦ λ e. there q e
+    ]) in
+    subst (λ d. HoldsFile s q d (made_for q us) (stamps_for q (mark file stamp ∷ marks))) (sym (held_now q)) (by (is_same_file q file) refl)
+
+-- the tags of the new cells, and those before
+given : (more drawn : ℕ) → drawn + 1 + more ≡ more + drawn + 1
+given more drawn = omega arith
+
+-- a version came at one file: the clock has come to its time, and so many tags were given out
+module _ {s : ℕ} {a : Store} {us : List Update} {marks : List Mark} {drawn : ℕ} (k : Stands s a us marks drawn) (b : Store) (more : ℕ) (stamp : Stamp) (clock : b.last ≡ max a.last stamp.time) (tags : b.tags ≡ a.tags + more) where
+  -- its own write
+  pub stands_wrote : (u : Update) (c : ContentValue) → stamp ≡ u.stamp → ((q : FileId) → held b q ≡ cond (is_same_file q u.file) c (held a q))
+      → HoldsFile s u.file c (made_of u ∷ made_for u.file us) (u.stamp ∷ stamps_for u.file marks) → Stands s b (u ∷ us) (mark u.file u.stamp ∷ marks) (more + drawn)
+  stands_wrote u c same held_now file = record {
+    last = clock ∙ ap (λ n. max n stamp.time) k.last ∙ ap (λ (x : Stamp). max (last_of marks) x.time) same;
+    tags = tags ∙ ap (λ n. n + more) k.tags ∙ given more drawn;
+    files =
+        files_put s a b u.file u.stamp c (u ∷ us) marks held_now (subst (λ h. HoldsFile s u.file c h (u.stamp ∷ stamps_for u.file marks)) (sym (own_file u us)) file)
+        (λ q e. subst (λ t. HoldsFile s q (held a q) (cond t (made_of u ∷ made_for q us) (made_for q us)) (stamps_for q marks)) (sym e) (k.files q));
+  }
+
+  -- a version that comes
+  pub stands_came : (file : FileId) (c : ContentValue) → ((q : FileId) → held b q ≡ cond (is_same_file q file) c (held a q))
+      → HoldsFile s file c (made_for file us) (stamp ∷ stamps_for file marks) → Stands s b us (mark file stamp ∷ marks) (more + drawn)
+  stands_came file c held_now here = record {
+    last = clock ∙ ap (λ n. max n stamp.time) k.last;
+    tags = tags ∙ ap (λ n. n + more) k.tags ∙ given more drawn;
+    files = files_put s a b file stamp c us marks held_now here (λ q e. k.files q);
+  }
+
+-- another server's write
+pub stands_later : {t : ℕ} {a : Store} {us : List Update} {marks : List Mark} {drawn : ℕ} → Stands t a us marks drawn → AreKnown us marks → (u : Update) → IsHistory (made_of u ∷ made_for u.file us) → u.stamp.server ≢ t → Stands t a (u ∷ us) marks drawn
+stands_later {t = t} {a = a} {us = us} {marks = marks} k known u history other = record {
+  last = k.last;
+  tags = k.tags;
+  files = by_file (λ file h. HoldsFile t file (held a file) h (stamps_for file marks)) u us (file_later (k.files u.file) (known_members u.file us marks known) (made_of u) history other) k.files;
 }
 
-step : (file : FileId) (u : Update) (us : List Update) (t : Bool) → is_same_file file u.file ≡ t → IsStateOf file us (state_of file us) → IsStateOf file (u ∷ us) (cond t (Some (greater (state_of file us) u.version)) (state_of file us))
-step file u us true e h = one_more file u us (state_of file us) (sym (is_same_file-true file u.file e)) h
-step file u us false e h = passed file u us (state_of file us) (other_file file u.file e) h
+-- a server that has taken nothing
+pub new_stands : (n s : ℕ) → Stands s (new_store n s) [] [] 0
+new_stands n s = record {
+  last = refl;
+  tags = refl;
+  files = λ file. record { policy = refl; stands = content_stands (policy_of file) [] tt [] (record { members = λ t l. l; ancestors = λ t u l a. absurd l }); own = λ m l same. absurd l };
+}
 
-pub state_is_greatest : (file : FileId) (us : List Update) → IsStateOf file us (state_of file us)
-state_is_greatest file [] = All-nil (λ x. x.file ≢ file)
-state_is_greatest file (u ∷ us) = step file u us (is_same_file file u.file) refl (state_is_greatest file us)
+-- ---- what is held, in time
 
--- no version has a greater time than the last
-pub in_time : (us : List Update) → All (λ u. u.version.stamp.time ≤ last_of us) us
-in_time [] = All-nil (λ u. u.version.stamp.time ≤ 0)
-in_time (x ∷ us) = All-cons (λ u. u.version.stamp.time ≤ last_of (x ∷ us)) x us (omega arith)
-    (All-weaker (λ u. u.version.stamp.time ≤ last_of us) (λ u. u.version.stamp.time ≤ last_of (x ∷ us)) (λ u h. omega arith) us (in_time us))
+-- server s of a run: it stands for what came to it, and all of that was made
+pub record IsServer (s : ℕ) (a : Store) (us : List Update) (marks : List Mark) (drawn : ℕ) : Type 0 where
+  pub server : a.server ≡ s
+  pub stands : Stands s a us marks drawn
+  pub made : AreMade us
+  pub known : AreKnown us marks
 
--- the state is among the versions, so its time is no later than the last
-pub state_in_time : (file : FileId) (us : List Update) (v : Version) → state_of file us ≡ Some v → v.stamp.time ≤ last_of us
-state_in_time file us v e =
-    let P : Option Version → Type 0 = IsStateOf file us in
-    let g : IsGreatest file us v = subst P e (state_is_greatest file us) in
-    All-contains (λ u. u.version.stamp.time ≤ last_of us) us (of file v) (in_time us) g.among
+module _ {s : ℕ} {a : Store} {us : List Update} {marks : List Mark} {drawn : ℕ} (k : IsServer s a us marks drawn) where
+  -- no version that was taken has a time after the clock's
+  pub taken_upto : (file : FileId) (t : Stamp) → Among t (with_ancestors (made_for file us) (stamps_for file marks)) → t.time ≤ a.last
+  taken_upto file t l =
+      let le = taken_in_time (made_for file us) (stamps_for file marks) (last_of marks) (k.made.order file) (λ x m. stamp_in_time file x marks m) t l in
+      let clock = k.stands.last in omega arith
+
+  -- nor has a head, and no number in its vector is above that
+  pub head_upto : (file : FileId) (v : VersionValue) → Among v (held a file).heads → v.head.stamp.time ≤ a.last
+  head_upto file v l =
+      let r = (k.stands.files file).stands.heads v l in
+      let P : VersionValue → Type 0 = (λ x. x.head.stamp.time ≤ a.last) in
+      subst P (sym r.version) (taken_upto file r.made.stamp r.head.0)
+
+  pub number_upto : (file : FileId) (v : VersionValue) → Among v (held a file).heads → (q : Actor) → number_at v.head.vector q ≤ a.last
+  number_upto file v l q =
+      let r = (k.stands.files file).stands.heads v l in
+      let P : VersionValue → Type 0 = (λ x. number_at x.head.vector q ≤ a.last) in
+      let number = k.made.numbers file r.made r.member q in
+      let time = taken_upto file r.made.stamp r.head.0 in
+      subst P (sym r.version) (omega arith)
+
+  -- each version that came is one of its file's history
+  pub came_members : (file : FileId) → AreMembers (made_for file us) (stamps_for file marks)
+  came_members file = known_members file us marks k.known
+
+  -- a version that some head covers was taken before, so its time is no news
+  pub covered_upto : (file : FileId) (m : Made) → Among m (made_for file us) → (v : VersionValue) → v ≡ version_of (policy_of file) (made_for file us) m → is_covered (held a file).heads (actor_of v.head) v.head.number ≡ true → v.head.stamp.time ≤ a.last
+  covered_upto file m is v e covered =
+      let c = held a file in
+      let h = made_for file us in
+      let set = stamps_for file marks in
+      let f = file_joined (k.stands.files file) (came_members file) (k.made.histories file) m is v e in
+      let same : joined_content c v ≡ c = ap (λ t. record { policy = c.policy; heads = cond t c.heads (put_version c.heads v) }) covered in
+      let stamp : v.head.stamp ≡ m.stamp = ap (λ (x : VersionValue). x.head.stamp) e in
+      let are : AreMembers h (v.head.stamp ∷ set) = subst (λ t. AreMembers h (t ∷ set)) (sym stamp) (with_member h (k.made.histories file) set (came_members file) m is) in
+      let P : ContentValue → Type 0 = (λ x. HoldsFile s file x h (v.head.stamp ∷ set)) in
+      let x = (subst P same f).stands.all v.head.stamp (itself_taken h (k.made.histories file) (v.head.stamp ∷ set) are v.head.stamp (inl refl)) in
+      let upto = head_upto file x.0 x.1 in
+      elim x.2 [
+        | inl itself ↦ (let Q : Stamp → Type 0 = (λ t. t.time ≤ a.last) in subst Q (sym itself) upto)
+        | inr further ↦ (let earlier = k.made.order file v.head.stamp x.0.head.stamp further in omega arith)
+      ]

@@ -1,23 +1,38 @@
 -- What a journal says: which messages are under way, which versions were made, which versions each server took, and
 -- what a set of versions comes to. A journal is the list of its entries, the latest first.
-use Rattle.std.specs.Prelude.{ℕ, ◌≡◌, ◌≢◌, ◌+◌, ◌-◌, ◌==◌, ◌&&◌, Bool, true, false, if◌then◌else◌, max, List, [], ◌∷◌, ◌++◌, All, Contains, Option, None, Some, slice_get, remove}
+use Rattle.std.specs.Prelude.{ℕ, ◌+◌, ◌-◌, ◌==◌, ◌&&◌, ◌||◌, Bool, true, false, if◌then◌else◌, max, List, [], ◌∷◌, ◌++◌, filter, map, Option, None, Some, slice_get, remove}
+use Rattle.std.specs.List.{list_any}
 use Rattle.pg_base.specs.declared.id.FileId.{FileId}
-use Rattle.pg_base.specs.declared.version.Version.{Version}
+use Rattle.pg_base.specs.declared.stamp.Stamp.{Stamp}
 use Rattle.pg_base.specs.Id.{is_same_file}
-use Rattle.pg_base.specs.Stamp.{UpTo, is_before}
+use Rattle.pg_content.specs.Content.{ContentValue}
+use Rattle.pg_content.specs.History.{Made, is_ancestor, is_same_stamp}
+use Rattle.pg_content.specs.StandsFor.{content_of}
 use Rattle.pg_msg.specs.declared.message.Message.{Message}
 use Rattle.pg_msg.specs.declared.message.Message.TheVariants as message
 use Rattle.pg_msg.specs.declared.message.Sent.{Sent}
 use Rattle.pg_msg.specs.declared.update.Update.{Update}
 use Rattle.pg_sched.specs.declared.line.Event.{Event}
-use Rattle.pg_sched.specs.declared.line.Event.TheVariants.{Put, Tick, Deliver, Lose, Repeat}
+use Rattle.pg_sched.specs.declared.line.Event.TheVariants.{Write, Tick, Deliver, Lose, Repeat}
 use Rattle.pg_sched.specs.declared.entry.Entry.{Entry}
-use Rattle.pg_node.specs.Local.{has_time}
+use Rattle.pg_node.specs.Local.{has_time, policy_of}
 
--- all versions that were made
+-- all versions that were made, the latest first
 abbrev pub history : List Entry → List Update
 history [] = []
 history (entry ∷ earlier) = entry.made ++ history earlier
+
+-- a version as the history of its file has it. Every replica has birth 1
+abbrev pub made_of : Update → Made
+made_of u = record { stamp = u.stamp; birth = 1; bases = u.bases; ranges = u.ranges }
+
+abbrev pub made_for : FileId → List Update → List Made
+made_for file [] = []
+made_for file (u ∷ us) = if is_same_file file u.file then made_of u ∷ made_for file us else made_for file us
+
+-- the history of a file: its versions, the latest first
+abbrev pub versions : FileId → List Entry → List Made
+versions file journal = made_for file (history journal)
 
 -- ---- messages under way
 
@@ -37,7 +52,7 @@ with_copy bag (Some m) = bag ++ m ∷ []
 
 -- what is left of the messages under way, with what an event sends or copies
 abbrev pub bag_after : List Sent → Event → List Sent → List Sent
-bag_after bag (Put server moment file body) sent = bag ++ sent
+bag_after bag (Write server moment file what) sent = bag ++ sent
 bag_after bag (Tick server moment word) sent = bag ++ sent
 bag_after bag (Deliver place) sent = without bag place (message_at bag place) ++ sent
 bag_after bag (Lose place) sent = without bag place (message_at bag place)
@@ -50,10 +65,15 @@ bag (entry ∷ earlier) = bag_after (bag earlier) entry.event entry.sent
 
 -- ---- the clock of a server
 
--- the greatest time among these versions' stamps
-abbrev pub last_of : List Update → ℕ
+-- a version that came to a server: its file and its stamp
+pub record Mark : Type 0 where
+  pub file : FileId
+  pub stamp : Stamp
+
+-- the greatest time among these stamps
+abbrev pub last_of : List Mark → ℕ
 last_of [] = 0
-last_of (u ∷ us) = max (last_of us) u.version.stamp.time
+last_of (m ∷ ms) = max (last_of ms) m.stamp.time
 
 abbrev pub is_cell : Message → Bool
 is_cell (message.Cell ends tag version) = true
@@ -67,7 +87,7 @@ cells_of server (m ∷ ms) = if m.packet.from == server && is_cell m.packet.mess
 -- how many tags a server gives out in an event: each cell that it sends has one of its own, but for a tick, which sends
 -- cells under the tags that they have
 abbrev pub drawn_by : ℕ → Event → List Sent → ℕ
-drawn_by server (Put maker moment file body) sent = cells_of server sent
+drawn_by server (Write maker moment file what) sent = cells_of server sent
 drawn_by server (Tick ticking moment word) sent = 0
 drawn_by server (Deliver place) sent = cells_of server sent
 drawn_by server (Lose place) sent = cells_of server sent
@@ -78,51 +98,59 @@ abbrev pub drawn : ℕ → List Entry → ℕ
 drawn server [] = 0
 drawn server (entry ∷ earlier) = drawn_by server entry.event entry.sent + drawn server earlier
 
--- ---- what a server took
+-- ---- which versions came to a server
 
 -- the version that a message carries, if it carries one
-abbrev pub carried_by : Message → List Update
-carried_by (message.Cell ends tag version) = record { file = ends.file; version = version } ∷ []
+abbrev pub carried_by : Message → List Mark
+carried_by (message.Cell ends tag version) = record { file = ends.file; stamp = version.head.stamp } ∷ []
 carried_by (message.Ack ends key tag) = []
 
--- what a server takes of a message, if it is for it and its clock is not at its end. Every server has a replica of every
--- file, linked to that of each other server, so it accepts every message for it
-abbrev pub taken_from : ℕ → Bool → Option Sent → List Update
-taken_from server going None = []
-taken_from server going (Some m) = if m.to == server && going then carried_by m.packet.message else []
+-- the versions that were made
+abbrev pub marks_of : List Update → List Mark
+marks_of us = map (λ u. record { file = u.file; stamp = u.stamp }) us
 
--- what a server takes by an event, where this bag was under way and these were made
-abbrev pub taken_by : ℕ → Bool → List Sent → Event → List Update → List Update
-taken_by server going bag (Put maker moment file body) made = if maker == server then made else []
-taken_by server going bag (Tick ticking moment word) made = []
-taken_by server going bag (Deliver place) made = taken_from server going (message_at bag place)
-taken_by server going bag (Lose place) made = []
-taken_by server going bag (Repeat place) made = []
+-- what comes to a server by a message, if it is for it and its clock is not at its end. Every server has a replica of every
+-- file, linked to that of each other server, so it accepts every message for it
+abbrev pub brought_from : ℕ → Bool → Option Sent → List Mark
+brought_from server going None = []
+brought_from server going (Some m) = if m.to == server && going then carried_by m.packet.message else []
+
+-- what comes to a server by an event, where this bag was under way and these were made
+abbrev pub brought_by : ℕ → Bool → List Sent → Event → List Update → List Mark
+brought_by server going bag (Write maker moment file what) made = if maker == server then marks_of made else []
+brought_by server going bag (Tick ticking moment word) made = []
+brought_by server going bag (Deliver place) made = brought_from server going (message_at bag place)
+brought_by server going bag (Lose place) made = []
+brought_by server going bag (Repeat place) made = []
 
 -- the versions that a server made, or was delivered while its clock was not at its end, the latest first
-abbrev pub taken : ℕ → List Entry → List Update
-taken server [] = []
-taken server (entry ∷ earlier) =
-    taken_by server (has_time (last_of (taken server earlier)) (drawn server earlier + 1)) (bag earlier) entry.event entry.made ++ taken server earlier
+abbrev pub brought : ℕ → List Entry → List Mark
+brought server [] = []
+brought server (entry ∷ earlier) =
+    brought_by server (has_time (last_of (brought server earlier)) (drawn server earlier + 1)) (bag earlier) entry.event entry.made ++ brought server earlier
+
+-- ---- what a server took
+
+-- the stamps of a file
+abbrev pub stamps_for : FileId → List Mark → List Stamp
+stamps_for file [] = []
+stamps_for file (m ∷ ms) = if is_same_file file m.file then m.stamp ∷ stamps_for file ms else stamps_for file ms
+
+-- whether the version is one of these or an ancestor of one
+abbrev pub is_within : List Made → List Stamp → Stamp → Bool
+is_within h set s = list_any (λ t. is_same_stamp s t || is_ancestor h s t) set
+
+-- these versions of a history, each with its ancestors
+abbrev pub with_ancestors : List Made → List Stamp → List Stamp
+with_ancestors h set = map (λ m. m.stamp) (filter (λ m. is_within h set m.stamp) h)
+
+-- the versions of a file that a server took: a version comes with its ancestors
+abbrev pub taken : ℕ → FileId → List Entry → List Stamp
+taken server file journal = with_ancestors (versions file journal) (stamps_for file (brought server journal))
 
 -- ---- what versions come to
 
--- the one of greater stamp
-abbrev pub greater : Option Version → Version → Version
-greater None v = v
-greater (Some old) v = if is_before old.stamp v.stamp then v else old
-
--- what a set of versions comes to for a file: its version of greatest stamp
-abbrev pub state_of : FileId → List Update → Option Version
-state_of file [] = None
-state_of file (u ∷ us) = if is_same_file file u.file then Some (greater (state_of file us) u.version) else state_of file us
-
--- this version of the file is among these, and none of the file has a greater stamp
-pub record IsGreatest (file : FileId) (updates : List Update) (v : Version) : Type 0 where
-  pub among : Contains updates (record { file = file; version = v })
-  pub greatest : All (λ u. u.file ≡ file → UpTo u.version.stamp v.stamp) updates
-
--- none of these, or the one of greatest stamp
-abbrev pub IsStateOf : FileId → List Update → Option Version → Type 0
-IsStateOf file updates None = All (λ u. u.file ≢ file) updates
-IsStateOf file updates (Some v) = IsGreatest file updates v
+-- what a set of versions of a file comes to: its heads, which are ancestors of no other of them, by stamp; each with the
+-- body that its ranges make of what its bases show, and the vector that tells what its bases know
+abbrev pub state_of : FileId → List Entry → List Stamp → ContentValue
+state_of file journal set = content_of (policy_of file) (versions file journal) set

@@ -1,7 +1,7 @@
 -- A run by its events.
-use Rattle.std.specs.Prelude.{ℕ, Bool, List, Option}
+use Rattle.std.specs.Prelude.{ℕ, Bool, List}
 use Rattle.pg_base.specs.declared.id.FileId.{FileId}
-use Rattle.pg_base.specs.declared.version.Version.{Version}
+use Rattle.pg_content.specs.Content.{ContentValue}
 use Rattle.pg_sched.specs.declared.line.Event.{Event}
 use Rattle.pg_sched.specs.declared.entry.Entry.{Entry}
 use Rattle.pg_world.specs.Journal.{taken, state_of}
@@ -23,5 +23,5 @@ abbrev pub next_entry : Played → Event → Entry
 next_entry p event = (next p.servers (final p) event).entry
 
 -- what the versions of a file come to that a server took
-abbrev pub shown : Played → ℕ → FileId → Option Version
-shown p server file = state_of file (taken server (final p).journal)
+abbrev pub state : Played → ℕ → FileId → ContentValue
+state p server file = state_of file (final p).journal (taken server file (final p).journal)

@@ -2,7 +2,7 @@
 use Rattle.std.specs.Prelude.{ℕ, ◌&&◌, Bool, nat_le, if◌then◌else◌, List, [], ◌∷◌, Option, None, Some}
 use Rattle.pg_msg.specs.declared.message.Sent.{Sent}
 use Rattle.pg_sched.specs.declared.line.Event.{Event}
-use Rattle.pg_sched.specs.declared.line.Event.TheVariants.{Put, Tick, Deliver, Lose, Repeat}
+use Rattle.pg_sched.specs.declared.line.Event.TheVariants.{Write, Tick, Deliver, Lose, Repeat}
 use Rattle.pg_sched.specs.declared.entry.Entry.{Entry}
 use Rattle.pg_sched.specs.declared.entry.VoidCause.{VoidCause}
 use Rattle.pg_sched.specs.declared.entry.VoidCause.TheVariants.{NoMessage, NoServer}
@@ -57,7 +57,7 @@ moved w event (Some m) = still w event None
 
 -- what comes of one event in a run with so many servers
 abbrev pub next : ℕ → World → Event → Step
-next servers w (Put server moment file body) = called servers w (Put server moment file body) server (input.Put moment file body)
+next servers w (Write server moment file what) = called servers w (Write server moment file what) server (input.Write moment file what)
 next servers w (Tick server moment word) = called servers w (Tick server moment word) server (input.Tick moment word)
 next servers w (Deliver place) = delivered servers w (Deliver place) (message_at (bag w.journal) place)
 next servers w (Lose place) = moved w (Lose place) (message_at (bag w.journal) place)

@@ -6,7 +6,7 @@ mod machine;
 mod world;
 
 pub use laws::{
-    one_version_a_stamp, quiet_is_told, quiet_servers_agree, replicas_are_states,
+    quiet_is_told, quiet_servers_agree, replicas_are_states, runs_make_histories, states_are_heads,
     ticks_send_what_is_owed,
 };
 pub use world::World;

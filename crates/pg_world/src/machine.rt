@@ -2,17 +2,19 @@
 
 ghost use Rattle.std.specs.Prelude.{[], ◌≡◌, ◌++◌, ◌<◌, ◌≤◌, OnOk, IfOk, ℕ, length, true, IsNone, ◌⊎◌, None, slice_get};
 ghost use Rattle.std.specs.Option.{option_copied};
-ghost use Rattle.pg_node.specs.Local.{Store, effect, held};
+ghost use Rattle.pg_content.specs.Content.{or_empty};
+ghost use Rattle.pg_node.specs.Local.{Store, effect, held, policy_of};
 ghost use Rattle.pg_world.specs.Journal.{message_at, without, bag};
 ghost use Rattle.pg_world.specs.Run.{World, is_server, next, entered, start, still_entry, acted_entry};
 ghost use Rattle.pg_world.specs.Quiet.{quiet_of, owed_by, has_some};
 ghost use Rattle.pg_flood.specs.World.{after};
 ghost use Rattle.pg_world.specs.Stands.{Stands, EachStands};
 
-use pg_base::{FileId, Items, NodeId, SharedBytes, Version};
+use pg_base::{FileId, Items, NodeId};
+use pg_content::Content;
 use pg_msg::Sent;
 use pg_node::{Input, Node, Out};
-use pg_sched::{Cause, Entry, Event, Owing, Quiet, VoidCause};
+use pg_sched::{Cause, Change, Entry, Event, Owing, Quiet, VoidCause};
 use std::alloc::{AllocError, Global};
 use std::collections::VecDeque;
 
@@ -47,15 +49,15 @@ impl Machine {
         1 <= server && server as usize <= self.nodes.len()
     }
 
-    /// The version that a server holds of a file.
-    pub fn head(&self, server: NodeId, file: &FileId) -> Option<&Version>
-        ensures held { (w : World) → Stands self.now w → 1 ≤ server → server ≤ length self.now.nodes.items → option_copied result ≡ held (w.stores server) file.now }
+    /// What a server holds of a file: none where nothing came to it.
+    pub fn content(&self, server: NodeId, file: &FileId) -> Option<&Content>
+        ensures held { (w : World) → Stands self.now w → 1 ≤ server → server ≤ length self.now.nodes.items → or_empty (policy_of file.now) (option_copied result) ≡ held (w.stores server) file.now }
         ensures nobody { (server ≡ 0) ⊎ (length self.now.nodes.items < server) → IsNone result }
     {
         if !self.has(server) {
             return None;
         }
-        self.nodes[server as usize - 1].head(file)
+        self.nodes[server as usize - 1].content(file)
     }
 
     /// The message with this number, out of the bag.
@@ -116,28 +118,36 @@ impl Machine {
         })
     }
 
-    /// A client writes a file at a server.
-    fn put(
+    /// A client changes a file at a server.
+    fn write(
         &mut self,
         server: NodeId,
         moment: u64,
         file: FileId,
-        body: SharedBytes,
+        change: Change,
     ) -> Result<Entry, AllocError>
-        ensures state { OnOk result ((w : World) → Stands self.old w → Stands self.new (entered w (next (length self.old.nodes.items) w (Event.Put server moment file body)))) }
-        ensures entry { IfOk result (λ e. (w : World) → Stands self.old w → e ≡ (next (length self.old.nodes.items) w (Event.Put server moment file body)).entry) }
+        ensures state { OnOk result ((w : World) → Stands self.old w → Stands self.new (entered w (next (length self.old.nodes.items) w (Event.Write server moment file change)))) }
+        ensures entry { IfOk result (λ e. (w : World) → Stands self.old w → e ≡ (next (length self.old.nodes.items) w (Event.Write server moment file change)).entry) }
         ensures count { OnOk result (length self.new.nodes.items ≡ length self.old.nodes.items) }
     {
-        let event = Event::Put {
+        let event = Event::Write {
             server,
             moment,
             file,
-            body: body.copy()?,
+            change: change.copy()?,
         };
         if !self.has(server) {
             return Ok(self.still(event, Some(VoidCause::NoServer)));
         }
-        Ok(self.act(event, server, Input::Put { moment, file, body })?)
+        Ok(self.act(
+            event,
+            server,
+            Input::Write {
+                moment,
+                file,
+                change,
+            },
+        )?)
     }
 
     /// A server sends again what is not acknowledged.
@@ -216,12 +226,12 @@ impl Machine {
         ensures count { OnOk result (length self.new.nodes.items ≡ length self.old.nodes.items) }
     {
         match event {
-            Event::Put {
+            Event::Write {
                 server,
                 moment,
                 file,
-                body,
-            } => Ok(self.put(server, moment, file, body)?),
+                change,
+            } => Ok(self.write(server, moment, file, change)?),
             Event::Tick {
                 server,
                 moment,

@@ -6,7 +6,7 @@ use super::*;
 use pg_base::{FileId, Kind, SharedBytes, Stamp};
 use pg_edges::Key;
 use pg_msg::{Kind as Sort, Summary};
-use pg_sched::{Cause, Event, Owing, Quiet};
+use pg_sched::{Cause, Change, Event, Owing, Quiet};
 use std::alloc::{AllocError, Global};
 use std::test::Fail;
 
@@ -23,13 +23,13 @@ fn written(alloc: Global) -> Result<World, Fail>
     ensures { IfOk result (λ w. w.failed ≡ false) }
 {
     let mut world = World::new(alloc, 2)?;
-    let put = Event::Put {
+    let write = Event::Write {
         server: 2,
         moment: 9,
         file: FILE,
-        body: SharedBytes::from_slice(alloc, b"ab")?,
+        change: Change::Put(SharedBytes::from_slice(alloc, b"ab")?),
     };
-    match world.step(put) {
+    match world.step(write) {
         Ok(_entry) => Ok(world),
         Err(_) => Err(AllocError.into()),
     }
@@ -44,7 +44,8 @@ fn a_run_is_its_events(rt: HostRuntime) -> Result<(), Fail> {
     assert_eq!(rt; entry.void, None);
     assert!(rt; !world.has_failed());
     assert_eq!(rt; world.events().len(), 2);
-    assert_eq!(rt; world.head(1, &FILE).map(|v| v.stamp), Some(STAMP));
+    let content = world.content(1, &FILE).ok_or("a content")?;
+    assert_eq!(rt; content.view(0, 16)?.as_slice(), b"ab".as_slice());
     Ok(())
 }
 

@@ -3,13 +3,17 @@
 ghost use Rattle.std.specs.Prelude.{◌≡◌, ◌++◌, ◌∷◌, [], ◌≤◌, ◌<◌, ◌↔◌, ℕ, OnOk, OnErr, IfOk, IsErrOf, IsNone, ◌⊎◌, false, true};
 ghost use Rattle.std.specs.Option.{option_copied};
 ghost use Rattle.pg_base.specs.declared.id.FileId.{FileId};
-ghost use Rattle.pg_world.specs.Journal.{bag, taken, IsStateOf};
+ghost use Rattle.pg_content.specs.Content.{or_empty};
+ghost use Rattle.pg_content.specs.StandsFor.{StandsFor};
+ghost use Rattle.pg_node.specs.Local.{policy_of};
+ghost use Rattle.pg_world.specs.Journal.{bag, taken, versions};
 ghost use Rattle.pg_world.specs.Quiet.{has_some, IsQuiet, quiet_of};
 ghost use Rattle.pg_world.specs.Laws.{Agree};
-ghost use Rattle.pg_world.specs.Played.{next_entry, shown, final};
+ghost use Rattle.pg_world.specs.Played.{next_entry, state, final};
 
 use crate::machine::Machine;
-use pg_base::{FileId, Items, NodeId, Version};
+use pg_base::{FileId, Items, NodeId};
+use pg_content::Content;
 use pg_node::StepError;
 use pg_sched::{Entry, Event, Quiet};
 use std::alloc::{AllocError, Global};
@@ -90,15 +94,15 @@ impl World {
         Ok(entry)
     }
 
-    /// The version that a server holds of a file: of those that it took, the one of greatest stamp. None where it took
-    /// none, and where the run has no such server.
-    pub fn head(&self, server: NodeId, file: &FileId) -> Option<&Version>
+    /// What a server holds of a file: the state of the versions that it took. None where nothing came to it, and where the
+    /// run has no such server.
+    pub fn content(&self, server: NodeId, file: &FileId) -> Option<&Content>
         requires { self.now.failed ≡ false }
-        ensures state { 1 ≤ server → server ≤ self.now.servers → option_copied result ≡ shown self.now server file.now }
-        ensures greatest { 1 ≤ server → server ≤ self.now.servers → IsStateOf file.now (taken server (final self.now).journal) (option_copied result) }
+        ensures state { 1 ≤ server → server ≤ self.now.servers → or_empty (policy_of file.now) (option_copied result) ≡ state self.now server file.now }
+        ensures heads { 1 ≤ server → server ≤ self.now.servers → StandsFor (or_empty (policy_of file.now) (option_copied result)) (versions file.now (final self.now).journal) (taken server file.now (final self.now).journal) }
         ensures nobody { (server ≡ 0) ⊎ (self.now.servers < server) → IsNone result }
     {
-        self.machine.head(server, file)
+        self.machine.content(server, file)
     }
 
     /// Whether a message is under way.

@@ -1,7 +1,11 @@
-use Rattle.std.proofs.Common.{None}
-use Rattle.pg_content.specs.Version.{stamp_of}
-use Rattle.pg_content.proofs.Heads.{place-found}
+use Rattle.std.proofs.Common.{rules}
+use Rattle.std.proofs.lemmas.List.Sorted.{IsPartitionPoint-from_clause}
+use Rattle.pg_base.specs.Stamp.{is_before}
+use Rattle.pg_base.specs.Version.{VersionValue, stamp_of}
+use Rattle.pg_content.proofs.Heads.{parted, place-parted}
 use Rattle.pg_content.proofs.writing.place.Goals as goal
 
-pub returns-in-None : goal.returns-in-None
-returns-in-None c = place-found stamp_of c.args.stamp c.args.heads.now None c.in-None.ensures
+pub returns : goal.returns
+returns c =
+    place-parted stamp_of c.args.stamp c.args.heads.now c.partition_point.result c.partition_point.ensures.bound
+    (IsPartitionPoint-from_clause (λ (v : VersionValue). is_before v.head.stamp c.args.stamp) c.args.heads.now c.partition_point.result c.partition_point.ensures.partitioned (parted c.args.heads.now c.args.stamp c.requires) (λ a r f called. search rules))

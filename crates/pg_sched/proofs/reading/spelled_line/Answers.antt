@@ -16,6 +16,6 @@ returns-clause-found c =
 
 pub returns-clause-bad : goal.returns-clause-bad
 returns-clause-bad c =
-    let cut : take 6 (words_in c.args.text.now) ≡ map (λ w. w.now) c.as_slice.result.now = sym c.in_ok-words.ensures ∙ ap (map (λ (w : Bor (List ℕ)). w.now)) (sym c.as_slice.ensures.value) in
+    let cut : take 7 (words_in c.args.text.now) ≡ map (λ w. w.now) c.as_slice.result.now = sym c.in_ok-words.ensures ∙ ap (map (λ (w : Bor (List ℕ)). w.now)) (sym c.as_slice.ensures.value) in
     IfErr-weaker c.line_of.result (λ e. (f : Fault) → e ≡ line.Bad f → IsWordsCause (map (λ w. w.now) c.as_slice.result.now) f) (λ e. (f : Fault) → e ≡ line.Bad f → IsWordsCause (words_in c.args.text.now) f)
     (λ e h f q. let P : List (List ℕ) → Type 0 = λ ws. IsWordsCause ws f in words_cause (words_in c.args.text.now) f (subst P (sym cut) (h f q))) c.line_of.ensures.bad

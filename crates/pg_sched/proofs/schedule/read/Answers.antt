@@ -1,8 +1,11 @@
 use Rattle.std.proofs.Common.{◌≡◌, sym, ◌∙◌, ap, ◌++◌}
 use Rattle.std.proofs.lemmas.Result.{err_from_is_err_and}
 use Rattle.pg_sched.specs.Schedule.{spelling, header}
-use Rattle.pg_sched.proofs.OneReading.{stops_there, refused_there, refused_never, none_bad_in, one_schedule}
+use Rattle.pg_sched.proofs.OneReading.{header_bad, stops_there, refused_there, refused_never, none_bad_in, one_schedule}
 use Rattle.pg_sched.proofs.schedule.read.Goals as goal
+
+pub returns-in-Err-clause-bad : goal.returns-in-Err-clause-bad
+returns-in-Err-clause-bad c = header_bad c.args.text.now c.in-Err.fault c.in-Err.ensures.none c.in-Err.ensures.cause
 
 pub returns-in_err-lines-clause-complete : goal.returns-in_err-lines-clause-complete
 returns-in_err-lines-clause-complete c n lines count each same =

@@ -2,7 +2,7 @@ use Rattle.std.proofs.Common.{arith, ℕ, ◌≤◌, ◌<◌, ◌^◌, List, [],
 use Rattle.std.proofs.lemmas.List.{length-take}
 use Rattle.std.specs.List.{AllByRecursion}
 use Rattle.pg_base.specs.declared.id.FileId.{FileId}
-use Rattle.pg_base.specs.declared.version.Version.{Version}
+use Rattle.pg_content.specs.Content.{ContentValue, shown_bytes}
 use Rattle.pg_msg.specs.declared.message.Sent.{Sent}
 use Rattle.pg_msg.specs.declared.update.Update.{Update}
 use Rattle.pg_msg.specs.Sent.{summary}
@@ -11,7 +11,7 @@ use Rattle.pg_sched.specs.declared.entry.Reply.{Reply}
 use Rattle.pg_sched.specs.declared.entry.Reply.TheVariants.{Done, Wrote, Refused}
 use Rattle.pg_sched.specs.declared.entry.VoidCause.{VoidCause}
 use Rattle.pg_sched.specs.declared.line.Event.{Event}
-use Rattle.pg_sched.specs.declared.line.Event.TheVariants.{Put, Tick, Deliver, Lose, Repeat}
+use Rattle.pg_sched.specs.declared.line.Event.TheVariants.{Write, Tick, Deliver, Lose, Repeat}
 use Rattle.pg_sched.specs.declared.line.Form.{Form}
 use Rattle.pg_sched.specs.declared.line.Form.TheVariants.{Full, Short}
 use Rattle.pg_sched.specs.declared.line.Line.{Line}
@@ -43,11 +43,11 @@ ticked : (form : Form) (server : ℕ) (reply : Reply) → server < 2 ^ 32 → Is
 ticked Full server reply a b = ((a, b), tt)
 ticked Short server Done a b = tt
 ticked Short server (Wrote stamp) a b = tt
-ticked Short server (Refused refusal) a b = ((a, tt), tt)
+ticked Short server (Refused refusal) a b = ((a, b), tt)
 
 told : (form : Form) (event : Event) (reply : Option Reply) → IsTold event reply → ArePrinted (told_lines form event reply)
-told form (Put server moment file body) None h = tt
-told form (Put server moment file body) (Some reply) h = (h, tt)
+told form (Write server moment file what) None h = tt
+told form (Write server moment file what) (Some reply) h = (h, tt)
 told form (Tick server moment word) None h = tt
 told form (Tick server moment word) (Some reply) h = ticked form server reply h.0 h.1
 told form (Deliver place) reply h = tt
@@ -70,16 +70,14 @@ all_taken (suc n) (b ∷ bs) h = (h.0, all_taken n bs h.1)
 few_taken : (n : ℕ) (bs : List ℕ) → length (take n bs) ≤ n
 few_taken n bs = omega (arith, length-take n bs)
 
-shown : (server : ℕ) (file : FileId) (version : Option Version) → server < 2 ^ 32 → IsFile file → IsShown version → IsPrinted (show_line server file version)
-shown server file None fits about h = (fits, about, tt, omega arith, record { each = tt; few = omega arith })
-shown server file (Some v) fits about h =
-    let few = h.1.few in (
-      fits,
-      about,
-      h.0,
-      omega arith,
-      record { each = all_taken 16 v.body h.1.bytes; few = few_taken 16 v.body },
-    )
+shown : (server : ℕ) (file : FileId) (c : ContentValue) → server < 2 ^ 32 → IsFile file → IsShown c → IsPrinted (show_line server file c)
+shown server file c fits about h = (
+  fits,
+  about,
+  h.stamps,
+  omega arith,
+  record { each = all_taken 16 (shown_bytes c) h.bytes; few = few_taken 16 (shown_bytes c) },
+)
 
 pub returns-clause-head : goal.returns-clause-head
 returns-clause-head c = in_front

@@ -1,4 +1,4 @@
-use Rattle.pg_world.proofs.RunLaws.{ticks_send_what_is_owed}
+use Rattle.pg_world.proofs.Ticks.{ticks_send_what_is_owed}
 use Rattle.pg_world.proofs.laws.ticks_send_what_is_owed.Goals as goal
 
 pub returns : goal.returns

@@ -11,9 +11,9 @@ returns-in-Last c =
     let inside : ContentValue = record { policy = c.self.inside.policy; heads = c.self.inside.heads.items } in
     let k = c.self.inside.heads.ok.0 in
     ap bodies_of (take_rest c.deref.result.now n) ∙ ap (λ vs. bodies_of (drop n vs)) e
-    ∙ shown_last inside n c.self.invariant c.in-Last.is (omega (arith, c.len.ensures, c.saturating_sub.ensures)) ∙ ap shown_bytes c.self.view_is
+    ∙ shown_last inside n c.self.invariant.order c.in-Last.is (omega (arith, c.len.ensures, c.saturating_sub.ensures)) ∙ ap shown_bytes c.self.view_is
 
 pub returns-in-Join : goal.returns-in-Join
 returns-in-Join c =
     let inside : ContentValue = record { policy = c.self.inside.policy; heads = c.self.inside.heads.items } in
-    ap bodies_of c.as_slice.ensures.value ∙ shown_join inside c.self.invariant c.in-Join.is ∙ ap shown_bytes c.self.view_is
+    ap bodies_of c.as_slice.ensures.value ∙ shown_join inside c.self.invariant.order c.in-Join.is ∙ ap shown_bytes c.self.view_is

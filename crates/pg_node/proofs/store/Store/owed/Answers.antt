@@ -26,7 +26,7 @@ loop-file-init c =
     let S : (FileId → FileId → Ordering) → Type 0 = (λ r. IsStrictlySortedBy r (keys_of us)) in
     ap (λ (l : List Owing). slice_get l 0) (sym (sym (ap (λ (s : Store). of_files s c.into_iter-file-iterator.result) c.self.view_is)
     ∙ ap (flat_map (λ k. known_owes c.self.inside.server k (lookup (is_at (file_cmp k)) es))) (c.into_iter-file-iterator.ensures.into_iter_gives ∙ c.keys-file-items.ensures.rest)
-    ∙ listed_owes c.self.inside.server us es (subst S file_order_is c.keys-file-items.ensures.ordered) c.self.invariant
+    ∙ listed_owes c.self.inside.server us es (subst S file_order_is c.keys-file-items.ensures.ordered) c.self.invariant.index
     ∙ ap owed c.self.view_is))
 
 pub returns-in-Some-first_of_file : goal.returns-in-Some-first_of_file

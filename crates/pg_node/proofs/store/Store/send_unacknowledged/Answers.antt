@@ -23,5 +23,5 @@ loop-file-init c =
     let S : (FileId → FileId → Ordering) → Type 0 = (λ r. IsStrictlySortedBy r (keys_of us)) in
     ap (λ (l : List Sent). c.args.sent.now ++ l) (sym (ap (λ (s : Store). of_files s c.into_iter-file-iterator.result) c.self.view_is)
     ∙ ap (flat_map (λ k. known_cells c.self.inside.server k (lookup (is_at (file_cmp k)) es))) (c.into_iter-file-iterator.ensures.into_iter_gives ∙ c.keys-file-items.ensures.rest)
-    ∙ listed_cells c.self.inside.server us es (subst S file_order_is c.keys-file-items.ensures.ordered) c.self.invariant
+    ∙ listed_cells c.self.inside.server us es (subst S file_order_is c.keys-file-items.ensures.ordered) c.self.invariant.index
     ∙ ap unacknowledged_cells c.self.view_is)

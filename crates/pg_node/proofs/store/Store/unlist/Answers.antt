@@ -5,7 +5,7 @@ use Rattle.std.specs.BTreeMap.{is_at}
 use Rattle.pg_base.specs.declared.id.FileId.{FileId}
 use Rattle.pg_base.proofs.Orders.{file_order_is}
 use Rattle.pg_node.specs.Local.{Store, known}
-use Rattle.pg_node.proofs.Indexed.{index_less}
+use Rattle.pg_node.proofs.Sound.{sound_less}
 use Rattle.pg_node.proofs.store.Store.unlist.Goals as goal
 
 pub invariant_of-self : goal.invariant_of-self
@@ -14,5 +14,5 @@ invariant_of-self c =
     let us = c.self.inside.unacknowledged.entries in
     let vs = c.remove.new.self.entries in
     let P : (FileId → FileId → Ordering) → Type 0 = (λ r. (q : FileId) → lookup (is_at (r q)) vs ≡ cond (is_at (r file) q) None (lookup (is_at (r q)) us)) in
-    index_less us vs c.self.inside.replicas.entries file (subst P file_order_is c.remove.ensures.updates.0)
+    sound_less c.self.inside.last us vs c.self.inside.replicas.entries file (subst P file_order_is c.remove.ensures.updates.0)
     (λ x there. sym (c.is_clean.ensures x (sym (ap (λ (s : Store). known s file) c.self.view_is) ∙ there)) ∙ c.if-not-is_clean.false) c.self.invariant

@@ -1,4 +1,4 @@
-use Rattle.std.proofs.Common.{◌≡◌, ◌↔◌, subst, sym, ap, ◌∙◌}
+use Rattle.std.proofs.Common.{◌≡◌, ◌≤◌, ◌↔◌, subst, sym, ap, ◌∙◌, arith}
 use Rattle.pg_sched.specs.declared.quiet.Quiet.{Quiet}
 use Rattle.pg_sched.specs.declared.quiet.Quiet.TheVariants as told
 use Rattle.pg_world.specs.Quiet.{IsQuiet, quiet_of}
@@ -27,4 +27,4 @@ pub returns-clause-agree : goal.returns-clause-agree
 returns-clause-agree c quiet =
     let p = c.args.self.now in
     let is : IsQuiet p.servers (final p) = (quiet_is_told p.servers (final p)).0 (sym (returns-clause-answer c) ∙ quiet) in
-    quiet_servers_agree p.servers p.events is
+    quiet_servers_agree p.servers (let few : p.servers ≤ 64 = (let P : Played → Type 0 = (λ q. q.servers ≤ 64) in subst P c.self.view_is c.self.invariant.few) in omega arith) p.events is

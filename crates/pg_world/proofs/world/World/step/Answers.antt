@@ -11,6 +11,7 @@ invariant_of-self-2 c =
     let w = run n c.self.inside.events in
     let P : World → Type 0 = (λ x. Stands c.step.new.self x) in
     record {
+      few = c.self.invariant.few;
       count = λ e. c.in_ok-entry.ensures.count ∙ count;
       stands = λ e. subst P
           (ap (λ k. entered w (next k w c.args.event)) count ∙ sym (run_from-push n (start n) c.self.inside.events c.args.event) ∙ ap (run_from n (start n)) (sym (c.in_ok-push.ensures.ok ∙ ap (λ x. c.self.inside.events ++ x ∷ []) c.in_ok-kept.ensures)))

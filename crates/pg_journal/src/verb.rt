@@ -1,0 +1,46 @@
+//! The first words of a journal's lines.
+
+ghost use Rattle.std.specs.Prelude.{◌≡◌, ◌≢◌, IfSome, IfNone};
+ghost use Rattle.pg_journal.specs.Reading.{verb_word};
+ghost use Rattle.pg_journal.specs.declared.verb.Verb.{Verb};
+
+use pg_sched::ChangeKind;
+use pg_trace::Word;
+
+/// What a line of a journal is, as its first word tells.
+#[derive(Clone, Copy, Debug, PartialEq, Eq)]
+pub(crate) enum Verb {
+    Event,
+    Write(ChangeKind),
+    Tick,
+    Void,
+    Made,
+    Sent,
+    Asked(Word),
+    Show,
+}
+
+impl Verb {
+    /// The verb that the word is.
+    pub(crate) fn read(word: &[u8]) -> Option<Verb>
+        ensures found { IfSome result (λ v. word.now ≡ verb_word v) }
+        ensures none { IfNone result ((v : Verb) → word.now ≢ verb_word v) }
+    {
+        let verb = match word {
+            b"event" => Verb::Event,
+            b"put" => Verb::Write(ChangeKind::Put),
+            b"patch" => Verb::Write(ChangeKind::Patch),
+            b"trim" => Verb::Write(ChangeKind::Trim),
+            b"tick" => Verb::Tick,
+            b"void" => Verb::Void,
+            b"made" => Verb::Made,
+            b"sent" => Verb::Sent,
+            b"settle" => Verb::Asked(Word::Settle),
+            b"quiet" => Verb::Asked(Word::Quiet),
+            b"end" => Verb::Asked(Word::End),
+            b"at" => Verb::Show,
+            _ => return None,
+        };
+        Some(verb)
+    }
+}
