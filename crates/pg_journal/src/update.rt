@@ -16,7 +16,7 @@ use std::alloc::{AllocError, Global};
 
 /// The words of a version that was made, without those that stand in each such line.
 #[derive(Clone, Copy, Debug)]
-struct MadeParts<'a> {
+struct VersionWords<'a> {
     file: &'a [u8],
     stamp: &'a [u8],
     bases: &'a [u8],
@@ -63,7 +63,7 @@ fn ranges_of(
 }
 
 /// The version of these words.
-fn version_of(alloc: Global, words: &MadeParts) -> Result<Option<Update>, AllocError>
+fn version_of(alloc: Global, words: &VersionWords) -> Result<Option<Update>, AllocError>
     ensures found { IfOk result (λ o. IfSome o (λ u. IsUpdate u × (update_words words.now.file.now words.now.stamp.now words.now.bases.now words.now.keep.now words.now.least.now words.now.parts.now ≡ update_spelling u))) }
     ensures none { IfOk result (λ o. IfNone o ((u : Update) → IsUpdate u → update_words words.now.file.now words.now.stamp.now words.now.bases.now words.now.keep.now words.now.least.now words.now.parts.now ≡ update_spelling u → ⊥)) }
 {
@@ -102,7 +102,7 @@ fn are_ranges(keep: &[u8], least: &[u8], parts: &[u8]) -> bool
 }
 
 /// The words that tell of a version, where the others stand between them as they do in each line.
-fn made_parts<'a>(words: &[&'a [u8]]) -> Option<MadeParts<'a>>
+fn version_words<'a>(words: &[&'a [u8]]) -> Option<VersionWords<'a>>
     ensures found { IfSome result (λ x. map (λ w. w.now) words.now ≡ update_words x.file.now x.stamp.now x.bases.now x.keep.now x.least.now x.parts.now) }
     ensures none { IfNone result ((f s b k l p : List ℕ) → map (λ w. w.now) words.now ≡ update_words f s b k l p → ⊥) }
 {
@@ -112,11 +112,11 @@ fn made_parts<'a>(words: &[&'a [u8]]) -> Option<MadeParts<'a>>
         stamp,
         from,
         bases,
-        keeping,
+        keep_name,
         keep,
-        leaving,
+        least_name,
         least,
-        laying,
+        parts_name,
         parts,
     ] = words
     else {
@@ -125,10 +125,10 @@ fn made_parts<'a>(words: &[&'a [u8]]) -> Option<MadeParts<'a>>
     if !is_version(version, from) {
         return None;
     }
-    if !are_ranges(keeping, leaving, laying) {
+    if !are_ranges(keep_name, least_name, parts_name) {
         return None;
     }
-    Some(MadeParts {
+    Some(VersionWords {
         file: *file,
         stamp: *stamp,
         bases: *bases,
@@ -143,9 +143,9 @@ pub(crate) fn update_of(alloc: Global, words: &[&[u8]]) -> Result<Option<Update>
     ensures found { IfOk result (λ o. IfSome o (λ u. IsUpdate u × (map (λ w. w.now) words.now ≡ update_spelling u))) }
     ensures none { IfOk result (λ o. IfNone o ((u : Update) → IsUpdate u → map (λ w. w.now) words.now ≡ update_spelling u → ⊥)) }
 {
-    let Some(parts) = made_parts(words) else {
+    let Some(words) = version_words(words) else {
         return Ok(None);
     };
-    let found = version_of(alloc, &parts)?;
+    let found = version_of(alloc, &words)?;
     Ok(found)
 }

@@ -1,6 +1,6 @@
 use Rattle.std.proofs.Common.{arith, []}
 use Rattle.pg_journal.proofs.WordPlaces.{eleven}
-use Rattle.pg_journal.proofs.update.made_parts.Goals as goal
+use Rattle.pg_journal.proofs.update.version_words.Goals as goal
 
 pub returns-clause-found : goal.returns-clause-found
 returns-clause-found c =
