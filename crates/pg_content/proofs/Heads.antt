@@ -127,8 +127,8 @@ parted vs s order i j d up lt h = before_upto (get_or vs i d).head.stamp (get_or
 
 -- ---- the head of a stamp
 
-before_itself : (s t : Stamp) → is_before s t ≡ true → s ≡ t → ⊥
-before_itself s t h e = let P : Stamp → Type 0 = λ x. is_before x t ≡ true in let f : is_before t t ≡ true = subst P e h in grind (arith, nat_tests)
+pub not_before_itself : (s t : Stamp) → is_before s t ≡ true → s ≡ t → ⊥
+not_before_itself s t h e = let P : Stamp → Type 0 = λ x. is_before x t ≡ true in let f : is_before t t ≡ true = subst P e h in grind (arith, nat_tests)
 
 one_more : (n : ℕ) → suc n ≡ 1 + n
 one_more n = omega arith
@@ -181,8 +181,8 @@ after_differs : (v w : VersionValue) (s : Stamp) → is_before v.head.stamp s �
 after_differs v w s from other le same = other (UpTo-same v.head.stamp s (subst (λ x. UpTo v.head.stamp x) same le) (is_before-false v.head.stamp s from))
 
 decides_behind : (v : VersionValue) (vs : List VersionValue) (s : Stamp) (o : Option VersionValue) → is_before v.head.stamp s ≡ true → Decides vs s o → Decides (v ∷ vs) s o
-decides_behind v vs s None before h = head_later v vs s (λ e. before_itself v.head.stamp s before (sym e)) ∙ h
-decides_behind v vs s (Some w) before h = let e = head_later v vs s (λ e. before_itself v.head.stamp s before (sym e)) in (λ same. e ∙ h.0 same, λ other. e ∙ h.1 other)
+decides_behind v vs s None before h = head_later v vs s (λ e. not_before_itself v.head.stamp s before (sym e)) ∙ h
+decides_behind v vs s (Some w) before h = let e = head_later v vs s (λ e. not_before_itself v.head.stamp s before (sym e)) in (λ same. e ∙ h.0 same, λ other. e ∙ h.1 other)
 
 decides_here : (v : VersionValue) (vs : List VersionValue) (s : Stamp) → is_before v.head.stamp s ≡ false → After v vs → Decides (v ∷ vs) s (Some v)
 decides_here v vs s from after = (

@@ -1,4 +1,4 @@
--- Indexes of heads: what all heads know, which head a number covers, and a version more.
+-- Indexes of heads: what all heads know, whether an entry covers one of them, and what a version more makes of the index.
 use Rattle.std.proofs.Common.{◌≡◌, ℕ, zero, suc, ◌+◌, ◌<◌, ◌≤◌, max, min, Bool, true, false, cond, not, nat_le, ◌||◌, ◌&&◌, None, Some, Option, IfSome, Result, Ok, Err, IfOk, List, [], ◌∷◌, ◌++◌, length, map, take, drop, inl, inr, refl, sym, ap, subst, ◌∙◌, arith}
 use Rattle.std.specs.declared.alloc.AllocError.{AllocError}
 use Rattle.std.specs.Result.{result_ok}
@@ -26,11 +26,11 @@ use Rattle.pg_content.specs.Index.{has_upto, covers_least, covers_found, is_from
 
 -- ---- what all versions know
 
-abbrev pub vectors : List VersionValue → List (List Entry)
+abbrev vectors : List VersionValue → List (List Entry)
 vectors vs = map (λ v. v.head.vector) vs
 
 -- the greatest number of the actor that one of the versions knows
-abbrev pub greatest : List VersionValue → Actor → ℕ
+abbrev greatest : List VersionValue → Actor → ℕ
 greatest [] q = 0
 greatest (v ∷ vs) q = max (number_at v.head.vector q) (greatest vs q)
 
@@ -41,10 +41,10 @@ folded (v ∷ vs) start is sound =
     let rest = folded vs (joined start v.head.vector) (IsVector-joined start v.head.vector is first) (All-tail IsSound v vs sound) in
     (rest.0, λ q. omega (arith, rest.1 q, number_at-joined start v.head.vector is q))
 
-pub all_vector : (vs : List VersionValue) → All IsSound vs → IsVector (joined_all (vectors vs))
+all_vector : (vs : List VersionValue) → All IsSound vs → IsVector (joined_all (vectors vs))
 all_vector vs sound = (folded vs [] (IsVector-nil [] refl) sound).0
 
-pub all_number : (vs : List VersionValue) → All IsSound vs → (q : Actor) → number_at (joined_all (vectors vs)) q ≡ greatest vs q
+all_number : (vs : List VersionValue) → All IsSound vs → (q : Actor) → number_at (joined_all (vectors vs)) q ≡ greatest vs q
 all_number vs sound q =
     let all = (folded vs [] (IsVector-nil [] refl) sound).1 q in
     let none : number_at [] q ≡ 0 = refl in
@@ -52,8 +52,13 @@ all_number vs sound q =
 
 -- ---- a version more
 
+first_second : (a b c : Bool) → (a || (b || c)) ≡ (b || (a || c))
+first_second true true c = refl
+first_second true false c = refl
+first_second false b c = refl
+
 module _ (v : VersionValue) where
-  pub sound_between : (front back : List VersionValue) → All IsSound (front ++ back) → IsSound v → All IsSound (front ++ v ∷ back)
+  sound_between : (front back : List VersionValue) → All IsSound (front ++ back) → IsSound v → All IsSound (front ++ v ∷ back)
   sound_between [] back sound one = All-cons IsSound v back one sound
   sound_between (w ∷ front) back sound one = All-cons IsSound w (front ++ v ∷ back) (All-head IsSound w (front ++ back) sound) (sound_between front back (All-tail IsSound w (front ++ back) sound) one)
 
@@ -61,17 +66,12 @@ module _ (v : VersionValue) where
   greatest_between [] back q = refl
   greatest_between (w ∷ front) back q = omega (arith, greatest_between front back q)
 
-  any_by : (test : VersionValue → Bool) (a b c : Bool) → (a || (b || c)) ≡ (b || (a || c))
-  any_by test true true c = refl
-  any_by test true false c = refl
-  any_by test false b c = refl
-
   any_between : (test : VersionValue → Bool) (front back : List VersionValue) → list_any test (front ++ v ∷ back) ≡ (test v || list_any test (front ++ back))
   any_between test [] back = refl
-  any_between test (w ∷ front) back = ap (λ b. test w || b) (any_between test front back) ∙ any_by test (test w) (test v) (list_any test (front ++ back))
+  any_between test (w ∷ front) back = ap (λ b. test w || b) (any_between test front back) ∙ first_second (test w) (test v) (list_any test (front ++ back))
 
 -- the index of some versions, raised to what one more knows and lowered to its number, is that of all of these
-pub added : (old new : IndexValue) (v : VersionValue) (front back : List VersionValue) → IsSound v → new.known ≡ joined v.head.vector old.known → ((e : Entry) → covers_least new.least e ≡ (covers_by_entry e v || covers_least old.least e))
+added : (old new : IndexValue) (v : VersionValue) (front back : List VersionValue) → IsSound v → new.known ≡ joined v.head.vector old.known → ((e : Entry) → covers_least new.least e ≡ (covers_by_entry e v || covers_least old.least e))
     → IsIndex old (front ++ back) → IsIndex new (front ++ v ∷ back)
 added old new v front back one knows lowers is =
     let vs = front ++ back in
@@ -142,28 +142,28 @@ covered_greatest v [] q n = let m = number_at v.head.vector q in grind (arith, n
 covered_greatest v (w ∷ vs) q n =
     ap (λ b. nat_le n (number_at v.head.vector q) || b) (covered_greatest w vs q n) ∙ upto_either n (number_at v.head.vector q) (greatest (w ∷ vs) q)
 
-pub covered_by_index : (i : IndexValue) (vs : List VersionValue) → IsIndex i vs → 0 < length vs → (q : Actor) (n : ℕ) → is_covered vs q n ≡ nat_le n (number_at i.known q)
+covered_by_index : (i : IndexValue) (vs : List VersionValue) → IsIndex i vs → 0 < length vs → (q : Actor) (n : ℕ) → is_covered vs q n ≡ nat_le n (number_at i.known q)
 covered_by_index i [] is some q n = absurd (omega arith)
 covered_by_index i (v ∷ vs) is some q n =
     covered_greatest v vs q n ∙ ap (nat_le n) (sym (all_number (v ∷ vs) is.sound q) ∙ ap (λ es. number_at es q) (sym is.all))
 
 -- ---- heads that a vector covers
 
+middle_ones : (a b c d : Bool) → ((a || b) || (c || d)) ≡ ((a || c) || (b || d))
+middle_ones true b c d = refl
+middle_ones false true true d = refl
+middle_ones false true false d = refl
+middle_ones false false c d = refl
+
+any_none : {B : Type 0} (ys : List B) → list_any (λ y. false) ys ≡ false
+any_none [] = refl
+any_none (y ∷ ys) = any_none ys
+
+any_either : {B : Type 0} (p q : B → Bool) (ys : List B) → (list_any p ys || list_any q ys) ≡ list_any (λ y. p y || q y) ys
+any_either p q [] = refl
+any_either p q (y ∷ ys) = middle_ones (p y) (list_any p ys) (q y) (list_any q ys) ∙ ap (λ b. (p y || q y) || b) (any_either p q ys)
+
 module _ {A B : Type 0} (test : A → B → Bool) where
-  any_none : (ys : List B) → list_any (λ y. false) ys ≡ false
-  any_none [] = refl
-  any_none (y ∷ ys) = any_none ys
-
-  either_by : (a b c d : Bool) → ((a || b) || (c || d)) ≡ ((a || c) || (b || d))
-  either_by true b c d = refl
-  either_by false true true d = refl
-  either_by false true false d = refl
-  either_by false false c d = refl
-
-  any_either : (p q : B → Bool) (ys : List B) → (list_any p ys || list_any q ys) ≡ list_any (λ y. p y || q y) ys
-  any_either p q [] = refl
-  any_either p q (y ∷ ys) = either_by (p y) (list_any p ys) (q y) (list_any q ys) ∙ ap (λ b. (p y || q y) || b) (any_either p q ys)
-
   -- whichever of the two lists is gone through first
   any_swapped : (xs : List A) (ys : List B) → list_any (λ x. list_any (test x) ys) xs ≡ list_any (λ y. list_any (λ x. test x y) xs) ys
   any_swapped [] ys = sym (any_none ys)
@@ -174,18 +174,18 @@ entry_by true n m k rest some none same = let e = none refl in let f : rest ≡ 
 entry_by false n m k rest some none same = same
 
 -- an entry of the vector is the actor's and has the number, exactly where the vector covers the number
-covered_entry : (es : List Entry) (b : Actor) (n : ℕ) → IsVector es → 0 < n → list_any (λ e. is_from b n e) es ≡ nat_le n (number_at es b)
+covered_entry : (es : List Entry) (b : Actor) (n : ℕ) → IsVector es → 0 < n → list_any (is_from b n) es ≡ nat_le n (number_at es b)
 covered_entry [] b n is some = let none : number_at [] b ≡ 0 = refl in grind (arith, nat_tests)
 covered_entry (e ∷ es) b n is some =
-    ap (λ t. (t && nat_le n e.1) || list_any (λ x. is_from b n x) es) ((eq_by_cmp_equiv actor_total).symm e.0 b)
-    ∙ entry_by (eq_by_cmp actor_cmp b e.0) n e.1 (number_at es b) (list_any (λ x. is_from b n x) es) some (λ t. ap (number_at es) (tells_apart actor_exact b e.0 t) ∙ number_at-above e.0 es (Above-tail e es is)) (covered_entry es b n (IsVector-tail e es is) some)
+    ap (λ t. (t && nat_le n e.1) || list_any (is_from b n) es) ((eq_by_cmp_equiv actor_total).symm e.0 b)
+    ∙ entry_by (eq_by_cmp actor_cmp b e.0) n e.1 (number_at es b) (list_any (is_from b n) es) some (λ t. ap (number_at es) (tells_apart actor_exact b e.0 t) ∙ number_at-above e.0 es (Above-tail e es is)) (covered_entry es b n (IsVector-tail e es is) some)
     ∙ ap (nat_le n) (sym (number_at-cons b e es))
 
 covered_heads : (es : List Entry) (vs : List VersionValue) → IsVector es → All IsSound vs → list_any (λ v. list_any (λ e. covers_by_entry e v) es) vs ≡ list_any (covers_version es) vs
 covered_heads es [] is sound = refl
 covered_heads es (v ∷ vs) is sound = λ i. covered_entry es (actor_of v.head) v.head.number is (All-head IsSound v vs sound).some i || covered_heads es vs is (All-tail IsSound v vs sound) i
 
-pub some_covered : (i : IndexValue) (vs : List VersionValue) (es : List Entry) → IsIndex i vs → IsVector es → list_any (covers_least i.least) es ≡ list_any (covers_version es) vs
+some_covered : (i : IndexValue) (vs : List VersionValue) (es : List Entry) → IsIndex i vs → IsVector es → list_any (covers_least i.least) es ≡ list_any (covers_version es) vs
 some_covered i vs es is vector = ap (λ f. list_any f es) (fun_ext is.some) ∙ any_swapped covers_by_entry es vs ∙ covered_heads es vs vector is.sound
 
 -- what is left of the entries
@@ -206,7 +206,7 @@ none_kept test [] h = refl
 none_kept test (v ∷ vs) h = kept_by v vs (filter (λ w. not (test w)) vs) (test v) (list_any test vs) h (none_kept test vs)
 
 -- a version in its place among these
-pub placed_index : (i : IndexValue) (v : VersionValue) (vs : List VersionValue) → ((front back : List VersionValue) → vs ≡ front ++ back → IsIndex i (front ++ v ∷ back)) → IsIndex i (placed stamp_of v vs)
+placed_index : (i : IndexValue) (v : VersionValue) (vs : List VersionValue) → ((front back : List VersionValue) → vs ≡ front ++ back → IsIndex i (front ++ v ∷ back)) → IsIndex i (placed stamp_of v vs)
 placed_index i v vs of = subst (IsIndex i) (insert_placed stamp_of v.head.stamp v vs (position_or_len (stops stamp_of v.head.stamp) vs) refl refl) (of (take (position_or_len (stops stamp_of v.head.stamp) vs) vs) (drop (position_or_len (stops stamp_of v.head.stamp) vs) vs) (sym (take-append-drop (position_or_len (stops stamp_of v.head.stamp) vs) vs)))
 
 -- no version knows more than all of them, and they no more than one of them
@@ -218,13 +218,13 @@ greatest_below (v ∷ vs) q n some below =
     let rest = greatest_below vs q n some (All-tail P v vs below) in
     omega arith
 
-pub known_below : (i : IndexValue) (vs : List VersionValue) → IsIndex i vs → (q : Actor) (n : ℕ) → 0 < n → All (λ v. number_at v.head.vector q < n) vs → number_at i.known q < n
+known_below : (i : IndexValue) (vs : List VersionValue) → IsIndex i vs → (q : Actor) (n : ℕ) → 0 < n → All (λ v. number_at v.head.vector q < n) vs → number_at i.known q < n
 known_below i vs is q n some below = let e = ap (λ es. number_at es q) is.all ∙ all_number vs is.sound q in let most = greatest_below vs q n some below in omega arith
 
 -- ---- a content's index
 
 module _ (o : Option IndexValue) (i : IndexValue) (inside vs : List VersionValue) (view : inside ≡ vs) where
-  pub index_is : IfSome o (λ x. IsIndex x inside) → o ≡ Some i → IsIndex i vs
+  index_is : IfSome o (λ x. IsIndex x inside) → o ≡ Some i → IsIndex i vs
   index_is h e =
       let P : Option IndexValue → Type 0 = λ p. IfSome p (λ x. IsIndex x inside) in
       subst (IsIndex i) view (subst P e h)

@@ -107,9 +107,6 @@ before_trans a b c p q = elim p [
   | inr x ↦ (let e = x.0 in elim q [ inl y ↦ inl (omega arith) | inr y ↦ inr (let f = y.0 in omega arith, (let g = x.1 in let i = y.1 in omega arith)) ])
 ]
 
-not_before_itself : (s t : Stamp) → is_before s t ≡ true → s ≡ t → ⊥
-not_before_itself s t h e = let P : Stamp → Type 0 = λ x. is_before x t ≡ true in let f : is_before t t ≡ true = subst P e h in grind (arith, nat_tests)
-
 order_by : (v w : VersionValue) (ws : List VersionValue) (b : Bool) → is_before w.head.stamp v.head.stamp ≡ b → (v.head.stamp ≡ w.head.stamp → ⊥) → InStrictOrder (w ∷ ws) → InStrictOrder (placed stamp_of v ws) → InStrictOrder (cond b (w ∷ placed stamp_of v ws) (v ∷ w ∷ ws))
 order_by v w ws true e other h k =
     let first : Before w v = before_is w.head.stamp v.head.stamp (is_before-true w.head.stamp v.head.stamp e) (λ q. other (sym q)) in (

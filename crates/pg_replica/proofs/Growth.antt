@@ -16,7 +16,7 @@ use Rattle.pg_base.specs.Version.{VersionValue, actor_of, stamp_of}
 use Rattle.pg_content.specs.Shown.{placed}
 use Rattle.pg_content.specs.Content.{Among, covers_version, put_version, joined_all, next_vector, next_version}
 use Rattle.pg_content.specs.StandsFor.{InStrictOrder}
-use Rattle.pg_content.proofs.Heads.{covered_is}
+use Rattle.pg_content.proofs.Heads.{covered_is, not_before_itself}
 use Rattle.pg_content.proofs.Ancestry.{more_covers}
 use Rattle.pg_flood.specs.Server.{Holds, HoldsAll}
 use Rattle.pg_replica.specs.declared.replica.Replica.{Replica}
@@ -33,11 +33,8 @@ CoversItself v = IsUpTo v v
 
 -- ---- the cell of the version that came
 
-before_differs : (s t : Stamp) → is_before s t ≡ true → s ≡ t → ⊥
-before_differs s t h e = let P : Stamp → Type 0 = λ x. is_before x t ≡ true in let f : is_before t t ≡ true = subst P e h in grind (arith, nat_tests)
-
 differs_by : (v w : VersionValue) (b : Bool) → is_same_key (key_of v) (key_of w) ≡ b → is_before w.head.stamp v.head.stamp ≡ true → b ≡ false
-differs_by v w true e h = absurd (before_differs w.head.stamp v.head.stamp h (sym (same_stamp v.head.stamp w.head.stamp (is_same_key-true (key_of v) (key_of w) e))))
+differs_by v w true e h = absurd (not_before_itself w.head.stamp v.head.stamp h (sym (same_stamp v.head.stamp w.head.stamp (is_same_key-true (key_of v) (key_of w) e))))
 differs_by v w false e h = refl
 
 own_by : (v w : VersionValue) (ws : List VersionValue) (b : Bool) → is_before w.head.stamp v.head.stamp ≡ b → cell_at (placed stamp_of v ws) (key_of v) ≡ Some v → cell_at (cond b (w ∷ placed stamp_of v ws) (v ∷ w ∷ ws)) (key_of v) ≡ Some v
