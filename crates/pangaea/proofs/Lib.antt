@@ -1,1 +1,3 @@
-pub mod Events
+pub mod Settled
+pub mod Gone
+pub mod Lines

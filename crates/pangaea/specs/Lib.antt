@@ -1,4 +1,6 @@
 pub mod Settling
 pub mod Text
+pub mod Going
+pub mod Ending
 pub mod Laws
 pub mod Written

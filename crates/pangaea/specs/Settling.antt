@@ -1,26 +1,29 @@
 -- Which events a line stands for.
 use Rattle.std.specs.Prelude.{ℕ, if◌then◌else◌, List, [], ◌∷◌, ◌++◌, zero, suc}
-use Rattle.pg_sched.specs.declared.line.Event.{Event}
-use Rattle.pg_sched.specs.declared.line.Event.TheVariants.{Tick, Deliver}
+use Rattle.pg_event.specs.declared.event.Event.{Event}
+use Rattle.pg_event.specs.declared.event.Event.TheVariants.{Tick, Deliver}
 use Rattle.pg_sched.specs.declared.line.Line.{Line}
 use Rattle.pg_sched.specs.declared.line.Line.TheVariants as line
-use Rattle.pg_sched.specs.declared.quiet.Quiet.{Quiet}
-use Rattle.pg_sched.specs.declared.quiet.Quiet.TheVariants as quiet
-use Rattle.pg_world.specs.Journal.{bag}
-use Rattle.pg_world.specs.Quiet.{has_some, quiet_of}
-use Rattle.pg_world.specs.Run.{World, next, entered, run_from}
+use Rattle.pg_event.specs.declared.quiet.Quiet.{Quiet}
+use Rattle.pg_event.specs.declared.quiet.Quiet.TheVariants as quiet
+use Rattle.pg_node.specs.Journal.{bag}
+use Rattle.pg_node.specs.Quiet.{has_some, quiet_of}
+use Rattle.pg_node.specs.Run.{World, next, world_after, run_from}
 
 -- how many messages one round delivers at most
 abbrev pub most_deliveries : ℕ
 most_deliveries = 100000
 
 abbrev pub after_event : ℕ → World → Event → World
-after_event servers w event = entered w (next servers w event)
+after_event servers w event = world_after w (next servers w event)
 
 -- the first message is delivered until none is under way, at most so many times
 abbrev pub deliveries : ℕ → World → ℕ → List Event
 deliveries servers w zero = []
-deliveries servers w (suc k) = if has_some (bag w.journal) then Deliver 1 ∷ deliveries servers (after_event servers w (Deliver 1)) k else []
+deliveries servers w (suc k) =
+    if has_some (bag w.journal)
+    then Deliver 1 ∷ deliveries servers (after_event servers w (Deliver 1)) k
+    else []
 
 -- the first servers tick, each at this moment and with the word 0
 abbrev pub ticks : ℕ → ℕ → List Event
@@ -36,14 +39,19 @@ unless_quiet (quiet.Waits cause) events = events
 abbrev pub delivered : ℕ → ℕ → World → World
 delivered servers most w = run_from servers w (deliveries servers w most)
 
--- at most so many rounds, each with at most so many deliveries: all is delivered, and where the run is not quiet then,
--- each server ticks and a further round follows
+-- the world behind the deliveries of a round and a tick of each server
+abbrev pub ticked : ℕ → ℕ → ℕ → World → World
+ticked servers most moment w =
+    run_from servers (delivered servers most w) (ticks moment servers)
+
+-- at most so many rounds, each with at most so many deliveries: all is delivered, and where the run
+-- is not quiet then, each server ticks and a further round follows
 abbrev pub settling : ℕ → ℕ → ℕ → World → ℕ → List Event
 settling servers most moment w zero = []
 settling servers most moment w (suc k) =
     deliveries servers w most
     ++ unless_quiet (quiet_of servers (delivered servers most w))
-    (ticks moment servers ++ settling servers most moment (run_from servers (delivered servers most w) (ticks moment servers)) k)
+    (ticks moment servers ++ settling servers most moment (ticked servers most moment w) k)
 
 -- the events that a line stands for
 abbrev pub events_of : ℕ → World → Line → List Event
@@ -63,4 +71,5 @@ after_lines servers w (line ∷ lines) = after_lines servers (after_line servers
 -- the events of all lines, one behind the other
 abbrev pub all_events : ℕ → World → List Line → List Event
 all_events servers w [] = []
-all_events servers w (line ∷ lines) = events_of servers w line ++ all_events servers (after_line servers w line) lines
+all_events servers w (line ∷ lines) =
+    events_of servers w line ++ all_events servers (after_line servers w line) lines

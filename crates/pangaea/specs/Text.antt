@@ -1,22 +1,27 @@
 -- What is written of a run.
 use Rattle.std.specs.Prelude.{ℕ, ◌+◌, List, [], ◌∷◌, ◌++◌, zero, suc}
 use Rattle.pg_base.specs.declared.id.FileId.{FileId}
-use Rattle.pg_sched.specs.declared.line.Event.{Event}
+use Rattle.pg_content.specs.Content.{ContentValue}
+use Rattle.pg_event.specs.declared.event.Event.{Event}
 use Rattle.pg_sched.specs.declared.line.Form.{Form}
 use Rattle.pg_sched.specs.declared.line.Form.TheVariants.{Short}
 use Rattle.pg_sched.specs.declared.line.Line.{Line}
 use Rattle.pg_sched.specs.declared.line.Line.TheVariants as line
 use Rattle.pg_trace.specs.Text.{entry_text, head_text, show_text, quiet_text}
 use Rattle.pg_trace.specs.declared.printed.Word.TheVariants as word
-use Rattle.pg_world.specs.Journal.{taken, state_of}
-use Rattle.pg_world.specs.Run.{World, next, start}
-use Rattle.pg_world.specs.Quiet.{quiet_of}
+use Rattle.pg_node.specs.Journal.{taken, state_of}
+use Rattle.pg_node.specs.Run.{World, next, start}
+use Rattle.pg_node.specs.Quiet.{quiet_of}
 use Rattle.pangaea.specs.Settling.{after_event, most_deliveries, settling, after_line}
 
--- what the first servers show, in increasing order: of each the state of exactly the versions that it took
+-- the state of exactly the versions of a file that a server took
+abbrev pub state_at : World → FileId → ℕ → ContentValue
+state_at w file server = state_of file w.journal (taken server file w.journal)
+
+-- what the first servers show of a file, in increasing order
 abbrev pub shows_text : World → FileId → ℕ → List ℕ
 shows_text w file zero = []
-shows_text w file (suc k) = shows_text w file k ++ show_text (suc k) file (state_of file w.journal (taken (suc k) file w.journal))
+shows_text w file (suc k) = shows_text w file k ++ show_text (suc k) file (state_at w file (suc k))
 
 abbrev pub event_text : ℕ → ℕ → Form → World → Event → List ℕ
 event_text servers number form w event = entry_text number form (next servers w event).entry
@@ -25,12 +30,16 @@ event_text servers number form w event = entry_text number form (next servers w 
 abbrev pub inner_text : ℕ → ℕ → Form → World → List Event → List ℕ
 inner_text servers number form w [] = []
 inner_text servers number form w (event ∷ events) =
-    head_text number form (line.Happens event) ++ (event_text servers number form w event ++ inner_text servers number form (after_event servers w event) events)
+    head_text number form (line.Happens event)
+    ++ (event_text servers number form w event
+    ++ inner_text servers number form (after_event servers w event) events)
 
--- in full form the line itself stands in front of its output. A line that sets the form writes nothing
+-- in full form the line itself stands in front of its output. A line that sets the form writes
+-- nothing
 abbrev pub line_head : ℕ → Form → Line → List ℕ
 line_head number form (line.Happens event) = head_text number form (line.Happens event)
-line_head number form (line.Settle rounds moment) = head_text number form (line.Settle rounds moment)
+line_head number form (line.Settle rounds moment) =
+    head_text number form (line.Settle rounds moment)
 line_head number form (line.Show file) = head_text number form (line.Show file)
 line_head number form line.Quiet = head_text number form line.Quiet
 line_head number form (line.Trace next) = []
@@ -39,13 +48,15 @@ line_head number form (line.Trace next) = []
 abbrev pub output_text : ℕ → ℕ → Form → World → Line → List ℕ
 output_text servers number form w (line.Happens event) = event_text servers number form w event
 output_text servers number form w (line.Settle rounds moment) =
-    inner_text servers number form w (settling servers most_deliveries moment w rounds) ++ quiet_text word.Settle (quiet_of servers (after_line servers w (line.Settle rounds moment)))
+    inner_text servers number form w (settling servers most_deliveries moment w rounds)
+    ++ quiet_text word.Settle (quiet_of servers (after_line servers w (line.Settle rounds moment)))
 output_text servers number form w (line.Show file) = shows_text w file servers
 output_text servers number form w line.Quiet = quiet_text word.Quiet (quiet_of servers w)
 output_text servers number form w (line.Trace next) = []
 
 abbrev pub line_output : ℕ → ℕ → Form → World → Line → List ℕ
-line_output servers number form w line = line_head number form line ++ output_text servers number form w line
+line_output servers number form w line =
+    line_head number form line ++ output_text servers number form w line
 
 -- the form from the next line on
 abbrev pub form_from : Form → Line → Form
@@ -55,11 +66,13 @@ form_from form (line.Show file) = form
 form_from form line.Quiet = form
 form_from form (line.Trace next) = next
 
--- the text of a journal, from the line with this number on; at its end it is told whether all is done
+-- the text of a journal, from the line with this number on; at its end it is told whether all is
+-- done
 abbrev pub journal_text : ℕ → ℕ → Form → World → List Line → List ℕ
 journal_text servers number form w [] = quiet_text word.End (quiet_of servers w)
 journal_text servers number form w (line ∷ lines) =
-    line_output servers number form w line ++ journal_text servers (number + 1) (form_from form line) (after_line servers w line) lines
+    line_output servers number form w line
+    ++ journal_text servers (number + 1) (form_from form line) (after_line servers w line) lines
 
 -- what is written for a schedule: its first line has number 1, and the form is short at first
 abbrev pub text_of : ℕ → List Line → List ℕ

@@ -5,11 +5,15 @@ use Rattle.std.specs.Global.{Global}
 use Rattle.std.specs.Io.KnownBytes.{Appends}
 use Rattle.pg_sched.specs.declared.line.Line.{Line}
 use Rattle.pg_sched.specs.Schedule.{spelling, IsCount, AreLines}
+use Rattle.pangaea.specs.declared.command.TheConstants.{LIMIT}
 use Rattle.pangaea.specs.Text.{text_of}
 
--- the most bytes that an input may have
+-- the most bytes that an input may have. A clause of `run` says which number it is
 abbrev pub most_input : ℕ
-most_input = 67108864
+most_input = LIMIT
+
+abbrev pub IsTooLong : List ℕ → Type 0
+IsTooLong input = most_input < length input
 
 -- the input spells a schedule, and P holds of the text of the schedule's run
 pub record IsTextOf (input : List ℕ) (P : List ℕ → Type 0) : Type 0 where
@@ -24,9 +28,15 @@ pub record IsTextOf (input : List ℕ) (P : List ℕ → Type 0) : Type 0 where
 abbrev pub WritesAll : Option (List ℕ) → Option (List ℕ) → Option (List ℕ) → Type 0
 WritesAll input before after = IfSome input (λ bytes. IsTextOf bytes (Appends before after))
 
--- the same of a front of that text
-abbrev pub WritesFront : Option (List ℕ) → Option (List ℕ) → Option (List ℕ) → Type 0
-WritesFront input before after = IfSome input (λ bytes. IsTextOf bytes (λ text. (n : ℕ) × (n < length text) × Appends before after (take n text)))
+-- of that text a prefix that is not the whole
+abbrev pub AppendsPrefix : Option (List ℕ) → Option (List ℕ) → List ℕ → Type 0
+AppendsPrefix before after text =
+    (n : ℕ) × (n < length text) × Appends before after (take n text)
+
+-- the same of a prefix of that text
+abbrev pub WritesPrefix : Option (List ℕ) → Option (List ℕ) → Option (List ℕ) → Type 0
+WritesPrefix input before after =
+    IfSome input (λ bytes. IsTextOf bytes (AppendsPrefix before after))
 
 -- the input is known, spells a schedule, and is not too long
 pub record IsGoodInput (input : Option (List ℕ)) : Type 0 where
@@ -42,7 +52,8 @@ Words = Vec (String Global) Global
 
 -- the word behind the program's name is `replay`
 abbrev pub FirstIsReplay : Words → Type 0
-FirstIsReplay words = IsSomeAnd (slice_get words.items 1) (λ word. string_bytes word ≡ codes "replay")
+FirstIsReplay words =
+    IsSomeAnd (slice_get words.items 1) (λ word. string_bytes word ≡ codes "replay")
 
 -- and there is no further word
 pub record AreGoodWords (words : Words) : Type 0 where

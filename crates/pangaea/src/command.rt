@@ -4,37 +4,58 @@ ghost use Rattle.std.specs.Prelude.{◌≡◌, ◌≢◌, ◌<◌, ◌≤◌, �
 ghost use Rattle.std.specs.Io.KnownBytes.{IsAtEnd};
 ghost use Rattle.pg_io.specs.Causes.{Rose};
 ghost use Rattle.pg_sched.specs.Schedule.{IsFirstBad};
-ghost use Rattle.pg_sched.specs.declared.fault.Fault.{Fault};
-ghost use Rattle.pg_world.specs.Laws.{AncestryByVectors, CarriesHistory, ClockEndsFirst, HoldsWhatItTook, MakesHistories, OneVersionAStamp, QuietIsTold, QuietServersAgree, StateIsDetermined, StateIsItsHeads, TakesWhatCame, TicksSendWhatIsOwed};
+ghost use Rattle.pg_event.specs.declared.fault.Fault.{Fault};
+ghost use Rattle.pg_node.specs.Laws.{AncestryByVectors, CarriesHistory, ClockEndsFirst, HoldsWhatItTook, MakesHistories, OneVersionAStamp, QuietIsTold, QuietServersAgree, StateIsDetermined, StateIsItsHeads, TakesWhatCame, TicksSendWhatIsOwed};
+ghost use Rattle.pangaea.specs.Ending.{EndsOnly, FirstBadIs};
 ghost use Rattle.pangaea.specs.Laws.{LinesAreEvents};
-ghost use Rattle.pangaea.specs.Written.{WritesAll, WritesFront, IsGoodInput, FirstIsReplay, AreGoodWords, most_input};
+ghost use Rattle.pangaea.specs.Written.{AreGoodWords, FirstIsReplay, IsGoodInput, IsTooLong, WritesAll, WritesPrefix, most_input};
 
 use crate::journal::journal_of;
+use crate::laws::lines_are_events;
+use pg_agreement::{quiet_is_told, ticks_send_what_is_owed};
+use pg_event::Status;
 use pg_io::{ReadAllError, Sink, Source, read_all, write_all};
-use pg_sched::{ReadError, Status, read};
+use pg_merge::{replicas_are_states, runs_make_histories, states_are_heads};
+use pg_sched::{ReadError, read};
+use pg_world::quiet_servers_agree;
 use std::alloc::Global;
 
 /// The most bytes that an input may have.
 pub const LIMIT: usize = 1 << 26;
 
-/// Reads a schedule and writes the journal of its run. Nothing is written before the whole input was read.
+/// Reads a schedule and writes the journal of its run. Nothing is written, and no line is found
+/// bad, before the whole input was read.
 pub fn replay<S: Source, K: Sink>(alloc: Global, source: &mut S, sink: &mut K) -> Status
     // What is written.
-    ensures done { result ≡ Status.Done → WritesAll (S.left source.old) (K.held sink.old) (K.held sink.new) }
-    ensures whole { result ≡ Status.Done → IsAtEnd (S.left source.new) }
-    ensures whole_first { result ≡ Status.WriteFault → IsAtEnd (S.left source.new) }
-    ensures front { result ≡ Status.WriteFault → WritesFront (S.left source.old) (K.held sink.old) (K.held sink.new) }
+    ensures done { result ≡ Status.Done
+        → WritesAll (S.remaining source.old) (K.contents sink.old) (K.contents sink.new) }
+    ensures whole { result ≡ Status.Done → IsAtEnd (S.remaining source.new) }
+    ensures whole_first { result ≡ Status.WriteFault → IsAtEnd (S.remaining source.new) }
+    ensures front { result ≡ Status.WriteFault
+        → WritesPrefix (S.remaining source.old) (K.contents sink.old) (K.contents sink.new) }
     ensures untouched { result ≢ Status.Done → result ≢ Status.WriteFault → sink.new ≡ sink.old }
 
     // When it ends how.
     ensures read { result ≡ Status.ReadFault → Rose (S.faults source.old) (S.faults source.new) }
     ensures write { result ≡ Status.WriteFault → Rose (K.faults sink.old) (K.faults sink.new) }
-    ensures long { result ≡ Status.InputLong → IfSome (S.left source.old) (λ input. most_input < length input) }
-    ensures short { (input : List ℕ) → S.left source.old ≡ Some input → most_input < length input → ¬ (Rose (S.faults source.old) (S.faults source.new)) → (result ≡ Status.InputLong) ⊎ (result ≡ Status.OutOfMemory) }
-    ensures bad { (n : ℕ) (f : Fault) → result ≡ Status.BadLine n f → IfSome (S.left source.old) (λ input. IsFirstBad input n f) }
-    ensures first_bad { (input : List ℕ) (n : ℕ) (f : Fault) → S.left source.old ≡ Some input → length input ≤ most_input → IsFirstBad input n f → ¬ (Rose (S.faults source.old) (S.faults source.new)) → (result ≡ Status.BadLine n f) ⊎ (result ≡ Status.OutOfMemory) }
+    ensures limit { most_input ≡ 2 ^ 26 }
+    ensures long { result ≡ Status.InputLong → IfSome (S.remaining source.old) IsTooLong }
+    ensures short { (input : List ℕ) → S.remaining source.old ≡ Some input → IsTooLong input
+        → ¬ (Rose (S.faults source.old) (S.faults source.new))
+        → EndsOnly result Status.InputLong }
+    ensures bad { (n : ℕ) (f : Fault) → result ≡ Status.BadLine n f
+        → FirstBadIs (S.remaining source.old) n f }
+    ensures whole_bad { (n : ℕ) (f : Fault) → result ≡ Status.BadLine n f
+        → IsAtEnd (S.remaining source.new) }
+    ensures first_bad { (input : List ℕ) (n : ℕ) (f : Fault) → S.remaining source.old ≡ Some input
+        → length input ≤ most_input → IsFirstBad input n f
+        → ¬ (Rose (S.faults source.old) (S.faults source.new))
+        → EndsOnly result (Status.BadLine n f) }
     ensures usage { (n : ℕ) → result ≢ Status.Usage n }
-    ensures complete { IsGoodInput (S.left source.old) → ¬ (Rose (S.faults source.old) (S.faults source.new)) → ¬ (Rose (K.faults sink.old) (K.faults sink.new)) → (result ≡ Status.Done) ⊎ (result ≡ Status.OutOfMemory) }
+    ensures complete { IsGoodInput (S.remaining source.old)
+        → ¬ (Rose (S.faults source.old) (S.faults source.new))
+        → ¬ (Rose (K.faults sink.old) (K.faults sink.new))
+        → EndsOnly result Status.Done }
 {
     let input = match read_all(alloc, source, LIMIT) {
         Ok(input) => input,
@@ -68,28 +89,31 @@ pub fn run<S: Source, K: Sink>(
     sink: &mut K,
 ) -> Status
     // What is written.
-    ensures done { result ≡ Status.Done → WritesAll (S.left source.old) (K.held sink.old) (K.held sink.new) }
-    ensures whole { result ≡ Status.Done → IsAtEnd (S.left source.new) }
-    ensures whole_first { result ≡ Status.WriteFault → IsAtEnd (S.left source.new) }
-    ensures front { result ≡ Status.WriteFault → WritesFront (S.left source.old) (K.held sink.old) (K.held sink.new) }
+    ensures done { result ≡ Status.Done
+        → WritesAll (S.remaining source.old) (K.contents sink.old) (K.contents sink.new) }
+    ensures whole { result ≡ Status.Done → IsAtEnd (S.remaining source.new) }
+    ensures whole_first { result ≡ Status.WriteFault → IsAtEnd (S.remaining source.new) }
+    ensures front { result ≡ Status.WriteFault
+        → WritesPrefix (S.remaining source.old) (K.contents sink.old) (K.contents sink.new) }
     ensures untouched { result ≢ Status.Done → result ≢ Status.WriteFault → sink.new ≡ sink.old }
 
-    // What is shown: of each run, every replica is the state of exactly the versions that it took, in whatever order they
-    // came: their heads, with the bodies that the history gives them.
+    // What is shown: of each run, every replica is the state of exactly the versions that it took,
+    // in whatever order they came: their heads, with the bodies that the history gives them.
     ensures merge { (servers : ℕ) → servers < 2 ^ 32 → HoldsWhatItTook servers }
     ensures took { (servers : ℕ) → servers < 2 ^ 32 → TakesWhatCame servers }
     ensures heads { (servers : ℕ) → servers < 2 ^ 32 → StateIsItsHeads servers }
     ensures determined { (servers : ℕ) → servers < 2 ^ 32 → StateIsDetermined servers }
 
-    // What was made: the versions of a file are a history, whose vectors tell ancestry, and messages carry it.
+    // What was made: the versions of a file are a history, whose vectors tell ancestry, and
+    // messages carry it.
     ensures histories { (servers : ℕ) → servers < 2 ^ 32 → MakesHistories servers }
     ensures one { (servers : ℕ) → servers < 2 ^ 32 → OneVersionAStamp servers }
     ensures ancestry { (servers : ℕ) → servers < 2 ^ 32 → AncestryByVectors servers }
     ensures carried { (servers : ℕ) → servers < 2 ^ 32 → CarriesHistory servers }
     ensures clock { (servers : ℕ) → servers < 2 ^ 32 → ClockEndsFirst servers }
 
-    // What holds where all is done: each line is events of the run, and at every front of them that is quiet, also within a
-    // settling, all replicas of a file agree.
+    // What holds where all is done: each line is events of the run, and at every prefix of them
+    // that is quiet, also within a settling, all replicas of a file agree.
     ensures events { (servers : ℕ) → LinesAreEvents servers }
     ensures agree { (servers : ℕ) → servers < 2 ^ 32 → QuietServersAgree servers }
     ensures quiet { QuietIsTold }
@@ -97,16 +121,39 @@ pub fn run<S: Source, K: Sink>(
 
     // When it ends how.
     ensures first_word { result ≡ Status.Usage 1 ↔ ¬ (FirstIsReplay words.now) }
-    ensures second_word { result ≡ Status.Usage 2 ↔ (FirstIsReplay words.now × (2 < vec_len words.now)) }
+    ensures second_word { result ≡ Status.Usage 2
+        ↔ (FirstIsReplay words.now × (2 < vec_len words.now)) }
     ensures usage { (n : ℕ) → result ≡ Status.Usage n → (n ≡ 1) ⊎ (n ≡ 2) }
     ensures read { result ≡ Status.ReadFault → Rose (S.faults source.old) (S.faults source.new) }
     ensures write { result ≡ Status.WriteFault → Rose (K.faults sink.old) (K.faults sink.new) }
-    ensures long { result ≡ Status.InputLong → IfSome (S.left source.old) (λ input. most_input < length input) }
-    ensures short { (input : List ℕ) → AreGoodWords words.now → S.left source.old ≡ Some input → most_input < length input → ¬ (Rose (S.faults source.old) (S.faults source.new)) → (result ≡ Status.InputLong) ⊎ (result ≡ Status.OutOfMemory) }
-    ensures bad { (n : ℕ) (f : Fault) → result ≡ Status.BadLine n f → IfSome (S.left source.old) (λ input. IsFirstBad input n f) }
-    ensures first_bad { (input : List ℕ) (n : ℕ) (f : Fault) → AreGoodWords words.now → S.left source.old ≡ Some input → length input ≤ most_input → IsFirstBad input n f → ¬ (Rose (S.faults source.old) (S.faults source.new)) → (result ≡ Status.BadLine n f) ⊎ (result ≡ Status.OutOfMemory) }
-    ensures complete { AreGoodWords words.now → IsGoodInput (S.left source.old) → ¬ (Rose (S.faults source.old) (S.faults source.new)) → ¬ (Rose (K.faults sink.old) (K.faults sink.new)) → (result ≡ Status.Done) ⊎ (result ≡ Status.OutOfMemory) }
+    ensures limit { most_input ≡ 2 ^ 26 }
+    ensures long { result ≡ Status.InputLong → IfSome (S.remaining source.old) IsTooLong }
+    ensures short { (input : List ℕ) → AreGoodWords words.now → S.remaining source.old ≡ Some input
+        → IsTooLong input
+        → ¬ (Rose (S.faults source.old) (S.faults source.new))
+        → EndsOnly result Status.InputLong }
+    ensures bad { (n : ℕ) (f : Fault) → result ≡ Status.BadLine n f
+        → FirstBadIs (S.remaining source.old) n f }
+    ensures whole_bad { (n : ℕ) (f : Fault) → result ≡ Status.BadLine n f
+        → IsAtEnd (S.remaining source.new) }
+    ensures first_bad { (input : List ℕ) (n : ℕ) (f : Fault) → AreGoodWords words.now
+        → S.remaining source.old ≡ Some input → length input ≤ most_input → IsFirstBad input n f
+        → ¬ (Rose (S.faults source.old) (S.faults source.new))
+        → EndsOnly result (Status.BadLine n f) }
+    ensures complete { AreGoodWords words.now → IsGoodInput (S.remaining source.old)
+        → ¬ (Rose (S.faults source.old) (S.faults source.new))
+        → ¬ (Rose (K.faults sink.old) (K.faults sink.new))
+        → EndsOnly result Status.Done }
 {
+    // The laws of every run: these calls say what holds, and do nothing.
+    replicas_are_states();
+    states_are_heads();
+    runs_make_histories();
+    lines_are_events();
+    quiet_servers_agree();
+    quiet_is_told();
+    ticks_send_what_is_owed();
+
     if !is_replay(words) {
         return Status::Usage(1);
     }

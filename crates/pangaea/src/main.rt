@@ -3,10 +3,11 @@
 
 mod command;
 mod journal;
+mod laws;
 
 pub use command::{LIMIT, replay, run};
+use pg_event::Status;
 use pg_io::{Reading, Writing};
-use pg_sched::Status;
 use std::alloc::AllocError;
 use std::io::ErrorKind;
 use std::process::ExitCode;
@@ -20,7 +21,8 @@ fn words(rt: &HostRuntime) -> io::Result<Vec<String>> {
     Ok(words)
 }
 
-/// How the program ends where its words could not be had. Which word is no text is not known, so it is told as word 1.
+/// How the program ends where its words could not be had. Which word is no text is not known, so
+/// it is told as word 1.
 fn wordless(error: &io::Error) -> Status {
     match error.kind() {
         ErrorKind::InvalidData => Status::Usage(1),
@@ -39,6 +41,9 @@ fn main(rt: HostRuntime) -> ExitCode {
     };
     if status != Status::Done {
         let _ = eprintln!(rt; "pangaea: {status}");
+    }
+    if let Status::Usage(_) = status {
+        let _ = eprintln!(rt; "usage: pangaea replay < SCHEDULE");
     }
     ExitCode::from(status.number())
 }

@@ -13,8 +13,13 @@ use Rattle.pg_content.specs.History.{Made, maker, IsMember, IsAncestor, vector_o
 use Rattle.pg_content.specs.StandsFor.{StandsFor}
 use Rattle.pg_content.specs.Covering.{IsVectorUpTo, IsUpToHead, AreCoveredBy, AreVersionsOf}
 use Rattle.pg_content.proofs.Heads.{covered_is}
-use Rattle.pg_content.proofs.Ancestry.{among_map, map_among, ancestor_member, ancestor_trans, ancestor_other, base_known, covered_ancestor, each_covered, earlier_vector, empty_vector, known, more_covers, one_made, vector_here, vector_is}
-use Rattle.pg_content.proofs.Standing.{placed_among, filter_among, same_content}
+use Rattle.pg_content.proofs.Members.{among_all, among_map, map_among, filter_among}
+use Rattle.pg_content.proofs.Joins.{all_upto}
+use Rattle.pg_content.proofs.Numbers.{ancestor_member, base_known, earlier_vector, known, more_covers, vector_here, vector_is}
+use Rattle.pg_content.proofs.Ancestry.{ancestor_trans, ancestor_other, covered_ancestor, one_made}
+use Rattle.pg_content.proofs.Inserting.{inserted_among}
+use Rattle.pg_content.proofs.Standing.{same_content}
+use Rattle.std.specs.List.{All}
 
 -- ---- vectors
 
@@ -148,10 +153,10 @@ module _ (h : List Made) (k : IsHistory h) (policy : Policy) (heads : List Versi
     goes w = covers_version (vector_of h m.stamp) w
 
     version_there : Among version (put_version heads version)
-    version_there = placed_among version version (filter (λ w. not (goes w)) heads) (inl refl)
+    version_there = inserted_among version version (filter (λ w. not (goes w)) heads) (inl refl)
 
     head_put : (w : VersionValue) → Among w heads → (b : Bool) → goes w ≡ b → IsUpToHead w.head.vector (put_version heads version)
-    head_put w l false e = (w, placed_among w version (filter (λ w. not (goes w)) heads) (inr (filter_among w (λ w. not (goes w)) heads l (ap not e))), upto_itself w.head.vector)
+    head_put w l false e = (w, inserted_among w version (filter (λ w. not (goes w)) heads) (inr (filter_among (λ w. not (goes w)) w heads l (ap not e))), upto_itself w.head.vector)
     head_put w l true e =
         let r = are w l in
         let P : VersionValue → Type 0 = λ v. goes v ≡ true in
@@ -177,16 +182,16 @@ module _ (h : List Made) (k : IsHistory h) (policy : Policy) (heads : List Versi
   abbrev vector : VersionValue → List (Actor × ℕ)
   vector v = v.head.vector
 
-  head_vectors : (x : List (Actor × ℕ)) → Among x (map vector heads) → IsVector x
-  head_vectors x l =
+  head_vectors : All IsVector (map vector heads)
+  head_vectors = among_all IsVector (map vector heads) (λ x l.
       let a = among_map vector heads x l in
       let r = are a.0 a.1 in
-      subst IsVector (sym a.2) (subst (λ (v : VersionValue). IsVector v.head.vector) (sym r.2) (vector_is h k r.0.stamp))
+      subst IsVector (sym a.2) (subst (λ (v : VersionValue). IsVector v.head.vector) (sym r.2) (vector_is h k r.0.stamp)))
 
   -- what all know, one more of any actor, and that is the vector of a write
   next_covers : (a : Actor) (v : VersionValue) → Among v heads → IsVectorUpTo v.head.vector (one_more (joined_all (map vector heads)) a)
   next_covers a v l = λ q.
-      let joined = each_covered q (map vector heads) [] empty_vector head_vectors v.head.vector (map_among vector heads v l) in
+      let joined = all_upto (map vector heads) head_vectors v.head.vector (map_among vector heads v l) q in
       let more = more_covers (joined_all (map vector heads)) a q in
       omega arith
 

@@ -1,7 +1,6 @@
 -- The heads of a set as a function of the history and the set, and the content that has them.
 use Rattle.std.proofs.Common.{◌≡◌, ℕ, zero, suc, ◌+◌, ◌<◌, arith, Bool, true, false, cond, not, ◌&&◌, ◌||◌, List, [], ◌∷◌, map, ◌⊎◌, inl, inr, refl, sym, ap, subst, ◌∙◌}
 use Rattle.std.specs.List.{filter, list_any}
-use Rattle.std.proofs.Math.Bool.{or-true}
 use Rattle.pg_base.specs.declared.stamp.Stamp.{Stamp}
 use Rattle.pg_base.specs.declared.policy.Policy.{Policy}
 use Rattle.pg_base.specs.Version.{VersionValue, stamp_of}
@@ -9,55 +8,21 @@ use Rattle.pg_content.specs.Shown.{by_stamp}
 use Rattle.pg_content.specs.Content.{ContentValue, Among}
 use Rattle.pg_content.specs.History.{Made, IsMember, is_same_stamp, is_ancestor, is_among, is_head, heads_of, IsAncestor, IsHead, IsHistory, version_of}
 use Rattle.pg_content.specs.StandsFor.{InStrictOrder, IsClosed, StandsFor, content_of}
-use Rattle.pg_content.proofs.Ancestry.{among_map, map_among, same_stamp, same_true, stamps_differ, member_of, made_of, ancestor_member, ancestor_trans, earlier_differs}
-use Rattle.pg_content.proofs.Standing.{among_placed, placed_among, InStrictOrder-placed, same_heads, head_among, content_of_parts}
+use Rattle.std.proofs.lemmas.Bool.{and_from, and_parts, or_cases, or_left, or_right, not_from_false, not_from_true, false_from_ne_true}
+use Rattle.pg_content.proofs.Members.{among_map, map_among, among_filter, filter_among, any_found, any_by}
+use Rattle.pg_content.proofs.Stamps.{same_stamp, same_true, stamps_differ}
+use Rattle.pg_content.proofs.Numbers.{member_of, made_of, ancestor_member, earlier_differs}
+use Rattle.pg_content.proofs.Ancestry.{ancestor_trans}
+use Rattle.pg_content.proofs.Inserting.{among_inserted, inserted_among}
+use Rattle.pg_content.proofs.StrictOrder.{InStrictOrder-inserted, same_heads}
+use Rattle.pg_content.proofs.Standing.{head_among, content_of_parts}
 
 -- ---- tests and facts
-
-any_first : {A : Type 0} (p : A → Bool) (y : A) (xs : List A) (b : Bool) → p y ≡ b → (list_any p xs ≡ true → (x : A) × Among x xs × (p x ≡ true)) → (b || list_any p xs) ≡ true → (x : A) × ((x ≡ y) ⊎ Among x xs) × (p x ≡ true)
-any_first p y xs true e rest h = (y, inl refl, e)
-any_first p y xs false e rest h = let r = rest h in (r.0, inr r.1, r.2)
-
-pub any_found : {A : Type 0} (p : A → Bool) (xs : List A) → list_any p xs ≡ true → (x : A) × Among x xs × (p x ≡ true)
-any_found p [] e = absurd (let f : false ≡ true = e in cc)
-any_found p (x ∷ xs) e = any_first p x xs (p x) refl (any_found p xs) e
-
-pub any_by : {A : Type 0} (p : A → Bool) (xs : List A) (x : A) → Among x xs → p x ≡ true → list_any p xs ≡ true
-any_by p [] x k e = absurd k
-any_by p (y ∷ xs) x k e = elim k [
-  | inl same ↦ ap (λ b. b || list_any p xs) (ap p (sym same) ∙ e)
-  | inr later ↦ ap (λ b. p y || b) (any_by p xs x later e) ∙ or-true (p y)
-]
-
-pub or_parts : (a b : Bool) → (a || b) ≡ true → (a ≡ true) ⊎ (b ≡ true)
-or_parts true b e = inl refl
-or_parts false b e = inr e
-
-and_parts : (a b : Bool) → (a && b) ≡ true → (a ≡ true) × (b ≡ true)
-and_parts true b e = (refl, e)
-and_parts false b e = absurd (let f : false ≡ true = e in cc)
-
-both : (a b : Bool) → a ≡ true → b ≡ true → (a && b) ≡ true
-both a b e f = ap (λ x. x && b) e ∙ f
-
-pub left_true : (a b : Bool) → a ≡ true → (a || b) ≡ true
-left_true a b e = ap (λ x. x || b) e
-
-pub right_true : (a b : Bool) → b ≡ true → (a || b) ≡ true
-right_true a b e = ap (λ x. a || x) e ∙ or-true a
-
-not_true : (b : Bool) → (b ≡ true → ⊥) → not b ≡ true
-not_true true h = absurd (h refl)
-not_true false h = refl
-
-is_not : (b : Bool) → not b ≡ true → b ≡ true → ⊥
-is_not true e f = let g : false ≡ true = e in cc
-is_not false e f = let g : false ≡ true = f in cc
 
 pub is_ancestor-true : (h : List Made) (u v : Stamp) → is_ancestor h u v ≡ true → IsAncestor h u v
 is_ancestor-true [] u v e = absurd (let f : false ≡ true = e in cc)
 is_ancestor-true (m ∷ h) u v e =
-    elim (or_parts (is_same_stamp v m.stamp && list_any (λ b. is_same_stamp u b || is_ancestor h u b) m.bases) (is_ancestor h u v) e) [
+    elim (or_cases (is_same_stamp v m.stamp && list_any (λ b. is_same_stamp u b || is_ancestor h u b) m.bases) (is_ancestor h u v) e) [
       | inl last ↦
           let p = and_parts (is_same_stamp v m.stamp) (list_any (λ b. is_same_stamp u b || is_ancestor h u b) m.bases) last in
           let b = any_found (λ b. is_same_stamp u b || is_ancestor h u b) m.bases p.1 in
@@ -65,7 +30,7 @@ is_ancestor-true (m ∷ h) u v e =
             same_stamp v m.stamp p.0,
             b.0,
             b.1,
-            elim (or_parts (is_same_stamp u b.0) (is_ancestor h u b.0) b.2) [
+            elim (or_cases (is_same_stamp u b.0) (is_ancestor h u b.0) b.2) [
               | inl itself ↦ inl (same_stamp u b.0 itself)
               | inr further ↦ inr (is_ancestor-true h u b.0 further)
             ],
@@ -77,60 +42,44 @@ pub is_ancestor-by : (h : List Made) (u v : Stamp) → IsAncestor h u v → is_a
 is_ancestor-by [] u v a = absurd a
 is_ancestor-by (m ∷ h) u v a =
     elim a [
-      | inl last ↦ left_true (is_same_stamp v m.stamp && list_any (λ b. is_same_stamp u b || is_ancestor h u b) m.bases) (is_ancestor h u v)
-          (both (is_same_stamp v m.stamp) (list_any (λ b. is_same_stamp u b || is_ancestor h u b) m.bases) (same_true v m.stamp last.0)
+      | inl last ↦ or_left (is_same_stamp v m.stamp && list_any (λ b. is_same_stamp u b || is_ancestor h u b) m.bases) (is_ancestor h u v)
+          (and_from (is_same_stamp v m.stamp) (list_any (λ b. is_same_stamp u b || is_ancestor h u b) m.bases) (same_true v m.stamp last.0)
           (any_by (λ b. is_same_stamp u b || is_ancestor h u b) m.bases last.1 last.2 (elim last.3 [
-            | inl itself ↦ left_true (is_same_stamp u last.1) (is_ancestor h u last.1) (same_true u last.1 itself)
-            | inr further ↦ right_true (is_same_stamp u last.1) (is_ancestor h u last.1) (is_ancestor-by h u last.1 further)
+            | inl itself ↦ or_left (is_same_stamp u last.1) (is_ancestor h u last.1) (same_true u last.1 itself)
+            | inr further ↦ or_right (is_same_stamp u last.1) (is_ancestor h u last.1) (is_ancestor-by h u last.1 further)
           ])))
-      | inr later ↦ right_true (is_same_stamp v m.stamp && list_any (λ b. is_same_stamp u b || is_ancestor h u b) m.bases) (is_ancestor h u v) (is_ancestor-by h u v later)
+      | inr later ↦ or_right (is_same_stamp v m.stamp && list_any (λ b. is_same_stamp u b || is_ancestor h u b) m.bases) (is_ancestor h u v) (is_ancestor-by h u v later)
     ]
 
 pub is_head-true : (h : List Made) (set : List Stamp) (s : Stamp) → is_head h set s ≡ true → IsHead h set s
 is_head-true h set s e =
     let p = and_parts (is_among set s) (not (list_any (is_ancestor h s) set)) e in
     let x = any_found (is_same_stamp s) set p.0 in
-    (subst (λ t. Among t set) (sym (same_stamp s x.0 x.2)) x.1, λ t l a. is_not (list_any (is_ancestor h s) set) p.1 (any_by (is_ancestor h s) set t l (is_ancestor-by h s t a)))
+    (subst (λ t. Among t set) (sym (same_stamp s x.0 x.2)) x.1, λ t l a. (let z : false ≡ true = sym (not_from_true (list_any (is_ancestor h s) set) (any_by (is_ancestor h s) set t l (is_ancestor-by h s t a))) ∙ p.1 in cc))
 
 pub is_head-by : (h : List Made) (set : List Stamp) (s : Stamp) → IsHead h set s → is_head h set s ≡ true
 is_head-by h set s head =
-    both (is_among set s) (not (list_any (is_ancestor h s) set)) (any_by (is_same_stamp s) set s head.0 (same_true s s refl))
-    (not_true (list_any (is_ancestor h s) set) (λ e. let x = any_found (is_ancestor h s) set e in head.1 x.0 x.1 (is_ancestor-true h s x.0 x.2)))
+    and_from (is_among set s) (not (list_any (is_ancestor h s) set)) (any_by (is_same_stamp s) set s head.0 (same_true s s refl))
+    (not_from_false (list_any (is_ancestor h s) set) (false_from_ne_true (list_any (is_ancestor h s) set) (λ e. let x = any_found (is_ancestor h s) set e in head.1 x.0 x.1 (is_ancestor-true h s x.0 x.2))))
 
 -- ---- the heads, in order
 
 among_by_stamp : (x : VersionValue) (vs : List VersionValue) → Among x (by_stamp stamp_of vs) → Among x vs
 among_by_stamp x [] k = k
-among_by_stamp x (v ∷ vs) k = elim (among_placed x v (by_stamp stamp_of vs) k) [ inl put ↦ inl put | inr there ↦ inr (among_by_stamp x vs there) ]
+among_by_stamp x (v ∷ vs) k = elim (among_inserted x v (by_stamp stamp_of vs) k) [ inl put ↦ inl put | inr there ↦ inr (among_by_stamp x vs there) ]
 
 by_stamp_among : (x : VersionValue) (vs : List VersionValue) → Among x vs → Among x (by_stamp stamp_of vs)
 by_stamp_among x [] k = k
-by_stamp_among x (v ∷ vs) k = placed_among x v (by_stamp stamp_of vs) (elim k [ inl put ↦ inl put | inr there ↦ inr (by_stamp_among x vs there) ])
+by_stamp_among x (v ∷ vs) k = inserted_among x v (by_stamp stamp_of vs) (elim k [ inl put ↦ inl put | inr there ↦ inr (by_stamp_among x vs there) ])
 
 module _ (keeps : Made → Bool) where
-  made_kept_by : (x m : Made) (h : List Made) (b : Bool) → keeps m ≡ b → (Among x (filter keeps h) → Among x h × (keeps x ≡ true)) → Among x (cond b (m ∷ filter keeps h) (filter keeps h)) → ((x ≡ m) ⊎ Among x h) × (keeps x ≡ true)
-  made_kept_by x m h true e rest k = elim k [ inl same ↦ (inl same, ap keeps same ∙ e) | inr later ↦ (let r = rest later in (inr r.0, r.1)) ]
-  made_kept_by x m h false e rest k = let r = rest k in (inr r.0, r.1)
-
-  pub made_kept : (x : Made) (h : List Made) → Among x (filter keeps h) → Among x h × (keeps x ≡ true)
-  made_kept x [] k = absurd k
-  made_kept x (m ∷ h) k = made_kept_by x m h (keeps m) refl (made_kept x h) k
-
-  made_stays_by : (x m : Made) (h : List Made) (b : Bool) → keeps m ≡ b → (Among x h → Among x (filter keeps h)) → (x ≡ m) ⊎ Among x h → keeps x ≡ true → Among x (cond b (m ∷ filter keeps h) (filter keeps h))
-  made_stays_by x m h true e rest k t = elim k [ inl same ↦ inl same | inr later ↦ inr (rest later) ]
-  made_stays_by x m h false e rest k t = elim k [ inl same ↦ absurd (let f : true ≡ false = sym t ∙ ap keeps same ∙ e in cc) | inr later ↦ rest later ]
-
-  pub made_stays : (x : Made) (h : List Made) → Among x h → keeps x ≡ true → Among x (filter keeps h)
-  made_stays x [] k t = absurd k
-  made_stays x (m ∷ h) k t = made_stays_by x m h (keeps m) refl (λ l. made_stays x h l t) k t
-
   module _ (whole : Made → VersionValue) (names : (m : Made) → (whole m).head.stamp ≡ m.stamp) where
     ordered_by : (m : Made) (h : List Made) (b : Bool) → IsHistory (m ∷ h) → InStrictOrder (by_stamp stamp_of (map whole (filter keeps h))) → InStrictOrder (by_stamp stamp_of (map whole (cond b (m ∷ filter keeps h) (filter keeps h))))
     ordered_by m h false k rest = rest
     ordered_by m h true k rest =
-        InStrictOrder-placed (whole m) (by_stamp stamp_of (map whole (filter keeps h))) (λ w l e.
+        InStrictOrder-inserted (whole m) (by_stamp stamp_of (map whole (filter keeps h))) (λ w l e.
         let x = among_map whole (filter keeps h) w (among_by_stamp w (map whole (filter keeps h)) l) in
-        let there = made_kept x.0 h x.1 in
+        let there = among_filter keeps x.0 h x.1 in
         earlier_differs m h k x.0.stamp (member_of h x.0 there.0) (sym (sym (names m) ∙ e ∙ ap (λ (v : VersionValue). v.head.stamp) x.2 ∙ names x.0))) rest
 
     ordered : (h : List Made) → IsHistory h → InStrictOrder (by_stamp stamp_of (map whole (filter keeps h)))
@@ -143,13 +92,13 @@ module _ (h : List Made) (k : IsHistory h) (c : ContentValue) (set : List Stamp)
   there : (v : VersionValue) → Among v c.heads → Among v (content_of c.policy h set).heads
   there v l =
       let r = f.heads v l in
-      let kept = made_stays (λ m. is_head h set m.stamp) r.made h r.member (is_head-by h set r.made.stamp r.head) in
+      let kept = filter_among (λ m. is_head h set m.stamp) r.made h r.member (is_head-by h set r.made.stamp r.head) in
       subst (λ w. Among w (content_of c.policy h set).heads) (sym r.version) (by_stamp_among (version_of c.policy h r.made) (map (version_of c.policy h) (heads_of h set)) (map_among (version_of c.policy h) (heads_of h set) r.made kept))
 
   back : (v : VersionValue) → Among v (content_of c.policy h set).heads → Among v c.heads
   back v l =
       let x = among_map (version_of c.policy h) (heads_of h set) v (among_by_stamp v (map (version_of c.policy h) (heads_of h set)) l) in
-      let kept = made_kept (λ m. is_head h set m.stamp) x.0 h x.1 in
+      let kept = among_filter (λ m. is_head h set m.stamp) x.0 h x.1 in
       subst (λ w. Among w c.heads) (sym x.2) (head_among c h k set f x.0 kept.0 (is_head-true h set x.0.stamp kept.1))
 
   pub content_is : c ≡ content_of c.policy h set
@@ -203,7 +152,7 @@ module _ (policy : Policy) (h : List Made) (k : IsHistory h) (set : List Stamp) 
   climb_by n s l lt true e rest =
       let m = made_of h s (closed.members s l) in
       let P : Stamp → Type 0 = λ t. is_head h set t ≡ true in
-      let kept = made_stays (λ m. is_head h set m.stamp) m.0 h m.1 (subst P (sym m.2) e) in
+      let kept = filter_among (λ m. is_head h set m.stamp) m.0 h m.1 (subst P (sym m.2) e) in
       (version_of policy h m.0, by_stamp_among (version_of policy h m.0) (map (version_of policy h) (heads_of h set)) (map_among (version_of policy h) (heads_of h set) m.0 kept), inl (sym m.2))
   climb_by n s l lt false e rest =
       let x = any_found (is_ancestor h s) set (not_head (is_among set s) (list_any (is_ancestor h s) set) (any_by (is_same_stamp s) set s l (same_true s s refl)) e) in
@@ -228,7 +177,7 @@ module _ (policy : Policy) (h : List Made) (k : IsHistory h) (set : List Stamp) 
     order = ordered (λ m. is_head h set m.stamp) (version_of policy h) (λ m. refl) h k;
     heads = λ v l.
         let x = among_map (version_of policy h) (heads_of h set) v (among_by_stamp v (map (version_of policy h) (heads_of h set)) l) in
-        let kept = made_kept (λ m. is_head h set m.stamp) x.0 h x.1 in
+        let kept = among_filter (λ m. is_head h set m.stamp) x.0 h x.1 in
         record { made = x.0; member = kept.0; version = x.2; head = is_head-true h set x.0.stamp kept.1 };
     all = λ s l. climb (later_than h s + 1) s l (omega arith);
   }

@@ -1,11 +1,11 @@
 -- Indexes of heads: what all heads know, whether an entry covers one of them, and what a version more makes of the index.
-use Rattle.std.proofs.Common.{◌≡◌, ℕ, zero, suc, ◌+◌, ◌<◌, ◌≤◌, max, min, Bool, true, false, cond, not, nat_le, ◌||◌, ◌&&◌, None, Some, Option, IfSome, Result, Ok, Err, IfOk, List, [], ◌∷◌, ◌++◌, length, map, take, drop, inl, inr, refl, sym, ap, subst, ◌∙◌, arith}
+use Rattle.std.proofs.Common.{◌≡◌, ℕ, ◌+◌, ◌<◌, ◌≤◌, max, min, Bool, true, false, cond, not, nat_le, ◌||◌, ◌&&◌, None, Some, Option, IfSome, Result, Ok, Err, IfOk, List, [], ◌∷◌, ◌++◌, length, take, drop, inl, inr, refl, sym, ap, subst, ◌∙◌, arith}
 use Rattle.std.specs.declared.alloc.AllocError.{AllocError}
-use Rattle.std.specs.Result.{result_ok}
-use Rattle.std.specs.List.{All, filter, fold, list_any, position_or_len, slice_get}
+use Rattle.std.specs.List.{All, filter, list_any, position_or_len, slice_get}
 use Rattle.std.specs.Map.{lookup}
 use Rattle.std.specs.Ordering.{eq_by_cmp}
 use Rattle.std.specs.BTreeMap.{is_at, insert_entry}
+use Rattle.std.proofs.lemmas.Bool.{cases_lt}
 use Rattle.std.proofs.lemmas.Bool.Decides.{nat_tests}
 use Rattle.std.proofs.lemmas.List.{drop_all, drop_more, take-append-drop}
 use Rattle.std.proofs.lemmas.Option.{get_or_from_slice_get, slice_get_cases, slice_get_within}
@@ -16,39 +16,14 @@ use mathlib.Core.Path.{fun_ext}
 use Rattle.pg_base.specs.declared.vector.Actor.{Actor}
 use Rattle.pg_base.specs.Vector.{IsVector, actor_cmp, number_at, raised, joined}
 use Rattle.pg_base.proofs.Maps.{lookup-insert_entry}
-use Rattle.pg_base.proofs.Vectors.{Entry, IsVector-nil, IsVector-joined, IsVector-tail, Above-tail, actor_exact, actor_total, number_at-above, number_at-cons, number_at-joined, vector_from_numbers}
+use Rattle.pg_base.proofs.Vectors.{Entry, IsVector-joined, IsVector-tail, Above-tail, actor_exact, actor_total, number_at-above, number_at-cons, number_at-joined, vector_from_numbers}
 use Rattle.pg_base.specs.declared.head.Head.{Head}
 use Rattle.pg_base.specs.Version.{VersionValue, IsVersion, actor_of, stamp_of}
-use Rattle.pg_content.specs.Shown.{placed}
-use Rattle.pg_content.specs.Content.{joined_all, is_covered, covers_version}
-use Rattle.pg_content.proofs.Heads.{stops, insert_placed}
-use Rattle.pg_content.specs.Index.{has_upto, covers_least, covers_found, is_from, covers_by_entry, IsSound, IsIndex, IndexValue}
-
--- ---- what all versions know
-
-abbrev vectors : List VersionValue → List (List Entry)
-vectors vs = map (λ v. v.head.vector) vs
-
--- the greatest number of the actor that one of the versions knows
-abbrev greatest : List VersionValue → Actor → ℕ
-greatest [] q = 0
-greatest (v ∷ vs) q = max (number_at v.head.vector q) (greatest vs q)
-
-folded : (vs : List VersionValue) (start : List Entry) → IsVector start → All IsSound vs → IsVector (fold joined start (vectors vs)) × ((q : Actor) → number_at (fold joined start (vectors vs)) q ≡ max (number_at start q) (greatest vs q))
-folded [] start is sound = (is, λ q. omega arith)
-folded (v ∷ vs) start is sound =
-    let first = (All-head IsSound v vs sound).vector in
-    let rest = folded vs (joined start v.head.vector) (IsVector-joined start v.head.vector is first) (All-tail IsSound v vs sound) in
-    (rest.0, λ q. omega (arith, rest.1 q, number_at-joined start v.head.vector is q))
-
-all_vector : (vs : List VersionValue) → All IsSound vs → IsVector (joined_all (vectors vs))
-all_vector vs sound = (folded vs [] (IsVector-nil [] refl) sound).0
-
-all_number : (vs : List VersionValue) → All IsSound vs → (q : Actor) → number_at (joined_all (vectors vs)) q ≡ greatest vs q
-all_number vs sound q =
-    let all = (folded vs [] (IsVector-nil [] refl) sound).1 q in
-    let none : number_at [] q ≡ 0 = refl in
-    omega arith
+use Rattle.pg_content.specs.Shown.{inserted}
+use Rattle.pg_content.specs.Content.{join_of, is_covered, covers_version}
+use Rattle.pg_content.proofs.Inserting.{stops, insert_at_stop}
+use Rattle.pg_content.proofs.Joins.{covered_join, greatest, known_below, join_number, join_vector, vectors}
+use Rattle.pg_content.specs.Index.{has_upto, covers_least, is_from, covers_by_entry, IsSound, IsIndex, IndexValue}
 
 -- ---- a version more
 
@@ -62,7 +37,7 @@ module _ (v : VersionValue) where
   sound_between [] back sound one = All-cons IsSound v back one sound
   sound_between (w ∷ front) back sound one = All-cons IsSound w (front ++ v ∷ back) (All-head IsSound w (front ++ back) sound) (sound_between front back (All-tail IsSound w (front ++ back) sound) one)
 
-  greatest_between : (front back : List VersionValue) (q : Actor) → greatest (front ++ v ∷ back) q ≡ max (number_at v.head.vector q) (greatest (front ++ back) q)
+  greatest_between : (front back : List VersionValue) (q : Actor) → greatest (vectors (front ++ v ∷ back)) q ≡ max (number_at v.head.vector q) (greatest (vectors (front ++ back)) q)
   greatest_between [] back q = refl
   greatest_between (w ∷ front) back q = omega (arith, greatest_between front back q)
 
@@ -76,12 +51,12 @@ added : (old new : IndexValue) (v : VersionValue) (front back : List VersionValu
 added old new v front back one knows lowers is =
     let vs = front ++ back in
     let sound = sound_between v front back is.sound one in
-    let was = all_vector vs is.sound in
-    let made : new.known ≡ joined v.head.vector (joined_all (vectors vs)) = knows ∙ ap (joined v.head.vector) is.all in
+    let was = join_vector vs is.sound in
+    let made : new.known ≡ joined v.head.vector (join_of vs) = knows ∙ ap (joined v.head.vector) is.all in
     record {
       sound = sound;
-      all = made ∙ vector_from_numbers (joined v.head.vector (joined_all (vectors vs))) (joined_all (vectors (front ++ v ∷ back))) (IsVector-joined v.head.vector (joined_all (vectors vs)) one.vector was) (all_vector (front ++ v ∷ back) sound) (λ q.
-          omega (arith, number_at-joined v.head.vector (joined_all (vectors vs)) one.vector q, all_number vs is.sound q, all_number (front ++ v ∷ back) sound q, greatest_between v front back q));
+      all = made ∙ vector_from_numbers (joined v.head.vector (join_of vs)) (join_of (front ++ v ∷ back)) (IsVector-joined v.head.vector (join_of vs) one.vector was) (join_vector (front ++ v ∷ back) sound) (λ q.
+          omega (arith, number_at-joined v.head.vector (join_of vs) one.vector q, join_number vs is.sound q, join_number (front ++ v ∷ back) sound q, greatest_between v front back q));
       some = λ e. lowers e ∙ ap (λ b. covers_by_entry e v || b) (is.some e) ∙ sym (any_between v (covers_by_entry e) front back);
     }
 
@@ -92,7 +67,7 @@ added_by old inside known least v head actor view is by version vector knows low
     added old (record { known = known; least = least }) v front back (record { vector = subst (λ (h : Head). IsVector h.vector) is vector; some = version.some })
     (knows ∙ (λ i. joined (is i).vector (view i).known)) (λ e. lowers e ∙ ap (λ a. is_from a head.number e || covers_least inside.least e) by ∙ (λ i. is_from (actor_of (is i)) (is i).number e || covers_least (view i).least e))
 
--- the entries from a place on, the first of them last
+-- the entries from an index on, the first of them last
 pub joined_from : (es rest : List Entry) (k : ℕ) (e : Entry) → slice_get es k ≡ Some e → joined (drop k es) rest ≡ raised (joined (drop (k + 1) es) rest) e.0 e.1
 joined_from es rest k e at =
     ap (λ xs. joined xs rest) (drop_more es k e (slice_get_within es k e at)) ∙ ap (λ (x : Entry). raised (joined (drop (k + 1) es) rest) x.0 x.1) (get_or_from_slice_get es k e e at)
@@ -134,18 +109,20 @@ or_false : (b : Bool) → (b || false) ≡ b
 or_false true = refl
 or_false false = refl
 
-upto_either : (n m k : ℕ) → (nat_le n m || nat_le n k) ≡ nat_le n (max m k)
-upto_either n m k = grind (arith, nat_tests)
+-- nothing is to be known
+upto_any : (n m : ℕ) → n ≡ 0 → nat_le n m ≡ true
+upto_any n m none = grind (arith, nat_tests)
 
-covered_greatest : (v : VersionValue) (vs : List VersionValue) (q : Actor) (n : ℕ) → is_covered (v ∷ vs) q n ≡ nat_le n (greatest (v ∷ vs) q)
-covered_greatest v [] q n = let m = number_at v.head.vector q in grind (arith, nat_tests)
-covered_greatest v (w ∷ vs) q n =
-    ap (λ b. nat_le n (number_at v.head.vector q) || b) (covered_greatest w vs q n) ∙ upto_either n (number_at v.head.vector q) (greatest (w ∷ vs) q)
+covered_none : (v : VersionValue) (vs : List VersionValue) (q : Actor) (n : ℕ) → n ≡ 0 → is_covered (v ∷ vs) q n ≡ true
+covered_none v vs q n none = ap (λ b. b || is_covered vs q n) (upto_any n (number_at v.head.vector q) none)
 
 covered_by_index : (i : IndexValue) (vs : List VersionValue) → IsIndex i vs → 0 < length vs → (q : Actor) (n : ℕ) → is_covered vs q n ≡ nat_le n (number_at i.known q)
 covered_by_index i [] is some q n = absurd (omega arith)
 covered_by_index i (v ∷ vs) is some q n =
-    covered_greatest v vs q n ∙ ap (nat_le n) (sym (all_number (v ∷ vs) is.sound q) ∙ ap (λ es. number_at es q) (sym is.all))
+    elim (cases_lt 0 n) [
+      | inl more ↦ covered_join (v ∷ vs) is.sound q n more ∙ ap (λ es. nat_le n (number_at es q)) (sym is.all)
+      | inr none ↦ covered_none v vs q n (omega arith) ∙ sym (upto_any n (number_at i.known q) (omega arith))
+    ]
 
 -- ---- heads that a vector covers
 
@@ -188,12 +165,6 @@ covered_heads es (v ∷ vs) is sound = λ i. covered_entry es (actor_of v.head) 
 some_covered : (i : IndexValue) (vs : List VersionValue) (es : List Entry) → IsIndex i vs → IsVector es → list_any (covers_least i.least) es ≡ list_any (covers_version es) vs
 some_covered i vs es is vector = ap (λ f. list_any f es) (fun_ext is.some) ∙ any_swapped covers_by_entry es vs ∙ covered_heads es vs vector is.sound
 
--- what is left of the entries
-pub covered_from : (least es : List Entry) (k : ℕ) → list_any (covers_least least) (drop k es) ≡ (covers_found least (slice_get es k) || list_any (covers_least least) (drop (k + 1) es))
-covered_from least [] k = ap (list_any (covers_least least)) (drop_all k [] (omega arith) ∙ sym (drop_all (k + 1) [] (omega arith)))
-covered_from least (e ∷ es) zero = refl
-covered_from least (e ∷ es) (suc k) = covered_from least es k ∙ ap (λ n. covers_found least (slice_get es k) || list_any (covers_least least) (drop n (e ∷ es))) (let same : suc (k + 1) ≡ suc k + 1 = omega arith in same)
-
 -- ---- the heads and their index
 
 kept_by : (v : VersionValue) (vs kept : List VersionValue) (t b : Bool) → (t || b) ≡ false → (b ≡ false → kept ≡ vs) → cond (not t) (v ∷ kept) kept ≡ v ∷ vs
@@ -205,21 +176,15 @@ pub none_kept : (test : VersionValue → Bool) (vs : List VersionValue) → list
 none_kept test [] h = refl
 none_kept test (v ∷ vs) h = kept_by v vs (filter (λ w. not (test w)) vs) (test v) (list_any test vs) h (none_kept test vs)
 
--- a version in its place among these
-placed_index : (i : IndexValue) (v : VersionValue) (vs : List VersionValue) → ((front back : List VersionValue) → vs ≡ front ++ back → IsIndex i (front ++ v ∷ back)) → IsIndex i (placed stamp_of v vs)
-placed_index i v vs of = subst (IsIndex i) (insert_placed stamp_of v.head.stamp v vs (position_or_len (stops stamp_of v.head.stamp) vs) refl refl) (of (take (position_or_len (stops stamp_of v.head.stamp) vs) vs) (drop (position_or_len (stops stamp_of v.head.stamp) vs) vs) (sym (take-append-drop (position_or_len (stops stamp_of v.head.stamp) vs) vs)))
-
--- no version knows more than all of them, and they no more than one of them
-greatest_below : (vs : List VersionValue) (q : Actor) (n : ℕ) → 0 < n → All (λ v. number_at v.head.vector q < n) vs → greatest vs q < n
-greatest_below [] q n some below = some
-greatest_below (v ∷ vs) q n some below =
-    let P : VersionValue → Type 0 = λ w. number_at w.head.vector q < n in
-    let first = All-head P v vs below in
-    let rest = greatest_below vs q n some (All-tail P v vs below) in
-    omega arith
-
-known_below : (i : IndexValue) (vs : List VersionValue) → IsIndex i vs → (q : Actor) (n : ℕ) → 0 < n → All (λ v. number_at v.head.vector q < n) vs → number_at i.known q < n
-known_below i vs is q n some below = let e = ap (λ es. number_at es q) is.all ∙ all_number vs is.sound q in let most = greatest_below vs q n some below in omega arith
+-- a version in its order among these
+pub index_inserted : (o new : Option IndexValue) (v : VersionValue) (vs : List VersionValue)
+    → ((front back : List VersionValue) → IfSome o (λ i. IsIndex i (front ++ back)) → IfSome new (λ i. IsIndex i (front ++ v ∷ back)))
+    → IfSome o (λ i. IsIndex i vs) → IfSome new (λ i. IsIndex i (inserted stamp_of v vs))
+index_inserted o new v vs adds is =
+    let k = position_or_len (stops stamp_of v.head.stamp) vs in
+    let P : List VersionValue → Type 0 = λ ws. IfSome o (λ i. IsIndex i ws) in
+    let Q : List VersionValue → Type 0 = λ ws. IfSome new (λ i. IsIndex i ws) in
+    subst Q (insert_at_stop stamp_of v.head.stamp v vs k refl refl) (adds (take k vs) (drop k vs) (subst P (sym (take-append-drop k vs)) is))
 
 -- ---- a content's index
 
@@ -235,14 +200,7 @@ module _ (o : Option IndexValue) (i : IndexValue) (inside vs : List VersionValue
   pub replaces_is : (t : Bool) (head : Head) (v : VersionValue) → IfSome o (λ x. IsIndex x inside) → o ≡ Some i → t ≡ list_any (covers_least i.least) head.vector → IsVector head.vector → head ≡ v.head → t ≡ list_any (covers_version v.head.vector) vs
   replaces_is t head v h e some vector same = some ∙ some_covered i vs head.vector (index_is h e) vector ∙ ap (λ (x : Head). list_any (covers_version x.vector) vs) same
 
-  pub most_is : (known : List Entry) → IfSome o (λ x. IsIndex x inside) → o ≡ Some i → known ≡ i.known → (q : Actor) (n : ℕ) → 0 < n → All (λ v. number_at v.head.vector q < n) vs → number_at known q < n
-  most_is known h e same q n some below = subst (λ es. number_at es q < n) (sym same) (known_below i vs (index_is h e) q n some below)
-
--- where there was memory for it
-pub made_index : (r : Result IndexValue AllocError) (o : Option IndexValue) (lent vs : List VersionValue) → IfOk r (λ i. IsIndex i lent) → o ≡ result_ok r → lent ≡ vs → IfSome o (λ i. IsIndex i vs)
-made_index (Ok i) o lent vs h e same = let P : Option IndexValue → Type 0 = λ p. IfSome p (λ x. IsIndex x vs) in subst P (sym e) (subst (IsIndex i) same h)
-made_index (Err x) o lent vs h e same = let P : Option IndexValue → Type 0 = λ p. IfSome p (λ x. IsIndex x vs) in subst P (sym e) tt
-
--- with a version that came
-pub beside_index : (i new : IndexValue) (v : VersionValue) (lent old put : List VersionValue) → IsIndex i lent → lent ≡ old → ((front back : List VersionValue) → IsIndex i (front ++ back) → IsIndex new (front ++ v ∷ back)) → put ≡ placed stamp_of v old → IsIndex new put
-beside_index i new v lent old put is same adds e = subst (IsIndex new) (sym e) (placed_index new v old (λ front back split. adds front back (subst (IsIndex i) (same ∙ split) is)))
+  pub most_is : (r : Result (List Entry) AllocError) (known : List Entry) → IfSome o (λ x. IsIndex x inside) → o ≡ Some i → IfOk r (λ v. v ≡ known) → known ≡ i.known
+      → IfOk r (λ v. (q : Actor) (n : ℕ) → 0 < n → All (λ w. number_at w.head.vector q < n) vs → number_at v q < n)
+  most_is (Ok v) known h e same is = λ q n some below. subst (λ es. number_at es q < n) (sym (same ∙ is)) (known_below vs i.known (index_is h e).sound (index_is h e).all q n some below)
+  most_is (Err x) known h e same is = tt

@@ -1,7 +1,17 @@
+pub mod Members
+pub mod Stamps
+pub mod Inserting
+pub mod StampOrder
+pub mod StrictOrder
 pub mod Heads
+pub mod Bodies
+pub mod Joins
 pub mod Indexes
+pub mod Numbers
 pub mod Ancestry
 pub mod Standing
+pub mod StandsJoined
+pub mod StandsWritten
 pub mod Covering
 pub mod HeadsOf
 pub mod Rows

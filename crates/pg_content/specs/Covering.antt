@@ -21,4 +21,5 @@ AreCoveredBy vs ws = (v : VersionValue) → Among v vs → IsUpToHead v.head.vec
 
 -- each is a version of the history, whole
 abbrev pub AreVersionsOf : Policy → List Made → List VersionValue → Type 0
-AreVersionsOf policy h vs = (v : VersionValue) → Among v vs → (m : Made) × Among m h × (v ≡ version_of policy h m)
+AreVersionsOf policy h vs =
+    (v : VersionValue) → Among v vs → (m : Made) × Among m h × (v ≡ version_of policy h m)

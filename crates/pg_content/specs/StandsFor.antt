@@ -19,18 +19,21 @@ pub record IsClosed (h : List Made) (set : List Stamp) : Type 0 where
   pub ancestors : (s u : Stamp) → Among s set → IsAncestor h u s → Among u set
 
 -- v is the version of the history, whole, that is a head of the set
-pub record IsHeadVersion (policy : Policy) (h : List Made) (set : List Stamp) (v : VersionValue) : Type 0 where
+pub record IsHeadVersion (policy : Policy) (h : List Made) (set : List Stamp) (v : VersionValue)
+    : Type 0 where
   pub made : Made
   pub member : Among made h
   pub version : v ≡ version_of policy h made
   pub head : IsHead h set made.stamp
 
--- the content's heads are the heads of the set, each once and whole, in the order of their stamps: each is one, and each member of the set is one or an ancestor of one
+-- the content's heads are the heads of the set, each once and whole, in the order of their stamps:
+-- each is one, and each member of the set is one or an ancestor of one
 pub record StandsFor (c : ContentValue) (h : List Made) (set : List Stamp) : Type 0 where
   pub closed : IsClosed h set
   pub order : InStrictOrder c.heads
   pub heads : (v : VersionValue) → Among v c.heads → IsHeadVersion c.policy h set v
-  pub all : (s : Stamp) → Among s set → (v : VersionValue) × Among v c.heads × ((s ≡ v.head.stamp) ⊎ IsAncestor h s v.head.stamp)
+  pub all : (s : Stamp) → Among s set
+      → (v : VersionValue) × Among v c.heads × ((s ≡ v.head.stamp) ⊎ IsAncestor h s v.head.stamp)
 
 -- the set with the version and its ancestors
 abbrev pub IsWith : List Made → List Stamp → Stamp → List Stamp → Type 0
@@ -38,4 +41,7 @@ IsWith h old s new = (t : Stamp) → Among t new ↔ (Among t old ⊎ ((t ≡ s)
 
 -- the content of a set of versions: its heads, whole, in the order of their stamps
 abbrev pub content_of : Policy → List Made → List Stamp → ContentValue
-content_of policy h set = record { policy = policy; heads = by_stamp stamp_of (map (version_of policy h) (heads_of h set)) }
+content_of policy h set = record {
+  policy = policy;
+  heads = by_stamp stamp_of (map (version_of policy h) (heads_of h set));
+}

@@ -1,11 +1,12 @@
-//! What is looked up of the heads, so that a version that comes need not be held against each of them.
+//! What is looked up of the heads, so that a version that comes need not be held against each of
+//! them.
 
-ghost use Rattle.std.specs.Prelude.{◌≡◌, ◌++◌, ◌∷◌, [], List, IfOk, IfSome, None, OnOk, ℕ, ◌+◌, ◌||◌, drop};
+ghost use Rattle.std.specs.Prelude.{◌≡◌, ◌++◌, ◌∷◌, [], List, IfOk, IfSome, OnOk, ℕ, ◌+◌, ◌||◌, drop};
 ghost use Rattle.std.specs.List.{list_any};
 ghost use Rattle.pg_base.specs.declared.vector.Actor.{Actor};
 ghost use Rattle.pg_base.specs.Vector.{IsVector, joined};
 ghost use Rattle.pg_base.specs.Version.{VersionValue};
-ghost use Rattle.pg_content.specs.Index.{IsIndex, covers_found, covers_least, is_from};
+ghost use Rattle.pg_content.specs.Index.{IsIndex, covers_least, is_from};
 
 use pg_base::{Actor, Vector, Version};
 use std::alloc::{AllocError, Global};
@@ -51,7 +52,8 @@ impl Index {
 
     /// A version more, wherever it stands. After a refusal a part may be done.
     pub(crate) fn add(&mut self, version: &Version) -> Result<(), AllocError>
-        ensures { OnOk result ((front back : List VersionValue) → IsIndex self.old (front ++ back) → IsIndex self.new (front ++ version.now ∷ back)) }
+        ensures { OnOk result ((front back : List VersionValue) → IsIndex self.old (front ++ back)
+            → IsIndex self.new (front ++ version.now ∷ back)) }
     {
         let head = version.head();
         raise_all(&mut self.known, &head.vector)?;
@@ -60,16 +62,10 @@ impl Index {
     }
 
     /// What all versions know.
-    pub(crate) fn known(&self) -> &Vector
+    pub(crate) fn join(&self) -> &Vector
         ensures { result.now ≡ self.now.known }
     {
         &self.known
-    }
-
-    pub(crate) fn into_known(self) -> Vector
-        ensures { result ≡ self.known }
-    {
-        self.known
     }
 
     /// Whether some entry of the vector covers a version.
@@ -77,21 +73,16 @@ impl Index {
         ensures some { result ≡ list_any (covers_least self.now.least) vector.now }
         ensures vector { IsVector vector.now }
     {
-        for place in 0..vector.len() {
-            if self.covers_least(vector.at(place)) {
-                return true;
-            }
-        }
-        false
+        let entries = vector.entries();
+        entries
+            .iter()
+            .any(|&(actor, number)| self.covers_least(actor, number))
     }
 
-    /// Whether the entry, if there is one, covers a version.
-    fn covers_least(&self, entry: Option<(Actor, u64)>) -> bool
-        ensures { result ≡ covers_found self.now.least entry }
+    /// Whether such an entry covers a version.
+    fn covers_least(&self, actor: Actor, number: u64) -> bool
+        ensures { result ≡ covers_least self.now.least (actor, number) }
     {
-        let Some((actor, number)) = entry else {
-            return false;
-        };
         match self.least.get(&actor) {
             Some(least) => *least <= number,
             None => false,
@@ -109,19 +100,44 @@ impl Index {
     }
 }
 
-/// The index of these versions, which is taken or made anew. None is left behind.
-pub(crate) fn take_index(
-    index: &mut Option<Index>,
-    alloc: Global,
-    heads: &[Version],
-) -> Result<Index, AllocError>
-    requires { IfSome index.old (λ i. IsIndex i heads.now) }
-    ensures index { IfOk result (λ i. IsIndex i heads.now) }
-    ensures none { index.new ≡ None }
+/// So many heads are gone over without an index.
+const FEW: usize = 8;
+
+/// The index of these versions where they are many, if there is memory for it.
+pub(crate) fn index_of_many(alloc: Global, versions: &[Version]) -> Option<Index>
+    ensures { IfSome result (λ i. IsIndex i versions.now) }
 {
-    match index.take() {
-        Some(index) => Ok(index),
-        None => Index::of(alloc, heads),
+    if versions.len() <= FEW {
+        return None;
+    }
+    Index::of(alloc, versions).ok()
+}
+
+/// The index if there is one, else that of these versions where they are many, if there is memory
+/// for it.
+pub(crate) fn index_or_new(
+    index: Option<Index>,
+    alloc: Global,
+    versions: &[Version],
+) -> Option<Index>
+    requires { IfSome index (λ i. IsIndex i versions.now) }
+    ensures { IfSome result (λ i. IsIndex i versions.now) }
+{
+    match index {
+        Some(index) => Some(index),
+        None => index_of_many(alloc, versions),
+    }
+}
+
+/// The index with a version more, wherever it stands, if there was one and there is memory for it.
+pub(crate) fn index_with(index: Option<Index>, version: &Version) -> Option<Index>
+    ensures { (front back : List VersionValue) → IfSome index (λ i. IsIndex i (front ++ back))
+        → IfSome result (λ i. IsIndex i (front ++ version.now ∷ back)) }
+{
+    let mut index = index?;
+    match index.add(version) {
+        Ok(()) => Some(index),
+        Err(_) => None,
     }
 }
 
@@ -130,17 +146,19 @@ fn raise_all(known: &mut Vector, vector: &Vector) -> Result<(), AllocError>
     ensures known { OnOk result (known.new ≡ joined vector.now known.old) }
     ensures vector { IsVector vector.now }
 {
-    for place in (0..vector.len()).rev() {
-        raise_at(known, vector, place)?;
+    for index in (0..vector.len()).rev() {
+        raise_at(known, vector, index)?;
     }
     Ok(())
 }
 
-/// Raises the number of the actor that the vector names at the place, if there is one.
-fn raise_at(known: &mut Vector, vector: &Vector, place: usize) -> Result<(), AllocError>
-    ensures { OnOk result ((rest : List (Actor × ℕ)) → known.old ≡ joined (drop (place + 1) vector.now) rest → known.new ≡ joined (drop place vector.now) rest) }
+/// Raises the number of the actor that the vector names at the index, if there is one.
+fn raise_at(known: &mut Vector, vector: &Vector, index: usize) -> Result<(), AllocError>
+    ensures { OnOk result ((rest : List (Actor × ℕ))
+        → known.old ≡ joined (drop (index + 1) vector.now) rest
+        → known.new ≡ joined (drop index vector.now) rest) }
 {
-    match vector.at(place) {
+    match vector.at(index) {
         Some((actor, number)) => {
             known.raise(actor, number)?;
             Ok(())
@@ -151,7 +169,8 @@ fn raise_at(known: &mut Vector, vector: &Vector, place: usize) -> Result<(), All
 
 /// Lowers the actor's number to this one, where it has a greater one or none.
 fn lower(least: &mut BTreeMap<Actor, u64>, actor: Actor, number: u64) -> Result<(), AllocError>
-    ensures { OnOk result ((e : Actor × ℕ) → covers_least least.new.entries e ≡ (is_from actor number e || covers_least least.old.entries e)) }
+    ensures { OnOk result ((e : Actor × ℕ) → covers_least least.new.entries e
+        ≡ (is_from actor number e || covers_least least.old.entries e)) }
 {
     let number = match least.get(&actor) {
         Some(old) => number.min(*old),

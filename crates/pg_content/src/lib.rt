@@ -4,6 +4,7 @@
 mod content;
 mod error;
 mod index;
+mod joining;
 mod laws;
 mod writing;
 
@@ -13,6 +14,3 @@ pub use laws::{
     ancestry_by_vectors, content_is_its_heads, covering_goes_on, covering_heads_are_the_same,
     covering_is_pointwise,
 };
-
-#[cfg(test)]
-mod tests;

@@ -6,7 +6,7 @@ ghost use Rattle.pg_base.specs.Stamp.{is_before};
 ghost use Rattle.pg_patch.specs.Ranges.{applied};
 ghost use Rattle.pg_base.specs.Version.{stamp_of};
 ghost use Rattle.pg_content.specs.Content.{InStampOrder, bodies_of, covers_version, head_at, is_covered, put_version};
-ghost use Rattle.pg_content.specs.Shown.{placed};
+ghost use Rattle.pg_content.specs.Shown.{inserted};
 
 use pg_base::{Actor, Bytes, SharedBytes, Stamp, Vector, Version};
 use pg_patch::{Ranges, apply};
@@ -26,7 +26,8 @@ pub(crate) fn is_some_covered(heads: &[Version], vector: &Vector) -> bool
     heads.iter().any(|head| covers_version(vector, head))
 }
 
-/// The heads that the version's vector covers go, and the version is a head, in the order of the stamps.
+/// The heads that the version's vector covers go, and the version is a head, in the order of the
+/// stamps.
 pub(crate) fn put_version(heads: &mut Vec<Version>, v: Version) -> Result<(), AllocError>
     requires { InStampOrder heads.old.items }
     ensures ok { OnOk result (heads.new.items ≡ put_version heads.old.items v) }
@@ -40,7 +41,8 @@ pub(crate) fn put_version(heads: &mut Vec<Version>, v: Version) -> Result<(), Al
 
 /// The heads that the version's vector covers go. Their room stays.
 fn drop_covered(heads: &mut Vec<Version>, v: &Version)
-    ensures heads { heads.new.items ≡ filter (λ h. not (covers_version v.now.head.vector h)) heads.old.items }
+    ensures heads { heads.new.items
+        ≡ filter (λ h. not (covers_version v.now.head.vector h)) heads.old.items }
     ensures len { vec_len heads.new ≤ vec_len heads.old }
     ensures room { vec_capacity heads.new ≡ vec_capacity heads.old }
 {
@@ -51,12 +53,12 @@ fn drop_covered(heads: &mut Vec<Version>, v: &Version)
 /// The version is a head, in the order of the stamps. With room for it this does not fail.
 pub(crate) fn insert_version(heads: &mut Vec<Version>, v: Version) -> Result<(), AllocError>
     requires { InStampOrder heads.old.items }
-    ensures ok { OnOk result (heads.new.items ≡ placed stamp_of v heads.old.items) }
+    ensures ok { OnOk result (heads.new.items ≡ inserted stamp_of v heads.old.items) }
     ensures err { OnErr result (heads.new.items ≡ heads.old.items) }
     ensures room { vec_len heads.old < vec_capacity heads.old → IsOk result }
 {
-    let place = place(heads, v.head().stamp);
-    heads.insert(place, v)?;
+    let index = index_of(heads, v.head().stamp);
+    heads.insert(index, v)?;
     Ok(())
 }
 
@@ -73,7 +75,7 @@ pub(crate) fn head_at(heads: &[Version], stamp: Stamp) -> Option<&Version>
     requires { InStampOrder heads.now }
     ensures { option_copied result ≡ head_at heads.now stamp }
 {
-    let head = heads.get(place(heads, stamp))?;
+    let head = heads.get(index_of(heads, stamp))?;
     if head.head().stamp == stamp {
         Some(head)
     } else {
@@ -82,7 +84,7 @@ pub(crate) fn head_at(heads: &[Version], stamp: Stamp) -> Option<&Version>
 }
 
 /// Where a version of the stamp stands, or would stand.
-fn place(heads: &[Version], stamp: Stamp) -> usize
+fn index_of(heads: &[Version], stamp: Stamp) -> usize
     requires { InStampOrder heads.now }
     ensures { result ≡ position_or_len (λ v. not (is_before v.head.stamp stamp)) heads.now }
 {

@@ -7,7 +7,6 @@ use Rattle.std.specs.Map.{values_of}
 use Rattle.std.specs.Cmp.{IsTotalOrder, IsStrictWeakOrder, nat_cmp_total, on_total, then_total, tied_itself, Equal-is}
 use Rattle.std.proofs.lemmas.List.Sorted.{ranks_by, answers_always}
 use Rattle.pg_base.specs.declared.id.FileId.{FileId}
-use Rattle.pg_base.specs.declared.stamp.Stamp.{Stamp}
 use Rattle.std.specs.Cmp.Lexicographic.{slice_cmp, lists_total}
 use Rattle.std.proofs.lemmas.Map.Lookups.{exact_bytes}
 use Rattle.std.proofs.lemmas.Bool.{or_right, or_left, or_from, false_from_ne_true, and_right, and_from}
@@ -15,7 +14,6 @@ use Rattle.pg_base.specs.Id.{spelling}
 use Rattle.pg_register.specs.Place.{tilde_name}
 use Rattle.pg_entries.specs.Entry.{is_listed}
 use Rattle.pg_entries.specs.Names.{same_name}
-use Rattle.pg_base.specs.Stamp.{stamp_cmp}
 use Rattle.pg_base.proofs.Orders.{file_total, stamp_total}
 use Rattle.pg_entries.specs.declared.entry.Entry.{Entry}
 use Rattle.pg_entries.specs.declared.claim.Claim.{Claim}

@@ -13,7 +13,11 @@ use Rattle.pg_entries.specs.declared.entry.Entry.{Entry}
 
 -- an entry after another of the same child came: the newer place, and of each server the newer flag
 abbrev pub joined : Entry → Entry → Entry
-joined held e = record { child = held.child; place = newer_place held.place e.place; flags = join_flags held.flags e.flags }
+joined held e = record {
+  child = held.child;
+  place = newer_place held.place e.place;
+  flags = join_flags held.flags e.flags;
+}
 
 -- whether the other has a newer place or a newer flag
 abbrev pub brings_change : Entry → Entry → Bool
@@ -34,7 +38,8 @@ brings (Some held) e = brings_change held e
 
 -- the entries after one more came
 abbrev pub join_entry : List (FileId × Entry) → Entry → List (FileId × Entry)
-join_entry entries e = insert_entry file_cmp entries e.child (joined_to (entry_of entries e.child) e)
+join_entry entries e =
+    insert_entry file_cmp entries e.child (joined_to (entry_of entries e.child) e)
 
 -- by child, and each entry at its own child
 pub record IsByChild (entries : List (FileId × Entry)) : Type 0 where

@@ -11,4 +11,5 @@ use denote.Ref.{Bor}
 
 -- the map has the first claim on each name
 abbrev pub Firsts : List (FileId × Entry) → FileId → BTreeMap (Bor (List ℕ)) Claim → Type 0
-Firsts entries dir firsts = (name : Bor (List ℕ)) → get_by (λ k. slice_cmp nat_cmp name.now k.now) firsts ≡ first_claim entries dir name.now
+Firsts entries dir firsts = (name : Bor (List ℕ)) →
+    get_by (λ k. slice_cmp nat_cmp name.now k.now) firsts ≡ first_claim entries dir name.now

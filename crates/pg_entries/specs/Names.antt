@@ -11,8 +11,8 @@ use Rattle.pg_entries.specs.declared.entry.Entry.{Entry}
 abbrev pub same_name : List ℕ → List ℕ → Bool
 same_name a b = is_eq (slice_cmp nat_cmp a b)
 
--- the names that places have in a run: clients give none with a tilde, the root's is empty, and all others are made of
--- the child's own id
+-- the names that places have in a run: clients give none with a tilde, the root's is empty, and all
+-- others are made of the child's own id
 pub record HasName (e : Entry) : Type 0 where
   pub id : Fits e.child
   pub name : (All (λ byte. byte ≢ 126) e.place.name) ⊎ (e.place.name ≡ tilde_name e.child)

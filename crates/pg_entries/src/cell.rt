@@ -12,7 +12,8 @@ use std::alloc::AllocError;
 pub enum Cell {
     Place(Place),
     Flag(Flag),
-    /// An entry of a directory, and whether its sender is sure of it, and does not owe to have it confirmed.
+    /// An entry of a directory, and whether its sender is sure of it, and does not owe to have it
+    /// confirmed.
     Entry(Entry, bool),
     Version(Version),
 }

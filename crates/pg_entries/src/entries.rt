@@ -62,7 +62,7 @@ impl Entries {
         self.entries.get(&child)
     }
 
-    /// The entry in place `k`, counted from 0, by child.
+    /// The entry at index `k`, by child.
     pub fn at(&self, k: usize) -> Option<&Entry>
         ensures entry { option_copied result ≡ option_map (λ e. e.1) (slice_get self.now k) }
         ensures by_child { IsByChild self.now }
@@ -80,11 +80,11 @@ impl Entries {
         }
     }
 
-    /// Takes what is newer in the entry, or the whole entry of a new child. Tells whether something changed. After want
-    /// of memory a part may be taken.
+    /// Takes what is newer in the entry, or the whole entry of a new child. Tells whether something
+    /// changed. After out of memory a part may be taken.
     pub fn join_cell(&mut self, entry: Entry) -> Result<bool, AllocError>
         ensures joined { OnOk result (self.new ≡ join_entry self.old entry) }
-        ensures news { IfOk result (λ changed. changed ≡ brings (entry_of self.old entry.child) entry) }
+        ensures news { IfOk result (λ new. new ≡ brings (entry_of self.old entry.child) entry) }
         ensures changed { IfOk result (λ changed. IsTrue changed ↔ (self.new ≢ self.old)) }
     {
         match self.entries.get_mut(&entry.child) {

@@ -23,8 +23,8 @@ impl Entry {
         self.place.live && self.place.parent.compare(&dir).is_eq()
     }
 
-    /// Takes the newer place and the newer flags. Tells whether something changed. After want of memory a part of it may
-    /// be taken.
+    /// Takes the newer place and the newer flags. Tells whether something changed. After want of
+    /// memory a part of it may be taken.
     pub fn join(&mut self, other: Entry) -> Result<bool, AllocError>
         ensures joined { OnOk result (self.new ≡ joined self.old other) }
         ensures news { IfOk result (λ changed. changed ≡ brings_change self.old other) }

@@ -14,6 +14,3 @@ pub use entries::Entries;
 pub use entry::Entry;
 pub use laws::shown_names_differ;
 pub use listing::{Listing, Row};
-
-#[cfg(test)]
-mod tests;

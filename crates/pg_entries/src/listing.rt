@@ -36,7 +36,8 @@ impl Row {
 }
 
 impl Entries {
-    /// The children that the directory lists, each with the name that it shows, in the byte order of these names.
+    /// The children that the directory lists, each with the name that it shows, in the byte order
+    /// of these names.
     pub fn listing(&self, dir: FileId) -> Result<Listing, AllocError>
         ensures rows { IfOk result (λ rows. IsPermutation (rows_of self.now dir) rows) }
         ensures in_order { IfOk result (λ rows. IsSortedBy (λ a b. is_lt (row_cmp a b)) rows) }

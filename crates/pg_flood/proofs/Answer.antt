@@ -10,7 +10,9 @@ use Rattle.pg_edges.specs.Edges.{is_listed, slot_at, tag_of, tag_at, taken_off, 
 use Rattle.pg_edges.specs.Laws.Change.{Ack}
 use Rattle.pg_edges.proofs.Tags.{keeps_or_brings}
 use Rattle.pg_edges.proofs.Orders.{is_same_key-true}
-use Rattle.pg_edges.proofs.Lookups.{same_number, both, same_tag, acks}
+use Rattle.std.proofs.lemmas.Bool.{eqb-true, and_parts}
+use Rattle.pg_edges.proofs.Lookups.{same_tag}
+use Rattle.pg_edges.proofs.Acks.{acks}
 use Rattle.pg_flood.specs.Promises.{Saying}
 use Rattle.pg_flood.specs.Promises.Saying.{AckTo}
 use Rattle.pg_flood.specs.Server.{Replica, Slot, slot, tag_on}
@@ -38,12 +40,12 @@ pub record Answered (es : List Edge) (peer birth : ℕ) (key : Key) (g : ℕ) (p
 answered_by : (es : List Edge) (peer birth : ℕ) (key : Key) (g p b : ℕ) (k : Key) (s : Bool) → is_answered es peer birth key g p b k ≡ s
     → Answered es peer birth key g p b k ⊎ (slot_at (acked es peer birth key g) p b k ≡ slot_at es p b k)
 answered_by es peer birth key g p b k true e =
-    let x = both (p == peer) (b == birth && (is_same_key k key && option_eq nat_eq (tag_at es p b k) (Some g))) e in
-    let y = both (b == birth) (is_same_key k key && option_eq nat_eq (tag_at es p b k) (Some g)) x.1 in
-    let z = both (is_same_key k key) (option_eq nat_eq (tag_at es p b k) (Some g)) y.1 in
+    let x = and_parts (p == peer) (b == birth && (is_same_key k key && option_eq nat_eq (tag_at es p b k) (Some g))) e in
+    let y = and_parts (b == birth) (is_same_key k key && option_eq nat_eq (tag_at es p b k) (Some g)) x.1 in
+    let z = and_parts (is_same_key k key) (option_eq nat_eq (tag_at es p b k) (Some g)) y.1 in
     inl (record {
-      peer_is = same_number p peer x.0;
-      birth_is = same_number b birth y.0;
+      peer_is = eqb-true p peer x.0;
+      birth_is = eqb-true b birth y.0;
       key_is = is_same_key-true k key z.0;
       tag_is = same_tag (tag_at es p b k) g z.1;
       now = acks es peer birth key g p b k ∙ ap (λ t. cond t (Some None) (slot_at es p b k)) e;

@@ -5,7 +5,7 @@ use Rattle.pg_base.specs.declared.id.FileId.{FileId}
 use Rattle.pg_edges.specs.declared.key.Key.TheVariants.{Place}
 use Rattle.pg_edges.specs.declared.edge.Edge.{Edge}
 use Rattle.pg_edges.specs.Edges.{keys_if_born}
-use Rattle.pg_edges.proofs.Lookups.{same_number}
+use Rattle.std.proofs.lemmas.Bool.{eqb-true}
 use Rattle.pg_flood.specs.Promises.{Saying}
 use Rattle.pg_flood.specs.Server.{Replica, Server, Slot, HasCell}
 use Rattle.pg_flood.specs.Protocol.{Protocol, IsSound, KeepsEdges, Covers}
@@ -35,7 +35,7 @@ sound : IsSound numbers
 sound = record { same = λ c. omega arith; further = λ a b c h k. omega arith; ends = λ a f b c x h. absurd h }
 
 named : (b : ℕ) (u : Bool) → (1 == b) ≡ u → is_some (cond u (Some first.keys) None) ≡ true → 1 ≡ b
-named b true e h = same_number 1 b e
+named b true e h = eqb-true 1 b e
 named b false e h = absurd (let z : false ≡ true = h in cc)
 
 born_by : (b : ℕ) (s t : Bool) → is_some (keys_if_born (cond s (Some first) (cond t (Some second) None)) b) ≡ true → 1 ≡ b

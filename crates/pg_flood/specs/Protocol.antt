@@ -7,8 +7,8 @@ use Rattle.pg_flood.specs.Server.{Replica, Server, Slot, peer_of, tag_on, HasCel
 -- N: what a server holds. M: messages. C: cells
 -- see: what the edges see of a server
 -- IsUpTo: whoever holds the second cell covers the first
--- IsOver: the server drew this birth for its replica of the file, and holds it no longer; what more is known of a cell
---   that the replica had is the protocol's to say
+-- IsOver: the server drew this birth for its replica of the file, and holds it no longer; what more
+--   is known of a cell that the replica had is the protocol's to say
 -- says: what a message says to the edges
 -- Noted: what a server heard, and may answer in a later event
 pub record Protocol (N M C : Type 0) : Type 1 where
@@ -19,11 +19,14 @@ pub record Protocol (N M C : Type 0) : Type 1 where
   pub Noted : N → Saying Slot C → Type 0
 
 module _ {N M C : Type 0} (p : Protocol N M C) where
-  -- what has to be true of it: cells are up to themselves, and on through others; and a birth that is over is not held
+  -- what has to be true of it: cells are up to themselves, and on through others; and a birth that
+  -- is over is not held
   pub record IsSound : Type 0 where
     pub same : (c : C) → p.IsUpTo c c
     pub further : (a b c : C) → p.IsUpTo a b → p.IsUpTo b c → p.IsUpTo a c
-    pub ends : (a : N) (file : FileId) (birth : ℕ) (c : C) (x : Replica C) → p.IsOver a file birth c → (p.see a).replicas file ≡ Some x → x.birth ≢ birth
+    pub ends :
+        (a : N) (file : FileId) (birth : ℕ) (c : C) (x : Replica C)
+        → p.IsOver a file birth c → (p.see a).replicas file ≡ Some x → x.birth ≢ birth
 
   abbrev pub tags_of : N → ℕ
   tags_of a = (p.see a).tags

@@ -2,7 +2,8 @@
 use Rattle.std.specs.Prelude.{ℕ, ◌≡◌, ◌+◌, ◌-◌, ◌^◌, List, min, OnOk, Result}
 
 -- the bytes that are left to read, or that were written; the numbers of the calls that fail, where
--- the first call has number 0; the most bytes of one call; how many calls were made, and how many failed
+-- the first call has number 0; the most bytes of one call; how many calls were made, and how many
+-- failed
 pub record InMemory : Type 0 where
   pub bytes : List ℕ
   pub fails : List ℕ
@@ -16,3 +17,13 @@ pub record IsCounted {T E : Type 0} (before now : InMemory) (result : Result T E
   pub faults : OnOk result (now.faults ≡ before.faults)
   pub fails : now.fails ≡ before.fails
   pub chunk : now.chunk ≡ before.chunk
+
+-- with these bytes, and these calls that fail, before any call
+abbrev pub fresh : List ℕ → List ℕ → ℕ → InMemory
+fresh bytes fails chunk = record {
+  bytes = bytes;
+  fails = fails;
+  chunk = chunk;
+  calls = 0;
+  faults = 0;
+}

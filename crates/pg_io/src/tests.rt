@@ -34,17 +34,17 @@ fn reads_all_or_says_why(rt: HostRuntime) -> Result<(), Fail> {
 }
 
 #[test]
-fn writes_all_or_a_front(rt: HostRuntime) -> Result<(), Fail> {
+fn writes_all_or_a_prefix(rt: HostRuntime) -> Result<(), Fail> {
     let cases: [(&[u64], Result<(), Failed>, &[u8]); 4] = [
         (&[], Ok(()), b"abcde"),
         (&[0], Err(Failed), b""),
         (&[1], Err(Failed), b"ab"),
         (&[3], Ok(()), b"abcde"),
     ];
-    for (fails, answer, held) in cases {
+    for (fails, answer, written) in cases {
         let mut sink = MemorySink::new(rt.alloc(), fails.to_vec(rt.alloc())?).with_chunk(2);
         assert_eq!(rt; write_all(&mut sink, b"abcde"), answer, "with {fails:?}");
-        assert_eq!(rt; sink.bytes(), held, "with {fails:?}");
+        assert_eq!(rt; sink.bytes(), written, "with {fails:?}");
         assert_eq!(rt; sink.faults() > 0, answer.is_err(), "with {fails:?}");
     }
     Ok(())

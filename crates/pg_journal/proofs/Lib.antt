@@ -1,12 +1,6 @@
 pub mod Behinds
-pub mod Cuts
-pub mod Fronts
-pub mod InOrder
 pub mod Lacking
-pub mod ListWords
 pub mod OneJournal
 pub mod OnePrinted
 pub mod PrintedWords
-pub mod Splitting
-pub mod Updates
-pub mod WordPlaces
+pub mod ShownWords

@@ -1,29 +1,26 @@
 -- A journal's line is its first word and the words behind it, and is cut into them again.
-use Rattle.std.proofs.Common.{ℕ, ◌≡◌, ◌≢◌, ◌<◌, ◌^◌, List, [], ◌∷◌, ◌++◌, eqb, refl, sym, ap, ◌∙◌, arith, codes, decimal, length, take, zero, suc, subst}
+use Rattle.std.proofs.Common.{ℕ, ◌≡◌, ◌≢◌, ◌<◌, ◌^◌, List, ◌∷◌, ◌++◌, refl, sym, ap, ◌∙◌, arith, codes, decimal, length, take, subst}
 use Rattle.std.proofs.lemmas.List.{take_all}
-use Rattle.std.specs.List.{AllByRecursion, join_with_byte, slice_split}
-use Rattle.std.proofs.lemmas.List.Elements.{All-append, All-cons, All-nil}
+use Rattle.std.specs.List.{AllByRecursion, join_with_byte}
+use Rattle.std.proofs.lemmas.List.Elements.{All-append, All-cons}
 use Rattle.std.proofs.lemmas.List.Splits.{join_with_byte-slice_split}
-use Rattle.pg_sched.specs.declared.change.Change.TheVariants as change
-use Rattle.pg_sched.specs.declared.entry.Refusal.TheVariants.{ClockEnd, TooLong, ManyActors}
-use Rattle.pg_sched.specs.declared.entry.Reply.{Reply}
-use Rattle.pg_sched.specs.declared.entry.Reply.TheVariants.{Done, Wrote, Refused}
+use Rattle.pg_call.specs.declared.change.Change.TheVariants as change
+use Rattle.pg_call.proofs.Replies.{few_told}
+use Rattle.pg_event.specs.declared.event.Event.TheVariants as event
+use Rattle.pg_event.proofs.Quiets.{few_asked}
 use Rattle.pg_sched.specs.declared.line.Line.{Line}
 use Rattle.pg_sched.specs.declared.line.Line.TheVariants as line
-use Rattle.pg_sched.specs.declared.line.Event.TheVariants as event
-use Rattle.pg_sched.specs.declared.quiet.Cause.TheVariants.{Message, Owed}
-use Rattle.pg_sched.specs.declared.quiet.Quiet as told
-use Rattle.pg_sched.specs.declared.quiet.Quiet.TheVariants as told_quiet
 use Rattle.pg_sched.specs.Line.{line_body, line_words, IsLine}
-use Rattle.pg_sched.specs.Quiet.{quiet_words}
 use Rattle.pg_sched.proofs.Lines.{line_body-lacks}
 use Rattle.pg_trace.specs.declared.printed.Printed.{Printed}
 use Rattle.pg_trace.specs.declared.printed.Printed.TheVariants.{Event, Write, Tick, Void, Made, Sent, Asked, Show}
+use Rattle.pg_trace.specs.Printed.{printed_words, printed_body, IsPrinted}
 use Rattle.pg_journal.specs.declared.verb.Verb.TheVariants as verb
-use Rattle.pg_trace.specs.Printed.{reply_words, printed_words, printed_body, IsPrinted}
 use Rattle.pg_journal.specs.Reading.{verb_word, verb_of, words_behind, event_text}
-use Rattle.pg_journal.proofs.Splitting.{split-join}
-use Rattle.pg_journal.proofs.Lacking.{Lacks, Ends, space, feed, Lacks-decimal, Lacks-verb, behind-lack}
+use Rattle.pg_journal.proofs.Lacking.{Lacks-verb, behind-lack}
+use Rattle.pg_words.specs.Words.{words_in}
+use Rattle.pg_words.proofs.Lacking.{Ends, space, feed, Lacks-decimal}
+use Rattle.pg_words.proofs.Splitting.{Lacks, Lacks-join, split-join, take_short}
 
 -- the words of a line are its verb and the words behind it
 pub spelled : (p : Printed) → printed_words p ≡ verb_word (verb_of p) ∷ words_behind p
@@ -50,13 +47,6 @@ event_body n line.Quiet = refl
 event_body n (line.Trace f) = refl
 event_body n (line.Show f) = refl
 
-Lacks-join : (c : ℕ) (words : List (List ℕ)) → 32 ≢ c → AllByRecursion (Lacks c) words → Lacks c (join_with_byte 32 words)
-Lacks-join c [] ne h = All-nil (λ b. b ≢ c)
-Lacks-join c (word ∷ []) ne h = h.0
-Lacks-join c (word ∷ next ∷ words) ne h =
-    All-append (λ b. b ≢ c) word (32 ∷ join_with_byte 32 (next ∷ words)) h.0
-    (All-cons (λ b. b ≢ c) 32 (join_with_byte 32 (next ∷ words)) ne (Lacks-join c (next ∷ words) ne h.1))
-
 ten : ◌≢◌ {A = ℕ} 32 10
 ten e = let e' : ◌≡◌ {A = ℕ} 32 10 = e in omega arith
 
@@ -77,7 +67,7 @@ words-lack : (c : ℕ) (p : Printed) → Ends c → 44 ≢ c → IsPrinted p →
 words-lack c p h ne fits other = (Lacks-verb c (verb_of p) h, behind-lack c p h ne fits other)
 
 other-lacks : (p : Printed) → IsPrinted p → verb_of p ≢ verb.Event → Lacks 10 (printed_body p)
-other-lacks p fits other = let P : List (List ℕ) → Type 0 = λ ws. Lacks 10 (join_with_byte 32 ws) in subst P (sym (spelled p)) (Lacks-join 10 (verb_word (verb_of p) ∷ words_behind p) ten (words-lack 10 p feed comma_no_feed fits other))
+other-lacks p fits other = let P : List (List ℕ) → Type 0 = λ ws. Lacks 10 (join_with_byte 32 ws) in subst P (sym (spelled p)) (Lacks-join 10 32 (verb_word (verb_of p) ∷ words_behind p) ten (words-lack 10 p feed comma_no_feed fits other))
 
 -- no line has a line feed in it
 pub printed_body-lacks : (p : Printed) → IsPrinted p → Lacks 10 (printed_body p)
@@ -91,21 +81,9 @@ printed_body-lacks (Asked w q) fits = other-lacks (Asked w q) fits (λ e. cc)
 printed_body-lacks (Show n f s k b) fits = other-lacks (Show n f s k b) fits (λ e. cc)
 
 -- the words of a line that is no event, from its text
-pub words-again : (p : Printed) → IsPrinted p → verb_of p ≢ verb.Event → slice_split (λ b. eqb b 32) (printed_body p) ≡ printed_words p
+pub words-again : (p : Printed) → IsPrinted p → verb_of p ≢ verb.Event → words_in (printed_body p) ≡ printed_words p
 words-again p fits other =
-    ap (λ ws. slice_split (λ b. eqb b 32) (join_with_byte 32 ws)) (spelled p) ∙ split-join 32 (verb_word (verb_of p)) (words_behind p) (words-lack 32 p space comma_no_space fits other) ∙ sym (spelled p)
-
-few_told : (r : Reply) → length (reply_words r) < 5
-few_told Done = omega arith
-few_told (Wrote s) = omega arith
-few_told (Refused ClockEnd) = omega arith
-few_told (Refused TooLong) = omega arith
-few_told (Refused ManyActors) = omega arith
-
-few_asked : (q : told.Quiet) → length (quiet_words q) < 8
-few_asked told_quiet.Quiet = omega arith
-few_asked (told_quiet.Waits (Message s)) = omega arith
-few_asked (told_quiet.Waits (Owed o)) = omega arith
+    ap (λ ws. words_in (join_with_byte 32 ws)) (spelled p) ∙ split-join 32 (verb_word (verb_of p)) (words_behind p) (words-lack 32 p space comma_no_space fits other) ∙ sym (spelled p)
 
 few_line : (what : Line) → length (line_words what) < 7
 few_line (line.Happens (event.Write s m f (change.Put b))) = omega arith
@@ -130,23 +108,15 @@ few_words (Sent s) = omega arith
 few_words (Asked w q) = let h = few_asked q in omega arith
 few_words (Show n f s k b) = omega arith
 
-take_short : (n : ℕ) (xs ys : List (List ℕ)) → take n xs ≡ ys → length ys < n → xs ≡ ys
-take_short zero xs ys e h = absurd (omega arith)
-take_short (suc n) [] ys e h = e
-take_short (suc n) (x ∷ xs) [] e h = absurd (let m = ap length e in omega arith)
-take_short (suc n) (x ∷ xs) (y ∷ ys) e h =
-    let first : x ≡ y = cc in
-    let more : take n xs ≡ ys = cc in
-    let rest : xs ≡ ys = take_short n xs ys more (omega arith) in
-    cc
-
 -- a text whose first words are those of a line is the line's
-pub text-again : (text : List ℕ) (p : Printed) → take 13 (slice_split (λ b. eqb b 32) text) ≡ printed_words p → text ≡ printed_body p
+pub text-again : (text : List ℕ) (p : Printed) → take 13 (words_in text) ≡ printed_words p → text ≡ printed_body p
 text-again text p e =
-    sym (join_with_byte-slice_split 32 text) ∙ ap (join_with_byte 32) (take_short 13 (slice_split (λ b. eqb b 32) text) (printed_words p) e (few_words p))
+    let n = ap length e in
+    let few = few_words p in
+    sym (join_with_byte-slice_split 32 text) ∙ ap (join_with_byte 32) (sym (take_short 13 (words_in text) (omega arith)) ∙ e)
 
 -- the first words of a line's text are all its words
-pub words-first : (text : List ℕ) (p : Printed) → IsPrinted p → verb_of p ≢ verb.Event → text ≡ printed_body p → take 13 (slice_split (λ b. eqb b 32) text) ≡ printed_words p
+pub words-first : (text : List ℕ) (p : Printed) → IsPrinted p → verb_of p ≢ verb.Event → text ≡ printed_body p → take 13 (words_in text) ≡ printed_words p
 words-first text p fits other e =
     let few = few_words p in
-    ap (λ t. take 13 (slice_split (λ b. eqb b 32) t)) e ∙ ap (take 13) (words-again p fits other) ∙ take_all 13 (printed_words p) (omega arith)
+    ap (λ t. take 13 (words_in t)) e ∙ ap (take 13) (words-again p fits other) ∙ take_all 13 (printed_words p) (omega arith)

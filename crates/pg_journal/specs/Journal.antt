@@ -1,14 +1,15 @@
 -- A whole journal: which line of a text is the first that is none of a journal.
 use Rattle.std.specs.Prelude.{ℕ, ◌≡◌, ◌≢◌, ◌+◌, ◌⊎◌, List, [], ◌∷◌, ◌++◌, length}
-use Rattle.pg_sched.specs.declared.fault.Fault.{Fault}
-use Rattle.pg_sched.specs.declared.fault.Fault.TheVariants.{End, Verb}
+use Rattle.pg_event.specs.declared.fault.Fault.{Fault}
+use Rattle.pg_event.specs.declared.fault.Fault.TheVariants.{End, Verb}
 use Rattle.pg_trace.specs.declared.printed.Printed.{Printed}
 use Rattle.pg_trace.specs.Printed.{printed_text, journal_spelling, IsPrinted, ArePrinted}
 
 -- the text goes on, and not with a line of a journal
 pub record LacksPrinted (text : List ℕ) : Type 0 where
   pub some : text ≢ []
-  pub none : (line : Printed) (rest : List ℕ) → IsPrinted line → text ≡ printed_text line ++ rest → ⊥
+  pub none : (line : Printed) (rest : List ℕ) → IsPrinted line
+      → text ≡ printed_text line ++ rest → ⊥
 
 -- a line feed stands in the text
 abbrev pub HasEnd : List ℕ → Type 0

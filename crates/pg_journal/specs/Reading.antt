@@ -1,31 +1,21 @@
 -- A line of a journal as it is read: by its first word, and then by the words behind it.
-use Rattle.std.specs.Prelude.{ℕ, ◌≡◌, ◌<◌, ◌^◌, List, [], ◌∷◌, ◌++◌, decimal, codes}
+use Rattle.std.specs.Prelude.{ℕ, ◌≡◌, List, [], ◌∷◌, ◌++◌, decimal, codes}
 use Rattle.pg_base.specs.Id as id
-use Rattle.pg_base.specs.StampText.{stamp_text}
-use Rattle.pg_patch.specs.declared.part.Part.{Part}
-use Rattle.pg_msg.specs.declared.update.Update.{Update}
+use Rattle.pg_call.specs.declared.reply.Reply.{Reply}
+use Rattle.pg_call.specs.Change.{kind_word}
+use Rattle.pg_call.specs.Reply.{reply_words}
+use Rattle.pg_event.specs.Entry.{void_word}
+use Rattle.pg_event.specs.Quiet.{quiet_words}
 use Rattle.pg_msg.specs.Text.{summary_words}
-use Rattle.pg_sched.specs.declared.entry.Reply.{Reply}
-use Rattle.pg_sched.specs.declared.entry.Reply.TheVariants.{Done, Wrote, Refused}
-use Rattle.pg_sched.specs.Change.{hex_word, kind_word, AreBytes}
+use Rattle.pg_msg.specs.UpdateText.{update_spelling}
 use Rattle.pg_sched.specs.Line.{line_words}
-use Rattle.pg_sched.specs.Quiet.{quiet_words}
 use Rattle.pg_trace.specs.declared.printed.Printed.{Printed}
 use Rattle.pg_trace.specs.declared.printed.Printed.TheVariants as printed
+use Rattle.pg_trace.specs.Printed.{asked_word, IsPrinted}
 use Rattle.pg_journal.specs.declared.verb.Verb.{Verb}
 use Rattle.pg_journal.specs.declared.verb.Verb.TheVariants.{Event, Write, Tick, Void, Made, Sent, Asked, Show}
-use Rattle.pg_trace.specs.Printed.{reply_words, void_word, stamps_word, keep_word, parts_word, asked_word, IsStamp, IsPrinted}
-
--- what somebody may be told
-abbrev pub IsReply : Reply → Type 0
-IsReply Done = Unit {0}
-IsReply (Wrote stamp) = IsStamp stamp
-IsReply (Refused refusal) = Unit {0}
-
--- a part of ranges: a place of 32 bits, and bytes, one at least and no more than have places of 32 bits
-pub record IsPart (part : Part) : Type 0 where
-  pub place : part.offset < 2 ^ 32
-  pub holds : AreBytes 4294967295 part.bytes
+use Rattle.pg_words.specs.HexWord.{hex_word}
+use Rattle.pg_words.specs.StampWord.{stamps_word}
 
 -- the word that a verb is
 abbrev pub verb_word : Verb → List ℕ
@@ -47,22 +37,17 @@ verb_of (printed.Void line cause) = Void
 verb_of (printed.Made update) = Made
 verb_of (printed.Sent summary) = Sent
 verb_of (printed.Asked word answer) = Asked word
-verb_of (printed.Show server file heads count front) = Show
+verb_of (printed.Show server file heads count bytes) = Show
 
 -- a server, and what it told
 abbrev pub told_words : ℕ → Reply → List (List ℕ)
 told_words server reply = decimal server ∷ codes "->" ∷ reply_words reply
 
--- what stands behind `made`, with these words for the file, the stamp, the bases, what stays, the least length and the parts
-abbrev pub update_words : List ℕ → List ℕ → List ℕ → List ℕ → List ℕ → List ℕ → List (List ℕ)
-update_words file stamp bases keep least parts = codes "version" ∷ file ∷ stamp ∷ codes "from" ∷ bases ∷ codes "keep" ∷ keep ∷ codes "least" ∷ least ∷ codes "parts" ∷ parts ∷ []
-
-abbrev pub update_spelling : Update → List (List ℕ)
-update_spelling u = update_words (id.spelling u.file) (stamp_text u.stamp) (stamps_word u.bases) (keep_word u.ranges.keep) (decimal u.ranges.least) (parts_word u.ranges.parts)
-
--- what stands behind `at`, with these words for the server, the file, the stamps of the heads, the length and the first bytes
+-- what stands behind `at`, with these words for the server, the file, the stamps of the heads, the length and the first
+-- bytes
 abbrev pub shown_words : List ℕ → List ℕ → List ℕ → List ℕ → List ℕ → List (List ℕ)
-shown_words server file heads count front = server ∷ file ∷ codes "heads" ∷ heads ∷ codes "shown" ∷ count ∷ front ∷ []
+shown_words server file heads count bytes =
+    server ∷ file ∷ codes "heads" ∷ heads ∷ codes "shown" ∷ count ∷ bytes ∷ []
 
 -- the words of a line behind the first
 abbrev pub words_behind : Printed → List (List ℕ)
@@ -73,7 +58,9 @@ words_behind (printed.Void line cause) = decimal line ∷ void_word cause ∷ []
 words_behind (printed.Made update) = update_spelling update
 words_behind (printed.Sent summary) = summary_words summary
 words_behind (printed.Asked word answer) = quiet_words answer
-words_behind (printed.Show server file heads count front) = shown_words (decimal server) (id.spelling file) (stamps_word heads) (decimal count) (hex_word front)
+words_behind (printed.Show server file heads count bytes) =
+    shown_words (decimal server) (id.spelling file) (stamps_word heads) (decimal count)
+    (hex_word bytes)
 
 -- the verb with these words behind it is the line
 pub record Reads (v : Verb) (words : List (List ℕ)) (line : Printed) : Type 0 where

@@ -3,7 +3,7 @@
 ghost use Rattle.std.specs.Prelude.{◌≡◌, ◌++◌, ◌+◌, ◌<◌, ◌⊎◌, ℕ, List, length, IfOk, IfErr, IsErrAnd, MatchResult};
 ghost use Rattle.std.specs.List.{AllByRecursion};
 ghost use Rattle.pg_sched.specs.declared.error.ReadError.TheVariants.{BadLine, OutOfMemory};
-ghost use Rattle.pg_sched.specs.declared.fault.Fault.{Fault};
+ghost use Rattle.pg_event.specs.declared.fault.Fault.{Fault};
 ghost use Rattle.pg_journal.specs.Journal.{LacksPrinted, IsOtherFault, IsFirstOther};
 ghost use Rattle.pg_trace.specs.Printed.{IsPrinted, ArePrinted, printed_text, journal_spelling};
 ghost use Rattle.pg_journal.specs.declared.journal.Stop.TheVariants as stop;
@@ -11,7 +11,8 @@ ghost use Rattle.pg_trace.specs.declared.printed.Printed.{Printed};
 
 use crate::reading::read_printed;
 use pg_base::{Items, cut_at};
-use pg_sched::{Fault, ReadError};
+use pg_event::Fault;
+use pg_sched::ReadError;
 use pg_trace::Printed;
 use std::alloc::{AllocError, Global};
 
@@ -31,17 +32,17 @@ impl From<AllocError> for Stop {
     }
 }
 
-/// The line at the front of a text, and what stands behind it.
+/// The first line of a text, and what stands behind it.
 fn first_line(alloc: Global, text: &[u8]) -> Result<(Printed, &[u8]), Stop>
     requires { 0 < length text.now }
     ensures found { IfOk result (λ x. IsPrinted x.0 × (text.now ≡ printed_text x.0 ++ x.1.now)) }
     ensures lacks { IfErr result (λ e. (f : Fault) → e ≡ stop.Other f → LacksPrinted text.now) }
     ensures fault { IfErr result (λ e. (f : Fault) → e ≡ stop.Other f → IsOtherFault text.now f) }
 {
-    let Some((front, rest)) = cut_at(text, b'\n') else {
+    let Some((body, rest)) = cut_at(text, b'\n') else {
         return Err(Stop::Other(Fault::End));
     };
-    match read_printed(alloc, front)? {
+    match read_printed(alloc, body)? {
         Some(line) => Ok((line, rest)),
         None => Err(Stop::Other(Fault::Verb)),
     }
@@ -50,7 +51,8 @@ fn first_line(alloc: Global, text: &[u8]) -> Result<(Printed, &[u8]), Stop>
 /// The lines that a text spells.
 fn lines_of(alloc: Global, text: &[u8]) -> Result<Vec<Printed>, ReadError>
     ensures found { IfOk result (λ v. ArePrinted v.items × (text.now ≡ journal_spelling v.items)) }
-    ensures bad { IfErr result (λ e. (n : ℕ) (f : Fault) → e ≡ BadLine n f → IsFirstOther text.now n f) }
+    ensures bad { IfErr result (λ e. (n : ℕ) (f : Fault) → e ≡ BadLine n f
+        → IsFirstOther text.now n f) }
 {
     let mut lines = Vec::new(alloc);
     let mut rest = text;
@@ -72,10 +74,15 @@ fn lines_of(alloc: Global, text: &[u8]) -> Result<Vec<Printed>, ReadError>
 ///
 /// The error names the first line that is none of a journal: `End` where no line feed ends it, and else `Verb`.
 pub fn read_journal(alloc: Global, text: &[u8]) -> Result<Items<Printed>, ReadError>
-    ensures found { IfOk result (λ j. AllByRecursion IsPrinted j × (text.now ≡ journal_spelling j)) }
-    ensures bad { IfErr result (λ e. (n : ℕ) (f : Fault) → e ≡ BadLine n f → IsFirstOther text.now n f) }
-    ensures complete { (j : List Printed) → AllByRecursion IsPrinted j → text.now ≡ journal_spelling j → MatchResult result (λ r. r ≡ j) (λ e. e ≡ OutOfMemory) }
-    ensures first { (n : ℕ) (f : Fault) → IsFirstOther text.now n f → IsErrAnd result (λ e. (e ≡ BadLine n f) ⊎ (e ≡ OutOfMemory)) }
+    ensures found { IfOk result (λ j. AllByRecursion IsPrinted j
+        × (text.now ≡ journal_spelling j)) }
+    ensures bad { IfErr result (λ e. (n : ℕ) (f : Fault) → e ≡ BadLine n f
+        → IsFirstOther text.now n f) }
+    ensures complete { (j : List Printed) → AllByRecursion IsPrinted j
+        → text.now ≡ journal_spelling j
+        → MatchResult result (λ r. r ≡ j) (λ e. e ≡ OutOfMemory) }
+    ensures first { (n : ℕ) (f : Fault) → IsFirstOther text.now n f
+        → IsErrAnd result (λ e. (e ≡ BadLine n f) ⊎ (e ≡ OutOfMemory)) }
 {
     let lines = lines_of(alloc, text)?;
     Ok(Items::from_vec(lines))
@@ -83,5 +90,6 @@ pub fn read_journal(alloc: Global, text: &[u8]) -> Result<Items<Printed>, ReadEr
 
 /// No two journals have one spelling, so what was written is read again.
 pub fn one_journal()
-    ensures { (x y : List Printed) → ArePrinted x → ArePrinted y → journal_spelling x ≡ journal_spelling y → x ≡ y }
+    ensures { (x y : List Printed) → ArePrinted x → ArePrinted y
+        → journal_spelling x ≡ journal_spelling y → x ≡ y }
 {}

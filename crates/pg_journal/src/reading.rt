@@ -1,28 +1,36 @@
 //! A line of a journal, from text.
 
-ghost use Rattle.std.specs.Prelude.{◌≡◌, ◌≢◌, ◌<◌, ℕ, List, map, All, IfOk, IfSome, IfNone};
-ghost use Rattle.pg_trace.specs.Printed.{IsPrinted, printed_words, printed_body};
+ghost use Rattle.std.specs.Prelude.{◌≡◌, ◌≢◌, ◌<◌, ◌++◌, ℕ, List, map, All, IfOk, IfSome, IfNone};
 ghost use Rattle.pg_journal.specs.Reading.{Reads, event_text, verb_of};
-ghost use Rattle.pg_trace.specs.declared.printed.Printed.{Printed};
 ghost use Rattle.pg_journal.specs.declared.verb.Verb.{Verb};
 ghost use Rattle.pg_journal.specs.declared.verb.Verb.TheVariants as verb;
+ghost use Rattle.pg_trace.specs.Printed.{IsPrinted, printed_words, printed_body};
+ghost use Rattle.pg_trace.specs.declared.printed.Printed.{Printed};
 
-use crate::fields::{behind, first_of, front_of, void_of, words_of};
-use crate::lists::stamps_of;
-use crate::shapes::{quiet_of, summary_of, told_of};
-use crate::update::update_of;
+use crate::told::read_told;
 use crate::verb::Verb;
 use pg_base::{cut_at, number, number_u32};
-use pg_sched::{ChangeKind, Refusal, Reply, is_same, read_file, read_line};
+use pg_call::{ChangeKind, Refusal, Reply};
+use pg_event::{read_quiet, read_void};
+use pg_msg::{read_summary, read_update};
+use pg_sched::read_line;
 use pg_trace::{Printed, Word};
+use pg_words::{first_word, first_words, is_same, read_file, read_hex_word, read_stamps};
 use std::alloc::{AllocError, Global};
+
+/// More words than any line has that is no event.
+const TOO_MANY: usize = 13;
+
+/// The most bytes that are shown of a file.
+const MOST_SHOWN: usize = 16;
 
 /// What the client of a write was told, from the words behind the one for its kind.
 fn write_of(kind: ChangeKind, words: &[&[u8]]) -> Option<Printed>
     ensures found { IfSome result (Reads (verb.Write kind) (map (λ w. w.now) words.now)) }
-    ensures none { IfNone result ((p : Printed) → Reads (verb.Write kind) (map (λ w. w.now) words.now) p → ⊥) }
+    ensures none { IfNone result ((p : Printed)
+        → Reads (verb.Write kind) (map (λ w. w.now) words.now) p → ⊥) }
 {
-    let (server, reply) = told_of(words)?;
+    let (server, reply) = read_told(words)?;
     match reply {
         Reply::Done => None,
         Reply::Wrote(stamp) => Some(Printed::Write {
@@ -41,9 +49,10 @@ fn write_of(kind: ChangeKind, words: &[&[u8]]) -> Option<Printed>
 /// What came of a tick, from the words behind `tick`.
 fn tick_of(words: &[&[u8]]) -> Option<Printed>
     ensures found { IfSome result (Reads verb.Tick (map (λ w. w.now) words.now)) }
-    ensures none { IfNone result ((p : Printed) → Reads verb.Tick (map (λ w. w.now) words.now) p → ⊥) }
+    ensures none { IfNone result ((p : Printed)
+        → Reads verb.Tick (map (λ w. w.now) words.now) p → ⊥) }
 {
-    let (server, reply) = told_of(words)?;
+    let (server, reply) = read_told(words)?;
     match reply {
         Reply::Done => Some(Printed::Tick {
             server,
@@ -63,22 +72,24 @@ fn tick_of(words: &[&[u8]]) -> Option<Printed>
 /// Which event changes nothing, from the words behind `void`.
 fn nothing_of(words: &[&[u8]]) -> Option<Printed>
     ensures found { IfSome result (Reads verb.Void (map (λ w. w.now) words.now)) }
-    ensures none { IfNone result ((p : Printed) → Reads verb.Void (map (λ w. w.now) words.now) p → ⊥) }
+    ensures none { IfNone result ((p : Printed)
+        → Reads verb.Void (map (λ w. w.now) words.now) p → ⊥) }
 {
     let [line, cause] = words else {
         return None;
     };
     let line = number(line)?;
-    let cause = void_of(cause)?;
+    let cause = read_void(cause)?;
     Some(Printed::Void { line, cause })
 }
 
 /// Which version was made, from the words behind `made`.
 fn made_of(alloc: Global, words: &[&[u8]]) -> Result<Option<Printed>, AllocError>
     ensures found { IfOk result (λ o. IfSome o (Reads verb.Made (map (λ w. w.now) words.now))) }
-    ensures none { IfOk result (λ o. IfNone o ((p : Printed) → Reads verb.Made (map (λ w. w.now) words.now) p → ⊥)) }
+    ensures none { IfOk result (λ o. IfNone o ((p : Printed)
+        → Reads verb.Made (map (λ w. w.now) words.now) p → ⊥)) }
 {
-    match update_of(alloc, words)? {
+    match read_update(alloc, words)? {
         Some(update) => Ok(Some(Printed::Made(update))),
         None => Ok(None),
     }
@@ -87,25 +98,28 @@ fn made_of(alloc: Global, words: &[&[u8]]) -> Result<Option<Printed>, AllocError
 /// Which message was sent, from the words behind `sent`.
 fn sent_of(words: &[&[u8]]) -> Option<Printed>
     ensures found { IfSome result (Reads verb.Sent (map (λ w. w.now) words.now)) }
-    ensures none { IfNone result ((p : Printed) → Reads verb.Sent (map (λ w. w.now) words.now) p → ⊥) }
+    ensures none { IfNone result ((p : Printed)
+        → Reads verb.Sent (map (λ w. w.now) words.now) p → ⊥) }
 {
-    let summary = summary_of(words)?;
+    let summary = read_summary(words)?;
     Some(Printed::Sent(summary))
 }
 
 /// Whether all is done, from the words behind this one.
 fn asked_of(word: Word, words: &[&[u8]]) -> Option<Printed>
     ensures found { IfSome result (Reads (verb.Asked word) (map (λ w. w.now) words.now)) }
-    ensures none { IfNone result ((p : Printed) → Reads (verb.Asked word) (map (λ w. w.now) words.now) p → ⊥) }
+    ensures none { IfNone result ((p : Printed)
+        → Reads (verb.Asked word) (map (λ w. w.now) words.now) p → ⊥) }
 {
-    let quiet = quiet_of(words)?;
+    let quiet = read_quiet(words)?;
     Some(Printed::Asked { word, quiet })
 }
 
 /// What a server shows, from the words behind `at`.
 fn show_of(alloc: Global, words: &[&[u8]]) -> Result<Option<Printed>, AllocError>
     ensures found { IfOk result (λ o. IfSome o (Reads verb.Show (map (λ w. w.now) words.now))) }
-    ensures none { IfOk result (λ o. IfNone o ((p : Printed) → Reads verb.Show (map (λ w. w.now) words.now) p → ⊥)) }
+    ensures none { IfOk result (λ o. IfNone o ((p : Printed)
+        → Reads verb.Show (map (λ w. w.now) words.now) p → ⊥)) }
 {
     let [server, file, named, heads, shown, length, first] = words else {
         return Ok(None);
@@ -122,13 +136,13 @@ fn show_of(alloc: Global, words: &[&[u8]]) -> Result<Option<Printed>, AllocError
     let Some(file) = read_file(file) else {
         return Ok(None);
     };
-    let Some(heads) = stamps_of(alloc, heads)? else {
+    let Some(heads) = read_stamps(alloc, heads)? else {
         return Ok(None);
     };
     let Some(length) = number(length) else {
         return Ok(None);
     };
-    let Some(first) = front_of(alloc, first)? else {
+    let Some(first) = read_hex_word(alloc, first, MOST_SHOWN)? else {
         return Ok(None);
     };
     Ok(Some(Printed::Show {
@@ -143,7 +157,8 @@ fn show_of(alloc: Global, words: &[&[u8]]) -> Result<Option<Printed>, AllocError
 /// The line that begins with this verb and goes on with these words. An event's line is read by its text.
 fn verb_line(alloc: Global, verb: Verb, words: &[&[u8]]) -> Result<Option<Printed>, AllocError>
     ensures found { IfOk result (λ o. IfSome o (Reads verb (map (λ w. w.now) words.now))) }
-    ensures none { IfOk result (λ o. IfNone o ((p : Printed) → verb ≢ Verb.Event → Reads verb (map (λ w. w.now) words.now) p → ⊥)) }
+    ensures none { IfOk result (λ o. IfNone o ((p : Printed) → verb ≢ Verb.Event
+        → Reads verb (map (λ w. w.now) words.now) p → ⊥)) }
 {
     match verb {
         Verb::Event => Ok(None),
@@ -159,10 +174,12 @@ fn verb_line(alloc: Global, verb: Verb, words: &[&[u8]]) -> Result<Option<Printe
 
 /// The line of these words, if it is no event's.
 fn line_of(alloc: Global, words: &[&[u8]]) -> Result<Option<Printed>, AllocError>
-    ensures found { IfOk result (λ o. IfSome o (λ p. IsPrinted p × (map (λ w. w.now) words.now ≡ printed_words p))) }
-    ensures none { IfOk result (λ o. IfNone o ((p : Printed) → IsPrinted p → verb_of p ≢ verb.Event → map (λ w. w.now) words.now ≡ printed_words p → ⊥)) }
+    ensures found { IfOk result (λ o. IfSome o (λ p. IsPrinted p
+        × (map (λ w. w.now) words.now ≡ printed_words p))) }
+    ensures none { IfOk result (λ o. IfNone o ((p : Printed) → IsPrinted p → verb_of p ≢ verb.Event
+        → map (λ w. w.now) words.now ≡ printed_words p → ⊥)) }
 {
-    let Some((word, rest)) = first_of(words) else {
+    let Some((word, rest)) = first_word(words) else {
         return Ok(None);
     };
     let Some(verb) = Verb::read(word) else {
@@ -175,11 +192,21 @@ fn line_of(alloc: Global, words: &[&[u8]]) -> Result<Option<Printed>, AllocError
 /// The line that the text spells, if it is no event's.
 fn other_of(alloc: Global, text: &[u8]) -> Result<Option<Printed>, AllocError>
     ensures found { IfOk result (λ o. IfSome o (λ p. IsPrinted p × (text.now ≡ printed_body p))) }
-    ensures none { IfOk result (λ o. IfNone o ((p : Printed) → IsPrinted p → verb_of p ≢ verb.Event → text.now ≡ printed_body p → ⊥)) }
+    ensures none { IfOk result (λ o. IfNone o ((p : Printed) → IsPrinted p → verb_of p ≢ verb.Event
+        → text.now ≡ printed_body p → ⊥)) }
 {
-    let words = words_of(alloc, text)?;
-    let found = line_of(alloc, words.as_slice())?;
+    let mut room = [b"".as_slice(); TOO_MANY];
+    let count = first_words(text, &mut room);
+    let found = line_of(alloc, &room[..count])?;
     Ok(found)
+}
+
+/// What stands in the text behind this prefix.
+fn text_behind<'a>(text: &'a [u8], prefix: &[u8]) -> Option<&'a [u8]>
+    ensures found { IfSome result (λ r. text.now ≡ prefix.now ++ r.now) }
+    ensures none { IfNone result ((rest : List ℕ) → text.now ≡ prefix.now ++ rest → ⊥) }
+{
+    text.strip_prefix(prefix)
 }
 
 /// The texts of an event's number and of the schedule's line, where the text is an event's.
@@ -188,15 +215,17 @@ fn event_parts(text: &[u8]) -> Option<(&[u8], &[u8])>
     ensures first { IfSome result (λ x. All (λ b. b ≢ 32) x.0.now) }
     ensures none { IfNone result ((number line : List ℕ) → text.now ≡ event_text number line → ⊥) }
 {
-    let rest = behind(text, b"event ")?;
+    let rest = text_behind(text, b"event ")?;
     cut_at(rest, b' ')
 }
 
 /// The event's line of these texts for its number and for the schedule's line.
 fn event_of(alloc: Global, number_text: &[u8], line: &[u8]) -> Result<Option<Printed>, AllocError>
     requires { All (λ b. b ≢ 32) number_text.now }
-    ensures found { IfOk result (λ o. IfSome o (λ p. IsPrinted p × (event_text number_text.now line.now ≡ printed_body p))) }
-    ensures none { IfOk result (λ o. IfNone o ((p : Printed) → IsPrinted p → event_text number_text.now line.now ≡ printed_body p → ⊥)) }
+    ensures found { IfOk result (λ o. IfSome o (λ p. IsPrinted p
+        × (event_text number_text.now line.now ≡ printed_body p))) }
+    ensures none { IfOk result (λ o. IfNone o ((p : Printed) → IsPrinted p
+        → event_text number_text.now line.now ≡ printed_body p → ⊥)) }
 {
     let Some(number) = number(number_text) else {
         return Ok(None);
@@ -210,7 +239,8 @@ fn event_of(alloc: Global, number_text: &[u8], line: &[u8]) -> Result<Option<Pri
 /// The line that the text spells, which has no line feed: nothing where it spells none.
 pub(crate) fn read_printed(alloc: Global, text: &[u8]) -> Result<Option<Printed>, AllocError>
     ensures found { IfOk result (λ o. IfSome o (λ p. IsPrinted p × (text.now ≡ printed_body p))) }
-    ensures none { IfOk result (λ o. IfNone o ((p : Printed) → IsPrinted p → text.now ≡ printed_body p → ⊥)) }
+    ensures none { IfOk result (λ o. IfNone o ((p : Printed) → IsPrinted p
+        → text.now ≡ printed_body p → ⊥)) }
 {
     match event_parts(text) {
         Some((number, line)) => {

@@ -4,7 +4,7 @@ ghost use Rattle.std.specs.Prelude.{◌≡◌, ◌≢◌, IfSome, IfNone};
 ghost use Rattle.pg_journal.specs.Reading.{verb_word};
 ghost use Rattle.pg_journal.specs.declared.verb.Verb.{Verb};
 
-use pg_sched::ChangeKind;
+use pg_call::ChangeKind;
 use pg_trace::Word;
 
 /// What a line of a journal is, as its first word tells.

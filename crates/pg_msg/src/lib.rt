@@ -3,12 +3,13 @@
 
 mod key_word;
 mod message;
+mod ranges_word;
 mod summary;
-#[cfg(test)]
-mod tests;
 mod update;
+mod work;
 
-pub use key_word::KeyWord;
+pub use key_word::{KeyWord, one_key_spelling, read_key};
 pub use message::{Ends, Message, Packet, Sent};
-pub use summary::{Kind, Summary};
-pub use update::Update;
+pub use summary::{MessageKind, Summary, one_summary_spelling, read_summary};
+pub use update::{Update, one_update_spelling, read_update};
+pub use work::{Touched, Work};

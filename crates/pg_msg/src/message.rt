@@ -1,9 +1,10 @@
 //! Messages between servers.
 
 ghost use Rattle.std.specs.Prelude.{◌≡◌, IfOk};
-ghost use Rattle.pg_msg.specs.Sent.{told, summary};
+ghost use Rattle.pg_msg.specs.Sent.{summary_of, summary};
+ghost use Rattle.pg_msg.specs.View.{view};
 
-use crate::summary::{Kind, Summary};
+use crate::summary::{MessageKind, Summary};
 use pg_base::{FileId, NodeId, Version};
 use pg_edges::Key;
 use std::alloc::AllocError;
@@ -36,6 +37,16 @@ pub enum Message {
 }
 
 impl Message {
+    /// The edge that it goes along.
+    pub fn ends(&self) -> &Ends
+        ensures { result.now ≡ (view self.now).edge }
+    {
+        match self {
+            Message::Cell { ends, .. } => ends,
+            Message::Ack { ends, .. } => ends,
+        }
+    }
+
     /// The same message again.
     pub fn copy(&self) -> Result<Message, AllocError>
         ensures { IfOk result (λ m. m ≡ self.now) }
@@ -54,21 +65,21 @@ impl Message {
         }
     }
 
-    fn told(&self, from: NodeId, to: NodeId) -> Summary
-        ensures { result ≡ told from to self.now }
+    fn summary_of(&self, from: NodeId, to: NodeId) -> Summary
+        ensures { result ≡ summary_of from to self.now }
     {
         match self {
             Message::Cell { ends, version, .. } => Summary {
                 from,
                 to,
-                kind: Kind::Cell,
+                kind: MessageKind::Cell,
                 file: ends.file,
                 key: Key::Version(version.head().stamp),
             },
             Message::Ack { ends, key, .. } => Summary {
                 from,
                 to,
-                kind: Kind::Ack,
+                kind: MessageKind::Ack,
                 file: ends.file,
                 key: *key,
             },
@@ -117,6 +128,6 @@ impl Sent {
     pub fn summary(&self) -> Summary
         ensures { result ≡ summary self.now }
     {
-        self.packet.message.told(self.packet.from, self.to)
+        self.packet.message.summary_of(self.packet.from, self.to)
     }
 }

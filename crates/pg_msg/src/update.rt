@@ -1,10 +1,16 @@
 //! What servers make.
 
-ghost use Rattle.std.specs.Prelude.{◌≡◌, IfOk};
+ghost use Rattle.std.specs.Prelude.{◌≡◌, ◌↔◌, List, ℕ, map, codes, IfOk, IfSome, IfNone, IsTrue};
+ghost use Rattle.pg_msg.specs.UpdateText.{IsUpdate, update_words, update_spelling};
+ghost use Rattle.pg_msg.specs.VersionWords.{spelled_version};
+ghost use Rattle.pg_msg.specs.declared.update.Update.{Update};
 
+use crate::ranges_word::{KeepWord, PartsWord, ranges_of};
 use pg_base::{FileId, Items, Stamp};
 use pg_patch::Ranges;
-use std::alloc::AllocError;
+use pg_words::{StampsWord, is_same, read_file, read_stamp, read_stamps};
+use std::alloc::{AllocError, Global};
+use std::fmt;
 
 /// A version of a file that was made: on which versions it is based, and what it makes of what they show.
 #[derive(Debug, Drop)]
@@ -29,3 +35,135 @@ impl Update {
         })
     }
 }
+
+impl fmt::Display for Update {
+    ghost use Rattle.std.specs.Prelude.{Some};
+    ghost use Rattle.std.specs.List.{join_with_byte};
+    ghost use Rattle.pg_msg.specs.UpdateText.{update_spelling};
+
+    ghost output = { λ u. Some (join_with_byte 32 (update_spelling u)) };
+
+    fn fmt<W: fmt::Write>(&self, f: &mut fmt::Formatter<W>) -> fmt::Result {
+        let file = self.file;
+        let stamp = self.stamp;
+        let bases = StampsWord(self.bases.as_slice());
+        let keep = KeepWord(self.ranges.keep());
+        let least = self.ranges.least();
+        let parts = PartsWord(self.ranges.parts());
+        write!(
+            f,
+            "version {file} {stamp} from {bases} keep {keep} least {least} parts {parts}"
+        )
+    }
+}
+
+/// The words of a version that was made, without those that stand in each such line.
+#[derive(Clone, Copy, Debug)]
+struct VersionWords<'a> {
+    file: &'a [u8],
+    stamp: &'a [u8],
+    bases: &'a [u8],
+    keep: &'a [u8],
+    least: &'a [u8],
+    parts: &'a [u8],
+}
+
+/// The version of these words.
+fn version_of(alloc: Global, words: &VersionWords) -> Result<Option<Update>, AllocError>
+    ensures found { IfOk result (λ o. IfSome o (λ u. IsUpdate u
+        × (spelled_version words.now ≡ update_spelling u))) }
+    ensures none { IfOk result (λ o. IfNone o ((u : Update) → IsUpdate u
+        → spelled_version words.now ≡ update_spelling u → ⊥)) }
+{
+    let Some(file) = read_file(words.file) else {
+        return Ok(None);
+    };
+    let Some(stamp) = read_stamp(words.stamp) else {
+        return Ok(None);
+    };
+    let Some(bases) = read_stamps(alloc, words.bases)? else {
+        return Ok(None);
+    };
+    let Some(ranges) = ranges_of(alloc, words.keep, words.least, words.parts)? else {
+        return Ok(None);
+    };
+    Ok(Some(Update {
+        file,
+        stamp,
+        bases,
+        ranges,
+    }))
+}
+
+/// Whether the words in front of what stays stand where they do in each line.
+fn is_version(version: &[u8], from: &[u8]) -> bool
+    ensures { IsTrue result ↔ ((version.now ≡ codes "version") × (from.now ≡ codes "from")) }
+{
+    is_same(version, b"version") && is_same(from, b"from")
+}
+
+/// Whether the words of ranges stand where they do in each line.
+fn are_ranges(keep: &[u8], least: &[u8], parts: &[u8]) -> bool
+    ensures { IsTrue result ↔ ((keep.now ≡ codes "keep") × (least.now ≡ codes "least")
+        × (parts.now ≡ codes "parts")) }
+{
+    is_same(keep, b"keep") && is_same(least, b"least") && is_same(parts, b"parts")
+}
+
+/// The words that tell of a version, where the others stand between them as they do in each line.
+fn version_words<'a>(words: &[&'a [u8]]) -> Option<VersionWords<'a>>
+    ensures found { IfSome result (λ x. map (λ w. w.now) words.now ≡ spelled_version x) }
+    ensures none { IfNone result ((f s b k l p : List ℕ)
+        → map (λ w. w.now) words.now ≡ update_words f s b k l p → ⊥) }
+{
+    let [
+        version,
+        file,
+        stamp,
+        from,
+        bases,
+        keep_name,
+        keep,
+        least_name,
+        least,
+        parts_name,
+        parts,
+    ] = words
+    else {
+        return None;
+    };
+    if !is_version(version, from) {
+        return None;
+    }
+    if !are_ranges(keep_name, least_name, parts_name) {
+        return None;
+    }
+    Some(VersionWords {
+        file: *file,
+        stamp: *stamp,
+        bases: *bases,
+        keep: *keep,
+        least: *least,
+        parts: *parts,
+    })
+}
+
+/// The version that the words tell of.
+pub fn read_update(alloc: Global, words: &[&[u8]]) -> Result<Option<Update>, AllocError>
+    ensures found { IfOk result (λ o. IfSome o (λ u. IsUpdate u
+        × (map (λ w. w.now) words.now ≡ update_spelling u))) }
+    ensures none { IfOk result (λ o. IfNone o ((u : Update) → IsUpdate u
+        → map (λ w. w.now) words.now ≡ update_spelling u → ⊥)) }
+{
+    let Some(words) = version_words(words) else {
+        return Ok(None);
+    };
+    let found = version_of(alloc, &words)?;
+    Ok(found)
+}
+
+/// No two updates have the same words.
+pub fn one_update_spelling()
+    ensures { (a b : Update) → IsUpdate a → IsUpdate b
+        → update_spelling a ≡ update_spelling b → a ≡ b }
+{}

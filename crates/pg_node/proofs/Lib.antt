@@ -1,11 +1,9 @@
-mod FirstEdges
-mod Replicas
-mod Lists
-mod Merging
-mod Indexed
-mod FirstKey
-mod Times
-mod Results
-mod Lengths
-mod Sound
-mod Wrote
+mod Unacknowledged
+pub mod Choices
+pub mod Bags
+pub mod Found
+pub mod Graphs
+pub mod Wholes
+pub mod WholeEffects
+pub mod WholeRuns
+pub mod HoldsHistory

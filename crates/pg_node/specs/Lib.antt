@@ -1,6 +1,5 @@
 pub mod Local
-pub mod FirstEdges
-pub mod Index
-pub mod Last
-pub mod StoreInside
-pub mod Writing
+pub mod Journal
+pub mod Run
+pub mod Quiet
+pub mod Laws

@@ -1,8 +1,8 @@
 //! What comes to a server, and what comes of it.
 
 use pg_base::{FileId, Items};
+use pg_call::{Change, Reply};
 use pg_msg::{Packet, Sent, Update};
-use pg_sched::{Change, Reply};
 
 /// What comes to a server.
 #[derive(Debug, Drop)]

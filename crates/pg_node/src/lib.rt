@@ -1,20 +1,12 @@
 //! A server: what it holds, and what it does with what comes to it.
 #![tactic(auto)]
 
-mod changing;
-mod effect;
 mod error;
 mod input;
 mod node;
 mod owing;
-mod replica;
-mod sending;
-mod store;
-#[cfg(test)]
-mod tests;
-mod writing;
+mod receiving;
 
 pub use error::StepError;
 pub use input::{Input, Out};
 pub use node::Node;
-pub use store::Store;

@@ -3,14 +3,18 @@
 ghost use Rattle.std.specs.Prelude.{◌≡◌, ◌↔◌, OnOk, OnErr, IfOk, IsErrOf, slice_get, false, true};
 ghost use Rattle.std.specs.Option.{option_copied};
 ghost use Rattle.pg_content.specs.Content.{or_empty};
-ghost use Rattle.pg_node.specs.Local.{effect, held, new_store, owed, policy_of};
+ghost use Rattle.pg_replica.specs.Store.{held_content, new_store};
+ghost use Rattle.pg_replica.specs.Untouched.{policy_of};
+ghost use Rattle.pg_node.specs.Local.{effect, owed};
 
 use crate::error::StepError;
 use crate::input::{Input, Out};
-use crate::store::Store;
+use crate::owing::first_owed;
+use crate::receiving::effect;
 use pg_base::{FileId, NodeId};
 use pg_content::Content;
-use pg_sched::Owing;
+use pg_event::Owing;
+use pg_replica::Store;
 use std::alloc::Global;
 
 /// A server: what it holds, and whether an input ran out of memory.
@@ -39,7 +43,7 @@ impl Node {
         self.failed
     }
 
-    /// Takes an input, and says what comes of it. After want of memory the server has failed, may be changed in part,
+    /// Takes an input, and says what comes of it. Where memory ran out the server has failed, may be changed in part,
     /// and takes nothing more.
     pub fn step(&mut self, input: Input) -> Result<Out, StepError>
         ensures store { OnOk result (self.new.store ≡ (effect self.old.store input).store) }
@@ -52,7 +56,7 @@ impl Node {
             return Err(StepError::Failed);
         }
         self.failed = true;
-        let out = self.store.effect(input)?;
+        let out = effect(&mut self.store, input)?;
         self.failed = false;
         Ok(out)
     }
@@ -61,12 +65,13 @@ impl Node {
     pub fn owed(&self) -> Option<Owing>
         ensures { result ≡ slice_get (owed self.now.store) 0 }
     {
-        self.store.owed()
+        first_owed(&self.store)
     }
 
     /// What the server holds of a file. Without a content it has no version.
     pub fn content(&self, file: &FileId) -> Option<&Content>
-        ensures { or_empty (policy_of file.now) (option_copied result) ≡ held self.now.store file.now }
+        ensures { or_empty (policy_of file.now) (option_copied result)
+            ≡ held_content self.now.store file.now }
     {
         self.store.content(file)
     }

@@ -1,34 +1,58 @@
 //! What a server owes.
 
 ghost use Rattle.std.specs.Prelude.{◌≡◌, slice_get};
-ghost use Rattle.pg_node.specs.Local.{edge_owes, replica_owes};
+ghost use Rattle.pg_replica.specs.Store.{replica_at};
+ghost use Rattle.pg_node.specs.Local.{edge_owes, file_owes, owed, replica_owes};
 
 use pg_base::{FileId, NodeId};
 use pg_edges::Edge;
-use pg_replica::Replica;
-use pg_sched::Owing;
+use pg_event::Owing;
+use pg_replica::{Replica, Store};
 
 /// The first unacknowledged key of an edge.
 fn first_of_edge(server: NodeId, file: FileId, edge: &Edge) -> Option<Owing>
     ensures { result ≡ slice_get (edge_owes server file edge.now) 0 }
 {
-    match edge.keys.as_map().keys().next() {
-        Some(key) => Some(Owing {
+    match edge.keys.as_slice().first() {
+        Some(entry) => Some(Owing {
             server,
             file,
             peer: edge.peer,
-            key: *key,
+            key: entry.0,
         }),
         None => None,
     }
 }
 
 /// The first unacknowledged key of a replica: of its first edge that has one.
-pub(crate) fn first_of_replica(server: NodeId, file: FileId, replica: &Replica) -> Option<Owing>
+fn first_of_replica(server: NodeId, file: FileId, replica: &Replica) -> Option<Owing>
     ensures { result ≡ slice_get (replica_owes server (file, replica.now)) 0 }
 {
     for edge in replica.edges.as_slice() {
         if let Some(owing) = first_of_edge(server, file, edge) {
+            return Some(owing);
+        }
+    }
+    None
+}
+
+/// The same of a file.
+fn first_of_file(store: &Store, file: &FileId) -> Option<Owing>
+    ensures { result
+        ≡ slice_get (file_owes store.now.server file.now (replica_at store.now file.now)) 0 }
+{
+    match store.replicas.get(file) {
+        Some(replica) => first_of_replica(store.server, *file, replica),
+        None => None,
+    }
+}
+
+/// The same of all files, by file: those with unacknowledged keys are gone over.
+pub(crate) fn first_owed(store: &Store) -> Option<Owing>
+    ensures { result ≡ slice_get (owed store.now) 0 }
+{
+    for file in store.replicas.unacknowledged().keys() {
+        if let Some(owing) = first_of_file(store, file) {
             return Some(owing);
         }
     }

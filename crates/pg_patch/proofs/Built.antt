@@ -61,9 +61,6 @@ fills old mid new body len from until n h u f m c e =
 pub record Built (parts : List Part) (body out : List ℕ) : Type 0 where
   pub bytes : (k : ℕ) → k < length out → get_or out k 0 ≡ byte_or parts k (get_or body k 0)
 
-pub built-start : (parts : List Part) (body out : List ℕ) → out ≡ [] → Built parts body out
-built-start parts body out e = record { bytes = λ k lt. absurd (omega (arith, ap length e)) }
-
 -- as far as no part stands
 built-gap : (parts : List Part) (body out new : List ℕ) (len k : ℕ) → Built parts body out → Fills out new body len → k < len → (length out ≤ k → (d : ℕ) → byte_or parts k d ≡ d) → (k < length out) ⊎ (length out ≤ k) → get_or new k 0 ≡ byte_or parts k (get_or body k 0)
 built-gap parts body out new len k h f lt g (inl a) = f.begins k a ∙ h.bytes k a

@@ -42,7 +42,7 @@ kept-keeps k n h = kept-keeps_by k n h (cases_lt k all)
 base_same : (i m m' v : ℕ) → (i < m → i < m') → (i < m' → i < m) → cond (ltb i m) v 0 ≡ cond (ltb i m') v 0
 base_same i m m' v f g = grind (arith, nat_tests)
 
--- the test of a place against a bound
+-- the test of an index against a bound
 pub below_yes : (i m v w : ℕ) → i < m → cond (ltb i m) v w ≡ v
 below_yes i m v w h = grind (arith, nat_tests)
 
@@ -54,7 +54,7 @@ length_steps : (ka la kb lb kc lc n ma mb mc : ℕ) → Keeps ka n ma → Keeps 
 length_steps ka la kb lb kc lc n ma mb mc p q r u v w e f =
     grind arith
 
--- what the tests of a place tell
+-- what the tests of an index tell
 stays : (la ka kb kc n ma mb mc i : ℕ) → Keeps ka n ma → Keeps kb (max ma la) mb → Keeps kc n mc → ka ≤ all → kb ≤ all → la ≤ all → kc ≡ min ka kb → i < mb → i < ma → i < mc
 stays la ka kb kc n ma mb mc i p q r u v w e a b = grind arith
 
@@ -70,7 +70,7 @@ no_part la kb m mb i q v w a b = grind arith
 cut_off : (la kb m mb i : ℕ) → Keeps kb (max m la) mb → kb ≤ all → la ≤ all → mb ≤ i → i < kb → la ≤ i
 cut_off la kb m mb i q v w a b = grind arith
 
--- what stands below b's parts, by the place against b's keep and against what b keeps
+-- what stands below b's parts, by the index against b's keep and against what b keeps
 lower_steps : (pa : List Part) (la ka kb kc n ma mb mc i v : ℕ) → Keeps ka n ma → Keeps kb (max ma la) mb → Keeps kc n mc → ka ≤ all → kb ≤ all → la ≤ all → kc ≡ min ka kb → AreInOrder 0 pa la
     → (i < mb) ⊎ (mb ≤ i) → (i < kb) ⊎ (kb ≤ i)
     → cond (ltb i mb) (byte_or pa i (cond (ltb i ma) v 0)) 0 ≡ cond (ltb i kb) (byte_or pa i (cond (ltb i mc) v 0)) (cond (ltb i mc) v 0)

@@ -11,19 +11,12 @@ use Rattle.pg_patch.proofs.Parts.{byte_or-before, byte_or-behind, byte_or-here, 
 use Rattle.pg_patch.proofs.Passing.{Passed, passed-more, passed-gap, passed_at, passed_all}
 use Rattle.pg_patch.proofs.Pieces.{within_yes, within_below, within_behind}
 
--- ---- a part within two places
-adds_nothing_by : (ps : List Part) (p : Part) (start to i d : ℕ) → to ≤ start → (i < start) ⊎ (start ≤ i) → byte_or ps i d ≡ cond (leb start i && ltb i to) (byte_of p i) (byte_or ps i d)
-adds_nothing_by ps p start to i d h (inl a) = sym (within_below start to i (byte_of p i) (byte_or ps i d) a)
-adds_nothing_by ps p start to i d h (inr a) = sym (within_behind start to i (byte_of p i) (byte_or ps i d) (omega arith))
-
-pub adds_nothing : (ps : List Part) (p : Part) (start to : ℕ) → to ≤ start → Adds ps ps p start to
-adds_nothing ps p start to h = record { bytes = λ i d. adds_nothing_by ps p start to i d h (cases_lt i start) }
-
--- ---- the parts between two places
+-- ---- a part within two indexes
+-- ---- the parts between two indexes
 pub between-start : (old others : List Part) (from : ℕ) → AreInOrder 0 others all → Between old old others others from from
 between-start old others from o = record { begins = λ _ _ _. refl; goes_on = λ i d a b. absurd (omega (arith, a, b)); rest_holds = λ _ _ _. refl; rest_order = o }
 
--- the place up to which the part brings it
+-- the index up to which the part brings it
 abbrev pub reached : ℕ → ℕ → Part → ℕ
 reached at until p = max at (min until (end_of p))
 
@@ -101,7 +94,7 @@ between_next old cur new others parts j p from at until to lt is k o h f e le =
     let P : ℕ → Type 0 = λ n. Between old new others (p ∷ drop (j + 1) parts) from n in
     between-behind old new others p (drop (j + 1) parts) from to (omega arith) (subst P (sym e) here)
 
--- the next part goes on behind the second place
+-- the next part goes on behind the second index
 pub between_stop : (old cur new others parts : List Part) (j : ℕ) (p : Part) (from at until : ℕ) → j < length parts → p ≡ get_or parts j p → from ≤ at → at ≤ max from until → AreInOrder 0 cur at → Between old cur others (drop j parts) from at
     → Adds cur new p (max at p.offset) (min until (end_of p)) → until < end_of p → Between old new others (drop j parts) from (max from until)
 between_stop old cur new others parts j p from at until lt is k m o h f le =
@@ -111,7 +104,7 @@ between_stop old cur new others parts j p from at until lt is k m o h f le =
     between_from old new others parts j p from (max from until) lt is (subst P e here)
 
 -- ---- all the upper parts
--- up to the place, what was laid is the upper parts over the lower ones, and behind it the rest of the lower parts has all that they have
+-- up to the index, what was laid is the upper parts over the lower ones, and behind it the rest of the lower parts has all that they have
 pub record Over (lower upper new rest : List Part) (limit at : ℕ) : Type 0 where
   pub bytes : (i d : ℕ) → i < at → byte_or new i d ≡ byte_or upper i (cond (ltb i limit) (byte_or lower i d) d)
   pub rest_holds : (i d : ℕ) → at ≤ i → byte_or lower i d ≡ byte_or rest i d

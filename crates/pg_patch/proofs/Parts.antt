@@ -1,4 +1,4 @@
--- What parts in order hold at a place.
+-- What parts in order hold at an index.
 use Rattle.std.proofs.Common.{ℕ, true, false, cond, ◌≡◌, ◌<◌, ◌≤◌, ◌+◌, ◌-◌, List, [], ◌∷◌, ◌++◌, length, refl, ap, ◌∙◌, arith}
 use Rattle.std.proofs.lemmas.Bool.Decides.{nat_tests}
 use Rattle.pg_patch.specs.declared.part.Part.{Part}

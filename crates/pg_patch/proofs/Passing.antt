@@ -1,11 +1,11 @@
--- Going over parts in order: what stands before a place no longer counts.
+-- Going over parts in order: what stands before an index no longer counts.
 use Rattle.std.proofs.Common.{ℕ, ◌≡◌, ◌<◌, ◌≤◌, ◌+◌, List, [], ◌∷◌, length, drop, get_or, refl, subst, sym, ◌∙◌, arith}
 use Rattle.std.proofs.lemmas.List.{drop_more, drop_all}
 use Rattle.pg_patch.specs.declared.part.Part.{Part}
 use Rattle.pg_patch.specs.Parts.{end_of, byte_or, AreInOrder}
 use Rattle.pg_patch.proofs.Parts.{byte_or-before, byte_or-here, byte_or-skip, holds-within, holds-behind, in_order-wider}
 
--- from the place on the rest holds all that the parts hold
+-- from the index on the rest holds all that the parts hold
 pub record Passed (parts rest : List Part) (at least : ℕ) : Type 0 where
   pub holds : (i d : ℕ) → at ≤ i → byte_or parts i d ≡ byte_or rest i d
   pub order : AreInOrder at rest least
@@ -26,10 +26,6 @@ passed-more parts p ps at least h = record {
 pub passed-gap : (parts : List Part) (p : Part) (ps : List Part) (at least : ℕ) → Passed parts (p ∷ ps) at least → (i d : ℕ) → at ≤ i → i < p.offset → byte_or parts i d ≡ d
 passed-gap parts p ps at least h i d a b =
     h.holds i d a ∙ byte_or-before p.offset least (p ∷ ps) (omega arith, h.order.1, h.order.2, h.order.3) i d b
-
-pub passed-in : (parts : List Part) (p : Part) (ps : List Part) (at least : ℕ) → Passed parts (p ∷ ps) at least → (i d q : ℕ) → p.offset ≤ i → i < end_of p → byte_or parts i d ≡ byte_or (p ∷ []) i q
-passed-in parts p ps at least h i d q a b =
-    h.holds i d (omega (arith, h.order.0)) ∙ byte_or-here p ps i d (holds-within p i a b) ∙ sym (byte_or-here p [] i q (holds-within p i a b))
 
 -- the rest by the number of the next part
 pub passed_at : (parts : List Part) (j : ℕ) (p : Part) (at least : ℕ) → j < length parts → p ≡ get_or parts j p → Passed parts (drop j parts) at least → Passed parts (p ∷ drop (j + 1) parts) at least

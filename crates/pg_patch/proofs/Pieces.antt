@@ -12,7 +12,7 @@ use Rattle.pg_patch.specs.declared.laying.Laying.{Laying}
 use Rattle.pg_patch.specs.Laying.{opened, laid, IsLaid, Adds}
 use Rattle.pg_patch.proofs.Parts.{holds-below, holds-behind, holds-within, byte_or-append, byte_or-skip, byte_or-here, byte_or-behind, in_order-push, in_order-grown, in_order-but_last, in_order-wider, last_to}
 
--- the bytes of a part from one place to another, as a part
+-- the bytes of a part from one index to another, as a part
 abbrev pub piece : Part → ℕ → ℕ → List ℕ
 piece p start to = slice_range p.bytes (start - p.offset) (to - p.offset)
 
@@ -38,7 +38,7 @@ within_below start to i v w a = grind (arith, nat_tests)
 pub within_behind : (start to i v w : ℕ) → to ≤ i → cond (leb start i && ltb i to) v w ≡ w
 within_behind start to i v w a = grind (arith, nat_tests)
 
--- a place before the piece, in it or behind it
+-- an index before the piece, in it or behind it
 abbrev At : ℕ → ℕ → ℕ → Type 0
 At start to i = (i < start) ⊎ (((start ≤ i) × (i < to)) ⊎ (to ≤ i))
 

@@ -1,4 +1,4 @@
--- Parts in order that hold the same bytes at the same places are the same parts.
+-- Parts in order that hold the same bytes at the same indexes are the same parts.
 use Rattle.std.proofs.Common.{ℕ, ◌≡◌, ◌<◌, ◌≤◌, ◌+◌, List, [], ◌∷◌, length, get_or, ◌⊎◌, inl, inr, refl, sym, ap, ◌∙◌, arith}
 use Rattle.std.proofs.lemmas.List.{ext_get_or}
 use Rattle.std.proofs.lemmas.Bool.{cases_lt}
@@ -7,9 +7,9 @@ use Rattle.pg_patch.specs.Parts.{end_of, byte_of, byte_or, AreInOrder}
 use Rattle.pg_patch.specs.Ranges.{RangesValue, IsRanges, IsComposed}
 use Rattle.pg_patch.proofs.Parts.{byte_or-before, byte_or-here, byte_or-skip, holds-within, holds-behind}
 
--- the parts have the same byte at every place, or none
+-- the parts have the same byte at every index, or none
 pub record HoldSame (ps qs : List Part) : Type 0 where
-  pub bytes : (place other : ℕ) → byte_or ps place other ≡ byte_or qs place other
+  pub bytes : (index other : ℕ) → byte_or ps index other ≡ byte_or qs index other
 
 not_lt_by : (a b : ℕ) → (a < b → ⊥) → (a < b) ⊎ (b ≤ a) → b ≤ a
 not_lt_by a b h (inl lt) = absurd (h lt)

@@ -23,16 +23,24 @@ pub record IsLaid (l : Laying) (at : ℕ) : Type 0 where
 
 -- the bytes of the part from `start` to `end` were laid too
 pub record Adds (old new : List Part) (p : Part) (start «end» : ℕ) : Type 0 where
-  pub bytes : (place other : ℕ) → byte_or new place other ≡ (if nat_le start place && nat_lt place «end» then byte_of p place else byte_or old place other)
+  pub bytes : (index other : ℕ) → byte_or new index other
+      ≡ (if nat_le start index && nat_lt index «end»
+      then byte_of p index
+      else byte_or old index other)
 
--- behind the old parts, the new ones have what the others have from one place to another, and the rest has all that the others have behind it
+-- behind the old parts, the new ones have what the others have from one index to another, and the
+-- rest has all that the others have behind it
 pub record Between (old new others rest : List Part) (from to : ℕ) : Type 0 where
-  pub begins : (place other : ℕ) → place < from → byte_or new place other ≡ byte_or old place other
-  pub goes_on : (place other : ℕ) → from ≤ place → place < to → byte_or new place other ≡ byte_or others place other
-  pub rest_holds : (place other : ℕ) → to ≤ place → byte_or others place other ≡ byte_or rest place other
+  pub begins : (index other : ℕ) → index < from → byte_or new index other ≡ byte_or old index other
+  pub goes_on : (index other : ℕ) → from ≤ index → index < to
+      → byte_or new index other ≡ byte_or others index other
+  pub rest_holds : (index other : ℕ) → to ≤ index
+      → byte_or others index other ≡ byte_or rest index other
   pub rest_order : AreInOrder 0 rest all
 
 -- the upper parts over the lower ones, which are cut at the limit
 pub record IsLaidOver (lower upper : RangesValue) (limit : ℕ) (new : List Part) : Type 0 where
   pub order : AreInOrder 0 new (max limit upper.least)
-  pub bytes : (place other : ℕ) → byte_or new place other ≡ byte_or upper.parts place (if nat_lt place limit then byte_or lower.parts place other else other)
+  pub bytes : (index other : ℕ) → byte_or new index other
+      ≡ byte_or upper.parts index
+      (if nat_lt index limit then byte_or lower.parts index other else other)

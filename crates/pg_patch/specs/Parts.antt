@@ -1,25 +1,28 @@
--- Parts: bytes at places, in order.
+-- Parts: bytes at indexes, in order.
 use Rattle.std.specs.Prelude.{ℕ, Bool, List, [], ◌∷◌, ◌+◌, ◌-◌, ◌<◌, ◌≤◌, ◌&&◌, if◌then◌else◌, nat_le, nat_lt, length, slice_index}
 use Rattle.pg_patch.specs.declared.part.Part.{Part}
 
--- the place behind the part's last byte
+-- the index behind the part's last byte
 abbrev pub end_of : Part → ℕ
 end_of p = p.offset + length p.bytes
 
--- whether the part has a byte at the place
+-- whether the part has a byte at the index
 abbrev pub holds : Part → ℕ → Bool
-holds p place = nat_le p.offset place && nat_lt place (end_of p)
+holds p index = nat_le p.offset index && nat_lt index (end_of p)
 
--- the byte that the part has at the place
+-- the byte that the part has at the index
 abbrev pub byte_of : Part → ℕ → ℕ
-byte_of p place = slice_index p.bytes (place - p.offset)
+byte_of p index = slice_index p.bytes (index - p.offset)
 
--- the byte that one of the parts has at the place, and where none has one, the other byte
+-- the byte that one of the parts has at the index, and where none has one, the other byte
 abbrev pub byte_or : List Part → ℕ → ℕ → ℕ
-byte_or [] place other = other
-byte_or (p ∷ ps) place other = if holds p place then byte_of p place else byte_or ps place other
+byte_or [] index other = other
+byte_or (p ∷ ps) index other = if holds p index then byte_of p index else byte_or ps index other
 
--- the first part begins at `from` or behind it, each has a byte and ends at `least` or before it, and each begins behind the end of the one before: no two overlap, and no two touch
+-- the first part begins at `from` or behind it, each has a byte and ends at `least` or before it,
+-- and each begins behind the end of the one before: no two overlap, and no two touch
 abbrev pub AreInOrder : ℕ → List Part → ℕ → Type 0
 AreInOrder from [] least = Unit {0}
-AreInOrder from (p ∷ ps) least = (from ≤ p.offset) × (0 < length p.bytes) × (end_of p ≤ least) × AreInOrder (end_of p + 1) ps least
+AreInOrder from (p ∷ ps) least =
+    (from ≤ p.offset) × (0 < length p.bytes) × (end_of p ≤ least)
+    × AreInOrder (end_of p + 1) ps least

@@ -28,9 +28,11 @@ kept keep n = if keep == all then n else min n keep
 abbrev pub length_of : ℕ → RangesValue → ℕ
 length_of n r = max (kept r.keep n) r.least
 
--- its byte at the place: a part's, else the body's where that stays, else 0
+-- its byte at the index: a part's, else the body's where that stays, else 0
 abbrev pub byte_at : List ℕ → RangesValue → ℕ → ℕ
-byte_at body r place = byte_or r.parts place (if nat_lt place (kept r.keep (length body)) then slice_index body place else 0)
+byte_at body r index =
+    byte_or r.parts index
+    (if nat_lt index (kept r.keep (length body)) then slice_index body index else 0)
 
 -- what ranges make of a body
 unfoldable pub applied : List ℕ → RangesValue → List ℕ
@@ -42,14 +44,23 @@ write_end offset bytes = if length bytes == 0 then 0 else offset + length bytes
 
 -- a write of the bytes at the offset
 abbrev pub written : ℕ → List ℕ → RangesValue
-written offset bytes = if length bytes == 0 then record { keep = all; least = 0; parts = [] } else record { keep = all; least = offset + length bytes; parts = record { offset = offset; bytes = bytes } ∷ [] }
+written offset bytes =
+    if length bytes == 0
+    then record { keep = all; least = 0; parts = [] }
+    else record {
+      keep = all;
+      least = offset + length bytes;
+      parts = record { offset = offset; bytes = bytes } ∷ [];
+    }
 
 -- a cut to the length
 abbrev pub cut_to : ℕ → RangesValue
 cut_to n = record { keep = n; least = n; parts = [] }
 
--- c is a and then b: it keeps what both keep, and has b's parts over those of a, which are cut at b's keep
+-- c is a and then b: it keeps what both keep, and has b's parts over those of a, which are cut at
+-- b's keep
 pub record IsComposed (a b c : RangesValue) : Type 0 where
   pub keep : c.keep ≡ min a.keep b.keep
   pub least : c.least ≡ max (min a.least b.keep) b.least
-  pub parts : (place other : ℕ) → byte_or c.parts place other ≡ byte_or b.parts place (if nat_lt place b.keep then byte_or a.parts place other else other)
+  pub parts : (index other : ℕ) → byte_or c.parts index other
+      ≡ byte_or b.parts index (if nat_lt index b.keep then byte_or a.parts index other else other)

@@ -10,10 +10,12 @@ use crate::part::Part;
 use crate::ranges::Ranges;
 use std::alloc::AllocError;
 
-/// The ranges that do what `a` and then `b` do. The time is linear in the parts and the bytes of both.
+/// The ranges that do what `a` and then `b` do. The time is linear in the parts and the bytes of
+/// both.
 pub fn compose(a: &Ranges, b: &Ranges) -> Result<Ranges, AllocError>
     ensures composed { IfOk result (λ c. IsComposed a.now b.now c) }
-    ensures two_applies { IfOk result (λ c. (body : List ℕ) → applied (applied body a.now) b.now ≡ applied body c) }
+    ensures two_applies { IfOk result
+        (λ c. (body : List ℕ) → applied (applied body a.now) b.now ≡ applied body c) }
 {
     let keep = a.keep().min(b.keep());
     let below = a.least().min(b.keep());
@@ -43,8 +45,8 @@ fn laid_over(a: &Ranges, b: &Ranges, limit: usize) -> Result<Vec<Part>, AllocErr
     Ok(laying.into_parts()?)
 }
 
-/// Lays what the parts from the number `first` on have between two places, and tells from which part on some have
-/// bytes behind them.
+/// Lays what the parts from the number `first` on have between two indexes, and tells from which
+/// part on some have bytes behind them.
 fn laid_between(
     laying: Laying,
     parts: &[Part],
@@ -55,7 +57,9 @@ fn laid_between(
     requires laid { IsLaid laying from }
     requires parts { AreInOrder 0 (drop first parts.now) all }
     ensures laid { IfOk result (λ r. IsLaid r.0 (max from until)) }
-    ensures between { IfOk result (λ r. Between (laid laying) (laid r.0) (drop first parts.now) (drop r.1 parts.now) from (max from until)) }
+    ensures between { IfOk result
+        (λ r. Between (laid laying) (laid r.0) (drop first parts.now) (drop r.1 parts.now)
+        from (max from until)) }
 {
     let mut laying = laying;
     let mut next = first;
@@ -73,12 +77,14 @@ fn laid_between(
     Ok((laying, next))
 }
 
-/// Lays what the part has between two places.
+/// Lays what the part has between two indexes.
 fn laid_within(laying: Laying, part: &Part, from: usize, until: usize) -> Result<Laying, AllocError>
     requires laid { IsLaid laying from }
     requires small { end_of part.now < 2 ^ 32 }
     ensures laid { IfOk result (λ l. IsLaid l (max from (min until (end_of part.now)))) }
-    ensures added { IfOk result (λ l. Adds (laid laying) (laid l) part.now (max from part.now.offset) (min until (end_of part.now))) }
+    ensures added { IfOk result
+        (λ l. Adds (laid laying) (laid l) part.now
+        (max from part.now.offset) (min until (end_of part.now))) }
 {
     let start = from.max(part.offset as usize);
     let end = until.min(part.end());

@@ -1,4 +1,5 @@
-//! Parts that are laid down one behind another. Where one touches the one before, the two become one part.
+//! Parts that are laid down one behind another. Where one touches the one before, the two become
+//! one part.
 
 ghost use Rattle.std.specs.Prelude.{◌≡◌, ◌≢◌, ◌<◌, ◌≤◌, ◌^◌, ◌-◌, ◌++◌, ◌∷◌, [], IsTrue, IsFalse, IfOk, OnOk, length, slice_range};
 ghost use Rattle.pg_patch.specs.Laying.{opened, laid, IsLaid, Adds};
@@ -27,7 +28,11 @@ impl Open {
         requires to { end ≤ end_of part.now }
         requires small { end_of part.now < 2 ^ 32 }
         ensures { IfOk result (λ o. opened o
-            ≡ record { offset = start; bytes = slice_range part.now.bytes (start - part.now.offset) (end - part.now.offset) } ∷ []) }
+            ≡ record {
+              offset = start;
+              bytes = slice_range part.now.bytes (start - part.now.offset)
+                  (end - part.now.offset);
+            } ∷ []) }
     {
         let offset = part.offset as usize;
         if start == offset && end == part.end() {
@@ -37,22 +42,25 @@ impl Open {
         Ok(Open::Joined(start as u32, Vec::from_slice(alloc, bytes)?))
     }
 
-    /// Whether the part ends at the place.
-    fn ends_at(&self, place: usize) -> bool
+    /// Whether the part ends at the index.
+    fn ends_at(&self, index: usize) -> bool
         requires { (p : Part) → opened self.now ≡ p ∷ [] → end_of p < 2 ^ 32 }
-        ensures touches { IsTrue result → (p : Part) × (opened self.now ≡ p ∷ []) × (end_of p ≡ place) }
-        ensures apart { IsFalse result → (p : Part) → opened self.now ≡ p ∷ [] → end_of p ≢ place }
+        ensures touches { IsTrue result
+            → (p : Part) × (opened self.now ≡ p ∷ []) × (end_of p ≡ index) }
+        ensures apart { IsFalse result → (p : Part) → opened self.now ≡ p ∷ [] → end_of p ≢ index }
     {
         match self {
             Open::Nothing => false,
-            Open::Whole(part) => part.end() == place,
-            Open::Joined(offset, bytes) => *offset as usize + bytes.len() == place,
+            Open::Whole(part) => part.end() == index,
+            Open::Joined(offset, bytes) => *offset as usize + bytes.len() == index,
         }
     }
 
     /// The part with more bytes behind it.
     fn extended(self, alloc: Global, more: &[u8]) -> Result<Open, AllocError>
-        ensures { IfOk result (λ o. (p : Part) → opened self ≡ p ∷ [] → opened o ≡ record { offset = p.offset; bytes = p.bytes ++ more.now } ∷ []) }
+        ensures { IfOk result
+            (λ o. (p : Part) → opened self ≡ p ∷ []
+            → opened o ≡ record { offset = p.offset; bytes = p.bytes ++ more.now } ∷ []) }
     {
         match self {
             Open::Nothing => Ok(Open::Nothing),

@@ -15,6 +15,3 @@ pub use error::RangeError;
 pub use laws::{compose_is_two_applies, one_composition};
 pub use part::Part;
 pub use ranges::{ALL, LIMIT, Ranges, are_in_order, cut, length_after, make};
-
-#[cfg(test)]
-mod tests;

@@ -1,4 +1,4 @@
-//! Bytes at a place.
+//! Bytes at an index.
 
 ghost use Rattle.std.specs.Prelude.{◌≡◌, ◌<◌, ◌^◌, IfOk};
 ghost use Rattle.pg_patch.specs.Parts.{end_of};
@@ -6,7 +6,7 @@ ghost use Rattle.pg_patch.specs.Parts.{end_of};
 use pg_base::SharedBytes;
 use std::alloc::AllocError;
 
-/// Bytes, and the place in a body where the first of them stands.
+/// Bytes, and the index in a body where the first of them stands.
 #[derive(Debug, Drop)]
 pub struct Part {
     pub offset: u32,
@@ -24,7 +24,7 @@ impl Part {
         })
     }
 
-    /// The place behind the last byte.
+    /// The index behind the last byte.
     pub(crate) fn end(&self) -> usize
         requires { end_of self.now < 2 ^ 32 }
         ensures { result ≡ end_of self.now }

@@ -92,7 +92,8 @@ impl Ranges {
     }
 }
 
-/// Whether the parts are in order, have bytes, neither overlap nor touch, and end at `least` or before it.
+/// Whether the parts are in order, have bytes, neither overlap nor touch, and end at `least` or
+/// before it.
 pub fn are_in_order(parts: &[Part], least: u32) -> bool
     ensures { IsTrue result ↔ AreInOrder 0 parts.now least }
 {
@@ -146,7 +147,8 @@ pub fn cut(alloc: Global, length: u32) -> Result<Ranges, RangeError>
 /// The length of a body of `n` bytes to which the ranges were applied. It takes no memory.
 pub fn length_after(n: u64, ranges: &Ranges) -> u64
     ensures length { result ≡ length_of n ranges.now }
-    ensures of_the_result { (body : List ℕ) → length body ≡ n → length (applied body ranges.now) ≡ result }
+    ensures of_the_result { (body : List ℕ) → length body ≡ n
+        → length (applied body ranges.now) ≡ result }
 {
     kept_length(n, ranges.keep).max(u64::from(ranges.least))
 }

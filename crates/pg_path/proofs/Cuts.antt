@@ -1,14 +1,14 @@
 -- Where the components stand, found one after another.
-use Rattle.std.proofs.Common.{ℕ, ◌≡◌, ◌≢◌, ◌<◌, ◌≤◌, ◌+◌, ◌-◌, List, [], ◌∷◌, ◌++◌, eq-eqb, refl, sym, ap, ◌∙◌, arith, length, take, drop, get_or, All, map, length-append, length-drop, append_assoc, Some, ◌==◌}
+use Rattle.std.proofs.Common.{ℕ, ◌≡◌, ◌≢◌, ◌<◌, ◌≤◌, ◌+◌, ◌-◌, List, [], ◌∷◌, ◌++◌, eq-eqb, refl, sym, ap, ◌∙◌, arith, length, take, drop, get_or, All, map, length-append, append_assoc, Some, ◌==◌}
 use Rattle.std.specs.List.{slice_range, slice_get}
 use Rattle.std.specs.Option.{option_map}
 use Rattle.std.proofs.lemmas.List.{take_all, drop-drop, map-append, length-map}
 use Rattle.std.proofs.Math.Seq.{take-append_seam, drop-append-add}
-use Rattle.std.proofs.lemmas.List.Elements.{All-push, All-nil}
+use Rattle.std.proofs.lemmas.List.Elements.{All-push}
 use Rattle.std.proofs.lemmas.List.Splits.{slice_split_none, slice_split_at}
 use Rattle.std.proofs.lemmas.Option.{slice_get-map, slice_get_read}
-use Rattle.pg_path.specs.Path.{AreCuts, parts_of}
-use Rattle.pg_path.proofs.Paths.{cut, behind, behind_is, parts_of-cut, other}
+use Rattle.pg_path.specs.Path.{cut_at_slashes as cut, AreCuts, parts_of}
+use Rattle.pg_path.proofs.Paths.{behind, parts_of-cut, other}
 
 -- some parts are cut, and what is left begins at `start`
 pub record Cut (text : List ℕ) (start : ℕ) (rest : List ℕ) (cuts : List (ℕ × ℕ)) : Type 0 where
@@ -16,12 +16,6 @@ pub record Cut (text : List ℕ) (start : ℕ) (rest : List ℕ) (cuts : List (�
   pub within : start + length rest ≡ length text
   pub inside : All (λ c. (c.0 ≤ c.1) × (c.1 ≤ length text)) cuts
   pub each : map (λ c. slice_range text c.0 c.1) cuts ++ cut rest ≡ cut (behind text)
-
-pub cut_none : (text : List ℕ) → 1 < length text → Cut text 1 (behind text) []
-cut_none text some =
-    let n : length (drop 1 text) ≡ length text - 1 = length-drop 1 text in
-    let m : length (behind text) ≡ length (drop 1 text) = ap length (behind_is text) in
-    record { left = sym (behind_is text); within = omega arith; inside = All-nil _; each = refl }
 
 -- the range of a part in the text
 range_is : (text part rest : List ℕ) (start end : ℕ) → end ≡ start + length part → drop start text ≡ rest → take (length part) rest ≡ part → slice_range text start end ≡ part

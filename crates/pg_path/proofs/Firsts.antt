@@ -1,4 +1,4 @@
--- The first element that lacks a property: there is one such place, and a search finds it.
+-- The first element that lacks a property: there is one such index, and a search finds it.
 use Rattle.std.proofs.Common.{ℕ, ◌≡◌, ◌<◌, Option, Some, None, List, length, arith, MatchOption, IfSome, IfNone, All, subst}
 use Rattle.std.specs.List.{AllWithin, HoldsAt}
 use Rattle.std.proofs.lemmas.List.Elements.{All-from_all_within}
@@ -24,6 +24,6 @@ one_first P xs d i j a b =
     let no_more : j < i → ⊥ = λ lt. b.lacks d (a.before j d (omega arith) lt) in
     omega (arith, no_less, no_more)
 
--- what each element has, the element at a place has
+-- what each element has, the element at an index has
 pub kept_at : {X : Type 0} (P : X → Type 0) (xs : List X) (k : ℕ) (x : X) → All P xs → slice_get xs k ≡ Some x → P x
 kept_at P xs k x each e = subst P (get_or_from_slice_get xs k x x e) (each k x (slice_get_within xs k x e))

@@ -1,20 +1,16 @@
 -- A path's text is cut at its slashes into the path's components again.
 use Rattle.std.proofs.Common.{ℕ, ◌≡◌, ◌≢◌, ◌<◌, ◌≤◌, ◌==◌, List, [], ◌∷◌, ◌+◌, false, refl, sym, ap, ◌∙◌, arith, length, take, drop, length-drop, ◌-◌, All, eq-eqb, slice_index, subst, inl, inr, Result, Err}
-use Rattle.std.specs.List.{join_with_byte, slice_split}
+use Rattle.std.specs.List.{join_with_byte}
 use Rattle.std.proofs.lemmas.Bool.Decides.{eqb_tells}
 use Rattle.std.proofs.lemmas.List.Elements.{All-head, All-tail, All-weaker}
 use Rattle.std.proofs.lemmas.List.{take_all}
 use Rattle.std.proofs.lemmas.List.Splits.{slice_split_none, slice_split_at, join_with_byte-slice_split}
 use Rattle.pg_path.specs.First.{IsFirstWithout}
 use Rattle.pg_path.specs.Name.{IsComponentByte}
-use Rattle.pg_path.specs.Path.{IsComponent, IsPath, path_text, parts_of, IsLong, IsTooDeep, HasBadName}
+use Rattle.pg_path.specs.Path.{cut_at_slashes as cut, IsComponent, IsPath, path_text, parts_of, IsLong, IsTooDeep, HasBadName}
 use Rattle.pg_path.specs.declared.error.BadPath.{BadPath}
 use Rattle.pg_path.specs.declared.error.BadPath.TheVariants.{OutOfMemory, NoSlash, Long, TooDeep, BadName}
 use Rattle.pg_path.proofs.Firsts.{not_first, one_first}
-
--- the cut at slashes
-abbrev pub cut : List ℕ → List (List ℕ)
-cut text = slice_split (λ b. b == 47) text
 
 -- what stands behind the first byte
 abbrev pub behind : List ℕ → List ℕ
@@ -98,12 +94,12 @@ is_path text slash some short few each =
     (record { few = omega arith; short = omega arith; each = subst P (sym e) each }, same)
 
 -- a text with a first bad component
-pub has_bad : (text : List ℕ) (place : ℕ) → slice_index text 0 ≡ 47 → 1 < length text → length text ≤ 4096 → length (cut (behind text)) ≤ 64 → IsFirstWithout IsComponent (cut (behind text)) place → HasBadName text (place + 1)
-has_bad text place slash some short few first =
+pub has_bad : (text : List ℕ) (index : ℕ) → slice_index text 0 ≡ 47 → 1 < length text → length text ≤ 4096 → length (cut (behind text)) ≤ 64 → IsFirstWithout IsComponent (cut (behind text)) index → HasBadName text (index + 1)
+has_bad text index slash some short few first =
     let e = parts_of-cut text some in
     let m : length (parts_of text) ≡ length (cut (behind text)) = ap length e in
-    let P : List (List ℕ) → Type 0 = λ ps. IsFirstWithout IsComponent ps place in
-    record { slash = slash; short = short; few = omega arith; first = (place, refl, subst P (sym e) first) }
+    let P : List (List ℕ) → Type 0 = λ ps. IsFirstWithout IsComponent ps index in
+    record { slash = slash; short = short; few = omega arith; first = (index, refl, subst P (sym e) first) }
 
 -- which is the only one
 pub one_bad : (text : List ℕ) (a b : ℕ) → HasBadName text a → HasBadName text b → a ≡ b

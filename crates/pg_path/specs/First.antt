@@ -2,8 +2,8 @@
 use Rattle.std.specs.Prelude.{ℕ, ◌<◌, List, length}
 use Rattle.std.specs.List.{AllWithin, HoldsAt}
 
--- this place is in the list, what stands there lacks P, and all before it has P
-pub record IsFirstWithout {X : Type 0} (P : X → Type 0) (xs : List X) (place : ℕ) : Type 0 where
-  pub inside : place < length xs
-  pub lacks : HoldsAt (λ x. ¬ (P x)) xs place
-  pub before : AllWithin P xs 0 place
+-- the index is in the list, what stands there lacks P, and all before it has P
+pub record IsFirstWithout {X : Type 0} (P : X → Type 0) (xs : List X) (index : ℕ) : Type 0 where
+  pub inside : index < length xs
+  pub lacks : HoldsAt (λ x. ¬ (P x)) xs index
+  pub before : AllWithin P xs 0 index

@@ -22,6 +22,6 @@ pub record IsClientName (text : List ℕ) : Type 0 where
   pub each : All IsNameByte text
 
 -- a text of fitting length, and the first byte that no client name has
-pub record HasBadByte (text : List ℕ) (place : ℕ) : Type 0 where
+pub record HasBadByte (text : List ℕ) (index : ℕ) : Type 0 where
   pub most : length text ≤ 255
-  pub first : IsFirstWithout IsNameByte text place
+  pub first : IsFirstWithout IsNameByte text index

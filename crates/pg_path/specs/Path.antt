@@ -20,11 +20,15 @@ pub record IsPath (parts : List (List ℕ)) : Type 0 where
   pub short : length (path_text parts) ≤ 4096
   pub each : All IsComponent parts
 
--- the bytes between the slashes, behind the first byte: none where nothing stands behind it
+-- the bytes between the slashes
+abbrev pub cut_at_slashes : List ℕ → List (List ℕ)
+cut_at_slashes text = slice_split (λ b. b == 47) text
+
+-- the same, behind the first byte: none where nothing stands behind it
 abbrev pub parts_of : List ℕ → List (List ℕ)
 parts_of [] = []
 parts_of (slash ∷ []) = []
-parts_of (slash ∷ byte ∷ rest) = slice_split (λ b. b == 47) (byte ∷ rest)
+parts_of (slash ∷ byte ∷ rest) = cut_at_slashes (byte ∷ rest)
 
 abbrev pub BeginsWithSlash : List ℕ → Type 0
 BeginsWithSlash text = slice_index text 0 ≡ 47
@@ -40,13 +44,13 @@ pub record IsTooDeep (text : List ℕ) : Type 0 where
   pub short : length text ≤ 4096
   pub many : 64 < length (parts_of text)
 
--- a slash in front, at most 4,096 bytes in at most 64 components, of which this is the first that breaks the grammar,
--- counted from 1
+-- a slash in front, at most 4,096 bytes in at most 64 components, of which this is the first that
+-- breaks the grammar, counted from 1
 pub record HasBadName (text : List ℕ) (component : ℕ) : Type 0 where
   pub slash : BeginsWithSlash text
   pub short : length text ≤ 4096
   pub few : length (parts_of text) ≤ 64
-  pub first : (place : ℕ) × (component ≡ place + 1) × IsFirstWithout IsComponent (parts_of text) place
+  pub first : (i : ℕ) × (component ≡ i + 1) × IsFirstWithout IsComponent (parts_of text) i
 
 -- where each component stands in the text, from its first byte to the one behind its last
 pub record AreCuts (text : List ℕ) (cuts : List (ℕ × ℕ)) : Type 0 where

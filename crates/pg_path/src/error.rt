@@ -16,7 +16,7 @@ pub enum BadName {
     Empty,
     #[error("a name has at most 255 bytes")]
     TooLong,
-    /// The place of the first bad byte.
+    /// The index of the first bad byte.
     #[error("no name has the byte at {0}")]
     BadByte(u64),
 }

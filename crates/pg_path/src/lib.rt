@@ -9,6 +9,3 @@ mod path;
 pub use error::{BadName, BadPath};
 pub use name::{Name, is_client_name};
 pub use path::{Path, name_is_component, one_spelling};
-
-#[cfg(test)]
-mod tests;

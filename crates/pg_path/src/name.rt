@@ -30,7 +30,7 @@ impl Model for Name {
 /// The most bytes of a client name.
 const MOST_BYTES: usize = 255;
 
-/// The place of the first byte that no client name has.
+/// The index of the first byte that no client name has.
 fn first_bad_byte(bytes: &[u8]) -> Option<usize>
     ensures found { IfSome result (IsFirstWithout IsNameByte bytes.now) }
     ensures none { IfNone result (All IsNameByte bytes.now) }
@@ -51,7 +51,7 @@ impl Name {
         ensures found { IfOk result (λ n. (n ≡ bytes.now) × IsClientName n) }
         ensures empty { (result ≡ Err BadName.Empty) ↔ (bytes.now ≡ []) }
         ensures long { (result ≡ Err BadName.TooLong) ↔ (255 < length bytes.now) }
-        ensures bad { (place : ℕ) → (result ≡ Err (BadName.BadByte place)) ↔ HasBadByte bytes.now place }
+        ensures bad { (i : ℕ) → (result ≡ Err (BadName.BadByte i)) ↔ HasBadByte bytes.now i }
     {
         if bytes.is_empty() {
             return Err(BadName::Empty);
@@ -59,8 +59,8 @@ impl Name {
         if bytes.len() > MOST_BYTES {
             return Err(BadName::TooLong);
         }
-        if let Some(place) = first_bad_byte(bytes) {
-            return Err(BadName::BadByte(place as u64));
+        if let Some(index) = first_bad_byte(bytes) {
+            return Err(BadName::BadByte(index as u64));
         }
         Ok(Name {
             text: SharedBytes::from_slice(alloc, bytes)?,

@@ -1,10 +1,9 @@
 //! Paths: how to come to a file or directory from the root.
 
 ghost use Rattle.std.specs.Prelude.{◌≡◌, ◌≢◌, ◌+◌, ◌<◌, ◌≤◌, ◌==◌, ◌↔◌, ◌++◌, ℕ, List, length, All, IsTrue, IfOk, IfSome, IfNone, OnOk, OnErr, IsOkUnless, slice_get, slice_index};
-ghost use Rattle.std.specs.List.{slice_split};
 ghost use Rattle.pg_path.specs.First.{IsFirstWithout};
 ghost use Rattle.pg_path.specs.Name.{IsClientName};
-ghost use Rattle.pg_path.specs.Path.{IsComponent, IsPath, path_text, parts_of, IsLong, IsTooDeep, HasBadName, AreCuts};
+ghost use Rattle.pg_path.specs.Path.{IsComponent, IsPath, cut_at_slashes, path_text, parts_of, IsLong, IsTooDeep, HasBadName, AreCuts};
 
 use crate::bytes::is_component_byte;
 use crate::error::BadPath;
@@ -27,7 +26,9 @@ impl Model for Path {
 
     ghost view = { λ p. parts_of p.text };
 
-    ghost invariant = { λ p. IsPath (parts_of p.text) × (p.text ≡ path_text (parts_of p.text)) × AreCuts p.text p.cuts.items };
+    ghost invariant = { λ p.
+        IsPath (parts_of p.text) × (p.text ≡ path_text (parts_of p.text))
+        × AreCuts p.text p.cuts.items };
 }
 
 /// The most bytes of a component.
@@ -49,15 +50,15 @@ fn is_component(part: &[u8]) -> bool
 /// How many parts a text has between its slashes.
 fn count_parts(text: &[u8]) -> usize
     requires { length text.now ≤ 4096 }
-    ensures { result ≡ length (slice_split (λ b. b == 47) text.now) }
+    ensures { result ≡ length (cut_at_slashes text.now) }
 {
     text.iter().filter(|byte| **byte == b'/').count() + 1
 }
 
-/// The place of the first part between slashes that is no component.
+/// The index of the first part between slashes that is no component.
 fn first_bad_part(text: &[u8]) -> Option<usize>
-    ensures found { IfSome result (IsFirstWithout IsComponent (slice_split (λ b. b == 47) text.now)) }
-    ensures none { IfNone result (All IsComponent (slice_split (λ b. b == 47) text.now)) }
+    ensures found { IfSome result (IsFirstWithout IsComponent (cut_at_slashes text.now)) }
+    ensures none { IfNone result (All IsComponent (cut_at_slashes text.now)) }
 {
     text.split(|byte| *byte == b'/')
         .position(|part| !is_component(part))
@@ -86,11 +87,13 @@ fn cuts_of(alloc: Global, text: &[u8]) -> Result<Vec<(usize, usize)>, AllocError
 
 /// Whether the text is a path, before any memory is taken.
 fn check(text: &[u8]) -> Result<(), BadPath>
-    ensures found { OnOk result ((length text.now ≤ 4096) × IsPath (parts_of text.now) × (text.now ≡ path_text (parts_of text.now))) }
+    ensures found { OnOk result (
+        (length text.now ≤ 4096) × IsPath (parts_of text.now)
+        × (text.now ≡ path_text (parts_of text.now))) }
     ensures no_slash { (result ≡ Err BadPath.NoSlash) ↔ (slice_index text.now 0 ≢ 47) }
     ensures long { (result ≡ Err BadPath.Long) ↔ IsLong text.now }
     ensures deep { (result ≡ Err BadPath.TooDeep) ↔ IsTooDeep text.now }
-    ensures bad { (component : ℕ) → (result ≡ Err (BadPath.BadName component)) ↔ HasBadName text.now component }
+    ensures bad { (k : ℕ) → (result ≡ Err (BadPath.BadName k)) ↔ HasBadName text.now k }
 {
     let [b'/', rest @ ..] = text else {
         return Err(BadPath::NoSlash);
@@ -105,7 +108,7 @@ fn check(text: &[u8]) -> Result<(), BadPath>
         return Err(BadPath::TooDeep);
     }
     match first_bad_part(rest) {
-        Some(place) => Err(BadPath::BadName(place as u64 + 1)),
+        Some(index) => Err(BadPath::BadName(index as u64 + 1)),
         None => Ok(()),
     }
 }
@@ -114,12 +117,13 @@ impl Path {
     /// The path of this text. Whether it is one is told before any memory is taken.
     pub fn read(alloc: Global, bytes: &[u8]) -> Result<Path, BadPath>
         ensures found { IfOk result (λ p. IsPath p × (bytes.now ≡ path_text p)) }
-        ensures spelled { (p : List (List ℕ)) → IsPath p → bytes.now ≡ path_text p → IsOkUnless result BadPath.OutOfMemory }
+        ensures spelled { (p : List (List ℕ)) → IsPath p → bytes.now ≡ path_text p
+            → IsOkUnless result BadPath.OutOfMemory }
         ensures parts { IfOk result (λ p. p ≡ parts_of bytes.now) }
         ensures no_slash { (result ≡ Err BadPath.NoSlash) ↔ (slice_index bytes.now 0 ≢ 47) }
         ensures long { (result ≡ Err BadPath.Long) ↔ IsLong bytes.now }
         ensures deep { (result ≡ Err BadPath.TooDeep) ↔ IsTooDeep bytes.now }
-        ensures bad { (component : ℕ) → (result ≡ Err (BadPath.BadName component)) ↔ HasBadName bytes.now component }
+        ensures bad { (k : ℕ) → (result ≡ Err (BadPath.BadName k)) ↔ HasBadName bytes.now k }
     {
         check(bytes)?;
         let cuts = cuts_of(alloc, bytes)?;
@@ -142,7 +146,7 @@ impl Path {
         self.cuts.is_empty()
     }
 
-    /// The component with this place, counted from 0: the bytes between two slashes.
+    /// The component at this index, counted from 0: the bytes between two slashes.
     pub fn part(&self, k: usize) -> &[u8]
         requires { k < length self.now }
         ensures bytes { slice_get self.now k ≡ Some result.now }

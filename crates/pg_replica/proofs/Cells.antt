@@ -10,7 +10,7 @@ use Rattle.pg_edges.specs.Key.{is_same_key}
 use Rattle.pg_edges.proofs.Orders.{is_same_key-true}
 use Rattle.pg_base.specs.Version.{VersionValue, stamp_of}
 use Rattle.pg_content.specs.Content.{head_at}
-use Rattle.pg_content.specs.Shown.{placed}
+use Rattle.pg_content.specs.Shown.{inserted}
 use Rattle.pg_content.specs.StandsFor.{InStrictOrder}
 use Rattle.pg_replica.specs.Replica.{key_of, keys, cell_at}
 
@@ -133,19 +133,19 @@ none_gone test [] h = refl
 none_gone test (v ∷ vs) h = gone_by v (filter test vs) (test v) (list_any test vs) h (none_gone test vs)
 
 module _ (v : VersionValue) (q : Key) where
-  placed_by : (w : VersionValue) (ws : List VersionValue) (b : Bool) → is_same_key q (key_of v) ≡ false → cell_at (placed stamp_of v ws) q ≡ cell_at ws q
-      → cell_at (cond b (w ∷ placed stamp_of v ws) (v ∷ w ∷ ws)) q ≡ cell_at (w ∷ ws) q
+  placed_by : (w : VersionValue) (ws : List VersionValue) (b : Bool) → is_same_key q (key_of v) ≡ false → cell_at (inserted stamp_of v ws) q ≡ cell_at ws q
+      → cell_at (cond b (w ∷ inserted stamp_of v ws) (v ∷ w ∷ ws)) q ≡ cell_at (w ∷ ws) q
   placed_by w ws true other rest = ap (cond (is_same_key q (key_of w)) (Some w)) rest
   placed_by w ws false other rest = ap (λ c. cond c (Some v) (cell_at (w ∷ ws) q)) other
 
   -- at another key than its own nothing changes
-  pub cell_at-placed : (ws : List VersionValue) → is_same_key q (key_of v) ≡ false → cell_at (placed stamp_of v ws) q ≡ cell_at ws q
+  pub cell_at-placed : (ws : List VersionValue) → is_same_key q (key_of v) ≡ false → cell_at (inserted stamp_of v ws) q ≡ cell_at ws q
   cell_at-placed [] other = ap (λ c. cond c (Some v) None) other
   cell_at-placed (w ∷ ws) other = placed_by w ws (is_before w.head.stamp v.head.stamp) other (cell_at-placed ws other)
 
   -- both together
   pub cell_at-put : (test : VersionValue → Bool) (vs : List VersionValue) → InStrictOrder vs → is_same_key q (key_of v) ≡ false
-      → cell_at (placed stamp_of v (filter (λ h. not (test h)) vs)) q ≡ less (keys (filter test vs)) (cell_at vs) q
+      → cell_at (inserted stamp_of v (filter (λ h. not (test h)) vs)) q ≡ less (keys (filter test vs)) (cell_at vs) q
   cell_at-put test vs order other =
       cell_at-placed (filter (λ h. not (test h)) vs) other ∙ cell_at-kept test q vs order ∙ sym (less_is (keys (filter test vs)) (cell_at vs) q)
 

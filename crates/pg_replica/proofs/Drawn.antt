@@ -14,7 +14,7 @@ use Rattle.pg_flood.proofs.Draws.{Draws, Draws-refl, Draws-trans}
 use Rattle.pg_flood.proofs.Touch.{SameBut, touch_draws}
 use Rattle.pg_flood.proofs.Retire.{retire_draws}
 use Rattle.pg_replica.specs.declared.replica.Replica.{Replica}
-use Rattle.pg_replica.specs.Replica.{key_of, keys, cell_at, covers, gone, without_keys, with_head, with_version, tags_after, with_write}
+use Rattle.pg_replica.specs.Replica.{key_of, keys, cell_at, covers, covered_heads, without_keys, with_head, with_version, tags_after, with_write}
 use Rattle.pg_replica.proofs.Listed.{length-without_keys}
 use Rattle.pg_replica.proofs.Cells.{less_one, less, cell_at-put, cell_at-alone, less_all}
 
@@ -46,7 +46,7 @@ module _ (t : ℕ) (x : Replica) where
   version_by : (v : VersionValue) (b : Bool) → covers x v ≡ b → InStrictOrder x.content.heads → Draws t (seen x) (cond b t (t + length x.edges)) (seen (cond b x (with_head x v t)))
   version_by v true e order = Draws-refl t (seen x)
   version_by v false e order =
-      put_draws t (keys (gone x.content.heads v)) (key_of v) (seen x) (cell_at (with_head x v t).content.heads) (λ q other.
+      put_draws t (keys (covered_heads x.content.heads v)) (key_of v) (seen x) (cell_at (with_head x v t).content.heads) (λ q other.
       ap (λ c. cell_at (cond c x.content.heads (put_version x.content.heads v)) q) e ∙ cell_at-put v q (covers_version v.head.vector) x.content.heads order other)
 
   -- A VERSION COMES, where no two heads have one stamp

@@ -15,10 +15,10 @@ use Rattle.pg_edges.proofs.Lookups.{retires}
 use Rattle.pg_edges.proofs.Tags.{keeps_or_brings}
 use Rattle.pg_base.specs.Version.{VersionValue}
 use Rattle.pg_content.specs.Content.{Among, covers_version, put_version, next_version}
-use Rattle.pg_content.proofs.Standing.{placed_among}
+use Rattle.pg_content.proofs.Inserting.{inserted_among}
 use Rattle.pg_flood.proofs.Worlds.{clean_tags}
 use Rattle.pg_replica.specs.declared.replica.Replica.{Replica}
-use Rattle.pg_replica.specs.Replica.{key_of, keys, cell_at, covers, gone, without_keys, with_head, with_version, with_write, acknowledged}
+use Rattle.pg_replica.specs.Replica.{key_of, keys, cell_at, covers, covered_heads, without_keys, with_head, with_version, with_write, with_ack}
 use Rattle.pg_replica.specs.Laws.{IsKeyOf, OnlyHeads, KeysAreHeads}
 
 -- ---- keys that leave every edge
@@ -65,14 +65,14 @@ among_keys (v ∷ vs) w q is m = elim m [ inl same ↦ inl (is ∙ ap key_of sam
 -- ---- what is kept
 
 module _ (es : List Edge) (heads : List VersionValue) (only : OnlyHeads es heads) where
-  put_only : (v : VersionValue) (t : ℕ) → OnlyHeads (touched (without_keys es (keys (gone heads v))) (key_of v) t) (put_version heads v)
-  put_only v t p b q g h = elim (keeps_or_brings (Touch (key_of v) t) (without_keys es (keys (gone heads v))) p b q g h) [
+  put_only : (v : VersionValue) (t : ℕ) → OnlyHeads (touched (without_keys es (keys (covered_heads heads v))) (key_of v) t) (put_version heads v)
+  put_only v t p b q g h = elim (keeps_or_brings (Touch (key_of v) t) (without_keys es (keys (covered_heads heads v))) p b q g h) [
     | inl old ↦
-        let r = left_tag (keys (gone heads v)) es q p b g old in
+        let r = left_tag (keys (covered_heads heads v)) es q p b g old in
         let k = only p b q g r.0 in
         let stays = kept (covers_version v.head.vector) q k.0 heads k.2 r.1 k.1 in
-        (k.0, placed_among k.0 v (filter (λ h. not (covers_version v.head.vector h)) heads) (inr stays), k.2)
-    | inr new ↦ (v, placed_among v v (filter (λ h. not (covers_version v.head.vector h)) heads) (inl refl), new.0)
+        (k.0, inserted_among k.0 v (filter (λ h. not (covers_version v.head.vector h)) heads) (inr stays), k.2)
+    | inr new ↦ (v, inserted_among v v (filter (λ h. not (covers_version v.head.vector h)) heads) (inl refl), new.0)
   ]
 
   write_only : (v : VersionValue) (t : ℕ) → OnlyHeads (touched (without_keys es (keys heads)) (key_of v) t) (v ∷ [])
@@ -103,7 +103,7 @@ module _ (x : Replica) where
   pub keys_write : KeysAreHeads x → (actor : Actor) (stamp : Stamp) (ranges : RangesValue) (t : ℕ) → KeysAreHeads (with_write x actor stamp ranges t)
   keys_write only actor stamp ranges t = write_only x.edges x.content.heads only (next_version x.content actor stamp ranges) t
 
-  pub keys_answer : KeysAreHeads x → (peer birth : ℕ) (k : Key) (tag : ℕ) → KeysAreHeads (acknowledged x peer birth k tag)
+  pub keys_answer : KeysAreHeads x → (peer birth : ℕ) (k : Key) (tag : ℕ) → KeysAreHeads (with_ack x peer birth k tag)
   keys_answer only peer birth k tag = ack_only x.edges x.content.heads only peer birth k tag
 
 -- ---- the key of a head has a cell

@@ -4,3 +4,9 @@ pub mod Heads
 pub mod Drawn
 pub mod Growth
 pub mod Order
+pub mod Lists
+pub mod Clean
+pub mod Merging
+mod Relisting
+mod Takings
+mod Refusals

@@ -8,7 +8,7 @@ use Rattle.pg_patch.specs.Ranges.{RangesValue}
 use Rattle.pg_base.specs.Version.{VersionValue}
 use Rattle.pg_content.specs.Content.{Among, covers_version, put_version, next_version}
 use Rattle.pg_content.specs.StandsFor.{InStrictOrder}
-use Rattle.pg_content.proofs.Standing.{InStrictOrder-placed}
+use Rattle.pg_content.proofs.StrictOrder.{InStrictOrder-inserted}
 use Rattle.pg_replica.specs.declared.replica.Replica.{Replica}
 use Rattle.pg_replica.specs.Replica.{covers, with_head, with_version, with_write}
 use Rattle.pg_replica.proofs.Cells.{Before}
@@ -52,7 +52,7 @@ module _ (test : VersionValue → Bool) (w : VersionValue) where
 module _ (x : Replica) (v : VersionValue) where
   put_order : InStrictOrder x.content.heads → CanTake x v → InStrictOrder (put_version x.content.heads v)
   put_order order can =
-      InStrictOrder-placed v (filter (λ h. not (covers_version v.head.vector h)) x.content.heads)
+      InStrictOrder-inserted v (filter (λ h. not (covers_version v.head.vector h)) x.content.heads)
       (λ w m e. (let r = among_left (covers_version v.head.vector) w x.content.heads m in let z : true ≡ false = sym (can.one w r.0 (sym e)) ∙ r.1 in cc))
       (order_left (λ h. not (covers_version v.head.vector h)) x.content.heads order)
 

@@ -14,7 +14,8 @@ IsKeyOf heads k = (v : VersionValue) × Among v heads × (k ≡ key_of v)
 
 -- each key that is unacknowledged on one of the edges is that of a head
 abbrev pub OnlyHeads : List Edge → List VersionValue → Type 0
-OnlyHeads es heads = (peer birth : ℕ) (k : Key) (tag : ℕ) → tag_at es peer birth k ≡ Some tag → IsKeyOf heads k
+OnlyHeads es heads =
+    (peer birth : ℕ) (k : Key) (tag : ℕ) → tag_at es peer birth k ≡ Some tag → IsKeyOf heads k
 
 -- no key stands on an edge but a head's
 abbrev pub KeysAreHeads : Replica → Type 0

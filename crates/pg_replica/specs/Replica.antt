@@ -1,19 +1,25 @@
--- A replica with its heads and edges: which keys and cells it has, and what a version, a write and an answer make of it.
-use Rattle.std.specs.Prelude.{ℕ, ◌+◌, Bool, if◌then◌else◌, List, [], ◌∷◌, filter, length, map, nat_le, not, Option, None, Some}
+-- A replica with its heads and edges: which keys and cells it has, and what a version, a write and
+-- an answer make of it.
+use Rattle.std.specs.Prelude.{ℕ, ◌+◌, ◌==◌, ◌&&◌, Bool, true, false, if◌then◌else◌, List, [], ◌∷◌, filter, length, map, nat_le, nat_lt, not, Option, None, Some}
 use Rattle.std.specs.List.{list_any}
 use Rattle.pg_base.specs.declared.stamp.Stamp.{Stamp}
 use Rattle.pg_base.specs.declared.vector.Actor.{Actor}
 use Rattle.pg_base.specs.Stamp.{clock_end}
 use Rattle.pg_base.specs.Vector.{number_at}
-use Rattle.pg_patch.specs.Ranges.{RangesValue}
+use Rattle.pg_patch.specs.Ranges.{RangesValue, applied}
 use Rattle.pg_edges.specs.declared.key.Key.{Key}
 use Rattle.pg_edges.specs.declared.key.Key.TheVariants as key
 use Rattle.pg_edges.specs.declared.edge.Edge.{Edge}
 use Rattle.pg_edges.specs.Key.{is_same_key}
-use Rattle.pg_edges.specs.Edges.{touched, retired, acked}
+use Rattle.pg_edges.specs.Edges.{is_listed, touched, retired, acked}
 use Rattle.pg_base.specs.Version.{VersionValue, actor_of}
-use Rattle.pg_content.specs.Content.{is_covered, covers_version, joined_content, written}
+use Rattle.pg_content.specs.Content.{is_covered, covers_version, actor_limit, body_limit, joined_content, next_vector, shown_bytes, with_heads, written}
+use Rattle.pg_content.specs.declared.error.WriteError.{WriteError}
+use Rattle.pg_content.specs.declared.error.WriteError.TheVariants.{TooLong, ManyActors}
+use Rattle.pg_replica.specs.declared.link.Link.{Link}
 use Rattle.pg_replica.specs.declared.replica.Replica.{Replica}
+use Rattle.pg_replica.specs.declared.link.Taking.{Taking}
+use Rattle.pg_replica.specs.declared.link.Taking.TheVariants.{NoEdge, Covered, News}
 
 -- ---- keys and cells
 
@@ -37,20 +43,21 @@ abbrev pub covers : Replica → VersionValue → Bool
 covers x v = is_covered x.content.heads (actor_of v.head) v.head.number
 
 -- the heads that the version's vector covers, in their order
-abbrev pub gone : List VersionValue → VersionValue → List VersionValue
-gone heads v = filter (covers_version v.head.vector) heads
+abbrev pub covered_heads : List VersionValue → VersionValue → List VersionValue
+covered_heads heads v = filter (covers_version v.head.vector) heads
 
 -- each of these keys leaves every edge
 abbrev pub without_keys : List Edge → List Key → List Edge
 without_keys es [] = es
 without_keys es (k ∷ ks) = without_keys (retired es k) ks
 
--- the keys of the heads that go leave every edge, and the version's own key is touched on every edge, from this tag on
+-- the keys of the heads that go leave every edge, and the version's own key is touched on every
+-- edge, from this tag on
 abbrev pub with_head : Replica → VersionValue → ℕ → Replica
 with_head x v tags = record {
   birth = x.birth;
   content = joined_content x.content v;
-  edges = touched (without_keys x.edges (keys (gone x.content.heads v))) (key_of v) tags;
+  edges = touched (without_keys x.edges (keys (covered_heads x.content.heads v))) (key_of v) tags;
 }
 
 -- a version that is covered changes nothing; any other is a head from then on
@@ -63,8 +70,17 @@ tags_after x v tags = if covers x v then tags else tags + length x.edges
 
 -- ---- a write
 
--- what the actor writes is the only head: the keys of all heads leave every edge, and the key of its stamp is touched on
--- every edge, from this tag on
+-- the version is the only head: the keys of all heads leave every edge, and its own key is touched
+-- on every edge, from this tag on
+abbrev pub with_only : Replica → VersionValue → ℕ → Replica
+with_only x v tags = record {
+  birth = x.birth;
+  content = with_heads x.content (v ∷ []);
+  edges = touched (without_keys x.edges (keys x.content.heads)) (key_of v) tags;
+}
+
+-- what the actor writes is the only head: the keys of all heads leave every edge, and the key of
+-- its stamp is touched on every edge, from this tag on
 abbrev pub with_write : Replica → Actor → Stamp → RangesValue → ℕ → Replica
 with_write x actor stamp ranges tags = record {
   birth = x.birth;
@@ -78,10 +94,62 @@ own_actor x server = record { server = server; birth = x.birth }
 
 -- no head knows a number of it that is at the end of the clock
 abbrev pub has_room : Replica → ℕ → Bool
-has_room x server = not (list_any (λ v. nat_le clock_end (number_at v.head.vector (own_actor x server))) x.content.heads)
+has_room x server =
+    not (list_any (λ v. nat_le clock_end (number_at v.head.vector (own_actor x server)))
+    x.content.heads)
+
+-- the body would be too long
+abbrev pub is_too_long : Replica → RangesValue → Bool
+is_too_long x ranges = nat_lt body_limit (length (applied (shown_bytes x.content) ranges))
+
+-- the vector would have too many actors
+abbrev pub has_many_actors : Replica → ℕ → Bool
+has_many_actors x server =
+    nat_lt actor_limit (length (next_vector x.content.heads (own_actor x server)))
+
+-- why the server may not make a version with these ranges, if there is a reason
+abbrev pub refusal_of : Replica → ℕ → RangesValue → Option WriteError
+refusal_of x server ranges =
+    if is_too_long x ranges then Some TooLong
+    else (if has_many_actors x server then Some ManyActors else None)
+
+-- ---- edges
+
+-- there is an edge between these births of the replica and of the peer's
+abbrev pub has_edge : Replica → Link → Bool
+has_edge x link = link.own == x.birth && is_listed x.edges link.peer link.birth
+
+abbrev pub is_none : List (Key × ℕ) → Bool
+is_none [] = true
+is_none (k ∷ keys) = false
+
+-- no edge has a key
+abbrev pub are_clean : List Edge → Bool
+are_clean [] = true
+are_clean (e ∷ es) = is_none e.keys && are_clean es
 
 -- ---- an answer
 
 -- the key goes off the edge to this birth of the peer where the tag is the present one there
-abbrev pub acknowledged : Replica → ℕ → ℕ → Key → ℕ → Replica
-acknowledged x peer birth k tag = record { birth = x.birth; content = x.content; edges = acked x.edges peer birth k tag }
+abbrev pub with_ack : Replica → ℕ → ℕ → Key → ℕ → Replica
+with_ack x peer birth k tag = record {
+  birth = x.birth;
+  content = x.content;
+  edges = acked x.edges peer birth k tag;
+}
+
+-- the same, where there is the edge
+abbrev pub with_ack_along : Replica → Link → Key → ℕ → Replica
+with_ack_along x link k tag = if has_edge x link then with_ack x link.peer link.birth k tag else x
+
+-- ---- a version comes along an edge
+
+-- what comes of it
+abbrev pub taking : Replica → Link → VersionValue → Taking
+taking x link v = if has_edge x link then (if covers x v then Covered else News) else NoEdge
+
+abbrev pub with_taking : Replica → Link → VersionValue → ℕ → Replica
+with_taking x link v tags = if has_edge x link then with_version x v tags else x
+
+abbrev pub tags_taking : Replica → Link → VersionValue → ℕ → ℕ
+tags_taking x link v tags = if has_edge x link then tags_after x v tags else tags

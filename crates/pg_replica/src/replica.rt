@@ -1,12 +1,14 @@
 //! One server's replica of a file whose versions may stand side by side.
 
-ghost use Rattle.std.specs.Prelude.{◌≡◌, ◌≢◌, ◌+◌, ◌<◌, ◌≤◌, ◌^◌, ◌↔◌, All, IfErr, IfOk, IsErrOf, IsTrue, OnErr, OnOk, length, nat_lt, not, option_copied};
+ghost use Rattle.std.specs.Prelude.{◌≡◌, ◌≢◌, ◌+◌, ◌<◌, ◌≤◌, ◌^◌, ◌↔◌, All, IfErr, IfOk, IsErrOf, IsTrue, OnErr, OnOk, None, Some, false, length, map, not, option_copied, true};
 ghost use Rattle.pg_base.specs.Vector.{number_at};
+ghost use Rattle.pg_base.specs.Version.{stamp_of};
 ghost use Rattle.pg_patch.specs.Ranges.{applied};
-ghost use Rattle.pg_content.specs.Content.{actor_limit, body_limit, next_vector, shown_bytes};
-ghost use Rattle.pg_replica.specs.Replica.{acknowledged, cell_at, covers, has_room, keys, own_actor, tags_after, with_head, with_version, with_write};
+ghost use Rattle.pg_content.specs.Content.{actor_limit, body_limit, next_vector, next_version, shown_bytes};
+ghost use Rattle.pg_replica.specs.Replica.{are_clean, cell_at, covers, has_edge, has_room, is_too_long, keys, own_actor, refusal_of, with_ack_along, with_head, with_only};
 
-use crate::retiring::{key_of, retire_all, retire_gone};
+use crate::link::Link;
+use crate::retiring::{key_of, retire_all, retire_replaced};
 use pg_base::{Actor, Items, NodeId, Stamp, Version};
 use pg_content::{Content, WriteError};
 use pg_edges::{Edges, Key};
@@ -54,98 +56,104 @@ impl Replica {
         }
     }
 
-    /// Whether all numbers of the server at this replica that the heads know are below `Stamp::LATEST`. Then `write`
-    /// has room at it.
-    pub fn has_room(&self, server: NodeId) -> bool
-        ensures test { result ≡ has_room self.now server }
-        ensures room { IsTrue result → All (λ v. number_at v.head.vector (own_actor self.now server) < 2 ^ 63) self.now.content.heads }
+    /// Whether there is an edge between these births of the replica and of the peer's.
+    pub fn has_edge(&self, link: &Link) -> bool
+        ensures { result ≡ has_edge self.now link.now }
     {
-        self.content.has_room(Actor {
-            server,
-            birth: self.birth,
-        })
+        link.own == self.birth && self.edges.is_listed(link.peer, link.birth)
     }
 
-    /// Whether what the ranges make of what is shown is longer than a body may be, so that `write` refuses it.
-    pub fn is_too_long(&self, ranges: &Ranges) -> bool
-        ensures { result ≡ nat_lt body_limit (length (applied (shown_bytes self.now.content) ranges.now)) }
+    /// Whether every peer has acknowledged every key.
+    pub fn is_clean(&self) -> bool
+        ensures { result ≡ are_clean self.now.edges }
     {
-        self.content.is_too_long(ranges)
-    }
-
-    /// Brings in a version with all that its vector covers, touches its key on every edge, and tells whether it is a
-    /// head now. A version that is covered changes nothing. `tags` is the next tag to give. After a refusal the content
-    /// is as before, but edges and tags may be changed in part.
-    pub fn join_version(&mut self, version: Version, tags: &mut u64) -> Result<bool, AllocError>
-        requires { tags.old + length self.old.edges < 2 ^ 64 }
-        ensures replica { OnOk result (self.new ≡ with_version self.old version tags.old) }
-        ensures tags { OnOk result (tags.new ≡ tags_after self.old version tags.old) }
-        ensures changed { IfOk result (λ changed. changed ≡ not (covers self.old version)) }
-        ensures err { OnErr result (self.new.content ≡ self.old.content) }
-    {
-        if self.covers(&version) {
-            return Ok(false);
+        for edge in self.edges.as_slice() {
+            if !edge.keys.is_empty() {
+                return false;
+            }
         }
-        self.put_head(version, tags)?;
-        Ok(true)
+        true
     }
 
-    /// The same, with a version that is not covered.
-    fn put_head(&mut self, version: Version, tags: &mut u64) -> Result<(), AllocError>
-        requires { tags.old + length self.old.edges < 2 ^ 64 }
+    /// Whether all numbers of the server at this replica that the heads know are below `Stamp::LATEST`. Then there is
+    /// room for a version of it.
+    pub fn has_room(&self, server: NodeId) -> bool
+        ensures { result ≡ has_room self.now server }
+    {
+        self.content.has_room(self.own_actor(server))
+    }
+
+    /// Brings in a version that is not covered, with all that its vector covers, and touches its key on every edge.
+    /// `tags` is the next tag to give. After a refusal the content is as before, but edges and tags may be changed in
+    /// part.
+    pub(crate) fn put_head(&mut self, version: Version, tags: &mut u64) -> Result<(), AllocError>
+        requires tags { tags.old + length self.old.edges < 2 ^ 64 }
+        requires news { covers self.old version ≡ false }
         ensures replica { OnOk result (self.new ≡ with_head self.old version tags.old) }
         ensures tags { OnOk result (tags.new ≡ tags.old + length self.old.edges) }
         ensures err { OnErr result (self.new.content ≡ self.old.content) }
     {
-        retire_gone(&mut self.edges, &self.content, &version);
+        retire_replaced(&mut self.edges, &self.content, &version);
         self.edges.touch(key_of(&version), tags)?;
-        self.content.join_version(version)?;
+        self.content.put_head(version)?;
         Ok(())
     }
 
-    /// Makes a version of what the ranges make of what is shown. It is the only head then, and its key is touched on
-    /// every edge. `tags` is the next tag to give. `Content::can_write` is the test of what is asked for. After a
-    /// refusal all is as before.
-    pub fn write(
-        &mut self,
-        actor: Actor,
-        stamp: Stamp,
-        ranges: &Ranges,
-        tags: &mut u64,
-    ) -> Result<(), WriteError>
-        requires server { stamp.server ≡ actor.server }
-        requires fresh { All (λ v. v.head.stamp ≢ stamp) self.old.content.heads }
-        requires room { All (λ v. number_at v.head.vector actor < 2 ^ 63) self.old.content.heads }
-        requires tags { tags.old + length self.old.edges < 2 ^ 64 }
-        ensures replica { OnOk result (self.new ≡ with_write self.old actor stamp ranges.now tags.old) }
-        ensures next { OnOk result (tags.new ≡ tags.old + length self.old.edges) }
-        ensures too_long { IsErrOf result WriteError.TooLong ↔ (body_limit < length (applied (shown_bytes self.old.content) ranges.now)) }
-        ensures short { OnOk result (length (applied (shown_bytes self.old.content) ranges.now) ≤ body_limit) }
-        ensures many_actors { IfErr result (λ e. e ≡ WriteError.ManyActors → actor_limit < length (next_vector self.old.content.heads actor)) }
-        ensures not_long { IfErr result (λ e. e ≡ WriteError.ManyActors → length (applied (shown_bytes self.old.content) ranges.now) ≤ body_limit) }
-        ensures few_actors { OnOk result (length (next_vector self.old.content.heads actor) ≤ actor_limit) }
-        ensures err { OnErr result (self.new ≡ self.old) }
-        ensures unused { OnErr result (tags.new ≡ tags.old) }
+    /// The version that the server makes of what the ranges make of what is shown, with all heads as its bases. Nothing
+    /// changes.
+    pub(crate) fn next_version(&self, stamp: Stamp, ranges: &Ranges) -> Result<Version, WriteError>
+        requires { has_room self.now stamp.server ≡ true }
+        ensures next { IfOk result (λ v.
+            v ≡ next_version self.now.content (own_actor self.now stamp.server) stamp ranges.now) }
+        ensures allowed { OnOk result (refusal_of self.now stamp.server ranges.now ≡ None) }
+        ensures refused { IfErr result (λ e. e ≢ WriteError.OutOfMemory
+            → refusal_of self.now stamp.server ranges.now ≡ Some e) }
+        ensures too_long { IsErrOf result WriteError.TooLong
+            ↔ (is_too_long self.now ranges.now ≡ true) }
     {
-        if self.content.is_too_long(ranges) {
-            return Err(WriteError::TooLong);
+        let actor = self.own_actor(stamp.server);
+        self.content.next_version(actor, stamp, ranges)
+    }
+
+    /// The version is the only head, and its key is touched on every edge. `tags` is the next tag to give. After a refusal
+    /// the content is as before, but edges and tags may be changed in part.
+    pub(crate) fn put_alone(&mut self, version: Version, tags: &mut u64) -> Result<(), AllocError>
+        requires { tags.old + length self.old.edges < 2 ^ 64 }
+        ensures replica { OnOk result (self.new ≡ with_only self.old version tags.old) }
+        ensures tags { OnOk result (tags.new ≡ tags.old + length self.old.edges) }
+        ensures err { OnErr result (self.new.content ≡ self.old.content) }
+    {
+        retire_all(&mut self.edges, self.content.heads());
+        self.edges.touch(key_of(&version), tags)?;
+        self.content.put_alone(version)?;
+        Ok(())
+    }
+
+    /// The stamps of the heads, in their order.
+    pub(crate) fn bases(&self, alloc: Global) -> Result<Items<Stamp>, AllocError>
+        ensures { IfOk result (λ ss. ss ≡ map stamp_of self.now.content.heads) }
+    {
+        let mut stamps = Items::new(alloc);
+        for version in self.content.heads() {
+            stamps.push(version.head().stamp)?;
         }
-        let mut edges = self.edges.copy()?;
-        let mut next = *tags;
-        retire_all(&mut edges, self.content.heads());
-        edges.touch(Key::Version(stamp), &mut next)?;
-        self.content.write(actor, stamp, ranges)?;
-        self.edges = edges;
-        *tags = next;
-        Ok(())
+        Ok(stamps)
     }
 
-    /// An answer that came along the edge to this birth of a peer takes the key off where the tag is the present one
-    /// there.
-    pub fn acknowledge(&mut self, peer: NodeId, birth: u64, key: Key, tag: u64)
-        ensures { self.new ≡ acknowledged self.old peer birth key tag }
+    /// An answer that came along an edge takes the key off where the tag is the present one there, and says whether it
+    /// did.
+    pub(crate) fn acknowledge(&mut self, link: &Link, key: Key, tag: u64) -> bool
+        ensures replica { self.new ≡ with_ack_along self.old link.now key tag }
+        ensures same { result ≡ false → self.new ≡ self.old }
     {
-        self.edges.ack(peer, birth, key, tag);
+        if link.own != self.birth {
+            return false;
+        }
+        if self.edges.tag(link.peer, link.birth, key) != Some(tag) {
+            return false;
+        }
+        self.edges.ack(link.peer, link.birth, key, tag);
+        true
     }
 
     /// The same replica again. The bodies are shared.
@@ -157,5 +165,14 @@ impl Replica {
             content: self.content.copy()?,
             edges: self.edges.copy()?,
         })
+    }
+
+    fn own_actor(&self, server: NodeId) -> Actor
+        ensures { result ≡ own_actor self.now server }
+    {
+        Actor {
+            server,
+            birth: self.birth,
+        }
     }
 }

@@ -3,7 +3,7 @@
 ghost use Rattle.std.specs.Prelude.{◌≡◌, if◌then◌else◌, length};
 ghost use Rattle.pg_content.specs.Content.{covers_version};
 ghost use Rattle.pg_edges.specs.Edges.{retired};
-ghost use Rattle.pg_replica.specs.Replica.{gone, key_of, keys, without_keys};
+ghost use Rattle.pg_replica.specs.Replica.{covered_heads, key_of, keys, without_keys};
 
 use pg_base::{Vector, Version};
 use pg_content::Content;
@@ -27,9 +27,10 @@ pub(crate) fn retire_all(edges: &mut Edges, heads: &[Version])
 }
 
 /// The keys of those heads that the version's vector covers leave every edge. No edge goes. Where it covers none the
-/// heads are not gone over.
-pub(crate) fn retire_gone(edges: &mut Edges, content: &Content, version: &Version)
-    ensures edges { edges.new ≡ without_keys edges.old (keys (gone content.now.heads version.now)) }
+/// heads are not looked at.
+pub(crate) fn retire_replaced(edges: &mut Edges, content: &Content, version: &Version)
+    ensures edges { edges.new
+        ≡ without_keys edges.old (keys (covered_heads content.now.heads version.now)) }
     ensures count { length edges.new ≡ length edges.old }
 {
     if content.replaces(version) {
@@ -39,18 +40,21 @@ pub(crate) fn retire_gone(edges: &mut Edges, content: &Content, version: &Versio
 
 /// The same, of these heads.
 fn retire_covered(edges: &mut Edges, heads: &[Version], version: &Version)
-    ensures edges { edges.new ≡ without_keys edges.old (keys (gone heads.now version.now)) }
+    ensures edges { edges.new
+        ≡ without_keys edges.old (keys (covered_heads heads.now version.now)) }
     ensures count { length edges.new ≡ length edges.old }
 {
     let vector = &version.head().vector;
     for head in heads {
-        retire_if_gone(edges, head, vector);
+        retire_if_covered(edges, head, vector);
     }
 }
 
 /// The key of the head leaves every edge, if the vector has the head's number at its actor.
-fn retire_if_gone(edges: &mut Edges, head: &Version, vector: &Vector)
-    ensures { edges.new ≡ (if covers_version vector.now head.now then retired edges.old (key_of head.now) else edges.old) }
+fn retire_if_covered(edges: &mut Edges, head: &Version, vector: &Vector)
+    ensures { edges.new
+        ≡ (if covers_version vector.now head.now then retired edges.old (key_of head.now)
+        else edges.old) }
 {
     if has_number(vector, head) {
         edges.retire(key_of(head));

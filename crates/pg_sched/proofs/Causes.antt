@@ -2,34 +2,36 @@
 use Rattle.std.proofs.Common.{ℕ, ◌≡◌, ◌≢◌, ◌≤◌, ◌<◌, List, [], ◌∷◌, ◌++◌, length, refl, sym, ap, ◌∙◌, arith, All, inl, inr, subst, append_assoc}
 use Rattle.std.proofs.lemmas.List.Elements.{All-head, All-tail, All-weaker}
 use Rattle.pg_base.proofs.Parts.{not_cut}
-use Rattle.pg_sched.specs.Cause.{Unless, IsPrintable, IsEnded, IsCutCause, IsCause, IsWordsCause, IsRestCause, front_line, words_in}
+use Rattle.pg_sched.specs.Cause.{Unless, IsPrintable, IsEnded, IsCutCause, IsCause, IsWordsCause, IsRestCause, first_line}
+use Rattle.pg_words.specs.Words.{words_in}
 use Rattle.pg_sched.specs.Fields.{Field, fields, IsBadWord}
 use Rattle.pg_sched.specs.Line.{line_body, IsLine}
 use Rattle.pg_sched.specs.Schedule.{LacksLine}
-use Rattle.pg_sched.specs.declared.fault.Fault.{Fault}
-use Rattle.pg_sched.specs.declared.fault.Fault.TheVariants as fault
+use Rattle.pg_event.specs.declared.fault.Fault.{Fault}
+use Rattle.pg_event.specs.declared.fault.Fault.TheVariants as fault
 use Rattle.pg_sched.specs.declared.line.Line.{Line}
 use Rattle.pg_sched.specs.declared.verb.Verb.{Verb}
 use Rattle.pg_sched.proofs.Lines.{line_body-lacks}
 use Rattle.pg_sched.proofs.Table.{same_verb, no_words_cause}
-use Rattle.pg_sched.proofs.Words.{Lacks, eqb-off, words-again, line_printable, line_short}
+use Rattle.pg_sched.proofs.Words.{words-again, line_printable, line_short}
+use Rattle.pg_words.proofs.Splitting.{Lacks, eqb-off}
 
 -- the text's first line, where it was cut
 
-front_step : (x : ℕ) (xs : List ℕ) → x ≢ 10 → front_line (x ∷ xs) ≡ x ∷ front_line xs
-front_step x xs ne = rw (eqb-off x 10 ne) refl
+first_step : (x : ℕ) (xs : List ℕ) → x ≢ 10 → first_line (x ∷ xs) ≡ x ∷ first_line xs
+first_step x xs ne = rw (eqb-off x 10 ne) refl
 
-pub front_cut : (line rest : List ℕ) → Lacks 10 line → front_line (line ++ 10 ∷ rest) ≡ line
-front_cut [] rest h = refl
-front_cut (x ∷ xs) rest h =
-    front_step x (xs ++ 10 ∷ rest) (All-head (λ b. b ≢ 10) x xs h) ∙ ap (λ ys. x ∷ ys) (front_cut xs rest (All-tail (λ b. b ≢ 10) x xs h))
+pub first_cut : (line rest : List ℕ) → Lacks 10 line → first_line (line ++ 10 ∷ rest) ≡ line
+first_cut [] rest h = refl
+first_cut (x ∷ xs) rest h =
+    first_step x (xs ++ 10 ∷ rest) (All-head (λ b. b ≢ 10) x xs h) ∙ ap (λ ys. x ∷ ys) (first_cut xs rest (All-tail (λ b. b ≢ 10) x xs h))
 
-pub front_whole : (text : List ℕ) → Lacks 10 text → front_line text ≡ text
-front_whole [] h = refl
-front_whole (x ∷ xs) h = front_step x xs (All-head (λ b. b ≢ 10) x xs h) ∙ ap (λ ys. x ∷ ys) (front_whole xs (All-tail (λ b. b ≢ 10) x xs h))
+pub first_whole : (text : List ℕ) → Lacks 10 text → first_line text ≡ text
+first_whole [] h = refl
+first_whole (x ∷ xs) h = first_step x xs (All-head (λ b. b ≢ 10) x xs h) ∙ ap (λ ys. x ∷ ys) (first_whole xs (All-tail (λ b. b ≢ 10) x xs h))
 
-pub front_of : (text line rest : List ℕ) → text ≡ line ++ 10 ∷ rest → Lacks 10 line → front_line text ≡ line
-front_of text line rest e h = ap front_line e ∙ front_cut line rest h
+pub first_of : (text line rest : List ℕ) → text ≡ line ++ 10 ∷ rest → Lacks 10 line → first_line text ≡ line
+first_of text line rest e h = ap first_line e ∙ first_cut line rest h
 
 -- one cause
 
@@ -63,32 +65,26 @@ one_words_cause (word ∷ words) f g (inr a) (inr b) =
 pub one_cause : (n : ℕ) (text : List ℕ) (f g : Fault) → IsCause n text f → IsCause n text g → f ≡ g
 one_cause n text f g a b =
     once f g fault.Byte a b (λ a1 b1. once f g fault.Long a1 b1 (λ a2 b2. once f g fault.End a2 b2 (λ a3 b3. once f g fault.Header a3 b3
-    (one_words_cause (words_in (front_line text)) f g))))
-
--- what cannot be cut is no line, whatever its number is
-pub cut_cause : (n : ℕ) (text : List ℕ) (f : Fault) → IsCutCause text f → IsCause n text f
-cut_cause n text f (inl a) = inl a
-cut_cause n text f (inr (p, inl a)) = inr (p, inl a)
-cut_cause n text f (inr (p, inr (q, a))) = inr (p, inr (q, inl a))
+    (one_words_cause (words_in (first_line text)) f g))))
 
 -- what can be cut is printable, short and ended
 pub no_cut_cause : (text line rest : List ℕ) (f : Fault) → text ≡ line ++ 10 ∷ rest → Lacks 10 line → All IsPrintable line → length line ≤ 70000 → IsCutCause text f → ⊥
-no_cut_cause text line rest f e lacks p q (inl a) = let P : List ℕ → Type 0 = All IsPrintable in a.0 (subst P (sym (front_of text line rest e lacks)) p)
-no_cut_cause text line rest f e lacks p q (inr (a, inl b)) = let P : List ℕ → Type 0 = λ l. length l ≤ 70000 in b.0 (subst P (sym (front_of text line rest e lacks)) q)
+no_cut_cause text line rest f e lacks p q (inl a) = let P : List ℕ → Type 0 = All IsPrintable in a.0 (subst P (sym (first_of text line rest e lacks)) p)
+no_cut_cause text line rest f e lacks p q (inr (a, inl b)) = let P : List ℕ → Type 0 = λ l. length l ≤ 70000 in b.0 (subst P (sym (first_of text line rest e lacks)) q)
 no_cut_cause text line rest f e lacks p q (inr (a, inr (b, d))) = d.0 (inr (line, rest, e))
 
 -- a cause behind the cut
 pub later_cause : (n : ℕ) (text line rest : List ℕ) (f : Fault) → text ≡ line ++ 10 ∷ rest → Lacks 10 line → All IsPrintable line → length line ≤ 70000
     → Unless (2 ≤ n) (f ≡ fault.Header) (IsWordsCause (words_in line) f) → IsCause n text f
 later_cause n text line rest f e lacks p q h =
-    let front = sym (front_of text line rest e lacks) in
+    let first = sym (first_of text line rest e lacks) in
     let P : List ℕ → Type 0 = All IsPrintable in
     let Q : List ℕ → Type 0 = λ l. length l ≤ 70000 in
     let R : List ℕ → Type 0 = λ l. Unless (2 ≤ n) (f ≡ fault.Header) (IsWordsCause (words_in l) f) in
-    inr (subst P front p, inr (subst Q front q, inr (inr (line, rest, e), subst R front h)))
+    inr (subst P first p, inr (subst Q first q, inr (inr (line, rest, e), subst R first h)))
 
 -- of a check of the bytes that end at the first line feed, or where the text does
-pub check_cause : (text line : List ℕ) (f : Fault) → front_line text ≡ line → Unless (All IsPrintable line) (f ≡ fault.Byte) ((70000 < length line) × (f ≡ fault.Long)) → IsCutCause text f
+pub check_cause : (text line : List ℕ) (f : Fault) → first_line text ≡ line → Unless (All IsPrintable line) (f ≡ fault.Byte) ((70000 < length line) × (f ≡ fault.Long)) → IsCutCause text f
 check_cause text line f e (inl a) = let P : List ℕ → Type 0 = λ l. All IsPrintable l → ⊥ in inl (subst P (sym e) a.0, a.1)
 check_cause text line f e (inr (p, a)) =
     let P : List ℕ → Type 0 = All IsPrintable in
@@ -102,10 +98,10 @@ not_ended text some lacks (inr e) = not_cut 10 text e.0 e.1 lacks e.2
 
 pub end_cause : (text : List ℕ) → 0 < length text → Lacks 10 text → All IsPrintable text → length text ≤ 70000 → IsCutCause text fault.End
 end_cause text some lacks p q =
-    let front = sym (front_whole text lacks) in
+    let first = sym (first_whole text lacks) in
     let P : List ℕ → Type 0 = All IsPrintable in
     let Q : List ℕ → Type 0 = λ l. length l ≤ 70000 in
-    inr (subst P front p, inr (subst Q front q, (not_ended text some lacks, refl)))
+    inr (subst P first p, inr (subst Q first q, (not_ended text some lacks, refl)))
 
 pub printable_lacks : (line : List ℕ) → All IsPrintable line → Lacks 10 line
 printable_lacks line h = All-weaker IsPrintable (λ b. b ≢ 10) (λ b p e. let low = p.0 in let e' : b ≡ 10 = e in omega arith) line h
@@ -118,7 +114,7 @@ line_cause line text rest f fits e (inr (p, inr (q, inl a))) = no_cut_cause text
 line_cause line text rest f fits e (inr (p, inr (q, inr (d, inl a)))) = a.0 (omega arith)
 line_cause line text rest f fits e (inr (p, inr (q, inr (d, inr (r, a))))) =
     let P : List (List ℕ) → Type 0 = λ ws. IsWordsCause ws f in
-    let words = ap words_in (front_of text (line_body line) rest e (line_body-lacks line fits)) ∙ words-again line fits in
+    let words = ap words_in (first_of text (line_body line) rest e (line_body-lacks line fits)) ∙ words-again line fits in
     no_words_cause line f fits (subst P words a)
 
 pub cause_lacks : (text : List ℕ) (f : Fault) → 0 < length text → IsCause 2 text f → LacksLine text

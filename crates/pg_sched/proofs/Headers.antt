@@ -1,31 +1,31 @@
 -- The first line of a text as a header.
-use Rattle.std.proofs.Common.{ℕ, ◌≡◌, ◌≤◌, List, [], ◌∷◌, ◌++◌, length, refl, sym, ap, ◌∙◌, arith, All, inl, inr, decimal, append_assoc, length-append}
-use Rattle.std.proofs.lemmas.List.Elements.{All-append, All-from_recursion, All-nil}
+use Rattle.std.proofs.Common.{ℕ, ◌≡◌, ◌≤◌, List, ◌∷◌, ◌++◌, length, refl, sym, ◌∙◌, arith, All, inl, decimal, append_assoc, length-append}
+use Rattle.std.proofs.lemmas.List.Elements.{All-append, All-from_recursion}
 use Rattle.std.proofs.lemmas.Fmt.{length-decimal-le}
 use Rattle.pg_base.proofs.Parts.{cut_same}
 use Rattle.pg_sched.specs.Cause.{IsPrintable, IsCutCause, IsCause}
 use Rattle.pg_sched.specs.Schedule.{header, LacksHeader, IsCount}
-use Rattle.pg_sched.specs.declared.fault.Fault.{Fault}
-use Rattle.pg_sched.specs.declared.fault.Fault.TheVariants as fault
+use Rattle.pg_event.specs.declared.fault.Fault.{Fault}
+use Rattle.pg_event.specs.declared.fault.Fault.TheVariants as fault
 use Rattle.pg_sched.proofs.Causes.{no_cut_cause, later_cause, printable_lacks}
-use Rattle.pg_sched.proofs.Lines.{front, header-rest}
+use Rattle.pg_sched.proofs.Lines.{format, header-rest}
 use Rattle.pg_sched.proofs.WordBytes.{decimal_printable}
 
 -- a header without its end
 abbrev pub head : ℕ → List ℕ
-head n = front ++ decimal n
+head n = format ++ decimal n
 
 header_cut : (n : ℕ) (more : List ℕ) → header n ++ more ≡ head n ++ 10 ∷ more
-header_cut n more = header-rest n more ∙ sym (append_assoc front (decimal n) (10 ∷ more))
+header_cut n more = header-rest n more ∙ sym (append_assoc format (decimal n) (10 ∷ more))
 
 head_printable : (n : ℕ) → IsCount n → All IsPrintable (head n)
-head_printable n h = let most = h.1 in All-append IsPrintable front (decimal n) (All-from_recursion IsPrintable front (omega arith)) (decimal_printable n (omega arith))
+head_printable n h = let most = h.1 in All-append IsPrintable format (decimal n) (All-from_recursion IsPrintable format (omega arith)) (decimal_printable n (omega arith))
 
 head_short : (n : ℕ) → IsCount n → length (head n) ≤ 70000
 head_short n h =
     let most = h.1 in
     let few = length-decimal-le 2 n (omega arith) (omega arith) (omega arith) in
-    let e = length-append front (decimal n) in
+    let e = length-append format (decimal n) in
     omega arith
 
 -- what cannot be cut is no header
@@ -37,19 +37,6 @@ no_header_cut text f cause n rest fits e =
 pub no_header_there : (text line rest : List ℕ) → text ≡ line ++ 10 ∷ rest → All IsPrintable line → ((n : ℕ) → IsCount n → line ≡ head n → ⊥) → LacksHeader text
 no_header_there text line rest e p none n more fits same =
     none n fits ((cut_same 10 line rest (head n) more (printable_lacks line p) (printable_lacks (head n) (head_printable n fits)) (sym e ∙ same ∙ header_cut n more)).0)
-
-pub no_header_in : (text : List ℕ) → length text ≡ 0 → LacksHeader text
-no_header_in text none n rest fits e =
-    let m = ap length (e ∙ header_cut n rest) in
-    omega (arith, length-append (head n) (10 ∷ rest))
-
-pub header_there : (text line rest : List ℕ) (n : ℕ) → text ≡ line ++ 10 ∷ rest → line ≡ head n → text ≡ header n ++ rest
-header_there text line rest n e same = e ∙ ap (λ l. l ++ 10 ∷ rest) same ∙ sym (header_cut n rest)
-
--- a text of no byte
-pub empty_cause : (text : List ℕ) → length text ≡ 0 → IsCause 1 text fault.Header
-empty_cause [] e = inr (All-nil IsPrintable, inr (omega arith, inr (inl refl, inl (λ two. omega arith, refl))))
-empty_cause (x ∷ xs) e = absurd (omega arith)
 
 -- a first line that is no header
 pub header_cause : (text line rest : List ℕ) → text ≡ line ++ 10 ∷ rest → All IsPrintable line → length line ≤ 70000 → IsCause 1 text fault.Header

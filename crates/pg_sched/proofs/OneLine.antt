@@ -1,51 +1,24 @@
 -- No two lines have one spelling.
-use Rattle.std.proofs.Common.{ℕ, ◌≡◌, List, [], ◌∷◌, Ok, refl, sym, ap, ◌∙◌, arith, codes, length, zero, suc, Result, eqb, subst}
+use Rattle.std.proofs.Common.{ℕ, ◌≡◌, refl, sym, ap, ◌∙◌, arith, length, eqb, subst}
 use Rattle.std.specs.List.{slice_split}
 use Rattle.std.proofs.lemmas.Fmt.{decimal_injective}
-use Rattle.hex.specs.Hex.{encode_lower, decode_of}
-use Rattle.hex.proofs.HexLemmas.{decode_of-encode_lower}
 use Rattle.pg_base.specs.declared.id.FileId.{FileId}
-use Rattle.pg_base.specs.Id.{spelling}
-use Rattle.pg_base.proofs.Spellings.{spelling-same}
-use Rattle.pg_sched.specs.declared.change.Change.{Change}
-use Rattle.pg_sched.specs.declared.change.Change.TheVariants as change
+use Rattle.pg_call.specs.declared.change.Change.{Change}
 use Rattle.pg_sched.specs.declared.line.Line.{Line}
 use Rattle.pg_sched.specs.declared.line.Line.TheVariants.{Happens, Settle, Show, Quiet, Trace}
-use Rattle.pg_sched.specs.declared.line.Event.TheVariants.{Write, Tick, Deliver, Lose, Repeat}
+use Rattle.pg_event.specs.declared.event.Event.TheVariants.{Write, Tick, Deliver, Lose, Repeat}
 use Rattle.pg_sched.specs.declared.line.Form.{Form}
 use Rattle.pg_sched.specs.declared.line.Form.TheVariants.{Full, Short}
 use Rattle.pg_sched.specs.declared.verb.Verb.{Verb}
 use Rattle.pg_sched.specs.declared.verb.Verb.TheVariants as verb
 use Rattle.pg_sched.specs.Fields.{verb_word}
-use Rattle.pg_sched.specs.Change.{hex_word, kind_of, change_words, IsBody, IsChange}
-use Rattle.pg_sched.specs.Line.{form_word, line_words, line_body, IsLine, IsFile}
-use Rattle.pg_sched.proofs.HexWords.{IsBytes-from_all, length-encode}
+use Rattle.pg_call.specs.Change.{kind_of}
+use Rattle.pg_call.proofs.Changes.{same_change}
+use Rattle.pg_sched.specs.Line.{form_word, line_words, line_body, IsLine}
+use Rattle.pg_words.proofs.Splitting.{word_at}
+use Rattle.pg_words.proofs.Stamps.{same_file}
 use Rattle.pg_sched.proofs.Table.{same_verb}
 use Rattle.pg_sched.proofs.Words.{words-again}
-
--- the word at a place
-abbrev word_at : ℕ → List (List ℕ) → List ℕ
-word_at n [] = []
-word_at zero (word ∷ words) = word
-word_at (suc n) (word ∷ words) = word_at n words
-
-same_file : (a b : FileId) → IsFile a → IsFile b → spelling a ≡ spelling b → a ≡ b
-same_file a b ha hb e = spelling-same a b ha.fits hb.fits e
-
-ok_same : {E : Type 0} (a b : List ℕ) → ◌≡◌ {A = Result (List ℕ) E} (Ok a) (Ok b) → a ≡ b
-ok_same {E} a b e = cc
-
-not_dash : (b : ℕ) (bs : List ℕ) → codes "-" ≡ encode_lower (b ∷ bs) → ⊥
-not_dash b bs e = let n = ap length e in let m = length-encode (b ∷ bs) in omega arith
-
-same_body : (a b : List ℕ) → IsBody a → IsBody b → hex_word a ≡ hex_word b → a ≡ b
-same_body [] [] ha hb e = refl
-same_body [] (y ∷ ys) ha hb e = absurd (not_dash y ys e)
-same_body (x ∷ xs) [] ha hb e = absurd (not_dash x xs (sym e))
-same_body (x ∷ xs) (y ∷ ys) ha hb e =
-    let left = decode_of-encode_lower (x ∷ xs) (IsBytes-from_all (x ∷ xs) ha.bytes) in
-    let right = decode_of-encode_lower (y ∷ ys) (IsBytes-from_all (y ∷ ys) hb.bytes) in
-    ok_same (x ∷ xs) (y ∷ ys) (sym left ∙ ap decode_of e ∙ right)
 
 same_form : (a b : Form) → form_word a ≡ form_word b → a ≡ b
 same_form Full Full e = refl
@@ -107,23 +80,6 @@ same_shape x y e =
 -- what is to be shown of a line of the same words
 abbrev Same : Line → Line → Type 0
 Same x y = IsLine x → IsLine y → line_words x ≡ line_words y → x ≡ y
-
--- changes of one kind with the same words, of which there are two at most, are the same
-same_change : (c d : Change) → IsChange c → IsChange d → kind_of c ≡ kind_of d → word_at 0 (change_words c) ≡ word_at 0 (change_words d) → word_at 1 (change_words c) ≡ word_at 1 (change_words d) → c ≡ d
-same_change (change.Put b) (change.Put d) hc hd k e f = ap change.Put (same_body b d hc hd e)
-same_change (change.Patch o b) (change.Patch p d) hc hd k e f =
-    let lo = hc.0 in
-    let lp = hd.0 in
-    let offset : o ≡ p = decimal_injective o p (omega arith) (omega arith) e in
-    let bytes : b ≡ d = same_body b d hc.1 hd.1 f in
-    cc
-same_change (change.Trim n) (change.Trim m) hc hd k e f = ap change.Trim (decimal_injective n m (omega arith) (omega arith) e)
-same_change (change.Put b) (change.Patch p d) hc hd k e f = cc
-same_change (change.Put b) (change.Trim m) hc hd k e f = cc
-same_change (change.Patch o b) (change.Put d) hc hd k e f = cc
-same_change (change.Patch o b) (change.Trim m) hc hd k e f = cc
-same_change (change.Trim n) (change.Put d) hc hd k e f = cc
-same_change (change.Trim n) (change.Patch p d) hc hd k e f = cc
 
 same_write : (s m t n : ℕ) (f g : FileId) (c d : Change) → kind_of d ≡ kind_of c → Same (Happens (Write s m f c)) (Happens (Write t n g d))
 same_write s m t n f g c d k hx hy e =

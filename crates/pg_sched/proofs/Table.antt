@@ -2,16 +2,16 @@
 use Rattle.std.proofs.Common.{ℕ, ◌≡◌, ◌<◌, List, [], ◌∷◌, length, refl, sym, ap, ◌∙◌, All, inl, inr, subst, cond, ◌==◌, zero, suc}
 use Rattle.std.proofs.lemmas.List.Elements.{All-nil, All-cons}
 use Rattle.pg_sched.specs.Cause.{IsRestCause, IsWordsCause}
-use Rattle.pg_sched.specs.Change.{kind_of, change_words, IsChange}
+use Rattle.pg_call.specs.Change.{kind_of, change_words, IsChange}
 use Rattle.pg_sched.specs.Fields.{Field, change_fields, fields, verb_word, AreWordsOf, IsBadWord}
 use Rattle.pg_sched.specs.Line.{line_words, IsLine}
-use Rattle.pg_sched.specs.declared.change.Change.{Change}
-use Rattle.pg_sched.specs.declared.change.Change.TheVariants as change
-use Rattle.pg_sched.specs.declared.change.ChangeKind.TheVariants as kind
-use Rattle.pg_sched.specs.declared.fault.Fault.{Fault}
+use Rattle.pg_call.specs.declared.change.Change.{Change}
+use Rattle.pg_call.specs.declared.change.Change.TheVariants as change
+use Rattle.pg_call.specs.declared.change.ChangeKind.TheVariants as kind
+use Rattle.pg_event.specs.declared.fault.Fault.{Fault}
 use Rattle.pg_sched.specs.declared.line.Line.{Line}
 use Rattle.pg_sched.specs.declared.line.Line.TheVariants.{Happens, Settle, Show, Quiet, Trace}
-use Rattle.pg_sched.specs.declared.line.Event.TheVariants.{Write, Tick, Deliver, Lose, Repeat}
+use Rattle.pg_event.specs.declared.event.Event.TheVariants.{Write, Tick, Deliver, Lose, Repeat}
 use Rattle.pg_sched.specs.declared.verb.Verb.{Verb}
 use Rattle.pg_sched.specs.declared.verb.Verb.TheVariants as verb
 use Rattle.pg_sched.proofs.WordBytes.{word_some}

@@ -1,73 +1,23 @@
--- The bytes of words: how many there are, and that they are printable and no space.
-use Rattle.std.proofs.Common.{ℕ, ◌<◌, ◌≤◌, ◌^◌, List, [], ◌∷◌, length, sym, arith, codes, decimal, All, subst, inl, inr, length-append}
+-- The bytes of a line's words: how many there are, and that each is printable and no space.
+use Rattle.std.proofs.Common.{ℕ, ◌<◌, ◌≤◌, ◌^◌, List, length, sym, arith, codes, decimal, All, subst}
 use Rattle.std.specs.List.{AllByRecursion}
-use Rattle.std.proofs.lemmas.Fmt.{digits_decimal, length-decimal-le, decimal_nonempty}
-use Rattle.std.proofs.lemmas.Str.Parse.{digit_at}
-use Rattle.std.proofs.lemmas.List.Elements.{All-from_recursion, All-append, All-cons, All-weaker, All-from_get_or}
-use Rattle.hex.specs.Hex.{encode_lower}
-use Rattle.pg_base.specs.declared.id.Kind.{Kind}
-use Rattle.pg_base.specs.declared.id.Kind.TheVariants.{Dir, File}
-use Rattle.pg_base.specs.declared.id.FileId.{FileId}
-use Rattle.pg_base.specs.Id as id
-use Rattle.pg_base.proofs.Numerals.{own}
+use Rattle.std.proofs.lemmas.List.Elements.{All-from_recursion, All-weaker}
+use Rattle.pg_call.specs.Change.{kind_word}
+use Rattle.pg_call.specs.declared.change.ChangeKind.{ChangeKind}
+use Rattle.pg_call.specs.declared.change.ChangeKind.TheVariants as kind
 use Rattle.pg_sched.specs.Cause.{IsPrintable}
-use Rattle.pg_sched.specs.Fields.{Field, IsLowerDigit, IsWordOf, verb_word}
+use Rattle.pg_sched.specs.Fields.{Field, IsWordOf, verb_word}
 use Rattle.pg_sched.specs.Fields.Field.{Narrow, Wide, Name, Bytes, Mode}
-use Rattle.pg_sched.specs.Change.{hex_word, kind_word}
-use Rattle.pg_sched.specs.declared.change.ChangeKind.{ChangeKind}
-use Rattle.pg_sched.specs.declared.change.ChangeKind.TheVariants as kind
 use Rattle.pg_sched.specs.Line.{form_word}
 use Rattle.pg_sched.specs.declared.line.Form.{Form}
 use Rattle.pg_sched.specs.declared.line.Form.TheVariants.{Full, Short}
 use Rattle.pg_sched.specs.declared.verb.Verb.{Verb}
 use Rattle.pg_sched.specs.declared.verb.Verb.TheVariants as verb
-use Rattle.pg_sched.proofs.HexWords.{encode_each, few_digits, hex_word-not_empty}
-
-abbrev pub IsWordByte : ℕ → Type 0
-IsWordByte b = (33 ≤ b) × (b ≤ 126)
-
--- bytes, one at least and not too many, and each can stand in a word
-pub record IsWord (most : ℕ) (word : List ℕ) : Type 0 where
-  pub some : 0 < length word
-  pub few : length word ≤ most
-  pub each : All IsWordByte word
-
-decimal_each : (n : ℕ) → n < 2 ^ 64 → All IsWordByte (decimal n)
-decimal_each n lt = All-from_get_or IsWordByte (decimal n) 0 (λ i l. let d = digit_at (decimal n) i (own.to (decimal n) (digits_decimal own n lt)) l in (omega arith, omega arith))
-
-decimal_word : (n : ℕ) → n < 2 ^ 64 → IsWord 20 (decimal n)
-decimal_word n lt = record { some = decimal_nonempty n lt; few = length-decimal-le 20 n (omega arith) (omega arith) lt; each = decimal_each n lt }
+use Rattle.pg_words.proofs.HexWords.{few_digits, hex_word-not_empty}
+use Rattle.pg_words.proofs.WordBytes.{IsWordByte, IsWord, decimal_each, decimal_word, spelling_word, hex_each}
 
 pub decimal_printable : (n : ℕ) → n < 2 ^ 64 → All IsPrintable (decimal n)
 decimal_printable n lt = All-weaker IsWordByte IsPrintable (λ b p. let low = p.0 in let high = p.1 in (omega arith, omega arith)) (decimal n) (decimal_each n lt)
-
-letter_byte : (k : Kind) → IsWordByte (id.letter k)
-letter_byte Dir = (omega arith, omega arith)
-letter_byte File = (omega arith, omega arith)
-
-spelling_word : (file : FileId) → id.Fits file → IsWord 42 (id.spelling file)
-spelling_word file fits =
-    let server = fits.server in
-    let s = decimal_word file.server (omega arith) in
-    let n = decimal_word file.number fits.number in
-    let fs = s.few in
-    let fn = n.few in
-    let long = length-append (decimal file.server) (46 ∷ decimal file.number) in
-    record {
-      some = omega arith;
-      few = omega arith;
-      each = All-cons IsWordByte (id.letter file.kind) _ (letter_byte file.kind)
-          (All-append IsWordByte (decimal file.server) (46 ∷ decimal file.number) s.each
-          (All-cons IsWordByte 46 (decimal file.number) (omega arith, omega arith) n.each));
-    }
-
-digit_byte : (b : ℕ) → IsLowerDigit b → IsWordByte b
-digit_byte b (inl h) = let low = h.0 in let high = h.1 in (omega arith, omega arith)
-digit_byte b (inr h) = let low = h.0 in let high = h.1 in (omega arith, omega arith)
-
-hex_each : (bs : List ℕ) → AllByRecursion (λ b. b < 256) bs → All IsWordByte (hex_word bs)
-hex_each [] h = All-from_recursion IsWordByte (codes "-") (omega arith)
-hex_each (b ∷ bs) h = All-weaker IsLowerDigit IsWordByte digit_byte (encode_lower (b ∷ bs)) (encode_each (b ∷ bs) h)
 
 form_is_word : (form : Form) → IsWord 5 (form_word form)
 form_is_word Full = record { some = omega arith; few = omega arith; each = All-from_recursion IsWordByte (codes "full") (omega arith) }
@@ -88,7 +38,7 @@ is_word Name word h = let file = h.1 in let P : List ℕ → Type 0 = IsWord 42 
 is_word Bytes word h =
     let body = h.1 in
     let P : List ℕ → Type 0 = IsWord 65536 in
-    subst P (sym h.2) (record { some = hex_word-not_empty h.0; few = few_digits h.0 body.few; each = hex_each h.0 body.bytes })
+    subst P (sym h.2) (record { some = hex_word-not_empty h.0; few = few_digits h.0 body.few; each = hex_each h.0 body.each })
 is_word Mode word h = let P : List ℕ → Type 0 = IsWord 5 in subst P (sym h.1) (form_is_word h.0)
 
 pub word_some : (field : Field) (word : List ℕ) → IsWordOf field word → 0 < length word

@@ -1,22 +1,21 @@
 -- The words of a line have no space, so a line is cut into its words again; and a line is printable, and not long.
-use Rattle.std.proofs.Common.{ℕ, ◌≡◌, ◌≢◌, ◌<◌, ◌≤◌, ◌+◌, List, [], ◌∷◌, false, eqb, refl, sym, ap, ◌∙◌, arith, All, eq-eqb, inl, inr, take, length, zero, suc, subst, length-append, take_all}
-use Rattle.std.proofs.lemmas.Bool.Decides.{eqb_tells}
+use Rattle.std.proofs.Common.{ℕ, ◌≡◌, ◌<◌, ◌≤◌, ◌+◌, List, [], ◌∷◌, eqb, sym, ap, ◌∙◌, arith, All, inl, inr, take, length, subst, length-append, take_all}
 use Rattle.std.specs.List.{AllByRecursion, join_with_byte, slice_split}
 use Rattle.std.proofs.lemmas.List.Elements.{All-append, All-cons, All-weaker, All-nil}
-use Rattle.std.proofs.lemmas.List.Splits.{slice_split_none, slice_split_at, join_with_byte-slice_split}
-use Rattle.pg_sched.specs.Cause.{IsPrintable, IsWordsCause, IsRestCause, words_in}
+use Rattle.std.proofs.lemmas.List.Splits.{join_with_byte-slice_split}
+use Rattle.pg_call.specs.declared.change.ChangeKind.TheVariants as kind
+use Rattle.pg_event.specs.declared.fault.Fault.{Fault}
+use Rattle.pg_sched.specs.Cause.{IsPrintable, IsWordsCause, IsRestCause}
+use Rattle.pg_words.specs.Words.{words_in}
 use Rattle.pg_sched.specs.Fields.{Field, fields, verb_word, AreWordsOf, AreCounted}
 use Rattle.pg_sched.specs.Line.{line_words, line_body, IsLine}
-use Rattle.pg_sched.specs.declared.change.ChangeKind.TheVariants as kind
-use Rattle.pg_sched.specs.declared.fault.Fault.{Fault}
 use Rattle.pg_sched.specs.declared.line.Line.{Line}
 use Rattle.pg_sched.specs.declared.verb.Verb.{Verb}
 use Rattle.pg_sched.specs.declared.verb.Verb.TheVariants as verb
 use Rattle.pg_sched.proofs.Table.{tabled, no_words_cause, same_count}
-use Rattle.pg_sched.proofs.WordBytes.{IsWordByte, most, word_few, word_each, verb_each}
-
-abbrev pub Lacks : ℕ → List ℕ → Type 0
-Lacks c word = All (λ b. b ≢ c) word
+use Rattle.pg_sched.proofs.WordBytes.{most, word_few, word_each, verb_each}
+use Rattle.pg_words.proofs.Splitting.{split-join, take_short}
+use Rattle.pg_words.proofs.WordBytes.{IsWordByte, lack_space}
 
 each_of : (fs : List Field) (words : List (List ℕ)) → AreWordsOf fs words → AllByRecursion (All IsWordByte) words
 each_of [] [] h = tt
@@ -24,23 +23,8 @@ each_of [] (word ∷ words) h = absurd h
 each_of (field ∷ fs) [] h = absurd h
 each_of (field ∷ fs) (word ∷ words) h = (word_each field word h.0, each_of fs words h.1)
 
-lacks_space : (word : List ℕ) → All IsWordByte word → Lacks 32 word
-lacks_space word h = All-weaker IsWordByte (λ b. b ≢ 32) (λ b p e. let low = p.0 in let e' : b ≡ 32 = e in omega arith) word h
-
-pub eqb-off : (x c : ℕ) → x ≢ c → eqb x c ≡ false
-eqb-off x c h = elim (eqb_tells x c) [ inl p ↦ absurd (h p.1) | inr p ↦ p.0 ]
-
-eqb-other : (c : ℕ) (xs : List ℕ) → Lacks c xs → All (λ x. eqb x c ≡ false) xs
-eqb-other c xs h = All-weaker (λ x. x ≢ c) (λ x. eqb x c ≡ false) (λ x. eqb-off x c) xs h
-
--- words that were joined are cut apart again
-split-join : (word : List ℕ) (words : List (List ℕ)) → AllByRecursion (All IsWordByte) (word ∷ words) → slice_split (λ b. eqb b 32) (join_with_byte 32 (word ∷ words)) ≡ word ∷ words
-split-join word [] h = slice_split_none (λ b. eqb b 32) word (eqb-other 32 word (lacks_space word h.0))
-split-join word (next ∷ words) h =
-    slice_split_at (λ b. eqb b 32) word 32 (join_with_byte 32 (next ∷ words)) (eqb-other 32 word (lacks_space word h.0)) (eq-eqb 32 32 refl) ∙ ap (λ ws. word ∷ ws) (split-join next words h.1)
-
 words_same : (ws : List (List ℕ)) (v : Verb) (rest : List (List ℕ)) → ws ≡ verb_word v ∷ rest → AreWordsOf (fields v) rest → slice_split (λ b. eqb b 32) (join_with_byte 32 ws) ≡ ws
-words_same ws v rest e h = ap (λ t. slice_split (λ b. eqb b 32) (join_with_byte 32 t)) e ∙ split-join (verb_word v) rest (verb_each v, each_of (fields v) rest h) ∙ sym e
+words_same ws v rest e h = ap (λ t. slice_split (λ b. eqb b 32) (join_with_byte 32 t)) e ∙ split-join 32 (verb_word v) rest (lack_space (verb_word v ∷ rest) (verb_each v, each_of (fields v) rest h)) ∙ sym e
 
 -- the words of a line, from its text
 pub words-again : (line : Line) → IsLine line → slice_split (λ b. eqb b 32) (line_body line) ≡ line_words line
@@ -68,11 +52,6 @@ few_fields verb.Settle = omega arith
 few_fields verb.Quiet = omega arith
 few_fields verb.Trace = omega arith
 few_fields verb.Show = omega arith
-
-take_short : (n : ℕ) (xs : List (List ℕ)) → length (take n xs) < n → take n xs ≡ xs
-take_short zero xs h = absurd (omega arith)
-take_short (suc n) [] h = refl
-take_short (suc n) (x ∷ xs) h = ap (λ ys. x ∷ ys) (take_short n xs (omega arith))
 
 few_words : (line : Line) → IsLine line → length (line_words line) < 7
 few_words line h =

@@ -1,19 +1,19 @@
 -- Why a line is bad: the first of the faults that holds of it.
 use Rattle.std.specs.Prelude.{ℕ, ◌≡◌, ◌≢◌, ◌≤◌, ◌⊎◌, List, [], ◌∷◌, ◌++◌, All, length, cond, ◌==◌}
-use Rattle.std.specs.List.{slice_split}
-use Rattle.pg_sched.specs.declared.fault.Fault.{Fault}
-use Rattle.pg_sched.specs.declared.fault.Fault.TheVariants.{Byte, Long, End, Header, Verb, Words}
+use Rattle.pg_event.specs.declared.fault.Fault.{Fault}
+use Rattle.pg_event.specs.declared.fault.Fault.TheVariants.{Byte, Long, End, Header, Verb, Words}
 use Rattle.pg_sched.specs.declared.verb.Verb as verb
 use Rattle.pg_sched.specs.Fields.{verb_word, fields, AreCounted, IsBadWord}
+use Rattle.pg_words.specs.Words.{words_in}
 
 -- A holds unless P does, and then B
 abbrev pub Unless : Type 0 → Type 0 → Type 0 → Type 0
 Unless P A B = ((P → ⊥) × A) ⊎ (P × B)
 
 -- the text's first line, without its end
-abbrev pub front_line : List ℕ → List ℕ
-front_line [] = []
-front_line (byte ∷ bytes) = cond (byte == 10) [] (byte ∷ front_line bytes)
+abbrev pub first_line : List ℕ → List ℕ
+first_line [] = []
+first_line (byte ∷ bytes) = cond (byte == 10) [] (byte ∷ first_line bytes)
 
 abbrev pub IsPrintable : ℕ → Type 0
 IsPrintable byte = (32 ≤ byte) × (byte ≤ 126)
@@ -25,13 +25,14 @@ IsEnded text = (text ≡ []) ⊎ ((line : List ℕ) × (rest : List ℕ) × (tex
 -- why the text's first line is none, whatever it is to say
 abbrev pub IsCutCause : List ℕ → Fault → Type 0
 IsCutCause text fault =
-    Unless (All IsPrintable (front_line text)) (fault ≡ Byte)
-    (Unless (length (front_line text) ≤ 70000) (fault ≡ Long)
+    Unless (All IsPrintable (first_line text)) (fault ≡ Byte)
+    (Unless (length (first_line text) ≤ 70000) (fault ≡ Long)
     ((IsEnded text → ⊥) × (fault ≡ End)))
 
 -- why the words behind a verb are no line
 abbrev pub IsRestCause : verb.Verb → List (List ℕ) → Fault → Type 0
-IsRestCause v words fault = Unless (AreCounted v words) (fault ≡ Words) (IsBadWord (fields v) words fault)
+IsRestCause v words fault =
+    Unless (AreCounted v words) (fault ≡ Words) (IsBadWord (fields v) words fault)
 
 -- why words are no line
 abbrev pub IsWordsCause : List (List ℕ) → Fault → Type 0
@@ -39,15 +40,11 @@ IsWordsCause [] fault = fault ≡ Verb
 IsWordsCause (word ∷ words) fault = (((v : verb.Verb) → word ≢ verb_word v) × (fault ≡ Verb))
     ⊎ ((v : verb.Verb) × (word ≡ verb_word v) × IsRestCause v words fault)
 
--- the words of a line: a space parts two of them
-abbrev pub words_in : List ℕ → List (List ℕ)
-words_in line = slice_split (λ b. b == 32) line
-
 -- why the first line of the text is bad, which has this number in the schedule; the header has number 1
 abbrev pub IsCause : ℕ → List ℕ → Fault → Type 0
 IsCause number text fault =
-    Unless (All IsPrintable (front_line text)) (fault ≡ Byte)
-    (Unless (length (front_line text) ≤ 70000) (fault ≡ Long)
+    Unless (All IsPrintable (first_line text)) (fault ≡ Byte)
+    (Unless (length (first_line text) ≤ 70000) (fault ≡ Long)
     (Unless (IsEnded text) (fault ≡ End)
     (Unless (2 ≤ number) (fault ≡ Header)
-    (IsWordsCause (words_in (front_line text)) fault))))
+    (IsWordsCause (words_in (first_line text)) fault))))

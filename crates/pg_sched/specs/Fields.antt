@@ -1,16 +1,18 @@
 -- The table of lines: what stands behind each verb, and what is wrong where it does not.
-use Rattle.std.specs.Prelude.{◌≤◌, ◌%◌, ℕ, ◌≡◌, ◌<◌, ◌^◌, ◌⊎◌, List, [], ◌∷◌, All, length, decimal, codes}
+use Rattle.std.specs.Prelude.{ℕ, ◌≡◌, ◌<◌, ◌^◌, ◌⊎◌, List, [], ◌∷◌, All, length, decimal, codes}
 use Rattle.pg_base.specs.Id as id
 use Rattle.pg_base.specs.declared.id.FileId.{FileId}
-use Rattle.pg_sched.specs.declared.fault.Fault.{Fault}
-use Rattle.pg_sched.specs.declared.fault.Fault.TheVariants as fault
+use Rattle.pg_event.specs.declared.fault.Fault.{Fault}
+use Rattle.pg_event.specs.declared.fault.Fault.TheVariants as fault
 use Rattle.pg_sched.specs.declared.line.Form.{Form}
 use Rattle.pg_sched.specs.declared.verb.Verb.{Verb}
 use Rattle.pg_sched.specs.declared.verb.Verb.TheVariants.{Write, Tick, Deliver, Lose, Repeat, Settle, Quiet, Trace, Show}
-use Rattle.pg_sched.specs.declared.change.ChangeKind.{ChangeKind}
-use Rattle.pg_sched.specs.declared.change.ChangeKind.TheVariants as kind
-use Rattle.pg_sched.specs.Change.{kind_word, hex_word, IsBody}
-use Rattle.pg_sched.specs.Line.{form_word, IsFile}
+use Rattle.pg_call.specs.declared.change.ChangeKind.{ChangeKind}
+use Rattle.pg_call.specs.declared.change.ChangeKind.TheVariants as kind
+use Rattle.pg_call.specs.Change.{kind_word, IsBody}
+use Rattle.pg_words.specs.HexWord.{hex_word}
+use Rattle.pg_sched.specs.Line.{form_word}
+use Rattle.pg_words.specs.FileWord.{IsFile}
 
 -- what a word behind a verb is: a number below 2^32 or below 2^64, the id of a file, bytes, or the form of a journal
 pub data Field : Type 0 where
@@ -77,19 +79,11 @@ fault_of Mode = fault.Mode
 abbrev pub IsBadWord : List Field → List (List ℕ) → Fault → Type 0
 IsBadWord [] words f = ⊥
 IsBadWord (field ∷ rest) [] f = ⊥
-IsBadWord (field ∷ rest) (word ∷ words) f = ((IsWordOf field word → ⊥) × (f ≡ fault_of field)) ⊎ (IsWordOf field word × IsBadWord rest words f)
+IsBadWord (field ∷ rest) (word ∷ words) f =
+    ((IsWordOf field word → ⊥) × (f ≡ fault_of field)) ⊎ (IsWordOf field word
+    × IsBadWord rest words f)
 
 -- the words behind the verb are as many as its fields, and none is empty
 pub record AreCounted (verb : Verb) (words : List (List ℕ)) : Type 0 where
   pub count : length words ≡ length (fields verb)
   pub some : All (λ word. 0 < length word) words
-
--- a hexadecimal digit in lower case
-abbrev pub IsLowerDigit : ℕ → Type 0
-IsLowerDigit byte = ((48 ≤ byte) × (byte ≤ 57)) ⊎ ((97 ≤ byte) × (byte ≤ 102))
-
--- the word is pairs of such digits, one at least
-pub record ArePairs (word : List ℕ) : Type 0 where
-  pub some : 0 < length word
-  pub even : length word % 2 ≡ 0
-  pub each : All IsLowerDigit word

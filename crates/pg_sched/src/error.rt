@@ -3,9 +3,9 @@
 ghost use Rattle.std.specs.Prelude.{◌≡◌};
 ghost use Rattle.pg_sched.specs.declared.error.LineError.TheVariants.{OutOfMemory, Bad};
 ghost use Rattle.pg_sched.specs.declared.error.ReadError.TheVariants as read;
-ghost use Rattle.pg_sched.specs.declared.fault.Fault.{Fault};
+ghost use Rattle.pg_event.specs.declared.fault.Fault.{Fault};
 
-use crate::fault::Fault;
+use pg_event::Fault;
 use std::alloc::{AllocError, AllocFailed};
 use thiserror::Error;
 

@@ -6,16 +6,16 @@ ghost use Rattle.pg_sched.specs.Schedule.{spelling, header, line_text, lines_tex
 ghost use Rattle.pg_sched.specs.Line.{IsLine};
 ghost use Rattle.pg_sched.specs.declared.error.LineError.TheVariants.{Bad};
 ghost use Rattle.pg_sched.specs.declared.error.ReadError.TheVariants.{BadLine, OutOfMemory};
-ghost use Rattle.pg_sched.specs.declared.fault.Fault.{Fault};
-ghost use Rattle.pg_sched.specs.declared.fault.Fault.TheVariants.{Byte, Long};
+ghost use Rattle.pg_event.specs.declared.fault.Fault.{Fault};
+ghost use Rattle.pg_event.specs.declared.fault.Fault.TheVariants.{Byte, Long};
 ghost use Rattle.pg_sched.specs.declared.line.Line.{Line};
 
 use crate::error::{LineError, ReadError};
-use crate::fault::Fault;
 use crate::leaves::are_printable;
 use crate::line::Line;
 use crate::reading::spelled_line;
 use pg_base::{Bytes, Items, cut_at, number_u32};
+use pg_event::Fault;
 use std::alloc::{AllocError, Global};
 
 /// The most bytes that a line has, its line feed not counted.
@@ -32,7 +32,8 @@ pub struct Schedule {
 fn check(line: &[u8]) -> Result<(), Fault>
     ensures printable { OnOk result (All IsPrintable line.now) }
     ensures short { OnOk result (length line.now ≤ 70000) }
-    ensures bad { IfErr result (λ f. Unless (All IsPrintable line.now) (f ≡ Byte) ((70000 < length line.now) × (f ≡ Long))) }
+    ensures bad { IfErr result (λ f. Unless (All IsPrintable line.now) (f
+        ≡ Byte) ((70000 < length line.now) × (f ≡ Long))) }
 {
     if !are_printable(line) {
         return Err(Fault::Byte);
@@ -63,11 +64,12 @@ fn cut_line(text: &[u8]) -> Result<(&[u8], &[u8]), Fault>
     }
 }
 
-/// The line at the front of a text, and what stands behind it.
+/// The first line of a text, and what stands behind it.
 fn first_line(alloc: Global, text: &[u8]) -> Result<(Line, &[u8]), LineError>
     requires some { 0 < length text.now }
     ensures found { IfOk result (λ x. IsLine x.0 × (text.now ≡ line_text x.0 ++ x.1.now)) }
-    ensures bad { IfErr result (λ e. (f : Fault) → e ≡ Bad f → (n : ℕ) → 2 ≤ n → IsCause n text.now f) }
+    ensures bad { IfErr result (λ e. (f : Fault) → e ≡ Bad f → (n : ℕ) → 2 ≤ n
+        → IsCause n text.now f) }
 {
     let (line, rest) = match cut_line(text) {
         Ok(cut) => cut,
@@ -80,7 +82,8 @@ fn first_line(alloc: Global, text: &[u8]) -> Result<(Line, &[u8]), LineError>
 /// The servers that a first line names.
 fn count_in(line: &[u8]) -> Option<u32>
     ensures found { IfSome result (λ n. IsCount n × (line.now ≡ codes "pangaea 1 " ++ decimal n)) }
-    ensures none { IfNone result ((n : ℕ) → IsCount n → line.now ≡ codes "pangaea 1 " ++ decimal n → ⊥) }
+    ensures none { IfNone result ((n : ℕ) → IsCount n
+        → line.now ≡ codes "pangaea 1 " ++ decimal n → ⊥) }
 {
     let word = line.strip_prefix(b"pangaea 1 ")?;
     let servers = number_u32(word)?;
@@ -109,7 +112,8 @@ fn servers_of(text: &[u8]) -> Result<(u32, &[u8]), Fault>
 /// The lines that a text behind the header spells.
 fn lines_of(alloc: Global, text: &[u8]) -> Result<Vec<Line>, ReadError>
     ensures found { IfOk result (λ v. AreLines v.items × (text.now ≡ lines_text v.items)) }
-    ensures bad { IfErr result (λ e. (n : ℕ) (f : Fault) → e ≡ BadLine n f → (count : ℕ) × StopsAfter text.now count f × (n ≡ count + 2)) }
+    ensures bad { IfErr result (λ e. (n : ℕ) (f : Fault) → e ≡ BadLine n f
+        → (count : ℕ) × StopsAfter text.now count f × (n ≡ count + 2)) }
 {
     let mut lines = Vec::new(alloc);
     let mut rest = text;
@@ -124,13 +128,19 @@ fn lines_of(alloc: Global, text: &[u8]) -> Result<Vec<Line>, ReadError>
     Ok(lines)
 }
 
-/// The schedule that the text spells, or its first bad line and why that is bad. Want of memory can come in place of
-/// either; only words of good lines, and the first seven words of a bad one, take memory.
+/// The schedule that the text spells, or its first bad line and why that is bad. `OutOfMemory` can come in place of
+/// either; only good lines, and the bytes that a bad one's words spell, take memory.
 pub fn read(alloc: Global, text: &[u8]) -> Result<Schedule, ReadError>
-    ensures found { IfOk result (λ s. IsCount s.servers × AreLines s.lines × (text.now ≡ spelling s.servers s.lines)) }
-    ensures bad { IfErr result (λ e. (n : ℕ) (f : Fault) → e ≡ BadLine n f → IsFirstBad text.now n f) }
-    ensures complete { (servers : ℕ) (lines : List Line) → IsCount servers → AreLines lines → text.now ≡ spelling servers lines → MatchResult result (λ s. (s.servers ≡ servers) × (s.lines ≡ lines)) (λ e. e ≡ OutOfMemory) }
-    ensures first { (n : ℕ) (f : Fault) → IsFirstBad text.now n f → IsErrAnd result (λ e. (e ≡ BadLine n f) ⊎ (e ≡ OutOfMemory)) }
+    ensures found { IfOk result (λ s. IsCount s.servers × AreLines s.lines
+        × (text.now ≡ spelling s.servers s.lines)) }
+    ensures bad { IfErr result (λ e. (n : ℕ) (f : Fault) → e ≡ BadLine n f
+        → IsFirstBad text.now n f) }
+    ensures complete { (servers : ℕ) (lines : List Line) → IsCount servers → AreLines lines
+        → text.now ≡ spelling servers lines
+        → MatchResult result (λ s. (s.servers ≡ servers)
+        × (s.lines ≡ lines)) (λ e. e ≡ OutOfMemory) }
+    ensures first { (n : ℕ) (f : Fault) → IsFirstBad text.now n f
+        → IsErrAnd result (λ e. (e ≡ BadLine n f) ⊎ (e ≡ OutOfMemory)) }
 {
     let (servers, rest) = match servers_of(text) {
         Ok(found) => found,
@@ -145,7 +155,8 @@ pub fn read(alloc: Global, text: &[u8]) -> Result<Schedule, ReadError>
 
 /// Writes the schedule at the end, as `read` reads it.
 pub fn write(schedule: &Schedule, out: &mut Bytes) -> Result<(), AllocError>
-    ensures ok { OnOk result (out.new ≡ out.old ++ spelling schedule.now.servers schedule.now.lines) }
+    ensures ok { OnOk result (out.new ≡ out.old
+        ++ spelling schedule.now.servers schedule.now.lines) }
 {
     let servers = schedule.servers;
     write!(out, "pangaea 1 {servers}\n")?;
@@ -157,5 +168,6 @@ pub fn write(schedule: &Schedule, out: &mut Bytes) -> Result<(), AllocError>
 
 /// No two schedules have one spelling, so what was written is read again.
 pub fn one_spelling()
-    ensures { (n m : ℕ) (xs ys : List Line) → IsCount n → IsCount m → AreLines xs → AreLines ys → spelling n xs ≡ spelling m ys → (n ≡ m) × (xs ≡ ys) }
+    ensures { (n m : ℕ) (xs ys : List Line) → IsCount n → IsCount m → AreLines xs → AreLines ys
+        → spelling n xs ≡ spelling m ys → (n ≡ m) × (xs ≡ ys) }
 {}

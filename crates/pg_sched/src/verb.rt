@@ -4,7 +4,7 @@ ghost use Rattle.std.specs.Prelude.{◌≡◌, ◌≢◌, IfSome, IfNone, length
 ghost use Rattle.pg_sched.specs.Fields.{verb_word, fields};
 ghost use Rattle.pg_sched.specs.declared.verb.Verb.{Verb};
 
-use crate::change::ChangeKind;
+use pg_call::ChangeKind;
 
 /// The first word of a line, which says what the others are.
 #[derive(Clone, Copy, Debug, PartialEq, Eq)]

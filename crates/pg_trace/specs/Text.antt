@@ -7,17 +7,17 @@ use Rattle.pg_content.specs.Content.{ContentValue, shown_bytes}
 use Rattle.pg_msg.specs.declared.message.Sent.{Sent}
 use Rattle.pg_msg.specs.declared.update.Update.{Update}
 use Rattle.pg_msg.specs.Sent.{summary}
-use Rattle.pg_sched.specs.Change.{kind_of}
-use Rattle.pg_sched.specs.declared.entry.Entry.{Entry}
-use Rattle.pg_sched.specs.declared.entry.Reply.{Reply}
-use Rattle.pg_sched.specs.declared.entry.Reply.TheVariants.{Done, Wrote, Refused}
-use Rattle.pg_sched.specs.declared.entry.VoidCause.{VoidCause}
-use Rattle.pg_sched.specs.declared.line.Event.{Event}
-use Rattle.pg_sched.specs.declared.line.Event.TheVariants.{Write, Tick, Deliver, Lose, Repeat}
+use Rattle.pg_call.specs.Change.{kind_of}
+use Rattle.pg_event.specs.declared.entry.Entry.{Entry}
+use Rattle.pg_call.specs.declared.reply.Reply.{Reply}
+use Rattle.pg_call.specs.declared.reply.Reply.TheVariants.{Done, Wrote, Refused}
+use Rattle.pg_event.specs.declared.entry.VoidCause.{VoidCause}
+use Rattle.pg_event.specs.declared.event.Event.{Event}
+use Rattle.pg_event.specs.declared.event.Event.TheVariants.{Write, Tick, Deliver, Lose, Repeat}
 use Rattle.pg_sched.specs.declared.line.Form.{Form}
 use Rattle.pg_sched.specs.declared.line.Form.TheVariants.{Full, Short}
 use Rattle.pg_sched.specs.declared.line.Line.{Line}
-use Rattle.pg_sched.specs.declared.quiet.Quiet.{Quiet}
+use Rattle.pg_event.specs.declared.quiet.Quiet.{Quiet}
 use Rattle.pg_trace.specs.declared.printed.Word.{Word}
 use Rattle.pg_trace.specs.declared.printed.Printed.{Printed}
 use Rattle.pg_trace.specs.declared.printed.Printed.TheVariants as printed
@@ -33,12 +33,13 @@ tick_lines Short server (Refused refusal) = printed.Tick server (Refused refusal
 -- what the client was told
 abbrev pub told_lines : Form → Event → Option Reply → List Printed
 told_lines form (Write server moment file what) None = []
-told_lines form (Write server moment file what) (Some reply) = printed.Write (kind_of what) server reply ∷ []
+told_lines form (Write server moment file what) (Some reply) =
+    printed.Write (kind_of what) server reply ∷ []
 told_lines form (Tick server moment word) None = []
 told_lines form (Tick server moment word) (Some reply) = tick_lines form server reply
-told_lines form (Deliver place) reply = []
-told_lines form (Lose place) reply = []
-told_lines form (Repeat place) reply = []
+told_lines form (Deliver number) reply = []
+told_lines form (Lose number) reply = []
+told_lines form (Repeat number) reply = []
 
 -- in full: each version that was made, then each message that was sent
 abbrev pub done_lines : Form → List Update → List Sent → List Printed
@@ -47,7 +48,8 @@ done_lines Short made sent = []
 
 abbrev pub outcome_lines : ℕ → Form → Option VoidCause → Entry → List Printed
 outcome_lines line form (Some cause) entry = printed.Void line cause ∷ []
-outcome_lines line form None entry = told_lines form entry.event entry.reply ++ done_lines form entry.made entry.sent
+outcome_lines line form None entry =
+    told_lines form entry.event entry.reply ++ done_lines form entry.made entry.sent
 
 -- an entry, of the event on the line with this number
 abbrev pub entry_lines : ℕ → Form → Entry → List Printed
@@ -67,7 +69,9 @@ head_text line form what = flat_map printed_text (head_lines line form what)
 -- what a server shows of a file: the stamps of its heads, how many bytes are shown, or the greatest number of 64 bits where
 -- they are more, and the first 16 of them
 abbrev pub show_line : ℕ → FileId → ContentValue → Printed
-show_line server file c = printed.Show server file (map stamp_of c.heads) (min (length (shown_bytes c)) (2 ^ 64 - 1)) (take 16 (shown_bytes c))
+show_line server file c =
+    printed.Show server file (map stamp_of c.heads) (min (length (shown_bytes c)) (2 ^ 64 - 1))
+    (take 16 (shown_bytes c))
 
 abbrev pub show_text : ℕ → FileId → ContentValue → List ℕ
 show_text server file c = printed_text (show_line server file c)

@@ -3,12 +3,9 @@
 
 mod laws;
 mod printed;
-mod words;
+mod shown;
 mod writing;
 
 pub use laws::what_is_written_is_spelled;
 pub use printed::{Printed, Word};
 pub use writing::{write, write_entry, write_head, write_quiet, write_show};
-
-#[cfg(test)]
-mod tests;

@@ -2,10 +2,12 @@
 
 ghost use Rattle.std.specs.Prelude.{◌≡◌, IfOk};
 
-use crate::words::{MadeWords, ReplyWords, ShowWords, VoidWord};
+use crate::shown::ShowWords;
 use pg_base::{FileId, Items, NodeId, SharedBytes, Stamp};
+use pg_call::{ChangeKind, Reply};
+use pg_event::{Quiet, VoidCause};
 use pg_msg::{Summary, Update};
-use pg_sched::{ChangeKind, Line, Quiet, Reply, VoidCause};
+use pg_sched::Line;
 use std::alloc::AllocError;
 use std::fmt;
 
@@ -157,22 +159,10 @@ impl fmt::Display for Printed {
                 kind,
                 server,
                 reply,
-            } => {
-                let told = ReplyWords(*reply);
-                write!(f, "{kind} {server} -> {told}")
-            }
-            Printed::Tick { server, reply } => {
-                let told = ReplyWords(*reply);
-                write!(f, "tick {server} -> {told}")
-            }
-            Printed::Void { line, cause } => {
-                let why = VoidWord(*cause);
-                write!(f, "void {line} {why}")
-            }
-            Printed::Made(update) => {
-                let words = MadeWords(update);
-                write!(f, "{words}")
-            }
+            } => write!(f, "{kind} {server} -> {reply}"),
+            Printed::Tick { server, reply } => write!(f, "tick {server} -> {reply}"),
+            Printed::Void { line, cause } => write!(f, "void {line} {cause}"),
+            Printed::Made(update) => write!(f, "made {update}"),
             Printed::Sent(summary) => write!(f, "sent {summary}"),
             Printed::Asked { word, quiet } => write!(f, "{word} {quiet}"),
             Printed::Show {

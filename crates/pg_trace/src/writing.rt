@@ -12,11 +12,13 @@ ghost use Rattle.pg_trace.specs.Printed.{printed_text, journal_spelling};
 ghost use Rattle.pg_trace.specs.Text.{told_lines, tick_lines, done_lines, entry_text, head_text, show_text, quiet_text};
 
 use crate::printed::{Printed, Word};
-use crate::words::{MadeWords, ShowWords};
+use crate::shown::ShowWords;
 use pg_base::{Bytes, FileId, NodeId, Stamp, Version};
+use pg_call::Reply;
 use pg_content::Content;
+use pg_event::{Entry, Event, Quiet};
 use pg_msg::{Sent, Update};
-use pg_sched::{Entry, Event, Form, Line, Quiet, Reply};
+use pg_sched::{Form, Line};
 use std::alloc::{AllocError, Global};
 
 /// The most bytes that are shown of a file.
@@ -68,7 +70,8 @@ fn write_told(
     reply: Option<Reply>,
     out: &mut Bytes,
 ) -> Result<(), AllocError>
-    ensures { OnOk result (out.new ≡ out.old ++ flat_map printed_text (told_lines form event.now reply)) }
+    ensures { OnOk result (out.new ≡ out.old
+        ++ flat_map printed_text (told_lines form event.now reply)) }
 {
     match (event, reply) {
         (Event::Write { server, change, .. }, Some(reply)) => {
@@ -85,7 +88,8 @@ fn write_told(
 }
 
 fn write_tick(form: Form, server: NodeId, reply: Reply, out: &mut Bytes) -> Result<(), AllocError>
-    ensures { OnOk result (out.new ≡ out.old ++ flat_map printed_text (tick_lines form server reply)) }
+    ensures { OnOk result (out.new ≡ out.old
+        ++ flat_map printed_text (tick_lines form server reply)) }
 {
     match (form, reply) {
         (Form::Short, Reply::Done | Reply::Wrote(_)) => Ok(()),
@@ -94,7 +98,8 @@ fn write_tick(form: Form, server: NodeId, reply: Reply, out: &mut Bytes) -> Resu
 }
 
 fn write_done(form: Form, made: &[Update], sent: &[Sent], out: &mut Bytes) -> Result<(), AllocError>
-    ensures { OnOk result (out.new ≡ out.old ++ flat_map printed_text (done_lines form made.now sent.now)) }
+    ensures { OnOk result (out.new ≡ out.old
+        ++ flat_map printed_text (done_lines form made.now sent.now)) }
 {
     match form {
         Form::Full => {
@@ -109,8 +114,7 @@ fn write_done(form: Form, made: &[Update], sent: &[Sent], out: &mut Bytes) -> Re
 fn write_update(update: &Update, out: &mut Bytes) -> Result<(), AllocError>
     ensures { OnOk result (out.new ≡ out.old ++ printed_text (printed.Made update.now)) }
 {
-    let words = MadeWords(update);
-    write!(out, "{words}\n")
+    write!(out, "made {update}\n")
 }
 
 fn write_made(made: &[Update], out: &mut Bytes) -> Result<(), AllocError>
@@ -123,7 +127,8 @@ fn write_made(made: &[Update], out: &mut Bytes) -> Result<(), AllocError>
 }
 
 fn write_sent(sent: &[Sent], out: &mut Bytes) -> Result<(), AllocError>
-    ensures { OnOk result (out.new ≡ out.old ++ flat_map printed_text (map (λ m. printed.Sent (summary m)) sent.now)) }
+    ensures { OnOk result (out.new ≡ out.old
+        ++ flat_map printed_text (map (λ m. printed.Sent (summary m)) sent.now)) }
 {
     for message in sent {
         write_line(&Printed::Sent(message.summary()), out)?;
@@ -139,7 +144,9 @@ pub fn write_show(
     content: Option<&Content>,
     out: &mut Bytes,
 ) -> Result<(), AllocError>
-    ensures { OnOk result ((policy : Policy) → out.new ≡ out.old ++ show_text server file.now (or_empty policy (option_copied content.entry))) }
+    ensures { OnOk result ((policy : Policy)
+        → out.new ≡ out.old ++ show_text server file.now
+        (or_empty policy (option_copied content.entry))) }
 {
     match content {
         None => write_nothing(server, file, out),
@@ -148,7 +155,8 @@ pub fn write_show(
 }
 
 fn write_nothing(server: NodeId, file: &FileId, out: &mut Bytes) -> Result<(), AllocError>
-    ensures { OnOk result ((policy : Policy) → out.new ≡ out.old ++ show_text server file.now (or_empty policy None)) }
+    ensures { OnOk result ((policy : Policy)
+        → out.new ≡ out.old ++ show_text server file.now (or_empty policy None)) }
 {
     let words = ShowWords {
         server,

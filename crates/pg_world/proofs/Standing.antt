@@ -1,63 +1,67 @@
 -- The program's servers and messages, after an event, are the world's; and what they owe.
-use Rattle.std.proofs.Common.{ℕ, ◌≡◌, ◌≤◌, ◌++◌, Bool, true, cond, Option, None, Some, List, [], ◌∷◌, refl, sym, ap, subst, ◌∙◌, zero, suc, slice_get, arith, inl, inr, map, length, ◌<◌}
+use Rattle.std.proofs.Common.{ℕ, ◌≡◌, ◌≤◌, ◌++◌, Bool, true, cond, Option, None, Some, List, [], ◌∷◌, refl, sym, ap, subst, ◌∙◌, zero, suc, slice_get, arith, inl, inr, map}
 use Rattle.std.proofs.lemmas.Bool.{cases_lt}
 use Rattle.pg_msg.specs.declared.message.Sent.{Sent}
 use Rattle.pg_msg.specs.Sent.{summary}
-use Rattle.pg_sched.specs.declared.line.Event.{Event}
-use Rattle.pg_sched.specs.declared.line.Event.TheVariants.{Deliver}
-use Rattle.pg_sched.specs.declared.quiet.Owing.{Owing}
-use Rattle.pg_sched.specs.declared.quiet.Cause.TheVariants.{Message, Owed}
-use Rattle.pg_sched.specs.declared.quiet.Quiet.TheVariants.{Quiet, Waits}
-use Rattle.pg_flood.specs.World.{after}
+use Rattle.pg_event.specs.declared.event.Event.{Event}
+use Rattle.pg_event.specs.declared.event.Event.TheVariants.{Deliver}
+use Rattle.pg_event.specs.declared.quiet.Owing.{Owing}
+use Rattle.pg_event.specs.declared.quiet.Cause.TheVariants.{Message, Owed}
+use Rattle.pg_event.specs.declared.quiet.Quiet.TheVariants.{Quiet, Waits}
 use Rattle.pg_node.specs.declared.input.Input.TheVariants as input
 use Rattle.pg_node.specs.declared.node.Node.{Node}
-use Rattle.pg_node.specs.Local.{Store, effect, owed}
-use Rattle.pg_world.specs.Journal.{bag, message_at, without}
-use Rattle.pg_world.specs.Quiet.{owed_by, first_of, quiet_of}
-use Rattle.pg_world.specs.Run.{World, Step, still, acted, is_server, delivered, next, entered, run_from}
+use Rattle.pg_replica.specs.declared.store.Store.{Store}
+use Rattle.pg_node.specs.Local.{effect, owed}
+use Rattle.pg_node.specs.Journal.{bag, message_at, without}
+use Rattle.pg_node.specs.Quiet.{owed_by, first_of, quiet_of}
+use Rattle.pg_node.specs.Run.{World, Step, idle_step, effect_step, is_server, delivery_step, next, world_after, run_from}
 use Rattle.pg_world.specs.declared.machine.Machine.{Machine}
-use Rattle.pg_world.specs.Stands.{Stands, EachStands}
+use Rattle.pg_world.specs.Stands.{Stands, EachStands, EachStandsBehind, BagBehind}
 
 -- a choice that was tested
-pub chosen_stands : (m : Machine) (w : World) (t : Bool) (x y : Step) → t ≡ true → Stands m (entered w x) → Stands m (entered w (cond t x y))
-chosen_stands m w t x y e h = let P : Bool → Type 0 = (λ b. Stands m (entered w (cond b x y))) in subst P (sym e) h
+pub chosen_stands : (m : Machine) (w : World) (t : Bool) (x y : Step) → t ≡ true → Stands m (world_after w x) → Stands m (world_after w (cond t x y))
+chosen_stands m w t x y e h = let P : Bool → Type 0 = (λ b. Stands m (world_after w (cond b x y))) in subst P (sym e) h
 
 -- ---- a delivery, of the message that was found
 
 -- the bag without the message
-pub bag_without : (m b : Machine) (w : World) (place : ℕ) → Stands m w → b.bag.items ≡ without m.bag.items place (message_at m.bag.items place) → b.bag.items ≡ without (bag w.journal) place (message_at (bag w.journal) place)
-bag_without m b w place h e = e ∙ ap (λ xs. without xs place (message_at xs place)) h.bag
+bag_without : (m b : Machine) (w : World) (number : ℕ) → Stands m w
+    → b.bag ≡ without m.bag number (message_at m.bag number)
+    → b.bag ≡ without (bag w.journal) number (message_at (bag w.journal) number)
+bag_without m b w number h e = e ∙ ap (λ xs. without xs number (message_at xs number)) h.bag
 
-pub message_there : (m : Machine) (w : World) (place : ℕ) (o : Option Sent) → Stands m w → o ≡ message_at m.bag.items place → message_at (bag w.journal) place ≡ o
-message_there m w place o h e = ap (λ xs. message_at xs place) (sym h.bag) ∙ sym e
+message_there : (m : Machine) (w : World) (number : ℕ) (o : Option Sent) → Stands m w
+    → o ≡ message_at m.bag number → message_at (bag w.journal) number ≡ o
+message_there m w number o h e = ap (λ xs. message_at xs number) (sym h.bag) ∙ sym e
 
 -- m: before, k: without the message, b: after the server took it
-pub deliver_acted : (m k b : Machine) (w : World) (n place : ℕ) (x : Sent) → Stands m w → Some x ≡ message_at m.bag.items place → is_server n x.to ≡ true → k.nodes.items ≡ m.nodes.items
-    → k.bag.items ≡ without m.bag.items place (message_at m.bag.items place)
-    → ((stores : ℕ → Store) → EachStands k.nodes.items stores → EachStands b.nodes.items (after stores x.to (effect (stores x.to) (input.Arrival x.packet)).store))
-    → ((stores : ℕ → Store) → EachStands k.nodes.items stores → b.bag.items ≡ k.bag.items ++ (effect (stores x.to) (input.Arrival x.packet)).out.sent)
-    → Stands b (entered w (next n w (Deliver place)))
-deliver_acted m k b w n place x h found test same e nodes bags =
-    let there = message_there m w place (Some x) h found in
+pub deliver_acted : (m k b : Machine) (w : World) (n number : ℕ) (x : Sent) → Stands m w
+    → Some x ≡ message_at m.bag number → is_server n x.to ≡ true → k.nodes.items ≡ m.nodes.items
+    → k.bag ≡ without m.bag number (message_at m.bag number)
+    → EachStandsBehind k b x.to (input.Arrival x.packet) → BagBehind k b x.to (input.Arrival x.packet)
+    → Stands b (world_after w (next n w (Deliver number)))
+deliver_acted m k b w n number x h found test same e nodes bags =
+    let there = message_there m w number (Some x) h found in
     let done = effect (w.stores x.to) (input.Arrival x.packet) in
-    let P : Option Sent → Type 0 = (λ o. Stands b (entered w (delivered n w (Deliver place) o))) in
+    let P : Option Sent → Type 0 = (λ o. Stands b (world_after w (delivery_step n w (Deliver number) o))) in
     let N : List Node → Type 0 = (λ xs. EachStands xs w.stores) in
     let each = subst N (sym same) h.each in
-    subst P (sym there) (chosen_stands b w (is_server n x.to) (acted w (Deliver place) x.to done) (still w (Deliver place) None) test (record {
+    subst P (sym there) (chosen_stands b w (is_server n x.to) (effect_step w (Deliver number) x.to done)
+    (idle_step w (Deliver number) None) test (record {
       each = nodes w.stores each;
-      bag = bags w.stores each ∙ ap (λ xs. xs ++ done.out.sent) (bag_without m k w place h e);
+      bag = bags w.stores each ∙ ap (λ xs. xs ++ done.out.sent) (bag_without m k w number h e);
     }))
 
 -- ---- events one behind the other
 
 -- one event more at a run's end
-pub run_from-push : (n : ℕ) (w : World) (events : List Event) (e : Event) → run_from n w (events ++ e ∷ []) ≡ entered (run_from n w events) (next n (run_from n w events) e)
+pub run_from-push : (n : ℕ) (w : World) (events : List Event) (e : Event) → run_from n w (events ++ e ∷ []) ≡ world_after (run_from n w events) (next n (run_from n w events) e)
 run_from-push n w [] e = refl
-run_from-push n w (x ∷ xs) e = run_from-push n (entered w (next n w x)) xs e
+run_from-push n w (x ∷ xs) e = run_from-push n (world_after w (next n w x)) xs e
 
 pub run_from-append : (n : ℕ) (w : World) (first more : List Event) → run_from n w (first ++ more) ≡ run_from n (run_from n w first) more
 run_from-append n w [] more = refl
-run_from-append n w (x ∷ xs) more = run_from-append n (entered w (next n w x)) xs more
+run_from-append n w (x ∷ xs) more = run_from-append n (world_after w (next n w x)) xs more
 
 -- ---- what is owed first
 
@@ -65,7 +69,8 @@ first_there : (xs ys : List Owing) (o : Owing) → slice_get xs 0 ≡ Some o →
 first_there [] ys o h = absurd (let e : None ≡ Some o = h in cc)
 first_there (x ∷ xs) ys o h = h
 
-pub none_there : (xs : List Owing) → slice_get xs 0 ≡ None → xs ≡ []
+-- where there is no first, there is none
+pub none_there : {A : Type 0} (xs : List A) → slice_get xs 0 ≡ None → xs ≡ []
 none_there [] h = refl
 none_there (x ∷ xs) h = absurd (let e : Some x ≡ None = h in cc)
 
@@ -93,18 +98,23 @@ first_of_owed (x ∷ xs) o h = let same : x ≡ o = cc in ap (λ z. Waits (Owed 
 first_of_none : (os : List Owing) → slice_get os 0 ≡ None → first_of (map Owed os) ≡ Quiet
 first_of_none os h = ap (λ xs. first_of (map Owed xs)) (none_there os h)
 
+-- a message is under way: the first of all is waited for
+pub waits_message : (n : ℕ) (w : World) (ms : List Sent) (m : Sent) → ms ≡ bag w.journal → Some m ≡ slice_get ms 0
+    → Waits (Message (summary m)) ≡ quiet_of n w
+waits_message n w [] m e h = absurd (let f : Some m ≡ None = h in cc)
+waits_message n w (x ∷ ms) m e h =
+    let same : m ≡ x = cc in
+    ap (λ z. Waits (Message (summary z))) same
+    ∙ ap (λ (xs : List Sent). first_of (map (λ z. Message (summary z)) xs ++ map Owed (owed_by w.stores n))) e
+
 no_message : (n : ℕ) (w : World) → bag w.journal ≡ [] → quiet_of n w ≡ first_of (map Owed (owed_by w.stores n))
 no_message n w none = ap (λ (ms : List Sent). first_of (map (λ m. Message (summary m)) ms ++ map Owed (owed_by w.stores n))) none
 
 -- no message is under way, and this is owed first
-pub waits_for : (n : ℕ) (w : World) (o : Owing) → bag w.journal ≡ [] → slice_get (owed_by w.stores n) 0 ≡ Some o → quiet_of n w ≡ Waits (Owed o)
+pub waits_for : (n : ℕ) (w : World) (o : Owing) → bag w.journal ≡ []
+    → slice_get (owed_by w.stores n) 0 ≡ Some o → quiet_of n w ≡ Waits (Owed o)
 waits_for n w o none h = no_message n w none ∙ first_of_owed (owed_by w.stores n) o h
 
 -- or nothing is
 pub waits_not : (n : ℕ) (w : World) → bag w.journal ≡ [] → slice_get (owed_by w.stores n) 0 ≡ None → quiet_of n w ≡ Quiet
 waits_not n w none h = no_message n w none ∙ first_of_none (owed_by w.stores n) h
-
--- where there is no first, there is none
-pub none_in : (ms : List Sent) → (0 < length ms → ⊥) → ms ≡ []
-none_in [] h = refl
-none_in (m ∷ ms) h = absurd (h (omega arith))

@@ -1,7 +1,5 @@
-pub mod Journal
-pub mod Run
-pub mod Quiet
-pub mod Laws
 pub mod Played
 pub mod PlayedInside
 pub mod Stands
+pub mod EventList
+pub mod EventListInside

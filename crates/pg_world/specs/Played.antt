@@ -2,10 +2,10 @@
 use Rattle.std.specs.Prelude.{ℕ, Bool, List}
 use Rattle.pg_base.specs.declared.id.FileId.{FileId}
 use Rattle.pg_content.specs.Content.{ContentValue}
-use Rattle.pg_sched.specs.declared.line.Event.{Event}
-use Rattle.pg_sched.specs.declared.entry.Entry.{Entry}
-use Rattle.pg_world.specs.Journal.{taken, state_of}
-use Rattle.pg_world.specs.Run.{World, next, run}
+use Rattle.pg_event.specs.declared.event.Event.{Event}
+use Rattle.pg_event.specs.declared.entry.Entry.{Entry}
+use Rattle.pg_node.specs.Journal.{taken, state_of}
+use Rattle.pg_node.specs.Run.{World, next, run}
 
 -- events: all that happened, void events too
 -- failed: an event ran out of memory

@@ -1,6 +1,6 @@
 -- What a run keeps.
 use Rattle.std.specs.Prelude.{◌≡◌, ◌≤◌, length, false}
-use Rattle.pg_world.specs.Run.{run}
+use Rattle.pg_node.specs.Run.{run}
 use Rattle.pg_world.specs.Stands.{Stands}
 use Rattle.pg_world.specs.Played.{Played}
 use Rattle.pg_world.specs.declared.world.World.TheInside.{Inside}

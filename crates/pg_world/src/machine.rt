@@ -3,27 +3,28 @@
 ghost use Rattle.std.specs.Prelude.{[], ◌≡◌, ◌++◌, ◌<◌, ◌≤◌, OnOk, IfOk, ℕ, length, true, IsNone, ◌⊎◌, None, slice_get};
 ghost use Rattle.std.specs.Option.{option_copied};
 ghost use Rattle.pg_content.specs.Content.{or_empty};
-ghost use Rattle.pg_node.specs.Local.{Store, effect, held, policy_of};
-ghost use Rattle.pg_world.specs.Journal.{message_at, without, bag};
-ghost use Rattle.pg_world.specs.Run.{World, is_server, next, entered, start, still_entry, acted_entry};
-ghost use Rattle.pg_world.specs.Quiet.{quiet_of, owed_by, has_some};
-ghost use Rattle.pg_flood.specs.World.{after};
-ghost use Rattle.pg_world.specs.Stands.{Stands, EachStands};
+ghost use Rattle.pg_replica.specs.Store.{held_content};
+ghost use Rattle.pg_replica.specs.Untouched.{policy_of};
+ghost use Rattle.pg_node.specs.Journal.{message_at, without, bag};
+ghost use Rattle.pg_node.specs.Run.{World, is_server, start, idle_entry};
+ghost use Rattle.pg_node.specs.Quiet.{quiet_of, owed_by, has_some};
+ghost use Rattle.pg_world.specs.Stands.{Stands, EachStandsBehind, BagBehind, IsEntryBy, StandsBehind, IsEntryOf};
 
+use pg_bag::Bag;
 use pg_base::{FileId, Items, NodeId};
+use pg_call::Change;
 use pg_content::Content;
+use pg_event::{Cause, Entry, Event, Owing, Quiet, VoidCause};
 use pg_msg::Sent;
 use pg_node::{Input, Node, Out};
-use pg_sched::{Cause, Change, Entry, Event, Owing, Quiet, VoidCause};
 use std::alloc::{AllocError, Global};
-use std::collections::VecDeque;
 
 /// The servers 1 to n, and the messages under way, in order of sending.
 #[derive(Drop)]
 pub struct Machine {
     pub alloc: Global,
     pub nodes: Vec<Node>,
-    pub bag: VecDeque<Sent>,
+    pub bag: Bag<Sent>,
 }
 
 impl Machine {
@@ -39,11 +40,12 @@ impl Machine {
         Ok(Machine {
             alloc,
             nodes,
-            bag: VecDeque::new(alloc),
+            bag: Bag::new(alloc),
         })
     }
 
-    fn has(&self, server: NodeId) -> bool
+    /// Whether the run has a server of this number.
+    fn has_server(&self, server: NodeId) -> bool
         ensures { result ≡ is_server (length self.now.nodes.items) server }
     {
         1 <= server && server as usize <= self.nodes.len()
@@ -51,30 +53,33 @@ impl Machine {
 
     /// What a server holds of a file: none where nothing came to it.
     pub fn content(&self, server: NodeId, file: &FileId) -> Option<&Content>
-        ensures held { (w : World) → Stands self.now w → 1 ≤ server → server ≤ length self.now.nodes.items → or_empty (policy_of file.now) (option_copied result) ≡ held (w.stores server) file.now }
+        ensures held { (w : World) → Stands self.now w
+            → 1 ≤ server → server ≤ length self.now.nodes.items
+            → or_empty (policy_of file.now) (option_copied result)
+            ≡ held_content (w.stores server) file.now }
         ensures nobody { (server ≡ 0) ⊎ (length self.now.nodes.items < server) → IsNone result }
     {
-        if !self.has(server) {
+        if !self.has_server(server) {
             return None;
         }
         self.nodes[server as usize - 1].content(file)
     }
 
-    /// The message with this number, out of the bag.
-    fn take_message(&mut self, place: u64) -> Option<Sent>
-        ensures found { result ≡ message_at self.old.bag.items place }
-        ensures bag { self.new.bag.items ≡ without self.old.bag.items place (message_at self.old.bag.items place) }
+    /// The message with this number, which leaves the bag.
+    fn take_message(&mut self, number: u64) -> Option<Sent>
+        ensures found { result ≡ message_at self.old.bag number }
+        ensures bag { self.new.bag ≡ without self.old.bag number (message_at self.old.bag number) }
         ensures nodes { self.new.nodes ≡ self.old.nodes }
     {
-        if place == 0 || place > self.bag.len() as u64 {
+        if number == 0 {
             return None;
         }
-        self.bag.remove(place as usize - 1)
+        self.bag.take(number as usize - 1)
     }
 
     /// The entry of an event at which no server did anything.
-    fn still(&self, event: Event, void: Option<VoidCause>) -> Entry
-        ensures { result ≡ still_entry event void }
+    fn idle_entry(&self, event: Event, void: Option<VoidCause>) -> Entry
+        ensures { result ≡ idle_entry event void }
     {
         Entry {
             event,
@@ -87,7 +92,7 @@ impl Machine {
 
     /// Copies of these messages go to the end of the bag.
     fn send(&mut self, sent: &[Sent]) -> Result<(), AllocError>
-        ensures bag { OnOk result (self.new.bag.items ≡ self.old.bag.items ++ sent.now) }
+        ensures bag { OnOk result (self.new.bag ≡ self.old.bag ++ sent.now) }
         ensures nodes { self.new.nodes ≡ self.old.nodes }
     {
         for message in sent {
@@ -99,9 +104,9 @@ impl Machine {
     /// A server is given an input.
     fn act(&mut self, event: Event, server: NodeId, input: Input) -> Result<Entry, AllocError>
         requires { is_server (length self.old.nodes.items) server ≡ true }
-        ensures nodes { OnOk result ((stores : ℕ → Store) → EachStands self.old.nodes.items stores → EachStands self.new.nodes.items (after stores server (effect (stores server) input).store)) }
-        ensures bag { OnOk result ((stores : ℕ → Store) → EachStands self.old.nodes.items stores → self.new.bag.items ≡ self.old.bag.items ++ (effect (stores server) input).out.sent) }
-        ensures entry { IfOk result (λ e. (stores : ℕ → Store) → EachStands self.old.nodes.items stores → e ≡ acted_entry event (effect (stores server) input)) }
+        ensures nodes { OnOk result (EachStandsBehind self.old self.new server input) }
+        ensures bag { OnOk result (BagBehind self.old self.new server input) }
+        ensures entry { IfOk result (IsEntryBy self.old event server input) }
         ensures count { OnOk result (length self.new.nodes.items ≡ length self.old.nodes.items) }
     {
         // A server that has failed belongs to a run that has failed, and that takes no event.
@@ -126,8 +131,9 @@ impl Machine {
         file: FileId,
         change: Change,
     ) -> Result<Entry, AllocError>
-        ensures state { OnOk result ((w : World) → Stands self.old w → Stands self.new (entered w (next (length self.old.nodes.items) w (Event.Write server moment file change)))) }
-        ensures entry { IfOk result (λ e. (w : World) → Stands self.old w → e ≡ (next (length self.old.nodes.items) w (Event.Write server moment file change)).entry) }
+        ensures state { OnOk result
+            (StandsBehind self.old self.new (Event.Write server moment file change)) }
+        ensures entry { IfOk result (IsEntryOf self.old (Event.Write server moment file change)) }
         ensures count { OnOk result (length self.new.nodes.items ≡ length self.old.nodes.items) }
     {
         let event = Event::Write {
@@ -136,8 +142,8 @@ impl Machine {
             file,
             change: change.copy()?,
         };
-        if !self.has(server) {
-            return Ok(self.still(event, Some(VoidCause::NoServer)));
+        if !self.has_server(server) {
+            return Ok(self.idle_entry(event, Some(VoidCause::NoServer)));
         }
         Ok(self.act(
             event,
@@ -152,8 +158,9 @@ impl Machine {
 
     /// A server sends again what is not acknowledged.
     fn tick(&mut self, server: NodeId, moment: u64, word: u64) -> Result<Entry, AllocError>
-        ensures state { OnOk result ((w : World) → Stands self.old w → Stands self.new (entered w (next (length self.old.nodes.items) w (Event.Tick server moment word)))) }
-        ensures entry { IfOk result (λ e. (w : World) → Stands self.old w → e ≡ (next (length self.old.nodes.items) w (Event.Tick server moment word)).entry) }
+        ensures state { OnOk result
+            (StandsBehind self.old self.new (Event.Tick server moment word)) }
+        ensures entry { IfOk result (IsEntryOf self.old (Event.Tick server moment word)) }
         ensures count { OnOk result (length self.new.nodes.items ≡ length self.old.nodes.items) }
     {
         let event = Event::Tick {
@@ -161,68 +168,70 @@ impl Machine {
             moment,
             word,
         };
-        if !self.has(server) {
-            return Ok(self.still(event, Some(VoidCause::NoServer)));
+        if !self.has_server(server) {
+            return Ok(self.idle_entry(event, Some(VoidCause::NoServer)));
         }
         Ok(self.act(event, server, Input::Tick { moment, word })?)
     }
 
     /// The message with this number arrives.
-    fn deliver(&mut self, place: u64) -> Result<Entry, AllocError>
-        ensures state { OnOk result ((w : World) → Stands self.old w → Stands self.new (entered w (next (length self.old.nodes.items) w (Event.Deliver place)))) }
-        ensures entry { IfOk result (λ e. (w : World) → Stands self.old w → e ≡ (next (length self.old.nodes.items) w (Event.Deliver place)).entry) }
+    fn deliver(&mut self, number: u64) -> Result<Entry, AllocError>
+        ensures state { OnOk result (StandsBehind self.old self.new (Event.Deliver number)) }
+        ensures entry { IfOk result (IsEntryOf self.old (Event.Deliver number)) }
         ensures count { OnOk result (length self.new.nodes.items ≡ length self.old.nodes.items) }
     {
-        let event = Event::Deliver(place);
-        let Some(message) = self.take_message(place) else {
-            return Ok(self.still(event, Some(VoidCause::NoMessage)));
+        let event = Event::Deliver(number);
+        let Some(message) = self.take_message(number) else {
+            return Ok(self.idle_entry(event, Some(VoidCause::NoMessage)));
         };
-        if !self.has(message.to) {
-            return Ok(self.still(event, None));
+        if !self.has_server(message.to) {
+            return Ok(self.idle_entry(event, None));
         }
         Ok(self.act(event, message.to, Input::Arrival(message.packet))?)
     }
 
-    fn lose(&mut self, place: u64) -> Entry
-        ensures state { (w : World) → Stands self.old w → Stands self.new (entered w (next (length self.old.nodes.items) w (Event.Lose place))) }
-        ensures entry { (w : World) → Stands self.old w → result ≡ (next (length self.old.nodes.items) w (Event.Lose place)).entry }
+    /// The message with this number is lost.
+    fn lose(&mut self, number: u64) -> Entry
+        ensures state { StandsBehind self.old self.new (Event.Lose number) }
+        ensures entry { IsEntryOf self.old (Event.Lose number) result }
         ensures count { length self.new.nodes.items ≡ length self.old.nodes.items }
     {
-        match self.take_message(place) {
-            None => self.still(Event::Lose(place), Some(VoidCause::NoMessage)),
-            Some(_lost) => self.still(Event::Lose(place), None),
+        match self.take_message(number) {
+            None => self.idle_entry(Event::Lose(number), Some(VoidCause::NoMessage)),
+            Some(_lost) => self.idle_entry(Event::Lose(number), None),
         }
     }
 
     /// The message with this number, once more.
-    fn copy_message(&self, place: u64) -> Result<Option<Sent>, AllocError>
-        ensures { IfOk result (λ o. o ≡ message_at self.now.bag.items place) }
+    fn copy_message(&self, number: u64) -> Result<Option<Sent>, AllocError>
+        ensures { IfOk result (λ o. o ≡ message_at self.now.bag number) }
     {
-        if place == 0 {
+        if number == 0 {
             return Ok(None);
         }
-        match self.bag.get(place as usize - 1) {
+        match self.bag.get(number as usize - 1) {
             None => Ok(None),
             Some(message) => Ok(Some(message.copy()?)),
         }
     }
 
-    fn repeat(&mut self, place: u64) -> Result<Entry, AllocError>
-        ensures state { OnOk result ((w : World) → Stands self.old w → Stands self.new (entered w (next (length self.old.nodes.items) w (Event.Repeat place)))) }
-        ensures entry { IfOk result (λ e. (w : World) → Stands self.old w → e ≡ (next (length self.old.nodes.items) w (Event.Repeat place)).entry) }
+    /// The message with this number goes to the end of the bag once more.
+    fn repeat(&mut self, number: u64) -> Result<Entry, AllocError>
+        ensures state { OnOk result (StandsBehind self.old self.new (Event.Repeat number)) }
+        ensures entry { IfOk result (IsEntryOf self.old (Event.Repeat number)) }
         ensures count { OnOk result (length self.new.nodes.items ≡ length self.old.nodes.items) }
     {
-        let Some(again) = self.copy_message(place)? else {
-            return Ok(self.still(Event::Repeat(place), Some(VoidCause::NoMessage)));
+        let Some(again) = self.copy_message(number)? else {
+            return Ok(self.idle_entry(Event::Repeat(number), Some(VoidCause::NoMessage)));
         };
         self.bag.push_back(again)?;
-        Ok(self.still(Event::Repeat(place), None))
+        Ok(self.idle_entry(Event::Repeat(number), None))
     }
 
     /// One event.
     pub fn step(&mut self, event: Event) -> Result<Entry, AllocError>
-        ensures state { OnOk result ((w : World) → Stands self.old w → Stands self.new (entered w (next (length self.old.nodes.items) w event))) }
-        ensures entry { IfOk result (λ e. (w : World) → Stands self.old w → e ≡ (next (length self.old.nodes.items) w event).entry) }
+        ensures state { OnOk result (StandsBehind self.old self.new event) }
+        ensures entry { IfOk result (IsEntryOf self.old event) }
         ensures count { OnOk result (length self.new.nodes.items ≡ length self.old.nodes.items) }
     {
         match event {
@@ -237,9 +246,9 @@ impl Machine {
                 moment,
                 word,
             } => Ok(self.tick(server, moment, word)?),
-            Event::Deliver(place) => Ok(self.deliver(place)?),
-            Event::Lose(place) => Ok(self.lose(place)),
-            Event::Repeat(place) => Ok(self.repeat(place)?),
+            Event::Deliver(number) => Ok(self.deliver(number)?),
+            Event::Lose(number) => Ok(self.lose(number)),
+            Event::Repeat(number) => Ok(self.repeat(number)?),
         }
     }
 
@@ -252,7 +261,8 @@ impl Machine {
 
     /// The first that a server owes, by server.
     fn owed(&self) -> Option<Owing>
-        ensures { (w : World) → Stands self.now w → result ≡ slice_get (owed_by w.stores (length self.now.nodes.items)) 0 }
+        ensures { (w : World) → Stands self.now w
+            → result ≡ slice_get (owed_by w.stores (length self.now.nodes.items)) 0 }
     {
         for node in self.nodes.as_slice() {
             if let Some(owing) = node.owed() {
@@ -264,14 +274,15 @@ impl Machine {
 
     /// Whether all is done, or what is to be waited for first.
     pub fn quiet(&self) -> Quiet
-        ensures { (w : World) → Stands self.now w → result ≡ quiet_of (length self.now.nodes.items) w }
+        ensures { (w : World) → Stands self.now w
+            → result ≡ quiet_of (length self.now.nodes.items) w }
     {
-        if let Some(sent) = self.bag.front() {
-            return Quiet::Waits(Cause::Message(sent.summary()));
-        }
-        match self.owed() {
-            Some(owing) => Quiet::Waits(Cause::Owed(owing)),
-            None => Quiet::Quiet,
+        match self.bag.front() {
+            Some(sent) => Quiet::Waits(Cause::Message(sent.summary())),
+            None => match self.owed() {
+                Some(owing) => Quiet::Waits(Cause::Owed(owing)),
+                None => Quiet::Quiet,
+            },
         }
     }
 }

@@ -5,17 +5,18 @@ ghost use Rattle.std.specs.Option.{option_copied};
 ghost use Rattle.pg_base.specs.declared.id.FileId.{FileId};
 ghost use Rattle.pg_content.specs.Content.{or_empty};
 ghost use Rattle.pg_content.specs.StandsFor.{StandsFor};
-ghost use Rattle.pg_node.specs.Local.{policy_of};
-ghost use Rattle.pg_world.specs.Journal.{bag, taken, versions};
-ghost use Rattle.pg_world.specs.Quiet.{has_some, IsQuiet, quiet_of};
-ghost use Rattle.pg_world.specs.Laws.{Agree};
+ghost use Rattle.pg_replica.specs.Untouched.{policy_of};
+ghost use Rattle.pg_node.specs.Journal.{bag, taken, versions};
+ghost use Rattle.pg_node.specs.Quiet.{has_some, IsQuiet, quiet_of};
+ghost use Rattle.pg_node.specs.Laws.{Agree};
 ghost use Rattle.pg_world.specs.Played.{next_entry, state, final};
 
+use crate::event_list::EventList;
 use crate::machine::Machine;
-use pg_base::{FileId, Items, NodeId};
+use pg_base::{FileId, NodeId};
 use pg_content::Content;
+use pg_event::{Entry, Event, Quiet};
 use pg_node::StepError;
-use pg_sched::{Entry, Event, Quiet};
 use std::alloc::{AllocError, Global};
 use std::marker::Model;
 
@@ -23,7 +24,7 @@ use std::marker::Model;
 #[derive(Drop)]
 pub struct World {
     servers: u32,
-    events: Items<Event>,
+    events: EventList,
     machine: Machine,
     failed: bool,
 }
@@ -48,17 +49,10 @@ impl World {
     {
         Ok(World {
             servers,
-            events: Items::new(alloc),
+            events: EventList::new(alloc),
             machine: Machine::new(alloc, servers)?,
             failed: false,
         })
-    }
-
-    /// All events that it was given, void ones too, the first of them first.
-    pub fn events(&self) -> &[Event]
-        ensures { result.now ≡ self.now.events }
-    {
-        self.events.as_slice()
     }
 
     /// How many servers the run has.
@@ -75,9 +69,13 @@ impl World {
         self.failed
     }
 
-    /// One event more. After want of memory the run has failed, and says so from then on.
+    /// One event more. A run that ran out of memory has failed, and says so from then on.
     pub fn step(&mut self, event: Event) -> Result<Entry, StepError>
-        ensures state { OnOk result (self.new ≡ record { servers = self.old.servers; events = self.old.events ++ event ∷ []; failed = false }) }
+        ensures state { OnOk result (self.new ≡ record {
+          servers = self.old.servers;
+          events = self.old.events ++ event ∷ [];
+          failed = false;
+        }) }
         ensures entry { IfOk result (λ e. e ≡ next_entry self.old event) }
         ensures failed { OnErr result (self.new.failed ≡ true) }
         ensures failed_before { IsErrOf result StepError.Failed ↔ (self.old.failed ≡ true) }
@@ -87,9 +85,8 @@ impl World {
             return Err(StepError::Failed);
         }
         self.failed = true;
-        let kept = event.copy()?;
+        self.events.push(&event)?;
         let entry = self.machine.step(event)?;
-        self.events.push(kept)?;
         self.failed = false;
         Ok(entry)
     }
@@ -98,8 +95,13 @@ impl World {
     /// run has no such server.
     pub fn content(&self, server: NodeId, file: &FileId) -> Option<&Content>
         requires { self.now.failed ≡ false }
-        ensures state { 1 ≤ server → server ≤ self.now.servers → or_empty (policy_of file.now) (option_copied result) ≡ state self.now server file.now }
-        ensures heads { 1 ≤ server → server ≤ self.now.servers → StandsFor (or_empty (policy_of file.now) (option_copied result)) (versions file.now (final self.now).journal) (taken server file.now (final self.now).journal) }
+        ensures state { 1 ≤ server → server ≤ self.now.servers
+            → or_empty (policy_of file.now) (option_copied result)
+            ≡ state self.now server file.now }
+        ensures heads { 1 ≤ server → server ≤ self.now.servers
+            → StandsFor (or_empty (policy_of file.now) (option_copied result))
+            (versions file.now (final self.now).journal)
+            (taken server file.now (final self.now).journal) }
         ensures nobody { (server ≡ 0) ⊎ (self.now.servers < server) → IsNone result }
     {
         self.machine.content(server, file)
@@ -119,7 +121,9 @@ impl World {
         requires { self.now.failed ≡ false }
         ensures answer { result ≡ quiet_of self.now.servers (final self.now) }
         ensures quiet { (result ≡ Quiet.Quiet) ↔ IsQuiet self.now.servers (final self.now) }
-        ensures agree { result ≡ Quiet.Quiet → (file : FileId) (s t : ℕ) → 1 ≤ s → s ≤ self.now.servers → 1 ≤ t → t ≤ self.now.servers → Agree (final self.now) file s t }
+        ensures agree { result ≡ Quiet.Quiet → (file : FileId) (s t : ℕ)
+            → 1 ≤ s → s ≤ self.now.servers → 1 ≤ t → t ≤ self.now.servers
+            → Agree (final self.now) file s t }
     {
         self.machine.quiet()
     }

@@ -1,7 +1,7 @@
 use Rattle.std.proofs.Common.{◌≡◌, ℕ, List, Option, None, Some, IfSome, inl, inr, sym, subst, ◌∙◌}
 use Rattle.pg_sched.specs.declared.error.ReadError.TheVariants as error
-use Rattle.pg_sched.specs.declared.fault.Fault.{Fault}
-use Rattle.pg_sched.specs.declared.status.Status.TheVariants as status
+use Rattle.pg_event.specs.declared.fault.Fault.{Fault}
+use Rattle.pg_event.specs.declared.status.Status.TheVariants as status
 use Rattle.pg_sched.specs.Schedule.{IsFirstBad}
 use Rattle.pangaea.proofs.command.replay.Goals as goal
 
@@ -23,21 +23,21 @@ same_line a n b f e = cc
 pub returns-in-BadLine-clause-bad : goal.returns-in-BadLine-clause-bad
 returns-in-BadLine-clause-bad g c = λ n f e.
     let is = c.in-BadLine.is in
-    of_input (g.S.Source.left c.args.source.now) c.in-Ok.input.items c.deref.result.now n f c.in-Ok.ensures.whole c.deref.ensures.value
+    of_input (g.S.Source.remaining c.args.source.now) c.in-Ok.input.items c.deref.result.now n f c.in-Ok.ensures.whole c.deref.ensures.value
     (c.in-Err-read.ensures.bad n f (is ∙ same_line c.in-BadLine.number n c.in-BadLine.fault f e))
 
 pub returns-in-BadLine-clause-first_bad : goal.returns-in-BadLine-clause-first_bad
 returns-in-BadLine-clause-first_bad g c = λ input n f left short bad calm.
     let is = c.in-BadLine.is in
-    elim (c.in-Err-read.ensures.first n f (moved (g.S.Source.left c.args.source.now) c.in-Ok.input.items c.deref.result.now input n f left c.in-Ok.ensures.whole c.deref.ensures.value bad)) [
+    elim (c.in-Err-read.ensures.first n f (moved (g.S.Source.remaining c.args.source.now) c.in-Ok.input.items c.deref.result.now input n f left c.in-Ok.ensures.whole c.deref.ensures.value bad)) [
       | inl e ↦ inl (cc)
       | inr e ↦ absurd (cc)
     ]
 
 pub returns-in-Ok-write_all-clause-first_bad : goal.returns-in-Ok-write_all-clause-first_bad
 returns-in-Ok-write_all-clause-first_bad g c = λ input n f left short bad calm.
-    absurd (c.in-Ok-read.ensures.first n f (moved (g.S.Source.left c.args.source.now) c.in-Ok.input.items c.deref.result.now input n f left c.in-Ok.ensures.whole c.deref.ensures.value bad))
+    absurd (c.in-Ok-read.ensures.first n f (moved (g.S.Source.remaining c.args.source.now) c.in-Ok.input.items c.deref.result.now input n f left c.in-Ok.ensures.whole c.deref.ensures.value bad))
 
 pub returns-clause-first_bad : goal.returns-clause-first_bad
 returns-clause-first_bad g c = λ input n f left short bad calm.
-    absurd (c.in-Ok-read.ensures.first n f (moved (g.S.Source.left c.args.source.now) c.in-Ok.input.items c.deref.result.now input n f left c.in-Ok.ensures.whole c.deref.ensures.value bad))
+    absurd (c.in-Ok-read.ensures.first n f (moved (g.S.Source.remaining c.args.source.now) c.in-Ok.input.items c.deref.result.now input n f left c.in-Ok.ensures.whole c.deref.ensures.value bad))

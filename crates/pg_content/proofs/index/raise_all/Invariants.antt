@@ -2,6 +2,6 @@ use Rattle.std.proofs.Common.{◌≡◌, drop}
 use Rattle.pg_base.specs.Vector.{joined}
 use Rattle.pg_content.proofs.index.raise_all.Given as goal
 
--- the entries from the place on are taken over
-abbrev pub invariant-loop-place : goal.invariant-loop-place
-invariant-loop-place l = l.known ≡ joined (drop l.place l.vector) l.initial.known
+-- the entries from the index on are taken over
+abbrev pub invariant-loop-index : goal.invariant-loop-index
+invariant-loop-index l = l.known ≡ joined (drop l.index l.vector) l.initial.known

@@ -5,7 +5,7 @@ use Rattle.pg_content.proofs.index.raise_at.Goals as goal
 
 pub returns-in_ok-raise-in-Some : goal.returns-in_ok-raise-in-Some
 returns-in_ok-raise-in-Some c rest was =
-    c.in_ok-raise-in-Some.ensures.ok ∙ ap (λ es. raised es c.in-Some.actor c.in-Some.number) was ∙ sym (joined_from c.args.vector.now rest c.args.place (c.in-Some.actor, c.in-Some.number) (sym c.in-Some.ensures.entry))
+    c.in_ok-raise-in-Some.ensures.ok ∙ ap (λ es. raised es c.in-Some.actor c.in-Some.number) was ∙ sym (joined_from c.args.vector.now rest c.args.index (c.in-Some.actor, c.in-Some.number) (sym c.in-Some.ensures.entry))
 
 pub returns-in-None : goal.returns-in-None
-returns-in-None c rest was = was ∙ sym (joined_past c.args.vector.now rest c.args.place (sym c.in-None.ensures.entry))
+returns-in-None c rest was = was ∙ sym (joined_past c.args.vector.now rest c.args.index (sym c.in-None.ensures.entry))

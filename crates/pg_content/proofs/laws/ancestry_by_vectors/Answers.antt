@@ -1,4 +1,5 @@
-use Rattle.pg_content.proofs.Ancestry.{ancestry, ancestor_other, ancestor_trans, vector_is}
+use Rattle.pg_content.proofs.Ancestry.{ancestry, ancestor_other, ancestor_trans}
+use Rattle.pg_content.proofs.Numbers.{vector_is}
 use Rattle.pg_content.proofs.laws.ancestry_by_vectors.Goals as goal
 
 pub returns-clause-covers : goal.returns-clause-covers

@@ -1,4 +1,6 @@
-use Rattle.pg_content.proofs.Standing.{among_head, head_among, may_be_made, same_content, stands_joined, stands_later, stands_written}
+use Rattle.pg_content.proofs.Standing.{among_head, head_among, same_content}
+use Rattle.pg_content.proofs.StandsWritten.{may_be_made, stands_later, stands_written}
+use Rattle.pg_content.proofs.StandsJoined.{stands_joined}
 use Rattle.pg_content.proofs.HeadsOf.{content_is, content_stands}
 use Rattle.pg_content.proofs.laws.content_is_its_heads.Goals as goal
 

@@ -11,5 +11,5 @@ returns-in-None-clause-lacks c f e = record {
   some = λ q. let n = ap length q in let some = c.requires in omega arith;
   none = λ line rest fits same.
       let none = rw c.in-None.is at c.in_ok-line.ensures.none in
-      none line fits (printed_cut c.args.text.now c.in-Some.front.now c.in-Some.rest.now line rest fits c.in-Some.ensures.first c.in-Some.ensures.whole same);
+      none line fits (printed_cut c.args.text.now c.in-Some.body.now c.in-Some.rest.now line rest fits c.in-Some.ensures.first c.in-Some.ensures.whole same);
 }

@@ -1,17 +1,19 @@
 use Rattle.std.proofs.Common.{sym, ◌∙◌}
 use Rattle.std.proofs.lemmas.Result.{err_from_is_err_and}
-use Rattle.pg_journal.proofs.OneJournal.{refused_there, refused_never, none_other_in, one_journal}
+use Rattle.pg_journal.specs.Journal.{IsFirstOther}
+use Rattle.pg_journal.proofs.OneJournal.{none_other_in, one_journal, one_other}
+use Rattle.pg_sched.proofs.Refusals.{refused_there, refused_never}
 use Rattle.pg_journal.proofs.journal.read_journal.Goals as goal
 
 pub returns-in_err-lines-clause-complete : goal.returns-in_err-lines-clause-complete
 returns-in_err-lines-clause-complete c lines each same =
     let p = err_from_is_err_and c.from_residual.result c.from_residual.ensures.1 in
-    rw (p.1, p.2) (refused_never c.args.text.now c.in_err-lines.field-0.0 c.in_err-lines.ensures.bad lines each same)
+    rw (p.1, p.2) (refused_never (IsFirstOther c.args.text.now) (λ m g. none_other_in c.args.text.now lines m g each same) c.in_err-lines.field-0.0 c.in_err-lines.ensures.bad)
 
 pub returns-in_err-lines-clause-first : goal.returns-in_err-lines-clause-first
 returns-in_err-lines-clause-first c n f other =
     let p = err_from_is_err_and c.from_residual.result c.from_residual.ensures.1 in
-    rw (p.1, p.2) (refused_there c.args.text.now c.in_err-lines.field-0.0 c.in_err-lines.ensures.bad n f other)
+    rw (p.1, p.2) (refused_there (IsFirstOther c.args.text.now) (one_other c.args.text.now) c.in_err-lines.field-0.0 c.in_err-lines.ensures.bad n f other)
 
 pub returns-clause-complete : goal.returns-clause-complete
 returns-clause-complete c lines each same =

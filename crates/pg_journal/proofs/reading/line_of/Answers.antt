@@ -1,5 +1,5 @@
 use Rattle.pg_journal.proofs.Behinds.{no_verb}
-use Rattle.pg_journal.proofs.ListWords.{texts}
+use Rattle.pg_words.proofs.ListWords.{texts}
 use Rattle.pg_journal.proofs.reading.line_of.Goals as goal
 
 pub returns-in_default-read-clause-none : goal.returns-in_default-read-clause-none

@@ -1,5 +1,5 @@
 use Rattle.pg_journal.proofs.Behinds.{tick_told}
-use Rattle.pg_journal.proofs.ListWords.{texts}
+use Rattle.pg_words.proofs.ListWords.{texts}
 use Rattle.pg_journal.proofs.reading.tick_of.Goals as goal
 
 pub returns-in_err-server-clause-none : goal.returns-in_err-server-clause-none

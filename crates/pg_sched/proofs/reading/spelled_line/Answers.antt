@@ -1,21 +1,24 @@
-use Rattle.std.proofs.Common.{◌≡◌, ◌∙◌, sym, ap, map, eqb, List, ℕ, Bor, take, subst}
-use Rattle.std.specs.List.{slice_split}
+use Rattle.std.proofs.Common.{◌≡◌, ◌∙◌, sym, ap, List, ℕ, take, subst}
 use Rattle.std.proofs.lemmas.Result.{IfOk-weaker, IfErr-weaker}
-use Rattle.pg_sched.specs.Cause.{IsWordsCause, words_in}
+use Rattle.pg_event.specs.declared.fault.Fault.{Fault}
+use Rattle.pg_sched.specs.Cause.{IsWordsCause}
 use Rattle.pg_sched.specs.Line.{IsLine, line_words, line_body}
 use Rattle.pg_sched.specs.declared.error.LineError.TheVariants as line
-use Rattle.pg_sched.specs.declared.fault.Fault.{Fault}
 use Rattle.pg_sched.proofs.Words.{text-again, no_more, words_cause}
 use Rattle.pg_sched.proofs.reading.spelled_line.Goals as goal
+use Rattle.pg_words.specs.Words.{words_in}
+use Rattle.pg_words.proofs.ListWords.{texts}
 
 pub returns-clause-found : goal.returns-clause-found
 returns-clause-found c =
-    let cut = sym c.in_ok-words.ensures ∙ ap (map (λ (w : Bor (List ℕ)). w.now)) (sym c.as_slice.ensures.value) in
-    IfOk-weaker c.line_of.result (λ l. IsLine l × (map (λ w. w.now) c.as_slice.result.now ≡ line_words l)) (λ l. IsLine l × (c.args.text.now ≡ line_body l))
-    (λ l h. (h.0, text-again c.args.text.now l (no_more l (slice_split (λ b. eqb b 32) c.args.text.now) h.0 (cut ∙ h.1)))) c.line_of.ensures.found
+    let words = texts (take c.first_words-count.result c.first_words-count.new.room) in
+    let cut : take 7 (words_in c.args.text.now) ≡ words = ap (λ n. take n (words_in c.args.text.now)) (sym c.first_words-count.auto.room) ∙ sym c.first_words-count.ensures.first in
+    IfOk-weaker c.line_of.result (λ l. IsLine l × (words ≡ line_words l)) (λ l. IsLine l × (c.args.text.now ≡ line_body l))
+    (λ l h. (h.0, text-again c.args.text.now l (no_more l (words_in c.args.text.now) h.0 (cut ∙ h.1)))) c.line_of.ensures.found
 
 pub returns-clause-bad : goal.returns-clause-bad
 returns-clause-bad c =
-    let cut : take 7 (words_in c.args.text.now) ≡ map (λ w. w.now) c.as_slice.result.now = sym c.in_ok-words.ensures ∙ ap (map (λ (w : Bor (List ℕ)). w.now)) (sym c.as_slice.ensures.value) in
-    IfErr-weaker c.line_of.result (λ e. (f : Fault) → e ≡ line.Bad f → IsWordsCause (map (λ w. w.now) c.as_slice.result.now) f) (λ e. (f : Fault) → e ≡ line.Bad f → IsWordsCause (words_in c.args.text.now) f)
+    let words = texts (take c.first_words-count.result c.first_words-count.new.room) in
+    let cut : take 7 (words_in c.args.text.now) ≡ words = ap (λ n. take n (words_in c.args.text.now)) (sym c.first_words-count.auto.room) ∙ sym c.first_words-count.ensures.first in
+    IfErr-weaker c.line_of.result (λ e. (f : Fault) → e ≡ line.Bad f → IsWordsCause words f) (λ e. (f : Fault) → e ≡ line.Bad f → IsWordsCause (words_in c.args.text.now) f)
     (λ e h f q. let P : List (List ℕ) → Type 0 = λ ws. IsWordsCause ws f in words_cause (words_in c.args.text.now) f (subst P (sym cut) (h f q))) c.line_of.ensures.bad

@@ -3,9 +3,9 @@ use Rattle.pg_sched.specs.declared.error.LineError.{LineError}
 use Rattle.pg_sched.specs.declared.error.LineError.TheVariants as line
 use Rattle.pg_sched.specs.declared.error.ReadError.{ReadError}
 use Rattle.pg_sched.specs.declared.error.ReadError.TheVariants as read
-use Rattle.pg_sched.specs.declared.fault.Fault.{Fault}
+use Rattle.pg_event.specs.declared.fault.Fault.{Fault}
 use Rattle.pg_sched.proofs.Causes.{cause_lacks}
-use Rattle.pg_sched.proofs.OneReading.{bad_parts}
+use Rattle.pg_sched.proofs.Refusals.{bad_parts}
 use Rattle.pg_sched.proofs.schedule.lines_of.Goals as goal
 
 -- what the error of a line was

@@ -1,7 +1,9 @@
 use Rattle.std.proofs.Common.{◌≡◌, sym, ◌∙◌, ap, ◌++◌}
 use Rattle.std.proofs.lemmas.Result.{err_from_is_err_and}
 use Rattle.pg_sched.specs.Schedule.{spelling, header}
-use Rattle.pg_sched.proofs.OneReading.{header_bad, stops_there, refused_there, refused_never, none_bad_in, one_schedule}
+use Rattle.pg_sched.specs.Schedule.{IsFirstBad}
+use Rattle.pg_sched.proofs.OneReading.{header_bad, stops_there, none_bad_in, one_bad, one_schedule}
+use Rattle.pg_sched.proofs.Refusals.{refused_there, refused_never}
 use Rattle.pg_sched.proofs.schedule.read.Goals as goal
 
 pub returns-in-Err-clause-bad : goal.returns-in-Err-clause-bad
@@ -11,13 +13,13 @@ pub returns-in_err-lines-clause-complete : goal.returns-in_err-lines-clause-comp
 returns-in_err-lines-clause-complete c n lines count each same =
     let p = err_from_is_err_and c.from_residual.result c.from_residual.ensures.1 in
     let h = c.in-Ok.ensures.found in
-    rw (p.1, p.2) (refused_never c.args.text.now c.in_err-lines.field-0.0 (stops_there c.args.text.now c.in-Ok.found.1.now c.in-Ok.found.0 c.in_err-lines.field-0.0 h.0 h.1 c.in_err-lines.ensures.bad) n lines count each same)
+    rw (p.1, p.2) (refused_never (IsFirstBad c.args.text.now) (λ m g. none_bad_in c.args.text.now n lines m g count each same) c.in_err-lines.field-0.0 (stops_there c.args.text.now c.in-Ok.found.1.now c.in-Ok.found.0 c.in_err-lines.field-0.0 h.0 h.1 c.in_err-lines.ensures.bad))
 
 pub returns-in_err-lines-clause-first : goal.returns-in_err-lines-clause-first
 returns-in_err-lines-clause-first c n f bad =
     let p = err_from_is_err_and c.from_residual.result c.from_residual.ensures.1 in
     let h = c.in-Ok.ensures.found in
-    rw (p.1, p.2) (refused_there c.args.text.now c.in_err-lines.field-0.0 (stops_there c.args.text.now c.in-Ok.found.1.now c.in-Ok.found.0 c.in_err-lines.field-0.0 h.0 h.1 c.in_err-lines.ensures.bad) n f bad)
+    rw (p.1, p.2) (refused_there (IsFirstBad c.args.text.now) (one_bad c.args.text.now) c.in_err-lines.field-0.0 (stops_there c.args.text.now c.in-Ok.found.1.now c.in-Ok.found.0 c.in_err-lines.field-0.0 h.0 h.1 c.in_err-lines.ensures.bad) n f bad)
 
 pub returns-clause-complete : goal.returns-clause-complete
 returns-clause-complete c n lines count each same =

@@ -6,19 +6,23 @@ use Rattle.pg_content.specs.Content.{ContentValue, shown_bytes}
 use Rattle.pg_msg.specs.declared.message.Sent.{Sent}
 use Rattle.pg_msg.specs.declared.update.Update.{Update}
 use Rattle.pg_msg.specs.Sent.{summary}
-use Rattle.pg_sched.specs.declared.entry.Entry.{Entry}
-use Rattle.pg_sched.specs.declared.entry.Reply.{Reply}
-use Rattle.pg_sched.specs.declared.entry.Reply.TheVariants.{Done, Wrote, Refused}
-use Rattle.pg_sched.specs.declared.entry.VoidCause.{VoidCause}
-use Rattle.pg_sched.specs.declared.line.Event.{Event}
-use Rattle.pg_sched.specs.declared.line.Event.TheVariants.{Write, Tick, Deliver, Lose, Repeat}
+use Rattle.pg_event.specs.declared.entry.Entry.{Entry}
+use Rattle.pg_call.specs.declared.reply.Reply.{Reply}
+use Rattle.pg_call.specs.declared.reply.Reply.TheVariants.{Done, Wrote, Refused}
+use Rattle.pg_event.specs.declared.entry.VoidCause.{VoidCause}
+use Rattle.pg_event.specs.declared.event.Event.{Event}
+use Rattle.pg_event.specs.declared.event.Event.TheVariants.{Write, Tick, Deliver, Lose, Repeat}
 use Rattle.pg_sched.specs.declared.line.Form.{Form}
 use Rattle.pg_sched.specs.declared.line.Form.TheVariants.{Full, Short}
 use Rattle.pg_sched.specs.declared.line.Line.{Line}
-use Rattle.pg_sched.specs.Line.{IsFile, IsLine}
+use Rattle.pg_words.specs.FileWord.{IsFile}
+use Rattle.pg_sched.specs.Line.{IsLine}
 use Rattle.pg_trace.specs.declared.printed.Printed.{Printed}
 use Rattle.pg_trace.specs.declared.printed.Printed.TheVariants as printed
-use Rattle.pg_trace.specs.Printed.{ArePrinted, IsPrinted, IsSummary, IsTickReply, IsUpdate}
+use Rattle.pg_msg.specs.Text.{IsSummary}
+use Rattle.pg_msg.specs.UpdateText.{IsUpdate}
+use Rattle.pg_trace.specs.Printed.{ArePrinted, IsPrinted}
+use Rattle.pg_call.specs.Reply.{IsTickReply}
 use Rattle.pg_trace.specs.Spelled.{IsTold, IsEntry, IsShown}
 use Rattle.pg_trace.specs.Text.{tick_lines, told_lines, done_lines, outcome_lines, head_lines, show_line}
 use Rattle.pg_trace.proofs.laws.what_is_written_is_spelled.Goals as goal
@@ -50,9 +54,9 @@ told form (Write server moment file what) None h = tt
 told form (Write server moment file what) (Some reply) h = (h, tt)
 told form (Tick server moment word) None h = tt
 told form (Tick server moment word) (Some reply) h = ticked form server reply h.0 h.1
-told form (Deliver place) reply h = tt
-told form (Lose place) reply h = tt
-told form (Repeat place) reply h = tt
+told form (Deliver number) reply h = tt
+told form (Lose number) reply h = tt
+told form (Repeat number) reply h = tt
 
 written : (line : ℕ) (form : Form) (void : Option VoidCause) (entry : Entry) → line < 2 ^ 64 → IsEntry entry → ArePrinted (outcome_lines line form void entry)
 written line form (Some cause) entry fits h = (fits, tt)

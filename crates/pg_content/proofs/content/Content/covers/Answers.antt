@@ -9,16 +9,16 @@ pub returns-then-not-is_empty-clause-test : goal.returns-then-not-is_empty-claus
 returns-then-not-is_empty-clause-test c =
     let heads = c.self.inside.heads.items in
     let some : 0 < length heads = (let e = c.is_empty.ensures in let f = c.if-not-is_empty.true in let k = c.self.inside.heads.ok.0 in grind (arith, nat_tests)) in
-    covers_is c.self.inside.index c.in-Some.index heads c.args.self.now.heads (ap (λ (v : ContentValue). v.heads) c.self.view_is) c.args.actor c.args.number c.get.result c.known.result.now
-    c.self.invariant.index c.in-Some.is some c.get.ensures.number c.known.ensures
+    covers_is c.self.inside.index c.in-Some.index heads c.args.self.now.heads (ap (λ (v : ContentValue). v.heads) c.self.view_is) c.args.actor c.args.number c.get.result c.join.result.now
+    c.self.invariant.index c.in-Some.is some c.get.ensures.number c.join.ensures
 
 pub returns-then-not-is_empty-clause-covers : goal.returns-then-not-is_empty-clause-covers
 returns-then-not-is_empty-clause-covers c =
     let heads = c.self.inside.heads.items in
     let some : 0 < length heads = (let e = c.is_empty.ensures in let f = c.if-not-is_empty.true in let k = c.self.inside.heads.ok.0 in grind (arith, nat_tests)) in
     let P : Bool → Type 0 = λ b. IsTrue b ↔ IsCovered c.args.self.now.heads c.args.actor c.args.number in
-    subst P (sym (covers_is c.self.inside.index c.in-Some.index heads c.args.self.now.heads (ap (λ (v : ContentValue). v.heads) c.self.view_is) c.args.actor c.args.number c.get.result c.known.result.now
-    c.self.invariant.index c.in-Some.is some c.get.ensures.number c.known.ensures)) (covered_is c.args.self.now.heads c.args.actor c.args.number, is_covered_by c.args.self.now.heads c.args.actor c.args.number)
+    subst P (sym (covers_is c.self.inside.index c.in-Some.index heads c.args.self.now.heads (ap (λ (v : ContentValue). v.heads) c.self.view_is) c.args.actor c.args.number c.get.result c.join.result.now
+    c.self.invariant.index c.in-Some.is some c.get.ensures.number c.join.ensures)) (covered_is c.args.self.now.heads c.args.actor c.args.number, is_covered_by c.args.self.now.heads c.args.actor c.args.number)
 
 pub returns-in-None-clause-covers : goal.returns-in-None-clause-covers
 returns-in-None-clause-covers c =

@@ -1,5 +1,5 @@
 use Rattle.std.proofs.Common.{ap, arith, length}
-use Rattle.pg_content.proofs.Heads.{bodies_past}
+use Rattle.pg_content.proofs.Bodies.{bodies_past}
 use Rattle.pg_content.proofs.content.Content.length.Goals as goal
 
 pub returns : goal.returns

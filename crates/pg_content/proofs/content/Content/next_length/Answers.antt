@@ -1,6 +1,6 @@
 use Rattle.std.proofs.Common.{arith}
 use Rattle.pg_content.specs.Content.{shown_bytes}
-use Rattle.pg_content.proofs.Heads.{short_is, long_is}
+use Rattle.pg_content.proofs.Bodies.{short_is, long_is}
 use Rattle.pg_content.proofs.content.Content.next_length.Goals as goal
 
 pub returns-then-length-from-clause-too_long : goal.returns-then-length-from-clause-too_long

@@ -1,7 +1,7 @@
 use Rattle.std.proofs.Common.{drop, ap, ◌∙◌, arith}
 use Rattle.std.proofs.lemmas.List.{take_rest}
 use Rattle.pg_content.specs.Content.{ContentValue, bodies_of, shown_bytes}
-use Rattle.pg_content.proofs.Heads.{shown_last, shown_join}
+use Rattle.pg_content.proofs.Bodies.{shown_last, shown_join}
 use Rattle.pg_content.proofs.content.Content.shown_versions.Goals as goal
 
 pub returns-in-Last : goal.returns-in-Last

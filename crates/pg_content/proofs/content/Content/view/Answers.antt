@@ -1,7 +1,7 @@
 use Rattle.std.proofs.Common.{◌≡◌, ◌++◌, ◌+◌, ◌-◌, ap, sym, ◌∙◌, arith, length, take, drop, min}
 use Rattle.std.proofs.lemmas.List.{take_rest}
 use Rattle.pg_content.specs.Content.{bodies_of}
-use Rattle.pg_content.proofs.Heads.{bodies_at, bodies_past, view_step, taken_all}
+use Rattle.pg_content.proofs.Bodies.{bodies_at, bodies_past, view_step, taken_all}
 use Rattle.pg_content.proofs.content.Content.view.Goals as goal
 
 pub loop-version-preserved : goal.loop-version-preserved

@@ -1,7 +1,7 @@
 use Rattle.std.proofs.Common.{ℕ, ◌≡◌, ◌<◌, ◌+◌, length}
 use Rattle.std.specs.Prelude.{slice_index_or}
 use Rattle.pg_node.specs.declared.node.Node.{Node}
-use Rattle.pg_node.specs.Local.{new_store}
+use Rattle.pg_replica.specs.Store.{new_store}
 use Rattle.pg_world.proofs.machine.Machine.new.Given as goal
 
 abbrev pub invariant-loop-k : goal.invariant-loop-k

@@ -1,9 +1,10 @@
 use Rattle.std.proofs.Common.{ℕ, ◌≡◌, ◌+◌, ◌<◌, length, [], Option, None, Some, slice_get, slice_index_or, sym, ap, subst, ◌∙◌, arith, suc}
-use Rattle.pg_sched.specs.declared.quiet.Owing.{Owing}
+use Rattle.pg_event.specs.declared.quiet.Owing.{Owing}
 use Rattle.pg_node.specs.declared.node.Node.{Node}
-use Rattle.pg_node.specs.Local.{Store, owed}
-use Rattle.pg_world.specs.Quiet.{owed_by}
-use Rattle.pg_world.specs.Run.{World}
+use Rattle.pg_replica.specs.declared.store.Store.{Store}
+use Rattle.pg_node.specs.Local.{owed}
+use Rattle.pg_node.specs.Quiet.{owed_by}
+use Rattle.pg_node.specs.Run.{World}
 use Rattle.pg_world.specs.Stands.{Stands}
 use Rattle.pg_world.specs.declared.machine.Machine.{Machine}
 use Rattle.pg_world.proofs.Standing.{first_owed, none_owed}

@@ -1,6 +1,6 @@
 use Rattle.std.proofs.Common.{◌≡◌, []}
-use Rattle.pg_world.specs.Quiet.{owed_by}
-use Rattle.pg_world.specs.Run.{World}
+use Rattle.pg_node.specs.Quiet.{owed_by}
+use Rattle.pg_node.specs.Run.{World}
 use Rattle.pg_world.specs.Stands.{Stands}
 use Rattle.pg_world.proofs.machine.Machine.owed.Given as goal
 

@@ -1,13 +1,21 @@
-use Rattle.std.proofs.Common.{◌≡◌, false, true, arith, [], length, sym, ◌∙◌}
-use Rattle.pg_world.proofs.Standing.{waits_for, waits_not, none_in}
+use Rattle.std.proofs.Common.{ap, length, sym, ◌∙◌}
+use Rattle.pg_event.specs.declared.quiet.Cause.TheVariants.{Message}
+use Rattle.pg_event.specs.declared.quiet.Quiet.TheVariants.{Waits}
+use Rattle.pg_world.proofs.Standing.{waits_message, waits_for, waits_not, none_there}
 use Rattle.pg_world.proofs.machine.Machine.quiet.Goals as goal
+
+pub returns-in-Some : goal.returns-in-Some
+returns-in-Some c = λ w h.
+    ap (λ x. Waits (Message x)) c.summary.ensures
+    ∙ waits_message (length c.args.self.now.nodes.items) w c.args.self.now.bag c.in-Some.sent.now h.bag c.in-Some.ensures
 
 pub returns-in-Some-owed : goal.returns-in-Some-owed
 returns-in-Some-owed c = λ w h.
-    let none : c.args.self.now.bag.items ≡ [] = none_in c.args.self.now.bag.items (λ lt. let e : false ≡ true = c.in_default.ensures.variant.1 (let same = c.args.self.now.bag.ok.0 in omega arith) in cc) in
-    sym (waits_for (length c.args.self.now.nodes.items) w c.in-Some-owed.owing (sym h.bag ∙ none) (sym (c.in-Some-owed.ensures w h)))
+    let none = none_there c.args.self.now.bag (sym c.in-None.ensures) in
+    sym (waits_for (length c.args.self.now.nodes.items) w c.in-Some-owed.owing (sym h.bag ∙ none)
+    (sym (c.in-Some-owed.ensures w h)))
 
-pub returns-in-None : goal.returns-in-None
-returns-in-None c = λ w h.
-    let none : c.args.self.now.bag.items ≡ [] = none_in c.args.self.now.bag.items (λ lt. let e : false ≡ true = c.in_default.ensures.variant.1 (let same = c.args.self.now.bag.ok.0 in omega arith) in cc) in
-    sym (waits_not (length c.args.self.now.nodes.items) w (sym h.bag ∙ none) (sym (c.in-None.ensures w h)))
+pub returns-in-None-owed : goal.returns-in-None-owed
+returns-in-None-owed c = λ w h.
+    let none = none_there c.args.self.now.bag (sym c.in-None.ensures) in
+    sym (waits_not (length c.args.self.now.nodes.items) w (sym h.bag ∙ none) (sym (c.in-None-owed.ensures w h)))

@@ -2,11 +2,11 @@ use Rattle.std.proofs.Common.{◌≡◌, ◌<◌, ◌≤◌, ◌^◌, ap, sym, s
 use Rattle.std.specs.Option.{option_copied}
 use Rattle.pg_content.specs.Content.{ContentValue, or_empty}
 use Rattle.pg_content.specs.StandsFor.{StandsFor}
-use Rattle.pg_node.specs.Local.{policy_of}
-use Rattle.pg_world.specs.Run.{run}
-use Rattle.pg_world.specs.Journal.{taken, versions}
+use Rattle.pg_replica.specs.Untouched.{policy_of}
+use Rattle.pg_node.specs.Run.{run}
+use Rattle.pg_node.specs.Journal.{taken, versions}
 use Rattle.pg_world.specs.Played.{Played, state, final}
-use Rattle.pg_world.proofs.RunLaws.{holds_what_it_took, state_is_its_heads}
+use Rattle.pg_merge.proofs.RunLaws.{holds_what_it_took, state_is_its_heads}
 use Rattle.pg_world.proofs.world.World.content.Goals as goal
 
 pub returns-clause-state : goal.returns-clause-state

@@ -1,10 +1,10 @@
 use Rattle.std.proofs.Common.{◌≡◌, ◌≤◌, ◌↔◌, subst, sym, ap, ◌∙◌, arith}
-use Rattle.pg_sched.specs.declared.quiet.Quiet.{Quiet}
-use Rattle.pg_sched.specs.declared.quiet.Quiet.TheVariants as told
-use Rattle.pg_world.specs.Quiet.{IsQuiet, quiet_of}
-use Rattle.pg_world.specs.Run.{run}
+use Rattle.pg_event.specs.declared.quiet.Quiet.{Quiet}
+use Rattle.pg_event.specs.declared.quiet.Quiet.TheVariants as told
+use Rattle.pg_node.specs.Quiet.{IsQuiet, quiet_of}
+use Rattle.pg_node.specs.Run.{run}
 use Rattle.pg_world.specs.Played.{Played, final}
-use Rattle.pg_world.proofs.Told.{quiet_is_told}
+use Rattle.pg_agreement.proofs.QuietAnswers.{quiet_is_told}
 use Rattle.pg_world.proofs.QuietAgree.{quiet_servers_agree}
 use Rattle.pg_world.proofs.world.World.is_quiet.Goals as goal
 

@@ -1,5 +1,5 @@
-use Rattle.std.proofs.Common.{[], ◌∷◌, ◌++◌, sym, ap, subst, ◌∙◌}
-use Rattle.pg_world.specs.Run.{World, next, entered, run, run_from, start}
+use Rattle.std.proofs.Common.{sym, ap, subst, ◌∙◌}
+use Rattle.pg_node.specs.Run.{World, next, world_after, run, run_from, start}
 use Rattle.pg_world.specs.Stands.{Stands}
 use Rattle.pg_world.proofs.Standing.{run_from-push}
 use Rattle.pg_world.proofs.world.World.step.Goals as goal
@@ -14,6 +14,6 @@ invariant_of-self-2 c =
       few = c.self.invariant.few;
       count = λ e. c.in_ok-entry.ensures.count ∙ count;
       stands = λ e. subst P
-          (ap (λ k. entered w (next k w c.args.event)) count ∙ sym (run_from-push n (start n) c.self.inside.events c.args.event) ∙ ap (run_from n (start n)) (sym (c.in_ok-push.ensures.ok ∙ ap (λ x. c.self.inside.events ++ x ∷ []) c.in_ok-kept.ensures)))
+          (ap (λ k. world_after w (next k w c.args.event)) count ∙ sym (run_from-push n (start n) c.self.inside.events c.args.event) ∙ ap (run_from n (start n)) (sym c.in_ok-push.ensures))
           (c.in_ok-entry.ensures.state w (c.self.invariant.stands c.if-self.false));
     }

@@ -1,0 +1,124 @@
+-- How a replay went on, one piece behind the other. a, b, c and end: the replay at one moment and at later ones.
+use Rattle.std.proofs.Common.{ℕ, ◌≡◌, ◌<◌, ◌+◌, ◌-◌, ◌++◌, true, false, List, [], ◌∷◌, refl, sym, ap, subst, ◌∙◌, append-nil, append_assoc, arith, suc, zero}
+use Rattle.pg_event.specs.declared.event.Event.{Event}
+use Rattle.pg_event.specs.declared.event.Event.TheVariants.{Deliver, Tick}
+use Rattle.pg_sched.specs.declared.line.Form.{Form}
+use Rattle.pg_event.specs.declared.quiet.Cause.{Cause}
+use Rattle.pg_event.specs.declared.quiet.Quiet.TheVariants.{Quiet, Waits}
+use Rattle.pg_node.specs.Journal.{bag}
+use Rattle.pg_world.specs.Played.{final}
+use Rattle.pg_node.specs.Quiet.{has_some, quiet_of}
+use Rattle.pg_node.specs.Run.{World, run_from}
+use Rattle.pg_world.proofs.Standing.{run_from-append}
+use Rattle.pangaea.specs.declared.journal.Replay.{Replay}
+use Rattle.pangaea.specs.Going.{GoesOn, Reaches}
+use Rattle.pangaea.specs.Settling.{after_event, deliveries, delivered, settling, ticks}
+use Rattle.pangaea.specs.Text.{inner_text}
+use Rattle.pangaea.proofs.Settled.{delivers, inner_text-append, settles, settles_on}
+
+-- nothing happened
+pub Reaches-refl : (a : Replay) → a.world.failed ≡ false → Reaches a a [] []
+Reaches-refl a going = record {
+  world = refl;
+  going = going;
+  servers = refl;
+  number = refl;
+  form = refl;
+  text = sym (append-nil a.out);
+}
+
+-- some events, and then more
+pub then_reaches : (a b c : Replay) (es fs : List Event) (t u : List ℕ)
+    → Reaches a b es t → Reaches b c fs u → Reaches a c (es ++ fs) (t ++ u)
+then_reaches a b c es fs t u x y =
+    let n = a.world.servers in
+    let P : ℕ → Type 0 = (λ s. final c.world ≡ run_from s (final b.world) fs) in
+    record {
+      world = subst P x.servers y.world ∙ ap (λ w. run_from n w fs) x.world ∙ sym (run_from-append n (final a.world) es fs);
+      going = y.going;
+      servers = y.servers ∙ x.servers;
+      number = y.number ∙ x.number;
+      form = y.form ∙ x.form;
+      text = y.text ∙ ap (λ xs. xs ++ u) x.text ∙ append_assoc a.out t u;
+    }
+
+-- what depends on the servers and the world alone, behind some events
+pub there : {A : Type 0} (f : ℕ → World → A) (a b : Replay) (es : List Event) (t : List ℕ) → Reaches a b es t
+    → f b.world.servers (final b.world) ≡ f a.world.servers (run_from a.world.servers (final a.world) es)
+there f a b es t x = ap (λ s. f s (final b.world)) x.servers ∙ ap (f a.world.servers) x.world
+
+text_there : (a b : Replay) (es fs : List Event) (t : List ℕ) → Reaches a b es t
+    → inner_text b.world.servers b.number b.form (final b.world) fs
+    ≡ inner_text a.world.servers a.number a.form (run_from a.world.servers (final a.world) es) fs
+text_there a b es fs t x =
+    let n = a.world.servers in
+    there (λ s w. inner_text s b.number b.form w fs) a b es t x
+    ∙ ap (λ m. inner_text n m b.form (run_from n (final a.world) es) fs) x.number
+    ∙ ap (λ (g : Form). inner_text n a.number g (run_from n (final a.world) es) fs) x.form
+
+-- the same of the events of a settling
+pub goes_then : (a b c : Replay) (es fs : List Event) → GoesOn a b es → GoesOn b c fs → GoesOn a c (es ++ fs)
+goes_then a b c es fs x y =
+    let n = a.world.servers in
+    let w = final a.world in
+    let own = inner_text n a.number a.form w es in
+    let P : List ℕ → Type 0 = (λ t. Reaches a c (es ++ fs) t) in
+    subst P (ap (λ t. own ++ t) (text_there a b es fs own x) ∙ sym (inner_text-append n a.number a.form w es fs))
+    (then_reaches a b c es fs own (inner_text b.world.servers b.number b.form (final b.world) fs) x y)
+
+-- other events, which are the same
+pub goes_same : (a b : Replay) (es fs : List Event) → es ≡ fs → GoesOn a b es → GoesOn a b fs
+goes_same a b es fs e = let P : List Event → Type 0 = (λ xs. GoesOn a b xs) in subst P e
+
+-- a delivery, and those that are left
+pub delivery_goes : (a b end : Replay) (left : ℕ) → 0 < left → has_some (bag (final a.world).journal) ≡ true
+    → GoesOn a b (Deliver 1 ∷ []) → GoesOn b end (deliveries b.world.servers (final b.world) (left - 1))
+    → GoesOn a end (deliveries a.world.servers (final a.world) left)
+delivery_goes a b end left lt some x y =
+    let n = a.world.servers in
+    let w = final a.world in
+    let rest = deliveries n (after_event n w (Deliver 1)) (left - 1) in
+    goes_same a end _ _ (sym (delivers n w left lt some))
+    (goes_then a b end (Deliver 1 ∷ []) rest x
+    (goes_same b end _ rest (there (λ s v. deliveries s v (left - 1)) a b (Deliver 1 ∷ []) _ x) y))
+
+pub add_one : (k : ℕ) → suc k ≡ k + 1
+add_one k = omega arith
+
+-- one tick more
+pub tick_goes : (a b c : Replay) (moment k : ℕ) → GoesOn a b (ticks moment k) → GoesOn b c (Tick (k + 1) moment 0 ∷ [])
+    → GoesOn a c (ticks moment (k + 1))
+tick_goes a b c moment k x =
+    let P : ℕ → Type 0 = (λ j. GoesOn b c (Tick j moment 0 ∷ []) → GoesOn a c (ticks moment j)) in
+    subst P (add_one k) (goes_then a b c (ticks moment k) (Tick (suc k) moment 0 ∷ []) x)
+
+-- a round whose deliveries leave something to wait for, its ticks, and the rounds that are left
+pub round_goes : (a b c end : Replay) (most moment left : ℕ) (cause : Cause) → 0 < left
+    → GoesOn a b (deliveries a.world.servers (final a.world) most)
+    → quiet_of b.world.servers (final b.world) ≡ Waits cause
+    → GoesOn b c (ticks moment b.world.servers)
+    → GoesOn c end (settling c.world.servers most moment (final c.world) (left - 1))
+    → GoesOn a end (settling a.world.servers most moment (final a.world) left)
+round_goes a b c end most moment left cause lt x waits y z =
+    let n = a.world.servers in
+    let w = final a.world in
+    let ds = deliveries n w most in
+    let ts = ticks moment n in
+    let rest = settling n most moment (run_from n (run_from n w ds) ts) (left - 1) in
+    let ticked : GoesOn b c ts = goes_same b c _ ts (ap (ticks moment) x.servers) y in
+    let both : GoesOn a c (ds ++ ts) = goes_then a b c ds ts x ticked in
+    let behind = there (λ s v. settling s most moment v (left - 1)) a c (ds ++ ts) _ both
+    ∙ ap (λ v. settling n most moment v (left - 1)) (run_from-append n w ds ts) in
+    goes_same a end _ _ (sym (settles_on n most moment w left cause lt (sym (there quiet_of a b ds _ x) ∙ waits)))
+    (goes_then a b end ds (ts ++ rest) x
+    (goes_then b c end ts rest ticked (goes_same c end _ rest behind z)))
+
+-- the last round: the run is quiet behind its deliveries
+pub last_goes : (a b : Replay) (most moment left : ℕ) → 0 < left
+    → GoesOn a b (deliveries a.world.servers (final a.world) most)
+    → quiet_of b.world.servers (final b.world) ≡ Quiet
+    → GoesOn a b (settling a.world.servers most moment (final a.world) left)
+last_goes a b most moment left lt x quiet =
+    let n = a.world.servers in
+    let w = final a.world in
+    goes_same a b _ _ (sym (settles n most moment w left lt (sym (there quiet_of a b (deliveries n w most) _ x) ∙ quiet))) x

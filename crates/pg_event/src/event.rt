@@ -1,0 +1,95 @@
+//! What happens in a run.
+
+ghost use Rattle.std.specs.Prelude.{◌≡◌, IfOk};
+
+use pg_base::{FileId, NodeId};
+use pg_call::{Change, ChangeWords};
+use std::alloc::AllocError;
+use std::fmt;
+
+/// What happens in a run.
+#[derive(Debug, Drop)]
+pub enum Event {
+    /// A client changes a file at a server, at a moment of its clock.
+    Write {
+        server: NodeId,
+        moment: u64,
+        file: FileId,
+        change: Change,
+    },
+    /// A server sends again what is not acknowledged. The word is a random one.
+    Tick {
+        server: NodeId,
+        moment: u64,
+        word: u64,
+    },
+    /// The message with this number in the bag arrives. Messages are counted from 1, in order of sending.
+    Deliver(u64),
+    /// It is lost.
+    Lose(u64),
+    /// It is copied to the bag's end.
+    Repeat(u64),
+}
+
+impl Event {
+    /// The same event again.
+    pub fn copy(&self) -> Result<Event, AllocError>
+        ensures { IfOk result (λ e. e ≡ self.now) }
+    {
+        match self {
+            Event::Write {
+                server,
+                moment,
+                file,
+                change,
+            } => Ok(Event::Write {
+                server: *server,
+                moment: *moment,
+                file: *file,
+                change: change.copy()?,
+            }),
+            Event::Tick {
+                server,
+                moment,
+                word,
+            } => Ok(Event::Tick {
+                server: *server,
+                moment: *moment,
+                word: *word,
+            }),
+            Event::Deliver(number) => Ok(Event::Deliver(*number)),
+            Event::Lose(number) => Ok(Event::Lose(*number)),
+            Event::Repeat(number) => Ok(Event::Repeat(*number)),
+        }
+    }
+}
+
+impl fmt::Display for Event {
+    ghost use Rattle.std.specs.Prelude.{Some};
+    ghost use Rattle.pg_event.specs.Event.{event_body};
+
+    ghost output = { λ e. Some (event_body e) };
+
+    fn fmt<W: fmt::Write>(&self, f: &mut fmt::Formatter<W>) -> fmt::Result {
+        match self {
+            Event::Write {
+                server,
+                moment,
+                file,
+                change,
+            } => {
+                let kind = change.kind();
+                let words = ChangeWords(change);
+                write!(f, "{kind} {server} {moment} {file} {words}")
+            }
+            Event::Tick {
+                server,
+                moment,
+                word,
+            } => write!(f, "tick {server} {moment} {word}"),
+            Event::Deliver(number) => write!(f, "deliver {number}"),
+            Event::Lose(number) => write!(f, "lose {number}"),
+            Event::Repeat(number) => write!(f, "repeat {number}"),
+        }
+    }
+}

@@ -1,0 +1,61 @@
+//! How a command ends.
+
+ghost use Rattle.std.specs.Prelude.{◌≡◌};
+ghost use Rattle.pg_event.specs.Status.{number_of};
+
+use crate::fault::Fault;
+use std::fmt;
+
+/// How a command ends.
+#[derive(Clone, Copy, Debug, PartialEq, Eq)]
+pub enum Status {
+    /// All is done.
+    Done,
+    /// The word with this number is wrong or missing. The program's name is word 0.
+    Usage(u64),
+    /// A read failed.
+    ReadFault,
+    /// A write failed.
+    WriteFault,
+    /// The input has more than 2^26 bytes.
+    InputLong,
+    /// The line with this number is the first outside the grammar, for this cause. The first line has number 1.
+    BadLine(u64, Fault),
+    OutOfMemory,
+}
+
+impl Status {
+    /// The number that the process ends with.
+    pub fn number(self) -> u8
+        ensures { result ≡ number_of self }
+    {
+        match self {
+            Status::Done => 0,
+            Status::Usage(_) => 2,
+            Status::ReadFault => 3,
+            Status::WriteFault => 4,
+            Status::InputLong => 8,
+            Status::BadLine(_, _) => 9,
+            Status::OutOfMemory => 13,
+        }
+    }
+}
+
+impl fmt::Display for Status {
+    ghost use Rattle.std.specs.Prelude.{Some};
+    ghost use Rattle.pg_event.specs.Status.{status_text};
+
+    ghost output = { λ s. Some (status_text s) };
+
+    fn fmt<W: fmt::Write>(&self, f: &mut fmt::Formatter<W>) -> fmt::Result {
+        match self {
+            Status::Done => Ok(()),
+            Status::Usage(word) => write!(f, "usage at word {word}"),
+            Status::ReadFault => write!(f, "read fault"),
+            Status::WriteFault => write!(f, "write fault"),
+            Status::InputLong => write!(f, "input too long"),
+            Status::BadLine(line, fault) => write!(f, "line {line}: {fault}"),
+            Status::OutOfMemory => write!(f, "out of memory"),
+        }
+    }
+}

@@ -1,9 +1,0 @@
-use Rattle.std.proofs.Common.{rules, tests, ◌==◌}
-use Rattle.std.proofs.lemmas.Iterator.{YieldsList-from_take}
-use Rattle.std.proofs.lemmas.Iterator.Consumers.{map_from_collect}
-use Rattle.std.proofs.lemmas.Iterator.Splits.{YieldsList-from_slice_split}
-use Rattle.pg_journal.proofs.fields.words_of.Goals as goal
-
-pub returns : goal.returns
-returns c =
-    map_from_collect _ c.collect.ensures.ran (YieldsList-from_take 13 (YieldsList-from_slice_split _ (λ b. b == 32) c.args.line.now (search rules) (search rules) (search rules) (λ x b q h. search (rules, tests))) (search rules))

@@ -1,0 +1,150 @@
+-- A version that a server makes on all heads that it holds: it may be made, and the server stands
+-- for it from then on.
+use Rattle.std.proofs.Common.{ℕ, ◌≡◌, ◌<◌, ◌≤◌, ◌^◌, Bool, true, false, not, List, ◌∷◌, map, refl, sym, ap, subst, ◌∙◌, inl, inr, arith, lit<}
+use Rattle.std.proofs.lemmas.Bool.Decides.{nat_tests}
+use Rattle.std.specs.List.{list_any}
+use Rattle.std.specs.Prelude.{nat_le}
+use Rattle.pg_base.specs.declared.id.FileId.{FileId}
+use Rattle.pg_base.specs.declared.stamp.Stamp.{Stamp}
+use Rattle.pg_base.specs.declared.vector.Actor.{Actor}
+use Rattle.pg_base.specs.Stamp.{clock_end}
+use Rattle.pg_base.specs.Vector.{number_at}
+use Rattle.pg_base.specs.Version.{VersionValue, stamp_of}
+use Rattle.pg_content.specs.Content.{Among, joined_all, one_more, written}
+use Rattle.pg_content.specs.History.{IsAncestor, IsHistory, IsMember, IsNext, Made, maker, vector_of}
+use Rattle.pg_content.specs.StandsFor.{StandsFor}
+use Rattle.pg_content.proofs.Members.{among_map}
+use Rattle.pg_content.proofs.Numbers.{bases_from, made_of as member_made, more_cases, more_same, vector_here}
+use Rattle.pg_content.proofs.Members.{any_found}
+use Rattle.pg_content.proofs.Members.{among_all}
+use Rattle.pg_content.proofs.StandsWritten.{may_be_made, stands_written}
+use Rattle.pg_msg.specs.declared.update.Update.{Update}
+use Rattle.pg_replica.specs.declared.store.Store.{Store}
+use Rattle.pg_replica.specs.Replica.{has_room, own_actor}
+use Rattle.pg_replica.specs.Store.{held_content, replica_of}
+use Rattle.pg_node.specs.Journal.{Mark, made_for, made_of, stamps_for, with_ancestors}
+use Rattle.pg_merge.proofs.Histories.{IsNextUpdate, update_of}
+use Rattle.pg_merge.proofs.Taking.{HoldsFile, file_wrote}
+use Rattle.pg_merge.proofs.States.{IsServer, came_members, number_upto, taken_upto}
+
+-- a server may make this version now: on all heads that it holds, with a time that is later than
+-- its clock's
+pub record IsWrite (s : ℕ) (a : Store) (us : List Update) (u : Update) : Type 0 where
+  pub based : u.bases ≡ map stamp_of (held_content a u.file).heads
+  pub server : u.stamp.server ≡ s
+  pub later : a.last < u.stamp.time
+  pub few : s < 2 ^ 32
+  pub time : a.last < 2 ^ 62
+  pub fresh : (v : Update) → Among v us → v.stamp ≡ u.stamp → ⊥
+
+not_true : (t : Bool) → (t ≡ true → ⊥) → not t ≡ true
+not_true true h = absurd (h refl)
+not_true false h = refl
+
+-- whether a head knows of a number of the actor that is at the clock's end
+abbrev is_full : Actor → VersionValue → Bool
+is_full q v = nat_le clock_end (number_at v.head.vector q)
+
+module _ {s : ℕ} {a : Store} {us : List Update} {marks : List Mark} {drawn : ℕ}
+    (k : IsServer s a us marks drawn) where
+  -- before the end of the clock no number is at its end
+  pub room_in_time : a.last < 2 ^ 62 → (file : FileId)
+      → has_room (replica_of a file) a.server ≡ true
+  room_in_time time file =
+      let q = own_actor (replica_of a file) a.server in
+      not_true (list_any (is_full q) (held_content a file).heads) (λ e.
+      let x = any_found (is_full q) (held_content a file).heads e in
+      let upto = number_upto k file x.0 x.1 q in
+      let full = x.2 in
+      grind (arith, nat_tests))
+
+  module _ (u : Update) (i : IsWrite s a us u) where
+    abbrev h : List Made
+    h = made_for u.file us
+
+    abbrev before : List Stamp
+    before = with_ancestors h (stamps_for u.file marks)
+
+    abbrev m : Made
+    m = made_of u
+
+    held_stands : StandsFor (held_content a u.file) h before
+    held_stands = (k.stands.files u.file).stands
+
+    no_member : IsMember h u.stamp → ⊥
+    no_member is =
+        let x = member_made h u.stamp is in
+        let v = update_of u.file x.0 us x.1 in
+        i.fresh v.0 v.1 (ap (λ (y : Made). y.stamp) (sym v.3) ∙ x.2)
+
+    next_may : IsNext h m
+    next_may =
+        may_be_made m h (held_content a u.file) before held_stands i.based
+        (k.made.histories u.file) no_member
+        (λ e l same. (k.stands.files u.file).own e l (ap (λ (q : Actor). q.server) same ∙ i.server))
+        (let P : ℕ → Type 0 = (λ j. j < 2 ^ 32) in subst P (sym i.server) i.few) (lit< tt)
+        (among_all (λ (v : VersionValue). number_at v.head.vector (maker m) < 2 ^ 63)
+        (held_content a u.file).heads (λ v l. let upto = number_upto k u.file v l (maker m) in
+        let time = i.time in omega arith))
+
+    next_history : IsHistory (m ∷ h)
+    next_history = (next_may, k.made.histories u.file)
+
+    next_order : (t : Stamp) → IsAncestor (m ∷ h) t u.stamp → t.time ≤ u.stamp.time
+    next_order t up = elim ((stands_written m h next_history
+        (held_content a u.file) before held_stands i.based).closed.ancestors u.stamp t
+        (inl refl) up) [
+          | inl itself ↦ (let P : Stamp → Type 0 = (λ x. x.time ≤ u.stamp.time) in
+              subst P (sym itself) (omega arith))
+          | inr earlier ↦ (let upto = taken_upto k u.file t earlier in let later = i.later in
+              omega arith)
+        ]
+
+    -- no number that a base knows is later than the clock
+    base_number : (b : Stamp) (q : Actor) → Among b m.bases → number_at (vector_of h b) q ≤ a.last
+    base_number b q l =
+        let x = among_map stamp_of (held_content a u.file).heads b (subst (Among b) i.based l) in
+        let r = held_stands.heads x.0 x.1 in
+        let upto = k.made.numbers u.file r.made r.member q in
+        let early = taken_upto k u.file r.made.stamp r.head.0 in
+        let P : Stamp → Type 0 = (λ t. number_at (vector_of h t) q ≤ a.last) in
+        subst P (sym (x.2 ∙ ap (λ (v : VersionValue). v.head.stamp) r.version)) (omega arith)
+
+    -- what all bases know
+    abbrev all_known : List (Actor × ℕ)
+    all_known = joined_all (map (vector_of h) m.bases)
+
+    known_number : (q : Actor) → number_at all_known q ≤ a.last
+    known_number q = elim (bases_from h (k.made.histories u.file) m.bases q) [
+      | inl none ↦ omega arith
+      | inr r ↦ (let upto = base_number r.0 q r.1 in let e = r.2 in omega arith)
+    ]
+
+    more_number : (q : Actor) → number_at (one_more all_known (maker m)) q ≤ u.stamp.time
+    more_number q =
+        let upto = known_number q in
+        let later = i.later in
+        elim (more_cases all_known (maker m) q) [
+          | inl own ↦
+              let own_upto = known_number (maker m) in
+              let e = more_same all_known (maker m) in
+              let P : Actor → Type 0 =
+              (λ p. number_at (one_more all_known (maker m)) p ≤ u.stamp.time) in
+              subst P (sym own) (omega arith)
+          | inr stays ↦ omega arith
+        ]
+
+    -- so it is the next of those that were made
+    pub next_update : IsNextUpdate us u
+    next_update = record {
+      next = next_may;
+      order = next_order;
+      numbers = λ q. let e = ap (λ v. number_at v q) (vector_here m h u.stamp refl) in
+          let upto = more_number q in omega arith;
+      fresh = i.fresh;
+    }
+
+    -- and the server holds what comes of it
+    pub next_file : HoldsFile s u.file (written (held_content a u.file) (maker m) u.stamp u.ranges)
+        (m ∷ h) (u.stamp ∷ stamps_for u.file marks)
+    next_file = file_wrote (k.stands.files u.file) (came_members k u.file) m next_history i.based

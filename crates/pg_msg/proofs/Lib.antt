@@ -1,0 +1,5 @@
+pub mod Keys
+pub mod Parts
+pub mod Summaries
+pub mod UpdateWords
+pub mod Updates

@@ -1,6 +1,0 @@
-use Rattle.std.proofs.Common.{◌≡◌, take, map}
-use Rattle.pg_base.specs.Version.{stamp_of}
-use Rattle.pg_node.proofs.writing.stamps_of.Given as goal
-
-abbrev pub invariant-loop-version : goal.invariant-loop-version
-invariant-loop-version l = l.stamps ≡ map stamp_of (take l.version-index l.versions)

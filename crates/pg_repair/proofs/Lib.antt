@@ -1,0 +1,2 @@
+mod Unacknowledged
+pub mod Bridge

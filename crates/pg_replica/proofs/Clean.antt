@@ -1,0 +1,96 @@
+-- Replicas whose peers have acknowledged every key.
+use Rattle.std.proofs.lemmas.Bool.{and_parts}
+use Rattle.std.proofs.Common.{◌≡◌, ◌↔◌, IsTrue, ℕ, zero, suc, ◌<◌, ◌+◌, length, drop, get_or, Bool, true, false, cond, nat_eq, ◌&&◌, ◌==◌, Some, List, [], ◌∷◌, ◌++◌, refl, sym, ap, ◌∙◌, Less, Equal, Greater}
+use Rattle.std.specs.declared.cmp.Ordering.{Ordering}
+use Rattle.std.specs.Ordering.{nat_cmp, match_ordering}
+use Rattle.std.specs.Option.{option_eq}
+use Rattle.std.specs.List.{flat_map}
+use Rattle.std.proofs.lemmas.Bool.{and_parts}
+use Rattle.pg_edges.specs.declared.key.Key.{Key}
+use Rattle.pg_edges.specs.declared.edge.Edge.{Edge}
+use Rattle.pg_edges.specs.Keys.{without}
+use Rattle.pg_edges.specs.Edges.{acked, put_edge, take_off, taken_off, tag_at}
+use Rattle.pg_replica.specs.declared.link.Link.{Link}
+use Rattle.pg_replica.specs.declared.replica.Replica.{Replica}
+use Rattle.pg_replica.specs.Replica.{is_none, are_clean, has_edge, with_ack_along}
+use Rattle.pg_replica.specs.Untouched.{clean_edge, clean_edges}
+use Rattle.pg_replica.proofs.Lists.{pieces_from}
+
+-- ---- replicas that are all clean
+
+is_none-true : (keys : List (Key × ℕ)) → is_none keys ≡ true → keys ≡ []
+is_none-true [] h = refl
+is_none-true (k ∷ keys) h = cc
+
+pub clean_pieces : {A : Type 0} (f : Edge → List A) → ((e : Edge) → e.keys ≡ [] → f e ≡ []) → (es : List Edge) → are_clean es ≡ true → flat_map f es ≡ []
+clean_pieces f none [] h = refl
+clean_pieces f none (e ∷ es) h =
+    let b = and_parts (is_none e.keys) (are_clean es) h in
+    ap (λ l. l ++ flat_map f es) (none e (is_none-true e.keys b.0)) ∙ clean_pieces f none es b.1
+
+none_from : (b : Bool) (keys : List (Key × ℕ)) → IsTrue b ↔ (keys ≡ []) → b ≡ is_none keys
+none_from true [] h = refl
+none_from true (k ∷ keys) h = absurd (let e : k ∷ keys ≡ [] = h.0 refl in cc)
+none_from false [] h = h.1 refl
+none_from false (k ∷ keys) h = refl
+
+-- whether the edges from an index on are all clean, by the one there
+pub clean_at : (es : List Edge) (i : ℕ) (e : Edge) (b : Bool) → i < length es → e ≡ get_or es i e → IsTrue b ↔ (e.keys ≡ []) → are_clean (drop i es) ≡ (b && are_clean (drop (i + 1) es))
+clean_at es i e b lt at h = ap are_clean (pieces_from es i e lt at) ∙ ap (λ t. t && are_clean (drop (i + 1) es)) (sym (none_from b e.keys h))
+
+-- an answer makes no replica unclean
+clean_edge_by : (key : Key) (e : Edge) (t : Bool) → is_none e.keys ≡ true → is_none (cond t (take_off key e) e).keys ≡ true
+clean_edge_by key e true h = ap (λ ks. is_none (without ks key)) (is_none-true e.keys h)
+clean_edge_by key e false h = h
+
+both_are : (a b : Bool) → a ≡ true → b ≡ true → (a && b) ≡ true
+both_are a b h k = ap (λ c. c && b) h ∙ k
+
+clean_taken_off : (peer : ℕ) (key : Key) (es : List Edge) → are_clean es ≡ true → are_clean (taken_off es peer key) ≡ true
+clean_taken_off peer key [] h = refl
+clean_taken_off peer key (e ∷ es) h =
+    let b = and_parts (is_none e.keys) (are_clean es) h in
+    both_are _ _ (clean_edge_by key e (e.peer == peer) b.0) (clean_taken_off peer key es b.1)
+
+clean_by : (es fs : List Edge) (t : Bool) → are_clean fs ≡ true → are_clean es ≡ true → are_clean (cond t fs es) ≡ true
+clean_by es fs true h k = h
+clean_by es fs false h k = k
+
+pub clean_acked : (es : List Edge) (peer birth : ℕ) (key : Key) (tag : ℕ) → are_clean es ≡ true → are_clean (acked es peer birth key tag) ≡ true
+clean_acked es peer birth key tag h = clean_by es (taken_off es peer key) (option_eq nat_eq (tag_at es peer birth key) (Some tag)) (clean_taken_off peer key es h) h
+
+-- ---- a replica that nobody has touched
+
+clean_put_by : (e x : Edge) (es : List Edge) (o : Ordering) → is_none x.keys ≡ true
+    → are_clean (e ∷ es) ≡ true → are_clean (put_edge es x) ≡ true
+    → are_clean (match_ordering o (x ∷ e ∷ es) (x ∷ es) (e ∷ put_edge es x)) ≡ true
+clean_put_by e x es Less h k ih = both_are _ _ h k
+clean_put_by e x es Equal h k ih = both_are _ _ h (and_parts (is_none e.keys) (are_clean es) k).1
+clean_put_by e x es Greater h k ih = both_are _ _ (and_parts (is_none e.keys) (are_clean es) k).0 ih
+
+clean_put : (es : List Edge) (x : Edge) → is_none x.keys ≡ true → are_clean es ≡ true
+    → are_clean (put_edge es x) ≡ true
+clean_put [] x h k = both_are _ _ h k
+clean_put (e ∷ es) x h k =
+    clean_put_by e x es (nat_cmp x.peer e.peer) h k
+    (clean_put es x h (and_parts (is_none e.keys) (are_clean es) k).1)
+
+pub clean_new : (server servers : ℕ) → are_clean (clean_edges server servers) ≡ true
+clean_new server zero = refl
+clean_new server (suc k) =
+    clean_by (put_edge (clean_edges server k) (clean_edge (suc k))) (clean_edges server k)
+    (suc k == server) (clean_new server k)
+    (clean_put (clean_edges server k) (clean_edge (suc k)) refl (clean_new server k))
+
+-- ---- an answer makes no replica unclean
+
+pub clean_along : (x : Replica) (link : Link) (key : Key) (tag : ℕ) → are_clean x.edges ≡ true
+    → are_clean (with_ack_along x link key tag).edges ≡ true
+clean_along x link key tag h =
+    along_by (has_edge x link) (acked x.edges link.peer link.birth key tag)
+    (clean_acked x.edges link.peer link.birth key tag h)
+  where
+    along_by : (t : Bool) (es : List Edge) → are_clean es ≡ true
+        → are_clean (cond t (record { birth = x.birth; content = x.content; edges = es }) x).edges ≡ true
+    along_by true es k = k
+    along_by false es k = h

@@ -1,0 +1,17 @@
+use Rattle.std.proofs.Common.{refl, sym, ap, ◌∙◌}
+use Rattle.pg_base.proofs.Orders.{file_order_is}
+use Rattle.pg_replica.specs.declared.replica.Replica.{Replica}
+use Rattle.pg_replica.specs.Replica.{are_clean}
+use Rattle.pg_replica.proofs.Clean.{clean_along}
+use Rattle.pg_replica.proofs.Relisting.{relists_less, relists_same}
+use Rattle.pg_replica.proofs.listing.acknowledge_listed.Goals as goal
+
+pub returns-then-is_clean-clause-listed : goal.returns-then-is_clean-clause-listed
+returns-then-is_clean-clause-listed c =
+    relists_less _ _ c.args.file _ _ _ file_order_is c.remove.ensures.updates.0 (sym c.is_clean.ensures ∙ c.if-is_clean.true)
+
+pub returns-else-is_clean-clause-listed : goal.returns-else-is_clean-clause-listed
+returns-else-is_clean-clause-listed c =
+    relists_same _ _ c.args.file _ _ refl (λ clean.
+    ap (λ (y : Replica). are_clean y.edges) c.acknowledge.ensures.replica
+    ∙ clean_along c.args.replica.now c.args.link.now c.args.key c.args.tag clean)

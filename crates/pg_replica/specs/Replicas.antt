@@ -1,0 +1,51 @@
+-- The replicas of a server, by file.
+use Rattle.std.specs.Prelude.{ℕ, if◌then◌else◌, List, Option, None, Some}
+use Rattle.std.specs.BTreeMap.{is_at, insert_entry}
+use Rattle.std.specs.Map.{lookup}
+use Rattle.pg_base.specs.declared.id.FileId.{FileId}
+use Rattle.pg_base.specs.Id.{file_cmp}
+use Rattle.pg_base.specs.declared.stamp.Stamp.{Stamp}
+use Rattle.pg_base.specs.Version.{VersionValue}
+use Rattle.pg_patch.specs.Ranges.{RangesValue}
+use Rattle.pg_edges.specs.declared.key.Key.{Key}
+use Rattle.pg_replica.specs.declared.link.Link.{Link}
+use Rattle.pg_replica.specs.declared.replica.Replica.{Replica}
+use Rattle.pg_replica.specs.declared.untouched.Home.{Home}
+use Rattle.pg_replica.specs.Replica.{covers, has_edge, own_actor, with_ack, with_head, with_write}
+use Rattle.pg_replica.specs.Untouched.{new_replica}
+
+abbrev pub ByFile : Type 0
+ByFile = List (FileId × Replica)
+
+-- the replica of a file, if there is one
+abbrev pub replica_in : ByFile → FileId → Option Replica
+replica_in replicas file = lookup (is_at (file_cmp file)) replicas
+
+abbrev pub or_new : Home → FileId → Option Replica → Replica
+or_new home file None = new_replica home.server home.servers file
+or_new home file (Some x) = x
+
+-- the replica of a file: a new one, if there is none
+abbrev pub replica_for : Home → ByFile → FileId → Replica
+replica_for home replicas file = or_new home file (replica_in replicas file)
+
+-- a version comes along an edge to this replica of the file
+abbrev pub replicas_taking : ByFile → FileId → Replica → Link → VersionValue → ℕ → ByFile
+replicas_taking replicas file x link v tags =
+    if has_edge x link then (if covers x v then replicas
+    else insert_entry file_cmp replicas file (with_head x v tags))
+    else replicas
+
+-- a version of this stamp is made of this replica of the file
+abbrev pub replicas_writing : ByFile → FileId → Replica → Stamp → RangesValue → ℕ → ByFile
+replicas_writing replicas file x stamp ranges tags =
+    insert_entry file_cmp replicas file
+    (with_write x (own_actor x stamp.server) stamp ranges tags)
+
+-- an answer comes along an edge to the replica of the file
+abbrev pub replicas_acked : ByFile → FileId → Link → Key → ℕ → Option Replica → ByFile
+replicas_acked replicas file link k tag None = replicas
+replicas_acked replicas file link k tag (Some x) =
+    if has_edge x link
+    then insert_entry file_cmp replicas file (with_ack x link.peer link.birth k tag)
+    else replicas

@@ -1,0 +1,22 @@
+//! What comes to a replica along an edge.
+
+use pg_base::NodeId;
+
+/// An edge by its two ends: which birth of the replica it belongs to, and which birth of the peer's.
+#[derive(Clone, Copy, Debug, PartialEq, Eq)]
+pub struct Link {
+    pub own: u64,
+    pub peer: NodeId,
+    pub birth: u64,
+}
+
+/// What came of a version that came along an edge.
+#[derive(Clone, Copy, Debug, PartialEq, Eq)]
+pub enum Taking {
+    /// There is no such edge: nothing.
+    NoEdge,
+    /// It, or one that was made after it and knew it, had been brought in.
+    Covered,
+    /// It is a head now.
+    News,
+}

@@ -1,0 +1,102 @@
+//! Changes of one replica that keep the list of the files with unacknowledged keys.
+
+ghost use Rattle.std.specs.Prelude.{◌≡◌, ◌≢◌, ◌≤◌, ◌+◌, ◌^◌, IfErr, IfOk, None, OnErr, OnOk, Some, length, map, true};
+ghost use Rattle.pg_base.specs.Version.{stamp_of};
+ghost use Rattle.pg_replica.specs.Replica.{has_room, own_actor, refusal_of, tags_taking, taking, with_ack_along, with_taking, with_write};
+ghost use Rattle.pg_replica.specs.Index.{Relists};
+
+use crate::link::{Link, Taking};
+use crate::replica::Replica;
+use pg_base::{FileId, Items, Stamp, Version};
+use pg_content::WriteError;
+use pg_edges::Key;
+use pg_patch::Ranges;
+use std::alloc::{AllocError, Global};
+use std::collections::BTreeMap;
+
+/// The files with unacknowledged keys.
+pub(crate) type Files = BTreeMap<FileId, ()>;
+
+/// Takes a version that came along an edge. It is a head from then on, if it is not covered. `tags` is the next tag to
+/// give.
+pub(crate) fn take_listed(
+    replica: &mut Replica,
+    listed: &mut Files,
+    file: FileId,
+    link: &Link,
+    version: Version,
+    tags: &mut u64,
+) -> Result<Taking, AllocError>
+    requires { tags.old ≤ 2 ^ 62 }
+    ensures taking { IfOk result (λ t. t ≡ taking replica.old link.now version) }
+    ensures replica { OnOk result
+        (replica.new ≡ with_taking replica.old link.now version tags.old) }
+    ensures tags { OnOk result (tags.new ≡ tags_taking replica.old link.now version tags.old) }
+    ensures listed { Relists listed.old.entries listed.new.entries file replica.old replica.new }
+{
+    if !replica.has_edge(link) {
+        return Ok(Taking::NoEdge);
+    }
+    if replica.covers(&version) {
+        return Ok(Taking::Covered);
+    }
+    // These are fewer than 2^63, so the tags stay in range.
+    let _count = replica.edges.as_slice().len();
+    listed.insert(file, ())?;
+    replica.put_head(version, tags)?;
+    Ok(Taking::News)
+}
+
+/// Makes a version of what the ranges make of what is shown, and answers the stamps of the heads that it is based on. It
+/// is the only head then. `tags` is the next tag to give.
+pub(crate) fn write_listed(
+    replica: &mut Replica,
+    listed: &mut Files,
+    alloc: Global,
+    file: FileId,
+    stamp: Stamp,
+    ranges: &Ranges,
+    tags: &mut u64,
+) -> Result<Items<Stamp>, WriteError>
+    requires tags { tags.old ≤ 2 ^ 62 }
+    requires room { has_room replica.old stamp.server ≡ true }
+    ensures bases { IfOk result (λ ss. ss ≡ map stamp_of replica.old.content.heads) }
+    ensures replica { OnOk result
+        (replica.new ≡ with_write replica.old (own_actor replica.old stamp.server) stamp ranges.now
+        tags.old) }
+    ensures tags { OnOk result (tags.new ≡ tags.old + length replica.old.edges) }
+    ensures allowed { OnOk result (refusal_of replica.old stamp.server ranges.now ≡ None) }
+    ensures refused { IfErr result (λ e. e ≢ WriteError.OutOfMemory
+        → refusal_of replica.old stamp.server ranges.now ≡ Some e) }
+    ensures same { IfErr result (λ e. e ≢ WriteError.OutOfMemory
+        → (replica.new ≡ replica.old) × (tags.new ≡ tags.old)) }
+    ensures listed { Relists listed.old.entries listed.new.entries file replica.old replica.new }
+{
+    let version = replica.next_version(stamp, ranges)?;
+    let bases = replica.bases(alloc)?;
+    // These are fewer than 2^63, so the tags stay in range.
+    let _count = replica.edges.as_slice().len();
+    listed.insert(file, ())?;
+    replica.put_alone(version, tags)?;
+    Ok(bases)
+}
+
+/// An answer that came along an edge takes the key off where the tag is the present one there.
+pub(crate) fn acknowledge_listed(
+    replica: &mut Replica,
+    listed: &mut Files,
+    file: FileId,
+    link: &Link,
+    key: Key,
+    tag: u64,
+)
+    ensures replica { replica.new ≡ with_ack_along replica.old link.now key tag }
+    ensures listed { Relists listed.old.entries listed.new.entries file replica.old replica.new }
+{
+    if !replica.acknowledge(link, key, tag) {
+        return;
+    }
+    if replica.is_clean() {
+        listed.remove(&file);
+    }
+}

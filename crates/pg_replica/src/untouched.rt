@@ -1,0 +1,73 @@
+//! A server's replica of a file that nobody has touched.
+
+ghost use Rattle.std.specs.Prelude.{◌≡◌, ◌==◌, if◌then◌else◌, OnOk, IfOk};
+ghost use Rattle.pg_edges.specs.Edges.{put_edge};
+ghost use Rattle.pg_replica.specs.Untouched.{clean_edge, clean_edges, new_replica, policy_of};
+
+use crate::replica::Replica;
+use pg_base::{FileId, NodeId, Policy};
+use pg_content::Content;
+use pg_edges::{Edge, Edges, Keys};
+use std::alloc::{AllocError, Global};
+
+/// A server of a run with so many servers.
+#[derive(Clone, Copy, Debug, PartialEq, Eq)]
+pub struct Home {
+    pub server: NodeId,
+    pub servers: u32,
+}
+
+/// A file of an even number shows the bodies of all heads, any other that of the last.
+fn policy_of(file: &FileId) -> Policy
+    ensures { result ≡ policy_of file.now }
+{
+    if file.number % 2 == 0 {
+        Policy::Join
+    } else {
+        Policy::Last
+    }
+}
+
+/// A clean edge to a peer, if it is another server.
+fn add_clean(
+    alloc: Global,
+    server: NodeId,
+    peer: NodeId,
+    edges: &mut Edges,
+) -> Result<(), AllocError>
+    ensures { OnOk result
+        (edges.new
+        ≡ (if peer == server then edges.old else put_edge edges.old (clean_edge peer))) }
+{
+    if peer == server {
+        return Ok(());
+    }
+    edges.put(Edge {
+        peer,
+        birth: 1,
+        keys: Keys::new(alloc),
+    })?;
+    Ok(())
+}
+
+/// A clean edge to each of the first servers but the server itself.
+fn clean_edges(alloc: Global, server: NodeId, servers: u32) -> Result<Edges, AllocError>
+    ensures { IfOk result (λ es. es ≡ clean_edges server servers) }
+{
+    let mut edges = Edges::new(alloc);
+    for k in 0..servers {
+        add_clean(alloc, server, k + 1, &mut edges)?;
+    }
+    Ok(edges)
+}
+
+/// A server's replica of a file that nobody has touched.
+pub(crate) fn new_replica(alloc: Global, home: Home, file: &FileId) -> Result<Replica, AllocError>
+    ensures { IfOk result (λ x. x ≡ new_replica home.server home.servers file.now) }
+{
+    Ok(Replica {
+        birth: 1,
+        content: Content::new(alloc, policy_of(file)),
+        edges: clean_edges(alloc, home.server, home.servers)?,
+    })
+}

@@ -1,0 +1,134 @@
+//! What a server holds.
+
+use pg_base::{Actor, FileId, Head, Kind, SharedBytes, Stamp, Vector, Version};
+use pg_edges::Key;
+use pg_patch::make;
+use pg_replica::{Link, Store, Taking};
+use std::alloc::{AllocError, Global};
+use std::test::Fail;
+
+const TIME: u64 = 5;
+
+const FILE: FileId = FileId {
+    kind: Kind::File,
+    server: 1,
+    number: 1,
+};
+
+/// The edge to the first replica of a server, from the first one here.
+fn link(peer: u32) -> Link {
+    Link {
+        own: 1,
+        peer,
+        birth: 1,
+    }
+}
+
+/// The first version of a server's replica, which knows that of another.
+fn version(alloc: Global, server: u32, known: Option<u32>) -> Result<Version, AllocError> {
+    let mut vector = Vector::new(alloc);
+    vector.raise(Actor { server, birth: 1 }, 1)?;
+    if let Some(other) = known {
+        let actor = Actor {
+            server: other,
+            birth: 1,
+        };
+        vector.raise(actor, 1)?;
+    }
+    let head = Head {
+        stamp: Stamp { time: TIME, server },
+        birth: 1,
+        number: 1,
+        vector,
+        length: 0,
+    };
+    Version::new(alloc, head, SharedBytes::from_slice(alloc, b"")?)
+}
+
+/// What comes of a version that came along an edge.
+fn take(store: &mut Store, link: &Link, version: Version) -> Result<Taking, Fail> {
+    if !store.has_time() {
+        return Err("no time".into());
+    }
+    Ok(store.take_version(FILE, link, version)?)
+}
+
+fn key(time: u64, server: u32) -> Key {
+    Key::Version(Stamp { time, server })
+}
+
+/// The tag of a key on the edge to a server.
+fn tag(store: &Store, peer: u32, key: Key) -> Option<u64> {
+    store.replicas.get(&FILE)?.edges.tag(peer, 1, key)
+}
+
+// Along which edge a version comes, whose it is, and what comes of it.
+#[test]
+fn versions_come_along_edges(rt: HostRuntime) -> Result<(), Fail> {
+    let mut store = Store::new(rt.alloc(), 1, 3);
+    let wrong = Link { own: 2, ..link(2) };
+    let old = Link {
+        birth: 2,
+        ..link(2)
+    };
+    let rows = [
+        (link(4), 2, Taking::NoEdge),
+        (wrong, 2, Taking::NoEdge),
+        (old, 2, Taking::NoEdge),
+        (link(2), 3, Taking::News),
+        (link(3), 2, Taking::News),
+        (link(3), 3, Taking::Covered),
+        (wrong, 3, Taking::NoEdge),
+    ];
+    for (link, server, taking) in &rows {
+        let version = version(rt.alloc(), *server, None)?;
+        assert_eq!(rt; take(&mut store, link, version)?, *taking);
+    }
+    assert_eq!(rt; store.tags, 5);
+    assert_eq!(rt; store.last, TIME);
+    let replica = store.replicas.get(&FILE).ok_or("no replica")?.copy()?;
+    let keys = replica.keys(rt.alloc())?;
+    assert!(rt; keys.as_slice() == [key(TIME, 2), key(TIME, 3)].as_slice());
+    Ok(())
+}
+
+// A version that knows one of two heads takes its place, and leaves the other.
+#[test]
+fn one_of_two_goes(rt: HostRuntime) -> Result<(), Fail> {
+    let mut store = Store::new(rt.alloc(), 1, 4);
+    for (server, known) in [(2, None), (3, None), (4, Some(2))] {
+        let version = version(rt.alloc(), server, known)?;
+        assert_eq!(rt; take(&mut store, &link(2), version)?, Taking::News);
+    }
+    assert_eq!(rt; tag(&store, 2, key(TIME, 2)), None);
+    assert_eq!(rt; tag(&store, 2, key(TIME, 3)), Some(4));
+    assert_eq!(rt; tag(&store, 2, key(TIME, 4)), Some(7));
+    Ok(())
+}
+
+// A write takes the place of all heads. Each peer answers, and only the present tag takes the key off.
+#[test]
+fn a_write_is_acknowledged(rt: HostRuntime) -> Result<(), Fail> {
+    let mut store = Store::new(rt.alloc(), 1, 3);
+    for server in [2, 3] {
+        let version = version(rt.alloc(), server, None)?;
+        take(&mut store, &link(2), version)?;
+    }
+    let ranges = make(rt.alloc(), 0, b"new").ok().ok_or("ranges")?;
+    if !store.has_time() || !store.has_room(&FILE) {
+        return Err("no time".into());
+    }
+    let stamp = store.next_stamp(TIME + 1);
+    let bases = store.write(FILE, stamp, &ranges).ok().ok_or("write")?;
+    assert_eq!(rt; bases.len(), 2);
+    assert_eq!(rt; store.content(&FILE).ok_or("no content")?.length(), 3);
+    let mine = Key::Version(stamp);
+    store.acknowledge(FILE, &link(2), mine, 6);
+    assert_eq!(rt; tag(&store, 2, mine), Some(5));
+    store.acknowledge(FILE, &link(2), mine, 5);
+    assert_eq!(rt; tag(&store, 2, mine), None);
+    assert_eq!(rt; store.replicas.unacknowledged().len(), 1);
+    store.acknowledge(FILE, &link(3), mine, 6);
+    assert_eq!(rt; store.replicas.unacknowledged().len(), 0);
+    Ok(())
+}

@@ -1,0 +1,10 @@
+pub mod FirstWords
+pub mod HexWords
+pub mod Joined
+pub mod Lacking
+pub mod ListWords
+pub mod Readings
+pub mod Splitting
+pub mod Stamps
+pub mod WordBytes
+pub mod WordIndexes

@@ -1,0 +1,10 @@
+-- Ids that name files.
+use Rattle.std.specs.Prelude.{◌≡◌}
+use Rattle.pg_base.specs.declared.id.Kind.TheVariants.{File}
+use Rattle.pg_base.specs.declared.id.FileId.{FileId}
+use Rattle.pg_base.specs.Id as id
+
+-- the id of a file, no directory
+pub record IsFile (file : FileId) : Type 0 where
+  pub kind : file.kind ≡ File
+  pub fits : id.Fits file
