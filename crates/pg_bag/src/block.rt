@@ -59,6 +59,9 @@ impl<T: Drop> Block<T> {
         ensures item { result ≡ slice_get self.old index }
         ensures rest { index < length self.old → self.new ≡ remove self.old index }
     {
+        if index == 0 {
+            return self.items.pop_front();
+        }
         self.items.remove(index)
     }
 }

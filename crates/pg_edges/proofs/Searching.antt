@@ -86,6 +86,10 @@ pub ordered-nil : (keys : List (Key × ℕ)) → keys ≡ [] → AreOrdered keys
 unfolding IsStrictlySortedBy
 ordered-nil keys e = subst AreOrdered (sym e) tt
 
+pub ordered-one : (key : Key) (n : ℕ) → AreOrdered ((key, n) ∷ [])
+unfolding IsStrictlySortedBy
+ordered-one key n = (tt, tt)
+
 -- and it stays at each edit. `items` are those that the field has, and `keys` the value
 same_at : (items keys : List (Key × ℕ)) (key : Key) (i : ℕ) → items ≡ keys → IsAt keys key i → IsAt items key i
 same_at items keys key i v at = subst (λ (ks : List (Key × ℕ)). IsAt ks key i) (sym v) at

@@ -8,7 +8,8 @@ use Rattle.pg_base.specs.Id.{file_cmp}
 use Rattle.pg_base.proofs.Orders.{file_total}
 use Rattle.pg_edges.specs.declared.key.Key.{Key}
 use Rattle.pg_replica.specs.declared.replica.Replica.{Replica}
-use Rattle.pg_replica.specs.Replica.{are_clean, cell_at}
+use Rattle.pg_edges.specs.Edges.{are_clean}
+use Rattle.pg_replica.specs.Replica.{cell_at}
 use Rattle.pg_replica.specs.Replicas.{ByFile, replica_in}
 use Rattle.pg_replica.specs.Index.{Files, IsIndex}
 use Rattle.pg_replica.proofs.Clean.{clean_pieces}

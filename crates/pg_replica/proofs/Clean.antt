@@ -12,7 +12,8 @@ use Rattle.pg_edges.specs.Keys.{without}
 use Rattle.pg_edges.specs.Edges.{acked, put_edge, take_off, taken_off, tag_at}
 use Rattle.pg_replica.specs.declared.link.Link.{Link}
 use Rattle.pg_replica.specs.declared.replica.Replica.{Replica}
-use Rattle.pg_replica.specs.Replica.{is_none, are_clean, has_edge, with_ack_along}
+use Rattle.pg_edges.specs.Edges.{is_none, are_clean}
+use Rattle.pg_replica.specs.Replica.{has_edge, with_ack_along}
 use Rattle.pg_replica.specs.Untouched.{clean_edge, clean_edges}
 use Rattle.pg_replica.proofs.Lists.{pieces_from}
 

@@ -10,3 +10,4 @@ pub mod Merging
 mod Relisting
 mod Takings
 mod Refusals
+mod InOrder

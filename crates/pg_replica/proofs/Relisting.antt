@@ -10,7 +10,7 @@ use Rattle.pg_base.proofs.Maps.{lookup-insert_entry}
 use Rattle.pg_base.proofs.Entries.{IsStrictlySortedBy-insert_entry, insert_there}
 use Rattle.pg_base.proofs.Orders.{file_total, is_same_file-refl, is_same_file-true}
 use Rattle.pg_replica.specs.declared.replica.Replica.{Replica}
-use Rattle.pg_replica.specs.Replica.{are_clean}
+use Rattle.pg_edges.specs.Edges.{are_clean}
 use Rattle.pg_replica.specs.Replicas.{ByFile, replica_in}
 use Rattle.pg_replica.specs.Index.{Files, IsIndex, ListsUnacknowledged, Relists}
 

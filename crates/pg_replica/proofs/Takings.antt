@@ -3,7 +3,7 @@ use Rattle.std.proofs.Common.{ℕ, ◌≡◌, Bool, true, false, cond, Option, N
 use Rattle.std.specs.declared.cmp.Ordering.{Ordering}
 use Rattle.std.specs.List.Sorted.{IsStrictlySortedBy}
 use Rattle.std.specs.Map.{lookup, set_value, keys_of}
-use Rattle.std.specs.BTreeMap.{BTreeMap, is_at, insert_entry}
+use Rattle.std.specs.BTreeMap.{is_at, insert_entry}
 use Rattle.std.proofs.lemmas.Map.Steps.{set_value_same}
 use Rattle.pg_base.specs.declared.id.FileId.{FileId}
 use Rattle.pg_base.specs.declared.stamp.Stamp.{Stamp}
@@ -120,6 +120,11 @@ acked_there R o es ds file x w link k tag sorted there set is =
     acked_by es ds file x w (with_ack x link.peer link.birth k tag) (has_edge x link) sorted (subst Q o there) (subst P o set) is
     ∙ sym (ap (replicas_acked es file link k tag) (subst Q o there))
 
+-- to a file that has none
+pub acked_nowhere : (es ds : ByFile) (file : FileId) (link : Link) (k : Key) (tag : ℕ)
+    → ◌≡◌ {A = Option Replica} (replica_in es file) None → ds ≡ es → ds ≡ replicas_acked es file link k tag (replica_in es file)
+acked_nowhere es ds file link k tag none same = same ∙ sym (ap (replicas_acked es file link k tag) none)
+
 -- ---- a version that is made
 
 -- of a replica that was there
@@ -150,7 +155,3 @@ same_there R o es ds file x w there set is =
 pub err_more : {T E : Type 0} (r : Result T E) (N : E → Type 0) (A B : Type 0) → IfErr r (λ e. N e → A) → (A → B) → IfErr r (λ e. N e → B)
 err_more (Ok x) N A B h f = tt
 err_more (Err e) N A B h f = λ n. f (h n)
-
--- an entry that came to a map that is another one
-pub put_new : {K X : Type 0} (m n o : BTreeMap K X) (R : K → K → Ordering) (k : K) (v : X) → n ≡ m → o.entries ≡ insert_entry R n.entries k v → o.entries ≡ insert_entry R m.entries k v
-put_new {K} {X} m n o R k v same put = put ∙ ap (λ (x : BTreeMap K X). insert_entry R x.entries k v) same

@@ -7,7 +7,7 @@ use Rattle.std.specs.Map.{keys_of, lookup}
 use Rattle.pg_base.specs.declared.id.FileId.{FileId}
 use Rattle.pg_base.specs.Id.{file_cmp}
 use Rattle.pg_replica.specs.declared.replica.Replica.{Replica}
-use Rattle.pg_replica.specs.Replica.{are_clean}
+use Rattle.pg_edges.specs.Edges.{are_clean}
 use Rattle.pg_replica.specs.Replicas.{ByFile, replica_in}
 
 -- files that are listed

@@ -2,6 +2,7 @@ pub mod Replica
 pub mod Laws
 pub mod Untouched
 pub mod Replicas
+pub mod InOrder
 pub mod Index
 pub mod IndexInside
 pub mod Store

@@ -1,6 +1,6 @@
 -- A replica with its heads and edges: which keys and cells it has, and what a version, a write and
 -- an answer make of it.
-use Rattle.std.specs.Prelude.{ℕ, ◌+◌, ◌==◌, ◌&&◌, Bool, true, false, if◌then◌else◌, List, [], ◌∷◌, filter, length, map, nat_le, nat_lt, not, Option, None, Some}
+use Rattle.std.specs.Prelude.{ℕ, ◌+◌, ◌==◌, ◌&&◌, Bool, if◌then◌else◌, List, [], ◌∷◌, filter, length, map, nat_le, nat_lt, not, Option, None, Some}
 use Rattle.std.specs.List.{list_any}
 use Rattle.pg_base.specs.declared.stamp.Stamp.{Stamp}
 use Rattle.pg_base.specs.declared.vector.Actor.{Actor}
@@ -118,15 +118,6 @@ refusal_of x server ranges =
 -- there is an edge between these births of the replica and of the peer's
 abbrev pub has_edge : Replica → Link → Bool
 has_edge x link = link.own == x.birth && is_listed x.edges link.peer link.birth
-
-abbrev pub is_none : List (Key × ℕ) → Bool
-is_none [] = true
-is_none (k ∷ keys) = false
-
--- no edge has a key
-abbrev pub are_clean : List Edge → Bool
-are_clean [] = true
-are_clean (e ∷ es) = is_none e.keys && are_clean es
 
 -- ---- an answer
 

@@ -5,7 +5,8 @@ ghost use Rattle.pg_base.specs.Vector.{number_at};
 ghost use Rattle.pg_base.specs.Version.{stamp_of};
 ghost use Rattle.pg_patch.specs.Ranges.{applied};
 ghost use Rattle.pg_content.specs.Content.{actor_limit, body_limit, next_vector, next_version, shown_bytes};
-ghost use Rattle.pg_replica.specs.Replica.{are_clean, cell_at, covers, has_edge, has_room, is_too_long, keys, own_actor, refusal_of, with_ack_along, with_head, with_only};
+ghost use Rattle.pg_edges.specs.Edges.{are_clean};
+ghost use Rattle.pg_replica.specs.Replica.{cell_at, covers, has_edge, has_room, is_too_long, keys, own_actor, refusal_of, with_ack_along, with_head, with_only};
 
 use crate::link::Link;
 use crate::retiring::{key_of, retire_all, retire_replaced};
@@ -67,12 +68,7 @@ impl Replica {
     pub fn is_clean(&self) -> bool
         ensures { result ≡ are_clean self.now.edges }
     {
-        for edge in self.edges.as_slice() {
-            if !edge.keys.is_empty() {
-                return false;
-            }
-        }
-        true
+        self.edges.are_clean()
     }
 
     /// Whether all numbers of the server at this replica that the heads know are below `Stamp::LATEST`. Then there is
@@ -146,14 +142,7 @@ impl Replica {
         ensures replica { self.new ≡ with_ack_along self.old link.now key tag }
         ensures same { result ≡ false → self.new ≡ self.old }
     {
-        if link.own != self.birth {
-            return false;
-        }
-        if self.edges.tag(link.peer, link.birth, key) != Some(tag) {
-            return false;
-        }
-        self.edges.ack(link.peer, link.birth, key, tag);
-        true
+        link.own == self.birth && self.edges.ack(link.peer, link.birth, key, tag)
     }
 
     /// The same replica again. The bodies are shared.

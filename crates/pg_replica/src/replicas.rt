@@ -18,14 +18,14 @@ use pg_content::WriteError;
 use pg_edges::Key;
 use pg_patch::Ranges;
 use std::alloc::{AllocError, Global};
-use std::collections::BTreeMap;
+use std::collections::{BTreeMap, HashMap};
 use std::marker::Model;
 
 /// Replicas by file. `unacknowledged` has every file with an unacknowledged key, and no other but where memory ran out.
 #[derive(Debug, Drop)]
 pub struct Replicas {
     alloc: Global,
-    by_file: BTreeMap<FileId, Replica>,
+    by_file: HashMap<FileId, Replica>,
     unacknowledged: BTreeMap<FileId, ()>,
 }
 
@@ -34,7 +34,9 @@ impl Model for Replicas {
 
     ghost Value = { ByFile };
 
-    ghost view = { λ r. r.by_file.entries };
+    ghost use Rattle.pg_replica.specs.InOrder.{in_order};
+
+    ghost view = { λ r. in_order r.by_file.entries };
 
     ghost use Rattle.pg_replica.specs.IndexInside.{IsIndexed};
 
@@ -48,7 +50,7 @@ impl Replicas {
     {
         Replicas {
             alloc,
-            by_file: BTreeMap::new(alloc),
+            by_file: HashMap::new(alloc),
             unacknowledged: BTreeMap::new(alloc),
         }
     }

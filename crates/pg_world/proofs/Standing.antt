@@ -1,6 +1,8 @@
 -- The program's servers and messages, after an event, are the world's; and what they owe.
-use Rattle.std.proofs.Common.{ℕ, ◌≡◌, ◌≤◌, ◌++◌, Bool, true, cond, Option, None, Some, List, [], ◌∷◌, refl, sym, ap, subst, ◌∙◌, zero, suc, slice_get, arith, inl, inr, map}
+use Rattle.std.proofs.Common.{ℕ, ◌≡◌, ◌≤◌, ◌<◌, ◌+◌, ◌⊎◌, length, get_or, Result, Ok, Err, OnOk, ◌++◌, Bool, true, cond, Option, None, Some, List, [], ◌∷◌, refl, sym, ap, subst, ◌∙◌, zero, suc, slice_get, arith, inl, inr, map}
 use Rattle.std.proofs.lemmas.Bool.{cases_lt}
+use Rattle.std.proofs.lemmas.List.{get_or_append_left, get_or_push}
+use Rattle.pg_replica.specs.Store.{new_store}
 use Rattle.pg_msg.specs.declared.message.Sent.{Sent}
 use Rattle.pg_msg.specs.Sent.{summary}
 use Rattle.pg_event.specs.declared.event.Event.{Event}
@@ -118,3 +120,23 @@ waits_for n w o none h = no_message n w none ∙ first_of_owed (owed_by w.stores
 -- or nothing is
 pub waits_not : (n : ℕ) (w : World) → bag w.journal ≡ [] → slice_get (owed_by w.stores n) 0 ≡ None → quiet_of n w ≡ Quiet
 waits_not n w none h = no_message n w none ∙ first_of_none (owed_by w.stores n) h
+
+-- ---- the servers at the start
+
+-- one server more that has taken nothing
+pub node_more : (ns ms : List Node) (servers k : ℕ) (x : Node) → length ns ≡ k → ms ≡ ns ++ x ∷ []
+    → ((i : ℕ) (d : Node) → i < k → (get_or ns i d).store ≡ new_store servers (i + 1)) → x.store ≡ new_store servers (k + 1)
+    → (i : ℕ) (d : Node) → i < k + 1 → (get_or ms i d).store ≡ new_store servers (i + 1)
+node_more ns ms servers k x count is each last i d lt =
+    ap (λ (l : List Node). (get_or l i d).store) is ∙ at (cases_lt i k)
+  where
+    at : (i < k) ⊎ (k ≤ i) → (get_or (ns ++ x ∷ []) i d).store ≡ new_store servers (i + 1)
+    at (inl h) = ap (λ (n : Node). n.store) (get_or_append_left ns (x ∷ []) d i (omega arith)) ∙ each i d h
+    at (inr h) =
+        let same : k ≡ i = omega arith in
+        ap (λ (n : Node). n.store) (get_or_push ns x d i (omega arith)) ∙ last ∙ ap (λ j. new_store servers (j + 1)) same
+
+-- what two clauses of one call say where it succeeded
+pub both_ok : {T E : Type 0} (r : Result T E) (A B C : Type 0) → OnOk r A → OnOk r B → (A → B → C) → OnOk r C
+both_ok (Ok x) A B C a b f = f a b
+both_ok (Err e) A B C a b f = tt

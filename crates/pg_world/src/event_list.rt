@@ -1,6 +1,6 @@
 //! The events of a run, in little memory.
 
-ghost use Rattle.std.specs.Prelude.{[], ◌≡◌, ◌++◌, ◌∷◌, OnOk, IfOk, IfSome};
+ghost use Rattle.std.specs.Prelude.{[], ◌≡◌, ◌++◌, ◌∷◌, OnOk, IfOk, true, false};
 ghost use Rattle.pg_world.specs.EventList.{events_of};
 
 use pg_bag::Bag;
@@ -48,41 +48,44 @@ impl Item {
         }
     }
 
-    /// With this event behind its own, where it is one more of them.
-    fn with(&self, event: &Event) -> Option<Item>
-        ensures { IfSome result (λ item. events_of item ≡ events_of self.now ++ event.now ∷ []) }
+    /// Takes this event behind its own, where it is one more of them, and says whether it did.
+    fn extend(&mut self, event: &Event) -> bool
+        ensures more { result ≡ true → events_of self.new ≡ events_of self.old ++ event.now ∷ [] }
+        ensures same { result ≡ false → self.new ≡ self.old }
     {
         match self {
-            Item::Deliveries { count, number } => more_deliveries(*count, *number, event),
+            Item::Deliveries { count, number } => more_deliveries(count, *number, event),
             Item::Ticks {
                 count,
                 first,
                 moment,
-            } => more_ticks(*count, *first, *moment, event),
-            _ => None,
+            } => more_ticks(count, *first, *moment, event),
+            _ => false,
         }
     }
 }
 
 /// One delivery more.
-fn more_deliveries(count: u32, number: u64, event: &Event) -> Option<Item>
-    ensures { IfSome result
-        (λ item. events_of item ≡ events_of (Item.Deliveries count number) ++ event.now ∷ []) }
+fn more_deliveries(count: &mut u32, number: u64, event: &Event) -> bool
+    ensures more { result ≡ true → events_of (Item.Deliveries count.new number)
+        ≡ events_of (Item.Deliveries count.old number) ++ event.now ∷ [] }
+    ensures same { result ≡ false → count.new ≡ count.old }
 {
     let Event::Deliver(next) = event else {
-        return None;
+        return false;
     };
-    if *next != number {
-        return None;
+    if *next != number || *count == u32::MAX {
+        return false;
     }
-    let count = count.checked_add(1)?;
-    Some(Item::Deliveries { count, number })
+    *count += 1;
+    true
 }
 
 /// One tick more.
-fn more_ticks(count: u8, first: u32, moment: u64, event: &Event) -> Option<Item>
-    ensures { IfSome result
-        (λ item. events_of item ≡ events_of (Item.Ticks count first moment) ++ event.now ∷ []) }
+fn more_ticks(count: &mut u8, first: u32, moment: u64, event: &Event) -> bool
+    ensures more { result ≡ true → events_of (Item.Ticks count.new first moment)
+        ≡ events_of (Item.Ticks count.old first moment) ++ event.now ∷ [] }
+    ensures same { result ≡ false → count.new ≡ count.old }
 {
     let Event::Tick {
         server,
@@ -90,18 +93,14 @@ fn more_ticks(count: u8, first: u32, moment: u64, event: &Event) -> Option<Item>
         word,
     } = event
     else {
-        return None;
+        return false;
     };
-    let next = u64::from(first) + u64::from(count);
-    if *at != moment || *word != 0 || u64::from(*server) != next {
-        return None;
+    let next = u64::from(first) + u64::from(*count);
+    if *at != moment || *word != 0 || u64::from(*server) != next || *count == u8::MAX {
+        return false;
     }
-    let count = count.checked_add(1)?;
-    Some(Item::Ticks {
-        count,
-        first,
-        moment,
-    })
+    *count += 1;
+    true
 }
 
 /// Events, the first of them first.
@@ -139,12 +138,9 @@ impl EventList {
     pub fn push(&mut self, event: &Event) -> Result<(), AllocError>
         ensures { OnOk result (self.new ≡ self.old ++ event.now ∷ []) }
     {
-        let more = match &self.last {
-            Some(last) => last.with(event),
-            None => None,
-        };
-        if let Some(last) = more {
-            self.last = Some(last);
+        if let Some(last) = &mut self.last
+            && last.extend(event)
+        {
             return Ok(());
         }
         let item = Item::new(self.alloc, event)?;

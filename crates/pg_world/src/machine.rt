@@ -66,6 +66,7 @@ impl Machine {
     }
 
     /// The message with this number, which leaves the bag.
+    #[inline(always)]
     fn take_message(&mut self, number: u64) -> Option<Sent>
         ensures found { result ≡ message_at self.old.bag number }
         ensures bag { self.new.bag ≡ without self.old.bag number (message_at self.old.bag number) }
@@ -102,6 +103,7 @@ impl Machine {
     }
 
     /// A server is given an input.
+    #[inline(always)]
     fn act(&mut self, event: Event, server: NodeId, input: Input) -> Result<Entry, AllocError>
         requires { is_server (length self.old.nodes.items) server ≡ true }
         ensures nodes { OnOk result (EachStandsBehind self.old self.new server input) }
@@ -145,7 +147,7 @@ impl Machine {
         if !self.has_server(server) {
             return Ok(self.idle_entry(event, Some(VoidCause::NoServer)));
         }
-        Ok(self.act(
+        self.act(
             event,
             server,
             Input::Write {
@@ -153,7 +155,7 @@ impl Machine {
                 file,
                 change,
             },
-        )?)
+        )
     }
 
     /// A server sends again what is not acknowledged.
@@ -171,7 +173,7 @@ impl Machine {
         if !self.has_server(server) {
             return Ok(self.idle_entry(event, Some(VoidCause::NoServer)));
         }
-        Ok(self.act(event, server, Input::Tick { moment, word })?)
+        self.act(event, server, Input::Tick { moment, word })
     }
 
     /// The message with this number arrives.
@@ -187,7 +189,7 @@ impl Machine {
         if !self.has_server(message.to) {
             return Ok(self.idle_entry(event, None));
         }
-        Ok(self.act(event, message.to, Input::Arrival(message.packet))?)
+        self.act(event, message.to, Input::Arrival(message.packet))
     }
 
     /// The message with this number is lost.
@@ -240,15 +242,15 @@ impl Machine {
                 moment,
                 file,
                 change,
-            } => Ok(self.write(server, moment, file, change)?),
+            } => self.write(server, moment, file, change),
             Event::Tick {
                 server,
                 moment,
                 word,
-            } => Ok(self.tick(server, moment, word)?),
-            Event::Deliver(number) => Ok(self.deliver(number)?),
+            } => self.tick(server, moment, word),
+            Event::Deliver(number) => self.deliver(number),
             Event::Lose(number) => Ok(self.lose(number)),
-            Event::Repeat(number) => Ok(self.repeat(number)?),
+            Event::Repeat(number) => self.repeat(number),
         }
     }
 

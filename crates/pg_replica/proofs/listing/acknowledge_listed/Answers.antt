@@ -1,7 +1,7 @@
 use Rattle.std.proofs.Common.{refl, sym, ap, ◌∙◌}
 use Rattle.pg_base.proofs.Orders.{file_order_is}
 use Rattle.pg_replica.specs.declared.replica.Replica.{Replica}
-use Rattle.pg_replica.specs.Replica.{are_clean}
+use Rattle.pg_edges.specs.Edges.{are_clean}
 use Rattle.pg_replica.proofs.Clean.{clean_along}
 use Rattle.pg_replica.proofs.Relisting.{relists_less, relists_same}
 use Rattle.pg_replica.proofs.listing.acknowledge_listed.Goals as goal

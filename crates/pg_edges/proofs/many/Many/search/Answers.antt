@@ -1,7 +1,7 @@
 use Rattle.std.proofs.Common.{rules}
 use Rattle.std.proofs.lemmas.List.Sorted.{answers_always}
 use Rattle.pg_edges.proofs.Searching.{searched}
-use Rattle.pg_edges.proofs.keys.Keys.search.Goals as goal
+use Rattle.pg_edges.proofs.many.Many.search.Goals as goal
 
 pub returns-clause-found : goal.returns-clause-found
 returns-clause-found c =
