@@ -1,6 +1,6 @@
 -- How a command ends.
 use Rattle.std.specs.Prelude.{ℕ, ◌≡◌, ◌⊎◌, List, Option, IfSome}
-use Rattle.pg_event.specs.declared.fault.Fault.{Fault}
+use Rattle.pg_call.specs.declared.fault.Fault.{Fault}
 use Rattle.pg_event.specs.declared.status.Status.{Status}
 use Rattle.pg_event.specs.declared.status.Status.TheVariants.{OutOfMemory}
 use Rattle.pg_sched.specs.Schedule.{IsFirstBad}

@@ -60,6 +60,7 @@ events_of servers w (line.Settle rounds moment) = settling servers most_deliveri
 events_of servers w (line.Show file) = []
 events_of servers w line.Quiet = []
 events_of servers w (line.Trace form) = []
+events_of servers w (line.MeterOff meter) = []
 
 abbrev pub after_line : ℕ → World → Line → World
 after_line servers w line = run_from servers w (events_of servers w line)

@@ -1,13 +1,18 @@
 -- What is written of a run.
 use Rattle.std.specs.Prelude.{ℕ, ◌+◌, List, [], ◌∷◌, ◌++◌, zero, suc}
 use Rattle.pg_base.specs.declared.id.FileId.{FileId}
+use Rattle.pg_base.specs.declared.id.Kind.{Kind}
+use Rattle.pg_base.specs.declared.id.Kind.TheVariants.{Dir, File}
 use Rattle.pg_content.specs.Content.{ContentValue}
+use Rattle.pg_event.specs.declared.entry.VoidCause.TheVariants.{Unbuilt}
 use Rattle.pg_event.specs.declared.event.Event.{Event}
 use Rattle.pg_sched.specs.declared.line.Form.{Form}
 use Rattle.pg_sched.specs.declared.line.Form.TheVariants.{Short}
 use Rattle.pg_sched.specs.declared.line.Line.{Line}
 use Rattle.pg_sched.specs.declared.line.Line.TheVariants as line
 use Rattle.pg_trace.specs.Text.{entry_text, head_text, show_text, quiet_text}
+use Rattle.pg_trace.specs.Printed.{printed_text}
+use Rattle.pg_trace.specs.declared.printed.Printed.TheVariants as printed
 use Rattle.pg_trace.specs.declared.printed.Word.TheVariants as word
 use Rattle.pg_node.specs.Journal.{taken, state_of}
 use Rattle.pg_node.specs.Run.{World, next, start}
@@ -22,6 +27,11 @@ state_at w file server = state_of file w.journal (taken server file w.journal)
 abbrev pub shows_text : World → FileId → ℕ → List ℕ
 shows_text w file zero = []
 shows_text w file (suc k) = shows_text w file k ++ show_text (suc k) file (state_at w file (suc k))
+
+-- a file is held by each of the first servers. No server holds a directory yet
+abbrev pub shown_text : World → FileId → Kind → ℕ → List ℕ
+shown_text w what Dir servers = printed_text (printed.Nowhere what)
+shown_text w what File servers = shows_text w what servers
 
 abbrev pub event_text : ℕ → ℕ → Form → World → Event → List ℕ
 event_text servers number form w event = entry_text number form (next servers w event).entry
@@ -43,16 +53,19 @@ line_head number form (line.Settle rounds moment) =
 line_head number form (line.Show file) = head_text number form (line.Show file)
 line_head number form line.Quiet = head_text number form line.Quiet
 line_head number form (line.Trace next) = []
+line_head number form (line.MeterOff meter) = head_text number form (line.MeterOff meter)
 
--- what a line asks for: of a settling its events, and whether all is done behind them
+-- what a line asks for, where this is its number; there are no meters yet. Of a settling its events, and whether all is done behind them
 abbrev pub output_text : ℕ → ℕ → Form → World → Line → List ℕ
 output_text servers number form w (line.Happens event) = event_text servers number form w event
 output_text servers number form w (line.Settle rounds moment) =
     inner_text servers number form w (settling servers most_deliveries moment w rounds)
     ++ quiet_text word.Settle (quiet_of servers (after_line servers w (line.Settle rounds moment)))
-output_text servers number form w (line.Show file) = shows_text w file servers
+output_text servers number form w (line.Show what) = shown_text w what what.kind servers
 output_text servers number form w line.Quiet = quiet_text word.Quiet (quiet_of servers w)
 output_text servers number form w (line.Trace next) = []
+output_text servers number form w (line.MeterOff meter) =
+    printed_text (printed.Void number Unbuilt)
 
 abbrev pub line_output : ℕ → ℕ → Form → World → Line → List ℕ
 line_output servers number form w line =
@@ -65,6 +78,7 @@ form_from form (line.Settle rounds moment) = form
 form_from form (line.Show file) = form
 form_from form line.Quiet = form
 form_from form (line.Trace next) = next
+form_from form (line.MeterOff meter) = form
 
 -- the text of a journal, from the line with this number on; at its end it is told whether all is
 -- done

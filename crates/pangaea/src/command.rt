@@ -4,7 +4,7 @@ ghost use Rattle.std.specs.Prelude.{◌≡◌, ◌≢◌, ◌<◌, ◌≤◌, �
 ghost use Rattle.std.specs.Io.KnownBytes.{IsAtEnd};
 ghost use Rattle.pg_io.specs.Causes.{Rose};
 ghost use Rattle.pg_sched.specs.Schedule.{IsFirstBad};
-ghost use Rattle.pg_event.specs.declared.fault.Fault.{Fault};
+ghost use Rattle.pg_call.specs.declared.fault.Fault.{Fault};
 ghost use Rattle.pg_node.specs.Laws.{AncestryByVectors, CarriesHistory, ClockEndsFirst, HoldsWhatItTook, MakesHistories, OneVersionAStamp, QuietIsTold, QuietServersAgree, StateIsDetermined, StateIsItsHeads, TakesWhatCame, TicksSendWhatIsOwed};
 ghost use Rattle.pangaea.specs.Ending.{EndsOnly, FirstBadIs};
 ghost use Rattle.pangaea.specs.Laws.{LinesAreEvents};

@@ -2,10 +2,13 @@
 
 ghost use Rattle.std.specs.Prelude.{◌≡◌, ◌++◌, IfOk, OnOk};
 ghost use Rattle.pg_sched.specs.Schedule.{IsCount};
+ghost use Rattle.pg_event.specs.declared.entry.VoidCause.TheVariants.{Unbuilt};
+ghost use Rattle.pg_trace.specs.Printed.{printed_text};
 ghost use Rattle.pg_trace.specs.Text.{head_text};
+ghost use Rattle.pg_trace.specs.declared.printed.Printed.TheVariants as printed;
 ghost use Rattle.pangaea.specs.Text.{text_of};
 
-use pg_base::{Bytes, FileId};
+use pg_base::{Bytes, FileId, Kind};
 use pg_event::{Event, Quiet};
 use pg_sched::{Form, Line, Schedule};
 use pg_trace::{Word, write_entry, write_head, write_quiet, write_show};
@@ -33,7 +36,7 @@ impl Replay {
     ghost use Rattle.pg_node.specs.Quiet.{quiet_of};
     ghost use Rattle.pangaea.specs.Going.{Answers, GoesOn, Reaches, Takes};
     ghost use Rattle.pangaea.specs.Settling.{deliveries, settling, ticks};
-    ghost use Rattle.pangaea.specs.Text.{event_text, line_head, shows_text};
+    ghost use Rattle.pangaea.specs.Text.{event_text, line_head, shown_text, shows_text};
 
     /// An event happens, and what the journal says of it is written.
     fn happen(&mut self, event: Event) -> Result<(), AllocError>
@@ -107,8 +110,21 @@ impl Replay {
         Ok(())
     }
 
+    /// Writes what each server shows of a file, or that no server holds the directory.
+    fn show(&mut self, id: &FileId) -> Result<(), AllocError>
+        requires { self.old.world.failed ≡ false }
+        ensures { let text = shown_text (final self.old.world) id.now id.now.kind
+            self.old.world.servers in
+            OnOk result (Reaches self.old self.new [] text) }
+    {
+        match id.kind {
+            Kind::Dir => Ok(write_nowhere(id, &mut self.out)?),
+            Kind::File => Ok(self.show_file(id)?),
+        }
+    }
+
     /// Writes what each server shows of a file.
-    fn show(&mut self, file: &FileId) -> Result<(), AllocError>
+    fn show_file(&mut self, file: &FileId) -> Result<(), AllocError>
         requires { self.old.world.failed ≡ false }
         ensures { let text = shows_text (final self.old.world) file.now self.old.world.servers in
             OnOk result (Reaches self.old self.new [] text) }
@@ -144,6 +160,7 @@ impl Replay {
             Line::Show(file) => Ok(self.show(file)?),
             Line::Quiet => Ok(self.tell(Word::Quiet)?),
             Line::Trace(_) => Ok(()),
+            Line::MeterOff(_) => Ok(write_unbuilt(self.number, &mut self.out)?),
         }
     }
 
@@ -182,6 +199,20 @@ fn write_event(number: u64, form: Form, event: &Event, out: &mut Bytes) -> Resul
         Form::Full => write!(out, "event {number} {event}\n"),
         Form::Short => Ok(()),
     }
+}
+
+/// Writes that no server holds this.
+fn write_nowhere(id: &FileId, out: &mut Bytes) -> Result<(), AllocError>
+    ensures { OnOk result (out.new ≡ out.old ++ printed_text (printed.Nowhere id.now)) }
+{
+    write!(out, "at - {id}\n")
+}
+
+/// Writes that nothing is done of the line with this number yet.
+fn write_unbuilt(number: u64, out: &mut Bytes) -> Result<(), AllocError>
+    ensures { OnOk result (out.new ≡ out.old ++ printed_text (printed.Void number Unbuilt)) }
+{
+    write!(out, "void {number} unbuilt\n")
 }
 
 /// The whole journal of a schedule.

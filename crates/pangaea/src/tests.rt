@@ -2,7 +2,7 @@
 //! Further runs stand in examples/, and `examples/check` compares them.
 
 use super::*;
-use pg_event::Fault;
+use pg_call::Fault;
 use pg_io::{MemorySink, MemorySource};
 use std::alloc::Global;
 use std::test::Fail;

@@ -15,9 +15,9 @@ use Rattle.pg_flood.proofs.Steps.{HasSoundTags}
 use Rattle.pg_flood.proofs.Worlds.{event_keeps, bag_keeps, start_keeps, clean_server}
 use Rattle.pg_msg.specs.declared.message.Sent.{Sent}
 use Rattle.pg_event.specs.declared.event.Event.{Event}
-use Rattle.pg_event.specs.declared.event.Event.TheVariants.{Write, Tick, Deliver, Lose, Repeat}
+use Rattle.pg_event.specs.declared.event.Event.TheVariants.{Write, Call, Tick, Deliver, Lose, Repeat, Restart, Remove}
 use Rattle.pg_event.specs.declared.entry.VoidCause.{VoidCause}
-use Rattle.pg_event.specs.declared.entry.VoidCause.TheVariants.{NoMessage, NoServer}
+use Rattle.pg_event.specs.declared.entry.VoidCause.TheVariants.{NoMessage, NoServer, Unbuilt}
 use Rattle.pg_node.specs.declared.input.Input.TheVariants as input
 use Rattle.pg_replica.specs.declared.store.Store.{Store}
 use Rattle.pg_node.specs.Local.{Effect, effect}
@@ -122,6 +122,9 @@ next_step n w (Write s moment file what) holds k =
     (has_versions n w holds s i.least i.most file) what) refl tt k.edges.promises)
     (still_step n w (Write s moment file what) (Some NoServer) k
     (no_more w.stores (bag w.journal) k.edges.promises))
+next_step n w (Call s moment call) holds k =
+    still_step n w (Call s moment call) (Some Unbuilt) k
+    (no_more w.stores (bag w.journal) k.edges.promises)
 next_step n w (Tick s moment word) holds k =
     chosen (λ z. IsStep (world_after w z)) (is_server n s) _ _
     (acted_step n w (Tick s moment word) s Other (effect (w.stores s) (input.Tick moment word))
@@ -140,6 +143,10 @@ next_step n w (Repeat number) holds k =
     (left_copied (Promise w.stores) (bag w.journal)
     (message_at (bag w.journal) number) k.edges.promises
     (λ m e. at_message (Promise w.stores) (bag w.journal) number m k.edges.promises e))
+next_step n w (Restart s) holds k =
+    still_step n w (Restart s) (Some Unbuilt) k k.edges.promises
+next_step n w (Remove s) holds k =
+    still_step n w (Remove s) (Some Unbuilt) k k.edges.promises
 
 -- EVERY EVENT KEEPS IT, where what the servers hold is of the history
 pub kept_next : (n : ℕ) (w : World) (e : Event) → HoldsHistory n w → IsKept n w

@@ -8,7 +8,7 @@ use Rattle.pg_base.specs.Version.{VersionValue}
 use Rattle.pg_edges.specs.declared.key.Key.{Key}
 use Rattle.pg_patch.specs.Ranges.{RangesValue}
 use Rattle.pg_flood.specs.Promises.{Saying}
-use Rattle.pg_flood.specs.Promises.Saying.{AckTo, Other}
+use Rattle.pg_flood.specs.Promises.Saying.{AckTo, CellFor, Other}
 use Rattle.pg_flood.specs.Server.{Slot, slot, Holds}
 use Rattle.pg_flood.proofs.Steps.{HasSoundTags, Rule, May, AllMay, Steps-refl, by_steps, Steps}
 use Rattle.pg_flood.proofs.Sends.{answer_may, held_covers, none_sent, one_sent}
@@ -18,12 +18,13 @@ use Rattle.pg_content.specs.History.{Made, version_of}
 use Rattle.pg_replica.specs.declared.replica.Replica.{Replica}
 use Rattle.pg_replica.specs.Replica.{with_ack, cell_at, covers, key_of, with_head}
 use Rattle.pg_replica.proofs.Drawn.{seen}
+use Rattle.pg_entries.specs.declared.cell.Cell.TheVariants as cells
 use Rattle.pg_msg.specs.declared.message.Ends.{Ends}
 use Rattle.pg_msg.specs.declared.message.Message.{Message}
 use Rattle.pg_msg.specs.declared.message.Message.TheVariants as message
 use Rattle.pg_call.specs.declared.change.Change.{Change}
 use Rattle.pg_event.specs.declared.entry.Entry.{Entry}
-use Rattle.pg_call.specs.declared.reply.Refusal.TheVariants.{ClockEnd, TooLong, ManyActors}
+use Rattle.pg_call.specs.declared.refusal.Refusal.TheVariants.{ClockEnd, TooLong, ManyActors}
 use Rattle.pg_call.specs.declared.reply.Reply.{Reply}
 use Rattle.pg_call.specs.declared.reply.Reply.TheVariants as reply
 use Rattle.pg_call.specs.declared.reply.Reply.TheVariants.{Refused}
@@ -36,17 +37,17 @@ use Rattle.pg_repair.specs.Cells.{ack_to, cell, with_answer}
 use Rattle.pg_replica.specs.Replica.{has_room, own_actor}
 use Rattle.pg_calls.specs.Writes.{ranges_of, write, write_where_fit, do_change, Answer, refusal}
 use Rattle.pg_replica.specs.Replica.{is_too_long, has_many_actors}
-use Rattle.pg_repair.specs.Done.{Done, is_accepted, link_of}
+use Rattle.pg_repair.specs.Done.{Done, idle, link_of}
 use Rattle.pg_node.specs.Journal.{versions as history_of}
 use Rattle.pg_node.specs.Laws.{IsOfHistory}
-use Rattle.pg_node.proofs.Wholes.{IsWhole, IsOfRun, full_head, full_write, whole_full, whole_news}
-use Rattle.pg_node.proofs.Choices.{chosen, decided, tested}
+use Rattle.pg_node.proofs.Wholes.{IsBetween, IsWhole, full_head, full_write, whole_full, whole_news}
+use Rattle.pg_node.proofs.Choices.{chosen, decided, is_linked, linked}
 use Rattle.pg_agreement.proofs.Covered.{IsKnownBy, HasVersions, write_goes_on, head_goes_on, head_held, old_held}
 use Rattle.pg_node.proofs.Found.{Changes, replica_here, news_changes}
 use Rattle.pg_agreement.proofs.Promises.{none_noted, none_over, others_stay, saying, store_may, versions, news_steps, finish_may}
 use Rattle.pg_msg.specs.declared.work.Work.{Work}
 use Rattle.pg_msg.specs.View.{view}
-use Rattle.pg_call.specs.declared.reply.Refusal.{Refusal}
+use Rattle.pg_call.specs.declared.refusal.Refusal.{Refusal}
 use Rattle.pg_msg.specs.Work.{new_work, with_touched}
 use Rattle.pg_repair.specs.Finish.{finish}
 use Rattle.pg_edges.specs.Edges.{is_listed}
@@ -167,7 +168,8 @@ module _ (n s : ℕ) (a : Store) (k : IsWhole n s a) (tags : HasSoundTags versio
     coming = version_of (held_content a ends.file).policy h m
 
     abbrev hearing : Saying Slot VersionValue
-    hearing = saying from s (message.Cell ends tag coming)
+    hearing =
+        CellFor from (slot ends.file ends.sender s ends.receiver (key_of coming)) tag coming
 
     -- the answer, once the version is held there
     answer_good : (b : Store) → b.server ≡ s → (replica_of b ends.file).birth ≡ ends.receiver
@@ -252,36 +254,65 @@ module _ (n s : ℕ) (a : Store) (k : IsWhole n s a) (tags : HasSoundTags versio
     where
       -- server s has it from a server of the run, and it is of the history
       abbrev ComesTo : Message → Type 0
-      ComesTo m = IsOfRun n (record { to = s; packet = record { from = from; message = m } })
+      ComesTo m = IsBetween n from s m
+
+      -- where nothing is done
+      nothing_good : {heard : Saying Slot VersionValue}
+          → IsGood s a heard (after_message (idle a (new_work 0 from)))
+      nothing_good {heard = heard} = idle_good heard 0 from None
 
       handle_good : (m : Message) → IsOfHistory journal m → ComesTo m
-          → is_accepted (replica_of a (view m).edge.file) from (view m).edge ≡ true
+          → is_linked a from (view m).edge ≡ true
           → IsGood s a (saying from s m) (after_message (handle a m (new_work 0 from)))
-      handle_good (message.Cell ends tag v) of m accepted =
+      handle_good (message.Cell ends tag (cells.Version v policy)) of m accepted =
           let file = ends.file in
           let h = history_of file journal in
           let P : VersionValue → Type 0 =
-          (λ z. IsGood s a (saying from s (message.Cell ends tag z))
+          (λ z. IsGood s a (saying from s (message.Cell ends tag (cells.Version z policy)))
           (after_message (cell a ends tag z (new_work 0 from)))) in
           let whole : v ≡ version_of (held_content a file).policy h of.0 =
           of.2 ∙ ap (λ p. version_of p h of.0) (sym (has file).policy) in
-          subst P (sym whole) (cell_good from ends tag h of.0 of.1 m.receiver (has file))
+          subst P (sym whole) (cell_good from ends tag h of.0 of.1 m.births.1 (has file))
+      handle_good (message.Cell ends tag (cells.Place place)) of m accepted = nothing_good
+      handle_good (message.Cell ends tag (cells.Flag flag)) of m accepted = nothing_good
+      handle_good (message.Cell ends tag (cells.Entry entry sure)) of m accepted = nothing_good
       handle_good (message.Ack ends j g) of m accepted =
           let x = replica_of a ends.file in
           answered_good from ends j g (replica_at a ends.file) refl
           (eqb-true ends.receiver x.birth
           (and_parts (ends.receiver == x.birth) (is_listed x.edges from ends.sender) accepted).0)
+      handle_good (message.Harbinger ends tag head) of m accepted = nothing_good
+      handle_good (message.Want ends wanted) of m accepted = nothing_good
+      handle_good (message.Delta ends delta) of m accepted = nothing_good
+      handle_good (message.Piece ends piece) of m accepted = nothing_good
+      handle_good (message.Later ends stamp) of m accepted = nothing_good
+      handle_good (message.Fetch file birth) of m accepted = nothing_good
+      handle_good (message.Grant ends granted) of m accepted = nothing_good
+      handle_good (message.NoGrant file birth) of m accepted = nothing_good
+      handle_good (message.Full ends) of m accepted = nothing_good
+      handle_good (message.Seek file birth) of m accepted = nothing_good
+      handle_good (message.Here ends) of m accepted = nothing_good
+      handle_good (message.NoneHere ask file child) of m accepted = nothing_good
+      handle_good (message.Gone file birth) of m accepted = nothing_good
+      handle_good (message.Bye ends) of m accepted = nothing_good
+      handle_good (message.ByeOk file birth) of m accepted = nothing_good
+      handle_good (message.Confirm dir entry) of m accepted = nothing_good
+      handle_good (message.PlaceIs dir entry) of m accepted = nothing_good
+      handle_good (message.Tell dir entry) of m accepted = nothing_good
+      handle_good (message.TellOk dir child stamp) of m accepted = nothing_good
+      handle_good (message.Leave ends stamp) of m accepted = nothing_good
+      handle_good (message.LeaveOk ends stamp) of m accepted = nothing_good
+      handle_good (message.Invite ends) of m accepted = nothing_good
+      handle_good (message.Walk ends origin birth hops word) of m accepted = nothing_good
+      handle_good (message.Meet ends) of m accepted = nothing_good
 
       pub arrived_good : (m : Message) → IsOfHistory journal m → ComesTo m
           → IsGood s a (saying from s m) (after_message (receive_in_time a m (new_work 0 from)))
       arrived_good m of comes =
           let heard = saying from s m in
           let work = new_work 0 from in
-          let edge = (view m).edge in
-          let idle = idle_good heard 0 from None in
           let P : Done → Type 0 = (λ done. IsGood s a heard (after_message done)) in
-          chosen P (has_time a.last a.tags) (receive a m work) (record { store = a; work = work })
-          (tested P (is_accepted (replica_of a edge.file) from edge)
-          (handle a m work) (record { store = a; work = work })
-          (λ t. handle_good m of comes t) idle)
-          idle
+          chosen P (has_time a.last a.tags) (receive a m work) (idle a work)
+          (linked P a (view m).edge work (handle a m work) (λ e. handle_good m of comes e)
+          nothing_good)
+          nothing_good

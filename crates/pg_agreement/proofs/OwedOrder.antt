@@ -15,7 +15,7 @@ use Rattle.pg_edges.specs.Key.{key_cmp}
 use Rattle.pg_edges.specs.Edges.{peers, AscendFrom}
 use Rattle.pg_replica.specs.declared.replica.Replica.{Replica}
 use Rattle.pg_replica.specs.declared.store.Store.{Store}
-use Rattle.pg_event.specs.declared.quiet.Owing.{Owing}
+use Rattle.pg_event.specs.declared.quiet.OwedKey.{OwedKey}
 use Rattle.pg_node.specs.Local.{edge_owes, replica_owes, owed}
 use Rattle.pg_node.specs.Laws.{owing_cmp}
 use Rattle.pg_node.proofs.Graphs.{IsEdge}
@@ -108,13 +108,13 @@ sorted_map o c R (x ∷ xs) up h = (
 
 -- ---- what a server owes
 
-abbrev owing : ℕ → FileId → Edge → Key × ℕ → Owing
+abbrev owing : ℕ → FileId → Edge → Key × ℕ → OwedKey
 owing server file e k = record { server = server; file = file; peer = e.peer; key = k.0 }
 
-abbrev IsAt : FileId → Owing → Type 0
+abbrev IsAt : FileId → OwedKey → Type 0
 IsAt file o = o.file ≡ file
 
-abbrev IsAlong : FileId → Edge → Owing → Type 0
+abbrev IsAlong : FileId → Edge → OwedKey → Type 0
 IsAlong file e o = (o.file ≡ file) × (o.peer ≡ e.peer)
 
 same_then : {A : Type 0} (d : A → A → Ordering) (x y z : A) (rest : Ordering) → d z z ≡ Equal
@@ -127,12 +127,12 @@ first_then : (o rest : Ordering) → o ≡ Less → ordering_then o rest ≡ Les
 first_then o rest h = ap (λ z. ordering_then z rest) h
 
 -- by file
-by_file : (x y : Owing) → file_cmp x.file y.file ≡ Less → owing_cmp x y ≡ Less
+by_file : (x y : OwedKey) → file_cmp x.file y.file ≡ Less → owing_cmp x y ≡ Less
 by_file x y h = first_then (file_cmp x.file y.file)
     (ordering_then (nat_cmp x.peer y.peer) (key_cmp x.key y.key)) h
 
 -- then by peer
-by_peer : (file : FileId) (x y : Owing) → x.file ≡ file → y.file ≡ file → x.peer < y.peer
+by_peer : (file : FileId) (x y : OwedKey) → x.file ≡ file → y.file ≡ file → x.peer < y.peer
     → owing_cmp x y ≡ Less
 by_peer file x y e f h =
     same_then file_cmp x.file y.file file

@@ -23,7 +23,7 @@ use Rattle.pg_replica.proofs.Drawn.{seen}
 use Rattle.pg_replica.proofs.Growth.{cell_head}
 use Rattle.pg_msg.specs.declared.message.Ends.{Ends}
 use Rattle.pg_msg.specs.declared.message.Message.{Message}
-use Rattle.pg_msg.specs.View.{TaggedCell, TaggedKey, View, view}
+use Rattle.pg_msg.specs.View.{TaggedCell, TaggedKey, view}
 use Rattle.pg_msg.specs.declared.message.Sent.{Sent}
 use Rattle.pg_replica.specs.declared.store.Store.{Store}
 use Rattle.pg_replica.specs.Replicas.{or_new}
@@ -45,14 +45,18 @@ abbrev answering : ℕ → ℕ → Ends → Option TaggedKey → Saying Slot Ver
 answering from to e None = Other
 answering from to e (Some k) = AckTo to (slot e.file e.receiver from e.sender k.key) k.tag
 
-abbrev bringing : ℕ → ℕ → View → Option TaggedCell → Saying Slot VersionValue
-bringing from to m None = answering from to m.edge m.answers
-bringing from to m (Some c) =
-    CellFor from (slot m.edge.file m.edge.sender to m.edge.receiver (key_of c.version)) c.tag
-    c.version
+abbrev bringing : ℕ → ℕ → Ends → Option TaggedCell → Option TaggedKey → Saying Slot VersionValue
+bringing from to e None answers = answering from to e answers
+bringing from to e (Some c) answers =
+    CellFor from (slot e.file e.sender to e.receiver (key_of c.version)) c.tag c.version
+
+abbrev along_edge : ℕ → ℕ → Option Ends → Option TaggedCell → Option TaggedKey
+    → Saying Slot VersionValue
+along_edge from to None brings answers = Other
+along_edge from to (Some e) brings answers = bringing from to e brings answers
 
 abbrev pub saying : ℕ → ℕ → Message → Saying Slot VersionValue
-saying from to m = bringing from to (view m) (view m).brings
+saying from to m = along_edge from to (view m).edge (view m).brings (view m).answers
 
 abbrev pub says : Sent → Saying Slot VersionValue
 says m = saying m.packet.from m.to m.packet.message

@@ -3,7 +3,8 @@ use Rattle.std.proofs.Common.{[], ℕ, ◌≡◌, ◌≤◌, List, ◌∷◌, �
 use Rattle.std.proofs.lemmas.Bool.{cases_lt}
 use Rattle.pg_msg.specs.declared.message.Sent.{Sent}
 use Rattle.pg_msg.specs.Sent.{summary}
-use Rattle.pg_event.specs.declared.quiet.Owing.{Owing}
+use Rattle.pg_event.specs.declared.quiet.OwedKey.{OwedKey}
+use Rattle.pg_event.specs.declared.quiet.Owing.TheVariants.{Key}
 use Rattle.pg_event.specs.declared.quiet.Cause.{Cause}
 use Rattle.pg_event.specs.declared.quiet.Cause.TheVariants.{Message, Owed}
 use Rattle.pg_event.specs.declared.quiet.Quiet.TheVariants.{Quiet}
@@ -58,19 +59,21 @@ told_quiet : (n : ℕ) (w : World) → quiet_of n w ≡ Quiet → IsQuiet n w
 told_quiet n w h =
     let none = none_first (causes n w) h in
     let messages = map (λ (m : Sent). Message (summary m)) (bag w.journal) in
-    let owing = map Owed (owed_by w.stores n) in
+    let owing = map (λ o. Owed (Key o)) (owed_by w.stores n) in
     record {
       silent = map_empty (λ (m : Sent). Message (summary m)) (bag w.journal)
           (both_empty messages owing none).0;
       nothing = λ s least most. owed_below w.stores n s
-          (map_empty Owed (owed_by w.stores n) (both_empty messages owing none).1) least most;
+          (map_empty (λ (o : OwedKey). Owed (Key o)) (owed_by w.stores n)
+          (both_empty messages owing none).1) least most;
     }
 
 quiet_told : (n : ℕ) (w : World) → IsQuiet n w → quiet_of n w ≡ Quiet
 quiet_told n w q =
     ap (λ (ms : List Sent). first_of
-    (map (λ m. Message (summary m)) ms ++ map Owed (owed_by w.stores n))) q.silent
-    ∙ ap (λ (os : List Owing). first_of (map Owed os)) (none_owed w.stores n q.nothing)
+    (map (λ m. Message (summary m)) ms ++ map (λ o. Owed (Key o)) (owed_by w.stores n))) q.silent
+    ∙ ap (λ (os : List OwedKey). first_of (map (λ o. Owed (Key o)) os))
+    (none_owed w.stores n q.nothing)
 
 pub quiet_is_told : QuietIsTold
 quiet_is_told n w = (told_quiet n w, quiet_told n w)

@@ -17,12 +17,12 @@ use Rattle.pg_replica.proofs.Growth.{cell_head}
 use Rattle.pg_replica.proofs.Heads.{head_cell}
 use Rattle.pg_msg.specs.declared.message.Sent.{Sent}
 use Rattle.pg_msg.specs.Sent.{summary}
-use Rattle.pg_call.specs.declared.reply.Refusal.TheVariants.{ClockEnd}
+use Rattle.pg_call.specs.declared.refusal.Refusal.TheVariants.{ClockEnd}
 use Rattle.pg_call.specs.declared.reply.Reply.TheVariants.{Done}
 use Rattle.pg_event.specs.declared.entry.VoidCause.TheVariants.{NoServer}
 use Rattle.pg_event.specs.declared.event.Event.{Event}
 use Rattle.pg_event.specs.declared.event.Event.TheVariants.{Tick}
-use Rattle.pg_event.specs.declared.quiet.Owing.{Owing}
+use Rattle.pg_event.specs.declared.quiet.OwedKey.{OwedKey}
 use Rattle.pg_replica.specs.declared.store.Store.{Store}
 use Rattle.pg_replica.specs.Replicas.{or_new}
 use Rattle.pg_replica.specs.Store.{replica_of, has_time, home_of}
@@ -68,7 +68,7 @@ zip_singles R f g (x ∷ xs) h =
 
 -- ---- one cell for each key that is owed
 
-abbrev owing : ℕ → FileId → Edge → Key × ℕ → Owing
+abbrev owing : ℕ → FileId → Edge → Key × ℕ → OwedKey
 owing server file e k = record { server = server; file = file; peer = e.peer; key = k.0 }
 
 -- the cell of the key of an edge, which is that of a head
@@ -128,13 +128,13 @@ tick_sends n s a k =
 
 -- ---- as they are told
 
-cell_told : (a : Store) (o : Owing) (m : Sent) → IsOwedCell a o m → summary m ≡ owed_cell o
+cell_told : (a : Store) (o : OwedKey) (m : Sent) → IsOwedCell a o m → summary m ≡ owed_cell o
 cell_told a o m c =
     ap summary c.whole ∙ ap
     (λ k. owed_cell (record { server = o.server; file = o.file; peer = o.peer; key = k }))
     (sym c.named)
 
-all_told : (a : Store) (os : List Owing) (ms : List Sent) → AllZip (IsOwedCell a) os ms
+all_told : (a : Store) (os : List OwedKey) (ms : List Sent) → AllZip (IsOwedCell a) os ms
     → map summary ms ≡ map owed_cell os
 all_told a [] [] h = refl
 all_told a [] (m ∷ ms) h = absurd h

@@ -1,8 +1,9 @@
-ghost use Rattle.std.specs.Prelude.{◌<◌, ◌^◌};
+ghost use Rattle.std.specs.Prelude.{◌≡◌, ◌<◌, ◌^◌};
 
 use pg_base::{
     Actor, BadId, Bytes, FileId, Head, Items, Kind, SharedBytes, Stamp, Vector, Version,
 };
+use std::alloc::{AllocError, Global};
 use std::test::Fail;
 
 #[test]
@@ -63,63 +64,88 @@ fn the_next_stamp_is_later_and_bounded(rt: HostRuntime) {
     }
 }
 
+fn actor(server: u32) -> Actor
+    ensures { result ≡ record { server = server; birth = 2 } }
+{
+    Actor { server, birth: 2 }
+}
+
+fn vector(alloc: Global, numbers: [(u32, u64); 3]) -> Result<Vector, AllocError> {
+    let mut vector = Vector::new(alloc);
+    for (server, number) in numbers {
+        vector.raise(actor(server), number)?;
+    }
+    Ok(vector)
+}
+
+// A copy of a join of two.
+fn joined(alloc: Global) -> Result<Vector, AllocError> {
+    let mut joined = vector(alloc, [(1, 3), (2, 0), (3, 5)])?;
+    joined.join(&vector(alloc, [(1, 1), (2, 4), (3, 0)])?)?;
+    joined.copy()
+}
+
 #[test]
 fn a_join_has_the_greater_number_at_each_actor(rt: HostRuntime) -> Result<(), Fail> {
-    let actor = |server: u32| Actor { server, birth: 2 };
-    let mut vector = Vector::new(rt.alloc());
-    let mut other = Vector::new(rt.alloc());
-    for (server, mine, theirs) in [(1, 3, 1), (2, 0, 4), (3, 5, 0)] {
-        vector.raise(actor(server), mine)?;
-        other.raise(actor(server), theirs)?;
-    }
-    vector.join(&other)?;
-    let copy = vector.copy()?;
+    let joined = joined(rt.alloc())?;
     let entries = [(actor(1), 3), (actor(2), 4), (actor(3), 5)];
-    assert_eq!(rt; copy.entries(), entries.as_slice());
-    assert_eq!(rt; copy.at(1), Some((actor(2), 4)));
-    assert_eq!(rt; (copy.len(), copy.get(actor(4))), (3, 0));
-    assert!(rt; copy.covers(actor(2), 4) && !copy.covers(actor(2), 5));
+    assert_eq!(rt; joined.entries(), entries.as_slice());
+    assert_eq!(rt; joined.at(1), Some((actor(2), 4)));
+    assert_eq!(rt; (joined.len(), joined.get(actor(4))), (3, 0));
+    assert!(rt; joined.covers(actor(2), 4) && !joined.covers(actor(2), 5));
     Ok(())
+}
+
+const STAMP: Stamp = Stamp { time: 5, server: 1 };
+
+fn version(alloc: Global) -> Result<Version, AllocError> {
+    let mut vector = Vector::new(alloc);
+    vector.raise(actor(1), 1)?;
+    let head = Head {
+        stamp: STAMP,
+        birth: 2,
+        number: 1,
+        vector,
+        length: 2,
+    };
+    Version::new(alloc, head, SharedBytes::from_slice(alloc, b"ab")?)
+}
+
+// A copy of a version that is there no more.
+fn copied(alloc: Global) -> Result<Version, AllocError> {
+    version(alloc)?.copy()
 }
 
 #[test]
 fn a_copy_of_a_version_is_the_version(rt: HostRuntime) -> Result<(), Fail> {
-    let mut vector = Vector::new(rt.alloc());
-    vector.raise(
-        Actor {
-            server: 1,
-            birth: 2,
-        },
-        1,
-    )?;
-    let head = Head {
-        stamp: Stamp { time: 5, server: 1 },
-        birth: 2,
-        number: 1,
-        vector: vector.copy()?,
-        length: 2,
-    };
-    let body = SharedBytes::from_slice(rt.alloc(), b"ab")?;
-    let version = Version::new(rt.alloc(), head.copy()?, body.copy()?)?;
-    let copy = version.copy()?;
-    drop(version);
-    assert_eq!(rt; copy.head().stamp, head.stamp);
-    assert_eq!(rt; copy.head().actor(), head.actor());
-    assert_eq!(rt; copy.head().vector.entries(), vector.entries());
+    let copy = copied(rt.alloc())?;
+    assert_eq!(rt; copy.head().stamp, STAMP);
+    assert_eq!(rt; copy.head().actor(), actor(1));
+    assert_eq!(rt; copy.head().vector.entries(), [(actor(1), 1)].as_slice());
     assert_eq!(rt; copy.body().as_slice(), b"ab".as_slice());
-    assert_eq!(rt; copy.body().len(), body.len());
+    assert_eq!(rt; copy.body().len(), 2);
+    Ok(())
+}
+
+fn bytes(alloc: Global) -> Result<Bytes, Fail> {
+    let mut bytes = Bytes::from_slice(alloc, b"a")?;
+    bytes.push(b'b')?;
+    bytes.extend(b"cd")?;
+    write!(bytes, "{}", 12)?;
+    Ok(bytes)
+}
+
+#[test]
+fn bytes_grow_at_the_end(rt: HostRuntime) -> Result<(), Fail> {
+    let bytes = bytes(rt.alloc())?;
+    assert_eq!(rt; bytes.copy()?.as_slice(), b"abcd12".as_slice());
+    let shared = SharedBytes::from_vec(rt.alloc(), bytes.into_vec())?;
+    assert_eq!(rt; shared.len(), 6);
     Ok(())
 }
 
 #[test]
-fn lists_and_bytes_grow_at_the_end(rt: HostRuntime) -> Result<(), Fail> {
-    let mut bytes = Bytes::from_slice(rt.alloc(), b"a")?;
-    bytes.push(b'b')?;
-    bytes.extend(b"cd")?;
-    write!(bytes, "{}", 12)?;
-    assert_eq!(rt; bytes.copy()?.as_slice(), b"abcd12".as_slice());
-    let shared = SharedBytes::from_vec(rt.alloc(), bytes.into_vec())?;
-    assert_eq!(rt; shared.len(), 6);
+fn items_grow_at_the_end(rt: HostRuntime) -> Result<(), Fail> {
     let mut items = Items::new(rt.alloc());
     items.push(7)?;
     assert_eq!(rt; items.copy()?.as_slice(), [7].as_slice());

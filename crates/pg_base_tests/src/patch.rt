@@ -1,4 +1,5 @@
-use pg_patch::{RangeError, Ranges, apply, compose, cut, make};
+use pg_base::Bytes;
+use pg_patch::{Part, RangeError, Ranges, apply, compose, cut, make};
 use std::alloc::Global;
 use std::test::Fail;
 
@@ -72,19 +73,48 @@ const ROWS: [Row; 4] = [
     },
 ];
 
+// A copy of what both changes are in one.
+fn both_of(alloc: Global, row: &Row) -> Result<Ranges, Fail> {
+    let first = ranges_of(alloc, row.first)?;
+    let second = ranges_of(alloc, row.second)?;
+    let both = compose(&first, &second)?;
+    Ok(both.copy()?)
+}
+
+fn changed(alloc: Global, body: &[u8], change: Change) -> Result<Bytes, Fail> {
+    Ok(apply(body, &ranges_of(alloc, change)?)?)
+}
+
+fn first_part(ranges: &Ranges) -> Result<Part, Fail> {
+    Ok(ranges.parts().first().ok_or("a part")?.copy()?)
+}
+
 #[test]
 fn two_changes_in_one(rt: HostRuntime) -> Result<(), Fail> {
     for row in ROWS.iter() {
-        let first = ranges_of(rt.alloc(), row.first)?;
-        let second = ranges_of(rt.alloc(), row.second)?;
-        let both = compose(&first, &second)?.copy()?;
+        let both = both_of(rt.alloc(), row)?;
         assert_eq!(rt; (both.keep(), both.least()), (row.keep, row.least));
-        let part = both.parts().first().ok_or("a part")?.copy()?;
+        let part = first_part(&both)?;
         assert_eq!(rt; part.offset, row.offset);
         assert_eq!(rt; part.bytes.as_slice(), row.bytes);
-        let once = apply(row.body, &first)?;
-        let twice = apply(once.as_slice(), &second)?;
+    }
+    Ok(())
+}
+
+#[test]
+fn one_change_after_the_other(rt: HostRuntime) -> Result<(), Fail> {
+    for row in ROWS.iter() {
+        let once = changed(rt.alloc(), row.body, row.first)?;
+        let twice = changed(rt.alloc(), once.as_slice(), row.second)?;
         assert_eq!(rt; twice.as_slice(), row.after);
+    }
+    Ok(())
+}
+
+#[test]
+fn both_changes_at_once(rt: HostRuntime) -> Result<(), Fail> {
+    for row in ROWS.iter() {
+        let both = both_of(rt.alloc(), row)?;
         assert_eq!(rt; apply(row.body, &both)?.as_slice(), row.after);
     }
     Ok(())

@@ -1,2 +1,4 @@
+pub mod CallSpelling
+pub mod CallTable
 pub mod Changes
-pub mod Replies
+pub mod RowWords

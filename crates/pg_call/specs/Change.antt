@@ -1,6 +1,7 @@
 -- What a client does to a file: what it is spelled as.
 use Rattle.std.specs.Prelude.{ℕ, ◌<◌, ◌^◌, List, [], ◌∷◌, decimal, codes}
-use Rattle.pg_words.specs.HexWord.{hex_word, AreAtMost}
+use Rattle.pg_words.specs.HexWord.{hex_word}
+use Rattle.pg_call.specs.Call.{IsPayload}
 use Rattle.pg_call.specs.declared.change.Change.{Change}
 use Rattle.pg_call.specs.declared.change.Change.TheVariants as change
 use Rattle.pg_call.specs.declared.change.ChangeKind.{ChangeKind}
@@ -23,12 +24,8 @@ change_words (change.Put bytes) = hex_word bytes ∷ []
 change_words (change.Patch offset bytes) = decimal offset ∷ hex_word bytes ∷ []
 change_words (change.Trim n) = decimal n ∷ []
 
--- what one write may bring: bytes, and not too many
-abbrev pub IsBody : List ℕ → Type 0
-IsBody body = AreAtMost 32768 body
-
 -- what has a spelling
 abbrev pub IsChange : Change → Type 0
-IsChange (change.Put bytes) = IsBody bytes
-IsChange (change.Patch offset bytes) = (offset < 2 ^ 32) × IsBody bytes
+IsChange (change.Put bytes) = IsPayload bytes
+IsChange (change.Patch offset bytes) = (offset < 2 ^ 32) × IsPayload bytes
 IsChange (change.Trim n) = n < 2 ^ 32

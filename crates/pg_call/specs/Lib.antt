@@ -1,2 +1,6 @@
+pub mod Call
 pub mod Change
+pub mod Fault
+pub mod Fields
+pub mod Refusal
 pub mod Reply

@@ -8,9 +8,6 @@ use pg_words::HexWord;
 use std::alloc::AllocError;
 use std::fmt;
 
-/// The most bytes that one write has.
-pub const MOST_BYTES: usize = 32_768;
-
 /// What a client does to what a file shows.
 #[derive(Debug, Drop)]
 pub enum Change {

@@ -1,105 +1,204 @@
 //! What a client is told.
 
-ghost use Rattle.std.specs.Prelude.{◌≡◌, [], ◌∷◌, map, codes, IfSome, IfNone};
-ghost use Rattle.pg_call.specs.Reply.{refusal_words, reply_words, IsReply};
-ghost use Rattle.pg_call.specs.declared.reply.Refusal.{Refusal};
+ghost use Rattle.std.specs.Prelude.{◌≡◌, IfOk, map};
 ghost use Rattle.pg_call.specs.declared.reply.Reply.{Reply};
 
-use pg_base::Stamp;
-use pg_words::{is_same, read_stamp};
+use crate::refusal::Refusal;
+use pg_base::{FileId, Items, NodeId, SharedBytes, Stamp};
+use pg_path::Row;
+use pg_register::Place;
+use pg_words::{GoldWord, HexWord, PlaceWords, TextWord};
+use std::alloc::{AllocError, Global};
 use std::fmt;
 
-/// Why a server refuses what a client asks for.
+/// What a server tells of a replica that it holds.
+#[derive(Debug, Drop)]
+pub struct Stat {
+    pub id: FileId,
+    pub place: Place,
+    /// Whether the server's own flag is raised.
+    pub gold: bool,
+    /// How many live gold replicas it sees.
+    pub golds: u64,
+    /// How many heads the file has: 0 for a directory.
+    pub heads: u64,
+    /// How many bytes are shown, or the greatest `u64` where they are more: 0 for a directory.
+    pub length: u64,
+    pub edges: u64,
+}
+
+/// What a server holds and waits for, in numbers.
 #[derive(Clone, Copy, Debug, PartialEq, Eq)]
-pub enum Refusal {
-    /// The server's clock is at its end: its greatest time, a tag that it gave out, or the number of a version of its own
-    /// in the file, is 2^62 or more.
-    ClockEnd,
-    /// The new body would have more than 1,048,576 bytes.
-    TooLong,
-    /// The new version's vector would have more than 256 actors.
-    ManyActors,
+pub struct Counts {
+    /// How many removals it has entered.
+    pub view: u64,
+    /// The greatest time that it has seen.
+    pub last: u64,
+    pub replicas: u64,
+    pub intents: u64,
+    /// How many keys are not acknowledged.
+    pub cells: u64,
+    /// How many places are held back.
+    pub held: u64,
 }
 
 /// What a client is told.
-#[derive(Clone, Copy, Debug, PartialEq, Eq)]
+#[derive(Debug, Drop)]
 pub enum Reply {
     /// It was done.
     Done,
+    /// This was made.
+    Made(FileId),
     /// The version with this stamp was made.
     Wrote(Stamp),
+    /// These bytes are shown.
+    Bytes(SharedBytes),
+    /// So many names are shown in all, and these are some of them, at most 100.
+    Names { total: u32, rows: Items<Row> },
+    Stat(Stat),
+    /// The replica goes once this server has given leave.
+    Leaving(NodeId),
+    Status(Counts),
     /// It was not done, and this is why.
     Refused(Refusal),
 }
 
-impl fmt::Display for Refusal {
-    ghost use Rattle.std.specs.Prelude.{Some};
-    ghost use Rattle.std.specs.List.{join_with_byte};
-    ghost use Rattle.pg_call.specs.Reply.{refusal_words};
+impl Stat {
+    /// The same again.
+    pub fn copy(&self) -> Result<Stat, AllocError>
+        ensures { IfOk result (λ s. s ≡ self.now) }
+    {
+        Ok(Stat {
+            id: self.id,
+            place: self.place.copy()?,
+            gold: self.gold,
+            golds: self.golds,
+            heads: self.heads,
+            length: self.length,
+            edges: self.edges,
+        })
+    }
+}
 
-    ghost output = { λ r. Some (join_with_byte 32 (refusal_words r)) };
+impl Reply {
+    /// The same reply again. Bytes are shared.
+    pub fn copy(&self, alloc: Global) -> Result<Reply, AllocError>
+        ensures { IfOk result (λ r. r ≡ self.now) }
+    {
+        Ok(match self {
+            Reply::Done => Reply::Done,
+            Reply::Made(id) => Reply::Made(*id),
+            Reply::Wrote(stamp) => Reply::Wrote(*stamp),
+            Reply::Bytes(bytes) => Reply::Bytes(bytes.copy()?),
+            Reply::Names { total, rows } => Reply::Names {
+                total: *total,
+                rows: copy_rows(alloc, rows)?,
+            },
+            Reply::Stat(stat) => Reply::Stat(stat.copy()?),
+            Reply::Leaving(server) => Reply::Leaving(*server),
+            Reply::Status(counts) => Reply::Status(*counts),
+            Reply::Refused(refusal) => Reply::Refused(*refusal),
+        })
+    }
+}
+
+/// The same rows again.
+fn copy_rows(alloc: Global, rows: &Items<Row>) -> Result<Items<Row>, AllocError>
+    ensures { IfOk result (λ v. v ≡ rows.now) }
+{
+    let mut copies = Items::new(alloc);
+    for row in rows.as_slice() {
+        copies.push(row.copy()?)?;
+    }
+    Ok(copies)
+}
+
+/// Rows, each with a space in front.
+#[derive(Clone, Copy, Debug)]
+struct RowWords<'a>(&'a [Row]);
+
+impl fmt::Display for RowWords<'_> {
+    ghost use Rattle.std.specs.Prelude.{Some};
+    ghost use Rattle.pg_call.specs.Reply.{rows_text};
+
+    ghost output = { λ w. Some (rows_text w.0.now) };
 
     fn fmt<W: fmt::Write>(&self, f: &mut fmt::Formatter<W>) -> fmt::Result {
-        match self {
-            Refusal::ClockEnd => f.write_str("refused 2 ClockEnd"),
-            Refusal::TooLong => f.write_str("refused 12 TooLong"),
-            Refusal::ManyActors => f.write_str("refused 20 ManyActors"),
+        for row in self.0 {
+            let name = TextWord(row.name.as_slice());
+            let child = row.child;
+            write!(f, " {name}={child}")?;
         }
+        Ok(())
+    }
+}
+
+impl fmt::Display for Stat {
+    ghost use Rattle.std.specs.Prelude.{Some};
+    ghost use Rattle.std.specs.List.{join_with_byte};
+    ghost use Rattle.pg_call.specs.Reply.{stat_words};
+
+    ghost output = { λ s. Some (join_with_byte 32 (stat_words s)) };
+
+    fn fmt<W: fmt::Write>(&self, f: &mut fmt::Formatter<W>) -> fmt::Result {
+        let id = self.id;
+        let place = PlaceWords(&self.place);
+        let gold = GoldWord(self.gold);
+        let golds = self.golds;
+        let heads = self.heads;
+        let length = self.length;
+        let edges = self.edges;
+        write!(
+            f,
+            "stat {id} {place} {gold} golds {golds} heads {heads} length {length} edges {edges}"
+        )
+    }
+}
+
+impl fmt::Display for Counts {
+    ghost use Rattle.std.specs.Prelude.{Some};
+    ghost use Rattle.std.specs.List.{join_with_byte};
+    ghost use Rattle.pg_call.specs.Reply.{counts_words};
+
+    ghost output = { λ s. Some (join_with_byte 32 (counts_words s)) };
+
+    fn fmt<W: fmt::Write>(&self, f: &mut fmt::Formatter<W>) -> fmt::Result {
+        let view = self.view;
+        let last = self.last;
+        let replicas = self.replicas;
+        let intents = self.intents;
+        let cells = self.cells;
+        let held = self.held;
+        write!(
+            f,
+            "status view {view} last {last} replicas {replicas} intents {intents} cells {cells} held {held}"
+        )
     }
 }
 
 impl fmt::Display for Reply {
     ghost use Rattle.std.specs.Prelude.{Some};
-    ghost use Rattle.std.specs.List.{join_with_byte};
-    ghost use Rattle.pg_call.specs.Reply.{reply_words};
+    ghost use Rattle.pg_call.specs.Reply.{reply_body};
 
-    ghost output = { λ r. Some (join_with_byte 32 (reply_words r)) };
+    ghost output = { λ r. Some (reply_body r) };
 
     fn fmt<W: fmt::Write>(&self, f: &mut fmt::Formatter<W>) -> fmt::Result {
         match self {
             Reply::Done => f.write_str("done"),
+            Reply::Made(id) => write!(f, "made {id}"),
             Reply::Wrote(stamp) => write!(f, "wrote {stamp}"),
+            Reply::Bytes(bytes) => {
+                let word = HexWord(bytes.as_slice());
+                write!(f, "bytes {word}")
+            }
+            Reply::Names { total, rows } => {
+                let rows = RowWords(rows.as_slice());
+                write!(f, "names {total}{rows}")
+            }
+            Reply::Stat(stat) => write!(f, "{stat}"),
+            Reply::Leaving(server) => write!(f, "leaving {server}"),
+            Reply::Status(counts) => write!(f, "{counts}"),
             Reply::Refused(refusal) => write!(f, "{refusal}"),
         }
     }
 }
-
-/// What somebody was told, from the words that say it.
-pub fn read_reply(words: &[&[u8]]) -> Option<Reply>
-    ensures found { IfSome result (λ r. IsReply r × (map (λ w. w.now) words.now ≡ reply_words r)) }
-    ensures none { IfNone result ((r : Reply) → IsReply r
-        → map (λ w. w.now) words.now ≡ reply_words r → ⊥) }
-{
-    match words {
-        [done] if is_same(done, b"done") => Some(Reply::Done),
-        [wrote, stamp] if is_same(wrote, b"wrote") => Some(Reply::Wrote(read_stamp(stamp)?)),
-        [refused, number, name] if is_same(refused, b"refused") => {
-            Some(Reply::Refused(refusal_of(number, name)?))
-        }
-        _ => None,
-    }
-}
-
-/// Why somebody was refused, from the words that say it.
-fn refusal_of(number: &[u8], name: &[u8]) -> Option<Refusal>
-    ensures found { IfSome result (λ r. codes "refused" ∷ number.now ∷ name.now
-        ∷ [] ≡ refusal_words r) }
-    ensures none { IfNone result ((r : Refusal)
-        → codes "refused" ∷ number.now ∷ name.now ∷ [] ≡ refusal_words r → ⊥) }
-{
-    if is_same(number, b"2") && is_same(name, b"ClockEnd") {
-        return Some(Refusal::ClockEnd);
-    }
-    if is_same(number, b"12") && is_same(name, b"TooLong") {
-        return Some(Refusal::TooLong);
-    }
-    if is_same(number, b"20") && is_same(name, b"ManyActors") {
-        return Some(Refusal::ManyActors);
-    }
-    None
-}
-
-/// No two replies have the same words.
-pub fn one_reply_spelling()
-    ensures { (a b : Reply) → IsReply a → IsReply b → reply_words a ≡ reply_words b → a ≡ b }
-{}

@@ -12,15 +12,16 @@ use Rattle.pg_replica.specs.declared.replica.Replica.{Replica}
 use Rattle.pg_replica.specs.declared.store.Store.{Store}
 use Rattle.pg_replica.specs.Replica.{has_many_actors, has_room, is_too_long, own_actor, with_write}
 use Rattle.pg_replica.specs.Store.{has_time, replica_of, with_news}
-use Rattle.pg_msg.specs.declared.update.Update.{Update}
+use Rattle.pg_msg.specs.declared.update.MadeVersion.{MadeVersion}
+use Rattle.pg_msg.specs.declared.update.Update.TheVariants as update
 use Rattle.pg_msg.specs.declared.work.Work.{Work}
 use Rattle.pg_msg.specs.Work.{with_made, with_touched}
 use Rattle.pg_call.specs.declared.change.Change.{Change}
 use Rattle.pg_call.specs.declared.change.Change.TheVariants as change
 use Rattle.pg_call.specs.declared.reply.Reply.{Reply}
 use Rattle.pg_call.specs.declared.reply.Reply.TheVariants.{Wrote, Refused}
-use Rattle.pg_call.specs.declared.reply.Refusal.{Refusal}
-use Rattle.pg_call.specs.declared.reply.Refusal.TheVariants.{ClockEnd, TooLong, ManyActors}
+use Rattle.pg_call.specs.declared.refusal.Refusal.{Refusal}
+use Rattle.pg_call.specs.declared.refusal.Refusal.TheVariants.{ClockEnd, TooLong, ManyActors}
 
 -- what the server holds then, what comes of the call so far, and what the client is told
 pub record Answer : Type 0 where
@@ -52,7 +53,7 @@ abbrev pub IsAlwaysTooLong : RangesValue → Type 0
 IsAlwaysTooLong ranges = (body : List ℕ) → body_limit < length (applied body ranges)
 
 -- the version that is made with these ranges, on all heads of the replica
-abbrev pub update_of : FileId → Replica → Stamp → RangesValue → Update
+abbrev pub update_of : FileId → Replica → Stamp → RangesValue → MadeVersion
 update_of file x stamp ranges = record {
   file = file;
   stamp = stamp;
@@ -61,9 +62,9 @@ update_of file x stamp ranges = record {
 }
 
 -- a version was made, and its key was touched
-abbrev pub with_update : Work → Update → Work
-with_update work update =
-    with_touched (with_made work update) update.file (key.Version update.stamp)
+abbrev pub with_update : Work → MadeVersion → Work
+with_update work made =
+    with_touched (with_made work (update.Version made)) made.file (key.Version made.stamp)
 
 -- a version is made on all heads. It is the only head from then on, and its key is touched
 abbrev pub write : Store → FileId → Replica → Stamp → RangesValue → Work → Answer

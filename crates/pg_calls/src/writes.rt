@@ -10,7 +10,7 @@ use pg_base::{FileId, Stamp};
 use pg_call::{Change, Refusal, Reply};
 use pg_content::WriteError;
 use pg_edges::Key;
-use pg_msg::{Touched, Update, Work};
+use pg_msg::{MadeVersion, Touched, Update, Work};
 use pg_patch::{RangeError, Ranges};
 use pg_replica::Store;
 use std::alloc::AllocError;
@@ -67,13 +67,13 @@ fn write_where_fit(
 {
     match store.write(file, stamp, &ranges) {
         Ok(bases) => {
-            let update = Update {
+            let made = MadeVersion {
                 file,
                 stamp,
                 bases,
                 ranges,
             };
-            note_update(update, work)?;
+            note_update(made, work)?;
             Ok(Reply::Wrote(stamp))
         }
         Err(WriteError::TooLong) => Ok(Reply::Refused(Refusal::TooLong)),
@@ -83,12 +83,12 @@ fn write_where_fit(
 }
 
 /// A version was made, and its key was touched.
-fn note_update(update: Update, work: &mut Work) -> Result<(), AllocError>
-    ensures { OnOk result (work.new ≡ with_update work.old update) }
+fn note_update(made: MadeVersion, work: &mut Work) -> Result<(), AllocError>
+    ensures { OnOk result (work.new ≡ with_update work.old made) }
 {
-    let file = update.file;
-    let key = Key::Version(update.stamp);
-    work.made.push(update)?;
+    let file = made.file;
+    let key = Key::Version(made.stamp);
+    work.made.push(Update::Version(made))?;
     work.touched.push(Touched { file, key })?;
     Ok(())
 }

@@ -18,7 +18,7 @@ use Rattle.pg_base.proofs.Orders.{file_total, stamp_total}
 use Rattle.pg_entries.specs.declared.entry.Entry.{Entry}
 use Rattle.pg_entries.specs.declared.claim.Claim.{Claim}
 use Rattle.pg_entries.specs.Shown.{claim_of, claim_cmp, is_rival, is_hidden, lesser, take_claim, first_claim, is_beaten, shown_name, shows, row_of, row_cmp}
-use Rattle.pg_entries.specs.declared.listing.Row.{Row}
+use Rattle.pg_path.specs.declared.row.Row.{Row}
 use Rattle.std.specs.Fn.{Called, ComparesAs}
 use Rattle.std.specs.List.Sorted.{IsSortedBy}
 use Rattle.std.proofs.lemmas.List.{map-append}

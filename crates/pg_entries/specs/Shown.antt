@@ -12,7 +12,7 @@ use Rattle.pg_base.specs.Stamp.{stamp_cmp}
 use Rattle.pg_register.specs.Place.{tilde_name}
 use Rattle.pg_entries.specs.declared.entry.Entry.{Entry}
 use Rattle.pg_entries.specs.declared.claim.Claim.{Claim}
-use Rattle.pg_entries.specs.declared.listing.Row.{Row}
+use Rattle.pg_path.specs.declared.row.Row.{Row}
 use Rattle.pg_entries.specs.Entry.{is_listed}
 use Rattle.pg_entries.specs.Names.{HasName, same_name}
 

@@ -13,4 +13,4 @@ pub use cell::Cell;
 pub use entries::Entries;
 pub use entry::Entry;
 pub use laws::shown_names_differ;
-pub use listing::{Listing, Row};
+pub use listing::Listing;

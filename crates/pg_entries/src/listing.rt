@@ -11,28 +11,20 @@ use crate::entries::{Entries, is_beaten, is_rival, lesser};
 use crate::entry::Entry;
 use crate::tilde::with_id;
 use pg_base::{FileId, Items, SharedBytes};
+use pg_path::Row;
 use std::alloc::AllocError;
 use std::cmp::Ordering;
 use std::collections::BTreeMap;
 
-/// A child and the name that it shows.
-#[derive(Debug, Drop)]
-pub struct Row {
-    pub name: SharedBytes,
-    pub child: FileId,
-}
-
 /// Rows in the byte order of their names.
 pub type Listing = Items<Row>;
 
-impl Row {
-    /// By the bytes of the name, and then by child.
-    fn compare(&self, other: &Row) -> Ordering
-        ensures { result ≡ row_cmp self.now other.now }
-    {
-        let by_name = self.name.as_slice().cmp(other.name.as_slice());
-        by_name.then(self.child.compare(&other.child))
-    }
+/// By the bytes of the name, and then by child.
+fn compare(row: &Row, other: &Row) -> Ordering
+    ensures { result ≡ row_cmp row.now other.now }
+{
+    let by_name = row.name.as_slice().cmp(other.name.as_slice());
+    by_name.then(row.child.compare(&other.child))
 }
 
 impl Entries {
@@ -44,7 +36,7 @@ impl Entries {
     {
         let firsts = self.first_claims(dir)?;
         let mut rows = self.rows(dir, &firsts)?;
-        rows.sort_by(|a, b| a.compare(b))?;
+        rows.sort_by(|a, b| compare(a, b))?;
         Ok(Items::from_vec(rows))
     }
 

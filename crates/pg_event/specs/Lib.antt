@@ -1,5 +1,5 @@
 pub mod Entry
 pub mod Event
-pub mod Fault
+pub mod Meter
 pub mod Quiet
 pub mod Status

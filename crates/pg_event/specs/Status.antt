@@ -1,6 +1,6 @@
 -- How a command's end is told: by a number, and by a text.
 use Rattle.std.specs.Prelude.{ℕ, List, [], ◌++◌, codes, decimal}
-use Rattle.pg_event.specs.Fault.{fault_text}
+use Rattle.pg_call.specs.Fault.{fault_text}
 use Rattle.pg_event.specs.declared.status.Status.{Status}
 use Rattle.pg_event.specs.declared.status.Status.TheVariants.{Done, Usage, ReadFault, WriteFault, InputLong, BadLine, OutOfMemory}
 

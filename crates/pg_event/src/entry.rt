@@ -17,6 +17,16 @@ pub enum VoidCause {
     NoMessage,
     /// The run has no server of that number.
     NoServer,
+    /// The server is removed.
+    Removed,
+    /// The server was not the one whose removal has that number.
+    Unremoved,
+    /// It is the last live server.
+    Last,
+    /// There is no such meter.
+    NoMeter,
+    /// Nothing of the kind is done yet.
+    Unbuilt,
 }
 
 impl fmt::Display for VoidCause {
@@ -29,6 +39,11 @@ impl fmt::Display for VoidCause {
         match self {
             VoidCause::NoMessage => f.write_str("no-message"),
             VoidCause::NoServer => f.write_str("no-server"),
+            VoidCause::Removed => f.write_str("removed"),
+            VoidCause::Unremoved => f.write_str("unremoved"),
+            VoidCause::Last => f.write_str("last"),
+            VoidCause::NoMeter => f.write_str("no-meter"),
+            VoidCause::Unbuilt => f.write_str("unbuilt"),
         }
     }
 }
@@ -41,6 +56,11 @@ pub fn read_void(word: &[u8]) -> Option<VoidCause>
     match word {
         b"no-message" => Some(VoidCause::NoMessage),
         b"no-server" => Some(VoidCause::NoServer),
+        b"removed" => Some(VoidCause::Removed),
+        b"unremoved" => Some(VoidCause::Unremoved),
+        b"last" => Some(VoidCause::Last),
+        b"no-meter" => Some(VoidCause::NoMeter),
+        b"unbuilt" => Some(VoidCause::Unbuilt),
         _ => None,
     }
 }
@@ -50,8 +70,8 @@ pub fn one_void_spelling()
     ensures { (a b : VoidCause) → void_word a ≡ void_word b → a ≡ b }
 {}
 
-/// One event of a run: what it was, why it was void if it was, what the client was told, which versions were made and
-/// which messages were sent.
+/// One event of a run: what it was, why it was void if it was, what the client was told, what was made and which messages
+/// were sent.
 #[derive(Debug, Drop)]
 pub struct Entry {
     pub event: Event,

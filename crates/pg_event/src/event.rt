@@ -3,7 +3,7 @@
 ghost use Rattle.std.specs.Prelude.{◌≡◌, IfOk};
 
 use pg_base::{FileId, NodeId};
-use pg_call::{Change, ChangeWords};
+use pg_call::{Call, Change, ChangeWords};
 use std::alloc::AllocError;
 use std::fmt;
 
@@ -17,6 +17,12 @@ pub enum Event {
         file: FileId,
         change: Change,
     },
+    /// A client calls a server, at a moment of its clock.
+    Call {
+        server: NodeId,
+        moment: u64,
+        call: Call,
+    },
     /// A server sends again what is not acknowledged. The word is a random one.
     Tick {
         server: NodeId,
@@ -29,6 +35,10 @@ pub enum Event {
     Lose(u64),
     /// It is copied to the bag's end.
     Repeat(u64),
+    /// A server loses what it keeps in memory alone.
+    Restart(NodeId),
+    /// A server is gone for good.
+    Remove(NodeId),
 }
 
 impl Event {
@@ -36,31 +46,42 @@ impl Event {
     pub fn copy(&self) -> Result<Event, AllocError>
         ensures { IfOk result (λ e. e ≡ self.now) }
     {
-        match self {
+        Ok(match self {
             Event::Write {
                 server,
                 moment,
                 file,
                 change,
-            } => Ok(Event::Write {
+            } => Event::Write {
                 server: *server,
                 moment: *moment,
                 file: *file,
                 change: change.copy()?,
-            }),
+            },
+            Event::Call {
+                server,
+                moment,
+                call,
+            } => Event::Call {
+                server: *server,
+                moment: *moment,
+                call: call.copy()?,
+            },
             Event::Tick {
                 server,
                 moment,
                 word,
-            } => Ok(Event::Tick {
+            } => Event::Tick {
                 server: *server,
                 moment: *moment,
                 word: *word,
-            }),
-            Event::Deliver(number) => Ok(Event::Deliver(*number)),
-            Event::Lose(number) => Ok(Event::Lose(*number)),
-            Event::Repeat(number) => Ok(Event::Repeat(*number)),
-        }
+            },
+            Event::Deliver(number) => Event::Deliver(*number),
+            Event::Lose(number) => Event::Lose(*number),
+            Event::Repeat(number) => Event::Repeat(*number),
+            Event::Restart(server) => Event::Restart(*server),
+            Event::Remove(server) => Event::Remove(*server),
+        })
     }
 }
 
@@ -82,6 +103,11 @@ impl fmt::Display for Event {
                 let words = ChangeWords(change);
                 write!(f, "{kind} {server} {moment} {file} {words}")
             }
+            Event::Call {
+                server,
+                moment,
+                call,
+            } => write!(f, "call {server} {moment} {call}"),
             Event::Tick {
                 server,
                 moment,
@@ -90,6 +116,8 @@ impl fmt::Display for Event {
             Event::Deliver(number) => write!(f, "deliver {number}"),
             Event::Lose(number) => write!(f, "lose {number}"),
             Event::Repeat(number) => write!(f, "repeat {number}"),
+            Event::Restart(server) => write!(f, "restart {server}"),
+            Event::Remove(server) => write!(f, "remove {server}"),
         }
     }
 }

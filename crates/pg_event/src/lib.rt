@@ -3,12 +3,12 @@
 
 mod entry;
 mod event;
-mod fault;
+mod meter;
 mod quiet;
 mod status;
 
 pub use entry::{Entry, VoidCause, one_void_spelling, read_void};
 pub use event::Event;
-pub use fault::Fault;
-pub use quiet::{Cause, Owing, Quiet, one_quiet_spelling, read_quiet};
+pub use meter::{MeterKind, one_meter_spelling, read_meter_kind};
+pub use quiet::{Cause, OwedIntent, OwedKey, Owing, Quiet, one_quiet_spelling, read_quiet};
 pub use status::Status;

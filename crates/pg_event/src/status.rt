@@ -3,7 +3,7 @@
 ghost use Rattle.std.specs.Prelude.{◌≡◌};
 ghost use Rattle.pg_event.specs.Status.{number_of};
 
-use crate::fault::Fault;
+use pg_call::Fault;
 use std::fmt;
 
 /// How a command ends.

@@ -1,24 +1,19 @@
 -- What the words behind a verb are, where they spell a line.
 use Rattle.std.proofs.Common.{ℕ, ◌≡◌, ◌≢◌, ◌<◌, ◌^◌, List, [], ◌∷◌, ◌++◌, Option, Some, None, IfSome, IfNone, sym, ap, ◌∙◌, codes, decimal, All, take, append_assoc}
-use Rattle.std.specs.List.{AllByRecursion}
 use Rattle.std.proofs.lemmas.List.{append_cancel_left}
-use Rattle.pg_base.specs.declared.id.FileId.{FileId}
-use Rattle.pg_base.specs.declared.stamp.Stamp.{Stamp}
 use Rattle.pg_base.proofs.Parts.{cut_same, not_cut}
 use Rattle.pg_call.specs.declared.change.ChangeKind.{ChangeKind}
 use Rattle.pg_call.specs.declared.reply.Reply.{Reply}
 use Rattle.pg_sched.specs.declared.line.Line.{Line}
 use Rattle.pg_sched.specs.Line.{line_body, IsLine}
-use Rattle.pg_words.specs.FileWord.{IsFile}
 use Rattle.pg_trace.specs.declared.printed.Printed.{Printed}
-use Rattle.pg_trace.specs.declared.printed.Printed.TheVariants.{Event, Write, Tick, Show}
+use Rattle.pg_trace.specs.declared.printed.Printed.TheVariants.{Event, Write, Tick}
 use Rattle.pg_journal.specs.declared.verb.Verb.{Verb}
 use Rattle.pg_journal.specs.declared.verb.Verb.TheVariants as verb
-use Rattle.pg_trace.specs.Printed.{printed_words, printed_body, printed_text, AreFirst, IsPrinted}
-use Rattle.pg_words.specs.StampWord.{IsStamp}
+use Rattle.pg_trace.specs.Printed.{printed_words, printed_body, printed_text, IsPrinted}
 use Rattle.pg_call.specs.Reply.{IsReply}
-use Rattle.pg_journal.specs.Reading.{Reads, told_words, words_behind, verb_word, verb_of, event_text}
-use Rattle.pg_call.proofs.Replies.{write_reply, tick_reply}
+use Rattle.pg_journal.specs.Reading.{Reads, told_words, too_many, verb_word, verb_of, event_text}
+use Rattle.pg_reply.proofs.ReplyLacks.{write_reply, tick_reply}
 use Rattle.pg_journal.proofs.OnePrinted.{event_only}
 use Rattle.pg_words.specs.Words.{words_in}
 use Rattle.pg_words.proofs.Lacking.{space, Lacks-decimal}
@@ -36,14 +31,6 @@ write_told kind words p h = absurd (let v = h.verb in cc)
 pub tick_told : (words : List (List ℕ)) (p : Printed) → Reads verb.Tick words p → IsTold words
 tick_told words (Tick n r) h = let f = h.fits in (n, r, f.0, tick_reply r f.1, h.behind)
 tick_told words p h = absurd (let v = h.verb in cc)
-
--- a server that shows something, as these words say
-abbrev pub IsShown : List (List ℕ) → Type 0
-IsShown words = (n : ℕ) × (f : FileId) × (s : List Stamp) × (k : ℕ) × (b : List ℕ) × (n < 2 ^ 32) × IsFile f × AllByRecursion IsStamp s × (k < 2 ^ 64) × AreFirst b × (words ≡ words_behind (Show n f s k b))
-
-pub show_shown : (words : List (List ℕ)) (p : Printed) → Reads verb.Show words p → IsShown words
-show_shown words (Show n f s k b) h = let t = h.fits in (n, f, s, k, b, t.0, t.1, t.2, t.3, t.4, h.behind)
-show_shown words p h = absurd (let v = h.verb in cc)
 
 -- an event's number and line, as these texts spell them
 abbrev pub IsEvent : List ℕ → List ℕ → Type 0
@@ -64,11 +51,11 @@ uncut {X} None text rest e h = λ number what f. not_cut 32 rest number what h (
 pub no_verb : (words : List (List ℕ)) (word : List ℕ) (rest : List (List ℕ)) → words ≡ word ∷ rest → ((v : Verb) → word ≢ verb_word v) → (p : Printed) → words ≡ printed_words p → ⊥
 no_verb words word rest e h p f = h (verb_of p) (ap (word_at 0) (sym e ∙ f ∙ spelled p))
 
-pub other_found : (text : List ℕ) (words : List (List ℕ)) (o : Option Printed) → words ≡ take 13 (words_in text) → IfSome o (λ p. IsPrinted p × (words ≡ printed_words p)) → IfSome o (λ p. IsPrinted p × (text ≡ printed_body p))
+pub other_found : (text : List ℕ) (words : List (List ℕ)) (o : Option Printed) → words ≡ take too_many (words_in text) → IfSome o (λ p. IsPrinted p × (words ≡ printed_words p)) → IfSome o (λ p. IsPrinted p × (text ≡ printed_body p))
 other_found text words None e h = tt
-other_found text words (Some p) e h = (h.0, text-again text p (sym e ∙ h.1))
+other_found text words (Some p) e h = (h.0, text-again text p h.0 (sym e ∙ h.1))
 
-pub other_none : (text : List ℕ) (words : List (List ℕ)) (o : Option Printed) → words ≡ take 13 (words_in text)
+pub other_none : (text : List ℕ) (words : List (List ℕ)) (o : Option Printed) → words ≡ take too_many (words_in text)
     → IfNone o ((p : Printed) → IsPrinted p → verb_of p ≢ verb.Event → words ≡ printed_words p → ⊥) → IfNone o ((p : Printed) → IsPrinted p → verb_of p ≢ verb.Event → text ≡ printed_body p → ⊥)
 other_none text words (Some p) e h = tt
 other_none text words None e h = λ p fits other f. h p fits other (e ∙ words-first text p fits other f)

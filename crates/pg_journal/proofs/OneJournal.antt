@@ -1,6 +1,6 @@
 -- A text has at most one reading: one journal, or one first other line.
 use Rattle.std.proofs.Common.{ℕ, ◌≡◌, List, sym, ap, ◌∙◌, inl, inr, ◌+◌, subst}
-use Rattle.pg_event.specs.declared.fault.Fault.{Fault}
+use Rattle.pg_call.specs.declared.fault.Fault.{Fault}
 use Rattle.pg_trace.specs.declared.printed.Printed.{Printed}
 use Rattle.pg_trace.specs.Printed.{printed_body, journal_spelling, ArePrinted, IsPrinted}
 use Rattle.pg_journal.specs.Journal.{LacksPrinted, IsOtherFault, IsFirstOther}

@@ -1,7 +1,7 @@
 -- A whole journal: which line of a text is the first that is none of a journal.
 use Rattle.std.specs.Prelude.{ℕ, ◌≡◌, ◌≢◌, ◌+◌, ◌⊎◌, List, [], ◌∷◌, ◌++◌, length}
-use Rattle.pg_event.specs.declared.fault.Fault.{Fault}
-use Rattle.pg_event.specs.declared.fault.Fault.TheVariants.{End, Verb}
+use Rattle.pg_call.specs.declared.fault.Fault.{Fault}
+use Rattle.pg_call.specs.declared.fault.Fault.TheVariants.{End, Verb}
 use Rattle.pg_trace.specs.declared.printed.Printed.{Printed}
 use Rattle.pg_trace.specs.Printed.{printed_text, journal_spelling, IsPrinted, ArePrinted}
 

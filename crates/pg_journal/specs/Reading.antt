@@ -2,20 +2,24 @@
 use Rattle.std.specs.Prelude.{ℕ, ◌≡◌, List, [], ◌∷◌, ◌++◌, decimal, codes}
 use Rattle.pg_base.specs.Id as id
 use Rattle.pg_call.specs.declared.reply.Reply.{Reply}
+use Rattle.pg_call.specs.Call as call
+use Rattle.pg_call.specs.declared.call.CallKind.{CallKind}
 use Rattle.pg_call.specs.Change.{kind_word}
 use Rattle.pg_call.specs.Reply.{reply_words}
 use Rattle.pg_event.specs.Entry.{void_word}
+use Rattle.pg_event.specs.Meter.{meter_word}
 use Rattle.pg_event.specs.Quiet.{quiet_words}
 use Rattle.pg_msg.specs.Text.{summary_words}
 use Rattle.pg_msg.specs.UpdateText.{update_spelling}
 use Rattle.pg_sched.specs.Line.{line_words}
 use Rattle.pg_trace.specs.declared.printed.Printed.{Printed}
 use Rattle.pg_trace.specs.declared.printed.Printed.TheVariants as printed
-use Rattle.pg_trace.specs.Printed.{asked_word, IsPrinted}
+use Rattle.pg_trace.specs.Printed.{asked_word, contents_words, IsPrinted}
+use Rattle.pg_trace.specs.declared.replica.Contents.TheVariants as contents
 use Rattle.pg_journal.specs.declared.verb.Verb.{Verb}
-use Rattle.pg_journal.specs.declared.verb.Verb.TheVariants.{Event, Write, Tick, Void, Made, Sent, Asked, Show}
-use Rattle.pg_words.specs.HexWord.{hex_word}
-use Rattle.pg_words.specs.StampWord.{stamps_word}
+use Rattle.pg_journal.specs.declared.verb.Verb.TheVariants.{Event, Write, Call, Tick, Void, Made, Sent, Asked, At, Meter}
+use Rattle.pg_words.specs.ChoiceWord.{full_word, gold_word}
+use Rattle.pg_words.specs.PlaceWords.{place_words}
 
 -- the word that a verb is
 abbrev pub verb_word : Verb → List ℕ
@@ -26,7 +30,9 @@ verb_word Void = codes "void"
 verb_word Made = codes "made"
 verb_word Sent = codes "sent"
 verb_word (Asked word) = asked_word word
-verb_word Show = codes "at"
+verb_word Call = codes "call"
+verb_word At = codes "at"
+verb_word Meter = codes "meter"
 
 -- the verb of a line
 abbrev pub verb_of : Printed → Verb
@@ -37,30 +43,42 @@ verb_of (printed.Void line cause) = Void
 verb_of (printed.Made update) = Made
 verb_of (printed.Sent summary) = Sent
 verb_of (printed.Asked word answer) = Asked word
-verb_of (printed.Show server file heads count bytes) = Show
+verb_of (printed.Call kind server reply) = Call
+verb_of (printed.Show server file heads count bytes) = At
+verb_of (printed.Replica replica) = At
+verb_of (printed.Nowhere id) = At
+verb_of (printed.Meter kind value) = Meter
+
+-- more words than any line has that is no event: a call that lists 100 names has 106
+abbrev pub too_many : ℕ
+too_many = 107
+
+-- what was told
+abbrev pub answer_words : Reply → List (List ℕ)
+answer_words reply = codes "->" ∷ reply_words reply
 
 -- a server, and what it told
 abbrev pub told_words : ℕ → Reply → List (List ℕ)
-told_words server reply = decimal server ∷ codes "->" ∷ reply_words reply
-
--- what stands behind `at`, with these words for the server, the file, the stamps of the heads, the length and the first
--- bytes
-abbrev pub shown_words : List ℕ → List ℕ → List ℕ → List ℕ → List ℕ → List (List ℕ)
-shown_words server file heads count bytes =
-    server ∷ file ∷ codes "heads" ∷ heads ∷ codes "shown" ∷ count ∷ bytes ∷ []
+told_words server reply = decimal server ∷ answer_words reply
 
 -- the words of a line behind the first
 abbrev pub words_behind : Printed → List (List ℕ)
 words_behind (printed.Event line what) = decimal line ∷ line_words what
 words_behind (printed.Write kind server reply) = told_words server reply
+words_behind (printed.Call kind server reply) =
+    decimal server ∷ call.kind_word kind ∷ answer_words reply
 words_behind (printed.Tick server reply) = told_words server reply
 words_behind (printed.Void line cause) = decimal line ∷ void_word cause ∷ []
 words_behind (printed.Made update) = update_spelling update
 words_behind (printed.Sent summary) = summary_words summary
 words_behind (printed.Asked word answer) = quiet_words answer
 words_behind (printed.Show server file heads count bytes) =
-    shown_words (decimal server) (id.spelling file) (stamps_word heads) (decimal count)
-    (hex_word bytes)
+    decimal server ∷ id.spelling file ∷ contents_words (contents.File heads count bytes)
+words_behind (printed.Replica r) =
+    decimal r.server ∷ id.spelling r.id ∷ gold_word r.gold ∷ full_word r.full
+    ∷ codes "place" ∷ (place_words r.place ++ contents_words r.contents)
+words_behind (printed.Nowhere what) = codes "-" ∷ id.spelling what ∷ []
+words_behind (printed.Meter kind value) = meter_word kind ∷ decimal value ∷ []
 
 -- the verb with these words behind it is the line
 pub record Reads (v : Verb) (words : List (List ℕ)) (line : Printed) : Type 0 where

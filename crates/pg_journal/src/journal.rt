@@ -3,7 +3,7 @@
 ghost use Rattle.std.specs.Prelude.{◌≡◌, ◌++◌, ◌+◌, ◌<◌, ◌⊎◌, ℕ, List, length, IfOk, IfErr, IsErrAnd, MatchResult};
 ghost use Rattle.std.specs.List.{AllByRecursion};
 ghost use Rattle.pg_sched.specs.declared.error.ReadError.TheVariants.{BadLine, OutOfMemory};
-ghost use Rattle.pg_event.specs.declared.fault.Fault.{Fault};
+ghost use Rattle.pg_call.specs.declared.fault.Fault.{Fault};
 ghost use Rattle.pg_journal.specs.Journal.{LacksPrinted, IsOtherFault, IsFirstOther};
 ghost use Rattle.pg_trace.specs.Printed.{IsPrinted, ArePrinted, printed_text, journal_spelling};
 ghost use Rattle.pg_journal.specs.declared.journal.Stop.TheVariants as stop;
@@ -11,7 +11,7 @@ ghost use Rattle.pg_trace.specs.declared.printed.Printed.{Printed};
 
 use crate::reading::read_printed;
 use pg_base::{Items, cut_at};
-use pg_event::Fault;
+use pg_call::Fault;
 use pg_sched::ReadError;
 use pg_trace::Printed;
 use std::alloc::{AllocError, Global};

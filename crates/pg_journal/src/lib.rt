@@ -3,6 +3,7 @@
 
 mod journal;
 mod reading;
+mod replica;
 mod told;
 mod verb;
 

@@ -7,66 +7,82 @@ ghost use Rattle.pg_journal.specs.declared.verb.Verb.TheVariants as verb;
 ghost use Rattle.pg_trace.specs.Printed.{IsPrinted, printed_words, printed_body};
 ghost use Rattle.pg_trace.specs.declared.printed.Printed.{Printed};
 
-use crate::told::read_told;
+use crate::replica::at_of;
+use crate::told::{is_tick_reply, is_write_reply, read_answer, read_told};
 use crate::verb::Verb;
 use pg_base::{cut_at, number, number_u32};
-use pg_call::{ChangeKind, Refusal, Reply};
-use pg_event::{read_quiet, read_void};
+use pg_call::{CallKind, ChangeKind};
+use pg_event::{read_meter_kind, read_quiet, read_void};
 use pg_msg::{read_summary, read_update};
 use pg_sched::read_line;
 use pg_trace::{Printed, Word};
-use pg_words::{first_word, first_words, is_same, read_file, read_hex_word, read_stamps};
+use pg_words::{first_word, first_words};
 use std::alloc::{AllocError, Global};
 
 /// More words than any line has that is no event.
-const TOO_MANY: usize = 13;
-
-/// The most bytes that are shown of a file.
-const MOST_SHOWN: usize = 16;
+const TOO_MANY: usize = 107;
 
 /// What the client of a write was told, from the words behind the one for its kind.
-fn write_of(kind: ChangeKind, words: &[&[u8]]) -> Option<Printed>
-    ensures found { IfSome result (Reads (verb.Write kind) (map (λ w. w.now) words.now)) }
-    ensures none { IfNone result ((p : Printed)
-        → Reads (verb.Write kind) (map (λ w. w.now) words.now) p → ⊥) }
+fn write_of(alloc: Global, kind: ChangeKind, words: &[&[u8]]) -> Result<Option<Printed>, AllocError>
+    ensures found { IfOk result (λ o. IfSome o
+        (Reads (verb.Write kind) (map (λ w. w.now) words.now))) }
+    ensures none { IfOk result (λ o. IfNone o ((p : Printed)
+        → Reads (verb.Write kind) (map (λ w. w.now) words.now) p → ⊥)) }
 {
-    let (server, reply) = read_told(words)?;
-    match reply {
-        Reply::Done => None,
-        Reply::Wrote(stamp) => Some(Printed::Write {
+    let Some((server, reply)) = read_told(alloc, words)? else {
+        return Ok(None);
+    };
+    if !is_write_reply(&reply) {
+        return Ok(None);
+    }
+    Ok(Some(Printed::Write {
+        kind,
+        server,
+        reply,
+    }))
+}
+
+/// What the client of a call was told, from the words behind `call`.
+fn call_of(alloc: Global, words: &[&[u8]]) -> Result<Option<Printed>, AllocError>
+    ensures found { IfOk result (λ o. IfSome o (Reads verb.Call (map (λ w. w.now) words.now))) }
+    ensures none { IfOk result (λ o. IfNone o ((p : Printed)
+        → Reads verb.Call (map (λ w. w.now) words.now) p → ⊥)) }
+{
+    let Some((server, words)) = first_word(words) else {
+        return Ok(None);
+    };
+    let Some(server) = number_u32(server) else {
+        return Ok(None);
+    };
+    let Some((kind, words)) = first_word(words) else {
+        return Ok(None);
+    };
+    let Some(kind) = CallKind::read(kind) else {
+        return Ok(None);
+    };
+    match read_answer(alloc, words)? {
+        Some(reply) => Ok(Some(Printed::Call {
             kind,
             server,
-            reply: Reply::Wrote(stamp),
-        }),
-        Reply::Refused(refusal) => Some(Printed::Write {
-            kind,
-            server,
-            reply: Reply::Refused(refusal),
-        }),
+            reply,
+        })),
+        None => Ok(None),
     }
 }
 
 /// What came of a tick, from the words behind `tick`.
-fn tick_of(words: &[&[u8]]) -> Option<Printed>
-    ensures found { IfSome result (Reads verb.Tick (map (λ w. w.now) words.now)) }
-    ensures none { IfNone result ((p : Printed)
-        → Reads verb.Tick (map (λ w. w.now) words.now) p → ⊥) }
+fn tick_of(alloc: Global, words: &[&[u8]]) -> Result<Option<Printed>, AllocError>
+    ensures found { IfOk result (λ o. IfSome o (Reads verb.Tick (map (λ w. w.now) words.now))) }
+    ensures none { IfOk result (λ o. IfNone o ((p : Printed)
+        → Reads verb.Tick (map (λ w. w.now) words.now) p → ⊥)) }
 {
-    let (server, reply) = read_told(words)?;
-    match reply {
-        Reply::Done => Some(Printed::Tick {
-            server,
-            reply: Reply::Done,
-        }),
-        Reply::Wrote(_) => None,
-        Reply::Refused(refusal) => match refusal {
-            Refusal::ClockEnd => Some(Printed::Tick {
-                server,
-                reply: Reply::Refused(Refusal::ClockEnd),
-            }),
-            Refusal::TooLong | Refusal::ManyActors => None,
-        },
+    let Some((server, reply)) = read_told(alloc, words)? else {
+        return Ok(None);
+    };
+    if !is_tick_reply(&reply) {
+        return Ok(None);
     }
+    Ok(Some(Printed::Tick { server, reply }))
 }
 
 /// Which event changes nothing, from the words behind `void`.
@@ -115,43 +131,18 @@ fn asked_of(word: Word, words: &[&[u8]]) -> Option<Printed>
     Some(Printed::Asked { word, quiet })
 }
 
-/// What a server shows, from the words behind `at`.
-fn show_of(alloc: Global, words: &[&[u8]]) -> Result<Option<Printed>, AllocError>
-    ensures found { IfOk result (λ o. IfSome o (Reads verb.Show (map (λ w. w.now) words.now))) }
-    ensures none { IfOk result (λ o. IfNone o ((p : Printed)
-        → Reads verb.Show (map (λ w. w.now) words.now) p → ⊥)) }
+/// What a meter has counted, from the words behind `meter`.
+fn meter_of(words: &[&[u8]]) -> Option<Printed>
+    ensures found { IfSome result (Reads verb.Meter (map (λ w. w.now) words.now)) }
+    ensures none { IfNone result ((p : Printed)
+        → Reads verb.Meter (map (λ w. w.now) words.now) p → ⊥) }
 {
-    let [server, file, named, heads, shown, length, first] = words else {
-        return Ok(None);
+    let [kind, value] = words else {
+        return None;
     };
-    if !is_same(named, b"heads") {
-        return Ok(None);
-    }
-    if !is_same(shown, b"shown") {
-        return Ok(None);
-    }
-    let Some(server) = number_u32(server) else {
-        return Ok(None);
-    };
-    let Some(file) = read_file(file) else {
-        return Ok(None);
-    };
-    let Some(heads) = read_stamps(alloc, heads)? else {
-        return Ok(None);
-    };
-    let Some(length) = number(length) else {
-        return Ok(None);
-    };
-    let Some(first) = read_hex_word(alloc, first, MOST_SHOWN)? else {
-        return Ok(None);
-    };
-    Ok(Some(Printed::Show {
-        server,
-        file,
-        heads,
-        length,
-        first,
-    }))
+    let kind = read_meter_kind(kind)?;
+    let value = number(value)?;
+    Some(Printed::Meter { kind, value })
 }
 
 /// The line that begins with this verb and goes on with these words. An event's line is read by its text.
@@ -162,13 +153,15 @@ fn verb_line(alloc: Global, verb: Verb, words: &[&[u8]]) -> Result<Option<Printe
 {
     match verb {
         Verb::Event => Ok(None),
-        Verb::Write(kind) => Ok(write_of(kind, words)),
-        Verb::Tick => Ok(tick_of(words)),
+        Verb::Write(kind) => Ok(write_of(alloc, kind, words)?),
+        Verb::Call => Ok(call_of(alloc, words)?),
+        Verb::Tick => Ok(tick_of(alloc, words)?),
         Verb::Void => Ok(nothing_of(words)),
         Verb::Made => Ok(made_of(alloc, words)?),
         Verb::Sent => Ok(sent_of(words)),
         Verb::Asked(word) => Ok(asked_of(word, words)),
-        Verb::Show => Ok(show_of(alloc, words)?),
+        Verb::At => Ok(at_of(alloc, words)?),
+        Verb::Meter => Ok(meter_of(words)),
     }
 }
 

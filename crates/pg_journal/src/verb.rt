@@ -12,12 +12,14 @@ use pg_trace::Word;
 pub(crate) enum Verb {
     Event,
     Write(ChangeKind),
+    Call,
     Tick,
     Void,
     Made,
     Sent,
     Asked(Word),
-    Show,
+    At,
+    Meter,
 }
 
 impl Verb {
@@ -31,6 +33,7 @@ impl Verb {
             b"put" => Verb::Write(ChangeKind::Put),
             b"patch" => Verb::Write(ChangeKind::Patch),
             b"trim" => Verb::Write(ChangeKind::Trim),
+            b"call" => Verb::Call,
             b"tick" => Verb::Tick,
             b"void" => Verb::Void,
             b"made" => Verb::Made,
@@ -38,7 +41,8 @@ impl Verb {
             b"settle" => Verb::Asked(Word::Settle),
             b"quiet" => Verb::Asked(Word::Quiet),
             b"end" => Verb::Asked(Word::End),
-            b"at" => Verb::Show,
+            b"at" => Verb::At,
+            b"meter" => Verb::Meter,
             _ => return None,
         };
         Some(verb)

@@ -1,4 +1,4 @@
-use pg_base::{FileId, Kind, SharedBytes, Stamp};
+use pg_base::{FileId, Kind, Shared, SharedBytes, Stamp};
 use pg_entries::{Cell, Entries, Entry};
 use pg_register::{GoldFlags, Place};
 use std::alloc::{AllocError, Global};
@@ -79,7 +79,8 @@ fn takes_what_is_newer(rt: HostRuntime) -> Result<(), Fail> {
 
 #[test]
 fn copies_cells(rt: HostRuntime) -> Result<(), Fail> {
-    let cell = Cell::Entry(entry(rt.alloc(), 1, 12, b"x")?, true);
+    let entry = Shared::new(rt.alloc(), entry(rt.alloc(), 1, 12, b"x")?)?;
+    let cell = Cell::Entry(entry, true);
     let is_sure = match cell.copy()? {
         Cell::Entry(_, sure) => sure,
         _ => false,

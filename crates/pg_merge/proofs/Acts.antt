@@ -10,11 +10,11 @@ use Rattle.pg_content.specs.Content.{Among}
 use Rattle.pg_content.specs.History.{IsHistory, IsMember}
 use Rattle.pg_flood.specs.World.{after}
 use Rattle.pg_msg.specs.declared.message.Sent.{Sent}
-use Rattle.pg_msg.specs.declared.update.Update.{Update}
+use Rattle.pg_msg.specs.declared.update.MadeVersion.{MadeVersion}
 use Rattle.pg_call.specs.declared.change.Change.{Change}
 use Rattle.pg_event.specs.declared.event.Event.TheVariants.{Write, Tick}
-use Rattle.pg_call.specs.declared.reply.Refusal.{Refusal}
-use Rattle.pg_call.specs.declared.reply.Refusal.TheVariants.{ClockEnd, TooLong, ManyActors}
+use Rattle.pg_call.specs.declared.refusal.Refusal.{Refusal}
+use Rattle.pg_call.specs.declared.refusal.Refusal.TheVariants.{ClockEnd, TooLong, ManyActors}
 use Rattle.pg_call.specs.declared.reply.Reply.{Reply}
 use Rattle.pg_call.specs.declared.reply.Reply.TheVariants.{Done, Refused}
 use Rattle.pg_replica.specs.declared.store.Store.{Store}
@@ -87,7 +87,7 @@ module _ (n : ℕ) (w : World) (whole : AreWhole n w) (k : IsSound n w) (s : ℕ
         })
         refl
 
-    abbrev new : Update
+    abbrev new : MadeVersion
     new = new_update actor moment file (ranges_of what)
 
     abbrev answer : Answer
@@ -97,10 +97,10 @@ module _ (n : ℕ) (w : World) (whole : AreWhole n w) (k : IsSound n w) (s : ℕ
     done = after_call answer
 
     module _ (small : n < 2 ^ 32) (time : actor.last < 2 ^ 62) where
-      abbrev made_then : List Update
+      abbrev made_then : List MadeVersion
       made_then = new ∷ history w.journal
 
-      fresh : (v : Update) → Among v (history w.journal) → v.stamp ≡ new.stamp → ⊥
+      fresh : (v : MadeVersion) → Among v (history w.journal) → v.stamp ≡ new.stamp → ⊥
       fresh v l same =
           let P : Stamp → Type 0 = (λ t. t.time ≤ (w.stores t.server).last) in
           let Q : ℕ → Type 0 = (λ j. new.stamp.time ≤ (w.stores j).last) in
@@ -179,7 +179,7 @@ module _ (n : ℕ) (w : World) (whole : AreWhole n w) (k : IsSound n w) (s : ℕ
 
       dated_then : AreDated (after w.stores s done.store) made_then
       dated_then v l = elim l [
-        | inl itself ↦ (let P : Update → Type 0 =
+        | inl itself ↦ (let P : MadeVersion → Type 0 =
             (λ x. x.stamp.time ≤ (after w.stores s done.store x.stamp.server).last) in
             subst P (sym itself) new_dated)
         | inr old ↦ dated_after w.stores s done.store (history w.journal)

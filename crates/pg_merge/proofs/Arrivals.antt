@@ -1,16 +1,16 @@
 -- A message that comes keeps that each server stands for what came to it.
-use Rattle.std.proofs.Common.{[], ℕ, ◌≡◌, ◌+◌, ◌==◌, ◌&&◌, Bool, true, cond, Option, None, Some, List, ◌++◌, refl, sym, ap, subst, ◌∙◌, inl, inr}
+use Rattle.std.proofs.Common.{[], ℕ, ◌≡◌, ◌≢◌, ◌≤◌, ◌+◌, ◌==◌, ◌&&◌, Bool, true, cond, Option, None, Some, List, ◌++◌, refl, sym, ap, subst, ◌∙◌, inl, inr}
 use Rattle.pg_content.proofs.Numbers.{member_of}
 use Rattle.std.proofs.lemmas.Bool.{eq-eqb}
-use Rattle.pg_base.specs.declared.id.FileId.{FileId}
 use Rattle.pg_base.specs.Version.{VersionValue}
 use Rattle.pg_content.specs.Content.{Among}
 use Rattle.pg_content.specs.History.{IsMember}
 use Rattle.pg_edges.specs.Edges.{is_listed}
+use Rattle.pg_msg.specs.declared.message.Ends.{Ends}
 use Rattle.pg_msg.specs.declared.message.Message.{Message}
 use Rattle.pg_msg.specs.View.{TaggedCell, view}
 use Rattle.pg_msg.specs.declared.message.Sent.{Sent}
-use Rattle.pg_msg.specs.declared.update.Update.{Update}
+use Rattle.pg_msg.specs.declared.update.MadeVersion.{MadeVersion}
 use Rattle.pg_event.specs.declared.event.Event.TheVariants.{Deliver}
 use Rattle.pg_replica.specs.declared.store.Store.{Store}
 use Rattle.pg_node.specs.Local.{Effect, after_message, receive_in_time}
@@ -23,36 +23,43 @@ use Rattle.pg_node.specs.Laws.{BringsVersionOf, Carries}
 use Rattle.pg_merge.proofs.Inputs.{IsAlongEdge, IsPassive, arrived_passive, arrived_stands}
 use Rattle.pg_merge.proofs.Events.{IsSound, among_choice, marks_then, left_carried, passive_keeps, server_of, still_carried}
 use Rattle.pg_node.proofs.Bags.{at_message}
-use Rattle.pg_node.proofs.Wholes.{AreWhole, IsOfRun, IsWhole}
+use Rattle.pg_node.proofs.Choices.{is_linked}
+use Rattle.pg_node.proofs.Wholes.{AreFirst, AreWhole, IsBetween, IsOfRun, IsWhole}
 use Rattle.pg_node.proofs.WholeRuns.{IsIn}
 use Rattle.pg_msg.specs.Work.{new_work}
 use Rattle.pg_merge.proofs.Acts.{apart}
 
--- a message of a run goes along an edge of its receiver
-along : (n s : ℕ) (a : Store) (from : ℕ) (m : Message) → IsWhole n s a
-    → IsOfRun n (record { to = s; packet = record { from = from; message = m } })
-    → IsAlongEdge a from m
-along n s a from m whole ofrun =
-    let ends = (view m).edge in
+-- a message of a run goes along an edge of its receiver, if it goes along one
+linked_first : (n s : ℕ) (a : Store) (from : ℕ) (o : Option Ends) → IsWhole n s a → 1 ≤ from
+    → from ≤ n → from ≢ s → AreFirst o → is_linked a from o ≡ true
+linked_first n s a from None whole least most apart births = refl
+linked_first n s a from (Some ends) whole least most apart births =
     let x = replica_of a ends.file in
     let born : (ends.receiver == x.birth) ≡ true =
-    eq-eqb ends.receiver x.birth (ofrun.receiver ∙ sym (whole.born ends.file)) in
-    let listed : is_listed x.edges from 1 ≡ true =
-    whole.listed ends.file from ofrun.from_least ofrun.from_most ofrun.apart in
+    eq-eqb ends.receiver x.birth (births.1 ∙ sym (whole.born ends.file)) in
+    let listed : is_listed x.edges from 1 ≡ true = whole.listed ends.file from least most apart in
     ap (λ b. b && is_listed x.edges from ends.sender) born
-    ∙ ap (is_listed x.edges from) ofrun.sender ∙ listed
+    ∙ ap (is_listed x.edges from) births.0 ∙ listed
+
+along : (n s : ℕ) (a : Store) (from : ℕ) (m : Message) → IsWhole n s a → IsBetween n from s m
+    → IsAlongEdge a from m
+along n s a from m whole between =
+    linked_first n s a from (view m).edge whole between.from_least between.from_most between.apart
+    between.births
 
 -- what a message carries was made
-carried_member : (us : List Update) (file : FileId) (o : Option TaggedCell)
-    → BringsVersionOf file (made_for file us) o → (x : Mark) → Among x (marks_in file o)
+carried_member : (us : List MadeVersion) (edge : Option Ends) (o : Option TaggedCell)
+    → BringsVersionOf us edge o → (x : Mark) → Among x (marks_in edge o)
     → IsMember (made_for x.file us) x.stamp
-carried_member us file None c x l = absurd l
-carried_member us file (Some cell) c x l = elim l [
+carried_member us None o c x l = absurd l
+carried_member us (Some ends) None c x l = absurd l
+carried_member us (Some ends) (Some cell) c x l = elim l [
   | inl itself ↦
       let P : Mark → Type 0 = (λ y. IsMember (made_for y.file us) y.stamp) in
       let stamp = ap (λ (y : VersionValue). y.head.stamp) c.2 in
       subst P (sym itself)
-      (subst (IsMember (made_for file us)) (sym stamp) (member_of (made_for file us) c.0 c.1))
+      (subst (IsMember (made_for ends.file us)) (sym stamp)
+      (member_of (made_for ends.file us) c.0 c.1))
   | inr none ↦ absurd none
 ]
 
@@ -109,7 +116,7 @@ module _ (n : ℕ) (w : World) (whole : AreWhole n w) (k : IsSound n w) (number 
             ∙ ap (λ b. cond (b && going t) carried []) (apart m.to t other);
         undrawn = λ t other. no_cells t m.to (history w.journal) arrival.out.sent other
             passive.from;
-        came = λ t x l. carried_member (history w.journal) (view m.packet.message).edge.file
+        came = λ t x l. carried_member (history w.journal) (view m.packet.message).edge
             (view m.packet.message).brings carries_now x
             (among_choice x (m.to == t && going t) carried (subst (Among x) (marks_then_is t) l));
         carried = still_carried (history w.journal)

@@ -7,6 +7,7 @@ use Rattle.pg_content.specs.History.{IsMember}
 use Rattle.pg_flood.specs.World.{after}
 use Rattle.pg_flood.proofs.Flood.{here}
 use Rattle.pg_msg.specs.declared.message.Sent.{Sent}
+use Rattle.pg_msg.specs.declared.update.MadeVersion.{MadeVersion}
 use Rattle.pg_msg.specs.declared.update.Update.{Update}
 use Rattle.pg_event.specs.declared.event.Event.{Event}
 use Rattle.pg_call.specs.declared.reply.Reply.{Reply}
@@ -25,8 +26,8 @@ use Rattle.pg_node.proofs.Wholes.{AreWhole}
 use Rattle.pg_node.proofs.WholeRuns.{IsIn}
 
 -- each version has a time that its server's clock has come to
-abbrev pub AreDated : (ℕ → Store) → List Update → Type 0
-AreDated stores us = (u : Update) → Among u us → u.stamp.time ≤ (stores u.stamp.server).last
+abbrev pub AreDated : (ℕ → Store) → List MadeVersion → Type 0
+AreDated stores us = (u : MadeVersion) → Among u us → u.stamp.time ≤ (stores u.stamp.server).last
 
 -- THE INVARIANT: the versions that were made are histories; each server stands for what came to it,
 -- and that was made; no version has a time to which its server's clock has not come; and messages
@@ -72,7 +73,7 @@ pub among_choice : (m : Mark) (t : Bool) (ms : List Mark) → Among m (cond t ms
 among_choice m true ms l = l
 among_choice m false ms l = absurd l
 
-pub more_known : (us : List Update) (more ms : List Mark)
+pub more_known : (us : List MadeVersion) (more ms : List Mark)
     → ((m : Mark) → Among m more → IsMember (made_for m.file us) m.stamp) → AreKnown us ms
     → AreKnown us (more ++ ms)
 more_known us more ms new old m l =
@@ -109,7 +110,7 @@ by_server P stores s b own others t = elim (here stores s b t) [
 ]
 
 -- clocks only rise
-pub dated_after : (stores : ℕ → Store) (s : ℕ) (b : Store) (us : List Update)
+pub dated_after : (stores : ℕ → Store) (s : ℕ) (b : Store) (us : List MadeVersion)
     → (stores s).last ≤ b.last → AreDated stores us → AreDated (after stores s b) us
 dated_after stores s b us le dated u l =
     let up = by_server (λ t x. (stores t).last ≤ x.last) stores s b le
@@ -120,12 +121,12 @@ dated_after stores s b us le dated u l =
 -- ---- messages under way
 
 -- what is left, and what is sent now
-pub still_carried : (us : List Update) (left sent : List Sent) → AllCarry us left → AllCarry us sent
-    → AllCarry us (left ++ sent)
+pub still_carried : (us : List MadeVersion) (left sent : List Sent) → AllCarry us left
+    → AllCarry us sent → AllCarry us (left ++ sent)
 still_carried us left sent h k =
     All-append (λ (m : Sent). Carries us m.packet.message) left sent h k
 
-pub none_sent : (us : List Update) → AllCarry us []
+pub none_sent : (us : List MadeVersion) → AllCarry us []
 none_sent us = All-nil (λ (m : Sent). Carries us m.packet.message)
 
 -- a message went

@@ -10,14 +10,14 @@ use Rattle.pg_base.proofs.Orders.{is_same_file-true, is_same_file-refl}
 use Rattle.pg_content.specs.Content.{Among}
 use Rattle.pg_content.specs.History.{IsAncestor, IsHistory, IsMember, IsNext, Made, vector_of}
 use Rattle.pg_content.proofs.Numbers.{earlier_vector, member_of}
-use Rattle.pg_msg.specs.declared.update.Update.{Update}
+use Rattle.pg_msg.specs.declared.update.MadeVersion.{MadeVersion}
 use Rattle.pg_node.specs.Journal.{made_for, made_of}
 
 -- ---- the versions of a file, where one more was made
 
 -- a fact on a file's versions: the one of the last, where it is of that file, and else the one of
 -- those before it
-pub by_file : (P : FileId → List Made → Type 0) (u : Update) (us : List Update)
+pub by_file : (P : FileId → List Made → Type 0) (u : MadeVersion) (us : List MadeVersion)
     → P u.file (made_of u ∷ made_for u.file us) → ((file : FileId) → P file (made_for file us))
     → (file : FileId) → P file (made_for file (u ∷ us))
 by_file P u us last before file =
@@ -25,31 +25,32 @@ by_file P u us last before file =
     (λ e. let Q : FileId → Type 0 = (λ f. P f (made_of u ∷ made_for f us)) in
     subst Q (sym (is_same_file-true file u.file e)) last) (λ e. before file)
 
-pub own_file : (u : Update) (us : List Update)
+pub own_file : (u : MadeVersion) (us : List MadeVersion)
     → made_for u.file (u ∷ us) ≡ made_of u ∷ made_for u.file us
 own_file u us = ap (λ t. cond t (made_of u ∷ made_for u.file us) (made_for u.file us))
     (is_same_file-refl u.file)
 
 -- each version of a file is that of an update
-update_by : (file : FileId) (m : Made) (u : Update) (us : List Update) (t : Bool)
+update_by : (file : FileId) (m : Made) (u : MadeVersion) (us : List MadeVersion) (t : Bool)
     → is_same_file file u.file ≡ t
     → Among m (cond t (made_of u ∷ made_for file us) (made_for file us))
-    → (Among m (made_for file us) → (v : Update) × Among v us × (file ≡ v.file) × (m ≡ made_of v))
-    → (v : Update) × Among v (u ∷ us) × (file ≡ v.file) × (m ≡ made_of v)
+    → (Among m (made_for file us)
+    → (v : MadeVersion) × Among v us × (file ≡ v.file) × (m ≡ made_of v))
+    → (v : MadeVersion) × Among v (u ∷ us) × (file ≡ v.file) × (m ≡ made_of v)
 update_by file m u us true e l rest = elim l [
   | inl last ↦ (u, inl refl, is_same_file-true file u.file e, last)
   | inr earlier ↦ let r = rest earlier in (r.0, inr r.1, r.2, r.3)
 ]
 update_by file m u us false e l rest = let r = rest l in (r.0, inr r.1, r.2, r.3)
 
-pub update_of : (file : FileId) (m : Made) (us : List Update) → Among m (made_for file us)
-    → (v : Update) × Among v us × (file ≡ v.file) × (m ≡ made_of v)
+pub update_of : (file : FileId) (m : Made) (us : List MadeVersion) → Among m (made_for file us)
+    → (v : MadeVersion) × Among v us × (file ≡ v.file) × (m ≡ made_of v)
 update_of file m [] l = absurd l
 update_of file m (u ∷ us) l =
     update_by file m u us (is_same_file file u.file) refl l (update_of file m us)
 
 -- a member stays one
-pub member_later : (file : FileId) (s : Stamp) (u : Update) (us : List Update)
+pub member_later : (file : FileId) (s : Stamp) (u : MadeVersion) (us : List MadeVersion)
     → IsMember (made_for file us) s → IsMember (made_for file (u ∷ us)) s
 member_later file s u us is =
     cond_both (is_same_file file u.file) (made_of u ∷ made_for file us) (made_for file us)
@@ -58,23 +59,23 @@ member_later file s u us is =
 -- ---- what holds of the versions that were made
 
 -- no ancestor has a later time; no number in a vector is above the version's time
-pub record AreMade (us : List Update) : Type 0 where
+pub record AreMade (us : List MadeVersion) : Type 0 where
   pub histories : (file : FileId) → IsHistory (made_for file us)
   pub order : (file : FileId) (u v : Stamp) → IsAncestor (made_for file us) u v → u.time ≤ v.time
   pub numbers : (file : FileId) (m : Made) → Among m (made_for file us) → (a : Actor)
       → number_at (vector_of (made_for file us) m.stamp) a ≤ m.stamp.time
-  pub one : (u v : Update) → Among u us → Among v us → u.stamp ≡ v.stamp → u ≡ v
+  pub one : (u v : MadeVersion) → Among u us → Among v us → u.stamp ≡ v.stamp → u ≡ v
 
 -- what one more has to keep
-pub record IsNextUpdate (us : List Update) (u : Update) : Type 0 where
+pub record IsNextUpdate (us : List MadeVersion) (u : MadeVersion) : Type 0 where
   pub next : IsNext (made_for u.file us) (made_of u)
   pub order : (s : Stamp) → IsAncestor (made_of u ∷ made_for u.file us) s u.stamp
       → s.time ≤ u.stamp.time
   pub numbers : (a : Actor)
       → number_at (vector_of (made_of u ∷ made_for u.file us) u.stamp) a ≤ u.stamp.time
-  pub fresh : (v : Update) → Among v us → v.stamp ≡ u.stamp → ⊥
+  pub fresh : (v : MadeVersion) → Among v us → v.stamp ≡ u.stamp → ⊥
 
-module _ (u : Update) (us : List Update) (k : AreMade us) (n : IsNextUpdate us u) where
+module _ (u : MadeVersion) (us : List MadeVersion) (k : AreMade us) (n : IsNextUpdate us u) where
   pub last_history : IsHistory (made_of u ∷ made_for u.file us)
   last_history = (n.next, k.histories u.file)
 
@@ -99,14 +100,14 @@ module _ (u : Update) (us : List Update) (k : AreMade us) (n : IsNextUpdate us u
         omega arith
   ]
 
-  later_one : (v w : Update) → Among v (u ∷ us) → Among w (u ∷ us) → v.stamp ≡ w.stamp → v ≡ w
+  later_one : (v w : MadeVersion) → Among v (u ∷ us) → Among w (u ∷ us) → v.stamp ≡ w.stamp → v ≡ w
   later_one v w p q e = elim p [
     | inl first ↦ elim q [
       | inl second ↦ first ∙ sym second
-      | inr earlier ↦ absurd (n.fresh w earlier (sym e ∙ ap (λ (x : Update). x.stamp) first))
+      | inr earlier ↦ absurd (n.fresh w earlier (sym e ∙ ap (λ (x : MadeVersion). x.stamp) first))
     ]
     | inr earlier ↦ elim q [
-      | inl second ↦ absurd (n.fresh v earlier (e ∙ ap (λ (x : Update). x.stamp) second))
+      | inl second ↦ absurd (n.fresh v earlier (e ∙ ap (λ (x : MadeVersion). x.stamp) second))
       | inr also ↦ k.one v w earlier also e
     ]
   ]

@@ -14,7 +14,7 @@ use Rattle.pg_content.proofs.HeadsOf.{is_ancestor-true, is_ancestor-by}
 use Rattle.pg_content.specs.Content.{Among}
 use Rattle.pg_content.specs.History.{IsAncestor, IsHistory, IsMember, Made, is_ancestor, is_same_stamp}
 use Rattle.pg_content.specs.StandsFor.{IsClosed, IsWith}
-use Rattle.pg_msg.specs.declared.update.Update.{Update}
+use Rattle.pg_msg.specs.declared.update.MadeVersion.{MadeVersion}
 use Rattle.pg_node.specs.Journal.{Mark, is_within, last_of, made_for, stamps_for, with_ancestors}
 
 -- ---- versions with their ancestors
@@ -208,10 +208,10 @@ stamp_in_time file s ms l =
     let P : Stamp → Type 0 = (λ t. t.time ≤ last_of ms) in subst P (sym n.3) le
 
 -- each version that came was made
-abbrev pub AreKnown : List Update → List Mark → Type 0
+abbrev pub AreKnown : List MadeVersion → List Mark → Type 0
 AreKnown us ms = (m : Mark) → Among m ms → IsMember (made_for m.file us) m.stamp
 
-pub known_members : (file : FileId) (us : List Update) (ms : List Mark) → AreKnown us ms
+pub known_members : (file : FileId) (us : List MadeVersion) (ms : List Mark) → AreKnown us ms
     → AreMembers (made_for file us) (stamps_for file ms)
 known_members file us ms known s l =
     let n = stamp_came file s ms l in

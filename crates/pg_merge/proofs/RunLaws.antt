@@ -11,10 +11,10 @@ use Rattle.pg_content.proofs.Ancestry.{ancestry}
 use Rattle.pg_content.proofs.HeadsOf.{content_is, content_stands}
 use Rattle.pg_content.proofs.Standing.{same_content}
 use Rattle.pg_msg.specs.declared.message.Sent.{Sent}
-use Rattle.pg_msg.specs.declared.update.Update.{Update}
+use Rattle.pg_msg.specs.declared.update.MadeVersion.{MadeVersion}
 use Rattle.pg_event.specs.declared.event.Event.{Event}
-use Rattle.pg_event.specs.declared.event.Event.TheVariants.{Write, Tick, Deliver, Lose, Repeat}
-use Rattle.pg_event.specs.declared.entry.VoidCause.TheVariants.{NoMessage, NoServer}
+use Rattle.pg_event.specs.declared.event.Event.TheVariants.{Write, Call, Tick, Deliver, Lose, Repeat, Restart, Remove}
+use Rattle.pg_event.specs.declared.entry.VoidCause.TheVariants.{NoMessage, NoServer, Unbuilt}
 use Rattle.pg_replica.specs.Store.{has_time, held_content}
 use Rattle.pg_replica.specs.Untouched.{policy_of}
 use Rattle.pg_node.specs.Journal.{Mark, bag, bag_after, marks_at, marks_from, tag_count, tag_count_by, history, last_of, message_at, stamps_for, state_of, taken, versions, without}
@@ -82,6 +82,8 @@ module _ (n : ℕ) (small : n < 2 ^ 32) (w : World) (whole : AreWhole n w) (k : 
       (idle_step w e (Some NoServer))
       (λ t. write_keeps n w whole k s (is_in n s t) moment file what small)
       (still_keeps n w e (Some NoServer) k (λ t. no_marks (s == t)) (λ t. refl) no_more)
+  next_keeps (Call s moment call) =
+      still_keeps n w (Call s moment call) (Some Unbuilt) k (λ t. refl) (λ t. refl) no_more
   next_keeps (Tick s moment word) =
       let e = Tick s moment word in
       tested (λ x. IsSound n (world_after w x)) (is_server n s)
@@ -97,6 +99,10 @@ module _ (n : ℕ) (small : n < 2 ^ 32) (w : World) (whole : AreWhole n w) (k : 
       moved_keeps (Repeat number) (message_at (bag w.journal) number) (λ t. refl) (λ t. refl)
       (left_copied P (bag w.journal) (message_at (bag w.journal) number) k.carried
       (λ m e. at_message P (bag w.journal) number m k.carried e))
+  next_keeps (Restart s) =
+      still_keeps n w (Restart s) (Some Unbuilt) k (λ t. refl) (λ t. refl) k.carried
+  next_keeps (Remove s) =
+      still_keeps n w (Remove s) (Some Unbuilt) k (λ t. refl) (λ t. refl) k.carried
 
 -- ---- all events
 
@@ -209,15 +215,15 @@ carries_the_history n small events m under =
     All-contains (λ (x : Sent). IsOfHistory (run n events).journal x.packet.message)
     (bag (run n events).journal) m (holds_history n small events).carried under
 
-each_among : (us : List Update) → All (λ u. Among u us) us
-each_among [] = All-nil (λ (u : Update). Among u [])
+each_among : (us : List MadeVersion) → All (λ u. Among u us) us
+each_among [] = All-nil (λ (u : MadeVersion). Among u [])
 each_among (x ∷ us) =
-    All-cons (λ (u : Update). Among u (x ∷ us)) x us (inl refl)
-    (All-weaker (λ (u : Update). Among u us) (λ (u : Update). Among u (x ∷ us)) (λ u l. inr l) us
-    (each_among us))
+    All-cons (λ (u : MadeVersion). Among u (x ∷ us)) x us (inl refl)
+    (All-weaker (λ (u : MadeVersion). Among u us) (λ (u : MadeVersion). Among u (x ∷ us))
+    (λ u l. inr l) us (each_among us))
 
-contains_among : (us : List Update) (u : Update) → Contains us u → Among u us
-contains_among us u c = All-contains (λ (x : Update). Among x us) us u (each_among us) c
+contains_among : (us : List MadeVersion) (u : MadeVersion) → Contains us u → Among u us
+contains_among us u c = All-contains (λ (x : MadeVersion). Among x us) us u (each_among us) c
 
 pub one_version_a_stamp : (n : ℕ) → n < 2 ^ 32 → OneVersionAStamp n
 one_version_a_stamp n small events u v h k same =

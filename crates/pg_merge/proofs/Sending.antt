@@ -24,7 +24,7 @@ use Rattle.pg_msg.specs.declared.message.Ends.{Ends}
 use Rattle.pg_msg.specs.declared.message.Message.{Message}
 use Rattle.pg_msg.specs.View.{TaggedCell, view}
 use Rattle.pg_msg.specs.declared.message.Sent.{Sent}
-use Rattle.pg_msg.specs.declared.update.Update.{Update}
+use Rattle.pg_msg.specs.declared.update.MadeVersion.{MadeVersion}
 use Rattle.pg_repair.specs.Cells.{ack_to}
 use Rattle.pg_repair.specs.Sending.{cell_to, cells, tagged_cell, key_cell}
 use Rattle.pg_replica.specs.Untouched.{policy_of}
@@ -45,7 +45,7 @@ use Rattle.pg_node.proofs.Found.{entries_known}
 
 -- ---- messages of the history
 
-abbrev pub AllCarry : List Update → List Sent → Type 0
+abbrev pub AllCarry : List MadeVersion → List Sent → Type 0
 AllCarry us ms = All (λ m. Carries us m.packet.message) ms
 
 -- one more version
@@ -55,21 +55,22 @@ version_by file m h v true k c =
     (c.0, inr c.1, c.2 ∙ earlier_version m h k (policy_of file) c.0 c.1)
 version_by file m h v false k c = c
 
-brings_more : (u : Update) (us : List Update)
+brings_more : (u : MadeVersion) (us : List MadeVersion)
     → ((file : FileId) → IsHistory (made_for file (u ∷ us)))
-    → (file : FileId) (o : Option TaggedCell) → BringsVersionOf file (made_for file us) o
-    → BringsVersionOf file (made_for file (u ∷ us)) o
-brings_more u us k file None c = tt
-brings_more u us k file (Some cell) c =
-    version_by file (made_of u) (made_for file us) cell.version (is_same_file file u.file)
-    (k file) c
+    → (edge : Option Ends) (o : Option TaggedCell) → BringsVersionOf us edge o
+    → BringsVersionOf (u ∷ us) edge o
+brings_more u us k edge None c = tt
+brings_more u us k None (Some cell) c = absurd c
+brings_more u us k (Some ends) (Some cell) c =
+    version_by ends.file (made_of u) (made_for ends.file us) cell.version
+    (is_same_file ends.file u.file) (k ends.file) c
 
-pub carries_more : (u : Update) (us : List Update)
+pub carries_more : (u : MadeVersion) (us : List MadeVersion)
     → ((file : FileId) → IsHistory (made_for file (u ∷ us))) → (m : Message) → Carries us m
     → Carries (u ∷ us) m
-carries_more u us k m c = brings_more u us k (view m).edge.file (view m).brings c
+carries_more u us k m c = brings_more u us k (view m).edge (view m).brings c
 
-pub all_carry_more : (u : Update) (us : List Update) (ms : List Sent)
+pub all_carry_more : (u : MadeVersion) (us : List MadeVersion) (ms : List Sent)
     → ((file : FileId) → IsHistory (made_for file (u ∷ us))) → AllCarry us ms → AllCarry (u ∷ us) ms
 all_carry_more u us ms k h =
     All-weaker (λ (m : Sent). Carries us m.packet.message)
@@ -79,16 +80,16 @@ all_carry_more u us ms k h =
 -- ---- from whom
 
 -- the message is this server's, and of the history
-pub record IsFrom (server : ℕ) (us : List Update) (m : Sent) : Type 0 where
+pub record IsFrom (server : ℕ) (us : List MadeVersion) (m : Sent) : Type 0 where
   pub from : m.packet.from ≡ server
   pub carries : Carries us m.packet.message
 
 -- each head that the server holds is a version that was made
-abbrev pub HoldsMade : List Update → Store → Type 0
+abbrev pub HoldsMade : List MadeVersion → Store → Type 0
 HoldsMade us b = (file : FileId) (v : VersionValue) → Among v (held_content b file).heads
     → IsVersionOf file (made_for file us) v
 
-module _ (server : ℕ) (us : List Update) (file : FileId) (birth : ℕ) (e : Edge) where
+module _ (server : ℕ) (us : List MadeVersion) (file : FileId) (birth : ℕ) (e : Edge) where
   key_from : (o : Option VersionValue) (tag : ℕ)
       → ((v : VersionValue) → o ≡ Some v → IsVersionOf file (made_for file us) v)
       → All (IsFrom server us) (key_cell server file birth e o tag)
@@ -105,7 +106,7 @@ module _ (server : ℕ) (us : List Update) (file : FileId) (birth : ℕ) (e : Ed
       (record { from = refl; carries = h }) (All-nil (IsFrom server us))
 
 -- the cells of heads are of the history
-module _ (b : Store) (us : List Update) (made : HoldsMade us b) where
+module _ (b : Store) (us : List MadeVersion) (made : HoldsMade us b) where
   abbrev AllOwn : List Sent → Type 0
   AllOwn ms = All (IsFrom b.server us) ms
 
@@ -160,11 +161,11 @@ module _ (b : Store) (us : List Update) (made : HoldsMade us b) where
       (λ r here. replica_from r.0 r.1 (ap (or_new (home_of b) r.0) here)) b.replicas
       (entries_known b order))
 
-pub ack_from : (server from : ℕ) (us : List Update) (ends : Ends) (k : Key) (tag : ℕ)
+pub ack_from : (server from : ℕ) (us : List MadeVersion) (ends : Ends) (k : Key) (tag : ℕ)
     → IsFrom server us (ack_to server from ends k tag)
 ack_from server from us ends k tag = record { from = refl; carries = tt }
 
-pub from_carry : (server : ℕ) (us : List Update) (ms : List Sent) → All (IsFrom server us) ms
+pub from_carry : (server : ℕ) (us : List MadeVersion) (ms : List Sent) → All (IsFrom server us) ms
     → AllCarry us ms
 from_carry server us ms h =
     All-weaker (IsFrom server us) (λ (m : Sent). Carries us m.packet.message)
@@ -217,7 +218,7 @@ count_ack s server from ends k tag ms =
     no_sides (server == s) (cell_count s ms + 1) (cell_count s ms)
 
 -- another server's messages are no cells of this one
-pub no_cells : (t s : ℕ) (us : List Update) (ms : List Sent) → t ≢ s → All (IsFrom s us) ms
+pub no_cells : (t s : ℕ) (us : List MadeVersion) (ms : List Sent) → t ≢ s → All (IsFrom s us) ms
     → cell_count t ms ≡ 0
 no_cells t s us [] other h = refl
 no_cells t s us (m ∷ ms) other h =

@@ -17,7 +17,7 @@ use Rattle.pg_content.proofs.HeadsOf.{content_stands}
 use Rattle.pg_edges.specs.declared.key.Key.{Key}
 use Rattle.pg_replica.specs.declared.replica.Replica.{Replica}
 use Rattle.pg_replica.specs.Replica.{with_ack}
-use Rattle.pg_msg.specs.declared.update.Update.{Update}
+use Rattle.pg_msg.specs.declared.update.MadeVersion.{MadeVersion}
 use Rattle.pg_replica.specs.declared.store.Store.{Store}
 use Rattle.pg_replica.specs.Store.{held_content, replica_at, new_store, with_replica, home_of, store_acked}
 use Rattle.pg_replica.specs.Untouched.{no_content, policy_of}
@@ -30,7 +30,7 @@ use Rattle.pg_replica.specs.declared.link.Link.{Link}
 
 -- server s holds, of the versions that were made, what those come to that came to it; its clock is
 -- at their greatest time, and it gave out so many tags
-pub record Stands (s : ℕ) (a : Store) (us : List Update) (marks : List Mark)
+pub record Stands (s : ℕ) (a : Store) (us : List MadeVersion) (marks : List Mark)
     (drawn : ℕ) : Type 0 where
   pub last : a.last ≡ last_of marks
   pub tags : a.tags ≡ drawn + 1
@@ -96,7 +96,7 @@ answered_same a file link k tag (Some x) h =
           ∙ same_content a file x q (is_same_file q file) refl h;
     }
 
-pub stands_held : {s : ℕ} {a b : Store} {us : List Update} {marks : List Mark} {drawn : ℕ}
+pub stands_held : {s : ℕ} {a b : Store} {us : List MadeVersion} {marks : List Mark} {drawn : ℕ}
     → SameHeld a b → Stands s a us marks drawn → Stands s b us marks drawn
 stands_held {s = s} {us = us} {marks = marks} e k = record {
   last = e.last ∙ k.last;
@@ -106,7 +106,7 @@ stands_held {s = s} {us = us} {marks = marks} e k = record {
 }
 
 -- no tag is given out
-pub none_drawn : {s : ℕ} {a : Store} {us : List Update} {marks : List Mark} {drawn : ℕ}
+pub none_drawn : {s : ℕ} {a : Store} {us : List MadeVersion} {marks : List Mark} {drawn : ℕ}
     → Stands s a us marks drawn → Stands s a us marks (0 + drawn)
 none_drawn {s = s} {a = a} {us = us} {marks = marks} {drawn = drawn} k =
     let same : drawn ≡ 0 + drawn = omega arith in subst (Stands s a us marks) same k
@@ -118,7 +118,7 @@ mark file stamp = record { file = file; stamp = stamp }
 
 -- one file's content is this now; the others stay
 files_put : (s : ℕ) (a b : Store) (file : FileId) (stamp : Stamp) (c : ContentValue)
-    (us : List Update) (marks : List Mark)
+    (us : List MadeVersion) (marks : List Mark)
     → ((q : FileId) → held_content b q ≡ cond (is_same_file q file) c (held_content a q))
     → HoldsFile s file c (made_for file us) (stamp ∷ stamps_for file marks)
     → ((q : FileId) → is_same_file q file ≡ false
@@ -143,11 +143,11 @@ given : (more drawn : ℕ) → drawn + 1 + more ≡ more + drawn + 1
 given more drawn = omega arith
 
 -- a version came at one file: the clock has come to its time, and so many tags were given out
-module _ {s : ℕ} {a : Store} {us : List Update} {marks : List Mark} {drawn : ℕ}
+module _ {s : ℕ} {a : Store} {us : List MadeVersion} {marks : List Mark} {drawn : ℕ}
     (k : Stands s a us marks drawn) (b : Store) (more : ℕ) (stamp : Stamp)
     (clock : b.last ≡ max a.last stamp.time) (tags : b.tags ≡ a.tags + more) where
   -- its own write
-  pub stands_wrote : (u : Update) (c : ContentValue) → stamp ≡ u.stamp
+  pub stands_wrote : (u : MadeVersion) (c : ContentValue) → stamp ≡ u.stamp
       → ((q : FileId) → held_content b q ≡ cond (is_same_file q u.file) c (held_content a q))
       → HoldsFile s u.file c (made_of u ∷ made_for u.file us) (u.stamp ∷ stamps_for u.file marks)
       → Stands s b (u ∷ us) (mark u.file u.stamp ∷ marks) (more + drawn)
@@ -176,8 +176,8 @@ module _ {s : ℕ} {a : Store} {us : List Update} {marks : List Mark} {drawn : �
   }
 
 -- another server's write
-pub stands_later : {t : ℕ} {a : Store} {us : List Update} {marks : List Mark} {drawn : ℕ}
-    → Stands t a us marks drawn → AreKnown us marks → (u : Update)
+pub stands_later : {t : ℕ} {a : Store} {us : List MadeVersion} {marks : List Mark} {drawn : ℕ}
+    → Stands t a us marks drawn → AreKnown us marks → (u : MadeVersion)
     → IsHistory (made_of u ∷ made_for u.file us) → u.stamp.server ≢ t
     → Stands t a (u ∷ us) marks drawn
 stands_later {t = t} {a = a} {us = us} {marks = marks} k known u history other = record {
@@ -206,14 +206,14 @@ new_stands n s = record {
 -- ---- what is held, in time
 
 -- server s of a run: it stands for what came to it, and all of that was made
-pub record IsServer (s : ℕ) (a : Store) (us : List Update) (marks : List Mark)
+pub record IsServer (s : ℕ) (a : Store) (us : List MadeVersion) (marks : List Mark)
     (drawn : ℕ) : Type 0 where
   pub server : a.server ≡ s
   pub stands : Stands s a us marks drawn
   pub made : AreMade us
   pub known : AreKnown us marks
 
-module _ {s : ℕ} {a : Store} {us : List Update} {marks : List Mark} {drawn : ℕ}
+module _ {s : ℕ} {a : Store} {us : List MadeVersion} {marks : List Mark} {drawn : ℕ}
     (k : IsServer s a us marks drawn) where
   -- no version that was taken has a time after the clock's
   pub taken_upto : (file : FileId) (t : Stamp)

@@ -18,7 +18,7 @@ use Rattle.pg_content.proofs.Numbers.{bases_from, made_of as member_made, more_c
 use Rattle.pg_content.proofs.Members.{any_found}
 use Rattle.pg_content.proofs.Members.{among_all}
 use Rattle.pg_content.proofs.StandsWritten.{may_be_made, stands_written}
-use Rattle.pg_msg.specs.declared.update.Update.{Update}
+use Rattle.pg_msg.specs.declared.update.MadeVersion.{MadeVersion}
 use Rattle.pg_replica.specs.declared.store.Store.{Store}
 use Rattle.pg_replica.specs.Replica.{has_room, own_actor}
 use Rattle.pg_replica.specs.Store.{held_content, replica_of}
@@ -29,13 +29,13 @@ use Rattle.pg_merge.proofs.States.{IsServer, came_members, number_upto, taken_up
 
 -- a server may make this version now: on all heads that it holds, with a time that is later than
 -- its clock's
-pub record IsWrite (s : ℕ) (a : Store) (us : List Update) (u : Update) : Type 0 where
+pub record IsWrite (s : ℕ) (a : Store) (us : List MadeVersion) (u : MadeVersion) : Type 0 where
   pub based : u.bases ≡ map stamp_of (held_content a u.file).heads
   pub server : u.stamp.server ≡ s
   pub later : a.last < u.stamp.time
   pub few : s < 2 ^ 32
   pub time : a.last < 2 ^ 62
-  pub fresh : (v : Update) → Among v us → v.stamp ≡ u.stamp → ⊥
+  pub fresh : (v : MadeVersion) → Among v us → v.stamp ≡ u.stamp → ⊥
 
 not_true : (t : Bool) → (t ≡ true → ⊥) → not t ≡ true
 not_true true h = absurd (h refl)
@@ -45,7 +45,7 @@ not_true false h = refl
 abbrev is_full : Actor → VersionValue → Bool
 is_full q v = nat_le clock_end (number_at v.head.vector q)
 
-module _ {s : ℕ} {a : Store} {us : List Update} {marks : List Mark} {drawn : ℕ}
+module _ {s : ℕ} {a : Store} {us : List MadeVersion} {marks : List Mark} {drawn : ℕ}
     (k : IsServer s a us marks drawn) where
   -- before the end of the clock no number is at its end
   pub room_in_time : a.last < 2 ^ 62 → (file : FileId)
@@ -58,7 +58,7 @@ module _ {s : ℕ} {a : Store} {us : List Update} {marks : List Mark} {drawn : �
       let full = x.2 in
       grind (arith, nat_tests))
 
-  module _ (u : Update) (i : IsWrite s a us u) where
+  module _ (u : MadeVersion) (i : IsWrite s a us u) where
     abbrev h : List Made
     h = made_for u.file us
 

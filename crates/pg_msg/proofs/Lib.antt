@@ -1,4 +1,5 @@
 pub mod Keys
+pub mod KindWords
 pub mod Parts
 pub mod Summaries
 pub mod UpdateWords

@@ -1,12 +1,12 @@
 -- The words of a version that was made, by their indexes.
 use Rattle.std.proofs.Common.{ℕ, ◌≡◌, List, [], ◌∷◌, length, Bor, arith, codes}
-use Rattle.pg_msg.specs.UpdateText.{update_words}
+use Rattle.pg_msg.specs.UpdateText.{version_words}
 use Rattle.pg_words.proofs.ListWords.{texts}
 use Rattle.pg_words.proofs.WordIndexes.{at}
 
 -- eleven words, of which five are those of each version that was made
 pub eleven : (ws : List (Bor (List ℕ))) (d : Bor (List ℕ)) → length ws ≡ 11 → at ws d 0 ≡ codes "version" → at ws d 3 ≡ codes "from" → at ws d 5 ≡ codes "keep" → at ws d 7 ≡ codes "least" → at ws d 9 ≡ codes "parts"
-    → texts ws ≡ update_words (at ws d 1) (at ws d 2) (at ws d 4) (at ws d 6) (at ws d 8) (at ws d 10)
+    → texts ws ≡ version_words (at ws d 1) (at ws d 2) (at ws d 4) (at ws d 6) (at ws d 8) (at ws d 10)
 eleven [] d h p0 p3 p5 p7 p9 = absurd (omega arith)
 eleven (xa ∷ []) d h p0 p3 p5 p7 p9 = absurd (omega arith)
 eleven (xa ∷ xb ∷ []) d h p0 p3 p5 p7 p9 = absurd (omega arith)

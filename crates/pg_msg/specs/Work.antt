@@ -4,14 +4,13 @@ use Rattle.pg_base.specs.declared.id.FileId.{FileId}
 use Rattle.pg_edges.specs.declared.key.Key.{Key}
 use Rattle.pg_msg.specs.declared.message.Sent.{Sent}
 use Rattle.pg_msg.specs.declared.update.Update.{Update}
-use Rattle.pg_msg.specs.declared.work.Touched.{Touched}
 use Rattle.pg_msg.specs.declared.work.Work.{Work}
 
 -- nothing is done yet, at this moment, where a message came from this server
 abbrev pub new_work : ℕ → ℕ → Work
 new_work now from = record { now = now; from = from; made = []; sent = []; touched = [] }
 
--- one version more was made
+-- one update more was made
 abbrev pub with_made : Work → Update → Work
 with_made work update = record work { made = work.made ++ update ∷ [] }
 

@@ -9,7 +9,7 @@ mod update;
 mod work;
 
 pub use key_word::{KeyWord, one_key_spelling, read_key};
-pub use message::{Ends, Message, Packet, Sent};
-pub use summary::{MessageKind, Summary, one_summary_spelling, read_summary};
-pub use update::{Update, one_update_spelling, read_update};
+pub use message::{Ask, Delta, Ends, Granted, Message, Packet, Piece, Sent, Wanted};
+pub use summary::{Detail, MessageKind, Summary, one_summary_spelling, read_summary};
+pub use update::{MadeVersion, Update, one_update_spelling, read_update};
 pub use work::{Touched, Work};

@@ -1,12 +1,15 @@
 //! Messages between servers.
 
 ghost use Rattle.std.specs.Prelude.{◌≡◌, IfOk};
-ghost use Rattle.pg_msg.specs.Sent.{summary_of, summary};
+ghost use Rattle.pg_msg.specs.Sent.{cell_key, detail_of, file_of, kind_of, summary_of, summary};
 ghost use Rattle.pg_msg.specs.View.{view};
 
-use crate::summary::{MessageKind, Summary};
-use pg_base::{FileId, NodeId, Version};
+use crate::summary::{Detail, MessageKind, Summary};
+use pg_base::{FileId, Head, Items, NodeId, Policy, Shared, SharedBytes, Stamp};
 use pg_edges::Key;
+use pg_entries::{Cell, Entry};
+use pg_patch::Ranges;
+use pg_register::{GoldFlags, Place};
 use std::alloc::AllocError;
 
 /// The edge that a message goes along: between which replicas of a file, each named by its birth.
@@ -19,14 +22,56 @@ pub struct Ends {
     pub receiver: u64,
 }
 
-/// What one server tells another.
+/// Which version a server asks for, from which byte on, and which heads it has.
+#[derive(Debug, Drop)]
+pub struct Wanted {
+    pub stamp: Stamp,
+    pub offset: u32,
+    /// The stamps of the heads, in their order; none where only the body's bytes will do.
+    pub heads: Items<Stamp>,
+}
+
+/// A version, as what is to be changed of the body that these heads show.
+#[derive(Debug, Drop)]
+pub struct Delta {
+    pub head: Head,
+    /// The stamps of these heads, in their order.
+    pub from: Items<Stamp>,
+    pub ranges: Ranges,
+}
+
+/// Bytes of a version's body.
+#[derive(Debug, Drop)]
+pub struct Piece {
+    pub head: Head,
+    pub offset: u32,
+    pub bytes: SharedBytes,
+}
+
+/// What a new replica begins with.
+#[derive(Debug, Drop)]
+pub struct Granted {
+    pub policy: Policy,
+    pub place: Place,
+    pub flags: GoldFlags,
+}
+
+/// What was asked that nobody here could answer.
+#[derive(Clone, Copy, Debug, PartialEq, Eq)]
+pub enum Ask {
+    Seek,
+    Confirm,
+    Patch,
+}
+
+/// What one server tells another. A copy shares what is large.
 #[derive(Debug, Drop)]
 pub enum Message {
-    /// A cell of the sender's replica, under the tag that its key has on the edge: a version.
+    /// A cell of the sender's replica, under the tag that its key has on the edge.
     Cell {
         ends: Ends,
         tag: u64,
-        version: Version,
+        cell: Cell,
     },
     /// The sender has taken the cell of this key that came under this tag, or had it already.
     Ack {
@@ -34,63 +79,409 @@ pub enum Message {
         key: Key,
         tag: u64,
     },
+    /// A version whose body is sent to who asks for it, under the tag that its key has on the edge; under the tag 0 by
+    /// one that heard of it.
+    Harbinger {
+        ends: Ends,
+        tag: u64,
+        head: Shared<Head>,
+    },
+    /// The body of a version is asked for.
+    Want {
+        ends: Ends,
+        wanted: Shared<Wanted>,
+    },
+    /// A body, as a change of the one that the receiver has.
+    Delta {
+        ends: Ends,
+        delta: Shared<Delta>,
+    },
+    /// Bytes of a body.
+    Piece {
+        ends: Ends,
+        piece: Shared<Piece>,
+    },
+    /// The sender has no body of this version now.
+    Later {
+        ends: Ends,
+        stamp: Stamp,
+    },
+    /// A replica of this birth is to be filled.
+    Fetch {
+        file: FileId,
+        birth: u64,
+    },
+    /// What a replica that is to be filled begins with.
+    Grant {
+        ends: Ends,
+        granted: Shared<Granted>,
+    },
+    /// The sender cannot fill a replica of this birth.
+    NoGrant {
+        file: FileId,
+        birth: u64,
+    },
+    /// The receiver's replica has all that the sender's has.
+    Full {
+        ends: Ends,
+    },
+    /// A replica of this birth looks for a live gold one.
+    Seek {
+        file: FileId,
+        birth: u64,
+    },
+    /// The sender's replica is here, in answer to that.
+    Here {
+        ends: Ends,
+    },
+    /// The sender does not hold what it was asked about.
+    NoneHere {
+        ask: Ask,
+        file: FileId,
+        child: FileId,
+    },
+    /// The sender has no replica of this birth.
+    Gone {
+        file: FileId,
+        birth: u64,
+    },
+    /// The sender's replica goes.
+    Bye {
+        ends: Ends,
+    },
+    /// The answer to that: the replica of this birth has no edge any more.
+    ByeOk {
+        file: FileId,
+        birth: u64,
+    },
+    /// The place and flags of a child are asked for, which the sender lists as told here.
+    Confirm {
+        dir: FileId,
+        entry: Shared<Entry>,
+    },
+    /// The answer to that.
+    PlaceIs {
+        dir: FileId,
+        entry: Shared<Entry>,
+    },
+    /// A directory's child has this newer place.
+    Tell {
+        dir: FileId,
+        entry: Shared<Entry>,
+    },
+    /// The answer to that: the stamp of the place that was told.
+    TellOk {
+        dir: FileId,
+        child: FileId,
+        stamp: Stamp,
+    },
+    /// The sender's replica, whose place has this stamp, asks for leave to go.
+    Leave {
+        ends: Ends,
+        stamp: Stamp,
+    },
+    /// It may go while its place has this stamp.
+    LeaveOk {
+        ends: Ends,
+        stamp: Stamp,
+    },
+    /// The receiver's replica is asked to be gold.
+    Invite {
+        ends: Ends,
+    },
+    /// A replica with few edges looks for one more: its server, its birth, how many hops are left, and a random word.
+    Walk {
+        ends: Ends,
+        origin: NodeId,
+        birth: u64,
+        hops: u8,
+        word: u64,
+    },
+    /// The walk of the receiver's replica ended at the sender's.
+    Meet {
+        ends: Ends,
+    },
 }
 
 impl Message {
-    /// The edge that it goes along.
-    pub fn ends(&self) -> &Ends
-        ensures { result.now ≡ (view self.now).edge }
+    /// The edge that it goes along, where it goes along one.
+    pub fn ends(&self) -> Option<Ends>
+        ensures { result ≡ (view self.now).edge }
     {
         match self {
-            Message::Cell { ends, .. } => ends,
-            Message::Ack { ends, .. } => ends,
+            Message::Cell { ends, .. } => Some(*ends),
+            Message::Ack { ends, .. } => Some(*ends),
+            Message::Harbinger { ends, .. } => Some(*ends),
+            Message::Want { ends, .. } => Some(*ends),
+            Message::Delta { ends, .. } => Some(*ends),
+            Message::Piece { ends, .. } => Some(*ends),
+            Message::Later { ends, .. } => Some(*ends),
+            Message::Fetch { .. } => None,
+            Message::Grant { ends, .. } => Some(*ends),
+            Message::NoGrant { .. } => None,
+            Message::Full { ends } => Some(*ends),
+            Message::Seek { .. } => None,
+            Message::Here { ends } => Some(*ends),
+            Message::NoneHere { .. } => None,
+            Message::Gone { .. } => None,
+            Message::Bye { ends } => Some(*ends),
+            Message::ByeOk { .. } => None,
+            Message::Confirm { .. } => None,
+            Message::PlaceIs { .. } => None,
+            Message::Tell { .. } => None,
+            Message::TellOk { .. } => None,
+            Message::Leave { ends, .. } => Some(*ends),
+            Message::LeaveOk { ends, .. } => Some(*ends),
+            Message::Invite { ends } => Some(*ends),
+            Message::Walk { ends, .. } => Some(*ends),
+            Message::Meet { ends } => Some(*ends),
         }
     }
 
-    /// The same message again.
+    /// The kind of message that it is.
+    pub fn kind(&self) -> MessageKind
+        ensures { result ≡ kind_of self.now }
+    {
+        match self {
+            Message::Cell { .. } => MessageKind::Cell,
+            Message::Ack { .. } => MessageKind::Ack,
+            Message::Harbinger { .. } => MessageKind::Harbinger,
+            Message::Want { .. } => MessageKind::Want,
+            Message::Delta { .. } => MessageKind::Delta,
+            Message::Piece { .. } => MessageKind::Piece,
+            Message::Later { .. } => MessageKind::Later,
+            Message::Fetch { .. } => MessageKind::Fetch,
+            Message::Grant { .. } => MessageKind::Grant,
+            Message::NoGrant { .. } => MessageKind::NoGrant,
+            Message::Full { .. } => MessageKind::Full,
+            Message::Seek { .. } => MessageKind::Seek,
+            Message::Here { .. } => MessageKind::Here,
+            Message::NoneHere { .. } => MessageKind::NoneHere,
+            Message::Gone { .. } => MessageKind::Gone,
+            Message::Bye { .. } => MessageKind::Bye,
+            Message::ByeOk { .. } => MessageKind::ByeOk,
+            Message::Confirm { .. } => MessageKind::Confirm,
+            Message::PlaceIs { .. } => MessageKind::PlaceIs,
+            Message::Tell { .. } => MessageKind::Tell,
+            Message::TellOk { .. } => MessageKind::TellOk,
+            Message::Leave { .. } => MessageKind::Leave,
+            Message::LeaveOk { .. } => MessageKind::LeaveOk,
+            Message::Invite { .. } => MessageKind::Invite,
+            Message::Walk { .. } => MessageKind::Walk,
+            Message::Meet { .. } => MessageKind::Meet,
+        }
+    }
+
+    /// The file that it is about: the directory, where it is about a child of one.
+    fn file(&self) -> FileId
+        ensures { result ≡ file_of self.now }
+    {
+        match self {
+            Message::Cell { ends, .. } => ends.file,
+            Message::Ack { ends, .. } => ends.file,
+            Message::Harbinger { ends, .. } => ends.file,
+            Message::Want { ends, .. } => ends.file,
+            Message::Delta { ends, .. } => ends.file,
+            Message::Piece { ends, .. } => ends.file,
+            Message::Later { ends, .. } => ends.file,
+            Message::Fetch { file, .. } => *file,
+            Message::Grant { ends, .. } => ends.file,
+            Message::NoGrant { file, .. } => *file,
+            Message::Full { ends } => ends.file,
+            Message::Seek { file, .. } => *file,
+            Message::Here { ends } => ends.file,
+            Message::NoneHere { file, .. } => *file,
+            Message::Gone { file, .. } => *file,
+            Message::Bye { ends } => ends.file,
+            Message::ByeOk { file, .. } => *file,
+            Message::Confirm { dir, .. } => *dir,
+            Message::PlaceIs { dir, .. } => *dir,
+            Message::Tell { dir, .. } => *dir,
+            Message::TellOk { dir, .. } => *dir,
+            Message::Leave { ends, .. } => ends.file,
+            Message::LeaveOk { ends, .. } => ends.file,
+            Message::Invite { ends } => ends.file,
+            Message::Walk { ends, .. } => ends.file,
+            Message::Meet { ends } => ends.file,
+        }
+    }
+
+    /// What a journal tells of it besides.
+    fn detail(&self) -> Detail
+        ensures { result ≡ detail_of self.now }
+    {
+        match self {
+            Message::Cell { cell, .. } => Detail::Key(key_of(cell)),
+            Message::Ack { key, .. } => Detail::Key(*key),
+            Message::Harbinger { head, .. } => Detail::Stamp(head.get().stamp),
+            Message::Want { wanted, .. } => Detail::Stamp(wanted.get().stamp),
+            Message::Delta { delta, .. } => Detail::Stamp(delta.get().head.stamp),
+            Message::Piece { piece, .. } => Detail::Stamp(piece.get().head.stamp),
+            Message::Later { stamp, .. } => Detail::Stamp(*stamp),
+            Message::Fetch { .. } => Detail::Nothing,
+            Message::Grant { .. } => Detail::Nothing,
+            Message::NoGrant { .. } => Detail::Nothing,
+            Message::Full { .. } => Detail::Nothing,
+            Message::Seek { .. } => Detail::Nothing,
+            Message::Here { .. } => Detail::Nothing,
+            Message::NoneHere { child, .. } => Detail::Child(*child),
+            Message::Gone { .. } => Detail::Nothing,
+            Message::Bye { .. } => Detail::Nothing,
+            Message::ByeOk { .. } => Detail::Nothing,
+            Message::Confirm { entry, .. } => Detail::Child(entry.get().child),
+            Message::PlaceIs { entry, .. } => Detail::Child(entry.get().child),
+            Message::Tell { entry, .. } => Detail::Child(entry.get().child),
+            Message::TellOk { child, .. } => Detail::Child(*child),
+            Message::Leave { .. } => Detail::Nothing,
+            Message::LeaveOk { .. } => Detail::Nothing,
+            Message::Invite { .. } => Detail::Nothing,
+            Message::Walk { .. } => Detail::Nothing,
+            Message::Meet { .. } => Detail::Nothing,
+        }
+    }
+
+    /// The same message again. What is large is shared.
     pub fn copy(&self) -> Result<Message, AllocError>
         ensures { IfOk result (λ m. m ≡ self.now) }
     {
-        match self {
-            Message::Cell { ends, tag, version } => Ok(Message::Cell {
+        Ok(match self {
+            Message::Cell { ends, tag, cell } => Message::Cell {
                 ends: *ends,
                 tag: *tag,
-                version: version.copy()?,
-            }),
-            Message::Ack { ends, key, tag } => Ok(Message::Ack {
+                cell: cell.copy()?,
+            },
+            Message::Ack { ends, key, tag } => Message::Ack {
                 ends: *ends,
                 key: *key,
                 tag: *tag,
-            }),
-        }
+            },
+            Message::Harbinger { ends, tag, head } => Message::Harbinger {
+                ends: *ends,
+                tag: *tag,
+                head: head.copy()?,
+            },
+            Message::Want { ends, wanted } => Message::Want {
+                ends: *ends,
+                wanted: wanted.copy()?,
+            },
+            Message::Delta { ends, delta } => Message::Delta {
+                ends: *ends,
+                delta: delta.copy()?,
+            },
+            Message::Piece { ends, piece } => Message::Piece {
+                ends: *ends,
+                piece: piece.copy()?,
+            },
+            Message::Later { ends, stamp } => Message::Later {
+                ends: *ends,
+                stamp: *stamp,
+            },
+            Message::Fetch { file, birth } => Message::Fetch {
+                file: *file,
+                birth: *birth,
+            },
+            Message::Grant { ends, granted } => Message::Grant {
+                ends: *ends,
+                granted: granted.copy()?,
+            },
+            Message::NoGrant { file, birth } => Message::NoGrant {
+                file: *file,
+                birth: *birth,
+            },
+            Message::Full { ends } => Message::Full { ends: *ends },
+            Message::Seek { file, birth } => Message::Seek {
+                file: *file,
+                birth: *birth,
+            },
+            Message::Here { ends } => Message::Here { ends: *ends },
+            Message::NoneHere { ask, file, child } => Message::NoneHere {
+                ask: *ask,
+                file: *file,
+                child: *child,
+            },
+            Message::Gone { file, birth } => Message::Gone {
+                file: *file,
+                birth: *birth,
+            },
+            Message::Bye { ends } => Message::Bye { ends: *ends },
+            Message::ByeOk { file, birth } => Message::ByeOk {
+                file: *file,
+                birth: *birth,
+            },
+            Message::Confirm { dir, entry } => Message::Confirm {
+                dir: *dir,
+                entry: entry.copy()?,
+            },
+            Message::PlaceIs { dir, entry } => Message::PlaceIs {
+                dir: *dir,
+                entry: entry.copy()?,
+            },
+            Message::Tell { dir, entry } => Message::Tell {
+                dir: *dir,
+                entry: entry.copy()?,
+            },
+            Message::TellOk { dir, child, stamp } => Message::TellOk {
+                dir: *dir,
+                child: *child,
+                stamp: *stamp,
+            },
+            Message::Leave { ends, stamp } => Message::Leave {
+                ends: *ends,
+                stamp: *stamp,
+            },
+            Message::LeaveOk { ends, stamp } => Message::LeaveOk {
+                ends: *ends,
+                stamp: *stamp,
+            },
+            Message::Invite { ends } => Message::Invite { ends: *ends },
+            Message::Walk {
+                ends,
+                origin,
+                birth,
+                hops,
+                word,
+            } => Message::Walk {
+                ends: *ends,
+                origin: *origin,
+                birth: *birth,
+                hops: *hops,
+                word: *word,
+            },
+            Message::Meet { ends } => Message::Meet { ends: *ends },
+        })
     }
 
     fn summary_of(&self, from: NodeId, to: NodeId) -> Summary
         ensures { result ≡ summary_of from to self.now }
     {
-        match self {
-            Message::Cell { ends, version, .. } => Summary {
-                from,
-                to,
-                kind: MessageKind::Cell,
-                file: ends.file,
-                key: Key::Version(version.head().stamp),
-            },
-            Message::Ack { ends, key, .. } => Summary {
-                from,
-                to,
-                kind: MessageKind::Ack,
-                file: ends.file,
-                key: *key,
-            },
+        Summary {
+            from,
+            to,
+            kind: self.kind(),
+            file: self.file(),
+            detail: self.detail(),
         }
     }
 }
 
-/// A message and who sends it.
+/// The key of a cell.
+fn key_of(cell: &Cell) -> Key
+    ensures { result ≡ cell_key cell.now }
+{
+    match cell {
+        Cell::Place(_) => Key::Place,
+        Cell::Flag(flag) => Key::Flag(flag.get().server),
+        Cell::Entry(entry, _) => Key::Entry(entry.get().child),
+        Cell::Version(version, _) => Key::Version(version.head().stamp),
+    }
+}
+
+/// A message, who sends it, and in which view.
 #[derive(Debug, Drop)]
 pub struct Packet {
     pub from: NodeId,
+    /// How many removals the sender had entered.
+    pub view: u64,
     pub message: Message,
 }
 
@@ -101,6 +492,7 @@ impl Packet {
     {
         Ok(Packet {
             from: self.from,
+            view: self.view,
             message: self.message.copy()?,
         })
     }

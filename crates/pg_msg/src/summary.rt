@@ -1,14 +1,17 @@
 //! What a journal says of a message.
 
 ghost use Rattle.std.specs.Prelude.{◌≡◌, ◌<◌, ◌^◌, ℕ, map, decimal, IfSome, IfNone};
-ghost use Rattle.pg_msg.specs.Text.{kind_text, summary_words, IsSummary};
+ghost use Rattle.pg_base.specs.Id.{spelling};
+ghost use Rattle.pg_base.specs.declared.id.FileId.{FileId};
+ghost use Rattle.pg_msg.specs.Text.{detail_text, kind_text, sort_of, summary_words, IsAbout, IsDetail, IsSummary};
+ghost use Rattle.pg_msg.specs.declared.summary.Detail.{Detail};
 ghost use Rattle.pg_msg.specs.declared.summary.MessageKind as kind;
 ghost use Rattle.pg_msg.specs.declared.summary.Summary.{Summary};
 
 use crate::key_word::{KeyWord, read_key};
-use pg_base::{FileId, NodeId, number_u32};
+use pg_base::{FileId, NodeId, Stamp, number_u32};
 use pg_edges::Key;
-use pg_words::read_file;
+use pg_words::{is_same, read_directory, read_id, read_stamp};
 use std::fmt;
 
 /// The kinds of messages.
@@ -16,17 +19,53 @@ use std::fmt;
 pub enum MessageKind {
     Cell,
     Ack,
+    Harbinger,
+    Want,
+    Delta,
+    Piece,
+    Later,
+    Fetch,
+    Grant,
+    NoGrant,
+    Full,
+    Seek,
+    Here,
+    NoneHere,
+    Gone,
+    Bye,
+    ByeOk,
+    Confirm,
+    PlaceIs,
+    Tell,
+    TellOk,
+    Leave,
+    LeaveOk,
+    Invite,
+    Walk,
+    Meet,
 }
 
-/// What a journal says of a message: from whom it comes, to whom it goes, its kind, and the file and the key that it is
-/// about.
+/// What a journal tells of a message besides its kind and its file.
+#[derive(Clone, Copy, Debug, PartialEq, Eq)]
+pub enum Detail {
+    /// The key of a cell, or of one that is acknowledged.
+    Key(Key),
+    /// The stamp of a version.
+    Stamp(Stamp),
+    /// A child of the directory, or the file itself.
+    Child(FileId),
+    Nothing,
+}
+
+/// What a journal says of a message: from whom it comes, to whom it goes, its kind, the file that it is about, and a
+/// detail.
 #[derive(Clone, Copy, Debug, PartialEq, Eq)]
 pub struct Summary {
     pub from: NodeId,
     pub to: NodeId,
     pub kind: MessageKind,
     pub file: FileId,
-    pub key: Key,
+    pub detail: Detail,
 }
 
 impl fmt::Display for MessageKind {
@@ -36,9 +75,52 @@ impl fmt::Display for MessageKind {
     ghost output = { λ k. Some (kind_text k) };
 
     fn fmt<W: fmt::Write>(&self, f: &mut fmt::Formatter<W>) -> fmt::Result {
+        f.write_str(match self {
+            MessageKind::Cell => "cell",
+            MessageKind::Ack => "ack",
+            MessageKind::Harbinger => "harb",
+            MessageKind::Want => "want",
+            MessageKind::Delta => "delta",
+            MessageKind::Piece => "piece",
+            MessageKind::Later => "later",
+            MessageKind::Fetch => "fetch",
+            MessageKind::Grant => "grant",
+            MessageKind::NoGrant => "nogrant",
+            MessageKind::Full => "full",
+            MessageKind::Seek => "seek",
+            MessageKind::Here => "here",
+            MessageKind::NoneHere => "nonehere",
+            MessageKind::Gone => "gone",
+            MessageKind::Bye => "bye",
+            MessageKind::ByeOk => "byeok",
+            MessageKind::Confirm => "confirm",
+            MessageKind::PlaceIs => "placeis",
+            MessageKind::Tell => "tell",
+            MessageKind::TellOk => "tellok",
+            MessageKind::Leave => "leave",
+            MessageKind::LeaveOk => "leaveok",
+            MessageKind::Invite => "invite",
+            MessageKind::Walk => "walk",
+            MessageKind::Meet => "meet",
+        })
+    }
+}
+
+impl fmt::Display for Detail {
+    ghost use Rattle.std.specs.Prelude.{Some};
+    ghost use Rattle.pg_msg.specs.Text.{detail_text};
+
+    ghost output = { λ d. Some (detail_text d) };
+
+    fn fmt<W: fmt::Write>(&self, f: &mut fmt::Formatter<W>) -> fmt::Result {
         match self {
-            MessageKind::Cell => f.write_str("cell"),
-            MessageKind::Ack => f.write_str("ack"),
+            Detail::Key(key) => {
+                let word = KeyWord(*key);
+                write!(f, "{word}")
+            }
+            Detail::Stamp(stamp) => write!(f, "{stamp}"),
+            Detail::Child(child) => write!(f, "{child}"),
+            Detail::Nothing => f.write_str("-"),
         }
     }
 }
@@ -54,8 +136,8 @@ impl fmt::Display for Summary {
         let to = self.to;
         let kind = self.kind;
         let file = self.file;
-        let key = KeyWord(self.key);
-        write!(f, "{from} {to} {kind} {file} {key}")
+        let detail = self.detail;
+        write!(f, "{from} {to} {kind} {file} {detail}")
     }
 }
 
@@ -67,6 +149,30 @@ fn kind_of(word: &[u8]) -> Option<MessageKind>
     match word {
         b"cell" => Some(MessageKind::Cell),
         b"ack" => Some(MessageKind::Ack),
+        b"harb" => Some(MessageKind::Harbinger),
+        b"want" => Some(MessageKind::Want),
+        b"delta" => Some(MessageKind::Delta),
+        b"piece" => Some(MessageKind::Piece),
+        b"later" => Some(MessageKind::Later),
+        b"fetch" => Some(MessageKind::Fetch),
+        b"grant" => Some(MessageKind::Grant),
+        b"nogrant" => Some(MessageKind::NoGrant),
+        b"full" => Some(MessageKind::Full),
+        b"seek" => Some(MessageKind::Seek),
+        b"here" => Some(MessageKind::Here),
+        b"nonehere" => Some(MessageKind::NoneHere),
+        b"gone" => Some(MessageKind::Gone),
+        b"bye" => Some(MessageKind::Bye),
+        b"byeok" => Some(MessageKind::ByeOk),
+        b"confirm" => Some(MessageKind::Confirm),
+        b"placeis" => Some(MessageKind::PlaceIs),
+        b"tell" => Some(MessageKind::Tell),
+        b"tellok" => Some(MessageKind::TellOk),
+        b"leave" => Some(MessageKind::Leave),
+        b"leaveok" => Some(MessageKind::LeaveOk),
+        b"invite" => Some(MessageKind::Invite),
+        b"walk" => Some(MessageKind::Walk),
+        b"meet" => Some(MessageKind::Meet),
         _ => None,
     }
 }
@@ -82,6 +188,46 @@ fn ends_of(from: &[u8], to: &[u8]) -> Option<(NodeId, NodeId)>
     Some((from, to))
 }
 
+/// The file or the directory that is told of with a message of this kind.
+fn about_of(kind: MessageKind, word: &[u8]) -> Option<FileId>
+    ensures found { IfSome result (λ f. IsAbout kind f × (word.now ≡ spelling f)) }
+    ensures none { IfNone result ((f : FileId) → IsAbout kind f → word.now ≡ spelling f → ⊥) }
+{
+    match kind {
+        MessageKind::Confirm | MessageKind::PlaceIs | MessageKind::Tell | MessageKind::TellOk =>
+            read_directory(word),
+        _ => read_id(word),
+    }
+}
+
+/// The detail that is told with a message of this kind.
+fn detail_of(kind: MessageKind, word: &[u8]) -> Option<Detail>
+    ensures found { IfSome result (λ d. IsDetail (sort_of kind) d × (word.now ≡ detail_text d)) }
+    ensures none { IfNone result ((d : Detail) → IsDetail (sort_of kind) d
+        → word.now ≡ detail_text d → ⊥) }
+{
+    match kind {
+        MessageKind::Cell | MessageKind::Ack => Some(Detail::Key(read_key(word)?)),
+        MessageKind::Harbinger
+        | MessageKind::Want
+        | MessageKind::Delta
+        | MessageKind::Piece
+        | MessageKind::Later => Some(Detail::Stamp(read_stamp(word)?)),
+        MessageKind::NoneHere
+        | MessageKind::Confirm
+        | MessageKind::PlaceIs
+        | MessageKind::Tell
+        | MessageKind::TellOk => Some(Detail::Child(read_id(word)?)),
+        _ => {
+            if is_same(word, b"-") {
+                Some(Detail::Nothing)
+            } else {
+                None
+            }
+        }
+    }
+}
+
 /// The message that the words tell of.
 pub fn read_summary(words: &[&[u8]]) -> Option<Summary>
     ensures found { IfSome result (λ s. IsSummary s
@@ -89,19 +235,19 @@ pub fn read_summary(words: &[&[u8]]) -> Option<Summary>
     ensures none { IfNone result ((s : Summary) → IsSummary s
         → map (λ w. w.now) words.now ≡ summary_words s → ⊥) }
 {
-    let [from, to, kind, file, key] = words else {
+    let [from, to, kind, file, detail] = words else {
         return None;
     };
     let (from, to) = ends_of(from, to)?;
     let kind = kind_of(kind)?;
-    let file = read_file(file)?;
-    let key = read_key(key)?;
+    let file = about_of(kind, file)?;
+    let detail = detail_of(kind, detail)?;
     Some(Summary {
         from,
         to,
         kind,
         file,
-        key,
+        detail,
     })
 }
 

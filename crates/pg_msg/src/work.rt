@@ -26,7 +26,7 @@ pub struct Work {
     pub now: u64,
     /// The sender of the message that came: 0 where none did.
     pub from: NodeId,
-    /// The versions that were made.
+    /// What was made.
     pub made: Items<Update>,
     /// The messages that are sent.
     pub sent: Items<Sent>,

@@ -1,5 +1,5 @@
--- Choices by a test, and lists: what holds of all of their parts.
-use Rattle.std.proofs.Common.{[], ℕ, suc, ◌≡◌, Bool, true, false, cond, List, ◌∷◌, get_or, Some, refl, subst, inl, inr, All}
+-- Choices by a test, messages that come, and lists: what holds of all of their parts.
+use Rattle.std.proofs.Common.{[], ℕ, suc, ◌≡◌, Bool, true, false, cond, List, ◌∷◌, get_or, Option, None, Some, refl, subst, inl, inr, All}
 use Rattle.std.specs.Prelude.{slice_get, remove, take, drop}
 use Rattle.std.specs.List.{flat_map}
 use Rattle.std.specs.Map.{lookup}
@@ -11,6 +11,11 @@ use Rattle.pg_base.specs.declared.id.FileId.{FileId}
 use Rattle.pg_base.specs.Id.{file_cmp}
 use Rattle.pg_base.proofs.Orders.{is_same_file-true}
 use Rattle.pg_replica.specs.declared.replica.Replica.{Replica}
+use Rattle.pg_replica.specs.declared.store.Store.{Store}
+use Rattle.pg_replica.specs.Store.{replica_of}
+use Rattle.pg_msg.specs.declared.message.Ends.{Ends}
+use Rattle.pg_msg.specs.declared.work.Work.{Work}
+use Rattle.pg_repair.specs.Done.{Done, idle, is_accepted, where_linked}
 
 -- ---- choices
 
@@ -29,6 +34,21 @@ decided P false x y h k = k refl
 pub tested : {A : Type 0} (P : A → Type 0) (t : Bool) (x y : A) → (t ≡ true → P x) → P y
     → P (cond t x y)
 tested P t x y h k = decided P t x y h (λ e. k)
+
+-- ---- messages
+
+-- whether a message comes along an edge of the server, if it goes along one
+abbrev pub is_linked : Store → ℕ → Option Ends → Bool
+is_linked a from None = true
+is_linked a from (Some ends) = is_accepted (replica_of a ends.file) from ends
+
+-- a message does what its handler does, where the handler may use that the message comes along an
+-- edge, or nothing
+pub linked : (P : Done → Type 0) (a : Store) (o : Option Ends) (work : Work) (done : Done)
+    → (is_linked a work.from o ≡ true → P done) → P (idle a work) → P (where_linked a o work done)
+linked P a None work done h k = h refl
+linked P a (Some ends) work done h k =
+    tested P (is_accepted (replica_of a ends.file) work.from ends) done (idle a work) h k
 
 -- ---- lists
 

@@ -7,7 +7,7 @@ use Rattle.pg_base.specs.declared.id.FileId.{FileId}
 use Rattle.pg_base.specs.Id.{file_cmp}
 use Rattle.pg_base.proofs.Orders.{file_total}
 use Rattle.pg_edges.specs.declared.key.Key.{Key}
-use Rattle.pg_event.specs.declared.quiet.Owing.{Owing}
+use Rattle.pg_event.specs.declared.quiet.OwedKey.{OwedKey}
 use Rattle.pg_replica.specs.declared.replica.Replica.{Replica}
 use Rattle.pg_edges.specs.Edges.{are_clean}
 use Rattle.pg_replica.specs.Replicas.{ByFile, replica_in}
@@ -16,7 +16,7 @@ use Rattle.pg_replica.proofs.Clean.{clean_pieces}
 use Rattle.pg_replica.proofs.Merging.{by_index, file_exact}
 use Rattle.pg_node.specs.Local.{edge_owes, file_owes, replica_owes}
 
-abbrev owing : ℕ → FileId → ℕ → Key × ℕ → Owing
+abbrev owing : ℕ → FileId → ℕ → Key × ℕ → OwedKey
 owing server file peer k = record { server = server; file = file; peer = peer; key = k.0 }
 
 no_owes : (server : ℕ) (file : FileId) (x : Replica) → are_clean x.edges ≡ true → replica_owes server (file, x) ≡ []

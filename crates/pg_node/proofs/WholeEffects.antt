@@ -3,6 +3,7 @@
 use Rattle.std.proofs.Common.{ℕ, ◌≡◌, ◌≤◌, ◌&&◌, cond, List, [], ◌∷◌, ◌++◌, Option, None, Some, refl, sym, ◌∙◌, arith, All}
 use Rattle.std.proofs.lemmas.List.Elements.{All-append, All-nil, All-cons, All-push, All-weaker}
 use Rattle.pg_base.specs.declared.id.FileId.{FileId}
+use Rattle.pg_base.specs.declared.policy.Policy.{Policy}
 use Rattle.pg_base.specs.declared.stamp.Stamp.{Stamp}
 use Rattle.pg_base.specs.Stamp.{next_stamp}
 use Rattle.pg_base.specs.Version.{VersionValue}
@@ -15,6 +16,8 @@ use Rattle.pg_replica.specs.declared.store.Store.{Store}
 use Rattle.pg_replica.specs.Replica.{cell_at, covers, has_room, with_ack, with_head}
 use Rattle.pg_replica.specs.Store.{has_time, replica_at, replica_of, store_acked}
 use Rattle.pg_replica.proofs.Heads.{keys_answer}
+use Rattle.pg_entries.specs.declared.cell.Cell.{Cell}
+use Rattle.pg_entries.specs.declared.cell.Cell.TheVariants as cells
 use Rattle.pg_msg.specs.declared.message.Ends.{Ends}
 use Rattle.pg_msg.specs.declared.message.Message.{Message}
 use Rattle.pg_msg.specs.declared.message.Message.TheVariants as message
@@ -24,12 +27,12 @@ use Rattle.pg_msg.specs.declared.work.Work.{Work}
 use Rattle.pg_msg.specs.View.{view}
 use Rattle.pg_msg.specs.Work.{new_work}
 use Rattle.pg_call.specs.declared.change.Change.{Change}
-use Rattle.pg_call.specs.declared.reply.Refusal.{Refusal}
-use Rattle.pg_call.specs.declared.reply.Refusal.TheVariants.{ClockEnd, TooLong, ManyActors}
+use Rattle.pg_call.specs.declared.refusal.Refusal.{Refusal}
+use Rattle.pg_call.specs.declared.refusal.Refusal.TheVariants.{ClockEnd, TooLong, ManyActors}
 use Rattle.pg_call.specs.declared.reply.Reply.{Reply}
 use Rattle.pg_call.specs.declared.reply.Reply.TheVariants as reply
 use Rattle.pg_call.specs.declared.reply.Reply.TheVariants.{Refused}
-use Rattle.pg_repair.specs.Done.{Done, is_accepted, link_of}
+use Rattle.pg_repair.specs.Done.{Done, idle, link_of}
 use Rattle.pg_repair.specs.Sending.{cell_to, key_cell, tagged_cell}
 use Rattle.pg_repair.specs.Cells.{ack_to, cell, with_answer}
 use Rattle.pg_repair.specs.Ticks.{edge_cells, replica_cells, tick, unacknowledged_cells}
@@ -37,9 +40,9 @@ use Rattle.pg_repair.specs.Finish.{present_cells, replica_sends, sent_with, touc
 use Rattle.pg_calls.specs.Writes.{Answer, do_change, ranges_of, refusal, write, write_where_fit}
 use Rattle.pg_replica.specs.Replica.{has_many_actors, is_too_long}
 use Rattle.pg_node.specs.Local.{Effect, after_call, after_message, finish_with, handle, receive, receive_in_time, tick_in_time}
-use Rattle.pg_node.proofs.Choices.{chosen, decided, All-every, All-flat_map, found_replica}
+use Rattle.pg_node.proofs.Choices.{chosen, decided, linked, All-every, All-flat_map, found_replica}
 use Rattle.pg_node.proofs.Graphs.{IsEdge, edges_acked}
-use Rattle.pg_node.proofs.Wholes.{IsFull, IsOfRun, IsWhole, full_head, full_write, whole_full, whole_news, whole_put}
+use Rattle.pg_node.proofs.Wholes.{IsBetween, IsFull, IsOfRun, IsWhole, full_head, full_write, whole_full, whole_news, whole_put}
 
 -- the server is one of n as before, and what is sent so far is of the run
 record IsWork (n s : ℕ) (a : Store) (work : Work) : Type 0 where
@@ -64,8 +67,7 @@ module _ (n s : ℕ) (least : 1 ≤ s) (most : s ≤ n) where
     to_least = k.least;
     to_most = k.most;
     apart = λ z. k.apart (sym z ∙ same);
-    sender = born;
-    receiver = k.birth;
+    births = (born, k.birth);
   }
 
   tagged_of_run : (server : ℕ) (file : FileId) (birth : ℕ) (e : Edge) (v : VersionValue)
@@ -211,31 +213,30 @@ module _ (n s : ℕ) (least : 1 ≤ s) (most : s ≤ n) where
 
     -- server s has it from a server of the run
     abbrev FromRun : ℕ → Message → Type 0
-    FromRun from m = IsOfRun n (record { to = s; packet = record { from = from; message = m } })
+    FromRun from m = IsBetween n from s m
 
     abbrev IsDone : Done → Type 0
     IsDone done = IsWork n s done.store done.work
 
-    ack_of_run : (from : ℕ) (ends : Ends) (v : VersionValue) (tag : ℕ) (j : Key)
-        → FromRun from (message.Cell ends tag v)
+    ack_of_run : (from : ℕ) (ends : Ends) (c : Cell) (tag : ℕ) (j : Key)
+        → FromRun from (message.Cell ends tag c)
         → IsOfRun n (ack_to a.server from ends j tag)
-    ack_of_run from ends v tag j m = record {
+    ack_of_run from ends c tag j m = record {
       from_least = (let l = m.to_least in let e = k.server in omega arith);
       from_most = (let l = m.to_most in let e = k.server in omega arith);
       to_least = m.from_least;
       to_most = m.from_most;
       apart = λ z. m.apart (sym z ∙ k.server);
-      sender = m.receiver;
-      receiver = m.sender;
+      births = (m.births.1, m.births.0);
     }
 
-    cell_effect : (from : ℕ) (ends : Ends) (tag : ℕ) (v : VersionValue)
-        → FromRun from (message.Cell ends tag v)
+    cell_effect : (from : ℕ) (ends : Ends) (tag : ℕ) (v : VersionValue) (policy : Policy)
+        → FromRun from (message.Cell ends tag (cells.Version v policy))
         → IsDone (cell a ends tag v (new_work 0 from))
-    cell_effect from ends tag v m =
+    cell_effect from ends tag v policy m =
         let x = replica_of a ends.file in
         let answered : All (IsOfRun n) (with_answer a ends tag v (new_work 0 from)).sent =
-        All-push (IsOfRun n) [] _ (All-nil (IsOfRun n)) (ack_of_run from ends v tag _ m) in
+        All-push (IsOfRun n) [] _ (All-nil (IsOfRun n)) (ack_of_run from ends (cells.Version v policy) tag _ m) in
         decided IsDone (covers x v) _ _ (λ old. record { store = k; sent = answered })
         (λ new. record {
           store =
@@ -262,18 +263,45 @@ module _ (n s : ℕ) (least : 1 ≤ s) (most : s ≤ n) where
         whole_put n s a _ ends.file (with_ack x from ends.sender j tag) k full refl refl refl
 
     handled : (from : ℕ) (m : Message) → FromRun from m → IsDone (handle a m (new_work 0 from))
-    handled from (message.Cell ends tag v) m = cell_effect from ends tag v m
+    handled from (message.Cell ends tag (cells.Version v policy)) m =
+        cell_effect from ends tag v policy m
+    handled from (message.Cell ends tag (cells.Place place)) m = nothing_done a 0 from k
+    handled from (message.Cell ends tag (cells.Flag flag)) m = nothing_done a 0 from k
+    handled from (message.Cell ends tag (cells.Entry entry sure)) m = nothing_done a 0 from k
     handled from (message.Ack ends j tag) m =
         record {
           store = whole_answered from ends j tag (replica_at a ends.file) refl;
           sent = All-nil (IsOfRun n);
         }
+    handled from (message.Harbinger ends tag head) m = nothing_done a 0 from k
+    handled from (message.Want ends wanted) m = nothing_done a 0 from k
+    handled from (message.Delta ends delta) m = nothing_done a 0 from k
+    handled from (message.Piece ends piece) m = nothing_done a 0 from k
+    handled from (message.Later ends stamp) m = nothing_done a 0 from k
+    handled from (message.Fetch file birth) m = nothing_done a 0 from k
+    handled from (message.Grant ends granted) m = nothing_done a 0 from k
+    handled from (message.NoGrant file birth) m = nothing_done a 0 from k
+    handled from (message.Full ends) m = nothing_done a 0 from k
+    handled from (message.Seek file birth) m = nothing_done a 0 from k
+    handled from (message.Here ends) m = nothing_done a 0 from k
+    handled from (message.NoneHere ask file child) m = nothing_done a 0 from k
+    handled from (message.Gone file birth) m = nothing_done a 0 from k
+    handled from (message.Bye ends) m = nothing_done a 0 from k
+    handled from (message.ByeOk file birth) m = nothing_done a 0 from k
+    handled from (message.Confirm dir entry) m = nothing_done a 0 from k
+    handled from (message.PlaceIs dir entry) m = nothing_done a 0 from k
+    handled from (message.Tell dir entry) m = nothing_done a 0 from k
+    handled from (message.TellOk dir child stamp) m = nothing_done a 0 from k
+    handled from (message.Leave ends stamp) m = nothing_done a 0 from k
+    handled from (message.LeaveOk ends stamp) m = nothing_done a 0 from k
+    handled from (message.Invite ends) m = nothing_done a 0 from k
+    handled from (message.Walk ends origin birth hops word) m = nothing_done a 0 from k
+    handled from (message.Meet ends) m = nothing_done a 0 from k
 
     received : (from : ℕ) (m : Message) → FromRun from m → IsDone (receive a m (new_work 0 from))
     received from m h =
-        chosen IsDone (is_accepted (replica_of a (view m).edge.file) from (view m).edge) _ _
-        (handled from m h)
-        (nothing_done a 0 from k)
+        linked IsDone a (view m).edge (new_work 0 from) (handle a m (new_work 0 from))
+        (λ e. handled from m h) (nothing_done a 0 from k)
 
     pub arrived_effect : (from : ℕ) (m : Message) → FromRun from m
         → IsEffect n s (after_message (receive_in_time a m (new_work 0 from)))
@@ -282,4 +310,4 @@ module _ (n s : ℕ) (least : 1 ≤ s) (most : s ≤ n) where
         let done = receive_in_time a m work in
         finished done.store done.work None
         (chosen IsDone (has_time a.last a.tags) (receive a m work)
-        (record { store = a; work = work }) (received from m h) (nothing_done a 0 from k))
+        (idle a work) (received from m h) (nothing_done a 0 from k))

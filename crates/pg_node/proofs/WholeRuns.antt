@@ -11,9 +11,9 @@ use Rattle.pg_flood.proofs.Flood.{here}
 use Rattle.pg_replica.specs.declared.replica.Replica.{Replica}
 use Rattle.pg_msg.specs.declared.message.Sent.{Sent}
 use Rattle.pg_event.specs.declared.event.Event.{Event}
-use Rattle.pg_event.specs.declared.event.Event.TheVariants.{Write, Tick, Deliver, Lose, Repeat}
+use Rattle.pg_event.specs.declared.event.Event.TheVariants.{Write, Call, Tick, Deliver, Lose, Repeat, Restart, Remove}
 use Rattle.pg_event.specs.declared.entry.VoidCause.{VoidCause}
-use Rattle.pg_event.specs.declared.entry.VoidCause.TheVariants.{NoMessage, NoServer}
+use Rattle.pg_event.specs.declared.entry.VoidCause.TheVariants.{NoMessage, NoServer, Unbuilt}
 use Rattle.pg_node.specs.declared.input.Input.TheVariants as input
 use Rattle.pg_replica.specs.declared.store.Store.{Store}
 use Rattle.pg_node.specs.Local.{Effect, effect}
@@ -107,6 +107,9 @@ whole_next n w (Write server moment file what) k =
     k.bag)
     (whole_still n w (Write server moment file what) (Some NoServer) _ k refl
     (no_more n (bag w.journal) k.bag))
+whole_next n w (Call server moment call) k =
+    whole_still n w (Call server moment call) (Some Unbuilt) _ k refl
+    (no_more n (bag w.journal) k.bag)
 whole_next n w (Tick server moment word) k =
     tested (λ z. AreWhole n (world_after w z)) (is_server n server) _ _
     (λ t. let s = is_in n server t in
@@ -124,6 +127,8 @@ whole_next n w (Repeat number) k =
     whole_moved n w (Repeat number) (message_at (bag w.journal) number) k
     (left_copied (IsOfRun n) (bag w.journal) (message_at (bag w.journal) number) k.bag
     (λ m e. at_message (IsOfRun n) (bag w.journal) number m k.bag e))
+whole_next n w (Restart server) k = whole_still n w (Restart server) (Some Unbuilt) _ k refl k.bag
+whole_next n w (Remove server) k = whole_still n w (Remove server) (Some Unbuilt) _ k refl k.bag
 
 -- AND IT HOLDS AT THE START
 pub whole_start : (n : ℕ) → AreWhole n (start n)

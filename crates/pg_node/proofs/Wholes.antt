@@ -16,6 +16,8 @@ use Rattle.pg_replica.specs.declared.replica.Replica.{Replica}
 use Rattle.pg_replica.specs.Replica.{covers, covered_heads, key_of, keys, with_head, with_write, without_keys}
 use Rattle.pg_replica.specs.Laws.{KeysAreHeads}
 use Rattle.pg_replica.proofs.Heads.{keys_join, keys_start, keys_write}
+use Rattle.pg_msg.specs.declared.message.Ends.{Ends}
+use Rattle.pg_msg.specs.declared.message.Message.{Message}
 use Rattle.pg_msg.specs.declared.message.Sent.{Sent}
 use Rattle.pg_msg.specs.View.{view}
 use Rattle.pg_replica.specs.declared.store.Store.{Store}
@@ -49,15 +51,22 @@ pub record IsWhole (n s : ℕ) (a : Store) : Type 0 where
   pub replicas : All (λ (r : FileId × Replica). IsFull n s r.1) a.replicas
   pub order : IsStrictlySortedBy file_cmp (keys_of a.replicas)
 
+-- from birth 1 to birth 1, where it goes along an edge
+abbrev pub AreFirst : Option Ends → Type 0
+AreFirst None = Unit {0}
+AreFirst (Some ends) = (ends.sender ≡ 1) × (ends.receiver ≡ 1)
+
 -- a message between two servers of n, from birth 1 to birth 1
-pub record IsOfRun (n : ℕ) (m : Sent) : Type 0 where
-  pub from_least : 1 ≤ m.packet.from
-  pub from_most : m.packet.from ≤ n
-  pub to_least : 1 ≤ m.to
-  pub to_most : m.to ≤ n
-  pub apart : m.packet.from ≢ m.to
-  pub sender : (view m.packet.message).edge.sender ≡ 1
-  pub receiver : (view m.packet.message).edge.receiver ≡ 1
+pub record IsBetween (n from to : ℕ) (m : Message) : Type 0 where
+  pub from_least : 1 ≤ from
+  pub from_most : from ≤ n
+  pub to_least : 1 ≤ to
+  pub to_most : to ≤ n
+  pub apart : from ≢ to
+  pub births : AreFirst (view m).edge
+
+abbrev pub IsOfRun : ℕ → Sent → Type 0
+IsOfRun n m = IsBetween n m.packet.from m.to m.packet.message
 
 pub record AreWhole (n : ℕ) (w : World) : Type 0 where
   pub stores : (s : ℕ) → IsWhole n s (w.stores s)

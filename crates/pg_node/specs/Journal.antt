@@ -11,24 +11,34 @@ use Rattle.pg_content.specs.History.{Made, is_ancestor, is_same_stamp}
 use Rattle.pg_content.specs.StandsFor.{content_of}
 use Rattle.pg_msg.specs.declared.message.Message.{Message}
 use Rattle.pg_msg.specs.declared.message.Sent.{Sent}
+use Rattle.pg_msg.specs.declared.message.Ends.{Ends}
+use Rattle.pg_msg.specs.declared.update.MadeVersion.{MadeVersion}
 use Rattle.pg_msg.specs.declared.update.Update.{Update}
+use Rattle.pg_msg.specs.declared.update.Update.TheVariants as update
 use Rattle.pg_msg.specs.View.{TaggedCell, view}
 use Rattle.pg_event.specs.declared.event.Event.{Event}
-use Rattle.pg_event.specs.declared.event.Event.TheVariants.{Write, Tick, Deliver, Lose, Repeat}
+use Rattle.pg_event.specs.declared.event.Event.TheVariants.{Write, Call, Tick, Deliver, Lose, Repeat, Restart, Remove}
 use Rattle.pg_event.specs.declared.entry.Entry.{Entry}
 use Rattle.pg_replica.specs.Store.{has_time}
 use Rattle.pg_replica.specs.Untouched.{policy_of}
 
+-- the versions among what was made
+abbrev pub versions_in : List Update → List MadeVersion
+versions_in [] = []
+versions_in (update.Version made ∷ us) = made ∷ versions_in us
+versions_in (update.Place file place ∷ us) = versions_in us
+versions_in (update.Flag file flag ∷ us) = versions_in us
+
 -- all versions that were made, the latest first
-abbrev pub history : List Entry → List Update
+abbrev pub history : List Entry → List MadeVersion
 history [] = []
-history (entry ∷ earlier) = entry.made ++ history earlier
+history (entry ∷ earlier) = versions_in entry.made ++ history earlier
 
 -- a version as the history of its file has it. Every replica has birth 1
-abbrev pub made_of : Update → Made
+abbrev pub made_of : MadeVersion → Made
 made_of u = record { stamp = u.stamp; birth = 1; bases = u.bases; ranges = u.ranges }
 
-abbrev pub made_for : FileId → List Update → List Made
+abbrev pub made_for : FileId → List MadeVersion → List Made
 made_for file [] = []
 made_for file (u ∷ us) =
     if is_same_file file u.file then made_of u ∷ made_for file us else made_for file us
@@ -56,10 +66,13 @@ with_copy bag (Some m) = bag ++ m ∷ []
 -- what is left of the messages under way, with what an event sends or copies
 abbrev pub bag_after : List Sent → Event → List Sent → List Sent
 bag_after bag (Write server moment file what) sent = bag ++ sent
+bag_after bag (Call server moment call) sent = bag ++ sent
 bag_after bag (Tick server moment word) sent = bag ++ sent
 bag_after bag (Deliver number) sent = without bag number (message_at bag number) ++ sent
 bag_after bag (Lose number) sent = without bag number (message_at bag number)
 bag_after bag (Repeat number) sent = with_copy bag (message_at bag number)
+bag_after bag (Restart server) sent = bag
+bag_after bag (Remove server) sent = bag
 
 -- the messages under way, in order of sending
 abbrev pub bag : List Entry → List Sent
@@ -78,7 +91,7 @@ abbrev pub last_of : List Mark → ℕ
 last_of [] = 0
 last_of (m ∷ ms) = max (last_of ms) m.stamp.time
 
--- whether a message brings a cell
+-- whether a message brings a version
 abbrev pub is_cell : Message → Bool
 is_cell m = is_some (view m).brings
 
@@ -93,10 +106,13 @@ cell_count server (m ∷ ms) =
 -- a tick, which sends cells under the tags that they have
 abbrev pub tag_count_by : ℕ → Event → List Sent → ℕ
 tag_count_by server (Write maker moment file what) sent = cell_count server sent
+tag_count_by server (Call called moment call) sent = cell_count server sent
 tag_count_by server (Tick ticking moment word) sent = 0
 tag_count_by server (Deliver number) sent = cell_count server sent
 tag_count_by server (Lose number) sent = cell_count server sent
 tag_count_by server (Repeat number) sent = cell_count server sent
+tag_count_by server (Restart restarting) sent = cell_count server sent
+tag_count_by server (Remove removed) sent = cell_count server sent
 
 -- how many tags a server gave out
 abbrev pub tag_count : ℕ → List Entry → ℕ
@@ -106,16 +122,18 @@ tag_count server (entry ∷ earlier) =
 
 -- ---- which versions came to a server
 
-abbrev pub marks_in : FileId → Option TaggedCell → List Mark
-marks_in file None = []
-marks_in file (Some cell) = record { file = file; stamp = cell.version.head.stamp } ∷ []
+abbrev pub marks_in : Option Ends → Option TaggedCell → List Mark
+marks_in None brings = []
+marks_in (Some ends) None = []
+marks_in (Some ends) (Some cell) =
+    record { file = ends.file; stamp = cell.version.head.stamp } ∷ []
 
 -- the version that a message carries, if it carries one
 abbrev pub carried_by : Message → List Mark
-carried_by m = marks_in (view m).edge.file (view m).brings
+carried_by m = marks_in (view m).edge (view m).brings
 
 -- the versions that were made
-abbrev pub marks_of : List Update → List Mark
+abbrev pub marks_of : List MadeVersion → List Mark
 marks_of us = map (λ u. record { file = u.file; stamp = u.stamp }) us
 
 -- what comes to a server by a message, if it is for it and its clock is not at its end. Every
@@ -129,11 +147,14 @@ marks_from server going (Some m) =
 -- what comes to a server by an event, where this bag was under way and these were made
 abbrev pub marks_by : ℕ → Bool → List Sent → Event → List Update → List Mark
 marks_by server going bag (Write maker moment file what) made =
-    if maker == server then marks_of made else []
+    if maker == server then marks_of (versions_in made) else []
+marks_by server going bag (Call called moment call) made = []
 marks_by server going bag (Tick ticking moment word) made = []
 marks_by server going bag (Deliver number) made = marks_from server going (message_at bag number)
 marks_by server going bag (Lose number) made = []
 marks_by server going bag (Repeat number) made = []
+marks_by server going bag (Restart restarting) made = []
+marks_by server going bag (Remove removed) made = []
 
 -- the versions that a server made, or was delivered while its clock was not at its end, the latest
 -- first

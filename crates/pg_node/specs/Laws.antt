@@ -23,16 +23,18 @@ use Rattle.pg_msg.specs.declared.message.Message.{Message}
 use Rattle.pg_msg.specs.declared.message.Message.TheVariants as message
 use Rattle.pg_msg.specs.declared.message.Sent.{Sent}
 use Rattle.pg_msg.specs.declared.summary.Summary.{Summary}
+use Rattle.pg_msg.specs.declared.summary.Detail.TheVariants as detail
 use Rattle.pg_msg.specs.declared.summary.MessageKind.TheVariants as kind
-use Rattle.pg_msg.specs.declared.update.Update.{Update}
+use Rattle.pg_entries.specs.declared.cell.Cell.TheVariants as cell
+use Rattle.pg_msg.specs.declared.update.MadeVersion.{MadeVersion}
 use Rattle.pg_msg.specs.Sent.{summary}
 use Rattle.pg_msg.specs.View.{TaggedCell, view}
 use Rattle.pg_event.specs.declared.entry.Entry.{Entry}
-use Rattle.pg_call.specs.declared.reply.Refusal.TheVariants.{ClockEnd}
+use Rattle.pg_call.specs.declared.refusal.Refusal.TheVariants.{ClockEnd}
 use Rattle.pg_call.specs.declared.reply.Reply.TheVariants.{Done, Refused}
 use Rattle.pg_event.specs.declared.event.Event.{Event}
 use Rattle.pg_event.specs.declared.event.Event.TheVariants.{Tick}
-use Rattle.pg_event.specs.declared.quiet.Owing.{Owing}
+use Rattle.pg_event.specs.declared.quiet.OwedKey.{OwedKey}
 use Rattle.pg_event.specs.declared.quiet.Quiet.TheVariants.{Quiet}
 use Rattle.pg_replica.specs.declared.store.Store.{Store}
 use Rattle.pg_replica.specs.Replica.{has_room}
@@ -127,14 +129,16 @@ AncestryByVectors servers = (events : List Event) (file : FileId) (u v : Made)
 abbrev pub IsVersionOf : FileId → List Made → VersionValue → Type 0
 IsVersionOf file h v = (m : Made) × Among m h × (v ≡ version_of (policy_of file) h m)
 
-abbrev pub BringsVersionOf : FileId → List Made → Option TaggedCell → Type 0
-BringsVersionOf file h None = Unit {0}
-BringsVersionOf file h (Some cell) = IsVersionOf file h cell.version
+-- along this edge, from those that were made
+abbrev pub BringsVersionOf : List MadeVersion → Option Ends → Option TaggedCell → Type 0
+BringsVersionOf us edge None = Unit {0}
+BringsVersionOf us None (Some cell) = ⊥
+BringsVersionOf us (Some ends) (Some cell) =
+    IsVersionOf ends.file (made_for ends.file us) cell.version
 
 -- a message carries a version of those that were made, or none
-abbrev pub Carries : List Update → Message → Type 0
-Carries us m =
-    BringsVersionOf (view m).edge.file (made_for (view m).edge.file us) (view m).brings
+abbrev pub Carries : List MadeVersion → Message → Type 0
+Carries us m = BringsVersionOf us (view m).edge (view m).brings
 
 -- a version of the history, or none
 abbrev pub IsOfHistory : List Entry → Message → Type 0
@@ -148,7 +152,7 @@ CarriesHistory servers = (events : List Event) (m : Sent)
 
 -- no two versions that were made have one stamp
 abbrev pub OneVersionAStamp : ℕ → Type 0
-OneVersionAStamp servers = (events : List Event) (u v : Update)
+OneVersionAStamp servers = (events : List Event) (u v : MadeVersion)
     → Contains (history (journal_after servers events)) u
     → Contains (history (journal_after servers events)) v
     → u.stamp ≡ v.stamp → u ≡ v
@@ -184,8 +188,14 @@ QuietIsTold = (servers : ℕ) (w : World) → (quiet_of servers w ≡ Quiet) ↔
 -- ---- ticks
 
 -- the cell of a key that is owed, as it is told
-abbrev pub owed_cell : Owing → Summary
-owed_cell o = record { from = o.server; to = o.peer; kind = kind.Cell; file = o.file; key = o.key }
+abbrev pub owed_cell : OwedKey → Summary
+owed_cell o = record {
+  from = o.server;
+  to = o.peer;
+  kind = kind.Cell;
+  file = o.file;
+  detail = detail.Key o.key;
+}
 
 -- a replica of this file, and the one at the other end of its edge
 abbrev pub ends_from : Replica → FileId → Edge → Ends
@@ -193,7 +203,7 @@ ends_from x file edge = record { file = file; sender = x.birth; receiver = edge.
 
 -- the same, whole: it goes along the edge to the peer, names the births of both ends, and carries
 -- the head of that key under the tag that the key has there
-pub record IsCellOf (x : Replica) (o : Owing) (m : Sent) : Type 0 where
+pub record IsCellOf (x : Replica) (o : OwedKey) (m : Sent) : Type 0 where
   pub edge : Edge
   pub tag : ℕ
   pub head : VersionValue
@@ -205,15 +215,16 @@ pub record IsCellOf (x : Replica) (o : Owing) (m : Sent) : Type 0 where
     to = o.peer;
     packet = record {
       from = o.server;
-      message = message.Cell (ends_from x o.file edge) tag head;
+      view = 0;
+      message = message.Cell (ends_from x o.file edge) tag (cell.Version head (policy_of o.file));
     };
   }
 
-abbrev pub IsOwedCell : Store → Owing → Sent → Type 0
+abbrev pub IsOwedCell : Store → OwedKey → Sent → Type 0
 IsOwedCell a o m = IsCellOf (replica_of a o.file) o m
 
 -- what is owed goes by file, then by peer, then by key
-abbrev pub owing_cmp : Owing → Owing → Ordering
+abbrev pub owing_cmp : OwedKey → OwedKey → Ordering
 owing_cmp x y =
     ordering_then (file_cmp x.file y.file)
     (ordering_then (nat_cmp x.peer y.peer) (key_cmp x.key y.key))

@@ -1,7 +1,8 @@
 -- Whether all is done, and what a run waits for.
 use Rattle.std.specs.Prelude.{[], ℕ, Bool, true, false, ◌≡◌, ◌≤◌, List, ◌∷◌, ◌++◌, map, zero, suc}
 use Rattle.pg_msg.specs.Sent.{summary}
-use Rattle.pg_event.specs.declared.quiet.Owing.{Owing}
+use Rattle.pg_event.specs.declared.quiet.OwedKey.{OwedKey}
+use Rattle.pg_event.specs.declared.quiet.Owing.TheVariants.{Key}
 use Rattle.pg_event.specs.declared.quiet.Cause.{Cause}
 use Rattle.pg_event.specs.declared.quiet.Cause.TheVariants.{Message, Owed}
 use Rattle.pg_event.specs.declared.quiet.Quiet.{Quiet}
@@ -17,14 +18,14 @@ pub record IsQuiet (servers : ℕ) (w : World) : Type 0 where
   pub nothing : (server : ℕ) → 1 ≤ server → server ≤ servers → owed (w.stores server) ≡ []
 
 -- what the first servers owe, by server
-abbrev pub owed_by : (ℕ → Store) → ℕ → List Owing
+abbrev pub owed_by : (ℕ → Store) → ℕ → List OwedKey
 owed_by stores zero = []
 owed_by stores (suc k) = owed_by stores k ++ owed (stores (suc k))
 
 -- all that a run waits for: first the messages, the oldest first, then what is owed
 abbrev pub causes : ℕ → World → List Cause
 causes servers w =
-    map (λ m. Message (summary m)) (bag w.journal) ++ map Owed (owed_by w.stores servers)
+    map (λ m. Message (summary m)) (bag w.journal) ++ map (λ o. Owed (Key o)) (owed_by w.stores servers)
 
 abbrev pub first_of : List Cause → Quiet
 first_of [] = quiet.Quiet

@@ -2,10 +2,10 @@
 use Rattle.std.specs.Prelude.{[], ℕ, ◌&&◌, Bool, nat_le, if◌then◌else◌, List, ◌∷◌, Option, None, Some}
 use Rattle.pg_msg.specs.declared.message.Sent.{Sent}
 use Rattle.pg_event.specs.declared.event.Event.{Event}
-use Rattle.pg_event.specs.declared.event.Event.TheVariants.{Write, Tick, Deliver, Lose, Repeat}
+use Rattle.pg_event.specs.declared.event.Event.TheVariants.{Write, Call, Tick, Deliver, Lose, Repeat, Restart, Remove}
 use Rattle.pg_event.specs.declared.entry.Entry.{Entry}
 use Rattle.pg_event.specs.declared.entry.VoidCause.{VoidCause}
-use Rattle.pg_event.specs.declared.entry.VoidCause.TheVariants.{NoMessage, NoServer}
+use Rattle.pg_event.specs.declared.entry.VoidCause.TheVariants.{NoMessage, NoServer, Unbuilt}
 use Rattle.pg_flood.specs.World.{after}
 use Rattle.pg_node.specs.declared.input.Input.{Input}
 use Rattle.pg_node.specs.declared.input.Input.TheVariants as input
@@ -69,16 +69,23 @@ abbrev pub bag_step : World → Event → Option Sent → Step
 bag_step w event None = idle_step w event (Some NoMessage)
 bag_step w event (Some m) = idle_step w event None
 
+-- an event of which nothing is done yet
+abbrev pub unbuilt_step : World → Event → Step
+unbuilt_step w event = idle_step w event (Some Unbuilt)
+
 -- what comes of one event in a run with so many servers
 abbrev pub next : ℕ → World → Event → Step
 next servers w (Write server moment file what) =
     call_step servers w (Write server moment file what) server (input.Write moment file what)
+next servers w (Call server moment call) = unbuilt_step w (Call server moment call)
 next servers w (Tick server moment word) =
     call_step servers w (Tick server moment word) server (input.Tick moment word)
 next servers w (Deliver number) =
     delivery_step servers w (Deliver number) (message_at (bag w.journal) number)
 next servers w (Lose number) = bag_step w (Lose number) (message_at (bag w.journal) number)
 next servers w (Repeat number) = bag_step w (Repeat number) (message_at (bag w.journal) number)
+next servers w (Restart server) = unbuilt_step w (Restart server)
+next servers w (Remove server) = unbuilt_step w (Remove server)
 
 -- the world after a step
 abbrev pub world_after : World → Step → World

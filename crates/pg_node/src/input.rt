@@ -22,7 +22,7 @@ pub enum Input {
     Arrival(Packet),
 }
 
-/// What comes of an input: the reply to a client, the versions that were made, and the messages that were sent, in their
+/// What comes of an input: the reply to a client, the updates that were made, and the messages that were sent, in their
 /// order.
 #[derive(Debug, Drop)]
 pub struct Out {

@@ -13,7 +13,7 @@ use crate::owing::first_owed;
 use crate::receiving::effect;
 use pg_base::{FileId, NodeId};
 use pg_content::Content;
-use pg_event::Owing;
+use pg_event::OwedKey;
 use pg_replica::Store;
 use std::alloc::Global;
 
@@ -62,7 +62,7 @@ impl Node {
     }
 
     /// The first key that a peer has not acknowledged, by file, peer and key. It takes no memory.
-    pub fn owed(&self) -> Option<Owing>
+    pub fn owed(&self) -> Option<OwedKey>
         ensures { result ≡ slice_get (owed self.now.store) 0 }
     {
         first_owed(&self.store)

@@ -6,15 +6,15 @@ ghost use Rattle.pg_node.specs.Local.{edge_owes, file_owes, owed, replica_owes};
 
 use pg_base::{FileId, NodeId};
 use pg_edges::Edge;
-use pg_event::Owing;
+use pg_event::OwedKey;
 use pg_replica::{Replica, Store};
 
 /// The first unacknowledged key of an edge.
-fn first_of_edge(server: NodeId, file: FileId, edge: &Edge) -> Option<Owing>
+fn first_of_edge(server: NodeId, file: FileId, edge: &Edge) -> Option<OwedKey>
     ensures { result ≡ slice_get (edge_owes server file edge.now) 0 }
 {
     match edge.keys.as_slice().first() {
-        Some(entry) => Some(Owing {
+        Some(entry) => Some(OwedKey {
             server,
             file,
             peer: edge.peer,
@@ -25,7 +25,7 @@ fn first_of_edge(server: NodeId, file: FileId, edge: &Edge) -> Option<Owing>
 }
 
 /// The first unacknowledged key of a replica: of its first edge that has one.
-fn first_of_replica(server: NodeId, file: FileId, replica: &Replica) -> Option<Owing>
+fn first_of_replica(server: NodeId, file: FileId, replica: &Replica) -> Option<OwedKey>
     ensures { result ≡ slice_get (replica_owes server (file, replica.now)) 0 }
 {
     for edge in replica.edges.as_slice() {
@@ -37,7 +37,7 @@ fn first_of_replica(server: NodeId, file: FileId, replica: &Replica) -> Option<O
 }
 
 /// The same of a file.
-fn first_of_file(store: &Store, file: &FileId) -> Option<Owing>
+fn first_of_file(store: &Store, file: &FileId) -> Option<OwedKey>
     ensures { result
         ≡ slice_get (file_owes store.now.server file.now (replica_at store.now file.now)) 0 }
 {
@@ -48,7 +48,7 @@ fn first_of_file(store: &Store, file: &FileId) -> Option<Owing>
 }
 
 /// The same of all files, by file: those with unacknowledged keys are gone over.
-pub(crate) fn first_owed(store: &Store) -> Option<Owing>
+pub(crate) fn first_owed(store: &Store) -> Option<OwedKey>
     ensures { result ≡ slice_get (owed store.now) 0 }
 {
     for file in store.replicas.unacknowledged().keys() {

@@ -1,12 +1,14 @@
 //! What an input does to what a server holds, and what comes of it.
 
 ghost use Rattle.std.specs.Prelude.{◌≡◌, ◌≤◌, ◌^◌, OnOk, IfOk};
+ghost use Rattle.pg_msg.specs.declared.message.Message.TheVariants as message;
 ghost use Rattle.pg_node.specs.Local.{effect, out_of, receive, receive_in_time, tick_in_time};
 
 use crate::input::{Input, Out};
 use pg_call::{Refusal, Reply};
 use pg_calls::do_change;
-use pg_msg::{Message, Work};
+use pg_entries::Cell;
+use pg_msg::{Ends, Message, Work};
 use pg_repair::{ack, cell, finish, tick};
 use pg_replica::Store;
 use std::alloc::AllocError;
@@ -74,17 +76,64 @@ fn receive_in_time(store: &mut Store, message: Message, work: &mut Work) -> Resu
     receive(store, message, work)
 }
 
-/// Each kind of message goes to its handler, which does nothing where the message is not accepted.
+/// Each kind of message goes to its handler, which does nothing where the message is not accepted. What has no handler
+/// yet changes nothing.
 fn receive(store: &mut Store, message: Message, work: &mut Work) -> Result<(), AllocError>
     requires { store.old.tags ≤ 2 ^ 62 }
     ensures store { OnOk result (store.new ≡ (receive store.old message work.old).store) }
     ensures work { OnOk result (work.new ≡ (receive store.old message work.old).work) }
 {
     match message {
-        Message::Cell { ends, tag, version } => cell(store, ends, tag, version, work),
+        Message::Cell { ends, tag, cell } => receive_cell(store, ends, tag, cell, work),
         Message::Ack { ends, key, tag } => {
             ack(store, ends, key, tag, work);
             Ok(())
         }
+        Message::Harbinger { .. } => Ok(()),
+        Message::Want { .. } => Ok(()),
+        Message::Delta { .. } => Ok(()),
+        Message::Piece { .. } => Ok(()),
+        Message::Later { .. } => Ok(()),
+        Message::Fetch { .. } => Ok(()),
+        Message::Grant { .. } => Ok(()),
+        Message::NoGrant { .. } => Ok(()),
+        Message::Full { .. } => Ok(()),
+        Message::Seek { .. } => Ok(()),
+        Message::Here { .. } => Ok(()),
+        Message::NoneHere { .. } => Ok(()),
+        Message::Gone { .. } => Ok(()),
+        Message::Bye { .. } => Ok(()),
+        Message::ByeOk { .. } => Ok(()),
+        Message::Confirm { .. } => Ok(()),
+        Message::PlaceIs { .. } => Ok(()),
+        Message::Tell { .. } => Ok(()),
+        Message::TellOk { .. } => Ok(()),
+        Message::Leave { .. } => Ok(()),
+        Message::LeaveOk { .. } => Ok(()),
+        Message::Invite { .. } => Ok(()),
+        Message::Walk { .. } => Ok(()),
+        Message::Meet { .. } => Ok(()),
+    }
+}
+
+/// Takes a cell: of the cells only versions are taken yet.
+fn receive_cell(
+    store: &mut Store,
+    ends: Ends,
+    tag: u64,
+    received: Cell,
+    work: &mut Work,
+) -> Result<(), AllocError>
+    requires { store.old.tags ≤ 2 ^ 62 }
+    ensures store { OnOk result
+        (store.new ≡ (receive store.old (message.Cell ends tag received) work.old).store) }
+    ensures work { OnOk result
+        (work.new ≡ (receive store.old (message.Cell ends tag received) work.old).work) }
+{
+    match received {
+        Cell::Version(version, _) => cell(store, ends, tag, version, work),
+        Cell::Place(_) => Ok(()),
+        Cell::Flag(_) => Ok(()),
+        Cell::Entry(_, _) => Ok(()),
     }
 }

@@ -41,7 +41,7 @@ const MOST_PARTS: usize = 64;
 const MOST_BYTES: usize = 4096;
 
 /// Whether the bytes are a component of a path.
-fn is_component(part: &[u8]) -> bool
+pub fn is_component(part: &[u8]) -> bool
     ensures { IsTrue result ↔ IsComponent part.now }
 {
     !part.is_empty() && part.len() <= MOST_PART && part.iter().all(|byte| is_component_byte(*byte))

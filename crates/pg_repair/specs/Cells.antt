@@ -18,6 +18,7 @@ ack_to server from ends k tag = record {
   to = from;
   packet = record {
     from = server;
+    view = 0;
     message =
         message.Ack (record { file = ends.file; sender = ends.receiver; receiver = ends.sender })
         k tag;

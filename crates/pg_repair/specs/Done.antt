@@ -1,5 +1,5 @@
 -- What a handler leaves, and which messages come to a handler.
-use Rattle.std.specs.Prelude.{ℕ, Bool, if◌then◌else◌}
+use Rattle.std.specs.Prelude.{ℕ, Bool, Option, None, Some, if◌then◌else◌}
 use Rattle.pg_replica.specs.declared.link.Link.{Link}
 use Rattle.pg_replica.specs.declared.replica.Replica.{Replica}
 use Rattle.pg_replica.specs.declared.store.Store.{Store}
@@ -22,8 +22,17 @@ link_of from ends = record { own = ends.receiver; peer = from; birth = ends.send
 abbrev pub is_accepted : Replica → ℕ → Ends → Bool
 is_accepted x from ends = has_edge x (link_of from ends)
 
+-- nothing is done
+abbrev pub idle : Store → Work → Done
+idle store work = record { store = store; work = work }
+
 -- a handler does this where the message is accepted, and nothing else
 abbrev pub where_accepted : Store → Ends → Work → Done → Done
 where_accepted store ends work done =
     if is_accepted (replica_of store ends.file) work.from ends then done
-    else record { store = store; work = work }
+    else idle store work
+
+-- the same, where the message goes along an edge; the others are not asked
+abbrev pub where_linked : Store → Option Ends → Work → Done → Done
+where_linked store None work done = done
+where_linked store (Some ends) work done = where_accepted store ends work done

@@ -8,6 +8,8 @@ use Rattle.pg_edges.specs.declared.edge.Edge.{Edge}
 use Rattle.pg_edges.specs.Keys.{tag_in}
 use Rattle.pg_replica.specs.declared.replica.Replica.{Replica}
 use Rattle.pg_replica.specs.Replica.{key_of}
+use Rattle.pg_replica.specs.Untouched.{policy_of}
+use Rattle.pg_entries.specs.declared.cell.Cell.TheVariants as cell
 use Rattle.pg_msg.specs.declared.message.Message.TheVariants as message
 use Rattle.pg_msg.specs.declared.message.Sent.{Sent}
 
@@ -17,7 +19,10 @@ cell_to server file birth e v tag = record {
   to = e.peer;
   packet = record {
     from = server;
-    message = message.Cell (record { file = file; sender = birth; receiver = e.birth }) tag v;
+    view = 0;
+    message =
+        message.Cell (record { file = file; sender = birth; receiver = e.birth }) tag
+        (cell.Version v (policy_of file));
   };
 }
 

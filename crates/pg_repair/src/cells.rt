@@ -35,6 +35,7 @@ fn ack_to(server: NodeId, from: NodeId, ends: &Ends, key: Key, tag: u64) -> Sent
         to: from,
         packet: Packet {
             from: server,
+            view: 0,
             message: Message::Ack { ends, key, tag },
         },
     }

@@ -6,8 +6,9 @@ ghost use Rattle.pg_repair.specs.Sending.{cell_to, cells_under, tagged_cell};
 
 use pg_base::{FileId, Items, NodeId, Version};
 use pg_edges::{Edge, Key};
+use pg_entries::Cell;
 use pg_msg::{Ends, Message, Packet, Sent};
-use pg_replica::Replica;
+use pg_replica::{Replica, policy_of};
 use std::alloc::AllocError;
 
 /// A version under a tag, to the peer of an edge, from a replica of this birth.
@@ -26,15 +27,13 @@ pub(crate) fn cell_to(
         sender: birth,
         receiver: edge.birth,
     };
-    let message = Message::Cell {
-        ends,
-        tag,
-        version: version.copy()?,
-    };
+    let cell = Cell::Version(version.copy()?, policy_of(&file));
+    let message = Message::Cell { ends, tag, cell };
     Ok(Sent {
         to: edge.peer,
         packet: Packet {
             from: server,
+            view: 0,
             message,
         },
     })

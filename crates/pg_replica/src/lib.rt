@@ -16,4 +16,4 @@ pub use link::{Link, Taking};
 pub use replica::Replica;
 pub use replicas::Replicas;
 pub use store::Store;
-pub use untouched::Home;
+pub use untouched::{Home, policy_of};

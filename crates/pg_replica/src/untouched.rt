@@ -18,7 +18,7 @@ pub struct Home {
 }
 
 /// A file of an even number shows the bodies of all heads, any other that of the last.
-fn policy_of(file: &FileId) -> Policy
+pub fn policy_of(file: &FileId) -> Policy
     ensures { result ≡ policy_of file.now }
 {
     if file.number % 2 == 0 {

@@ -1,10 +1,11 @@
 //! What a server does where a client calls it.
 
-use pg_base::{FileId, Kind, SharedBytes, Stamp};
-use pg_call::{Change, Refusal, Reply};
+use pg_base::{FileId, Kind, SharedBytes};
+use pg_call::Change;
 use pg_calls::do_change;
 use pg_msg::Work;
 use pg_replica::Store;
+use std::alloc::{AllocError, Global};
 use std::test::Fail;
 
 const FILE: FileId = FileId {
@@ -13,34 +14,47 @@ const FILE: FileId = FileId {
     number: 1,
 };
 
+/// What a client asks for.
+#[derive(Clone, Copy)]
+enum Asked {
+    Put,
+    /// A patch at this offset.
+    Patch(u32),
+    Trim(u32),
+}
+
+/// The change, by two bytes.
+fn change(alloc: Global, asked: Asked) -> Result<Change, AllocError> {
+    let bytes = SharedBytes::from_slice(alloc, b"ab")?;
+    Ok(match asked {
+        Asked::Put => Change::Put(bytes),
+        Asked::Patch(offset) => Change::Patch { offset, bytes },
+        Asked::Trim(length) => Change::Trim(length),
+    })
+}
+
+/// What the client is told.
+fn reply(alloc: Global, store: &mut Store, asked: Asked, work: &mut Work) -> Result<String, Fail> {
+    let reply = do_change(store, FILE, change(alloc, asked)?, work)?;
+    Ok(format!(in alloc; "{reply}")?)
+}
+
 // What is asked, and what the client is told. Only what was made is touched.
 #[test]
 fn a_body_does_not_grow_over_its_limit(rt: HostRuntime) -> Result<(), Fail> {
     let mut store = Store::new(rt.alloc(), 1, 3);
     let mut work = Work::new(rt.alloc(), 40, 0);
-    let two = SharedBytes::from_slice(rt.alloc(), b"ab")?;
-    let late = Change::Patch {
-        offset: 1_048_575,
-        bytes: two.copy()?,
-    };
-    let refused = Reply::Refused(Refusal::TooLong);
-    assert_eq!(rt;
-        do_change(&mut store, FILE, Change::Trim(1_048_577), &mut work)?,
-        refused
-    );
-    assert_eq!(rt; do_change(&mut store, FILE, late, &mut work)?, refused);
-    assert!(rt; work.made.is_empty());
-    assert!(rt; store.content(&FILE).is_none());
-    let stamp = Stamp {
-        time: 40,
-        server: 1,
-    };
-    assert_eq!(rt;
-        do_change(&mut store, FILE, Change::Put(two), &mut work)?,
-        Reply::Wrote(stamp)
-    );
-    assert_eq!(rt; work.made.len(), 1);
-    assert_eq!(rt; work.touched.len(), 1);
-    assert_eq!(rt; store.content(&FILE).ok_or("no content")?.length(), 2);
+    for (asked, answer, made) in [
+        (Asked::Trim(1_048_577), "refused 12 TooLong", 0),
+        (Asked::Patch(1_048_575), "refused 12 TooLong", 0),
+        (Asked::Put, "wrote 40@1", 1),
+    ] {
+        let told = reply(rt.alloc(), &mut store, asked, &mut work)?;
+        assert_eq!(rt; told.as_str(), answer);
+        assert_eq!(rt; work.made.len(), made);
+        assert_eq!(rt; work.touched.len(), made);
+        assert_eq!(rt; store.content(&FILE).is_some(), made > 0);
+    }
+    assert_eq!(rt; store.content(&FILE).map(|c| c.length()), Some(2));
     Ok(())
 }

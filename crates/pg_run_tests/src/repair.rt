@@ -39,25 +39,38 @@ fn version(alloc: Global) -> Result<Version, AllocError> {
     Version::new(alloc, head, SharedBytes::from_slice(alloc, b"")?)
 }
 
-// A cell is answered, and its key is sent to every peer until it answers. A tick sends it again.
-#[test]
-fn a_cell_is_passed_on_until_it_is_answered(rt: HostRuntime) -> Result<(), Fail> {
-    let key = Key::Version(STAMP);
-    let mut store = Store::new(rt.alloc(), 1, 3);
+/// A version comes.
+fn take(alloc: Global, store: &mut Store, work: &mut Work) -> Result<(), Fail> {
     if !store.has_time() {
         return Err("no time".into());
     }
+    Ok(cell(store, ENDS, 9, version(alloc)?, work)?)
+}
+
+// A cell is answered, and its key is sent to every peer until it answers.
+#[test]
+fn a_cell_is_passed_on(rt: HostRuntime) -> Result<(), Fail> {
+    let mut store = Store::new(rt.alloc(), 1, 3);
     let mut work = Work::new(rt.alloc(), 0, 2);
-    cell(&mut store, ENDS, 9, version(rt.alloc())?, &mut work)?;
+    take(rt.alloc(), &mut store, &mut work)?;
     assert_eq!(rt; work.sent.len(), 1);
     let touched = Touched {
         file: ENDS.file,
-        key,
+        key: Key::Version(STAMP),
     };
     assert!(rt; work.touched.as_slice() == [touched].as_slice());
     finish(&store, &mut work)?;
     assert_eq!(rt; work.sent.len(), 3);
-    ack(&mut store, ENDS, key, 1, &mut work);
+    Ok(())
+}
+
+// A tick sends it again to each that has not answered.
+#[test]
+fn a_cell_is_sent_until_it_is_answered(rt: HostRuntime) -> Result<(), Fail> {
+    let mut store = Store::new(rt.alloc(), 1, 3);
+    let mut work = Work::new(rt.alloc(), 0, 2);
+    take(rt.alloc(), &mut store, &mut work)?;
+    ack(&mut store, ENDS, Key::Version(STAMP), 1, &mut work);
     let mut again = Work::new(rt.alloc(), 6, 0);
     tick(&store, &mut again)?;
     assert_eq!(rt; again.sent.len(), 1);

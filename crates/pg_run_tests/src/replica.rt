@@ -1,6 +1,6 @@
 //! What a server holds.
 
-use pg_base::{Actor, FileId, Head, Kind, SharedBytes, Stamp, Vector, Version};
+use pg_base::{Actor, FileId, Head, Items, Kind, SharedBytes, Stamp, Vector, Version};
 use pg_edges::Key;
 use pg_patch::make;
 use pg_replica::{Link, Store, Taking};
@@ -45,12 +45,18 @@ fn version(alloc: Global, server: u32, known: Option<u32>) -> Result<Version, Al
     Version::new(alloc, head, SharedBytes::from_slice(alloc, b"")?)
 }
 
-/// What comes of a version that came along an edge.
-fn take(store: &mut Store, link: &Link, version: Version) -> Result<Taking, Fail> {
+/// What comes of a server's version that came along an edge.
+fn take(
+    alloc: Global,
+    store: &mut Store,
+    link: &Link,
+    server: u32,
+    known: Option<u32>,
+) -> Result<Taking, Fail> {
     if !store.has_time() {
         return Err("no time".into());
     }
-    Ok(store.take_version(FILE, link, version)?)
+    Ok(store.take_version(FILE, link, version(alloc, server, known)?)?)
 }
 
 fn key(time: u64, server: u32) -> Key {
@@ -60,6 +66,23 @@ fn key(time: u64, server: u32) -> Key {
 /// The tag of a key on the edge to a server.
 fn tag(store: &Store, peer: u32, key: Key) -> Option<u64> {
     store.replicas.get(&FILE)?.edges.tag(peer, 1, key)
+}
+
+/// The keys of a copy of the replica.
+fn keys(alloc: Global, store: &Store) -> Result<Items<Key>, Fail> {
+    let replica = store.replicas.get(&FILE).ok_or("no replica")?.copy()?;
+    Ok(replica.keys(alloc)?)
+}
+
+/// The stamp of a write, and how many versions it is based on.
+fn write(alloc: Global, store: &mut Store) -> Result<(Stamp, usize), Fail> {
+    let ranges = make(alloc, 0, b"new").ok().ok_or("ranges")?;
+    if !store.has_time() || !store.has_room(&FILE) {
+        return Err("no time".into());
+    }
+    let stamp = store.next_stamp(TIME + 1);
+    let bases = store.write(FILE, stamp, &ranges).ok().ok_or("write")?;
+    Ok((stamp, bases.len()))
 }
 
 // Along which edge a version comes, whose it is, and what comes of it.
@@ -81,13 +104,12 @@ fn versions_come_along_edges(rt: HostRuntime) -> Result<(), Fail> {
         (wrong, 3, Taking::NoEdge),
     ];
     for (link, server, taking) in &rows {
-        let version = version(rt.alloc(), *server, None)?;
-        assert_eq!(rt; take(&mut store, link, version)?, *taking);
+        let taken = take(rt.alloc(), &mut store, link, *server, None)?;
+        assert_eq!(rt; taken, *taking);
     }
     assert_eq!(rt; store.tags, 5);
     assert_eq!(rt; store.last, TIME);
-    let replica = store.replicas.get(&FILE).ok_or("no replica")?.copy()?;
-    let keys = replica.keys(rt.alloc())?;
+    let keys = keys(rt.alloc(), &store)?;
     assert!(rt; keys.as_slice() == [key(TIME, 2), key(TIME, 3)].as_slice());
     Ok(())
 }
@@ -97,8 +119,8 @@ fn versions_come_along_edges(rt: HostRuntime) -> Result<(), Fail> {
 fn one_of_two_goes(rt: HostRuntime) -> Result<(), Fail> {
     let mut store = Store::new(rt.alloc(), 1, 4);
     for (server, known) in [(2, None), (3, None), (4, Some(2))] {
-        let version = version(rt.alloc(), server, known)?;
-        assert_eq!(rt; take(&mut store, &link(2), version)?, Taking::News);
+        let taken = take(rt.alloc(), &mut store, &link(2), server, known)?;
+        assert_eq!(rt; taken, Taking::News);
     }
     assert_eq!(rt; tag(&store, 2, key(TIME, 2)), None);
     assert_eq!(rt; tag(&store, 2, key(TIME, 3)), Some(4));
@@ -111,17 +133,11 @@ fn one_of_two_goes(rt: HostRuntime) -> Result<(), Fail> {
 fn a_write_is_acknowledged(rt: HostRuntime) -> Result<(), Fail> {
     let mut store = Store::new(rt.alloc(), 1, 3);
     for server in [2, 3] {
-        let version = version(rt.alloc(), server, None)?;
-        take(&mut store, &link(2), version)?;
+        take(rt.alloc(), &mut store, &link(2), server, None)?;
     }
-    let ranges = make(rt.alloc(), 0, b"new").ok().ok_or("ranges")?;
-    if !store.has_time() || !store.has_room(&FILE) {
-        return Err("no time".into());
-    }
-    let stamp = store.next_stamp(TIME + 1);
-    let bases = store.write(FILE, stamp, &ranges).ok().ok_or("write")?;
-    assert_eq!(rt; bases.len(), 2);
-    assert_eq!(rt; store.content(&FILE).ok_or("no content")?.length(), 3);
+    let (stamp, bases) = write(rt.alloc(), &mut store)?;
+    assert_eq!(rt; bases, 2);
+    assert_eq!(rt; store.content(&FILE).map(|c| c.length()), Some(3));
     let mine = Key::Version(stamp);
     store.acknowledge(FILE, &link(2), mine, 6);
     assert_eq!(rt; tag(&store, 2, mine), Some(5));

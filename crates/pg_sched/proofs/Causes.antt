@@ -2,18 +2,21 @@
 use Rattle.std.proofs.Common.{ℕ, ◌≡◌, ◌≢◌, ◌≤◌, ◌<◌, List, [], ◌∷◌, ◌++◌, length, refl, sym, ap, ◌∙◌, arith, All, inl, inr, subst, append_assoc}
 use Rattle.std.proofs.lemmas.List.Elements.{All-head, All-tail, All-weaker}
 use Rattle.pg_base.proofs.Parts.{not_cut}
-use Rattle.pg_sched.specs.Cause.{Unless, IsPrintable, IsEnded, IsCutCause, IsCause, IsWordsCause, IsRestCause, first_line}
+use Rattle.pg_sched.specs.Cause.{Unless, IsPrintable, IsEnded, IsCutCause, IsCause, IsCalledCause, IsWordsCause, IsRestCause, first_line}
 use Rattle.pg_words.specs.Words.{words_in}
-use Rattle.pg_sched.specs.Fields.{Field, fields, IsBadWord}
+use Rattle.pg_sched.specs.Fields.{called_fields, fields}
+use Rattle.pg_call.specs.Fields.{Field, IsBadWord}
+use Rattle.pg_call.specs.declared.call.CallKind.{CallKind}
+use Rattle.pg_call.proofs.CallTable.{same_kind}
 use Rattle.pg_sched.specs.Line.{line_body, IsLine}
 use Rattle.pg_sched.specs.Schedule.{LacksLine}
-use Rattle.pg_event.specs.declared.fault.Fault.{Fault}
-use Rattle.pg_event.specs.declared.fault.Fault.TheVariants as fault
+use Rattle.pg_call.specs.declared.fault.Fault.{Fault}
+use Rattle.pg_call.specs.declared.fault.Fault.TheVariants as fault
 use Rattle.pg_sched.specs.declared.line.Line.{Line}
 use Rattle.pg_sched.specs.declared.verb.Verb.{Verb}
 use Rattle.pg_sched.proofs.Lines.{line_body-lacks}
-use Rattle.pg_sched.proofs.Table.{same_verb, no_words_cause}
-use Rattle.pg_sched.proofs.Words.{words-again, line_printable, line_short}
+use Rattle.pg_sched.proofs.Table.{not_call, same_verb, no_words_cause}
+use Rattle.pg_sched.proofs.Words.{words-again, line_printable}
 use Rattle.pg_words.proofs.Splitting.{Lacks, eqb-off}
 
 -- the text's first line, where it was cut
@@ -49,17 +52,33 @@ one_bad_word (field ∷ fs) (word ∷ words) f g (inl a) (inr b) = absurd (a.0 b
 one_bad_word (field ∷ fs) (word ∷ words) f g (inr a) (inl b) = absurd (b.0 a.0)
 one_bad_word (field ∷ fs) (word ∷ words) f g (inr a) (inr b) = one_bad_word fs words f g a.1 b.1
 
-one_rest_cause : (v : Verb) (words : List (List ℕ)) (f g : Fault) → IsRestCause v words f → IsRestCause v words g → f ≡ g
-one_rest_cause v words f g a b = once f g fault.Words a b (one_bad_word (fields v) words f g)
+one_rest_cause : (fs : List Field) (words : List (List ℕ)) (f g : Fault) → IsRestCause fs words f → IsRestCause fs words g → f ≡ g
+one_rest_cause fs words f g a b = once f g fault.Words a b (one_bad_word fs words f g)
+
+one_called_cause : (words : List (List ℕ)) (f g : Fault) → IsCalledCause words f → IsCalledCause words g → f ≡ g
+one_called_cause [] f g a b = a ∙ sym b
+one_called_cause (s ∷ []) f g a b = a ∙ sym b
+one_called_cause (s ∷ m ∷ []) f g a b = a ∙ sym b
+one_called_cause (s ∷ m ∷ c ∷ words) f g (inl a) (inl b) = a.1 ∙ sym b.1
+one_called_cause (s ∷ m ∷ c ∷ words) f g (inl a) (inr b) = absurd (a.0 b.0 b.1)
+one_called_cause (s ∷ m ∷ c ∷ words) f g (inr a) (inl b) = absurd (b.0 a.0 a.1)
+one_called_cause (s ∷ m ∷ c ∷ words) f g (inr a) (inr b) =
+    let P : CallKind → Type 0 = λ k. IsRestCause (called_fields k) (s ∷ m ∷ words) g in
+    one_rest_cause (called_fields a.0) (s ∷ m ∷ words) f g a.2 (subst P (same_kind b.0 a.0 (sym b.1 ∙ a.1)) b.2)
 
 one_words_cause : (words : List (List ℕ)) (f g : Fault) → IsWordsCause words f → IsWordsCause words g → f ≡ g
 one_words_cause [] f g a b = a ∙ sym b
-one_words_cause (word ∷ words) f g (inl a) (inl b) = a.1 ∙ sym b.1
-one_words_cause (word ∷ words) f g (inl a) (inr b) = absurd (a.0 b.0 b.1)
-one_words_cause (word ∷ words) f g (inr a) (inl b) = absurd (b.0 a.0 a.1)
-one_words_cause (word ∷ words) f g (inr a) (inr b) =
-    let P : Verb → Type 0 = λ v. IsRestCause v words g in
-    one_rest_cause a.0 words f g a.2 (subst P (same_verb b.0 a.0 (sym b.1 ∙ a.1)) b.2)
+one_words_cause (word ∷ words) f g (inl a) (inl b) = a.2 ∙ sym b.2
+one_words_cause (word ∷ words) f g (inl a) (inr (inl b)) = absurd (a.0 b.0 b.1)
+one_words_cause (word ∷ words) f g (inl a) (inr (inr b)) = absurd (a.1 b.0)
+one_words_cause (word ∷ words) f g (inr (inl a)) (inl b) = absurd (b.0 a.0 a.1)
+one_words_cause (word ∷ words) f g (inr (inl a)) (inr (inl b)) =
+    let P : Verb → Type 0 = λ v. IsRestCause (fields v) words g in
+    one_rest_cause (fields a.0) words f g a.2 (subst P (same_verb b.0 a.0 (sym b.1 ∙ a.1)) b.2)
+one_words_cause (word ∷ words) f g (inr (inl a)) (inr (inr b)) = absurd (not_call a.0 (sym a.1 ∙ b.0))
+one_words_cause (word ∷ words) f g (inr (inr a)) (inl b) = absurd (b.1 a.0)
+one_words_cause (word ∷ words) f g (inr (inr a)) (inr (inl b)) = absurd (not_call b.0 (sym b.1 ∙ a.0))
+one_words_cause (word ∷ words) f g (inr (inr a)) (inr (inr b)) = one_called_cause words f g a.1 b.1
 
 -- a bad line has one cause
 pub one_cause : (n : ℕ) (text : List ℕ) (f g : Fault) → IsCause n text f → IsCause n text g → f ≡ g
@@ -108,14 +127,14 @@ printable_lacks line h = All-weaker IsPrintable (λ b. b ≢ 10) (λ b p e. let 
 
 -- where a cause is, is no line
 line_cause : (line : Line) (text rest : List ℕ) (f : Fault) → IsLine line → text ≡ line_body line ++ 10 ∷ rest → IsCause 2 text f → ⊥
-line_cause line text rest f fits e (inl a) = no_cut_cause text (line_body line) rest f e (line_body-lacks line fits) (line_printable line fits) (line_short line fits) (inl a)
-line_cause line text rest f fits e (inr (p, inl a)) = no_cut_cause text (line_body line) rest f e (line_body-lacks line fits) (line_printable line fits) (line_short line fits) (inr (p, inl a))
-line_cause line text rest f fits e (inr (p, inr (q, inl a))) = no_cut_cause text (line_body line) rest f e (line_body-lacks line fits) (line_printable line fits) (line_short line fits) (inr (p, inr (q, a)))
+line_cause line text rest f fits e (inl a) = no_cut_cause text (line_body line) rest f e (line_body-lacks line fits) (line_printable line fits.words) fits.short (inl a)
+line_cause line text rest f fits e (inr (p, inl a)) = no_cut_cause text (line_body line) rest f e (line_body-lacks line fits) (line_printable line fits.words) fits.short (inr (p, inl a))
+line_cause line text rest f fits e (inr (p, inr (q, inl a))) = no_cut_cause text (line_body line) rest f e (line_body-lacks line fits) (line_printable line fits.words) fits.short (inr (p, inr (q, a)))
 line_cause line text rest f fits e (inr (p, inr (q, inr (d, inl a)))) = a.0 (omega arith)
 line_cause line text rest f fits e (inr (p, inr (q, inr (d, inr (r, a))))) =
     let P : List (List ℕ) → Type 0 = λ ws. IsWordsCause ws f in
-    let words = ap words_in (first_of text (line_body line) rest e (line_body-lacks line fits)) ∙ words-again line fits in
-    no_words_cause line f fits (subst P words a)
+    let words = ap words_in (first_of text (line_body line) rest e (line_body-lacks line fits)) ∙ words-again line fits.words in
+    no_words_cause line f fits.words (subst P words a)
 
 pub cause_lacks : (text : List ℕ) (f : Fault) → 0 < length text → IsCause 2 text f → LacksLine text
 cause_lacks text f some cause = record {

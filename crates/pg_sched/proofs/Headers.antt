@@ -5,8 +5,8 @@ use Rattle.std.proofs.lemmas.Fmt.{length-decimal-le}
 use Rattle.pg_base.proofs.Parts.{cut_same}
 use Rattle.pg_sched.specs.Cause.{IsPrintable, IsCutCause, IsCause}
 use Rattle.pg_sched.specs.Schedule.{header, LacksHeader, IsCount}
-use Rattle.pg_event.specs.declared.fault.Fault.{Fault}
-use Rattle.pg_event.specs.declared.fault.Fault.TheVariants as fault
+use Rattle.pg_call.specs.declared.fault.Fault.{Fault}
+use Rattle.pg_call.specs.declared.fault.Fault.TheVariants as fault
 use Rattle.pg_sched.proofs.Causes.{no_cut_cause, later_cause, printable_lacks}
 use Rattle.pg_sched.proofs.Lines.{format, header-rest}
 use Rattle.pg_sched.proofs.WordBytes.{decimal_printable}

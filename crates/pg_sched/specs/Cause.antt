@@ -1,9 +1,12 @@
 -- Why a line is bad: the first of the faults that holds of it.
-use Rattle.std.specs.Prelude.{ℕ, ◌≡◌, ◌≢◌, ◌≤◌, ◌⊎◌, List, [], ◌∷◌, ◌++◌, All, length, cond, ◌==◌}
-use Rattle.pg_event.specs.declared.fault.Fault.{Fault}
-use Rattle.pg_event.specs.declared.fault.Fault.TheVariants.{Byte, Long, End, Header, Verb, Words}
+use Rattle.std.specs.Prelude.{ℕ, ◌≡◌, ◌≢◌, ◌≤◌, ◌⊎◌, List, [], ◌∷◌, ◌++◌, All, length, cond, ◌==◌, codes}
+use Rattle.pg_call.specs.Call.{kind_word}
+use Rattle.pg_call.specs.Fields.{Field, AreCounted, IsBadWord}
+use Rattle.pg_call.specs.declared.call.CallKind.{CallKind}
+use Rattle.pg_call.specs.declared.fault.Fault.{Fault}
+use Rattle.pg_call.specs.declared.fault.Fault.TheVariants.{Byte, Long, End, Header, Verb, Words}
 use Rattle.pg_sched.specs.declared.verb.Verb as verb
-use Rattle.pg_sched.specs.Fields.{verb_word, fields, AreCounted, IsBadWord}
+use Rattle.pg_sched.specs.Fields.{called_fields, fields, verb_word}
 use Rattle.pg_words.specs.Words.{words_in}
 
 -- A holds unless P does, and then B
@@ -29,16 +32,28 @@ IsCutCause text fault =
     (Unless (length (first_line text) ≤ 70000) (fault ≡ Long)
     ((IsEnded text → ⊥) × (fault ≡ End)))
 
--- why the words behind a verb are no line
-abbrev pub IsRestCause : verb.Verb → List (List ℕ) → Fault → Type 0
-IsRestCause v words fault =
-    Unless (AreCounted v words) (fault ≡ Words) (IsBadWord (fields v) words fault)
+-- why the words behind a verb are no line, where these fields are wanted
+abbrev pub IsRestCause : List Field → List (List ℕ) → Fault → Type 0
+IsRestCause wanted words fault =
+    Unless (AreCounted wanted words) (fault ≡ Words) (IsBadWord wanted words fault)
+
+-- why the words behind `call` are no line: the third of them names the call
+abbrev pub IsCalledCause : List (List ℕ) → Fault → Type 0
+IsCalledCause [] fault = fault ≡ Words
+IsCalledCause (server ∷ []) fault = fault ≡ Words
+IsCalledCause (server ∷ moment ∷ []) fault = fault ≡ Words
+IsCalledCause (server ∷ moment ∷ call ∷ words) fault =
+    (((k : CallKind) → call ≢ kind_word k) × (fault ≡ Verb))
+    ⊎ ((k : CallKind) × (call ≡ kind_word k)
+    × IsRestCause (called_fields k) (server ∷ moment ∷ words) fault)
 
 -- why words are no line
 abbrev pub IsWordsCause : List (List ℕ) → Fault → Type 0
 IsWordsCause [] fault = fault ≡ Verb
-IsWordsCause (word ∷ words) fault = (((v : verb.Verb) → word ≢ verb_word v) × (fault ≡ Verb))
-    ⊎ ((v : verb.Verb) × (word ≡ verb_word v) × IsRestCause v words fault)
+IsWordsCause (word ∷ words) fault =
+    (((v : verb.Verb) → word ≢ verb_word v) × (word ≢ codes "call") × (fault ≡ Verb))
+    ⊎ (((v : verb.Verb) × (word ≡ verb_word v) × IsRestCause (fields v) words fault)
+    ⊎ ((word ≡ codes "call") × IsCalledCause words fault))
 
 -- why the first line of the text is bad, which has this number in the schedule; the header has number 1
 abbrev pub IsCause : ℕ → List ℕ → Fault → Type 0

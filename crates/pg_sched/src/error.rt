@@ -1,50 +1,13 @@
-//! Why a line could not be read.
+//! Why a schedule could not be read.
 
 ghost use Rattle.std.specs.Prelude.{◌≡◌};
-ghost use Rattle.pg_sched.specs.declared.error.LineError.TheVariants.{OutOfMemory, Bad};
+ghost use Rattle.pg_call.specs.declared.error.WordsError.TheVariants as words;
+ghost use Rattle.pg_call.specs.declared.fault.Fault.{Fault};
 ghost use Rattle.pg_sched.specs.declared.error.ReadError.TheVariants as read;
-ghost use Rattle.pg_event.specs.declared.fault.Fault.{Fault};
 
-use pg_event::Fault;
+use pg_call::{Fault, WordsError};
 use std::alloc::{AllocError, AllocFailed};
 use thiserror::Error;
-
-/// Why a line could not be read.
-#[derive(Clone, Copy, Debug, PartialEq, Eq)]
-pub(crate) enum LineError {
-    OutOfMemory,
-    /// The line is outside the grammar, for this cause.
-    Bad(Fault),
-}
-
-impl LineError {
-    /// The same of the line with this number.
-    pub(crate) fn at(self, number: u64) -> ReadError
-        ensures memory { self ≡ OutOfMemory → result ≡ read.OutOfMemory }
-        ensures bad { (f : Fault) → self ≡ Bad f → result ≡ read.BadLine number f }
-    {
-        match self {
-            LineError::OutOfMemory => ReadError::OutOfMemory,
-            LineError::Bad(fault) => ReadError::BadLine(number, fault),
-        }
-    }
-}
-
-impl From<AllocError> for LineError {
-    ghost from_gives = { λ _ e. e ≡ OutOfMemory };
-
-    fn from(_: AllocError) -> Self {
-        LineError::OutOfMemory
-    }
-}
-
-impl<T: Drop> From<AllocFailed<T>> for LineError {
-    ghost from_gives = { λ _ e. e ≡ OutOfMemory };
-
-    fn from(_: AllocFailed<T>) -> Self {
-        LineError::OutOfMemory
-    }
-}
 
 /// Why a schedule could not be read.
 #[derive(Clone, Copy, Debug, PartialEq, Eq, Error)]
@@ -54,6 +17,19 @@ pub enum ReadError {
     /// The first line outside the grammar, by its number, and why it is. The first line has number 1.
     #[error("line {0}: {1}")]
     BadLine(u64, Fault),
+}
+
+impl ReadError {
+    /// Why the line with this number could not be read.
+    pub(crate) fn at(number: u64, error: WordsError) -> ReadError
+        ensures memory { error ≡ words.OutOfMemory → result ≡ read.OutOfMemory }
+        ensures bad { (f : Fault) → error ≡ words.Bad f → result ≡ read.BadLine number f }
+    {
+        match error {
+            WordsError::OutOfMemory => ReadError::OutOfMemory,
+            WordsError::Bad(fault) => ReadError::BadLine(number, fault),
+        }
+    }
 }
 
 impl From<AllocError> for ReadError {

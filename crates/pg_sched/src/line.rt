@@ -4,6 +4,9 @@ use pg_base::FileId;
 use pg_event::Event;
 use std::fmt;
 
+/// The most bytes that a line has, its line feed not counted.
+pub(crate) const MOST_IN_LINE: usize = 70_000;
+
 /// How much a journal says.
 #[derive(Clone, Copy, Debug, PartialEq, Eq)]
 pub enum Form {
@@ -39,8 +42,10 @@ pub enum Line {
     Quiet,
     /// The journal has this form from the next line on.
     Trace(Form),
-    /// Each server's replica of a file is to be shown.
+    /// Each server's replica of a file or directory is to be shown.
     Show(FileId),
+    /// The meter with this number, counted from 1, is to tell what it has counted, and counts no more.
+    MeterOff(u64),
 }
 
 impl fmt::Display for Line {
@@ -55,7 +60,8 @@ impl fmt::Display for Line {
             Line::Settle { rounds, moment } => write!(f, "settle {rounds} {moment}"),
             Line::Quiet => f.write_str("quiet"),
             Line::Trace(form) => write!(f, "trace {form}"),
-            Line::Show(file) => write!(f, "show {file}"),
+            Line::Show(id) => write!(f, "show {id}"),
+            Line::MeterOff(number) => write!(f, "meter off {number}"),
         }
     }
 }

@@ -1,50 +1,64 @@
 //! A line of a schedule, from text.
 
-ghost use Rattle.std.specs.Prelude.{◌≡◌, ◌<◌, ◌∷◌, [], IfOk, IfErr, IfSome, IfNone, IsTrue, ◌↔◌, map, length, All};
-ghost use Rattle.pg_sched.specs.Cause.{IsWordsCause};
+ghost use Rattle.std.specs.Prelude.{◌≡◌, ◌≢◌, ◌≤◌, ◌<◌, ◌∷◌, [], All, IfOk, IfErr, IfSome, IfNone, IsTrue, ◌↔◌, codes, map, length};
+ghost use Rattle.pg_call.specs.Call.{kind_word};
 ghost use Rattle.pg_call.specs.Change.{IsChange, change_words, kind_of};
-ghost use Rattle.pg_sched.specs.Fields.{AreCounted, IsBadWord, change_fields, fields, verb_word};
-ghost use Rattle.pg_sched.specs.Line.{IsLine, line_words, line_body, settle_words};
-ghost use Rattle.pg_event.specs.Event.{write_words, tick_words};
+ghost use Rattle.pg_call.specs.Fields.{AreCounted, IsBadWord, call_fields};
 ghost use Rattle.pg_call.specs.declared.change.ChangeKind.TheVariants as kind;
-ghost use Rattle.pg_sched.specs.declared.error.LineError.TheVariants as line;
-ghost use Rattle.pg_event.specs.declared.fault.Fault.{Fault};
+ghost use Rattle.pg_call.specs.declared.error.WordsError.TheVariants.{Bad};
+ghost use Rattle.pg_call.specs.declared.fault.Fault.{Fault};
+ghost use Rattle.pg_event.specs.Event.{called_words, tick_words, write_words};
+ghost use Rattle.pg_sched.specs.Cause.{IsCalledCause, IsRestCause, IsWordsCause};
+ghost use Rattle.pg_sched.specs.Fields.{called_fields, change_fields, fields, verb_word};
+ghost use Rattle.pg_sched.specs.Line.{HasWords, IsLine, line_words, line_body, settle_words};
 ghost use Rattle.pg_sched.specs.declared.line.Line.{Line};
 ghost use Rattle.pg_sched.specs.declared.verb.Verb.TheVariants as verb;
 ghost use Rattle.pg_words.specs.Words.{words_in};
 
-use crate::error::LineError;
-use crate::leaves::{bytes_of, file_of, form_of, narrow_of, wide_of};
-use crate::line::Line;
+use crate::leaves::{form_of, off_of};
+use crate::line::{Line, MOST_IN_LINE};
 use crate::verb::Verb;
-use pg_call::{Change, ChangeKind};
-use pg_event::{Event, Fault};
-use pg_words::first_words;
+use pg_call::{
+    CallKind, Change, ChangeKind, Fault, WordsError, arguments_of, bytes_of, file_of, have_bytes,
+    id_of, narrow_of, wide_of,
+};
+use pg_event::Event;
+use pg_words::{first_word, first_words, is_same};
 use std::alloc::{AllocError, Global};
 
 /// More words than any line has.
-const TOO_MANY: usize = 7;
+const TOO_MANY: usize = 8;
 
 /// The change of this kind, of the words behind those that name the server, the moment and the file.
-fn change_of(alloc: Global, kind: ChangeKind, words: &[&[u8]]) -> Result<Change, LineError>
+fn change_of(alloc: Global, kind: ChangeKind, words: &[&[u8]]) -> Result<Change, WordsError>
     requires { length words.now ≡ length (change_fields kind) }
     ensures kind { IfOk result (λ c. kind_of c ≡ kind) }
     ensures found { IfOk result (λ c. IsChange c × (map (λ w. w.now) words.now ≡ change_words c)) }
-    ensures bad { IfErr result (λ e. (f : Fault) → e ≡ line.Bad f
+    ensures bad { IfErr result (λ e. (f : Fault) → e ≡ Bad f
         → IsBadWord (change_fields kind) (map (λ w. w.now) words.now) f) }
 {
     match (kind, words) {
-        (ChangeKind::Put, [bytes]) => Ok(Change::Put(bytes_of(alloc, bytes)?)),
+        (ChangeKind::Put, [bytes]) => put_of(alloc, bytes),
         (ChangeKind::Patch, [offset, bytes]) => patch_of(alloc, offset, bytes),
         (ChangeKind::Trim, [length]) => Ok(Change::Trim(narrow_of(length)?)),
         _ => unreachable!(),
     }
 }
 
-fn patch_of(alloc: Global, offset: &[u8], bytes: &[u8]) -> Result<Change, LineError>
+fn put_of(alloc: Global, bytes: &[u8]) -> Result<Change, WordsError>
+    ensures kind { IfOk result (λ c. kind_of c ≡ kind.Put) }
+    ensures found { IfOk result (λ c. IsChange c × (bytes.now ∷ [] ≡ change_words c)) }
+    ensures bad { IfErr result (λ e. (f : Fault) → e ≡ Bad f
+        → IsBadWord (change_fields kind.Put) (bytes.now ∷ []) f) }
+{
+    let bytes = bytes_of(alloc, bytes)?;
+    Ok(Change::Put(bytes))
+}
+
+fn patch_of(alloc: Global, offset: &[u8], bytes: &[u8]) -> Result<Change, WordsError>
     ensures kind { IfOk result (λ c. kind_of c ≡ kind.Patch) }
     ensures found { IfOk result (λ c. IsChange c × (offset.now ∷ bytes.now ∷ [] ≡ change_words c)) }
-    ensures bad { IfErr result (λ e. (f : Fault) → e ≡ line.Bad f
+    ensures bad { IfErr result (λ e. (f : Fault) → e ≡ Bad f
         → IsBadWord (change_fields kind.Patch) (offset.now ∷ bytes.now ∷ []) f) }
 {
     let offset = narrow_of(offset)?;
@@ -60,12 +74,12 @@ fn write_of(
     moment: &[u8],
     file: &[u8],
     change: &[&[u8]],
-) -> Result<Line, LineError>
+) -> Result<Line, WordsError>
     requires { length change.now ≡ length (change_fields kind) }
-    ensures found { IfOk result (λ l. IsLine l
+    ensures found { IfOk result (λ l. HasWords l
         × (write_words kind server.now moment.now file.now (map (λ w. w.now) change.now)
         ≡ line_words l)) }
-    ensures bad { IfErr result (λ e. (f : Fault) → e ≡ line.Bad f
+    ensures bad { IfErr result (λ e. (f : Fault) → e ≡ Bad f
         → IsBadWord (fields (verb.Write kind)) (server.now ∷ moment.now ∷ file.now
         ∷ map (λ w. w.now) change.now) f) }
 {
@@ -82,10 +96,10 @@ fn write_of(
 }
 
 /// The line of a tick, of the words after its verb.
-fn tick_of(server: &[u8], moment: &[u8], word: &[u8]) -> Result<Line, LineError>
-    ensures found { IfOk result (λ l. IsLine l
+fn tick_of(server: &[u8], moment: &[u8], word: &[u8]) -> Result<Line, WordsError>
+    ensures found { IfOk result (λ l. HasWords l
         × (tick_words server.now moment.now word.now ≡ line_words l)) }
-    ensures bad { IfErr result (λ e. (f : Fault) → e ≡ line.Bad f
+    ensures bad { IfErr result (λ e. (f : Fault) → e ≡ Bad f
         → IsBadWord (fields verb.Tick) (server.now ∷ moment.now ∷ word.now ∷ []) f) }
 {
     let server = narrow_of(server)?;
@@ -99,10 +113,10 @@ fn tick_of(server: &[u8], moment: &[u8], word: &[u8]) -> Result<Line, LineError>
 }
 
 /// The line of a settling, of the words after its verb.
-fn settle_of(rounds: &[u8], moment: &[u8]) -> Result<Line, LineError>
-    ensures found { IfOk result (λ l. IsLine l
+fn settle_of(rounds: &[u8], moment: &[u8]) -> Result<Line, WordsError>
+    ensures found { IfOk result (λ l. HasWords l
         × (settle_words rounds.now moment.now ≡ line_words l)) }
-    ensures bad { IfErr result (λ e. (f : Fault) → e ≡ line.Bad f
+    ensures bad { IfErr result (λ e. (f : Fault) → e ≡ Bad f
         → IsBadWord (fields verb.Settle) (rounds.now ∷ moment.now ∷ []) f) }
 {
     let rounds = narrow_of(rounds)?;
@@ -110,49 +124,51 @@ fn settle_of(rounds: &[u8], moment: &[u8]) -> Result<Line, LineError>
     Ok(Line::Settle { rounds, moment })
 }
 
+/// The end of a meter's count, of the words after its verb.
+fn meter_of(off: &[u8], number: &[u8]) -> Result<Line, WordsError>
+    ensures found { IfOk result (λ l. HasWords l
+        × (codes "meter" ∷ off.now ∷ number.now ∷ [] ≡ line_words l)) }
+    ensures bad { IfErr result (λ e. (f : Fault) → e ≡ Bad f
+        → IsBadWord (fields verb.Meter) (off.now ∷ number.now ∷ []) f) }
+{
+    off_of(off)?;
+    let number = wide_of(number)?;
+    Ok(Line::MeterOff(number))
+}
+
 /// The line of a verb with one word after it.
-fn one_of(verb: Verb, word: &[u8]) -> Result<Line, LineError>
+fn one_of(verb: Verb, word: &[u8]) -> Result<Line, WordsError>
     requires { length (fields verb) ≡ 1 }
-    ensures found { IfOk result (λ l. IsLine l × (verb_word verb ∷ word.now ∷ [] ≡ line_words l)) }
-    ensures bad { IfErr result (λ e. (f : Fault) → e ≡ line.Bad f
+    ensures found { IfOk result (λ l. HasWords l
+        × (verb_word verb ∷ word.now ∷ [] ≡ line_words l)) }
+    ensures bad { IfErr result (λ e. (f : Fault) → e ≡ Bad f
         → IsBadWord (fields verb) (word.now ∷ []) f) }
 {
     match verb {
         Verb::Deliver => Ok(Line::Happens(Event::Deliver(wide_of(word)?))),
         Verb::Lose => Ok(Line::Happens(Event::Lose(wide_of(word)?))),
         Verb::Repeat => Ok(Line::Happens(Event::Repeat(wide_of(word)?))),
+        Verb::Restart => Ok(Line::Happens(Event::Restart(narrow_of(word)?))),
+        Verb::Remove => Ok(Line::Happens(Event::Remove(narrow_of(word)?))),
         Verb::Trace => Ok(Line::Trace(form_of(word)?)),
-        Verb::Show => Ok(Line::Show(file_of(word)?)),
+        Verb::Show => Ok(Line::Show(id_of(word)?)),
         _ => unreachable!(),
     }
 }
 
-fn has_bytes(word: &[u8]) -> bool
-    ensures { IsTrue result ↔ (0 < length word.now) }
-{
-    !word.is_empty()
-}
-
-/// Whether no word is empty.
-fn have_bytes(words: &[&[u8]]) -> bool
-    ensures { IsTrue result ↔ All (λ w. 0 < length w.now) words.now }
-{
-    words.iter().all(|word| has_bytes(word))
-}
-
 /// Whether the words after a verb are as many as it wants, and none is empty.
 fn are_counted(verb: Verb, words: &[&[u8]]) -> bool
-    ensures { IsTrue result ↔ AreCounted verb (map (λ w. w.now) words.now) }
+    ensures { IsTrue result ↔ AreCounted (fields verb) (map (λ w. w.now) words.now) }
 {
     words.len() == verb.count() && have_bytes(words)
 }
 
 /// The line of a verb and the words after it.
-fn rest_of(alloc: Global, verb: Verb, words: &[&[u8]]) -> Result<Line, LineError>
+fn rest_of(alloc: Global, verb: Verb, words: &[&[u8]]) -> Result<Line, WordsError>
     requires { length words.now ≡ length (fields verb) }
-    ensures found { IfOk result (λ l. IsLine l
+    ensures found { IfOk result (λ l. HasWords l
         × (verb_word verb ∷ map (λ w. w.now) words.now ≡ line_words l)) }
-    ensures bad { IfErr result (λ e. (f : Fault) → e ≡ line.Bad f
+    ensures bad { IfErr result (λ e. (f : Fault) → e ≡ Bad f
         → IsBadWord (fields verb) (map (λ w. w.now) words.now) f) }
 {
     match (verb, words) {
@@ -161,34 +177,130 @@ fn rest_of(alloc: Global, verb: Verb, words: &[&[u8]]) -> Result<Line, LineError
         }
         (Verb::Tick, [server, moment, word]) => tick_of(server, moment, word),
         (Verb::Settle, [rounds, moment]) => settle_of(rounds, moment),
+        (Verb::Meter, [off, number]) => meter_of(off, number),
         (Verb::Quiet, []) => Ok(Line::Quiet),
         (verb, [word]) => one_of(verb, word),
         _ => unreachable!(),
     }
 }
 
+/// The line of a call of this kind: the server, the moment, and the words behind the one that names the call.
+fn call_of(
+    alloc: Global,
+    kind: CallKind,
+    server: &[u8],
+    moment: &[u8],
+    arguments: &[&[u8]],
+) -> Result<Line, WordsError>
+    requires { length arguments.now ≡ length (call_fields kind) }
+    ensures found { IfOk result (λ l. HasWords l
+        × (called_words server.now moment.now (kind_word kind ∷ map (λ w. w.now) arguments.now)
+        ≡ line_words l)) }
+    ensures bad { IfErr result (λ e. (f : Fault) → e ≡ Bad f
+        → IsBadWord (called_fields kind) (server.now ∷ moment.now
+        ∷ map (λ w. w.now) arguments.now) f) }
+{
+    let server = narrow_of(server)?;
+    let moment = wide_of(moment)?;
+    let call = arguments_of(alloc, kind, arguments)?;
+    Ok(Line::Happens(Event::Call {
+        server,
+        moment,
+        call,
+    }))
+}
+
+/// Whether no word of a call's line is empty.
+fn have_all_bytes(server: &[u8], moment: &[u8], arguments: &[&[u8]]) -> bool
+    ensures { IsTrue result ↔ ((0 < length server.now) × (0 < length moment.now)
+        × All (λ w. 0 < length w.now) arguments.now) }
+{
+    !server.is_empty() && !moment.is_empty() && have_bytes(arguments)
+}
+
+/// Whether the words behind the one that names a call are as many as it wants, and no word is empty.
+fn are_called(kind: CallKind, server: &[u8], moment: &[u8], arguments: &[&[u8]]) -> bool
+    ensures { IsTrue result ↔ AreCounted (called_fields kind) (server.now ∷ moment.now
+        ∷ map (λ w. w.now) arguments.now) }
+{
+    arguments.len() == kind.count() && have_all_bytes(server, moment, arguments)
+}
+
+/// The line of a call of this kind, however many words there are behind the one that names the call.
+fn named_of(
+    alloc: Global,
+    kind: CallKind,
+    server: &[u8],
+    moment: &[u8],
+    arguments: &[&[u8]],
+) -> Result<Line, WordsError>
+    ensures found { IfOk result (λ l. HasWords l
+        × (called_words server.now moment.now (kind_word kind ∷ map (λ w. w.now) arguments.now)
+        ≡ line_words l)) }
+    ensures bad { IfErr result (λ e. (f : Fault) → e ≡ Bad f
+        → IsRestCause (called_fields kind) (server.now ∷ moment.now
+        ∷ map (λ w. w.now) arguments.now) f) }
+{
+    if !are_called(kind, server, moment, arguments) {
+        return Err(WordsError::Bad(Fault::Words));
+    }
+    call_of(alloc, kind, server, moment, arguments)
+}
+
+/// The line of the words behind `call`.
+fn called_of(alloc: Global, words: &[&[u8]]) -> Result<Line, WordsError>
+    ensures found { IfOk result (λ l. HasWords l
+        × (codes "call" ∷ map (λ w. w.now) words.now ≡ line_words l)) }
+    ensures bad { IfErr result (λ e. (f : Fault) → e ≡ Bad f
+        → IsCalledCause (map (λ w. w.now) words.now) f) }
+{
+    let [server, moment, word, arguments @ ..] = words else {
+        return Err(WordsError::Bad(Fault::Words));
+    };
+    let Some(kind) = CallKind::read(word) else {
+        return Err(WordsError::Bad(Fault::Verb));
+    };
+    named_of(alloc, kind, server, moment, arguments)
+}
+
+/// The line of a verb that the word names, and the words after it.
+fn verb_line_of(alloc: Global, word: &[u8], words: &[&[u8]]) -> Result<Line, WordsError>
+    requires { word.now ≢ codes "call" }
+    ensures found { IfOk result (λ l. HasWords l
+        × (word.now ∷ map (λ w. w.now) words.now ≡ line_words l)) }
+    ensures bad { IfErr result (λ e. (f : Fault) → e ≡ Bad f
+        → IsWordsCause (word.now ∷ map (λ w. w.now) words.now) f) }
+{
+    let Some(verb) = Verb::read(word) else {
+        return Err(WordsError::Bad(Fault::Verb));
+    };
+    if !are_counted(verb, words) {
+        return Err(WordsError::Bad(Fault::Words));
+    }
+    rest_of(alloc, verb, words)
+}
+
 /// The line of these words.
-fn line_of(alloc: Global, words: &[&[u8]]) -> Result<Line, LineError>
-    ensures found { IfOk result (λ l. IsLine l × (map (λ w. w.now) words.now ≡ line_words l)) }
-    ensures bad { IfErr result (λ e. (f : Fault) → e ≡ line.Bad f
+fn line_of(alloc: Global, words: &[&[u8]]) -> Result<Line, WordsError>
+    ensures found { IfOk result (λ l. HasWords l
+        × (map (λ w. w.now) words.now ≡ line_words l)) }
+    ensures bad { IfErr result (λ e. (f : Fault) → e ≡ Bad f
         → IsWordsCause (map (λ w. w.now) words.now) f) }
 {
-    let Some((word, rest)) = words.split_first() else {
-        return Err(LineError::Bad(Fault::Verb));
+    let Some((word, rest)) = first_word(words) else {
+        return Err(WordsError::Bad(Fault::Verb));
     };
-    let Some(verb) = Verb::read(word) else {
-        return Err(LineError::Bad(Fault::Verb));
-    };
-    if !are_counted(verb, rest) {
-        return Err(LineError::Bad(Fault::Words));
+    if is_same(word, b"call") {
+        return called_of(alloc, rest);
     }
-    rest_of(alloc, verb, rest)
+    verb_line_of(alloc, word, rest)
 }
 
 /// The line that a text without its end spells.
-pub(crate) fn spelled_line(alloc: Global, text: &[u8]) -> Result<Line, LineError>
+pub(crate) fn spelled_line(alloc: Global, text: &[u8]) -> Result<Line, WordsError>
+    requires { length text.now ≤ 70000 }
     ensures found { IfOk result (λ l. IsLine l × (text.now ≡ line_body l)) }
-    ensures bad { IfErr result (λ e. (f : Fault) → e ≡ line.Bad f
+    ensures bad { IfErr result (λ e. (f : Fault) → e ≡ Bad f
         → IsWordsCause (words_in text.now) f) }
 {
     let mut room = [b"".as_slice(); TOO_MANY];
@@ -202,11 +314,14 @@ pub fn read_line(alloc: Global, text: &[u8]) -> Result<Option<Line>, AllocError>
     ensures none { IfOk result (λ o. IfNone o ((l : Line) → IsLine l
         → text.now ≡ line_body l → ⊥)) }
 {
+    if text.len() > MOST_IN_LINE {
+        return Ok(None);
+    }
     match spelled_line(alloc, text) {
         Ok(line) => Ok(Some(line)),
         Err(e) => match e {
-            LineError::OutOfMemory => Err(AllocError),
-            LineError::Bad(_) => Ok(None),
+            WordsError::OutOfMemory => Err(AllocError),
+            WordsError::Bad(_) => Ok(None),
         },
     }
 }

@@ -4,22 +4,19 @@ ghost use Rattle.std.specs.Prelude.{◌≡◌, ◌++◌, ◌∷◌, ◌+◌, ◌
 ghost use Rattle.pg_sched.specs.Cause.{Unless, IsPrintable, IsCutCause, IsCause};
 ghost use Rattle.pg_sched.specs.Schedule.{spelling, header, line_text, lines_text, IsCount, AreLines, LacksHeader, StopsAfter, IsFirstBad};
 ghost use Rattle.pg_sched.specs.Line.{IsLine};
-ghost use Rattle.pg_sched.specs.declared.error.LineError.TheVariants.{Bad};
+ghost use Rattle.pg_call.specs.declared.error.WordsError.TheVariants.{Bad};
 ghost use Rattle.pg_sched.specs.declared.error.ReadError.TheVariants.{BadLine, OutOfMemory};
-ghost use Rattle.pg_event.specs.declared.fault.Fault.{Fault};
-ghost use Rattle.pg_event.specs.declared.fault.Fault.TheVariants.{Byte, Long};
+ghost use Rattle.pg_call.specs.declared.fault.Fault.{Fault};
+ghost use Rattle.pg_call.specs.declared.fault.Fault.TheVariants.{Byte, Long};
 ghost use Rattle.pg_sched.specs.declared.line.Line.{Line};
 
-use crate::error::{LineError, ReadError};
+use crate::error::ReadError;
 use crate::leaves::are_printable;
-use crate::line::Line;
+use crate::line::{Line, MOST_IN_LINE};
 use crate::reading::spelled_line;
 use pg_base::{Bytes, Items, cut_at, number_u32};
-use pg_event::Fault;
+use pg_call::{Fault, WordsError};
 use std::alloc::{AllocError, Global};
-
-/// The most bytes that a line has, its line feed not counted.
-const MOST_IN_LINE: usize = 70_000;
 
 /// The servers of a run, and what happens in it.
 #[derive(Debug, Drop)]
@@ -65,7 +62,7 @@ fn cut_line(text: &[u8]) -> Result<(&[u8], &[u8]), Fault>
 }
 
 /// The first line of a text, and what stands behind it.
-fn first_line(alloc: Global, text: &[u8]) -> Result<(Line, &[u8]), LineError>
+fn first_line(alloc: Global, text: &[u8]) -> Result<(Line, &[u8]), WordsError>
     requires some { 0 < length text.now }
     ensures found { IfOk result (λ x. IsLine x.0 × (text.now ≡ line_text x.0 ++ x.1.now)) }
     ensures bad { IfErr result (λ e. (f : Fault) → e ≡ Bad f → (n : ℕ) → 2 ≤ n
@@ -73,7 +70,7 @@ fn first_line(alloc: Global, text: &[u8]) -> Result<(Line, &[u8]), LineError>
 {
     let (line, rest) = match cut_line(text) {
         Ok(cut) => cut,
-        Err(fault) => return Err(LineError::Bad(fault)),
+        Err(fault) => return Err(WordsError::Bad(fault)),
     };
     let line = spelled_line(alloc, line)?;
     Ok((line, rest))
@@ -120,7 +117,7 @@ fn lines_of(alloc: Global, text: &[u8]) -> Result<Vec<Line>, ReadError>
     while !rest.is_empty() {
         let (line, after) = match first_line(alloc, rest) {
             Ok(found) => found,
-            Err(e) => return Err(e.at(lines.len() as u64 + 2)),
+            Err(e) => return Err(ReadError::at(lines.len() as u64 + 2, e)),
         };
         lines.push(line)?;
         rest = after;

@@ -14,10 +14,13 @@ pub(crate) enum Verb {
     Deliver,
     Lose,
     Repeat,
+    Restart,
+    Remove,
     Settle,
     Quiet,
     Trace,
     Show,
+    Meter,
 }
 
 impl Verb {
@@ -34,10 +37,13 @@ impl Verb {
             b"deliver" => Verb::Deliver,
             b"lose" => Verb::Lose,
             b"repeat" => Verb::Repeat,
+            b"restart" => Verb::Restart,
+            b"remove" => Verb::Remove,
             b"settle" => Verb::Settle,
             b"quiet" => Verb::Quiet,
             b"trace" => Verb::Trace,
             b"show" => Verb::Show,
+            b"meter" => Verb::Meter,
             _ => return None,
         };
         Some(verb)
@@ -49,8 +55,14 @@ impl Verb {
     {
         match self {
             Verb::Quiet => 0,
-            Verb::Deliver | Verb::Lose | Verb::Repeat | Verb::Trace | Verb::Show => 1,
-            Verb::Settle => 2,
+            Verb::Deliver
+            | Verb::Lose
+            | Verb::Repeat
+            | Verb::Restart
+            | Verb::Remove
+            | Verb::Trace
+            | Verb::Show => 1,
+            Verb::Settle | Verb::Meter => 2,
             Verb::Tick => 3,
             Verb::Write(kind) => match kind {
                 ChangeKind::Put | ChangeKind::Trim => 4,

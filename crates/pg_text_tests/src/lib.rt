@@ -1,15 +1,11 @@
-//! Tests of words, messages, events, schedules and journals as text.
+//! Tests of words, calls, messages and events as text.
 #![tactic(auto)]
 
 #[cfg(test)]
+mod call;
+#[cfg(test)]
 mod event;
 #[cfg(test)]
-mod journal;
-#[cfg(test)]
 mod msg;
-#[cfg(test)]
-mod sched;
-#[cfg(test)]
-mod trace;
 #[cfg(test)]
 mod words;

@@ -7,13 +7,14 @@ use Rattle.pg_content.specs.Content.{ContentValue, shown_bytes}
 use Rattle.pg_msg.specs.declared.message.Sent.{Sent}
 use Rattle.pg_msg.specs.declared.update.Update.{Update}
 use Rattle.pg_msg.specs.Sent.{summary}
+use Rattle.pg_call.specs.Call.{call_kind}
 use Rattle.pg_call.specs.Change.{kind_of}
 use Rattle.pg_event.specs.declared.entry.Entry.{Entry}
 use Rattle.pg_call.specs.declared.reply.Reply.{Reply}
-use Rattle.pg_call.specs.declared.reply.Reply.TheVariants.{Done, Wrote, Refused}
+use Rattle.pg_call.specs.declared.reply.Reply.TheVariants as reply
 use Rattle.pg_event.specs.declared.entry.VoidCause.{VoidCause}
 use Rattle.pg_event.specs.declared.event.Event.{Event}
-use Rattle.pg_event.specs.declared.event.Event.TheVariants.{Write, Tick, Deliver, Lose, Repeat}
+use Rattle.pg_event.specs.declared.event.Event.TheVariants.{Write, Call, Tick, Deliver, Lose, Repeat, Restart, Remove}
 use Rattle.pg_sched.specs.declared.line.Form.{Form}
 use Rattle.pg_sched.specs.declared.line.Form.TheVariants.{Full, Short}
 use Rattle.pg_sched.specs.declared.line.Line.{Line}
@@ -25,23 +26,34 @@ use Rattle.pg_trace.specs.Printed.{printed_text}
 
 -- a tick is told of in full; in short only that it was refused
 abbrev pub tick_lines : Form → ℕ → Reply → List Printed
-tick_lines Full server reply = printed.Tick server reply ∷ []
-tick_lines Short server Done = []
-tick_lines Short server (Wrote stamp) = []
-tick_lines Short server (Refused refusal) = printed.Tick server (Refused refusal) ∷ []
+tick_lines Full server answer = printed.Tick server answer ∷ []
+tick_lines Short server (reply.Refused why) = printed.Tick server (reply.Refused why) ∷ []
+tick_lines Short server reply.Done = []
+tick_lines Short server (reply.Made id) = []
+tick_lines Short server (reply.Wrote stamp) = []
+tick_lines Short server (reply.Bytes bytes) = []
+tick_lines Short server (reply.Names total rows) = []
+tick_lines Short server (reply.Stat stat) = []
+tick_lines Short server (reply.Leaving leaving) = []
+tick_lines Short server (reply.Status counts) = []
 
 -- what the client was told
 abbrev pub told_lines : Form → Event → Option Reply → List Printed
 told_lines form (Write server moment file what) None = []
-told_lines form (Write server moment file what) (Some reply) =
-    printed.Write (kind_of what) server reply ∷ []
+told_lines form (Write server moment file what) (Some answer) =
+    printed.Write (kind_of what) server answer ∷ []
+told_lines form (Call server moment call) None = []
+told_lines form (Call server moment call) (Some answer) =
+    printed.Call (call_kind call) server answer ∷ []
 told_lines form (Tick server moment word) None = []
-told_lines form (Tick server moment word) (Some reply) = tick_lines form server reply
-told_lines form (Deliver number) reply = []
-told_lines form (Lose number) reply = []
-told_lines form (Repeat number) reply = []
+told_lines form (Tick server moment word) (Some answer) = tick_lines form server answer
+told_lines form (Deliver number) answer = []
+told_lines form (Lose number) answer = []
+told_lines form (Repeat number) answer = []
+told_lines form (Restart server) answer = []
+told_lines form (Remove server) answer = []
 
--- in full: each version that was made, then each message that was sent
+-- in full: all that was made, then each message that was sent
 abbrev pub done_lines : Form → List Update → List Sent → List Printed
 done_lines Full made sent = map printed.Made made ++ map (λ m. printed.Sent (summary m)) sent
 done_lines Short made sent = []

@@ -2,13 +2,14 @@
 
 ghost use Rattle.std.specs.Prelude.{◌≡◌, IfOk};
 
+use crate::replica::ShownReplica;
 use crate::shown::ShowWords;
 use pg_base::{FileId, Items, NodeId, SharedBytes, Stamp};
-use pg_call::{ChangeKind, Reply};
-use pg_event::{Quiet, VoidCause};
+use pg_call::{CallKind, ChangeKind, Reply};
+use pg_event::{MeterKind, Quiet, VoidCause};
 use pg_msg::{Summary, Update};
 use pg_sched::Line;
-use std::alloc::AllocError;
+use std::alloc::{AllocError, Global};
 use std::fmt;
 
 /// Where a journal tells whether all is done.
@@ -51,6 +52,12 @@ pub enum Printed {
         server: NodeId,
         reply: Reply,
     },
+    /// What the client of a call was told.
+    Call {
+        kind: CallKind,
+        server: NodeId,
+        reply: Reply,
+    },
     /// What came of a tick.
     Tick {
         server: NodeId,
@@ -61,7 +68,7 @@ pub enum Printed {
         line: u64,
         cause: VoidCause,
     },
-    /// A version was made.
+    /// A version, a place or a flag was made.
     Made(Update),
     /// A message was sent.
     Sent(Summary),
@@ -79,6 +86,15 @@ pub enum Printed {
         length: u64,
         first: SharedBytes,
     },
+    /// A replica that a server holds.
+    Replica(ShownReplica),
+    /// No server holds this.
+    Nowhere(FileId),
+    /// What a meter has counted.
+    Meter {
+        kind: MeterKind,
+        value: u64,
+    },
 }
 
 fn copy_line(line: &Line) -> Result<Line, AllocError>
@@ -92,13 +108,14 @@ fn copy_line(line: &Line) -> Result<Line, AllocError>
         }),
         Line::Quiet => Ok(Line::Quiet),
         Line::Trace(form) => Ok(Line::Trace(*form)),
-        Line::Show(file) => Ok(Line::Show(*file)),
+        Line::Show(id) => Ok(Line::Show(*id)),
+        Line::MeterOff(number) => Ok(Line::MeterOff(*number)),
     }
 }
 
 impl Printed {
     /// The same line again. Bodies are shared, not moved.
-    pub fn copy(&self) -> Result<Printed, AllocError>
+    pub fn copy(&self, alloc: Global) -> Result<Printed, AllocError>
         ensures { IfOk result (λ p. p ≡ self.now) }
     {
         match self {
@@ -113,11 +130,20 @@ impl Printed {
             } => Ok(Printed::Write {
                 kind: *kind,
                 server: *server,
-                reply: *reply,
+                reply: reply.copy(alloc)?,
+            }),
+            Printed::Call {
+                kind,
+                server,
+                reply,
+            } => Ok(Printed::Call {
+                kind: *kind,
+                server: *server,
+                reply: reply.copy(alloc)?,
             }),
             Printed::Tick { server, reply } => Ok(Printed::Tick {
                 server: *server,
-                reply: *reply,
+                reply: reply.copy(alloc)?,
             }),
             Printed::Void { line, cause } => Ok(Printed::Void {
                 line: *line,
@@ -142,6 +168,12 @@ impl Printed {
                 length: *length,
                 first: first.copy()?,
             }),
+            Printed::Replica(replica) => Ok(Printed::Replica(replica.copy()?)),
+            Printed::Nowhere(id) => Ok(Printed::Nowhere(*id)),
+            Printed::Meter { kind, value } => Ok(Printed::Meter {
+                kind: *kind,
+                value: *value,
+            }),
         }
     }
 }
@@ -160,6 +192,11 @@ impl fmt::Display for Printed {
                 server,
                 reply,
             } => write!(f, "{kind} {server} -> {reply}"),
+            Printed::Call {
+                kind,
+                server,
+                reply,
+            } => write!(f, "call {server} {kind} -> {reply}"),
             Printed::Tick { server, reply } => write!(f, "tick {server} -> {reply}"),
             Printed::Void { line, cause } => write!(f, "void {line} {cause}"),
             Printed::Made(update) => write!(f, "made {update}"),
@@ -181,6 +218,9 @@ impl fmt::Display for Printed {
                 };
                 write!(f, "{words}")
             }
+            Printed::Replica(replica) => write!(f, "{replica}"),
+            Printed::Nowhere(id) => write!(f, "at - {id}"),
+            Printed::Meter { kind, value } => write!(f, "meter {kind} {value}"),
         }
     }
 }

@@ -57,7 +57,7 @@ pub fn write_entry(line: u64, form: Form, entry: &Entry, out: &mut Bytes) -> Res
     match entry.void {
         Some(cause) => write_line(&Printed::Void { line, cause }, out),
         None => {
-            write_told(form, &entry.event, entry.reply, out)?;
+            write_told(form, &entry.event, &entry.reply, out)?;
             write_done(form, entry.made.as_slice(), entry.sent.as_slice(), out)?;
             Ok(())
         }
@@ -67,33 +67,34 @@ pub fn write_entry(line: u64, form: Form, entry: &Entry, out: &mut Bytes) -> Res
 fn write_told(
     form: Form,
     event: &Event,
-    reply: Option<Reply>,
+    reply: &Option<Reply>,
     out: &mut Bytes,
 ) -> Result<(), AllocError>
     ensures { OnOk result (out.new ≡ out.old
-        ++ flat_map printed_text (told_lines form event.now reply)) }
+        ++ flat_map printed_text (told_lines form event.now reply.now)) }
 {
     match (event, reply) {
         (Event::Write { server, change, .. }, Some(reply)) => {
-            let line = Printed::Write {
-                kind: change.kind(),
-                server: *server,
-                reply,
-            };
-            write_line(&line, out)
+            let kind = change.kind();
+            write!(out, "{kind} {server} -> {reply}\n")
+        }
+        (Event::Call { server, call, .. }, Some(reply)) => {
+            let kind = call.kind();
+            write!(out, "call {server} {kind} -> {reply}\n")
         }
         (Event::Tick { server, .. }, Some(reply)) => write_tick(form, *server, reply, out),
         _ => Ok(()),
     }
 }
 
-fn write_tick(form: Form, server: NodeId, reply: Reply, out: &mut Bytes) -> Result<(), AllocError>
+fn write_tick(form: Form, server: NodeId, reply: &Reply, out: &mut Bytes) -> Result<(), AllocError>
     ensures { OnOk result (out.new ≡ out.old
-        ++ flat_map printed_text (tick_lines form server reply)) }
+        ++ flat_map printed_text (tick_lines form server reply.now)) }
 {
     match (form, reply) {
-        (Form::Short, Reply::Done | Reply::Wrote(_)) => Ok(()),
-        _ => write_line(&Printed::Tick { server, reply }, out),
+        (Form::Full, reply) => write!(out, "tick {server} -> {reply}\n"),
+        (Form::Short, Reply::Refused(refusal)) => write!(out, "tick {server} -> {refusal}\n"),
+        (Form::Short, _) => Ok(()),
     }
 }
 

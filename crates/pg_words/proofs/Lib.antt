@@ -3,6 +3,7 @@ pub mod HexWords
 pub mod Joined
 pub mod Lacking
 pub mod ListWords
+pub mod Places
 pub mod Readings
 pub mod Splitting
 pub mod Stamps

@@ -3,7 +3,7 @@
 ghost use Rattle.std.specs.Prelude.{◌≡◌, IfSome, IfNone, IsTrue, ◌↔◌};
 ghost use Rattle.pg_base.specs.Id.{spelling, Fits};
 ghost use Rattle.pg_base.specs.declared.id.FileId.{FileId};
-ghost use Rattle.pg_words.specs.FileWord.{IsFile};
+ghost use Rattle.pg_words.specs.FileWord.{IsDirectory, IsFile};
 
 use pg_base::{FileId, Kind};
 
@@ -36,4 +36,13 @@ pub fn read_file(word: &[u8]) -> Option<FileId>
     } else {
         None
     }
+}
+
+/// The directory that the word names.
+pub fn read_directory(word: &[u8]) -> Option<FileId>
+    ensures found { IfSome result (λ d. IsDirectory d × (word.now ≡ spelling d)) }
+    ensures none { IfNone result ((d : FileId) → IsDirectory d → word.now ≡ spelling d → ⊥) }
+{
+    let id = read_id(word)?;
+    if id.kind == Kind::Dir { Some(id) } else { None }
 }

@@ -7,7 +7,8 @@ use Rattle.pg_msg.specs.declared.message.Sent.{Sent}
 use Rattle.pg_msg.specs.Sent.{summary}
 use Rattle.pg_event.specs.declared.event.Event.{Event}
 use Rattle.pg_event.specs.declared.event.Event.TheVariants.{Deliver}
-use Rattle.pg_event.specs.declared.quiet.Owing.{Owing}
+use Rattle.pg_event.specs.declared.quiet.OwedKey.{OwedKey}
+use Rattle.pg_event.specs.declared.quiet.Owing.TheVariants.{Key}
 use Rattle.pg_event.specs.declared.quiet.Cause.TheVariants.{Message, Owed}
 use Rattle.pg_event.specs.declared.quiet.Quiet.TheVariants.{Quiet, Waits}
 use Rattle.pg_node.specs.declared.input.Input.TheVariants as input
@@ -67,7 +68,7 @@ run_from-append n w (x ∷ xs) more = run_from-append n (world_after w (next n w
 
 -- ---- what is owed first
 
-first_there : (xs ys : List Owing) (o : Owing) → slice_get xs 0 ≡ Some o → slice_get (xs ++ ys) 0 ≡ Some o
+first_there : (xs ys : List OwedKey) (o : OwedKey) → slice_get xs 0 ≡ Some o → slice_get (xs ++ ys) 0 ≡ Some o
 first_there [] ys o h = absurd (let e : None ≡ Some o = h in cc)
 first_there (x ∷ xs) ys o h = h
 
@@ -77,7 +78,7 @@ none_there [] h = refl
 none_there (x ∷ xs) h = absurd (let e : Some x ≡ None = h in cc)
 
 -- the servers before owe nothing, and this one owes this first: so it is the first of all
-pub first_owed : (stores : ℕ → Store) (i n : ℕ) (o : Owing) → owed_by stores i ≡ [] → slice_get (owed (stores (suc i))) 0 ≡ Some o → suc i ≤ n → slice_get (owed_by stores n) 0 ≡ Some o
+pub first_owed : (stores : ℕ → Store) (i n : ℕ) (o : OwedKey) → owed_by stores i ≡ [] → slice_get (owed (stores (suc i))) 0 ≡ Some o → suc i ≤ n → slice_get (owed_by stores n) 0 ≡ Some o
 first_owed stores i zero o none h le = absurd (omega arith)
 first_owed stores i (suc m) o none h le = elim (cases_lt i m) [
   | inl lt ↦ first_there (owed_by stores m) (owed (stores (suc m))) o (first_owed stores i m o none h (omega arith))
@@ -93,12 +94,12 @@ none_owed stores i none h = ap (λ xs. xs ++ owed (stores (suc i))) none ∙ non
 
 -- ---- whether all is done
 
-first_of_owed : (os : List Owing) (o : Owing) → slice_get os 0 ≡ Some o → first_of (map Owed os) ≡ Waits (Owed o)
+first_of_owed : (os : List OwedKey) (o : OwedKey) → slice_get os 0 ≡ Some o → first_of (map (λ x. Owed (Key x)) os) ≡ Waits (Owed (Key o))
 first_of_owed [] o h = absurd (let e : None ≡ Some o = h in cc)
-first_of_owed (x ∷ xs) o h = let same : x ≡ o = cc in ap (λ z. Waits (Owed z)) same
+first_of_owed (x ∷ xs) o h = let same : x ≡ o = cc in ap (λ z. Waits (Owed (Key z))) same
 
-first_of_none : (os : List Owing) → slice_get os 0 ≡ None → first_of (map Owed os) ≡ Quiet
-first_of_none os h = ap (λ xs. first_of (map Owed xs)) (none_there os h)
+first_of_none : (os : List OwedKey) → slice_get os 0 ≡ None → first_of (map (λ x. Owed (Key x)) os) ≡ Quiet
+first_of_none os h = ap (λ (xs : List OwedKey). first_of (map (λ x. Owed (Key x)) xs)) (none_there os h)
 
 -- a message is under way: the first of all is waited for
 pub waits_message : (n : ℕ) (w : World) (ms : List Sent) (m : Sent) → ms ≡ bag w.journal → Some m ≡ slice_get ms 0
@@ -107,14 +108,14 @@ waits_message n w [] m e h = absurd (let f : Some m ≡ None = h in cc)
 waits_message n w (x ∷ ms) m e h =
     let same : m ≡ x = cc in
     ap (λ z. Waits (Message (summary z))) same
-    ∙ ap (λ (xs : List Sent). first_of (map (λ z. Message (summary z)) xs ++ map Owed (owed_by w.stores n))) e
+    ∙ ap (λ (xs : List Sent). first_of (map (λ z. Message (summary z)) xs ++ map (λ x. Owed (Key x)) (owed_by w.stores n))) e
 
-no_message : (n : ℕ) (w : World) → bag w.journal ≡ [] → quiet_of n w ≡ first_of (map Owed (owed_by w.stores n))
-no_message n w none = ap (λ (ms : List Sent). first_of (map (λ m. Message (summary m)) ms ++ map Owed (owed_by w.stores n))) none
+no_message : (n : ℕ) (w : World) → bag w.journal ≡ [] → quiet_of n w ≡ first_of (map (λ x. Owed (Key x)) (owed_by w.stores n))
+no_message n w none = ap (λ (ms : List Sent). first_of (map (λ m. Message (summary m)) ms ++ map (λ x. Owed (Key x)) (owed_by w.stores n))) none
 
 -- no message is under way, and this is owed first
-pub waits_for : (n : ℕ) (w : World) (o : Owing) → bag w.journal ≡ []
-    → slice_get (owed_by w.stores n) 0 ≡ Some o → quiet_of n w ≡ Waits (Owed o)
+pub waits_for : (n : ℕ) (w : World) (o : OwedKey) → bag w.journal ≡ []
+    → slice_get (owed_by w.stores n) 0 ≡ Some o → quiet_of n w ≡ Waits (Owed (Key o))
 waits_for n w o none h = no_message n w none ∙ first_of_owed (owed_by w.stores n) o h
 
 -- or nothing is

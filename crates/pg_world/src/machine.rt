@@ -12,9 +12,9 @@ ghost use Rattle.pg_world.specs.Stands.{Stands, EachStandsBehind, BagBehind, IsE
 
 use pg_bag::Bag;
 use pg_base::{FileId, Items, NodeId};
-use pg_call::Change;
+use pg_call::{Call, Change};
 use pg_content::Content;
-use pg_event::{Cause, Entry, Event, Owing, Quiet, VoidCause};
+use pg_event::{Cause, Entry, Event, OwedKey, Owing, Quiet, VoidCause};
 use pg_msg::Sent;
 use pg_node::{Input, Node, Out};
 use std::alloc::{AllocError, Global};
@@ -158,6 +158,20 @@ impl Machine {
         )
     }
 
+    /// A client calls a server: nothing is done of it yet.
+    fn call(&mut self, server: NodeId, moment: u64, call: Call) -> Entry
+        ensures state { StandsBehind self.old self.new (Event.Call server moment call) }
+        ensures entry { IsEntryOf self.old (Event.Call server moment call) result }
+        ensures count { length self.new.nodes.items ≡ length self.old.nodes.items }
+    {
+        let event = Event::Call {
+            server,
+            moment,
+            call,
+        };
+        self.idle_entry(event, Some(VoidCause::Unbuilt))
+    }
+
     /// A server sends again what is not acknowledged.
     fn tick(&mut self, server: NodeId, moment: u64, word: u64) -> Result<Entry, AllocError>
         ensures state { OnOk result
@@ -230,6 +244,24 @@ impl Machine {
         Ok(self.idle_entry(Event::Repeat(number), None))
     }
 
+    /// A server loses what it keeps in memory alone: nothing is done of it yet.
+    fn restart(&mut self, server: NodeId) -> Entry
+        ensures state { StandsBehind self.old self.new (Event.Restart server) }
+        ensures entry { IsEntryOf self.old (Event.Restart server) result }
+        ensures count { length self.new.nodes.items ≡ length self.old.nodes.items }
+    {
+        self.idle_entry(Event::Restart(server), Some(VoidCause::Unbuilt))
+    }
+
+    /// A server is gone for good: nothing is done of it yet.
+    fn remove(&mut self, server: NodeId) -> Entry
+        ensures state { StandsBehind self.old self.new (Event.Remove server) }
+        ensures entry { IsEntryOf self.old (Event.Remove server) result }
+        ensures count { length self.new.nodes.items ≡ length self.old.nodes.items }
+    {
+        self.idle_entry(Event::Remove(server), Some(VoidCause::Unbuilt))
+    }
+
     /// One event.
     pub fn step(&mut self, event: Event) -> Result<Entry, AllocError>
         ensures state { OnOk result (StandsBehind self.old self.new event) }
@@ -243,6 +275,11 @@ impl Machine {
                 file,
                 change,
             } => self.write(server, moment, file, change),
+            Event::Call {
+                server,
+                moment,
+                call,
+            } => Ok(self.call(server, moment, call)),
             Event::Tick {
                 server,
                 moment,
@@ -251,6 +288,8 @@ impl Machine {
             Event::Deliver(number) => self.deliver(number),
             Event::Lose(number) => Ok(self.lose(number)),
             Event::Repeat(number) => self.repeat(number),
+            Event::Restart(server) => Ok(self.restart(server)),
+            Event::Remove(server) => Ok(self.remove(server)),
         }
     }
 
@@ -261,8 +300,8 @@ impl Machine {
         !self.bag.is_empty()
     }
 
-    /// The first that a server owes, by server.
-    fn owed(&self) -> Option<Owing>
+    /// The first key that a server owes, by server.
+    fn owed(&self) -> Option<OwedKey>
         ensures { (w : World) → Stands self.now w
             → result ≡ slice_get (owed_by w.stores (length self.now.nodes.items)) 0 }
     {
@@ -282,7 +321,7 @@ impl Machine {
         match self.bag.front() {
             Some(sent) => Quiet::Waits(Cause::Message(sent.summary())),
             None => match self.owed() {
-                Some(owing) => Quiet::Waits(Cause::Owed(owing)),
+                Some(owing) => Quiet::Waits(Cause::Owed(Owing::Key(owing))),
                 None => Quiet::Quiet,
             },
         }

@@ -1,6 +1,6 @@
 use Rattle.std.proofs.Common.{◌≡◌, ℕ, List, Option, None, Some, IfSome, inl, inr, sym, subst, ◌∙◌}
 use Rattle.pg_sched.specs.declared.error.ReadError.TheVariants as error
-use Rattle.pg_event.specs.declared.fault.Fault.{Fault}
+use Rattle.pg_call.specs.declared.fault.Fault.{Fault}
 use Rattle.pg_event.specs.declared.status.Status.TheVariants as status
 use Rattle.pg_sched.specs.Schedule.{IsFirstBad}
 use Rattle.pangaea.proofs.command.replay.Goals as goal

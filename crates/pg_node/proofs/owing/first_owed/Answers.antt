@@ -7,7 +7,7 @@ use Rattle.std.specs.Map.Iter.{deref}
 use Rattle.std.proofs.lemmas.Map.Iter.{rest_more}
 use Rattle.pg_base.specs.declared.id.FileId.{FileId}
 use Rattle.pg_base.proofs.Orders.{file_order_is}
-use Rattle.pg_event.specs.declared.quiet.Owing.{Owing}
+use Rattle.pg_event.specs.declared.quiet.OwedKey.{OwedKey}
 use Rattle.pg_replica.specs.Store.{replica_at}
 use Rattle.pg_replica.proofs.Lists.{first_here, first_later}
 use Rattle.pg_node.specs.Local.{file_owes}
@@ -19,7 +19,7 @@ loop-file-init c =
     let s = c.args.store.now in
     let us = c.unacknowledged.result.now.entries in
     let S : (FileId → FileId → Ordering) → Type 0 = (λ r. IsStrictlySortedBy r (keys_of us)) in
-    ap (λ (l : List Owing). slice_get l 0)
+    ap (λ (l : List OwedKey). slice_get l 0)
     (sym (ap (flat_map (λ k. file_owes s.server k (replica_at s k))) (c.into_iter-file-iterator.ensures.into_iter_gives ∙ c.keys-file-items.ensures.rest)
     ∙ listed_owes s.server us s.replicas (subst S file_order_is c.keys-file-items.ensures.ordered) c.unacknowledged.ensures))
 

@@ -1,18 +1,18 @@
 use Rattle.std.proofs.Common.{ℕ, ◌≡◌, ◌+◌, ◌<◌, ◌∙◌, sym, ap, refl, length, arith, rules}
-use Rattle.pg_sched.specs.declared.error.LineError.{LineError}
-use Rattle.pg_sched.specs.declared.error.LineError.TheVariants as line
+use Rattle.pg_call.specs.declared.error.WordsError.{WordsError}
+use Rattle.pg_call.specs.declared.error.WordsError.TheVariants as words
 use Rattle.pg_sched.specs.declared.error.ReadError.{ReadError}
 use Rattle.pg_sched.specs.declared.error.ReadError.TheVariants as read
-use Rattle.pg_event.specs.declared.fault.Fault.{Fault}
+use Rattle.pg_call.specs.declared.fault.Fault.{Fault}
 use Rattle.pg_sched.proofs.Causes.{cause_lacks}
 use Rattle.pg_sched.proofs.Refusals.{bad_parts}
 use Rattle.pg_sched.proofs.schedule.lines_of.Goals as goal
 
 -- what the error of a line was
-was_bad : (e : LineError) (r : ReadError) (k : ℕ) → (e ≡ line.OutOfMemory → r ≡ read.OutOfMemory) → ((f : Fault) → e ≡ line.Bad f → r ≡ read.BadLine k f)
-    → (n : ℕ) (f : Fault) → r ≡ read.BadLine n f → (e ≡ line.Bad f) × (n ≡ k)
-was_bad line.OutOfMemory r k memory bad n f q = let m = memory refl in absurd cc
-was_bad (line.Bad g) r k memory bad n f q = let parts = bad_parts k n g f (sym (bad g refl) ∙ q) in (ap line.Bad parts.1, sym parts.0)
+was_bad : (e : WordsError) (r : ReadError) (k : ℕ) → (e ≡ words.OutOfMemory → r ≡ read.OutOfMemory) → ((f : Fault) → e ≡ words.Bad f → r ≡ read.BadLine k f)
+    → (n : ℕ) (f : Fault) → r ≡ read.BadLine n f → (e ≡ words.Bad f) × (n ≡ k)
+was_bad words.OutOfMemory r k memory bad n f q = let m = memory refl in absurd cc
+was_bad (words.Bad g) r k memory bad n f q = let parts = bad_parts k n g f (sym (bad g refl) ∙ q) in (ap words.Bad parts.1, sym parts.0)
 
 pub returns-in-Err-clause-bad : goal.returns-in-Err-clause-bad
 returns-in-Err-clause-bad c n f q =

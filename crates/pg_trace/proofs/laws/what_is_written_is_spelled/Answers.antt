@@ -8,10 +8,10 @@ use Rattle.pg_msg.specs.declared.update.Update.{Update}
 use Rattle.pg_msg.specs.Sent.{summary}
 use Rattle.pg_event.specs.declared.entry.Entry.{Entry}
 use Rattle.pg_call.specs.declared.reply.Reply.{Reply}
-use Rattle.pg_call.specs.declared.reply.Reply.TheVariants.{Done, Wrote, Refused}
+use Rattle.pg_call.specs.declared.reply.Reply.TheVariants as reply
 use Rattle.pg_event.specs.declared.entry.VoidCause.{VoidCause}
 use Rattle.pg_event.specs.declared.event.Event.{Event}
-use Rattle.pg_event.specs.declared.event.Event.TheVariants.{Write, Tick, Deliver, Lose, Repeat}
+use Rattle.pg_event.specs.declared.event.Event.TheVariants.{Write, Call, Tick, Deliver, Lose, Repeat, Restart, Remove}
 use Rattle.pg_sched.specs.declared.line.Form.{Form}
 use Rattle.pg_sched.specs.declared.line.Form.TheVariants.{Full, Short}
 use Rattle.pg_sched.specs.declared.line.Line.{Line}
@@ -43,20 +43,30 @@ done : (form : Form) (made : List Update) (sent : List Sent) → AllByRecursion 
 done Full made sent a b = joined (map printed.Made made) (map (λ m. printed.Sent (summary m)) sent) (all_made made a) (all_sent sent b)
 done Short made sent a b = tt
 
-ticked : (form : Form) (server : ℕ) (reply : Reply) → server < 2 ^ 32 → IsTickReply reply → ArePrinted (tick_lines form server reply)
-ticked Full server reply a b = ((a, b), tt)
-ticked Short server Done a b = tt
-ticked Short server (Wrote stamp) a b = tt
-ticked Short server (Refused refusal) a b = ((a, b), tt)
+ticked : (form : Form) (server : ℕ) (r : Reply) → server < 2 ^ 32 → IsTickReply r → ArePrinted (tick_lines form server r)
+ticked Full server r a b = ((a, b), tt)
+ticked Short server reply.Done a b = tt
+ticked Short server (reply.Made id) a b = tt
+ticked Short server (reply.Wrote stamp) a b = tt
+ticked Short server (reply.Bytes bytes) a b = tt
+ticked Short server (reply.Names total rows) a b = tt
+ticked Short server (reply.Stat stat) a b = tt
+ticked Short server (reply.Leaving leaving) a b = tt
+ticked Short server (reply.Status counts) a b = tt
+ticked Short server (reply.Refused refusal) a b = ((a, b), tt)
 
 told : (form : Form) (event : Event) (reply : Option Reply) → IsTold event reply → ArePrinted (told_lines form event reply)
 told form (Write server moment file what) None h = tt
 told form (Write server moment file what) (Some reply) h = (h, tt)
+told form (Call server moment call) None h = tt
+told form (Call server moment call) (Some reply) h = (h, tt)
 told form (Tick server moment word) None h = tt
 told form (Tick server moment word) (Some reply) h = ticked form server reply h.0 h.1
 told form (Deliver number) reply h = tt
 told form (Lose number) reply h = tt
 told form (Repeat number) reply h = tt
+told form (Restart server) reply h = tt
+told form (Remove server) reply h = tt
 
 written : (line : ℕ) (form : Form) (void : Option VoidCause) (entry : Entry) → line < 2 ^ 64 → IsEntry entry → ArePrinted (outcome_lines line form void entry)
 written line form (Some cause) entry fits h = (fits, tt)

@@ -1,7 +1,7 @@
 use Rattle.std.proofs.Common.{rules, List, subst, sym}
 use Rattle.std.specs.List.Sorted.{IsSortedBy}
 use Rattle.std.specs.Ordering.{is_lt}
-use Rattle.pg_entries.specs.declared.listing.Row.{Row}
+use Rattle.pg_path.specs.declared.row.Row.{Row}
 use Rattle.pg_entries.specs.Shown.{row_cmp}
 use Rattle.pg_entries.proofs.Claims.{rows_sorted}
 use Rattle.pg_entries.proofs.entries.Entries.listing.Goals as goal

@@ -1,5 +1,5 @@
 use Rattle.std.proofs.Common.{ℕ, ◌≡◌, ◌+◌, ◌<◌, length, [], Option, None, Some, slice_get, slice_index_or, sym, ap, subst, ◌∙◌, arith, suc}
-use Rattle.pg_event.specs.declared.quiet.Owing.{Owing}
+use Rattle.pg_event.specs.declared.quiet.OwedKey.{OwedKey}
 use Rattle.pg_node.specs.declared.node.Node.{Node}
 use Rattle.pg_replica.specs.declared.store.Store.{Store}
 use Rattle.pg_node.specs.Local.{owed}
@@ -11,7 +11,7 @@ use Rattle.pg_world.proofs.Standing.{first_owed, none_owed}
 use Rattle.pg_world.proofs.machine.Machine.owed.Goals as goal
 
 -- what was looked at is what this server of the world owes first
-looked : (m : Machine) (w : World) (i : ℕ) (node : Node) (first : Option Owing) → Stands m w → i < length m.nodes.items → node ≡ slice_index_or m.nodes.items i node → first ≡ slice_get (owed node.store) 0
+looked : (m : Machine) (w : World) (i : ℕ) (node : Node) (first : Option OwedKey) → Stands m w → i < length m.nodes.items → node ≡ slice_index_or m.nodes.items i node → first ≡ slice_get (owed node.store) 0
     → slice_get (owed (w.stores (suc i))) 0 ≡ first
 looked m w i node first h lt is e =
     let one : i + 1 ≡ suc i = omega arith in

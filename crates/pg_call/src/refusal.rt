@@ -1,0 +1,166 @@
+//! Why a server refuses what a client asks for.
+
+ghost use Rattle.std.specs.Prelude.{◌≡◌, IfSome, IfNone};
+ghost use Rattle.pg_call.specs.Refusal.{intent_word};
+ghost use Rattle.pg_call.specs.declared.refusal.IntentKind.{IntentKind};
+
+use pg_base::{FileId, NodeId, Stamp};
+use std::fmt;
+
+/// What a server intends until others have answered.
+#[derive(Clone, Copy, Debug, PartialEq, Eq)]
+pub enum IntentKind {
+    /// To tell a peer that the replica is gone.
+    Bye,
+    /// To find a live gold replica.
+    Seek,
+    /// To get a replica filled.
+    Fill,
+    /// To carry a newer place to a replica of a directory.
+    Patch,
+    /// To ask a holder of a child for its place.
+    Confirm,
+    /// To ask a gold peer for leave to drop.
+    Leave,
+}
+
+/// What keeps a replica from being dropped: an intention, or a cell that is not acknowledged.
+#[derive(Clone, Copy, Debug, PartialEq, Eq)]
+pub enum Unsettled {
+    Intent(IntentKind),
+    Cell,
+}
+
+/// Why a server refuses what a client asks for, in the order in which the reasons are tried.
+#[derive(Clone, Copy, Debug, PartialEq, Eq)]
+pub enum Refusal {
+    /// The component with this number breaks the grammar of paths, or is to be a new name and is no client name. 0: no
+    /// slash in front, and where an id may stand no id; 65: over 64 components; 66: over 4,096 bytes.
+    BadPath(u8),
+    /// The server's clock is at its end: its greatest time, a counter, or a number of its own in the file, is 2^62 or
+    /// more.
+    ClockEnd,
+    /// This is not held here, or is held and not full.
+    NotYet(FileId),
+    /// The directory does not show the component with this number.
+    NoName(u8),
+    /// The component with this number is a file where a directory is needed.
+    NotDir(u8),
+    /// It is a directory where a file is needed.
+    IsDir,
+    /// It is the root.
+    Root,
+    /// The new name is shown by this.
+    Exists(FileId),
+    /// The directory has 4,096 cells or more, and none for this child.
+    DirFull,
+    /// The directory lists this first.
+    NotEmpty(FileId),
+    /// The directory would stand in itself.
+    Loop,
+    /// The new body would have more than 1,048,576 bytes.
+    TooLong,
+    /// The version with this stamp was announced, and is not here.
+    Behind(Stamp),
+    /// The replica is gold.
+    IsGold,
+    /// No other gold replica is known to have all that this one has.
+    LastGold,
+    /// This has a live place in the directory.
+    HasChild(FileId),
+    /// Something about this is not settled with the peer: an intention with its target, or a cell.
+    Unsettled {
+        what: Unsettled,
+        id: FileId,
+        peer: NodeId,
+    },
+    /// It is held here, and full.
+    Held,
+    /// The server is in this view, and the one asked for is not the next, or not of another live server.
+    WrongView(u64),
+    /// The new version's vector would have more than 256 actors.
+    ManyActors,
+}
+
+impl fmt::Display for IntentKind {
+    ghost use Rattle.std.specs.Prelude.{Some};
+    ghost use Rattle.pg_call.specs.Refusal.{intent_word};
+
+    ghost output = { λ k. Some (intent_word k) };
+
+    fn fmt<W: fmt::Write>(&self, f: &mut fmt::Formatter<W>) -> fmt::Result {
+        f.write_str(match self {
+            IntentKind::Bye => "Bye",
+            IntentKind::Seek => "Seek",
+            IntentKind::Fill => "Fill",
+            IntentKind::Patch => "Patch",
+            IntentKind::Confirm => "Confirm",
+            IntentKind::Leave => "Leave",
+        })
+    }
+}
+
+impl fmt::Display for Unsettled {
+    ghost use Rattle.std.specs.Prelude.{Some};
+    ghost use Rattle.pg_call.specs.Refusal.{unsettled_word};
+
+    ghost output = { λ u. Some (unsettled_word u) };
+
+    fn fmt<W: fmt::Write>(&self, f: &mut fmt::Formatter<W>) -> fmt::Result {
+        match self {
+            Unsettled::Intent(kind) => write!(f, "{kind}"),
+            Unsettled::Cell => f.write_str("Cell"),
+        }
+    }
+}
+
+impl fmt::Display for Refusal {
+    ghost use Rattle.std.specs.Prelude.{Some};
+    ghost use Rattle.std.specs.List.{join_with_byte};
+    ghost use Rattle.pg_call.specs.Refusal.{refusal_words};
+
+    ghost output = { λ r. Some (join_with_byte 32 (refusal_words r)) };
+
+    fn fmt<W: fmt::Write>(&self, f: &mut fmt::Formatter<W>) -> fmt::Result {
+        match self {
+            Refusal::BadPath(component) => write!(f, "refused 1 BadPath {component}"),
+            Refusal::ClockEnd => f.write_str("refused 2 ClockEnd"),
+            Refusal::NotYet(id) => write!(f, "refused 3 NotYet {id}"),
+            Refusal::NoName(component) => write!(f, "refused 4 NoName {component}"),
+            Refusal::NotDir(component) => write!(f, "refused 5 NotDir {component}"),
+            Refusal::IsDir => f.write_str("refused 6 IsDir"),
+            Refusal::Root => f.write_str("refused 7 Root"),
+            Refusal::Exists(id) => write!(f, "refused 8 Exists {id}"),
+            Refusal::DirFull => f.write_str("refused 9 DirFull"),
+            Refusal::NotEmpty(id) => write!(f, "refused 10 NotEmpty {id}"),
+            Refusal::Loop => f.write_str("refused 11 Loop"),
+            Refusal::TooLong => f.write_str("refused 12 TooLong"),
+            Refusal::Behind(stamp) => write!(f, "refused 13 Behind {stamp}"),
+            Refusal::IsGold => f.write_str("refused 14 IsGold"),
+            Refusal::LastGold => f.write_str("refused 15 LastGold"),
+            Refusal::HasChild(id) => write!(f, "refused 16 HasChild {id}"),
+            Refusal::Unsettled { what, id, peer } => {
+                write!(f, "refused 17 Unsettled {what} {id} {peer}")
+            }
+            Refusal::Held => f.write_str("refused 18 Held"),
+            Refusal::WrongView(view) => write!(f, "refused 19 WrongView {view}"),
+            Refusal::ManyActors => f.write_str("refused 20 ManyActors"),
+        }
+    }
+}
+
+/// The kind of intention that the word names.
+pub fn read_intent_kind(word: &[u8]) -> Option<IntentKind>
+    ensures found { IfSome result (λ k. word.now ≡ intent_word k) }
+    ensures none { IfNone result ((k : IntentKind) → word.now ≡ intent_word k → ⊥) }
+{
+    match word {
+        b"Bye" => Some(IntentKind::Bye),
+        b"Seek" => Some(IntentKind::Seek),
+        b"Fill" => Some(IntentKind::Fill),
+        b"Patch" => Some(IntentKind::Patch),
+        b"Confirm" => Some(IntentKind::Confirm),
+        b"Leave" => Some(IntentKind::Leave),
+        _ => None,
+    }
+}

@@ -1,0 +1,9 @@
+pub mod Pieces
+pub mod Blocks
+pub mod Unique
+pub mod Crash
+pub mod Opening
+pub mod Bad
+pub mod Lengths
+pub mod Entries
+pub mod Refusals

@@ -1,0 +1,4 @@
+pub mod RefusalSpelling
+pub mod ReplyLacks
+pub mod ReplySpelling
+pub mod ReplyWords
