@@ -1,10 +1,14 @@
 -- How a replay went on, one piece behind the other. a, b, c and end: the replay at one moment and at later ones.
-use Rattle.std.proofs.Common.{ℕ, ◌≡◌, ◌<◌, ◌+◌, ◌-◌, ◌++◌, true, false, List, [], ◌∷◌, refl, sym, ap, subst, ◌∙◌, append-nil, append_assoc, arith, suc, zero}
+use Rattle.std.proofs.Common.{ℕ, ◌≡◌, ◌<◌, ◌+◌, ◌-◌, ◌++◌, true, false, List, [], ◌∷◌, refl, sym, ap, subst, ◌∙◌, append-nil, append_assoc, arith, suc}
 use Rattle.pg_event.specs.declared.event.Event.{Event}
 use Rattle.pg_event.specs.declared.event.Event.TheVariants.{Deliver, Tick}
 use Rattle.pg_sched.specs.declared.line.Form.{Form}
 use Rattle.pg_event.specs.declared.quiet.Cause.{Cause}
 use Rattle.pg_event.specs.declared.quiet.Quiet.TheVariants.{Quiet, Waits}
+use Rattle.std.proofs.lemmas.Grind.{flat_map-append}
+use Rattle.pg_trace.specs.Printed.{journal_spelling, printed_text}
+use Rattle.pg_trace.specs.declared.printed.Printed.{Printed}
+use Rattle.pg_trace.proofs.Lines.{joined}
 use Rattle.pg_node.specs.Journal.{bag}
 use Rattle.pg_world.specs.Played.{final}
 use Rattle.pg_node.specs.Quiet.{has_some, quiet_of}
@@ -12,9 +16,16 @@ use Rattle.pg_node.specs.Run.{World, run_from}
 use Rattle.pg_world.proofs.Standing.{run_from-append}
 use Rattle.pangaea.specs.declared.journal.Replay.{Replay}
 use Rattle.pangaea.specs.Going.{GoesOn, Reaches}
-use Rattle.pangaea.specs.Settling.{after_event, deliveries, delivered, settling, ticks}
-use Rattle.pangaea.specs.Text.{inner_text}
-use Rattle.pangaea.proofs.Settled.{delivers, inner_text-append, settles, settles_on}
+use Rattle.pangaea.specs.Settling.{after_event, deliveries, settling, ticks}
+use Rattle.pangaea.specs.Text.{inner_lines}
+use Rattle.pangaea.proofs.Settled.{delivers, inner_lines-append, settles, settles_on}
+
+-- lines and more lines behind a text
+pub spelled_behind : (start : List ℕ) (t u : List Printed)
+    → (start ++ journal_spelling t) ++ journal_spelling u ≡ start ++ journal_spelling (t ++ u)
+spelled_behind start t u =
+    append_assoc start (journal_spelling t) (journal_spelling u)
+    ∙ ap (λ xs. start ++ xs) (sym (flat_map-append printed_text t u))
 
 -- nothing happened
 pub Reaches-refl : (a : Replay) → a.world.failed ≡ false → Reaches a a [] []
@@ -25,10 +36,11 @@ Reaches-refl a going = record {
   number = refl;
   form = refl;
   text = sym (append-nil a.out);
+  printed = tt;
 }
 
 -- some events, and then more
-pub then_reaches : (a b c : Replay) (es fs : List Event) (t u : List ℕ)
+pub then_reaches : (a b c : Replay) (es fs : List Event) (t u : List Printed)
     → Reaches a b es t → Reaches b c fs u → Reaches a c (es ++ fs) (t ++ u)
 then_reaches a b c es fs t u x y =
     let n = a.world.servers in
@@ -39,32 +51,33 @@ then_reaches a b c es fs t u x y =
       servers = y.servers ∙ x.servers;
       number = y.number ∙ x.number;
       form = y.form ∙ x.form;
-      text = y.text ∙ ap (λ xs. xs ++ u) x.text ∙ append_assoc a.out t u;
+      text = y.text ∙ ap (λ xs. xs ++ journal_spelling u) x.text ∙ spelled_behind a.out t u;
+      printed = joined t u x.printed y.printed;
     }
 
 -- what depends on the servers and the world alone, behind some events
-pub there : {A : Type 0} (f : ℕ → World → A) (a b : Replay) (es : List Event) (t : List ℕ) → Reaches a b es t
+pub there : {A : Type 0} (f : ℕ → World → A) (a b : Replay) (es : List Event) (t : List Printed) → Reaches a b es t
     → f b.world.servers (final b.world) ≡ f a.world.servers (run_from a.world.servers (final a.world) es)
 there f a b es t x = ap (λ s. f s (final b.world)) x.servers ∙ ap (f a.world.servers) x.world
 
-text_there : (a b : Replay) (es fs : List Event) (t : List ℕ) → Reaches a b es t
-    → inner_text b.world.servers b.number b.form (final b.world) fs
-    ≡ inner_text a.world.servers a.number a.form (run_from a.world.servers (final a.world) es) fs
-text_there a b es fs t x =
+lines_there : (a b : Replay) (es fs : List Event) (t : List Printed) → Reaches a b es t
+    → inner_lines b.world.servers b.number b.form (final b.world) fs
+    ≡ inner_lines a.world.servers a.number a.form (run_from a.world.servers (final a.world) es) fs
+lines_there a b es fs t x =
     let n = a.world.servers in
-    there (λ s w. inner_text s b.number b.form w fs) a b es t x
-    ∙ ap (λ m. inner_text n m b.form (run_from n (final a.world) es) fs) x.number
-    ∙ ap (λ (g : Form). inner_text n a.number g (run_from n (final a.world) es) fs) x.form
+    there (λ s w. inner_lines s b.number b.form w fs) a b es t x
+    ∙ ap (λ m. inner_lines n m b.form (run_from n (final a.world) es) fs) x.number
+    ∙ ap (λ (g : Form). inner_lines n a.number g (run_from n (final a.world) es) fs) x.form
 
 -- the same of the events of a settling
 pub goes_then : (a b c : Replay) (es fs : List Event) → GoesOn a b es → GoesOn b c fs → GoesOn a c (es ++ fs)
 goes_then a b c es fs x y =
     let n = a.world.servers in
     let w = final a.world in
-    let own = inner_text n a.number a.form w es in
-    let P : List ℕ → Type 0 = (λ t. Reaches a c (es ++ fs) t) in
-    subst P (ap (λ t. own ++ t) (text_there a b es fs own x) ∙ sym (inner_text-append n a.number a.form w es fs))
-    (then_reaches a b c es fs own (inner_text b.world.servers b.number b.form (final b.world) fs) x y)
+    let own = inner_lines n a.number a.form w es in
+    let P : List Printed → Type 0 = (λ t. Reaches a c (es ++ fs) t) in
+    subst P (ap (λ t. own ++ t) (lines_there a b es fs own x) ∙ sym (inner_lines-append n a.number a.form w es fs))
+    (then_reaches a b c es fs own (inner_lines b.world.servers b.number b.form (final b.world) fs) x y)
 
 -- other events, which are the same
 pub goes_same : (a b : Replay) (es fs : List Event) → es ≡ fs → GoesOn a b es → GoesOn a b fs

@@ -1,3 +1,4 @@
 pub mod Settled
 pub mod Gone
 pub mod Lines
+pub mod Journals

@@ -6,24 +6,24 @@ use Rattle.pg_sched.specs.declared.line.Form.{Form}
 use Rattle.pg_sched.specs.declared.line.Line.TheVariants as line
 use Rattle.pg_event.specs.declared.quiet.Cause.{Cause}
 use Rattle.pg_event.specs.declared.quiet.Quiet.TheVariants.{Quiet, Waits}
-use Rattle.pg_trace.specs.Text.{head_text}
+use Rattle.pg_trace.specs.Text.{head_lines}
 use Rattle.pg_node.specs.Journal.{bag}
 use Rattle.pg_node.specs.Quiet.{has_some, quiet_of}
 use Rattle.pg_node.specs.Run.{World, run_from}
 use Rattle.pangaea.specs.Settling.{after_event, deliveries, delivered, settling, ticks, unless_quiet}
-use Rattle.pangaea.specs.Text.{event_text, inner_text}
+use Rattle.pangaea.specs.Text.{event_lines, inner_lines}
 
 -- what is written of some events and then of more
-pub inner_text-append : (n number : ℕ) (form : Form) (w : World) (first more : List Event)
-    → inner_text n number form w (first ++ more)
-    ≡ inner_text n number form w first ++ inner_text n number form (run_from n w first) more
-inner_text-append n number form w [] more = refl
-inner_text-append n number form w (e ∷ es) more =
-    let head = head_text number form (line.Happens e) in
-    let own = event_text n number form w e in
-    let rest = inner_text n number form (after_event n w e) es in
-    let behind = inner_text n number form (run_from n (after_event n w e) es) more in
-    ap (λ xs. head ++ (own ++ xs)) (inner_text-append n number form (after_event n w e) es more)
+pub inner_lines-append : (n number : ℕ) (form : Form) (w : World) (first more : List Event)
+    → inner_lines n number form w (first ++ more)
+    ≡ inner_lines n number form w first ++ inner_lines n number form (run_from n w first) more
+inner_lines-append n number form w [] more = refl
+inner_lines-append n number form w (e ∷ es) more =
+    let head = head_lines number form (line.Happens e) in
+    let own = event_lines n number form w e in
+    let rest = inner_lines n number form (after_event n w e) es in
+    let behind = inner_lines n number form (run_from n (after_event n w e) es) more in
+    ap (λ xs. head ++ (own ++ xs)) (inner_lines-append n number form (after_event n w e) es more)
     ∙ ap (λ xs. head ++ xs) (sym (append_assoc own rest behind))
     ∙ sym (append_assoc head (own ++ rest) behind)
 

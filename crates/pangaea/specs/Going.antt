@@ -2,32 +2,41 @@
 use Rattle.std.specs.Prelude.{ℕ, ◌≡◌, List, ◌++◌, false}
 use Rattle.pg_event.specs.declared.event.Event.{Event}
 use Rattle.pg_sched.specs.declared.line.Line.{Line}
+use Rattle.pg_trace.specs.Printed.{ArePrinted, journal_spelling}
+use Rattle.pg_trace.specs.declared.printed.Printed.{Printed}
 use Rattle.pg_world.specs.Played.{final}
 use Rattle.pg_node.specs.Run.{run_from}
 use Rattle.pangaea.specs.declared.journal.Replay.{Replay}
 use Rattle.pangaea.specs.Settling.{after_line, events_of}
-use Rattle.pangaea.specs.Text.{form_from, inner_text, line_output, output_text}
+use Rattle.pangaea.specs.Text.{form_from, inner_lines, line_output, output_lines}
 
--- these events happened, and this text was written
-pub record Reaches (before after : Replay) (events : List Event) (written : List ℕ) : Type 0 where
+-- these events happened, and these lines were written, each a line of a journal
+pub record Reaches (before after : Replay) (events : List Event) (written : List Printed)
+    : Type 0 where
   pub world : final after.world ≡ run_from before.world.servers (final before.world) events
   pub going : after.world.failed ≡ false
   pub servers : after.world.servers ≡ before.world.servers
   pub number : after.number ≡ before.number
   pub form : after.form ≡ before.form
-  pub text : after.out ≡ before.out ++ written
+  pub text : after.out ≡ before.out ++ journal_spelling written
+  pub printed : ArePrinted written
 
 -- these events of a settling happened, and what is written of them
 abbrev pub GoesOn : Replay → Replay → List Event → Type 0
 GoesOn before after events =
     Reaches before after events
-    (inner_text before.world.servers before.number before.form (final before.world) events)
+    (inner_lines before.world.servers before.number before.form (final before.world) events)
 
 -- what a line asks for happened, and was written
 abbrev pub Answers : Replay → Replay → Line → Type 0
 Answers before after line =
     Reaches before after (events_of before.world.servers (final before.world) line)
-    (output_text before.world.servers before.number before.form (final before.world) line)
+    (output_lines before.world.servers before.number before.form (final before.world) line)
+
+-- the lines that a line of a schedule with this number stands for
+abbrev pub written_of : Replay → ℕ → Line → List Printed
+written_of before number line =
+    line_output before.world.servers number before.form (final before.world) line
 
 -- the line with this number was taken, with its own line in front in full form
 pub record Takes (before after : Replay) (number : ℕ) (line : Line) : Type 0 where
@@ -36,4 +45,5 @@ pub record Takes (before after : Replay) (number : ℕ) (line : Line) : Type 0 w
   pub servers : after.world.servers ≡ before.world.servers
   pub form : after.form ≡ form_from before.form line
   pub text : after.out
-      ≡ before.out ++ line_output before.world.servers number before.form (final before.world) line
+      ≡ before.out ++ journal_spelling (written_of before number line)
+  pub printed : ArePrinted (written_of before number line)

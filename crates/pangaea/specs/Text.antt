@@ -1,4 +1,4 @@
--- What is written of a run.
+-- The journal of a run: its lines, and its text.
 use Rattle.std.specs.Prelude.{ℕ, ◌+◌, List, [], ◌∷◌, ◌++◌, zero, suc}
 use Rattle.pg_base.specs.declared.id.FileId.{FileId}
 use Rattle.pg_base.specs.declared.id.Kind.{Kind}
@@ -10,8 +10,9 @@ use Rattle.pg_sched.specs.declared.line.Form.{Form}
 use Rattle.pg_sched.specs.declared.line.Form.TheVariants.{Short}
 use Rattle.pg_sched.specs.declared.line.Line.{Line}
 use Rattle.pg_sched.specs.declared.line.Line.TheVariants as line
-use Rattle.pg_trace.specs.Text.{entry_text, head_text, show_text, quiet_text}
-use Rattle.pg_trace.specs.Printed.{printed_text}
+use Rattle.pg_trace.specs.Text.{entry_lines, head_lines, show_line}
+use Rattle.pg_trace.specs.Printed.{journal_spelling}
+use Rattle.pg_trace.specs.declared.printed.Printed.{Printed}
 use Rattle.pg_trace.specs.declared.printed.Printed.TheVariants as printed
 use Rattle.pg_trace.specs.declared.printed.Word.TheVariants as word
 use Rattle.pg_node.specs.Journal.{taken, state_of}
@@ -24,52 +25,54 @@ abbrev pub state_at : World → FileId → ℕ → ContentValue
 state_at w file server = state_of file w.journal (taken server file w.journal)
 
 -- what the first servers show of a file, in increasing order
-abbrev pub shows_text : World → FileId → ℕ → List ℕ
-shows_text w file zero = []
-shows_text w file (suc k) = shows_text w file k ++ show_text (suc k) file (state_at w file (suc k))
+abbrev pub shows_lines : World → FileId → ℕ → List Printed
+shows_lines w file zero = []
+shows_lines w file (suc k) =
+    shows_lines w file k ++ show_line (suc k) file (state_at w file (suc k)) ∷ []
 
 -- a file is held by each of the first servers. No server holds a directory yet
-abbrev pub shown_text : World → FileId → Kind → ℕ → List ℕ
-shown_text w what Dir servers = printed_text (printed.Nowhere what)
-shown_text w what File servers = shows_text w what servers
+abbrev pub shown_lines : World → FileId → Kind → ℕ → List Printed
+shown_lines w what Dir servers = printed.Nowhere what ∷ []
+shown_lines w what File servers = shows_lines w what servers
 
-abbrev pub event_text : ℕ → ℕ → Form → World → Event → List ℕ
-event_text servers number form w event = entry_text number form (next servers w event).entry
+abbrev pub event_lines : ℕ → ℕ → Form → World → Event → List Printed
+event_lines servers number form w event = entry_lines number form (next servers w event).entry
 
 -- the events of a settling: in full form each with its line in front
-abbrev pub inner_text : ℕ → ℕ → Form → World → List Event → List ℕ
-inner_text servers number form w [] = []
-inner_text servers number form w (event ∷ events) =
-    head_text number form (line.Happens event)
-    ++ (event_text servers number form w event
-    ++ inner_text servers number form (after_event servers w event) events)
+abbrev pub inner_lines : ℕ → ℕ → Form → World → List Event → List Printed
+inner_lines servers number form w [] = []
+inner_lines servers number form w (event ∷ events) =
+    head_lines number form (line.Happens event)
+    ++ (event_lines servers number form w event
+    ++ inner_lines servers number form (after_event servers w event) events)
 
 -- in full form the line itself stands in front of its output. A line that sets the form writes
 -- nothing
-abbrev pub line_head : ℕ → Form → Line → List ℕ
-line_head number form (line.Happens event) = head_text number form (line.Happens event)
+abbrev pub line_head : ℕ → Form → Line → List Printed
+line_head number form (line.Happens event) = head_lines number form (line.Happens event)
 line_head number form (line.Settle rounds moment) =
-    head_text number form (line.Settle rounds moment)
-line_head number form (line.Show file) = head_text number form (line.Show file)
-line_head number form line.Quiet = head_text number form line.Quiet
+    head_lines number form (line.Settle rounds moment)
+line_head number form (line.Show file) = head_lines number form (line.Show file)
+line_head number form line.Quiet = head_lines number form line.Quiet
 line_head number form (line.Trace next) = []
-line_head number form (line.MeterOff meter) = head_text number form (line.MeterOff meter)
+line_head number form (line.MeterOff meter) = head_lines number form (line.MeterOff meter)
 
--- what a line asks for, where this is its number; there are no meters yet. Of a settling its events, and whether all is done behind them
-abbrev pub output_text : ℕ → ℕ → Form → World → Line → List ℕ
-output_text servers number form w (line.Happens event) = event_text servers number form w event
-output_text servers number form w (line.Settle rounds moment) =
-    inner_text servers number form w (settling servers most_deliveries moment w rounds)
-    ++ quiet_text word.Settle (quiet_of servers (after_line servers w (line.Settle rounds moment)))
-output_text servers number form w (line.Show what) = shown_text w what what.kind servers
-output_text servers number form w line.Quiet = quiet_text word.Quiet (quiet_of servers w)
-output_text servers number form w (line.Trace next) = []
-output_text servers number form w (line.MeterOff meter) =
-    printed_text (printed.Void number Unbuilt)
+-- what a line asks for, where this is its number; there are no meters yet. Of a settling its events,
+-- and whether all is done behind them
+abbrev pub output_lines : ℕ → ℕ → Form → World → Line → List Printed
+output_lines servers number form w (line.Happens event) = event_lines servers number form w event
+output_lines servers number form w (line.Settle rounds moment) =
+    inner_lines servers number form w (settling servers most_deliveries moment w rounds)
+    ++ printed.Asked word.Settle (quiet_of servers (after_line servers w (line.Settle rounds moment)))
+    ∷ []
+output_lines servers number form w (line.Show what) = shown_lines w what what.kind servers
+output_lines servers number form w line.Quiet = printed.Asked word.Quiet (quiet_of servers w) ∷ []
+output_lines servers number form w (line.Trace next) = []
+output_lines servers number form w (line.MeterOff meter) = printed.Void number Unbuilt ∷ []
 
-abbrev pub line_output : ℕ → ℕ → Form → World → Line → List ℕ
+abbrev pub line_output : ℕ → ℕ → Form → World → Line → List Printed
 line_output servers number form w line =
-    line_head number form line ++ output_text servers number form w line
+    line_head number form line ++ output_lines servers number form w line
 
 -- the form from the next line on
 abbrev pub form_from : Form → Line → Form
@@ -80,14 +83,18 @@ form_from form line.Quiet = form
 form_from form (line.Trace next) = next
 form_from form (line.MeterOff meter) = form
 
--- the text of a journal, from the line with this number on; at its end it is told whether all is
--- done
-abbrev pub journal_text : ℕ → ℕ → Form → World → List Line → List ℕ
-journal_text servers number form w [] = quiet_text word.End (quiet_of servers w)
-journal_text servers number form w (line ∷ lines) =
+-- the lines of a journal, from the line of the schedule with this number on; at its end it is told
+-- whether all is done
+abbrev pub journal_lines : ℕ → ℕ → Form → World → List Line → List Printed
+journal_lines servers number form w [] = printed.Asked word.End (quiet_of servers w) ∷ []
+journal_lines servers number form w (line ∷ lines) =
     line_output servers number form w line
-    ++ journal_text servers (number + 1) (form_from form line) (after_line servers w line) lines
+    ++ journal_lines servers (number + 1) (form_from form line) (after_line servers w line) lines
 
--- what is written for a schedule: its first line has number 1, and the form is short at first
+-- the journal of a schedule: its first line has number 1, and the form is short at first
+abbrev pub journal_of : ℕ → List Line → List Printed
+journal_of servers lines = journal_lines servers 2 Short (start servers) lines
+
+-- what is written for a schedule
 abbrev pub text_of : ℕ → List Line → List ℕ
-text_of servers lines = journal_text servers 2 Short (start servers) lines
+text_of servers lines = journal_spelling (journal_of servers lines)

@@ -6,7 +6,8 @@ use Rattle.std.specs.Io.KnownBytes.{Appends}
 use Rattle.pg_sched.specs.declared.line.Line.{Line}
 use Rattle.pg_sched.specs.Schedule.{spelling, IsCount, AreLines}
 use Rattle.pangaea.specs.declared.command.TheConstants.{LIMIT}
-use Rattle.pangaea.specs.Text.{text_of}
+use Rattle.pg_trace.specs.Printed.{ArePrinted}
+use Rattle.pangaea.specs.Text.{journal_of, text_of}
 
 -- the most bytes that an input may have. A clause of `run` says which number it is
 abbrev pub most_input : ℕ
@@ -15,13 +16,15 @@ most_input = LIMIT
 abbrev pub IsTooLong : List ℕ → Type 0
 IsTooLong input = most_input < length input
 
--- the input spells a schedule, and P holds of the text of the schedule's run
+-- the input spells a schedule, each line of the journal of the schedule's run is a line of a journal, and P
+-- holds of the text of that journal
 pub record IsTextOf (input : List ℕ) (P : List ℕ → Type 0) : Type 0 where
   pub servers : ℕ
   pub lines : List Line
   pub count : IsCount servers
   pub each : AreLines lines
   pub whole : input ≡ spelling servers lines
+  pub printed : ArePrinted (journal_of servers lines)
   pub written : P (text_of servers lines)
 
 -- a known input spells a schedule, and exactly the text of its run stands behind what the sink held

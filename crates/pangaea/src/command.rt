@@ -26,7 +26,8 @@ pub const LIMIT: usize = 1 << 26;
 /// Reads a schedule and writes the journal of its run. Nothing is written, and no line is found
 /// bad, before the whole input was read.
 pub fn replay<S: Source, K: Sink>(alloc: Global, source: &mut S, sink: &mut K) -> Status
-    // What is written.
+    // What is written: the spelling of the lines of the run, each of them a line of a journal; so it
+    // is read again.
     ensures done { result ≡ Status.Done
         → WritesAll (S.remaining source.old) (K.contents sink.old) (K.contents sink.new) }
     ensures whole { result ≡ Status.Done → IsAtEnd (S.remaining source.new) }
@@ -88,7 +89,8 @@ pub fn run<S: Source, K: Sink>(
     source: &mut S,
     sink: &mut K,
 ) -> Status
-    // What is written.
+    // What is written: the spelling of the lines of the run, each of them a line of a journal; so it
+    // is read again.
     ensures done { result ≡ Status.Done
         → WritesAll (S.remaining source.old) (K.contents sink.old) (K.contents sink.new) }
     ensures whole { result ≡ Status.Done → IsAtEnd (S.remaining source.new) }

@@ -2,10 +2,16 @@
 
 ghost use Rattle.std.specs.Prelude.{◌≡◌, ◌++◌, IfOk, OnOk};
 ghost use Rattle.pg_sched.specs.Schedule.{IsCount};
+ghost use Rattle.pg_base.specs.Id.{Fits};
+ghost use Rattle.pg_base.specs.declared.id.Kind.TheVariants.{File};
 ghost use Rattle.pg_event.specs.declared.entry.VoidCause.TheVariants.{Unbuilt};
-ghost use Rattle.pg_trace.specs.Printed.{printed_text};
-ghost use Rattle.pg_trace.specs.Text.{head_text};
+ghost use Rattle.pg_event.specs.Event.{IsEvent};
+ghost use Rattle.pg_sched.specs.Line.{IsLine};
+ghost use Rattle.pg_sched.specs.Schedule.{AreLines};
+ghost use Rattle.pg_trace.specs.Printed.{ArePrinted, IsPrinted, printed_text};
+ghost use Rattle.pg_trace.specs.Text.{head_lines, head_text};
 ghost use Rattle.pg_trace.specs.declared.printed.Printed.TheVariants as printed;
+ghost use Rattle.pangaea.specs.Text as journal;
 ghost use Rattle.pangaea.specs.Text.{text_of};
 
 use pg_base::{Bytes, FileId, Kind};
@@ -13,6 +19,7 @@ use pg_event::{Event, Quiet};
 use pg_sched::{Form, Line, Schedule};
 use pg_trace::{Word, write_entry, write_head, write_quiet, write_show};
 use pg_world::World;
+use pg_written::entries_suit;
 use std::alloc::{AllocError, Global};
 
 /// How many messages one round of a settling delivers at most.
@@ -31,19 +38,20 @@ struct Replay {
 impl Replay {
     ghost use Rattle.std.specs.Prelude.{◌∷◌, [], false};
     ghost use Rattle.pg_trace.specs.declared.printed.Word.{Word};
-    ghost use Rattle.pg_trace.specs.Text.{quiet_text};
     ghost use Rattle.pg_world.specs.Played.{final};
     ghost use Rattle.pg_node.specs.Quiet.{quiet_of};
     ghost use Rattle.pangaea.specs.Going.{Answers, GoesOn, Reaches, Takes};
     ghost use Rattle.pangaea.specs.Settling.{deliveries, settling, ticks};
-    ghost use Rattle.pangaea.specs.Text.{event_text, line_head, shown_text, shows_text};
+    ghost use Rattle.pangaea.specs.Text.{event_lines, line_head, shown_lines, shows_lines};
 
     /// An event happens, and what the journal says of it is written.
     fn happen(&mut self, event: Event) -> Result<(), AllocError>
-        ensures { let text = event_text self.old.world.servers self.old.number self.old.form
+        requires { IsEvent event }
+        ensures { let lines = event_lines self.old.world.servers self.old.number self.old.form
             (final self.old.world) event in
-            OnOk result (Reaches self.old self.new (event ∷ []) text) }
+            OnOk result (Reaches self.old self.new (event ∷ []) lines) }
     {
+        entries_suit();
         match self.world.step(event) {
             Ok(entry) => Ok(write_entry(self.number, self.form, &entry, &mut self.out)?),
             Err(_) => Err(AllocError),
@@ -52,6 +60,7 @@ impl Replay {
 
     /// The same of an event of a settling: in full form its line stands in front.
     fn happen_within(&mut self, event: Event) -> Result<(), AllocError>
+        requires { IsLine (Line.Happens event) }
         ensures { OnOk result (GoesOn self.old self.new (event ∷ [])) }
     {
         write_event(self.number, self.form, &event, &mut self.out)?;
@@ -113,21 +122,22 @@ impl Replay {
     /// Writes what each server shows of a file, or that no server holds the directory.
     fn show(&mut self, id: &FileId) -> Result<(), AllocError>
         requires { self.old.world.failed ≡ false }
-        ensures { let text = shown_text (final self.old.world) id.now id.now.kind
+        ensures { let lines = shown_lines (final self.old.world) id.now id.now.kind
             self.old.world.servers in
-            OnOk result (Reaches self.old self.new [] text) }
+            OnOk result (Reaches self.old self.new [] lines) }
     {
         match id.kind {
-            Kind::Dir => Ok(write_nowhere(id, &mut self.out)?),
+            Kind::Dir => Ok(write_nowhere(*id, &mut self.out)?),
             Kind::File => Ok(self.show_file(id)?),
         }
     }
 
     /// Writes what each server shows of a file.
     fn show_file(&mut self, file: &FileId) -> Result<(), AllocError>
-        requires { self.old.world.failed ≡ false }
-        ensures { let text = shows_text (final self.old.world) file.now self.old.world.servers in
-            OnOk result (Reaches self.old self.new [] text) }
+        requires going { self.old.world.failed ≡ false }
+        requires file { file.now.kind ≡ File }
+        ensures { let lines = shows_lines (final self.old.world) file.now self.old.world.servers in
+            OnOk result (Reaches self.old self.new [] lines) }
     {
         for k in 0..self.world.servers() {
             let server = k + 1;
@@ -141,14 +151,16 @@ impl Replay {
     fn tell(&mut self, word: Word) -> Result<(), AllocError>
         requires { self.old.world.failed ≡ false }
         ensures { let quiet = quiet_of self.old.world.servers (final self.old.world) in
-            OnOk result (Reaches self.old self.new [] (quiet_text word quiet)) }
+            OnOk result (Reaches self.old self.new [] (printed.Asked word quiet ∷ [])) }
     {
+        entries_suit();
         Ok(write_quiet(word, &self.world.is_quiet(), &mut self.out)?)
     }
 
     /// What a line asks for, behind its own line.
     fn answer(&mut self, line: &Line) -> Result<(), AllocError>
-        requires { self.old.world.failed ≡ false }
+        requires going { self.old.world.failed ≡ false }
+        requires line { IsLine line.now }
         ensures { OnOk result (Answers self.old self.new line.now) }
     {
         match line {
@@ -166,9 +178,10 @@ impl Replay {
 
     /// In full form the line itself. A line that sets the form writes nothing.
     fn head(&mut self, line: &Line) -> Result<(), AllocError>
-        requires { self.old.world.failed ≡ false }
-        ensures { let text = line_head self.old.number self.old.form line.now in
-            OnOk result (Reaches self.old self.new [] text) }
+        requires going { self.old.world.failed ≡ false }
+        requires line { IsLine line.now }
+        ensures { let lines = line_head self.old.number self.old.form line.now in
+            OnOk result (Reaches self.old self.new [] lines) }
     {
         match line {
             Line::Trace(_) => Ok(()),
@@ -178,7 +191,8 @@ impl Replay {
 
     /// Takes the line with this number of a schedule, and writes what the journal has for it.
     fn take(&mut self, number: u64, line: &Line) -> Result<(), AllocError>
-        requires { self.old.world.failed ≡ false }
+        requires going { self.old.world.failed ≡ false }
+        requires line { IsLine line.now }
         ensures { OnOk result (Takes self.old self.new number line.now) }
     {
         self.number = number;
@@ -193,7 +207,10 @@ impl Replay {
 
 /// In full form the line of an event of a settling. In short form nothing.
 fn write_event(number: u64, form: Form, event: &Event, out: &mut Bytes) -> Result<(), AllocError>
-    ensures { OnOk result (out.new ≡ out.old ++ head_text number form (Line.Happens event.now)) }
+    ensures text { OnOk result (out.new
+        ≡ out.old ++ head_text number form (Line.Happens event.now)) }
+    ensures spelled { IsLine (Line.Happens event.now)
+        → ArePrinted (head_lines number form (Line.Happens event.now)) }
 {
     match form {
         Form::Full => write!(out, "event {number} {event}\n"),
@@ -201,24 +218,36 @@ fn write_event(number: u64, form: Form, event: &Event, out: &mut Bytes) -> Resul
     }
 }
 
+/// An id is in its range by its type.
+fn id_fits(id: FileId)
+    ensures { Fits id }
+{}
+
 /// Writes that no server holds this.
-fn write_nowhere(id: &FileId, out: &mut Bytes) -> Result<(), AllocError>
-    ensures { OnOk result (out.new ≡ out.old ++ printed_text (printed.Nowhere id.now)) }
+fn write_nowhere(id: FileId, out: &mut Bytes) -> Result<(), AllocError>
+    ensures text { OnOk result (out.new ≡ out.old ++ printed_text (printed.Nowhere id)) }
+    ensures spelled { IsPrinted (printed.Nowhere id) }
 {
+    id_fits(id);
     write!(out, "at - {id}\n")
 }
 
 /// Writes that nothing is done of the line with this number yet.
 fn write_unbuilt(number: u64, out: &mut Bytes) -> Result<(), AllocError>
-    ensures { OnOk result (out.new ≡ out.old ++ printed_text (printed.Void number Unbuilt)) }
+    ensures text { OnOk result (out.new ≡ out.old ++ printed_text (printed.Void number Unbuilt)) }
+    ensures spelled { IsPrinted (printed.Void number Unbuilt) }
 {
     write!(out, "void {number} unbuilt\n")
 }
 
-/// The whole journal of a schedule.
+/// The whole journal of a schedule: the text is the spelling of its lines, each of which is a line of a journal.
 pub fn journal_of(alloc: Global, schedule: &Schedule) -> Result<Bytes, AllocError>
-    requires { IsCount schedule.now.servers }
-    ensures { IfOk result (λ text. text ≡ text_of schedule.now.servers schedule.now.lines) }
+    requires count { IsCount schedule.now.servers }
+    requires lines { AreLines schedule.now.lines }
+    ensures text { IfOk result (λ text. text
+        ≡ text_of schedule.now.servers schedule.now.lines) }
+    ensures spelled { IfOk result (λ _. ArePrinted
+        (journal.journal_of schedule.now.servers schedule.now.lines)) }
 {
     let mut replay = Replay {
         world: World::new(alloc, schedule.servers)?,

@@ -1,5 +1,5 @@
 -- What a server does keeps what its edges and its messages promise.
-use Rattle.std.proofs.Common.{[], ℕ, ◌≡◌, ◌==◌, ◌&&◌, true, cond, List, Option, None, Some, refl, sym, ap, subst, ◌∙◌}
+use Rattle.std.proofs.Common.{[], ℕ, ◌≡◌, ◌==◌, true, cond, List, Option, None, Some, refl, sym, ap, subst, ◌∙◌}
 use Rattle.std.proofs.lemmas.Bool.{eqb-true, and_parts}
 use Rattle.pg_base.specs.declared.id.FileId.{FileId}
 use Rattle.pg_base.specs.declared.stamp.Stamp.{Stamp}
@@ -29,12 +29,12 @@ use Rattle.pg_call.specs.declared.reply.Reply.{Reply}
 use Rattle.pg_call.specs.declared.reply.Reply.TheVariants as reply
 use Rattle.pg_call.specs.declared.reply.Reply.TheVariants.{Refused}
 use Rattle.pg_replica.specs.declared.store.Store.{Store}
-use Rattle.pg_node.specs.Local.{Effect, finish_with, after_message, after_call, receive, handle, receive_in_time, tick_in_time}
-use Rattle.pg_replica.specs.Store.{replica_at, replica_of, held_content, with_news, with_replica, has_time, home_of, store_acked}
+use Rattle.pg_node.specs.Local.{Effect, finish_with, after_message, after_call, receive, handle, receive_in_range, receive_in_time, tick_in_time}
+use Rattle.pg_replica.specs.Store.{replica_at, replica_of, held_content, with_news, with_replica, is_in_time, home_of, store_acked}
 use Rattle.pg_replica.specs.Replicas.{or_new}
 use Rattle.pg_repair.specs.Ticks.{tick}
 use Rattle.pg_repair.specs.Cells.{ack_to, cell, with_answer}
-use Rattle.pg_replica.specs.Replica.{has_room, own_actor}
+use Rattle.pg_replica.specs.Replica.{own_actor}
 use Rattle.pg_calls.specs.Writes.{ranges_of, write, write_where_fit, do_change, Answer, refusal}
 use Rattle.pg_replica.specs.Replica.{is_too_long, has_many_actors}
 use Rattle.pg_repair.specs.Done.{Done, idle, link_of}
@@ -46,6 +46,7 @@ use Rattle.pg_agreement.proofs.Covered.{IsKnownBy, HasVersions, write_goes_on, h
 use Rattle.pg_node.proofs.Found.{Changes, replica_here, news_changes}
 use Rattle.pg_agreement.proofs.Promises.{none_noted, none_over, others_stay, saying, store_may, versions, news_steps, finish_may}
 use Rattle.pg_msg.specs.declared.work.Work.{Work}
+use Rattle.pg_msg.specs.Numbers.{is_in_range}
 use Rattle.pg_msg.specs.View.{view}
 use Rattle.pg_call.specs.declared.refusal.Refusal.{Refusal}
 use Rattle.pg_msg.specs.Work.{new_work, with_touched}
@@ -135,7 +136,7 @@ module _ (n s : ℕ) (a : Store) (k : IsWhole n s a) (tags : HasSoundTags versio
     pub write_good : (what : Change) → AfterCall (do_change a file what work)
     write_good what =
         let stamp = next_stamp now a.last a.server in
-        chosen AfterCall (has_time a.last a.tags && has_room x a.server)
+        chosen AfterCall (is_in_time a)
         (write_where_fit a file x stamp (ranges_of what) work)
         (refusal a work ClockEnd) (unless_good stamp (ranges_of what)) (refused_good ClockEnd)
 
@@ -144,7 +145,7 @@ module _ (n s : ℕ) (a : Store) (k : IsWhole n s a) (tags : HasSoundTags versio
   pub tick_good : (now : ℕ) → IsGood s a Other (after_call (tick_in_time a (new_work now 0)))
   tick_good now =
       let work = new_work now 0 in
-      chosen (λ (answer : Answer). IsGood s a Other (after_call answer)) (has_time a.last a.tags)
+      chosen (λ (answer : Answer). IsGood s a Other (after_call answer)) (is_in_time a)
       (record { store = a; work = (tick a work).work; reply = reply.Done })
       (refusal a work ClockEnd)
       (finish_good n s a a Other (tick a work).work (Some reply.Done) tags
@@ -312,7 +313,9 @@ module _ (n s : ℕ) (a : Store) (k : IsWhole n s a) (tags : HasSoundTags versio
           let heard = saying from s m in
           let work = new_work 0 from in
           let P : Done → Type 0 = (λ done. IsGood s a heard (after_message done)) in
-          chosen P (has_time a.last a.tags) (receive a m work) (idle a work)
+          chosen P (is_in_time a) (receive_in_range a m work) (idle a work)
+          (chosen P (is_in_range m) (receive a m work) (idle a work)
           (linked P a (view m).edge work (handle a m work) (λ e. handle_good m of comes e)
+          nothing_good)
           nothing_good)
           nothing_good

@@ -25,7 +25,7 @@ use Rattle.pg_event.specs.declared.event.Event.TheVariants.{Tick}
 use Rattle.pg_event.specs.declared.quiet.OwedKey.{OwedKey}
 use Rattle.pg_replica.specs.declared.store.Store.{Store}
 use Rattle.pg_replica.specs.Replicas.{or_new}
-use Rattle.pg_replica.specs.Store.{replica_of, has_time, home_of}
+use Rattle.pg_replica.specs.Store.{replica_of, is_in_time, home_of}
 use Rattle.pg_repair.specs.Sending.{cell_to, key_cell}
 use Rattle.pg_node.specs.declared.input.Input.TheVariants as input
 use Rattle.pg_node.specs.Local.{edge_owes, replica_owes, owed, effect, after_call}
@@ -180,5 +180,5 @@ ticks_send_what_is_owed n events s moment word least most =
     (λ b. TickSends a (cond b (effect_step w tick_event s (effect a (input.Tick moment word)))
     (idle_step w tick_event (Some NoServer))).entry) in
     subst P (sym (in_server n s least most))
-    (sends_or_not a moment tick_event (has_time a.last a.tags) (tick_sends n s a whole)
+    (sends_or_not a moment tick_event (is_in_time a) (tick_sends n s a whole)
     (owed_sorted n s a whole))

@@ -12,7 +12,7 @@ use std::marker::Model;
 const FULL: usize = 512;
 
 /// Items in order. They lie in blocks of at most 512, in order too, so that taking one from the middle moves at most 256
-/// others, and adding one moves no more than its block. To find an item the lengths of the blocks before it are read: two
+/// others, and adding one moves none: a block has memory for as many from the first on. To find an item the lengths of the blocks before it are read: two
 /// for each thousand items, where none were taken from the middle. A block that becomes empty goes. One that has items
 /// left stays as it is, so there are never more blocks than one for each 512 items that were added since the bag was empty.
 #[derive(Debug, Drop)]
@@ -58,7 +58,7 @@ fn open_block<T: Drop>(alloc: Global, blocks: &mut Vec<Block<T>>) -> Result<usiz
     if count > 0 && blocks[count - 1].len() < FULL {
         return Ok(count - 1);
     }
-    blocks.push(Block::new(alloc))?;
+    blocks.push(Block::with_capacity(alloc, FULL)?)?;
     Ok(count)
 }
 

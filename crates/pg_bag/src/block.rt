@@ -1,6 +1,6 @@
 //! Some items in order, in one piece of memory.
 
-ghost use Rattle.std.specs.Prelude.{[], ◌≡◌, ◌++◌, ◌∷◌, ◌<◌, OnOk, OnErr, Some, length, slice_get, remove};
+ghost use Rattle.std.specs.Prelude.{[], ◌≡◌, ◌++◌, ◌∷◌, ◌<◌, IfOk, OnOk, OnErr, Some, length, slice_get, remove};
 ghost use Rattle.std.specs.Option.{option_copied};
 
 use std::alloc::{AllocError, Global};
@@ -22,13 +22,13 @@ impl<T> Model for Block<T> {
 }
 
 impl<T> Block<T> {
-    /// No item. It takes no memory.
-    pub fn new(alloc: Global) -> Self
-        ensures { result ≡ [] }
+    /// No item yet, with memory for so many.
+    pub fn with_capacity(alloc: Global, count: usize) -> Result<Self, AllocError>
+        ensures { IfOk result (λ block. block ≡ []) }
     {
-        Block {
-            items: VecDeque::new(alloc),
-        }
+        Ok(Block {
+            items: VecDeque::with_capacity(alloc, count)?,
+        })
     }
 
     pub fn len(&self) -> usize

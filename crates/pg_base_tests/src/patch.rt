@@ -17,8 +17,8 @@ fn ranges_of(alloc: Global, change: Change) -> Result<Ranges, Fail> {
     Ok(ranges.ok().ok_or("ranges")?)
 }
 
-// A body, two changes, what they are in one (how much stays, the least length, the first part), and
-// the body after both.
+// A body, two changes, what they are in one (how much stays, the least length, the first part, how
+// many bytes all parts have), and the body after both.
 struct Row {
     body: &'static [u8],
     first: Change,
@@ -27,6 +27,7 @@ struct Row {
     least: u32,
     offset: u32,
     bytes: &'static [u8],
+    count: usize,
     after: &'static [u8],
 }
 
@@ -39,6 +40,7 @@ const ROWS: [Row; 4] = [
         least: 3,
         offset: 2,
         bytes: b"a",
+        count: 1,
         after: b"01a",
     },
     Row {
@@ -49,6 +51,7 @@ const ROWS: [Row; 4] = [
         least: 4,
         offset: 2,
         bytes: b"aa",
+        count: 2,
         after: b"01aa",
     },
     Row {
@@ -59,6 +62,7 @@ const ROWS: [Row; 4] = [
         least: 5,
         offset: 1,
         bytes: b"abaa",
+        count: 4,
         after: b"\0abaa",
     },
     Row {
@@ -69,6 +73,7 @@ const ROWS: [Row; 4] = [
         least: 4,
         offset: 1,
         bytes: b"a",
+        count: 2,
         after: b"0a\0b",
     },
 ];
@@ -97,6 +102,7 @@ fn two_changes_in_one(rt: HostRuntime) -> Result<(), Fail> {
         let part = first_part(&both)?;
         assert_eq!(rt; part.offset, row.offset);
         assert_eq!(rt; part.bytes.as_slice(), row.bytes);
+        assert_eq!(rt; both.bytes_of_parts(), row.count);
     }
     Ok(())
 }

@@ -4,7 +4,7 @@ ghost use Rattle.std.specs.Prelude.{◌≡◌, IfOk, map};
 ghost use Rattle.pg_call.specs.declared.reply.Reply.{Reply};
 
 use crate::refusal::Refusal;
-use pg_base::{FileId, Items, NodeId, SharedBytes, Stamp};
+use pg_base::{FileId, Items, NodeId, Shared, SharedBytes, Stamp};
 use pg_path::Row;
 use pg_register::Place;
 use pg_words::{GoldWord, HexWord, PlaceWords, TextWord};
@@ -42,7 +42,7 @@ pub struct Counts {
     pub held: u64,
 }
 
-/// What a client is told.
+/// What a client is told. What is large is shared, since each event moves a reply, or the room for one.
 #[derive(Debug, Drop)]
 pub enum Reply {
     /// It was done.
@@ -55,33 +55,16 @@ pub enum Reply {
     Bytes(SharedBytes),
     /// So many names are shown in all, and these are some of them, at most 100.
     Names { total: u32, rows: Items<Row> },
-    Stat(Stat),
+    Stat(Shared<Stat>),
     /// The replica goes once this server has given leave.
     Leaving(NodeId),
-    Status(Counts),
+    Status(Shared<Counts>),
     /// It was not done, and this is why.
     Refused(Refusal),
 }
 
-impl Stat {
-    /// The same again.
-    pub fn copy(&self) -> Result<Stat, AllocError>
-        ensures { IfOk result (λ s. s ≡ self.now) }
-    {
-        Ok(Stat {
-            id: self.id,
-            place: self.place.copy()?,
-            gold: self.gold,
-            golds: self.golds,
-            heads: self.heads,
-            length: self.length,
-            edges: self.edges,
-        })
-    }
-}
-
 impl Reply {
-    /// The same reply again. Bytes are shared.
+    /// The same reply again. What is large is shared.
     pub fn copy(&self, alloc: Global) -> Result<Reply, AllocError>
         ensures { IfOk result (λ r. r ≡ self.now) }
     {
@@ -96,7 +79,7 @@ impl Reply {
             },
             Reply::Stat(stat) => Reply::Stat(stat.copy()?),
             Reply::Leaving(server) => Reply::Leaving(*server),
-            Reply::Status(counts) => Reply::Status(*counts),
+            Reply::Status(counts) => Reply::Status(counts.copy()?),
             Reply::Refused(refusal) => Reply::Refused(*refusal),
         })
     }
@@ -195,9 +178,15 @@ impl fmt::Display for Reply {
                 let rows = RowWords(rows.as_slice());
                 write!(f, "names {total}{rows}")
             }
-            Reply::Stat(stat) => write!(f, "{stat}"),
+            Reply::Stat(stat) => {
+                let stat = stat.get();
+                write!(f, "{stat}")
+            }
             Reply::Leaving(server) => write!(f, "leaving {server}"),
-            Reply::Status(counts) => write!(f, "{counts}"),
+            Reply::Status(counts) => {
+                let counts = counts.get();
+                write!(f, "{counts}")
+            }
             Reply::Refused(refusal) => write!(f, "{refusal}"),
         }
     }

@@ -1,5 +1,5 @@
 -- A client changes a file.
-use Rattle.std.specs.Prelude.{ℕ, ◌&&◌, ◌<◌, if◌then◌else◌, List, [], ◌∷◌, length, map}
+use Rattle.std.specs.Prelude.{ℕ, ◌<◌, if◌then◌else◌, List, [], ◌∷◌, length, map}
 use Rattle.pg_base.specs.declared.id.FileId.{FileId}
 use Rattle.pg_base.specs.declared.stamp.Stamp.{Stamp}
 use Rattle.pg_base.specs.Stamp.{next_stamp}
@@ -10,8 +10,8 @@ use Rattle.pg_patch.specs.Ranges as patch
 use Rattle.pg_content.specs.Content.{body_limit}
 use Rattle.pg_replica.specs.declared.replica.Replica.{Replica}
 use Rattle.pg_replica.specs.declared.store.Store.{Store}
-use Rattle.pg_replica.specs.Replica.{has_many_actors, has_room, is_too_long, own_actor, with_write}
-use Rattle.pg_replica.specs.Store.{has_time, replica_of, with_news}
+use Rattle.pg_replica.specs.Replica.{has_many_actors, is_too_long, own_actor, with_write}
+use Rattle.pg_replica.specs.Store.{is_in_time, replica_of, with_news}
 use Rattle.pg_msg.specs.declared.update.MadeVersion.{MadeVersion}
 use Rattle.pg_msg.specs.declared.update.Update.TheVariants as update
 use Rattle.pg_msg.specs.declared.work.Work.{Work}
@@ -88,10 +88,9 @@ abbrev pub write_to : Store → FileId → Stamp → RangesValue → Work → An
 write_to store file stamp ranges work =
     write_where_fit store file (replica_of store file) stamp ranges work
 
--- and before that where the clock is at its end, or the file's own versions have come to the last
--- number
+-- and before that where the clock is at its end
 abbrev pub do_change : Store → FileId → Change → Work → Answer
 do_change store file what work =
-    if has_time store.last store.tags && has_room (replica_of store file) store.server
+    if is_in_time store
     then write_to store file (next_stamp work.now store.last store.server) (ranges_of what) work
     else refusal store work ClockEnd

@@ -1,8 +1,7 @@
 //! A client changes a file.
 
-ghost use Rattle.std.specs.Prelude.{◌≡◌, ◌&&◌, ◌≤◌, ◌^◌, IfOk, OnOk, true};
-ghost use Rattle.pg_replica.specs.Replica.{has_room};
-ghost use Rattle.pg_replica.specs.Store.{has_time, replica_of};
+ghost use Rattle.std.specs.Prelude.{◌≡◌, IfOk, OnOk, true};
+ghost use Rattle.pg_replica.specs.Store.{is_in_time};
 ghost use Rattle.pg_calls.specs.Writes.{do_change, with_update, write_to};
 
 use crate::changing::ranges_of;
@@ -27,7 +26,7 @@ pub fn do_change(
     ensures work { OnOk result (work.new ≡ (do_change store.old file change work.old).work) }
     ensures reply { IfOk result (λ r. r ≡ (do_change store.old file change work.old).reply) }
 {
-    if !may_write(store, &file) {
+    if !store.is_in_time() {
         return Ok(Reply::Refused(Refusal::ClockEnd));
     }
     let stamp = store.next_stamp(work.now);
@@ -38,15 +37,6 @@ pub fn do_change(
     }
 }
 
-/// Whether the clock is not at its end, and a version of the file may have a next number.
-fn may_write(store: &Store, file: &FileId) -> bool
-    ensures { result
-        ≡ (has_time store.now.last store.now.tags
-        && has_room (replica_of store.now file.now) store.now.server) }
-{
-    store.has_time() && store.has_room(file)
-}
-
 /// A version of this stamp is made, if the body is not too long and the vector has not too many actors.
 fn write_where_fit(
     store: &mut Store,
@@ -55,9 +45,8 @@ fn write_where_fit(
     ranges: Ranges,
     work: &mut Work,
 ) -> Result<Reply, AllocError>
-    requires tags { store.old.tags ≤ 2 ^ 62 }
+    requires time { is_in_time store.old ≡ true }
     requires own { stamp.server ≡ store.old.server }
-    requires room { has_room (replica_of store.old file) store.old.server ≡ true }
     ensures store { OnOk result
         (store.new ≡ (write_to store.old file stamp ranges work.old).store) }
     ensures work { OnOk result

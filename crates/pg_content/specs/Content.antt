@@ -7,6 +7,7 @@ use Rattle.pg_base.specs.declared.vector.Actor.{Actor}
 use Rattle.pg_base.specs.Stamp.{UpTo, stamp_cmp}
 use Rattle.pg_base.specs.Vector.{number_at, raised, joined, Covers}
 use Rattle.pg_patch.specs.Ranges.{RangesValue, applied}
+pub use Rattle.pg_patch.specs.Ranges.{body_limit}
 use Rattle.pg_base.specs.declared.policy.Policy.{Policy}
 use Rattle.pg_base.specs.Version.{VersionValue, actor_of, stamp_of}
 use Rattle.pg_content.specs.Shown.{inserted, shown}
@@ -114,10 +115,6 @@ next_length c ranges = length (applied (shown_bytes c) ranges)
 -- that version is the only head
 abbrev pub written : ContentValue → Actor → Stamp → RangesValue → ContentValue
 written c actor stamp ranges = with_heads c (next_version c actor stamp ranges ∷ [])
-
--- the most bytes of a body
-abbrev pub body_limit : ℕ
-body_limit = 1048576
 
 -- the most actors of a vector
 abbrev pub actor_limit : ℕ

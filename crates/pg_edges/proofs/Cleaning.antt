@@ -1,5 +1,5 @@
 -- Which edges have no key, and what an answer leaves.
-use Rattle.std.proofs.Common.{ℕ, zero, suc, ◌≡◌, ◌≢◌, ◌<◌, ◌≤◌, ◌+◌, Bool, true, false, cond, nat_eq, ◌==◌, eqb, ◌&&◌, List, [], ◌∷◌, length, get_or, set, Option, None, Some, refl, sym, ap, ◌∙◌, subst, arith}
+use Rattle.std.proofs.Common.{ℕ, zero, suc, ◌≡◌, ◌≢◌, ◌<◌, ◌≤◌, Bool, true, false, cond, nat_eq, ◌==◌, eqb, ◌&&◌, List, [], ◌∷◌, length, get_or, set, Option, None, Some, refl, sym, ap, ◌∙◌, subst, arith}
 use Rattle.std.proofs.Math.Dec.{leb}
 use Rattle.std.proofs.lemmas.Bool.{leb-true, leb-false, eqb-true, eqb-false}
 use Rattle.std.specs.Option.{option_eq, option_map}
@@ -9,8 +9,7 @@ use Rattle.pg_edges.specs.declared.key.Key.{Key}
 use Rattle.pg_edges.specs.Keys.{tag_in, without}
 use Rattle.pg_edges.specs.Edges.{AreCleanBelow, AscendFrom, IsEdgeAt, acked, are_clean, edge_to, is_none, keys_if_born, peers, tag_at, tag_of, taken_off}
 use Rattle.pg_edges.specs.EdgesInside.{AreSound}
-use Rattle.pg_edges.proofs.Lists.{edge_to-at}
-use Rattle.pg_edges.proofs.Edits.{takes_off, same_peers_keep}
+use Rattle.pg_edges.proofs.Edits.{takes_off}
 
 -- ---- edges without a key
 

@@ -25,7 +25,7 @@ set_by k v w e es Less o s there more = absurd (let none : lookup (is_at (file_c
 set_by k v w e es Equal o s there more = refl
 set_by k v w e es Greater o s there more = ap (λ xs. e ∷ xs) (more (sym (ap (λ r. cond (is_eq r) (Some e.1) (lookup (is_at (file_cmp k)) es)) o) ∙ there))
 
-insert_there : (k : FileId) (v w : Entry) (es : List (FileId × Entry)) → IsStrictlySortedBy file_cmp (keys_of es) → lookup (is_at (file_cmp k)) es ≡ Some v → insert_entry file_cmp es k w ≡ set_value (is_at (file_cmp k)) es w
+pub insert_there : (k : FileId) (v w : Entry) (es : List (FileId × Entry)) → IsStrictlySortedBy file_cmp (keys_of es) → lookup (is_at (file_cmp k)) es ≡ Some v → insert_entry file_cmp es k w ≡ set_value (is_at (file_cmp k)) es w
 insert_there k v w [] s there = cc
 insert_there k v w (e ∷ es) s there =
     set_by k v w e es (file_cmp k e.0) refl s there (insert_there k v w es (sorted_tail file_cmp e.0 (keys_of es) s))

@@ -1,5 +1,5 @@
 -- The names that a directory shows.
-use Rattle.std.specs.Prelude.{ℕ, Bool, ◌≡◌, ◌&&◌, true, false, if◌then◌else◌, List, ◌++◌, map, Option, None, Some}
+use Rattle.std.specs.Prelude.{ℕ, Bool, ◌≡◌, ◌&&◌, true, false, if◌then◌else◌, List, [], ◌∷◌, ◌++◌, map, Option, None, Some}
 use Rattle.std.specs.Ordering.{nat_cmp, ordering_then, is_lt}
 use Rattle.std.specs.declared.cmp.Ordering.{Ordering}
 use Rattle.std.specs.Cmp.Lexicographic.{slice_cmp}
@@ -64,6 +64,21 @@ rows_of entries dir = map (row_of entries dir) (children_of entries dir)
 -- by the bytes of the name, and then by child
 abbrev pub row_cmp : Row → Row → Ordering
 row_cmp a b = ordering_then (slice_cmp nat_cmp a.name b.name) (file_cmp a.child b.child)
+
+-- these rows and one more, behind those that go before it
+abbrev pub insert_row : List Row → Row → List Row
+insert_row [] row = row ∷ []
+insert_row (held ∷ rows) row =
+    if is_lt (row_cmp held row) then held ∷ insert_row rows row else row ∷ held ∷ rows
+
+-- the rows in order
+abbrev pub rows_in_order : List Row → List Row
+rows_in_order [] = []
+rows_in_order (row ∷ rows) = insert_row (rows_in_order rows) row
+
+-- what a directory shows: the rows in the byte order of their names
+abbrev pub listing_of : List (FileId × Entry) → FileId → List Row
+listing_of entries dir = rows_in_order (rows_of entries dir)
 
 -- no two of the children that the directory lists show one name, where each has a name as in a run
 abbrev pub ShownNamesDiffer : List (FileId × Entry) → FileId → Type 0

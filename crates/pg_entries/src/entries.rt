@@ -1,11 +1,11 @@
 //! What a directory knows of its children.
 
-ghost use Rattle.std.specs.Prelude.{◌≡◌, ◌≢◌, ◌↔◌, [], IfOk, OnOk, IsTrue, length, slice_get, true, IfSome, IfNone};
+ghost use Rattle.std.specs.Prelude.{◌≡◌, ◌≢◌, ◌↔◌, [], IfOk, OnOk, OnErr, IsTrue, length, slice_get, true, IfSome, IfNone};
 ghost use Rattle.std.specs.List.{find};
 ghost use Rattle.std.specs.Ordering.{is_lt};
 ghost use Rattle.std.specs.Option.{option_copied, option_map};
 ghost use Rattle.std.specs.Map.{values_of};
-ghost use Rattle.pg_entries.specs.Entry.{IsByChild, brings, entry_of, is_listed, join_entry, lists};
+ghost use Rattle.pg_entries.specs.Entry.{IsByChild, brings, count_listed, covers_entry, entry_of, is_listed, join_entry, lists, lists_any, put_entry};
 ghost use Rattle.pg_entries.specs.Shown.{claim_of, find_of, first_claim, is_beaten, is_hidden, is_rival, lesser, shows};
 ghost use Rattle.pg_entries.specs.Names.{same_name};
 
@@ -50,7 +50,8 @@ impl Entries {
     }
 
     pub fn count(&self) -> usize
-        ensures { result ≡ length self.now }
+        ensures count { result ≡ length self.now }
+        ensures by_child { IsByChild self.now }
     {
         self.entries.len()
     }
@@ -68,6 +69,44 @@ impl Entries {
         ensures by_child { IsByChild self.now }
     {
         self.entries.values().nth(k)
+    }
+
+    /// The entries, to go through them by child.
+    pub fn as_map(&self) -> &BTreeMap<FileId, Entry>
+        ensures entries { result.now.entries ≡ self.now }
+        ensures by_child { IsByChild self.now }
+    {
+        let _count = self.count();
+        &self.entries
+    }
+
+    /// Whether the directory lists a child.
+    pub fn lists_any(&self, dir: FileId) -> bool
+        ensures { result ≡ lists_any self.now dir }
+    {
+        self.entries.values().any(|entry| entry.is_listed(dir))
+    }
+
+    /// How many children the directory lists.
+    pub fn count_listed(&self, dir: FileId) -> usize
+        ensures { result ≡ count_listed self.now dir }
+    {
+        self.entries
+            .values()
+            .filter(|entry| entry.is_listed(dir))
+            .count()
+    }
+
+    /// Whether to join the entry would change nothing.
+    pub fn covers(&self, entry: &Entry) -> bool
+        ensures covers { result ≡ covers_entry self.now entry.now }
+        ensures no_change { IsTrue result ↔ (join_entry self.now entry.now ≡ self.now) }
+    {
+        let _count = self.count();
+        match self.get(entry.child) {
+            Some(held) => held.covers(entry),
+            None => false,
+        }
     }
 
     /// Whether the directory lists the child.
@@ -94,6 +133,15 @@ impl Entries {
                 Ok(true)
             }
         }
+    }
+
+    /// Makes this entry the one of its child.
+    pub fn put(&mut self, entry: Entry) -> Result<(), AllocError>
+        ensures ok { OnOk result (self.new ≡ put_entry self.old entry) }
+        ensures err { OnErr result (self.new ≡ self.old) }
+    {
+        self.entries.insert(entry.child, entry)?;
+        Ok(())
     }
 
     /// The child that shows this name in the directory.

@@ -1,7 +1,7 @@
 //! What a directory knows of one child.
 
 ghost use Rattle.std.specs.Prelude.{◌≡◌, ◌≢◌, ◌↔◌, IfOk, OnOk, IsTrue};
-ghost use Rattle.pg_entries.specs.Entry.{brings_change, is_listed, joined};
+ghost use Rattle.pg_entries.specs.Entry.{brings_change, covers, is_listed, joined};
 
 use pg_base::FileId;
 use pg_register::{GoldFlags, Place};
@@ -21,6 +21,14 @@ impl Entry {
         ensures { result ≡ is_listed dir self.now }
     {
         self.place.live && self.place.parent.compare(&dir).is_eq()
+    }
+
+    /// Whether to join the other would change nothing.
+    pub fn covers(&self, other: &Entry) -> bool
+        ensures covers { result ≡ covers self.now other.now }
+        ensures no_change { IsTrue result ↔ (joined self.now other.now ≡ self.now) }
+    {
+        !self.place.stamp.is_before(other.place.stamp) && self.flags.covers_all(&other.flags)
     }
 
     /// Takes the newer place and the newer flags. Tells whether something changed. After want of

@@ -12,5 +12,5 @@ mod tilde;
 pub use cell::Cell;
 pub use entries::Entries;
 pub use entry::Entry;
-pub use laws::shown_names_differ;
+pub use laws::{entries_are_found, shown_names_differ};
 pub use listing::Listing;

@@ -1,9 +1,9 @@
 //! The names that a directory shows, in order.
 
-ghost use Rattle.std.specs.Prelude.{◌≡◌, IfOk, map};
+ghost use Rattle.std.specs.Prelude.{◌≡◌, IfOk, map, take, drop};
 ghost use Rattle.std.specs.List.Sorted.{IsPermutation, IsSortedBy};
 ghost use Rattle.std.specs.Ordering.{is_lt};
-ghost use Rattle.pg_entries.specs.Shown.{row_cmp, row_of, rows_of, shown_name};
+ghost use Rattle.pg_entries.specs.Shown.{listing_of, row_cmp, row_of, rows_of, shown_name};
 ghost use Rattle.pg_entries.specs.Firsts.{Firsts};
 
 use crate::claim::Claim;
@@ -29,8 +29,9 @@ fn compare(row: &Row, other: &Row) -> Ordering
 
 impl Entries {
     /// The children that the directory lists, each with the name that it shows, in the byte order
-    /// of these names.
+    /// of these names. The time is that of sorting them.
     pub fn listing(&self, dir: FileId) -> Result<Listing, AllocError>
+        ensures listing { IfOk result (λ rows. rows ≡ listing_of self.now dir) }
         ensures rows { IfOk result (λ rows. IsPermutation (rows_of self.now dir) rows) }
         ensures in_order { IfOk result (λ rows. IsSortedBy (λ a b. is_lt (row_cmp a b)) rows) }
     {
@@ -38,6 +39,17 @@ impl Entries {
         let mut rows = self.rows(dir, &firsts)?;
         rows.sort_by(|a, b| compare(a, b))?;
         Ok(Items::from_vec(rows))
+    }
+
+    /// At most so many rows of the listing, from an index on. The time is that of the listing.
+    pub fn page(&self, dir: FileId, from: usize, most: usize) -> Result<Listing, AllocError>
+        ensures { IfOk result (λ rows. rows ≡ take most (drop from (listing_of self.now dir))) }
+    {
+        let mut rows = self.listing(dir)?.into_vec();
+        let first = from.min(rows.len());
+        let mut page = rows.split_off(first)?;
+        page.truncate(most);
+        Ok(Items::from_vec(page))
     }
 
     /// The first claim on each name that a child in the directory has.

@@ -60,6 +60,36 @@ fn edges_stand_by_peer(rt: HostRuntime) -> Result<(), Fail> {
 }
 
 #[test]
+fn an_edge_is_taken_out(rt: HostRuntime) -> Result<(), Fail> {
+    let mut edges = Edges::with_capacity(rt.alloc(), 2)?;
+    let mut tags = 1;
+    edges.link(2, 1, &[Key::Place], &mut tags)?;
+    edges.link(3, 4, &[], &mut tags)?;
+    edges.take_out(5);
+    assert_eq!(rt; edges.len(), 2);
+    edges.take_out(2);
+    assert_eq!(rt; edges.at(0).map(|e| e.peer), Some(3));
+    assert_eq!(rt; edges.len(), 1);
+    Ok(())
+}
+
+#[test]
+fn keys_of_entries_are_seen(rt: HostRuntime) -> Result<(), Fail> {
+    let child = FileId {
+        kind: Kind::File,
+        server: 1,
+        number: 1,
+    };
+    let mut keys = Keys::new(rt.alloc());
+    assert!(rt; !keys.has_entry());
+    keys.set(Key::Place, 1)?;
+    assert!(rt; !keys.has_entry());
+    keys.set(Key::Entry(child), 2)?;
+    assert!(rt; keys.has_entry());
+    Ok(())
+}
+
+#[test]
 fn keys_are_ordered(rt: HostRuntime) {
     let file = FileId {
         kind: Kind::File,

@@ -1,5 +1,5 @@
 use pg_base::{FileId, Kind, Shared, SharedBytes, Stamp};
-use pg_entries::{Cell, Entries, Entry};
+use pg_entries::{Cell, Entries, Entry, Listing};
 use pg_register::{GoldFlags, Place};
 use std::alloc::{AllocError, Global};
 use std::test::Fail;
@@ -56,15 +56,54 @@ fn finds_what_is_shown(rt: HostRuntime) -> Result<(), Fail> {
     Ok(())
 }
 
-#[test]
-fn lists_in_byte_order(rt: HostRuntime) -> Result<(), Fail> {
-    let rows = three(rt.alloc())?.copy()?.listing(ROOT)?;
-    let mut names = Vec::new(rt.alloc());
+fn names(alloc: Global, rows: &Listing) -> Result<Vec<u8>, AllocError> {
+    let mut names = Vec::new(alloc);
     for row in rows.as_slice() {
         names.extend_from_slice(row.name.as_slice())?;
         names.push(b' ')?;
     }
-    assert_eq!(rt; names.as_slice(), b"x x! x~f1.1 ".as_slice());
+    Ok(names)
+}
+
+#[test]
+fn lists_in_byte_order(rt: HostRuntime) -> Result<(), Fail> {
+    let rows = three(rt.alloc())?.copy()?.listing(ROOT)?;
+    assert_eq!(rt;
+        names(rt.alloc(), &rows)?.as_slice(),
+        b"x x! x~f1.1 ".as_slice()
+    );
+    Ok(())
+}
+
+#[test]
+fn lists_a_page(rt: HostRuntime) -> Result<(), Fail> {
+    let entries = three(rt.alloc())?;
+    for (from, most, want) in [
+        (0, 2, b"x x! ".as_slice()),
+        (1, 100, b"x! x~f1.1 "),
+        (3, 1, b""),
+        (9, 1, b""),
+    ] {
+        let page = entries.page(ROOT, from, most)?;
+        assert_eq!(rt; names(rt.alloc(), &page)?.as_slice(), want);
+    }
+    assert_eq!(rt; entries.count_listed(ROOT), 3);
+    assert!(rt; entries.lists_any(ROOT));
+    assert!(rt; !entries.lists_any(file(1)));
+    Ok(())
+}
+
+#[test]
+fn puts_the_whole_entry(rt: HostRuntime) -> Result<(), Fail> {
+    let mut entries = Entries::new(rt.alloc());
+    entries.put(entry(rt.alloc(), 1, 12, b"x")?)?;
+    let older = entry(rt.alloc(), 1, 11, b"y")?;
+    assert!(rt; entries.covers(&older));
+    entries.put(older)?;
+    assert!(rt; !entries.covers(&entry(rt.alloc(), 1, 12, b"x")?));
+    assert!(rt; !entries.covers(&entry(rt.alloc(), 2, 1, b"x")?));
+    assert_eq!(rt; entries.find(ROOT, b"y"), Some(file(1)));
+    assert_eq!(rt; entries.as_map().len(), 1);
     Ok(())
 }
 

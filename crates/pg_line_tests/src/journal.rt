@@ -280,6 +280,30 @@ fn a_hundred_names_are_listed_at_once(rt: HostRuntime) -> Result<(), Fail> {
     Ok(())
 }
 
+/// A journal of one call that reads so many bytes.
+fn one_reading(alloc: Global, bytes: usize) -> Result<Bytes, Fail> {
+    let mut text = Bytes::from_slice(alloc, b"call 1 read -> bytes ")?;
+    for _ in 0..bytes {
+        text.extend(b"61")?;
+    }
+    text.push(b'\n')?;
+    Ok(text)
+}
+
+/// The most bytes that one read brings are written and read again, and no more are.
+#[test]
+fn one_read_has_a_limit(rt: HostRuntime) -> Result<(), Fail> {
+    let most = one_reading(rt.alloc(), 32_768)?;
+    let again = copied(rt.alloc(), most.as_slice())?;
+    assert!(rt; again.as_slice() == most.as_slice());
+    let more = one_reading(rt.alloc(), 32_769)?;
+    assert_eq!(rt;
+        first_other(rt.alloc(), more.as_slice()),
+        Some((1, Fault::Verb))
+    );
+    Ok(())
+}
+
 /// A journal of one version with so many bytes in one part.
 fn one_version(alloc: Global, bytes: usize) -> Result<Bytes, Fail> {
     let mut text = Bytes::new(alloc);

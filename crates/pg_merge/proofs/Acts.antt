@@ -1,11 +1,9 @@
 -- A write and a tick keep that each server stands for what came to it.
-use Rattle.std.proofs.Common.{[], ℕ, ◌≡◌, ◌≢◌, ◌<◌, ◌≤◌, ◌+◌, ◌^◌, ◌==◌, ◌&&◌, Bool, true, false, cond, Option, Some, List, ◌∷◌, ◌++◌, refl, sym, subst, ◌∙◌, inl, inr, arith, All}
-use Rattle.std.specs.Prelude.{nat_lt, nat_le}
+use Rattle.std.proofs.Common.{[], ℕ, ◌≡◌, ◌≢◌, ◌<◌, ◌≤◌, ◌+◌, ◌^◌, ◌==◌, Bool, true, false, cond, Option, Some, List, ◌∷◌, ◌++◌, refl, sym, subst, ◌∙◌, inl, inr, arith, All}
+use Rattle.std.specs.Prelude.{not}
 use Rattle.std.proofs.lemmas.Bool.{ne_eqb, eq-eqb, and_parts}
-use Rattle.std.proofs.lemmas.Bool.Decides.{nat_tests}
 use Rattle.pg_base.specs.declared.id.FileId.{FileId}
 use Rattle.pg_base.specs.declared.stamp.Stamp.{Stamp}
-use Rattle.pg_base.specs.Stamp.{clock_end}
 use Rattle.pg_content.specs.Content.{Among}
 use Rattle.pg_content.specs.History.{IsHistory, IsMember}
 use Rattle.pg_flood.specs.World.{after}
@@ -19,8 +17,8 @@ use Rattle.pg_call.specs.declared.reply.Reply.{Reply}
 use Rattle.pg_call.specs.declared.reply.Reply.TheVariants.{Done, Refused}
 use Rattle.pg_replica.specs.declared.store.Store.{Store}
 use Rattle.pg_node.specs.Local.{Effect, after_call, tick_in_time}
-use Rattle.pg_replica.specs.Replica.{has_room}
-use Rattle.pg_replica.specs.Store.{has_time, replica_of}
+use Rattle.pg_replica.specs.Replicas.{have_own_end}
+use Rattle.pg_replica.specs.Store.{has_time, is_in_time, replica_of}
 use Rattle.pg_calls.specs.Writes.{ranges_of, write, write_where_fit, refusal, do_change, Answer}
 use Rattle.pg_replica.specs.Replica.{has_many_actors, is_too_long}
 use Rattle.pg_repair.specs.Ticks.{tick, unacknowledged_cells}
@@ -29,7 +27,7 @@ use Rattle.pg_node.specs.Run.{World, effect_step, world_after}
 use Rattle.pg_merge.proofs.Histories.{AreMade, member_later, one_more_made, own_file}
 use Rattle.pg_merge.proofs.Taking.{held_version}
 use Rattle.pg_merge.proofs.States.{IsServer, Stands, none_drawn, stands_later}
-use Rattle.pg_merge.proofs.Writing.{IsWrite, next_update}
+use Rattle.pg_merge.proofs.Writing.{IsWrite, last_time, next_update}
 use Rattle.pg_merge.proofs.Sending.{AllCarry, IsFrom, all_carry_more, from_carry, no_cells, tick_from}
 use Rattle.pg_merge.proofs.Inputs.{new_update, wrote_from, wrote_stands}
 use Rattle.pg_merge.proofs.Events.{AreDated, IsSound, among_choice, by_server, dated_after, more_known, none_sent, passive_keeps, server_of, still_carried, unchanged}
@@ -46,9 +44,10 @@ no_marks false = refl
 pub apart : (s t : ℕ) → t ≢ s → (s == t) ≡ false
 apart s t h = ne_eqb s t (λ e. h (sym e))
 
-pub in_time : (last tags : ℕ) → has_time last tags ≡ true → last < 2 ^ 62
-in_time last tags h = let l = (and_parts (nat_lt last clock_end) (nat_le tags clock_end) h).0 in
-    grind (arith, nat_tests)
+in_time : (a : Store) → is_in_time a ≡ true → a.last < 2 ^ 62
+in_time a h =
+    last_time a.last a.tags
+    (and_parts (has_time a.last a.tags) (not (have_own_end a.replicas a.server)) h).0
 
 -- one of the servers acts, in a sound world
 module _ (n : ℕ) (w : World) (whole : AreWhole n w) (k : IsSound n w) (s : ℕ)
@@ -214,11 +213,9 @@ module _ (n : ℕ) (w : World) (whole : AreWhole n w) (k : IsSound n w) (s : ℕ
     pub write_keeps : n < 2 ^ 32 → AfterAnswer (do_change actor file what work)
     write_keeps small =
         let x = replica_of actor file in
-        let room = has_room x actor.server in
-        tested AfterAnswer (has_time actor.last actor.tags && room)
+        tested AfterAnswer (is_in_time actor)
         (write_where_fit actor file x new.stamp new.ranges work) (refusal actor work ClockEnd)
-        (λ t. write_unless small
-        (in_time actor.last actor.tags (and_parts (has_time actor.last actor.tags) room t).0))
+        (λ t. write_unless small (in_time actor t))
         (write_refused ClockEnd)
 
   -- ---- a tick
@@ -252,7 +249,7 @@ module _ (n : ℕ) (w : World) (whole : AreWhole n w) (k : IsSound n w) (s : ℕ
     pub tick_keeps : AfterTick (after_call (tick_in_time actor (new_work moment 0)))
     tick_keeps =
         let work = new_work moment 0 in
-        chosen (λ (answer : Answer). AfterTick (after_call answer)) (has_time actor.last actor.tags)
+        chosen (λ (answer : Answer). AfterTick (after_call answer)) (is_in_time actor)
         (record { store = actor; work = (tick actor work).work; reply = Done })
         (refusal actor work ClockEnd)
         (tick_sent (Some Done) (unacknowledged_cells actor) heads_carried)

@@ -8,6 +8,7 @@ use Rattle.pg_content.specs.History.{IsMember}
 use Rattle.pg_edges.specs.Edges.{is_listed}
 use Rattle.pg_msg.specs.declared.message.Ends.{Ends}
 use Rattle.pg_msg.specs.declared.message.Message.{Message}
+use Rattle.pg_msg.specs.Numbers.{is_in_range}
 use Rattle.pg_msg.specs.View.{TaggedCell, view}
 use Rattle.pg_msg.specs.declared.message.Sent.{Sent}
 use Rattle.pg_msg.specs.declared.update.MadeVersion.{MadeVersion}
@@ -15,7 +16,7 @@ use Rattle.pg_event.specs.declared.event.Event.TheVariants.{Deliver}
 use Rattle.pg_replica.specs.declared.store.Store.{Store}
 use Rattle.pg_node.specs.Local.{Effect, after_message, receive_in_time}
 use Rattle.pg_replica.specs.Store.{has_time, replica_of}
-use Rattle.pg_node.specs.Journal.{Mark, marks_in, bag, marks_at, marks_from, carried_by, cell_count, tag_count, history, last_of, made_for, message_at, without}
+use Rattle.pg_node.specs.Journal.{Mark, marks_in, bag, brought_by, marks_at, marks_from, carried_by, cell_count, tag_count, history, last_of, made_for, message_at, without}
 use Rattle.pg_node.specs.Run.{World, effect_step, world_after}
 use Rattle.pg_merge.proofs.States.{IsServer, Stands}
 use Rattle.pg_merge.proofs.Sending.{from_carry, no_cells}
@@ -103,7 +104,8 @@ module _ (n : ℕ) (w : World) (whole : AreWhole n w) (k : IsSound n w) (number 
       (cell_count m.to arrival.out.sent + tag_count m.to w.journal)) in
       subst P (sym (marks_then_is m.to
       ∙ ap (λ t. cond (t && going m.to) carried []) (eq-eqb m.to m.to refl)))
-      (arrived_stands receiver_is m.packet.from m.packet.message carries_now edge)
+      (arrived_stands receiver_is m.packet.from m.packet.message carries_now edge
+      (whole.stores m.to).order)
 
   pub deliver_keeps : IsSound n (world_after w (effect_step w (Deliver number) m.to arrival))
   deliver_keeps =
@@ -118,7 +120,8 @@ module _ (n : ℕ) (w : World) (whole : AreWhole n w) (k : IsSound n w) (number 
             passive.from;
         came = λ t x l. carried_member (history w.journal) (view m.packet.message).edge
             (view m.packet.message).brings carries_now x
-            (among_choice x (m.to == t && going t) carried (subst (Among x) (marks_then_is t) l));
+            (among_choice x (is_in_range m.packet.message) (brought_by m.packet.message)
+            (among_choice x (m.to == t && going t) carried (subst (Among x) (marks_then_is t) l)));
         carried = still_carried (history w.journal)
             (without (bag w.journal) number (message_at (bag w.journal) number)) arrival.out.sent
             (left_carried n w number k)

@@ -2,6 +2,9 @@
 use Rattle.std.proofs.Common.{[], ℕ, ◌≡◌, ◌≤◌, ◌+◌, Bool, true, false, cond, Option, None, Some, List, ◌∷◌, ◌++◌, length, refl, sym, ap, subst, ◌∙◌, arith, All}
 use Rattle.std.proofs.lemmas.Bool.{cond_both}
 use Rattle.std.proofs.lemmas.List.Elements.{All-nil, All-cons}
+use Rattle.std.specs.List.Sorted.{IsStrictlySortedBy}
+use Rattle.std.specs.Map.{keys_of}
+use Rattle.pg_base.specs.Id.{file_cmp}
 use Rattle.pg_base.specs.declared.id.FileId.{FileId}
 use Rattle.pg_base.specs.Id.{is_same_file}
 use Rattle.pg_base.specs.Stamp.{next_stamp}
@@ -15,25 +18,26 @@ use Rattle.pg_entries.specs.declared.cell.Cell.TheVariants as cells
 use Rattle.pg_msg.specs.declared.message.Ends.{Ends}
 use Rattle.pg_msg.specs.declared.message.Message.{Message}
 use Rattle.pg_msg.specs.declared.message.Message.TheVariants as message
+use Rattle.pg_msg.specs.Numbers.{is_in_range}
 use Rattle.pg_msg.specs.View.{view}
 use Rattle.pg_msg.specs.declared.message.Sent.{Sent}
 use Rattle.pg_msg.specs.declared.update.MadeVersion.{MadeVersion}
 use Rattle.pg_replica.specs.declared.store.Store.{Store}
-use Rattle.pg_node.specs.Local.{Effect, finish_with, after_message, after_call, receive, handle, receive_in_time}
+use Rattle.pg_node.specs.Local.{Effect, finish_with, after_message, after_call, receive, handle, receive_in_range, receive_in_time}
 use Rattle.pg_edges.specs.declared.key.Key.{Key}
 use Rattle.pg_repair.specs.Acks.{ack}
 use Rattle.pg_repair.specs.Cells.{ack_to, with_answer, cell}
 use Rattle.pg_replica.specs.Replica.{own_actor}
 use Rattle.pg_repair.specs.Sending.{cells as version_cells}
-use Rattle.pg_replica.specs.Store.{has_time, held_content, with_news, replica_at, replica_of}
+use Rattle.pg_replica.specs.Store.{has_time, is_in_time, held_content, with_news, replica_at, replica_of}
 use Rattle.pg_repair.specs.Done.{Done, idle, link_of, where_linked}
 use Rattle.pg_calls.specs.Writes.{write, Answer, update_of}
-use Rattle.pg_node.specs.Journal.{Mark, carried_by, cell_count, last_of, made_for, made_of, stamps_for}
+use Rattle.pg_node.specs.Journal.{Mark, brought_by, carried_by, cell_count, last_of, made_for, made_of, stamps_for}
 use Rattle.pg_node.specs.Laws.{IsVersionOf}
 use Rattle.pg_merge.proofs.Taking.{HoldsFile, file_joined, held_version}
 use Rattle.pg_merge.proofs.States.{IsServer, Stands, answered_same, came_members, covered_upto, held_put, mark, none_drawn, stands_came, stands_held, stands_wrote}
 use Rattle.pg_node.proofs.Choices.{chosen, decided, is_linked, linked}
-use Rattle.pg_merge.proofs.Writing.{IsWrite, next_file}
+use Rattle.pg_merge.proofs.Writing.{IsWrite, next_file, time_is_last}
 use Rattle.pg_merge.proofs.Sending.{IsFrom, ack_from, count_ack, count_cells, HoldsMade, finish_from}
 use Rattle.pg_node.specs.Laws.{Carries}
 use Rattle.pg_msg.specs.declared.work.Work.{Work}
@@ -255,7 +259,7 @@ module _ {s : ℕ} {a : Store} {us : List MadeVersion} {marks : List Mark} {draw
         none_drawn (stands_held same k.stands),
       )
 
-  handle_keeps : (m : Message) → Carries us m → Keeps (carried_by m) (handle a m work)
+  handle_keeps : (m : Message) → Carries us m → Keeps (brought_by m) (handle a m work)
   handle_keeps (message.Cell ends tag (cells.Version v policy)) c =
       (cell_passive k from ends tag v c, cell_stands k from ends tag v c)
   handle_keeps (message.Cell ends tag (cells.Place place)) c = idle_keeps
@@ -291,31 +295,41 @@ module _ {s : ℕ} {a : Store} {us : List MadeVersion} {marks : List Mark} {draw
       → IsPassive s a us (after_message (receive_in_time a m work))
   arrived_passive m c =
       let P : Done → Type 0 = (λ done. IsPassive s a us (after_message done)) in
-      chosen P (has_time a.last a.tags) (receive a m work) (idle a work)
+      chosen P (is_in_time a) (receive_in_range a m work) (idle a work)
+      (chosen P (is_in_range m) (receive a m work) (idle a work)
       (linked P a (view m).edge work (handle a m work) (λ e. (handle_keeps m c).0) idle_keeps.0)
+      idle_keeps.0)
       idle_keeps.0
 
   received_stands : (m : Message) → Carries us m → IsAlongEdge a from m
-      → StandsAfter s us marks drawn (carried_by m) (after_message (receive a m work))
+      → StandsAfter s us marks drawn (brought_by m) (after_message (receive a m work))
   received_stands m c along =
       let P : Done → Type 0 =
-      (λ done. StandsAfter s us marks drawn (carried_by m) (after_message done)) in
+      (λ done. StandsAfter s us marks drawn (brought_by m) (after_message done)) in
       done_where P a (view m).edge work (handle a m work) along (handle_keeps m c).1
+
+  -- where its numbers are in range or not
+  ranged_stands : (r : Bool) (m : Message) → Carries us m → IsAlongEdge a from m
+      → StandsAfter s us marks drawn (cond r (brought_by m) [])
+      (after_message (cond r (receive a m work) (idle a work)))
+  ranged_stands true m c along = received_stands m c along
+  ranged_stands false m c along = idle_keeps.1
 
   going_stands : (t : Bool) (m : Message) → Carries us m → IsAlongEdge a from m
       → StandsAfter s us marks drawn (cond t (carried_by m) [])
-      (after_message (cond t (receive a m work) (idle a work)))
-  going_stands true m c along = received_stands m c along
+      (after_message (cond t (receive_in_range a m work) (idle a work)))
+  going_stands true m c along = ranged_stands (is_in_range m) m c along
   going_stands false m c along = idle_keeps.1
 
   -- a version that comes is taken, if the clock is not at its end
   pub arrived_stands : (m : Message) → Carries us m → IsAlongEdge a from m
+      → IsStrictlySortedBy file_cmp (keys_of a.replicas)
       → StandsAfter s us marks drawn (cond (has_time (last_of marks) (drawn + 1)) (carried_by m) [])
       (after_message (receive_in_time a m work))
-  arrived_stands m c along =
-      let same : has_time a.last a.tags ≡ has_time (last_of marks) (drawn + 1) =
-      ap (λ n. has_time n a.tags) k.stands.last ∙ ap (has_time (last_of marks)) k.stands.tags in
+  arrived_stands m c along sorted =
+      let same : is_in_time a ≡ has_time (last_of marks) (drawn + 1) =
+      time_is_last k sorted ∙ ap (λ n. has_time n a.tags) k.stands.last ∙ ap (has_time (last_of marks)) k.stands.tags in
       let P : Bool → Type 0 =
       (λ t. StandsAfter s us marks drawn (cond t (carried_by m) [])
       (after_message (receive_in_time a m (new_work 0 from)))) in
-      subst P same (going_stands (has_time a.last a.tags) m c along)
+      subst P same (going_stands (is_in_time a) m c along)

@@ -2,6 +2,7 @@ pub mod Histories
 pub mod Marks
 pub mod Taking
 pub mod States
+mod Vectors
 pub mod Writing
 pub mod Sending
 pub mod Inputs

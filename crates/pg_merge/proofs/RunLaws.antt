@@ -18,15 +18,15 @@ use Rattle.pg_event.specs.declared.entry.VoidCause.TheVariants.{NoMessage, NoSer
 use Rattle.pg_replica.specs.Store.{has_time, held_content}
 use Rattle.pg_replica.specs.Untouched.{policy_of}
 use Rattle.pg_node.specs.Journal.{Mark, bag, bag_after, marks_at, marks_from, tag_count, tag_count_by, history, last_of, message_at, stamps_for, state_of, taken, versions, without}
-use Rattle.pg_node.specs.Laws.{AncestryByVectors, CarriesHistory, ClockEndsFirst, HoldsWhatItTook, IsOfHistory, MakesHistories, OneVersionAStamp, StateIsDetermined, StateIsItsHeads, TakesWhatCame, store_after}
+use Rattle.pg_node.specs.Laws.{AncestryByVectors, CarriesHistory, ClockEndsFirst, HoldsWhatItTook, IsOfHistory, MakesHistories, OneVersionAStamp, StateIsDetermined, StateIsItsHeads, TakesWhatCame}
 use Rattle.pg_node.specs.Run.{World, effect_step, delivery_step, world_after, is_server, bag_step, next, run, run_from, start, idle_step}
 use Rattle.pg_node.proofs.HoldsHistory.{HoldsHistory}
 use Rattle.pg_merge.proofs.Marks.{AreMembers, came_stamp, known_members, stamp_came, taken_closed, taken_within, within_taken}
-use Rattle.pg_merge.proofs.Writing.{room_in_time}
+use Rattle.pg_merge.proofs.Writing.{time_is_last}
 use Rattle.pg_merge.proofs.Sending.{AllCarry}
 use Rattle.pg_node.specs.Laws.{Carries}
 use Rattle.pg_merge.proofs.Events.{IsSound, marks_then, left_carried, none_sent, server_of, sound_start, still_carried, still_keeps}
-use Rattle.pg_merge.proofs.Acts.{in_time, no_marks, tick_keeps, write_keeps}
+use Rattle.pg_merge.proofs.Acts.{no_marks, tick_keeps, write_keeps}
 use Rattle.pg_merge.proofs.Arrivals.{deliver_keeps}
 use Rattle.pg_node.proofs.Bags.{at_message, left_copied}
 use Rattle.pg_node.proofs.Choices.{tested}
@@ -234,8 +234,7 @@ one_version_a_stamp n small events u v h k same =
 -- ---- the end of the clock
 
 pub clock_ends_first : (n : ℕ) → n < 2 ^ 32 → ClockEndsFirst n
-clock_ends_first n small events s file least most time =
-    let a = store_after n events s in
+clock_ends_first n small events s least most =
     let k = run_kept n small events in
-    room_in_time (server_of n (run n events) k.whole k.sound s
-    (record { least = least; most = most })) (in_time a.last a.tags time) file
+    time_is_last (server_of n (run n events) k.whole k.sound s
+    (record { least = least; most = most })) (k.whole.stores s).order

@@ -1,9 +1,13 @@
 -- A version that a server makes on all heads that it holds: it may be made, and the server stands
 -- for it from then on.
-use Rattle.std.proofs.Common.{ℕ, ◌≡◌, ◌<◌, ◌≤◌, ◌^◌, Bool, true, false, not, List, ◌∷◌, map, refl, sym, ap, subst, ◌∙◌, inl, inr, arith, lit<}
+use Rattle.std.proofs.Common.{ℕ, ◌≡◌, ◌<◌, ◌≤◌, ◌^◌, ◌&&◌, Bool, true, false, not, Some, List, ◌∷◌, map, get_or, refl, sym, ap, subst, ◌∙◌, inl, inr, arith, lit<}
 use Rattle.std.proofs.lemmas.Bool.Decides.{nat_tests}
-use Rattle.std.specs.List.{list_any}
-use Rattle.std.specs.Prelude.{nat_le}
+use Rattle.std.proofs.lemmas.Bool.{and_parts}
+use Rattle.std.proofs.lemmas.List.Folds.{list_any_none}
+use Rattle.std.specs.Prelude.{nat_le, nat_lt}
+use Rattle.std.specs.List.Sorted.{IsStrictlySortedBy}
+use Rattle.std.specs.Map.{keys_of}
+use Rattle.pg_base.specs.Id.{file_cmp}
 use Rattle.pg_base.specs.declared.id.FileId.{FileId}
 use Rattle.pg_base.specs.declared.stamp.Stamp.{Stamp}
 use Rattle.pg_base.specs.declared.vector.Actor.{Actor}
@@ -15,15 +19,18 @@ use Rattle.pg_content.specs.History.{IsAncestor, IsHistory, IsMember, IsNext, Ma
 use Rattle.pg_content.specs.StandsFor.{StandsFor}
 use Rattle.pg_content.proofs.Members.{among_map}
 use Rattle.pg_content.proofs.Numbers.{bases_from, made_of as member_made, more_cases, more_same, vector_here}
-use Rattle.pg_content.proofs.Members.{any_found}
 use Rattle.pg_content.proofs.Members.{among_all}
 use Rattle.pg_content.proofs.StandsWritten.{may_be_made, stands_written}
 use Rattle.pg_msg.specs.declared.update.MadeVersion.{MadeVersion}
 use Rattle.pg_replica.specs.declared.store.Store.{Store}
-use Rattle.pg_replica.specs.Replica.{has_room, own_actor}
-use Rattle.pg_replica.specs.Store.{held_content, replica_of}
+use Rattle.pg_replica.specs.declared.replica.Replica.{Replica}
+use Rattle.pg_replica.specs.Replica.{has_own_end, knows_own_end}
+use Rattle.pg_replica.specs.Replicas.{have_own_end, or_new}
+use Rattle.pg_replica.specs.Store.{has_time, held_content, home_of, is_in_time, replica_at, replica_of}
+use Rattle.pg_node.proofs.Found.{entries_known}
 use Rattle.pg_node.specs.Journal.{Mark, made_for, made_of, stamps_for, with_ancestors}
 use Rattle.pg_merge.proofs.Histories.{IsNextUpdate, update_of}
+use Rattle.pg_merge.proofs.Vectors.{IsSorted, none_at_end, sorted_vector}
 use Rattle.pg_merge.proofs.Taking.{HoldsFile, file_wrote}
 use Rattle.pg_merge.proofs.States.{IsServer, came_members, number_upto, taken_upto}
 
@@ -37,26 +44,44 @@ pub record IsWrite (s : ℕ) (a : Store) (us : List MadeVersion) (u : MadeVersio
   pub time : a.last < 2 ^ 62
   pub fresh : (v : MadeVersion) → Among v us → v.stamp ≡ u.stamp → ⊥
 
-not_true : (t : Bool) → (t ≡ true → ⊥) → not t ≡ true
-not_true true h = absurd (h refl)
-not_true false h = refl
+pub last_time : (last tags : ℕ) → has_time last tags ≡ true → last < 2 ^ 62
+last_time last tags h = let l = (and_parts (nat_lt last clock_end) (nat_le tags clock_end) h).0 in
+    grind (arith, nat_tests)
 
--- whether a head knows of a number of the actor that is at the clock's end
-abbrev is_full : Actor → VersionValue → Bool
-is_full q v = nat_le clock_end (number_at v.head.vector q)
+both_same : (t b : Bool) → (t ≡ true → b ≡ false) → (t && not b) ≡ t
+both_same true b h = ap not (h refl)
+both_same false b h = refl
 
 module _ {s : ℕ} {a : Store} {us : List MadeVersion} {marks : List Mark} {drawn : ℕ}
     (k : IsServer s a us marks drawn) where
-  -- before the end of the clock no number is at its end
-  pub room_in_time : a.last < 2 ^ 62 → (file : FileId)
-      → has_room (replica_of a file) a.server ≡ true
-  room_in_time time file =
-      let q = own_actor (replica_of a file) a.server in
-      not_true (list_any (is_full q) (held_content a file).heads) (λ e.
-      let x = any_found (is_full q) (held_content a file).heads e in
-      let upto = number_upto k file x.0 x.1 q in
-      let full = x.2 in
-      grind (arith, nat_tests))
+  -- before the last stamp no head knows a number at its end
+  head_ends_not : a.last < 2 ^ 62 → (file : FileId) (v : VersionValue)
+      → Among v (held_content a file).heads → has_own_end a.server v.head.vector ≡ false
+  head_ends_not time file v l =
+      let r = (k.stands.files file).stands.heads v l in
+      let sorted = subst IsSorted (sym (ap (λ (x : VersionValue). x.head.vector) r.version))
+      (sorted_vector (made_for file us) r.made.stamp) in
+      none_at_end a.server a.last v.head.vector sorted (number_upto k file v l) time
+
+  file_ends_not : a.last < 2 ^ 62 → (file : FileId) (x : Replica) → replica_at a file ≡ Some x
+      → knows_own_end a.server x ≡ false
+  file_ends_not time file x here =
+      let same : replica_of a file ≡ x = ap (or_new (home_of a) file) here in
+      let P : Replica → Type 0 = (λ y. knows_own_end a.server y ≡ false) in
+      subst P same
+      (list_any_none (λ (v : VersionValue). has_own_end a.server v.head.vector)
+      (held_content a file).heads
+      (among_all (λ (v : VersionValue). has_own_end a.server v.head.vector ≡ false)
+      (held_content a file).heads (head_ends_not time file)))
+
+  -- so the clock ends by its stamps or tags
+  pub time_is_last : IsStrictlySortedBy file_cmp (keys_of a.replicas)
+      → is_in_time a ≡ has_time a.last a.tags
+  time_is_last sorted =
+      both_same (has_time a.last a.tags) (have_own_end a.replicas a.server)
+      (λ t. list_any_none (λ (r : FileId × Replica). knows_own_end a.server r.1) a.replicas
+      (λ i d lt. file_ends_not (last_time a.last a.tags t) (get_or a.replicas i d).0
+      (get_or a.replicas i d).1 (entries_known a sorted i d lt)))
 
   module _ (u : MadeVersion) (i : IsWrite s a us u) where
     abbrev h : List Made

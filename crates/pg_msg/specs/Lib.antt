@@ -4,3 +4,4 @@ pub mod View
 pub mod Work
 pub mod UpdateText
 pub mod VersionWords
+pub mod Numbers

@@ -3,6 +3,7 @@
 
 mod key_word;
 mod message;
+mod numbers;
 mod ranges_word;
 mod summary;
 mod update;

@@ -1,6 +1,6 @@
 -- On complete graphs: what a server does with an input keeps its edges, and what it sends is of the
 -- run.
-use Rattle.std.proofs.Common.{ℕ, ◌≡◌, ◌≤◌, ◌&&◌, cond, List, [], ◌∷◌, ◌++◌, Option, None, Some, refl, sym, ◌∙◌, arith, All}
+use Rattle.std.proofs.Common.{ℕ, ◌≡◌, ◌≤◌, cond, List, [], ◌∷◌, ◌++◌, Option, None, Some, refl, sym, ◌∙◌, arith, All}
 use Rattle.std.proofs.lemmas.List.Elements.{All-append, All-nil, All-cons, All-push, All-weaker}
 use Rattle.pg_base.specs.declared.id.FileId.{FileId}
 use Rattle.pg_base.specs.declared.policy.Policy.{Policy}
@@ -13,8 +13,8 @@ use Rattle.pg_edges.specs.Keys.{tag_in}
 use Rattle.pg_patch.specs.Ranges.{RangesValue}
 use Rattle.pg_replica.specs.declared.replica.Replica.{Replica}
 use Rattle.pg_replica.specs.declared.store.Store.{Store}
-use Rattle.pg_replica.specs.Replica.{cell_at, covers, has_room, with_ack, with_head}
-use Rattle.pg_replica.specs.Store.{has_time, replica_at, replica_of, store_acked}
+use Rattle.pg_replica.specs.Replica.{cell_at, covers, with_ack, with_head}
+use Rattle.pg_replica.specs.Store.{is_in_time, replica_at, replica_of, store_acked}
 use Rattle.pg_replica.proofs.Heads.{keys_answer}
 use Rattle.pg_entries.specs.declared.cell.Cell.{Cell}
 use Rattle.pg_entries.specs.declared.cell.Cell.TheVariants as cells
@@ -24,6 +24,7 @@ use Rattle.pg_msg.specs.declared.message.Message.TheVariants as message
 use Rattle.pg_msg.specs.declared.message.Sent.{Sent}
 use Rattle.pg_msg.specs.declared.work.Touched.{Touched}
 use Rattle.pg_msg.specs.declared.work.Work.{Work}
+use Rattle.pg_msg.specs.Numbers.{is_in_range}
 use Rattle.pg_msg.specs.View.{view}
 use Rattle.pg_msg.specs.Work.{new_work}
 use Rattle.pg_call.specs.declared.change.Change.{Change}
@@ -39,7 +40,7 @@ use Rattle.pg_repair.specs.Ticks.{edge_cells, replica_cells, tick, unacknowledge
 use Rattle.pg_repair.specs.Finish.{present_cells, replica_sends, sent_with, touched_cells}
 use Rattle.pg_calls.specs.Writes.{Answer, do_change, ranges_of, refusal, write, write_where_fit}
 use Rattle.pg_replica.specs.Replica.{has_many_actors, is_too_long}
-use Rattle.pg_node.specs.Local.{Effect, after_call, after_message, finish_with, handle, receive, receive_in_time, tick_in_time}
+use Rattle.pg_node.specs.Local.{Effect, after_call, after_message, finish_with, handle, receive, receive_in_range, receive_in_time, tick_in_time}
 use Rattle.pg_node.proofs.Choices.{chosen, decided, linked, All-every, All-flat_map, found_replica}
 use Rattle.pg_node.proofs.Graphs.{IsEdge, edges_acked}
 use Rattle.pg_node.proofs.Wholes.{IsBetween, IsFull, IsOfRun, IsWhole, full_head, full_write, whole_full, whole_news, whole_put}
@@ -193,14 +194,14 @@ module _ (n s : ℕ) (least : 1 ≤ s) (most : s ≤ n) where
         let work = new_work now 0 in
         let stamp = next_stamp now a.last a.server in
         chosen (λ (done : Answer). IsEffect n s (after_call done))
-        (has_time a.last a.tags && has_room x a.server)
+        (is_in_time a)
         (write_where_fit a file x stamp (ranges_of what) work) (refusal a work ClockEnd)
         (unless_effect now file stamp (ranges_of what)) (refused_effect now ClockEnd)
 
     pub tick_effect : (now : ℕ) → IsEffect n s (after_call (tick_in_time a (new_work now 0)))
     tick_effect now =
         let work = new_work now 0 in
-        chosen (λ (done : Answer). IsEffect n s (after_call done)) (has_time a.last a.tags)
+        chosen (λ (done : Answer). IsEffect n s (after_call done)) (is_in_time a)
         (record { store = a; work = (tick a work).work; reply = reply.Done })
         (refusal a work ClockEnd)
         (finished a (tick a work).work (Some reply.Done) (record {
@@ -309,5 +310,7 @@ module _ (n s : ℕ) (least : 1 ≤ s) (most : s ≤ n) where
         let work = new_work 0 from in
         let done = receive_in_time a m work in
         finished done.store done.work None
-        (chosen IsDone (has_time a.last a.tags) (receive a m work)
-        (idle a work) (received from m h) (nothing_done a 0 from k))
+        (chosen IsDone (is_in_time a) (receive_in_range a m work) (idle a work)
+        (chosen IsDone (is_in_range m) (receive a m work) (idle a work) (received from m h)
+        (nothing_done a 0 from k))
+        (nothing_done a 0 from k))

@@ -15,6 +15,7 @@ use Rattle.pg_msg.specs.declared.message.Ends.{Ends}
 use Rattle.pg_msg.specs.declared.update.MadeVersion.{MadeVersion}
 use Rattle.pg_msg.specs.declared.update.Update.{Update}
 use Rattle.pg_msg.specs.declared.update.Update.TheVariants as update
+use Rattle.pg_msg.specs.Numbers.{is_in_range}
 use Rattle.pg_msg.specs.View.{TaggedCell, view}
 use Rattle.pg_event.specs.declared.event.Event.{Event}
 use Rattle.pg_event.specs.declared.event.Event.TheVariants.{Write, Call, Tick, Deliver, Lose, Repeat, Restart, Remove}
@@ -128,9 +129,13 @@ marks_in (Some ends) None = []
 marks_in (Some ends) (Some cell) =
     record { file = ends.file; stamp = cell.version.head.stamp } ∷ []
 
--- the version that a message carries, if it carries one
+-- the version that a message brings along an edge, if it brings one
+abbrev pub brought_by : Message → List Mark
+brought_by m = marks_in (view m).edge (view m).brings
+
+-- the version that it carries: none, if a number of it is out of range
 abbrev pub carried_by : Message → List Mark
-carried_by m = marks_in (view m).edge (view m).brings
+carried_by m = if is_in_range m then brought_by m else []
 
 -- the versions that were made
 abbrev pub marks_of : List MadeVersion → List Mark

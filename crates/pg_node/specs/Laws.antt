@@ -37,8 +37,7 @@ use Rattle.pg_event.specs.declared.event.Event.TheVariants.{Tick}
 use Rattle.pg_event.specs.declared.quiet.OwedKey.{OwedKey}
 use Rattle.pg_event.specs.declared.quiet.Quiet.TheVariants.{Quiet}
 use Rattle.pg_replica.specs.declared.store.Store.{Store}
-use Rattle.pg_replica.specs.Replica.{has_room}
-use Rattle.pg_replica.specs.Store.{has_time, held_content, replica_of}
+use Rattle.pg_replica.specs.Store.{has_time, held_content, is_in_time, replica_of}
 use Rattle.pg_node.specs.Local.{owed}
 use Rattle.pg_replica.specs.Untouched.{policy_of}
 use Rattle.pg_node.specs.Journal.{Mark, made_for, bag, marks_at, history, state_of, taken, versions}
@@ -159,18 +158,15 @@ OneVersionAStamp servers = (events : List Event) (u v : MadeVersion)
 
 -- its clock is not at its end
 abbrev pub HasTime : Store → Type 0
-HasTime a = has_time a.last a.tags ≡ true
+HasTime a = is_in_time a ≡ true
 
--- no head that the server holds of the file knows of a last number of the server's own
-abbrev pub HasRoom : Store → FileId → Type 0
-HasRoom a file = has_room (replica_of a file) a.server ≡ true
-
--- no server's versions come to their last number before its clock is at its end: so in a run a
--- write is refused for the clock's end exactly where no stamp or tag is left
+-- no server comes to the end of its numbers before it comes to the end of its stamps or tags: so in
+-- a run a write, a tick or a message finds the clock at its end exactly where no stamp or tag is
+-- left
 abbrev pub ClockEndsFirst : ℕ → Type 0
-ClockEndsFirst servers = (events : List Event) (server : ℕ) (file : FileId)
-    → 1 ≤ server → server ≤ servers
-    → HasTime (store_after servers events server) → HasRoom (store_after servers events server) file
+ClockEndsFirst servers = (events : List Event) (server : ℕ) → 1 ≤ server → server ≤ servers
+    → is_in_time (store_after servers events server)
+    ≡ has_time (store_after servers events server).last (store_after servers events server).tags
 
 -- ---- agreement
 

@@ -5,11 +5,12 @@ use Rattle.pg_base.specs.declared.id.FileId.{FileId}
 use Rattle.pg_edges.specs.declared.edge.Edge.{Edge}
 use Rattle.pg_replica.specs.declared.replica.Replica.{Replica}
 use Rattle.pg_replica.specs.declared.store.Store.{Store}
-use Rattle.pg_replica.specs.Store.{has_time}
+use Rattle.pg_replica.specs.Store.{is_in_time}
 use Rattle.pg_entries.specs.declared.cell.Cell.TheVariants as cells
 use Rattle.pg_msg.specs.declared.message.Message.{Message}
 use Rattle.pg_msg.specs.declared.message.Message.TheVariants as message
 use Rattle.pg_msg.specs.declared.work.Work.{Work}
+use Rattle.pg_msg.specs.Numbers.{is_in_range}
 use Rattle.pg_msg.specs.View.{view}
 use Rattle.pg_msg.specs.Work.{new_work}
 use Rattle.pg_call.specs.declared.reply.Reply.{Reply}
@@ -51,7 +52,7 @@ after_message done = finish_with None done.store done.work
 -- at the end of the clock a tick is refused
 abbrev pub tick_in_time : Store → Work → Answer
 tick_in_time store work =
-    if has_time store.last store.tags
+    if is_in_time store
     then record { store = store; work = (tick store work).work; reply = reply.Done }
     else record { store = store; work = work; reply = reply.Refused ClockEnd }
 
@@ -94,10 +95,14 @@ handle store (message.Meet ends) work = idle store work
 abbrev pub receive : Store → Message → Work → Done
 receive store m work = where_linked store (view m).edge work (handle store m work)
 
--- at the end of the clock a message changes nothing
+-- a message that has a number out of range is ignored
+abbrev pub receive_in_range : Store → Message → Work → Done
+receive_in_range store m work = if is_in_range m then receive store m work else idle store work
+
+-- at the end of the clock every message is
 abbrev pub receive_in_time : Store → Message → Work → Done
 receive_in_time store m work =
-    if has_time store.last store.tags then receive store m work else idle store work
+    if is_in_time store then receive_in_range store m work else idle store work
 
 -- ---- any input
 

@@ -58,19 +58,19 @@ fn tick_in_time(store: &Store, work: &mut Work) -> Result<Reply, AllocError>
     ensures work { OnOk result (work.new ≡ (tick_in_time store.now work.old).work) }
     ensures reply { IfOk result (λ r. r ≡ (tick_in_time store.now work.old).reply) }
 {
-    if !store.has_time() {
+    if !store.is_in_time() {
         return Ok(Reply::Refused(Refusal::ClockEnd));
     }
     tick(store, work)?;
     Ok(Reply::Done)
 }
 
-/// Takes a message, but at the end of the clock.
+/// Takes a message, but at the end of the clock, and but one that has a number out of range.
 fn receive_in_time(store: &mut Store, message: Message, work: &mut Work) -> Result<(), AllocError>
     ensures store { OnOk result (store.new ≡ (receive_in_time store.old message work.old).store) }
     ensures work { OnOk result (work.new ≡ (receive_in_time store.old message work.old).work) }
 {
-    if !store.has_time() {
+    if !store.is_in_time() || !message.is_in_range() {
         return Ok(());
     }
     receive(store, message, work)

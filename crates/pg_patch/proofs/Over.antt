@@ -1,5 +1,5 @@
 -- The upper parts over the lower ones.
-use Rattle.std.proofs.Common.{ℕ, cond, ◌≡◌, ◌<◌, ◌≤◌, ◌+◌, ◌⊎◌, inl, inr, min, max, List, [], ◌∷◌, length, drop, get_or, refl, sym, ap, subst, ◌∙◌, arith, ltb, leb, ◌&&◌}
+use Rattle.std.proofs.Common.{ℕ, cond, ◌≡◌, ◌<◌, ◌≤◌, ◌+◌, ◌⊎◌, inl, inr, min, max, List, [], ◌∷◌, length, drop, get_or, refl, sym, ap, subst, ◌∙◌, arith, ltb}
 use Rattle.std.proofs.lemmas.List.{drop_more, drop_all}
 use Rattle.std.proofs.lemmas.Bool.{cases_lt}
 use Rattle.pg_patch.specs.declared.part.Part.{Part}
@@ -9,7 +9,7 @@ use Rattle.pg_patch.specs.Laying.{Adds, Between, IsLaidOver}
 use Rattle.pg_patch.proofs.Composed.{below_yes, below_no}
 use Rattle.pg_patch.proofs.Parts.{byte_or-before, byte_or-behind, byte_or-here, byte_or-skip, holds-within, holds-behind, in_order-wider}
 use Rattle.pg_patch.proofs.Passing.{Passed, passed-more, passed-gap, passed_at, passed_all}
-use Rattle.pg_patch.proofs.Pieces.{within_yes, within_below, within_behind}
+use Rattle.pg_patch.proofs.Pieces.{within_yes, within_below}
 
 -- ---- a part within two indexes
 -- ---- the parts between two indexes

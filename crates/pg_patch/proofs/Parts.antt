@@ -2,7 +2,8 @@
 use Rattle.std.proofs.Common.{ℕ, true, false, cond, ◌≡◌, ◌<◌, ◌≤◌, ◌+◌, ◌-◌, List, [], ◌∷◌, ◌++◌, length, refl, ap, ◌∙◌, arith}
 use Rattle.std.proofs.lemmas.Bool.Decides.{nat_tests}
 use Rattle.pg_patch.specs.declared.part.Part.{Part}
-use Rattle.pg_patch.specs.Parts.{end_of, holds, byte_of, byte_or, AreInOrder}
+use Rattle.std.proofs.lemmas.List.Sums.{sum_by-cons}
+use Rattle.pg_patch.specs.Parts.{end_of, holds, byte_of, byte_or, bytes_of_parts, AreInOrder}
 
 pub holds-below : (p : Part) (i : ℕ) → i < p.offset → holds p i ≡ false
 holds-below p i h = grind (arith, nat_tests)
@@ -67,3 +68,9 @@ in_order-but_last from l (r ∷ ps) p h = (h.0, h.1, omega (arith, last_from _ _
 pub last_to : (from l : ℕ) (ps : List Part) (p : Part) → AreInOrder from (ps ++ p ∷ []) l → end_of p ≤ l
 last_to from l [] p h = h.2
 last_to from l (q ∷ ps) p h = last_to (end_of q + 1) l ps p h.3
+
+-- the parts have no more bytes than there are indexes from `from` to `l`
+pub bytes_of_parts-most : (from l : ℕ) (ps : List Part) → AreInOrder from ps l → bytes_of_parts ps ≤ l - from
+bytes_of_parts-most from l [] h = omega arith
+bytes_of_parts-most from l (p ∷ ps) h =
+    omega (arith, sum_by-cons (λ (q : Part). length q.bytes) p ps, bytes_of_parts-most (end_of p + 1) l ps h.3, h.0, h.1, h.2)

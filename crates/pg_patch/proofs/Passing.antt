@@ -1,9 +1,9 @@
 -- Going over parts in order: what stands before an index no longer counts.
-use Rattle.std.proofs.Common.{ℕ, ◌≡◌, ◌<◌, ◌≤◌, ◌+◌, List, [], ◌∷◌, length, drop, get_or, refl, subst, sym, ◌∙◌, arith}
+use Rattle.std.proofs.Common.{ℕ, ◌≡◌, ◌<◌, ◌≤◌, ◌+◌, List, ◌∷◌, length, drop, get_or, refl, subst, sym, ◌∙◌, arith}
 use Rattle.std.proofs.lemmas.List.{drop_more, drop_all}
 use Rattle.pg_patch.specs.declared.part.Part.{Part}
 use Rattle.pg_patch.specs.Parts.{end_of, byte_or, AreInOrder}
-use Rattle.pg_patch.proofs.Parts.{byte_or-before, byte_or-here, byte_or-skip, holds-within, holds-behind, in_order-wider}
+use Rattle.pg_patch.proofs.Parts.{byte_or-before, byte_or-skip, holds-behind, in_order-wider}
 
 -- from the index on the rest holds all that the parts hold
 pub record Passed (parts rest : List Part) (at least : ℕ) : Type 0 where

@@ -1,10 +1,14 @@
 -- Parts: bytes at indexes, in order.
-use Rattle.std.specs.Prelude.{ℕ, Bool, List, [], ◌∷◌, ◌+◌, ◌-◌, ◌<◌, ◌≤◌, ◌&&◌, if◌then◌else◌, nat_le, nat_lt, length, slice_index}
+use Rattle.std.specs.Prelude.{ℕ, Bool, List, [], ◌∷◌, ◌+◌, ◌-◌, ◌<◌, ◌≤◌, ◌&&◌, if◌then◌else◌, nat_le, nat_lt, length, slice_index, sum_by}
 use Rattle.pg_patch.specs.declared.part.Part.{Part}
 
 -- the index behind the part's last byte
 abbrev pub end_of : Part → ℕ
 end_of p = p.offset + length p.bytes
+
+-- how many bytes the parts have together
+abbrev pub bytes_of_parts : List Part → ℕ
+bytes_of_parts parts = sum_by (λ (p : Part). length p.bytes) parts
 
 -- whether the part has a byte at the index
 abbrev pub holds : Part → ℕ → Bool

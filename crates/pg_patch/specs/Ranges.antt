@@ -16,6 +16,10 @@ pub record IsRanges (r : RangesValue) : Type 0 where
   pub least : r.least < 2 ^ 32
   pub parts : AreInOrder 0 r.parts r.least
 
+-- the most bytes that a body may have
+abbrev pub body_limit : ℕ
+body_limit = 1048576
+
 -- the greatest number of 32 bits is no length: it says that all stays
 abbrev pub all : ℕ
 all = 4294967295

@@ -1,7 +1,7 @@
 //! Bytes at an index.
 
 ghost use Rattle.std.specs.Prelude.{◌≡◌, ◌<◌, ◌^◌, IfOk};
-ghost use Rattle.pg_patch.specs.Parts.{end_of};
+ghost use Rattle.pg_patch.specs.Parts.{bytes_of_parts, end_of};
 
 use pg_base::SharedBytes;
 use std::alloc::AllocError;
@@ -31,4 +31,12 @@ impl Part {
     {
         self.offset as usize + self.bytes.len()
     }
+}
+
+/// How many bytes the parts have together.
+pub(crate) fn bytes_of(parts: &[Part]) -> usize
+    requires { bytes_of_parts parts.now < 2 ^ 32 }
+    ensures { result ≡ bytes_of_parts parts.now }
+{
+    parts.iter().map(|part| part.bytes.len()).sum()
 }

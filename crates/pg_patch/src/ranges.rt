@@ -1,11 +1,11 @@
 //! Ranges: a write or a cut of a body, or several of them in one.
 
-ghost use Rattle.std.specs.Prelude.{◌≡◌, ◌≢◌, ◌<◌, ◌↔◌, ℕ, List, length, IfOk, IsErrOf, IsTrue};
-ghost use Rattle.pg_patch.specs.Parts.{AreInOrder};
-ghost use Rattle.pg_patch.specs.Ranges.{written, write_end, cut_to, length_of, kept, applied, IsRanges};
+ghost use Rattle.std.specs.Prelude.{◌≡◌, ◌≢◌, ◌<◌, ◌↔◌, ℕ, List, length, IfOk, IsErrOf, IsTrue, ◌≤◌};
+ghost use Rattle.pg_patch.specs.Parts.{AreInOrder, bytes_of_parts};
+ghost use Rattle.pg_patch.specs.Ranges.{written, write_end, cut_to, length_of, kept, applied, body_limit, IsRanges};
 
 use crate::error::RangeError;
-use crate::part::Part;
+use crate::part::{Part, bytes_of};
 use pg_base::{Items, SharedBytes};
 use std::alloc::{AllocError, Global};
 use std::marker::Model;
@@ -55,6 +55,14 @@ impl Ranges {
         let _keep = self.keep;
         let _least = self.least;
         self.parts.as_slice()
+    }
+
+    /// How many bytes the parts have together. It is no more than `least`.
+    pub fn bytes_of_parts(&self) -> usize
+        ensures bytes { result ≡ bytes_of_parts self.now.parts }
+        ensures most { result ≤ self.now.least }
+    {
+        bytes_of(self.parts())
     }
 
     /// The same ranges again. The bytes of the parts are shared.
@@ -113,7 +121,7 @@ pub fn are_in_order(parts: &[Part], least: u32) -> bool
 /// A write of the bytes at the offset.
 pub fn make(alloc: Global, offset: u32, bytes: &[u8]) -> Result<Ranges, RangeError>
     ensures made { IfOk result (λ r. r ≡ written offset bytes.now) }
-    ensures too_long { IsErrOf result RangeError.TooLong ↔ (LIMIT < write_end offset bytes.now) }
+    ensures too_long { IsErrOf result RangeError.TooLong ↔ (body_limit < write_end offset bytes.now) }
 {
     if bytes.is_empty() {
         return Ok(Ranges::new(ALL, 0, Vec::new(alloc)));
@@ -135,7 +143,7 @@ pub fn make(alloc: Global, offset: u32, bytes: &[u8]) -> Result<Ranges, RangeErr
 /// A cut to the length, or the zeros that bring a shorter body to it. It takes no memory.
 pub fn cut(alloc: Global, length: u32) -> Result<Ranges, RangeError>
     ensures cut { IfOk result (λ r. r ≡ cut_to length) }
-    ensures too_long { IsErrOf result RangeError.TooLong ↔ (LIMIT < length) }
+    ensures too_long { IsErrOf result RangeError.TooLong ↔ (body_limit < length) }
     ensures no_memory { result ≢ Err RangeError.OutOfMemory }
 {
     if length > LIMIT {

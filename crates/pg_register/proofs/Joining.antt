@@ -1,11 +1,11 @@
 -- Several flags that come one after another.
-use Rattle.std.proofs.Common.{ℕ, ◌≡◌, ◌≢◌, ◌<◌, ◌≤◌, ◌+◌, Bool, true, false, cond, eqb, ◌||◌, ◌↔◌, IsTrue, Some, List, [], ◌∷◌, length, get_or, drop, refl, sym, ap, ◌∙◌, subst, arith}
+use Rattle.std.proofs.Common.{ℕ, ◌≡◌, ◌≢◌, ◌<◌, ◌≤◌, ◌+◌, Bool, true, false, cond, not, eqb, ◌||◌, ◌↔◌, IsTrue, Some, List, [], ◌∷◌, length, get_or, drop, refl, sym, ap, ◌∙◌, subst, arith}
 use Rattle.std.proofs.lemmas.Bool.{or_parts}
 use Rattle.std.proofs.lemmas.Bool.Decides.{nat_tests}
 use Rattle.std.proofs.lemmas.List.{drop_more, drop_all}
 use Rattle.pg_register.specs.declared.flag.Flag.{Flag}
-use Rattle.pg_register.specs.Flag.{newest, is_new, IsByServer, flag_of, put_flag, join_flag, join_flags, brings_news}
-use Rattle.pg_register.proofs.ByServer.{not_older, Above, below, IsByServer-head, IsByServer-tail, flag_of-join_flag, flag_of-join_flags, joined_new, first}
+use Rattle.pg_register.specs.Flag.{newest, is_new, IsByServer, flag_of, put_flag, join_flag, join_flags, brings_news, covers_flag, covers_flags}
+use Rattle.pg_register.proofs.ByServer.{not_older, put_flag-changes, Above, below, IsByServer-head, IsByServer-tail, flag_of-join_flag, flag_of-join_flags, joined_new, first}
 
 later_news : (f : Flag) (fs gs : List Flag) → Above f.server gs → brings_news (join_flag fs f) gs ≡ brings_news fs gs
 later_news f fs [] up = refl
@@ -79,3 +79,19 @@ some_news fs (g ∷ gs) s e same = some_news_by fs gs g (is_new (flag_of fs g.se
 pub news_change : (fs gs now : List Flag) (changed : Bool) → IsByServer gs → now ≡ join_flags fs gs → changed ≡ brings_news fs gs → IsTrue changed ↔ (now ≢ fs)
 news_change fs gs now true s joined news = (λ _ same. some_news fs gs s (sym news) (sym joined ∙ same), λ _. refl)
 news_change fs gs now false s joined news = (λ e. absurd (let x : false ≡ true = e in cc), λ other. absurd (other (joined ∙ no_news fs gs (sym news))))
+
+-- ---- to join would change nothing
+
+flag_by : (fs : List Flag) (f : Flag) (t new : Bool) → is_new (flag_of fs f.server) f ≡ new → t ≡ not new → IsTrue t ↔ (join_flag fs f ≡ fs)
+flag_by fs f t true new e = (λ h. absurd (let x : true ≡ false = sym h ∙ e in cc), λ same. absurd (put_flag-changes f fs new (sym (ap (λ b. cond b (put_flag fs f) fs) new) ∙ same)))
+flag_by fs f t false old e = (λ _. old_stays f fs old, λ _. e)
+
+pub covers_flag-stays : (fs : List Flag) (f : Flag) (t : Bool) → t ≡ covers_flag fs f → IsTrue t ↔ (join_flag fs f ≡ fs)
+covers_flag-stays fs f t = flag_by fs f t (is_new (flag_of fs f.server) f) refl
+
+flags_by : (fs gs : List Flag) (t new : Bool) → IsByServer gs → brings_news fs gs ≡ new → t ≡ not new → IsTrue t ↔ (join_flags fs gs ≡ fs)
+flags_by fs gs t true s new e = (λ h. absurd (let x : true ≡ false = sym h ∙ e in cc), λ same. absurd (some_news fs gs s new same))
+flags_by fs gs t false s old e = (λ _. no_news fs gs old, λ _. e)
+
+pub covers_flags-stays : (fs gs : List Flag) (t : Bool) → IsByServer gs → t ≡ covers_flags fs gs → IsTrue t ↔ (join_flags fs gs ≡ fs)
+covers_flags-stays fs gs t s = flags_by fs gs t (brings_news fs gs) s refl

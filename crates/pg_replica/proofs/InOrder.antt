@@ -20,7 +20,7 @@ use Rattle.pg_base.proofs.Orders.{file_total, is_same_file-true}
 use Rattle.pg_replica.specs.declared.replica.Replica.{Replica}
 use Rattle.pg_replica.specs.Replicas.{ByFile, replica_in}
 use Rattle.pg_replica.specs.InOrder.{in_order}
-use Rattle.pg_replica.specs.Index.{Files, IsIndex}
+use Rattle.pg_replica.specs.Index.{Files, IsIndexBy}
 
 -- the derived test of two files
 abbrev pub same_file : FileId → FileId → Bool
@@ -117,10 +117,10 @@ in_order-come {S} m n o file x same updates =
 
 -- ---- none
 
-pub index_none : (us : Files) (es : ByFile) → es ≡ [] → IsIndex us (in_order es)
-index_none us es e =
-    let P : ByFile → Type 0 = λ fs. IsIndex us (in_order fs) in
-    subst P (sym e) (record {
+pub index_none : {P : Replica → Type 0} (us : Files) (es : ByFile) → es ≡ [] → IsIndexBy P us (in_order es)
+index_none {P} us es e =
+    let Q : ByFile → Type 0 = λ fs. IsIndexBy P us (in_order fs) in
+    subst Q (sym e) (record {
       by_file = sorted-in_order [];
       lists = λ file x there none. absurd (let z : ◌≡◌ {A = Option Replica} None (Some x) = there in cc);
     })

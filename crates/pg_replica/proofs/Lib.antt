@@ -8,6 +8,7 @@ pub mod Lists
 pub mod Clean
 pub mod Merging
 mod Relisting
+mod Ends
 mod Takings
 mod Refusals
 mod InOrder

@@ -10,9 +10,8 @@ use Rattle.pg_base.proofs.Maps.{lookup-insert_entry}
 use Rattle.pg_base.proofs.Entries.{IsStrictlySortedBy-insert_entry, insert_there}
 use Rattle.pg_base.proofs.Orders.{file_total, is_same_file-refl, is_same_file-true}
 use Rattle.pg_replica.specs.declared.replica.Replica.{Replica}
-use Rattle.pg_edges.specs.Edges.{are_clean}
 use Rattle.pg_replica.specs.Replicas.{ByFile, replica_in}
-use Rattle.pg_replica.specs.Index.{Files, IsIndex, ListsUnacknowledged, Relists}
+use Rattle.pg_replica.specs.Index.{Files, IsIndexBy, ListsOthers, Relists}
 
 -- the program's order of files, which is that of the definitions
 abbrev Order : Type 0
@@ -20,12 +19,12 @@ Order = FileId → FileId → Ordering
 
 -- ---- which files are listed then
 
--- the same files, and the replica is as clean as it was
-pub relists_same : (us vs : Files) (file : FileId) (x y : Replica) → vs ≡ us
-    → (are_clean x.edges ≡ true → are_clean y.edges ≡ true) → Relists us vs file x y
-relists_same us vs file x y same clean =
-    let P : Files → Type 0 = λ zs. Relists us zs file x y in
-    subst P (sym same) (record { others = λ q other none. none; own = λ none was. clean (was none) })
+-- the same files, and the replica has P where it had
+pub relists_same : {P : Replica → Type 0} (us vs : Files) (file : FileId) (x y : Replica) → vs ≡ us
+    → (P x → P y) → Relists P us vs file x y
+relists_same {P} us vs file x y same still =
+    let Q : Files → Type 0 = λ zs. Relists P us zs file x y in
+    subst Q (sym same) (record { others = λ q other none. none; own = λ none was. still (was none) })
 
 more_by : (t : Bool) (u : Option (Unit {0})) → cond t (Some tt) u ≡ None → u ≡ None
 more_by true u h = cc
@@ -49,12 +48,12 @@ other_way file q other =
     ] refl
 
 -- a file more
-pub relists_more : (us vs : Files) (file : FileId) (x y : Replica) → (R : Order) → R ≡ file_cmp
-    → vs ≡ insert_entry R us file tt → Relists us vs file x y
-relists_more us vs file x y R o more =
+pub relists_more : {P : Replica → Type 0} (us vs : Files) (file : FileId) (x y : Replica) → (R : Order) → R ≡ file_cmp
+    → vs ≡ insert_entry R us file tt → Relists P us vs file x y
+relists_more {P} us vs file x y R o more =
     let L : Order → Type 0 = λ r. vs ≡ insert_entry r us file tt in
-    let P : Files → Type 0 = λ zs. Relists us zs file x y in
-    subst P (sym (subst L o more)) (record {
+    let Q : Files → Type 0 = λ zs. Relists P us zs file x y in
+    subst Q (sym (subst L o more)) (record {
       others = λ q other none.
           more_by (eq_by_cmp file_cmp q file) (lookup (is_at (file_cmp q)) us)
           (sym (lookup-insert_entry file_cmp file_total q file tt us) ∙ none);
@@ -65,11 +64,11 @@ relists_more us vs file x y R o more =
           (sym (lookup-insert_entry file_cmp file_total file file tt us) ∙ none) in cc);
     })
 
--- a file less, whose replica is all clean
-pub relists_less : (us vs : Files) (file : FileId) (x y : Replica) → (R : Order) → R ≡ file_cmp
+-- a file less, whose replica has P
+pub relists_less : {P : Replica → Type 0} (us vs : Files) (file : FileId) (x y : Replica) → (R : Order) → R ≡ file_cmp
     → ((q : FileId) → lookup (is_at (R q)) vs ≡ cond (is_at (R file) q) None (lookup (is_at (R q)) us))
-    → are_clean y.edges ≡ true → Relists us vs file x y
-relists_less us vs file x y R o less clean =
+    → P y → Relists P us vs file x y
+relists_less {P} us vs file x y R o less has =
     let L : Order → Type 0 =
     (λ r. (q : FileId) → lookup (is_at (r q)) vs ≡ cond (is_at (r file) q) None (lookup (is_at (r q)) us)) in
     let left : L file_cmp = subst L o less in
@@ -77,7 +76,7 @@ relists_less us vs file x y R o less clean =
       others = λ q other none.
           less_by (is_at (file_cmp file) q) (lookup (is_at (file_cmp q)) us) (other_way file q other)
           (sym (left q) ∙ none);
-      own = λ none was. clean;
+      own = λ none was. has;
     }
 
 -- ---- the index then
@@ -85,19 +84,18 @@ relists_less us vs file x y R o less clean =
 same_value : (w y : Replica) → ◌≡◌ {A = Option Replica} (Some w) (Some y) → w ≡ y
 same_value w y h = cc
 
-module _ {us vs : Files} {file : FileId} {x w : Replica} (es : ByFile) (index : IsIndex us es) (listed : Relists us vs file x w) where
-  -- the replica there is as clean as it is listed: this one is listed, or all clean
-  put_lists : (lookup (is_at (file_cmp file)) us ≡ None → are_clean x.edges ≡ true) → ListsUnacknowledged vs (insert_entry file_cmp es file w)
+module _ {P : Replica → Type 0} {us vs : Files} {file : FileId} {x w : Replica} (es : ByFile) (index : IsIndexBy P us es) (listed : Relists P us vs file x w) where
+  -- the replica there has P if it is not listed: this one is listed, or has P
+  put_lists : (lookup (is_at (file_cmp file)) us ≡ None → P x) → ListsOthers P vs (insert_entry file_cmp es file w)
   put_lists was q y there none =
-      elim (eq_by_cmp file_cmp q file) as (λ b. eq_by_cmp file_cmp q file ≡ b → cond b (Some w) (replica_in es q) ≡ Some y → are_clean y.edges ≡ true) [
+      elim (eq_by_cmp file_cmp q file) as (λ b. eq_by_cmp file_cmp q file ≡ b → cond b (Some w) (replica_in es q) ≡ Some y → P y) [
         | true ↦ λ h got. (
-            let P : FileId → Type 0 = λ k. lookup (is_at (file_cmp k)) vs ≡ None in
-            ap (λ (z : Replica). are_clean z.edges) (sym (same_value w y got))
-            ∙ listed.own (subst P (is_same_file-true q file h) none) was)
+            let N : FileId → Type 0 = λ k. lookup (is_at (file_cmp k)) vs ≡ None in
+            subst P (same_value w y got) (listed.own (subst N (is_same_file-true q file h) none) was))
         | false ↦ λ h got. index.lists q y got (listed.others q h none)
       ] refl (sym (lookup-insert_entry file_cmp file_total q file w es) ∙ there)
 
-  put_index : (lookup (is_at (file_cmp file)) us ≡ None → are_clean x.edges ≡ true) → IsIndex vs (insert_entry file_cmp es file w)
+  put_index : (lookup (is_at (file_cmp file)) us ≡ None → P x) → IsIndexBy P vs (insert_entry file_cmp es file w)
   put_index was = record {
     by_file = IsStrictlySortedBy-insert_entry file_cmp file_total file w es index.by_file;
     lists = put_lists was;
@@ -105,35 +103,35 @@ module _ {us vs : Files} {file : FileId} {x w : Replica} (es : ByFile) (index : 
 
   -- the replica that was there changed
   pub index_there : (R : Order) → R ≡ file_cmp → (ds : ByFile) → lookup (is_at (R file)) es ≡ Some x
-      → ds ≡ set_value (is_at (R file)) es w → IsIndex vs ds
+      → ds ≡ set_value (is_at (R file)) es w → IsIndexBy P vs ds
   index_there R o ds there set =
       let Q : Order → Type 0 = λ r. lookup (is_at (r file)) es ≡ Some x in
-      let P : Order → Type 0 = λ r. ds ≡ set_value (is_at (r file)) es w in
+      let S : Order → Type 0 = λ r. ds ≡ set_value (is_at (r file)) es w in
       let found : replica_in es file ≡ Some x = subst Q o there in
-      subst (IsIndex vs)
-      (sym (subst P o set ∙ sym (insert_there file_cmp file_total file x w es index.by_file found)))
+      subst (IsIndexBy P vs)
+      (sym (subst S o set ∙ sym (insert_there file_cmp file_total file x w es index.by_file found)))
       (put_index (index.lists file x found))
 
-  -- there was none, and this one came, of one that was all clean
-  pub index_come : (R : Order) → R ≡ file_cmp → (ds : ByFile) → are_clean x.edges ≡ true
-      → ds ≡ insert_entry R es file w → IsIndex vs ds
-  index_come R o ds clean put =
-      let P : Order → Type 0 = λ r. ds ≡ insert_entry r es file w in
-      subst (IsIndex vs) (sym (subst P o put)) (put_index (λ none. clean))
+  -- there was none, and this one came, of one that had P
+  pub index_come : (R : Order) → R ≡ file_cmp → (ds : ByFile) → P x
+      → ds ≡ insert_entry R es file w → IsIndexBy P vs ds
+  index_come R o ds has put =
+      let S : Order → Type 0 = λ r. ds ≡ insert_entry r es file w in
+      subst (IsIndexBy P vs) (sym (subst S o put)) (put_index (λ none. has))
 
   -- there was none, and none came
-  beside_lists : replica_in es file ≡ None → ListsUnacknowledged vs es
+  beside_lists : replica_in es file ≡ None → ListsOthers P vs es
   beside_lists gap q y there none =
-      elim (eq_by_cmp file_cmp q file) as (λ b. eq_by_cmp file_cmp q file ≡ b → are_clean y.edges ≡ true) [
+      elim (eq_by_cmp file_cmp q file) as (λ b. eq_by_cmp file_cmp q file ≡ b → P y) [
         | true ↦ λ h. absurd (
-            let P : FileId → Type 0 = λ k. replica_in es k ≡ Some y in
-            let k : None ≡ Some y = sym gap ∙ subst P (is_same_file-true q file h) there in cc)
+            let S : FileId → Type 0 = λ k. replica_in es k ≡ Some y in
+            let k : None ≡ Some y = sym gap ∙ subst S (is_same_file-true q file h) there in cc)
         | false ↦ λ h. index.lists q y there (listed.others q h none)
       ] refl
 
   pub index_beside : (R : Order) → R ≡ file_cmp → (ds : ByFile) → ◌≡◌ {A = Option Replica} (lookup (is_at (R file)) es) None
-      → ds ≡ es → IsIndex vs ds
+      → ds ≡ es → IsIndexBy P vs ds
   index_beside R o ds gap same =
       let Q : Order → Type 0 = λ r. ◌≡◌ {A = Option Replica} (lookup (is_at (r file)) es) None in
-      subst (IsIndex vs) (sym same)
+      subst (IsIndexBy P vs) (sym same)
       (record { by_file = index.by_file; lists = beside_lists (subst Q o gap) })

@@ -98,6 +98,19 @@ has_room x server =
     not (list_any (λ v. nat_le clock_end (number_at v.head.vector (own_actor x server)))
     x.content.heads)
 
+-- a number at its end, of whichever actor
+abbrev pub has_end : List (Actor × ℕ) → Bool
+has_end vector = list_any (λ e. nat_le clock_end e.1) vector
+
+-- one at an actor of this server, of whichever birth
+abbrev pub has_own_end : ℕ → List (Actor × ℕ) → Bool
+has_own_end server vector =
+    list_any (λ e. e.0.server == server && nat_le clock_end e.1) vector
+
+-- some head knows one
+abbrev pub knows_own_end : ℕ → Replica → Bool
+knows_own_end server x = list_any (λ v. has_own_end server v.head.vector) x.content.heads
+
 -- the body would be too long
 abbrev pub is_too_long : Replica → RangesValue → Bool
 is_too_long x ranges = nat_lt body_limit (length (applied (shown_bytes x.content) ranges))

@@ -1,5 +1,6 @@
 -- The replicas of a server, by file.
-use Rattle.std.specs.Prelude.{ℕ, if◌then◌else◌, List, Option, None, Some}
+use Rattle.std.specs.Prelude.{ℕ, Bool, false, if◌then◌else◌, List, Option, None, Some}
+use Rattle.std.specs.List.{list_any}
 use Rattle.std.specs.BTreeMap.{is_at, insert_entry}
 use Rattle.std.specs.Map.{lookup}
 use Rattle.pg_base.specs.declared.id.FileId.{FileId}
@@ -11,7 +12,7 @@ use Rattle.pg_edges.specs.declared.key.Key.{Key}
 use Rattle.pg_replica.specs.declared.link.Link.{Link}
 use Rattle.pg_replica.specs.declared.replica.Replica.{Replica}
 use Rattle.pg_replica.specs.declared.untouched.Home.{Home}
-use Rattle.pg_replica.specs.Replica.{covers, has_edge, own_actor, with_ack, with_head, with_write}
+use Rattle.pg_replica.specs.Replica.{covers, has_edge, knows_own_end, own_actor, with_ack, with_head, with_write}
 use Rattle.pg_replica.specs.Untouched.{new_replica}
 
 abbrev pub ByFile : Type 0
@@ -28,6 +29,15 @@ or_new home file (Some x) = x
 -- the replica of a file: a new one, if there is none
 abbrev pub replica_for : Home → ByFile → FileId → Replica
 replica_for home replicas file = or_new home file (replica_in replicas file)
+
+-- the replica of a file, if there is one, knows a number at its end of this server
+abbrev pub is_own_end_in : ℕ → Option Replica → Bool
+is_own_end_in server None = false
+is_own_end_in server (Some x) = knows_own_end server x
+
+-- some replica does
+abbrev pub have_own_end : ByFile → ℕ → Bool
+have_own_end replicas server = list_any (λ r. knows_own_end server r.1) replicas
 
 -- a version comes along an edge to this replica of the file
 abbrev pub replicas_taking : ByFile → FileId → Replica → Link → VersionValue → ℕ → ByFile

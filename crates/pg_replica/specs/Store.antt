@@ -1,5 +1,5 @@
 -- What one server holds, and what a version and an answer that come, and a write, make of it.
-use Rattle.std.specs.Prelude.{ℕ, ◌+◌, ◌&&◌, Bool, nat_lt, nat_le, if◌then◌else◌, max, [], length, Option, None, Some}
+use Rattle.std.specs.Prelude.{ℕ, ◌+◌, ◌&&◌, Bool, nat_lt, nat_le, not, if◌then◌else◌, max, [], length, Option, None, Some}
 use Rattle.std.specs.BTreeMap.{insert_entry}
 use Rattle.pg_base.specs.declared.id.FileId.{FileId}
 use Rattle.pg_base.specs.declared.stamp.Stamp.{Stamp}
@@ -14,7 +14,7 @@ use Rattle.pg_replica.specs.declared.replica.Replica.{Replica}
 use Rattle.pg_replica.specs.declared.untouched.Home.{Home}
 use Rattle.pg_replica.specs.declared.store.Store.{Store}
 use Rattle.pg_replica.specs.Replica.{covers, has_edge, own_actor, with_ack, with_head, with_write}
-use Rattle.pg_replica.specs.Replicas.{replica_in, replica_for, replicas_acked}
+use Rattle.pg_replica.specs.Replicas.{have_own_end, replica_in, replica_for, replicas_acked}
 
 -- a server that has taken nothing
 abbrev pub new_store : ℕ → ℕ → Store
@@ -26,10 +26,15 @@ new_store servers server = record {
   replicas = [];
 }
 
--- the clock is not at its end: no stamp that was taken and no tag that was given out has come to
--- 2^62
+-- no stamp that was taken and no tag that was given out has come to 2^62
 abbrev pub has_time : ℕ → ℕ → Bool
 has_time last tags = nat_lt last clock_end && nat_le tags clock_end
+
+-- the clock is not at its end: nor has a number of one of the server's own actors that a replica
+-- knows of
+abbrev pub is_in_time : Store → Bool
+is_in_time store =
+    has_time store.last store.tags && not (have_own_end store.replicas store.server)
 
 -- ---- look-ups
 

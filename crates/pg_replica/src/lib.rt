@@ -5,6 +5,7 @@
 mod laws;
 mod link;
 mod listing;
+mod numbers;
 mod replica;
 mod replicas;
 mod retiring;

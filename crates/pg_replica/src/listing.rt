@@ -1,11 +1,12 @@
-//! Changes of one replica that keep the list of the files with unacknowledged keys.
+//! Changes of one replica that keep the lists of the files to look at.
 
-ghost use Rattle.std.specs.Prelude.{◌≡◌, ◌≢◌, ◌≤◌, ◌+◌, ◌^◌, IfErr, IfOk, None, OnErr, OnOk, Some, length, map, true};
+ghost use Rattle.std.specs.Prelude.{[], ◌≡◌, ◌≢◌, ◌≤◌, ◌+◌, ◌^◌, IfErr, IfOk, None, OnErr, OnOk, Some, length, map, true};
 ghost use Rattle.pg_base.specs.Version.{stamp_of};
 ghost use Rattle.pg_replica.specs.Replica.{has_room, own_actor, refusal_of, tags_taking, taking, with_ack_along, with_taking, with_write};
-ghost use Rattle.pg_replica.specs.Index.{Relists};
+ghost use Rattle.pg_replica.specs.Index.{IsAllClean, KnowsNoEnd, Relists, with_end};
 
 use crate::link::{Link, Taking};
+use crate::numbers::has_end;
 use crate::replica::Replica;
 use pg_base::{FileId, Items, Stamp, Version};
 use pg_content::WriteError;
@@ -14,14 +15,46 @@ use pg_patch::Ranges;
 use std::alloc::{AllocError, Global};
 use std::collections::BTreeMap;
 
-/// The files with unacknowledged keys.
 pub(crate) type Files = BTreeMap<FileId, ()>;
+
+/// The files to look at, of those that a server holds.
+#[derive(Debug, Drop)]
+pub(crate) struct Lists {
+    /// Those with unacknowledged keys.
+    pub unacknowledged: Files,
+    /// Those with a head that knows a number of 2^62 or more, of whichever actor.
+    pub ended: Files,
+}
+
+impl Lists {
+    /// No file. It takes no memory.
+    pub fn new(alloc: Global) -> Lists
+        ensures unacknowledged { result.unacknowledged.entries ≡ [] }
+        ensures ended { result.ended.entries ≡ [] }
+    {
+        Lists {
+            unacknowledged: BTreeMap::new(alloc),
+            ended: BTreeMap::new(alloc),
+        }
+    }
+}
+
+/// Lists the file, if the version knows a number of 2^62 or more.
+fn list_end(ended: &mut Files, file: FileId, version: &Version) -> Result<(), AllocError>
+    ensures ok { OnOk result (ended.new.entries ≡ with_end ended.old.entries file version.now) }
+    ensures err { OnErr result (ended.new.entries ≡ ended.old.entries) }
+{
+    if has_end(&version.head().vector) {
+        ended.insert(file, ())?;
+    }
+    Ok(())
+}
 
 /// Takes a version that came along an edge. It is a head from then on, if it is not covered. `tags` is the next tag to
 /// give.
 pub(crate) fn take_listed(
     replica: &mut Replica,
-    listed: &mut Files,
+    lists: &mut Lists,
     file: FileId,
     link: &Link,
     version: Version,
@@ -32,7 +65,10 @@ pub(crate) fn take_listed(
     ensures replica { OnOk result
         (replica.new ≡ with_taking replica.old link.now version tags.old) }
     ensures tags { OnOk result (tags.new ≡ tags_taking replica.old link.now version tags.old) }
-    ensures listed { Relists listed.old.entries listed.new.entries file replica.old replica.new }
+    ensures listed { Relists IsAllClean lists.old.unacknowledged.entries
+        lists.new.unacknowledged.entries file replica.old replica.new }
+    ensures ended { Relists KnowsNoEnd lists.old.ended.entries lists.new.ended.entries file
+        replica.old replica.new }
 {
     if !replica.has_edge(link) {
         return Ok(Taking::NoEdge);
@@ -42,7 +78,8 @@ pub(crate) fn take_listed(
     }
     // These are fewer than 2^63, so the tags stay in range.
     let _count = replica.edges.as_slice().len();
-    listed.insert(file, ())?;
+    lists.unacknowledged.insert(file, ())?;
+    list_end(&mut lists.ended, file, &version)?;
     replica.put_head(version, tags)?;
     Ok(Taking::News)
 }
@@ -51,7 +88,7 @@ pub(crate) fn take_listed(
 /// is the only head then. `tags` is the next tag to give.
 pub(crate) fn write_listed(
     replica: &mut Replica,
-    listed: &mut Files,
+    lists: &mut Lists,
     alloc: Global,
     file: FileId,
     stamp: Stamp,
@@ -70,13 +107,17 @@ pub(crate) fn write_listed(
         → refusal_of replica.old stamp.server ranges.now ≡ Some e) }
     ensures same { IfErr result (λ e. e ≢ WriteError.OutOfMemory
         → (replica.new ≡ replica.old) × (tags.new ≡ tags.old)) }
-    ensures listed { Relists listed.old.entries listed.new.entries file replica.old replica.new }
+    ensures listed { Relists IsAllClean lists.old.unacknowledged.entries
+        lists.new.unacknowledged.entries file replica.old replica.new }
+    ensures ended { Relists KnowsNoEnd lists.old.ended.entries lists.new.ended.entries file
+        replica.old replica.new }
 {
     let version = replica.next_version(stamp, ranges)?;
     let bases = replica.bases(alloc)?;
     // These are fewer than 2^63, so the tags stay in range.
     let _count = replica.edges.as_slice().len();
-    listed.insert(file, ())?;
+    lists.unacknowledged.insert(file, ())?;
+    list_end(&mut lists.ended, file, &version)?;
     replica.put_alone(version, tags)?;
     Ok(bases)
 }
@@ -84,19 +125,22 @@ pub(crate) fn write_listed(
 /// An answer that came along an edge takes the key off where the tag is the present one there.
 pub(crate) fn acknowledge_listed(
     replica: &mut Replica,
-    listed: &mut Files,
+    lists: &mut Lists,
     file: FileId,
     link: &Link,
     key: Key,
     tag: u64,
 )
     ensures replica { replica.new ≡ with_ack_along replica.old link.now key tag }
-    ensures listed { Relists listed.old.entries listed.new.entries file replica.old replica.new }
+    ensures listed { Relists IsAllClean lists.old.unacknowledged.entries
+        lists.new.unacknowledged.entries file replica.old replica.new }
+    ensures ended { Relists KnowsNoEnd lists.old.ended.entries lists.new.ended.entries file
+        replica.old replica.new }
 {
     if !replica.acknowledge(link, key, tag) {
         return;
     }
     if replica.is_clean() {
-        listed.remove(&file);
+        lists.unacknowledged.remove(&file);
     }
 }

@@ -71,14 +71,6 @@ impl Replica {
         self.edges.are_clean()
     }
 
-    /// Whether all numbers of the server at this replica that the heads know are below `Stamp::LATEST`. Then there is
-    /// room for a version of it.
-    pub fn has_room(&self, server: NodeId) -> bool
-        ensures { result ≡ has_room self.now server }
-    {
-        self.content.has_room(self.own_actor(server))
-    }
-
     /// Brings in a version that is not covered, with all that its vector covers, and touches its key on every edge.
     /// `tags` is the next tag to give. After a refusal the content is as before, but edges and tags may be changed in
     /// part.

@@ -6,14 +6,15 @@ ghost use Rattle.std.specs.Map.{keys_of};
 ghost use Rattle.pg_base.specs.Id.{file_cmp};
 ghost use Rattle.pg_base.specs.Version.{stamp_of};
 ghost use Rattle.pg_replica.specs.Replica.{has_room, refusal_of, tags_taking, taking};
-ghost use Rattle.pg_replica.specs.Replicas.{replica_for, replica_in, replicas_acked, replicas_taking, replicas_writing};
+ghost use Rattle.pg_replica.specs.Replicas.{have_own_end, is_own_end_in, replica_for, replica_in, replicas_acked, replicas_taking, replicas_writing};
 ghost use Rattle.pg_replica.specs.Index.{IsIndex};
 
 use crate::link::{Link, Taking};
-use crate::listing::{acknowledge_listed, take_listed, write_listed};
+use crate::listing::{Lists, acknowledge_listed, take_listed, write_listed};
+use crate::numbers::knows_own_end;
 use crate::replica::Replica;
 use crate::untouched::{Home, new_replica};
-use pg_base::{FileId, Items, Stamp, Version};
+use pg_base::{FileId, Items, NodeId, Stamp, Version};
 use pg_content::WriteError;
 use pg_edges::Key;
 use pg_patch::Ranges;
@@ -21,12 +22,13 @@ use std::alloc::{AllocError, Global};
 use std::collections::{BTreeMap, HashMap};
 use std::marker::Model;
 
-/// Replicas by file. `unacknowledged` has every file with an unacknowledged key, and no other but where memory ran out.
+/// Replicas by file. The lists have every file that they are to have, and no other but where memory ran out or where a
+/// number at its end went.
 #[derive(Debug, Drop)]
 pub struct Replicas {
     alloc: Global,
     by_file: HashMap<FileId, Replica>,
-    unacknowledged: BTreeMap<FileId, ()>,
+    lists: Lists,
 }
 
 impl Model for Replicas {
@@ -38,9 +40,9 @@ impl Model for Replicas {
 
     ghost view = { λ r. in_order r.by_file.entries };
 
-    ghost use Rattle.pg_replica.specs.IndexInside.{IsIndexed};
+    ghost use Rattle.pg_replica.specs.IndexInside.{AreIndexed};
 
-    ghost invariant = { IsIndexed };
+    ghost invariant = { AreIndexed };
 }
 
 impl Replicas {
@@ -51,7 +53,7 @@ impl Replicas {
         Replicas {
             alloc,
             by_file: HashMap::new(alloc),
-            unacknowledged: BTreeMap::new(alloc),
+            lists: Lists::new(alloc),
         }
     }
 
@@ -71,7 +73,29 @@ impl Replicas {
     pub fn unacknowledged(&self) -> &BTreeMap<FileId, ()>
         ensures { IsIndex result.now.entries self.now }
     {
-        &self.unacknowledged
+        &self.lists.unacknowledged
+    }
+
+    /// Whether some replica knows a number of 2^62 or more of one of the server's actors. The files that may are listed, so
+    /// that nothing is gone over where there is no such number.
+    pub fn have_own_end(&self, server: NodeId) -> bool
+        ensures { result ≡ have_own_end self.now server }
+    {
+        for file in self.lists.ended.keys() {
+            if self.is_own_end(server, file) {
+                return true;
+            }
+        }
+        false
+    }
+
+    fn is_own_end(&self, server: NodeId, file: &FileId) -> bool
+        ensures { result ≡ is_own_end_in server (replica_in self.now file.now) }
+    {
+        match self.get(file) {
+            Some(replica) => knows_own_end(server, replica),
+            None => false,
+        }
     }
 
     /// Takes a version that came along an edge. `tags` is the next tag to give. After a refusal a part may be done.
@@ -93,24 +117,10 @@ impl Replicas {
             (tags.new ≡ tags_taking (replica_for home self.old file) link.now version tags.old) }
     {
         match self.by_file.get_mut(&file) {
-            Some(replica) => take_listed(
-                replica,
-                &mut self.unacknowledged,
-                file,
-                link,
-                version,
-                tags,
-            ),
+            Some(replica) => take_listed(replica, &mut self.lists, file, link, version, tags),
             None => {
                 let mut replica = new_replica(self.alloc, home, &file)?;
-                let taking = take_listed(
-                    &mut replica,
-                    &mut self.unacknowledged,
-                    file,
-                    link,
-                    version,
-                    tags,
-                )?;
+                let taking = take_listed(&mut replica, &mut self.lists, file, link, version, tags)?;
                 match taking {
                     Taking::News => {
                         self.by_file.insert(file, replica)?;
@@ -153,7 +163,7 @@ impl Replicas {
         match self.by_file.get_mut(&file) {
             Some(replica) => write_listed(
                 replica,
-                &mut self.unacknowledged,
+                &mut self.lists,
                 self.alloc,
                 file,
                 stamp,
@@ -164,7 +174,7 @@ impl Replicas {
                 let mut replica = new_replica(self.alloc, home, &file)?;
                 let bases = write_listed(
                     &mut replica,
-                    &mut self.unacknowledged,
+                    &mut self.lists,
                     self.alloc,
                     file,
                     stamp,
@@ -186,6 +196,6 @@ impl Replicas {
         let Some(replica) = self.by_file.get_mut(&file) else {
             return;
         };
-        acknowledge_listed(replica, &mut self.unacknowledged, file, link, key, tag);
+        acknowledge_listed(replica, &mut self.lists, file, link, key, tag);
     }
 }

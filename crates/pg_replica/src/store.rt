@@ -5,9 +5,9 @@ ghost use Rattle.std.specs.Option.{option_copied};
 ghost use Rattle.pg_base.specs.Stamp.{next_stamp};
 ghost use Rattle.pg_base.specs.Version.{stamp_of};
 ghost use Rattle.pg_content.specs.Content.{or_empty};
-ghost use Rattle.pg_replica.specs.Replica.{has_room, refusal_of, taking};
+ghost use Rattle.pg_replica.specs.Replica.{refusal_of, taking};
 ghost use Rattle.pg_replica.specs.Untouched.{policy_of};
-ghost use Rattle.pg_replica.specs.Store.{has_time, held_content, home_of, new_store, replica_of, store_acking, store_taking, store_writing};
+ghost use Rattle.pg_replica.specs.Store.{has_time, held_content, home_of, is_in_time, new_store, replica_of, store_acking, store_taking, store_writing};
 
 use crate::link::{Link, Taking};
 use crate::replica::Replica;
@@ -60,8 +60,15 @@ impl Store {
         }
     }
 
-    /// Whether the clock is not at its end: no stamp that was taken and no tag that was given out has come to 2^62.
-    pub fn has_time(&self) -> bool
+    /// Whether the clock is not at its end: no stamp that was taken, no tag that was given out, and no number of one of the
+    /// server's own actors that a replica knows of has come to 2^62.
+    pub fn is_in_time(&self) -> bool
+        ensures { result ≡ is_in_time self.now }
+    {
+        self.has_time() && !self.replicas.have_own_end(self.server)
+    }
+
+    fn has_time(&self) -> bool
         ensures { result ≡ has_time self.now.last self.now.tags }
     {
         self.last < Stamp::LATEST && self.tags <= Stamp::LATEST
@@ -83,16 +90,6 @@ impl Store {
         match self.replicas.get(file) {
             Some(replica) => Some(&replica.content),
             None => None,
-        }
-    }
-
-    /// Whether no head of a file knows of a version of the server's replica with a number of 2^62 or more.
-    pub fn has_room(&self, file: &FileId) -> bool
-        ensures { result ≡ has_room (replica_of self.now file.now) self.now.server }
-    {
-        match self.replicas.get(file) {
-            Some(replica) => replica.has_room(self.server),
-            None => true,
         }
     }
 
@@ -128,8 +125,8 @@ impl Store {
         stamp: Stamp,
         ranges: &Ranges,
     ) -> Result<Items<Stamp>, WriteError>
-        requires tags { self.old.tags ≤ 2 ^ 62 }
-        requires room { has_room (replica_of self.old file) stamp.server ≡ true }
+        requires time { is_in_time self.old ≡ true }
+        requires own { stamp.server ≡ self.old.server }
         ensures bases { IfOk result (λ ss. ss ≡ map stamp_of (held_content self.old file).heads) }
         ensures store { OnOk result (self.new ≡ store_writing self.old file stamp ranges.now) }
         ensures allowed { OnOk result

@@ -54,7 +54,7 @@ fn add_clean(
 fn clean_edges(alloc: Global, server: NodeId, servers: u32) -> Result<Edges, AllocError>
     ensures { IfOk result (λ es. es ≡ clean_edges server servers) }
 {
-    let mut edges = Edges::new(alloc);
+    let mut edges = Edges::with_capacity(alloc, servers.saturating_sub(1) as usize)?;
     for k in 0..servers {
         add_clean(alloc, server, k + 1, &mut edges)?;
     }

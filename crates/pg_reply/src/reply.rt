@@ -14,7 +14,7 @@ ghost use Rattle.pg_words.specs.HexWord.{hex_word};
 
 use crate::only::{only_id, only_server, only_stamp, only_word};
 use crate::refusal::refused_of;
-use pg_base::{Items, SharedBytes, number, number_u32};
+use pg_base::{Items, Shared, SharedBytes, number, number_u32};
 use pg_call::{Counts, MOST_BYTES, Reply, Stat};
 use pg_path::{Row, is_component};
 use pg_words::{first_word, is_same, read_gold, read_hex_word, read_id, read_place};
@@ -232,6 +232,32 @@ fn stat_of(alloc: Global, words: &[&[u8]]) -> Result<Option<Stat>, AllocError>
     }))
 }
 
+/// The same as a reply.
+fn told_stat(alloc: Global, words: &[&[u8]]) -> Result<Option<Reply>, AllocError>
+    ensures found { IfOk result (λ o. IfSome o (λ r. IsReply r
+        × (codes "stat" ∷ map (λ w. w.now) words.now ≡ reply_words r))) }
+    ensures none { IfOk result (λ o. IfNone o (IsTold kind.Stat (map (λ w. w.now) words.now)
+        → ⊥)) }
+{
+    let Some(stat) = stat_of(alloc, words)? else {
+        return Ok(None);
+    };
+    Ok(Some(Reply::Stat(Shared::new(alloc, stat)?)))
+}
+
+/// What a server holds, of the words behind `status`, as a reply.
+fn told_counts(alloc: Global, words: &[&[u8]]) -> Result<Option<Reply>, AllocError>
+    ensures found { IfOk result (λ o. IfSome o (λ r. IsReply r
+        × (codes "status" ∷ map (λ w. w.now) words.now ≡ reply_words r))) }
+    ensures none { IfOk result (λ o. IfNone o (IsTold kind.Status (map (λ w. w.now) words.now)
+        → ⊥)) }
+{
+    let Some(counts) = counts_of(words) else {
+        return Ok(None);
+    };
+    Ok(Some(Reply::Status(Shared::new(alloc, counts)?)))
+}
+
 /// The reply of this kind with these words behind its first.
 fn reply_of(alloc: Global, kind: ReplyKind, words: &[&[u8]]) -> Result<Option<Reply>, AllocError>
     ensures found { IfOk result (λ o. IfSome o (λ r. IsReply r
@@ -245,9 +271,9 @@ fn reply_of(alloc: Global, kind: ReplyKind, words: &[&[u8]]) -> Result<Option<Re
         ReplyKind::Wrote => Ok(only_stamp(words).map(Reply::Wrote)),
         ReplyKind::Bytes => Ok(bytes_of(alloc, words)?.map(Reply::Bytes)),
         ReplyKind::Names => names_of(alloc, words),
-        ReplyKind::Stat => Ok(stat_of(alloc, words)?.map(Reply::Stat)),
+        ReplyKind::Stat => told_stat(alloc, words),
         ReplyKind::Leaving => Ok(only_server(words).map(Reply::Leaving)),
-        ReplyKind::Status => Ok(counts_of(words).map(Reply::Status)),
+        ReplyKind::Status => told_counts(alloc, words),
         ReplyKind::Refused => Ok(refused_of(words).map(Reply::Refused)),
     }
 }

@@ -28,6 +28,9 @@ const FIRST: Stamp = Stamp { time: 5, server: 1 };
 
 const LATEST: u64 = 1 << 62;
 
+/// A message with a time or a number from here on is ignored.
+const LIMIT: u64 = LATEST + (1 << 40);
+
 /// What comes to a server.
 #[derive(Clone, Copy)]
 enum Given {
@@ -39,6 +42,8 @@ enum Given {
     Cell(FileId, u64, u32),
     /// That of server 1, along an edge between these births.
     CellBetween(u64, u64),
+    /// A version of server 1 of this time, whose vector has this number of the server's replica of this birth as well.
+    Knows(u64, u32, u64, u64),
     /// The answer of server 2 to it, with this tag.
     Ack(u64),
     /// The same with tag 1, along an edge between these births.
@@ -58,6 +63,10 @@ fn input(alloc: Global, given: Given) -> Result<Input, AllocError> {
         }
         Given::Cell(file, time, server) => cell(alloc, ends(file, 1, 1), Stamp { time, server }),
         Given::CellBetween(sender, receiver) => cell(alloc, ends(FILE, sender, receiver), FIRST),
+        Given::Knows(time, server, birth, number) => {
+            let actor = Actor { server, birth };
+            knowing(alloc, Stamp { time, server: 1 }, actor, number)
+        }
         Given::Ack(tag) => Ok(ack(ends(FILE, 1, 1), tag)),
         Given::AckBetween(sender, receiver) => Ok(ack(ends(FILE, sender, receiver), 1)),
         Given::Tick => Ok(Input::Tick { moment: 6, word: 0 }),
@@ -80,8 +89,8 @@ fn ends(file: FileId, sender: u64, receiver: u64) -> Ends {
     }
 }
 
-fn version(alloc: Global, stamp: Stamp) -> Result<Version, AllocError> {
-    let mut vector = Vector::new(alloc);
+fn version(alloc: Global, stamp: Stamp, known: Vector) -> Result<Version, AllocError> {
+    let mut vector = known;
     let actor = Actor {
         server: stamp.server,
         birth: 1,
@@ -98,12 +107,23 @@ fn version(alloc: Global, stamp: Stamp) -> Result<Version, AllocError> {
 }
 
 fn cell(alloc: Global, ends: Ends, stamp: Stamp) -> Result<Input, AllocError> {
-    let message = Message::Cell {
+    let version = version(alloc, stamp, Vector::new(alloc))?;
+    Ok(arrival(1, cell_of(ends, version)))
+}
+
+fn knowing(alloc: Global, stamp: Stamp, actor: Actor, number: u64) -> Result<Input, AllocError> {
+    let mut known = Vector::new(alloc);
+    known.raise(actor, number)?;
+    let version = version(alloc, stamp, known)?;
+    Ok(arrival(1, cell_of(ends(FILE, 1, 1), version)))
+}
+
+fn cell_of(ends: Ends, version: Version) -> Message {
+    Message::Cell {
         ends,
         tag: 7,
-        cell: Cell::Version(version(alloc, stamp)?, Policy::Last),
-    };
-    Ok(arrival(1, message))
+        cell: Cell::Version(version, Policy::Last),
+    }
 }
 
 fn arrival(from: u32, message: Message) -> Input {
@@ -318,5 +338,59 @@ fn nothing_more_at_the_end_of_the_clock(rt: HostRuntime) -> Result<(), Fail> {
         0
     );
     assert!(rt; shows(&node, FILE, b"cd")?);
+    Ok(())
+}
+
+// Times of stamps and numbers of vectors, and how many messages a server sends that hears of them.
+#[test]
+fn a_message_out_of_range_is_ignored(rt: HostRuntime) -> Result<(), Fail> {
+    for (time, number, sent) in [
+        (5, 1, 3),
+        (LIMIT - 1, 1, 3),
+        (LIMIT, 1, 0),
+        (5, LIMIT - 1, 3),
+        (5, LIMIT, 0),
+    ] {
+        let mut node = Node::new(rt.alloc(), 2, 3);
+        let count = count(rt.alloc(), &mut node, Given::Knows(time, 3, 1, number))?;
+        assert_eq!(rt; count, sent);
+        assert_eq!(rt; node.content(&FILE).is_some(), sent > 0);
+    }
+    Ok(())
+}
+
+// A number of its own of 2^62, of whichever birth, in any file. What another server has is no matter.
+#[test]
+fn an_own_number_ends_the_clock(rt: HostRuntime) -> Result<(), Fail> {
+    for (server, birth, number, answer, sent) in [
+        (2, 1, LATEST, "refused 2 ClockEnd", 0),
+        (2, 7, LATEST, "refused 2 ClockEnd", 0),
+        (2, 1, LATEST - 1, "wrote 9@2", 3),
+        (3, 1, LATEST, "wrote 9@2", 3),
+    ] {
+        let mut node = Node::new(rt.alloc(), 2, 3);
+        node.step(input(rt.alloc(), Given::Knows(5, server, birth, number))?)?;
+        let told = reply(rt.alloc(), &mut node, Given::Put(9, JOINED))?;
+        assert_eq!(rt; told.as_str(), answer);
+        let count = count(rt.alloc(), &mut node, Given::Cell(JOINED, 6, 1))?;
+        assert_eq!(rt; count, sent);
+        assert!(rt; shows(&node, FILE, b"cd")?);
+    }
+    Ok(())
+}
+
+// A write may take the last number: the next one is refused, and a tick too.
+#[test]
+fn a_write_takes_the_last_number(rt: HostRuntime) -> Result<(), Fail> {
+    let mut node = Node::new(rt.alloc(), 2, 3);
+    for (given, answer) in [
+        (Given::Knows(5, 2, 1, LATEST - 1), ""),
+        (Given::Put(9, FILE), "wrote 9@2"),
+        (Given::Put(9, JOINED), "refused 2 ClockEnd"),
+        (Given::Tick, "refused 2 ClockEnd"),
+    ] {
+        let told = reply(rt.alloc(), &mut node, given)?;
+        assert_eq!(rt; told.as_str(), answer);
+    }
     Ok(())
 }

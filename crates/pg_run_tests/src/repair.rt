@@ -41,7 +41,7 @@ fn version(alloc: Global) -> Result<Version, AllocError> {
 
 /// A version comes.
 fn take(alloc: Global, store: &mut Store, work: &mut Work) -> Result<(), Fail> {
-    if !store.has_time() {
+    if !store.is_in_time() {
         return Err("no time".into());
     }
     Ok(cell(store, ENDS, 9, version(alloc)?, work)?)

@@ -53,7 +53,7 @@ fn take(
     server: u32,
     known: Option<u32>,
 ) -> Result<Taking, Fail> {
-    if !store.has_time() {
+    if !store.is_in_time() {
         return Err("no time".into());
     }
     Ok(store.take_version(FILE, link, version(alloc, server, known)?)?)
@@ -77,7 +77,7 @@ fn keys(alloc: Global, store: &Store) -> Result<Items<Key>, Fail> {
 /// The stamp of a write, and how many versions it is based on.
 fn write(alloc: Global, store: &mut Store) -> Result<(Stamp, usize), Fail> {
     let ranges = make(alloc, 0, b"new").ok().ok_or("ranges")?;
-    if !store.has_time() || !store.has_room(&FILE) {
+    if !store.is_in_time() {
         return Err("no time".into());
     }
     let stamp = store.next_stamp(TIME + 1);

@@ -1,6 +1,7 @@
 //! What is written of a run: the lines of a journal, in the full form and in the short one.
 #![tactic(auto)]
 
+mod fitting;
 mod laws;
 mod printed;
 mod replica;

@@ -1,16 +1,24 @@
 //! What is written of a run, and a whole journal.
 
 ghost use Rattle.std.specs.Prelude.{◌≡◌, ◌++◌, IfOk, OnOk, None, map};
-ghost use Rattle.std.specs.List.{flat_map};
+ghost use Rattle.std.specs.List.{AllByRecursion, flat_map};
 ghost use Rattle.std.specs.Option.{option_copied};
+ghost use Rattle.pg_base.specs.declared.id.Kind.TheVariants.{File};
 ghost use Rattle.pg_base.specs.declared.policy.Policy.{Policy};
 ghost use Rattle.pg_base.specs.Version.{stamp_of};
 ghost use Rattle.pg_content.specs.Content.{or_empty};
 ghost use Rattle.pg_msg.specs.Sent.{summary};
+ghost use Rattle.pg_msg.specs.Text.{IsSummary};
+ghost use Rattle.pg_msg.specs.UpdateText.{IsUpdate};
+ghost use Rattle.pg_sched.specs.Line.{IsLine};
 ghost use Rattle.pg_trace.specs.declared.printed.Printed.TheVariants as printed;
-ghost use Rattle.pg_trace.specs.Printed.{printed_text, journal_spelling};
-ghost use Rattle.pg_trace.specs.Text.{told_lines, tick_lines, done_lines, entry_text, head_text, show_text, quiet_text};
+ghost use Rattle.pg_trace.specs.Printed.{printed_text, journal_spelling, ArePrinted, IsPrinted};
+ghost use Rattle.pg_trace.specs.Suited.{Answers, IsSuited, SuitsKind, SuitsQuiet, SuitsUpdate};
+ghost use Rattle.pg_trace.specs.Text.{told_lines, tick_lines, done_lines, entry_lines, entry_text, head_lines, head_text, show_line, show_text, quiet_text};
 
+use crate::fitting::{
+    bytes_fit, id_fits, quiet_fits, reply_fits, stamps_fit, summary_fits, update_fits,
+};
 use crate::printed::{Printed, Word};
 use crate::shown::ShowWords;
 use pg_base::{Bytes, FileId, NodeId, Stamp, Version};
@@ -42,7 +50,8 @@ pub fn write(journal: &[Printed], out: &mut Bytes) -> Result<(), AllocError>
 
 /// Writes what stands in front of the output of the line with this number: in full form the line, in short form nothing.
 pub fn write_head(line: u64, form: Form, what: &Line, out: &mut Bytes) -> Result<(), AllocError>
-    ensures { OnOk result (out.new ≡ out.old ++ head_text line form what.now) }
+    ensures text { OnOk result (out.new ≡ out.old ++ head_text line form what.now) }
+    ensures spelled { IsLine what.now → ArePrinted (head_lines line form what.now) }
 {
     match form {
         Form::Full => write!(out, "event {line} {what}\n"),
@@ -50,9 +59,12 @@ pub fn write_head(line: u64, form: Form, what: &Line, out: &mut Bytes) -> Result
     }
 }
 
-/// Writes what comes of an event on the line with this number.
+/// Writes what comes of an event on the line with this number. Where its parts suit each other this is lines of a
+/// journal, that is, it is read again: the numbers and bytes of an entry are in their ranges by its type.
 pub fn write_entry(line: u64, form: Form, entry: &Entry, out: &mut Bytes) -> Result<(), AllocError>
-    ensures { OnOk result (out.new ≡ out.old ++ entry_text line form entry.now) }
+    ensures text { OnOk result (out.new ≡ out.old ++ entry_text line form entry.now) }
+    ensures spelled { OnOk result (IsSuited entry.now
+        → ArePrinted (entry_lines line form entry.now)) }
 {
     match entry.void {
         Some(cause) => write_line(&Printed::Void { line, cause }, out),
@@ -70,9 +82,12 @@ fn write_told(
     reply: &Option<Reply>,
     out: &mut Bytes,
 ) -> Result<(), AllocError>
-    ensures { OnOk result (out.new ≡ out.old
+    ensures text { OnOk result (out.new ≡ out.old
         ++ flat_map printed_text (told_lines form event.now reply.now)) }
+    ensures spelled { Answers event.now reply.now
+        → ArePrinted (told_lines form event.now reply.now) }
 {
+    reply_fits(event, reply);
     match (event, reply) {
         (Event::Write { server, change, .. }, Some(reply)) => {
             let kind = change.kind();
@@ -99,8 +114,11 @@ fn write_tick(form: Form, server: NodeId, reply: &Reply, out: &mut Bytes) -> Res
 }
 
 fn write_done(form: Form, made: &[Update], sent: &[Sent], out: &mut Bytes) -> Result<(), AllocError>
-    ensures { OnOk result (out.new ≡ out.old
+    ensures text { OnOk result (out.new ≡ out.old
         ++ flat_map printed_text (done_lines form made.now sent.now)) }
+    ensures spelled { OnOk result (AllByRecursion SuitsUpdate made.now
+        → AllByRecursion (λ m. SuitsKind (summary m)) sent.now
+        → ArePrinted (done_lines form made.now sent.now)) }
 {
     match form {
         Form::Full => {
@@ -113,13 +131,17 @@ fn write_done(form: Form, made: &[Update], sent: &[Sent], out: &mut Bytes) -> Re
 }
 
 fn write_update(update: &Update, out: &mut Bytes) -> Result<(), AllocError>
-    ensures { OnOk result (out.new ≡ out.old ++ printed_text (printed.Made update.now)) }
+    ensures text { OnOk result (out.new ≡ out.old ++ printed_text (printed.Made update.now)) }
+    ensures fits { SuitsUpdate update.now → IsUpdate update.now }
 {
+    update_fits(update);
     write!(out, "made {update}\n")
 }
 
 fn write_made(made: &[Update], out: &mut Bytes) -> Result<(), AllocError>
-    ensures { OnOk result (out.new ≡ out.old ++ flat_map printed_text (map printed.Made made.now)) }
+    ensures text { OnOk result (out.new ≡ out.old
+        ++ flat_map printed_text (map printed.Made made.now)) }
+    ensures fit { OnOk result (AllByRecursion (λ u. SuitsUpdate u → IsUpdate u) made.now) }
 {
     for update in made {
         write_update(update, out)?;
@@ -127,12 +149,24 @@ fn write_made(made: &[Update], out: &mut Bytes) -> Result<(), AllocError>
     Ok(())
 }
 
+fn write_message(message: &Sent, out: &mut Bytes) -> Result<(), AllocError>
+    ensures text { OnOk result (out.new ≡ out.old
+        ++ printed_text (printed.Sent (summary message.now))) }
+    ensures fits { SuitsKind (summary message.now) → IsSummary (summary message.now) }
+{
+    let summary = message.summary();
+    summary_fits(summary);
+    write_line(&Printed::Sent(summary), out)
+}
+
 fn write_sent(sent: &[Sent], out: &mut Bytes) -> Result<(), AllocError>
-    ensures { OnOk result (out.new ≡ out.old
+    ensures text { OnOk result (out.new ≡ out.old
         ++ flat_map printed_text (map (λ m. printed.Sent (summary m)) sent.now)) }
+    ensures fit { OnOk result
+        (AllByRecursion (λ m. SuitsKind (summary m) → IsSummary (summary m)) sent.now) }
 {
     for message in sent {
-        write_line(&Printed::Sent(message.summary()), out)?;
+        write_message(message, out)?;
     }
     Ok(())
 }
@@ -145,9 +179,12 @@ pub fn write_show(
     content: Option<&Content>,
     out: &mut Bytes,
 ) -> Result<(), AllocError>
-    ensures { OnOk result ((policy : Policy)
+    ensures text { OnOk result ((policy : Policy)
         → out.new ≡ out.old ++ show_text server file.now
         (or_empty policy (option_copied content.entry))) }
+    ensures spelled { OnOk result (file.now.kind ≡ File → (policy : Policy)
+        → IsPrinted (show_line server file.now
+        (or_empty policy (option_copied content.entry)))) }
 {
     match content {
         None => write_nothing(server, file, out),
@@ -156,9 +193,12 @@ pub fn write_show(
 }
 
 fn write_nothing(server: NodeId, file: &FileId, out: &mut Bytes) -> Result<(), AllocError>
-    ensures { OnOk result ((policy : Policy)
+    ensures text { OnOk result ((policy : Policy)
         → out.new ≡ out.old ++ show_text server file.now (or_empty policy None)) }
+    ensures spelled { file.now.kind ≡ File → (policy : Policy)
+        → IsPrinted (show_line server file.now (or_empty policy None)) }
 {
+    id_fits(*file);
     let words = ShowWords {
         server,
         file: *file,
@@ -175,10 +215,15 @@ fn write_content(
     content: &Content,
     out: &mut Bytes,
 ) -> Result<(), AllocError>
-    ensures { OnOk result (out.new ≡ out.old ++ show_text server file.now content.now) }
+    ensures text { OnOk result (out.new ≡ out.old ++ show_text server file.now content.now) }
+    ensures spelled { OnOk result (file.now.kind ≡ File
+        → IsPrinted (show_line server file.now content.now)) }
 {
     let first = content.view(0, SHOWN)?.into_vec();
     let heads = stamps_of(*first.allocator(), content.heads())?;
+    id_fits(*file);
+    bytes_fit(first.as_slice());
+    stamps_fit(heads.as_slice());
     let words = ShowWords {
         server,
         file: *file,
@@ -201,7 +246,9 @@ fn stamps_of(alloc: Global, versions: &[Version]) -> Result<Vec<Stamp>, AllocErr
 
 /// Writes whether all is done, behind this word.
 pub fn write_quiet(word: Word, quiet: &Quiet, out: &mut Bytes) -> Result<(), AllocError>
-    ensures { OnOk result (out.new ≡ out.old ++ quiet_text word quiet.now) }
+    ensures text { OnOk result (out.new ≡ out.old ++ quiet_text word quiet.now) }
+    ensures spelled { SuitsQuiet quiet.now → IsPrinted (printed.Asked word quiet.now) }
 {
+    quiet_fits(*quiet);
     write!(out, "{word} {quiet}\n")
 }

@@ -6,11 +6,11 @@ use Rattle.pg_base.specs.Id.{Fits, spelling}
 use Rattle.pg_base.specs.declared.id.FileId.{FileId}
 use Rattle.pg_base.specs.declared.stamp.Stamp.{Stamp}
 use Rattle.pg_path.specs.Name.{IsClientName, IsNameByte}
-use Rattle.pg_register.specs.Place.{tilde_name}
+use Rattle.pg_register.specs.Place.{IsPlaceName, tilde_name}
 use Rattle.pg_register.specs.declared.place.Place.{Place}
 use Rattle.pg_words.specs.ChoiceWord.{life_word}
 use Rattle.pg_words.specs.FileWord.{IsDirectory}
-use Rattle.pg_words.specs.PlaceWords.{IsPlace, IsPlaceName, name_word, place_words}
+use Rattle.pg_words.specs.PlaceWords.{IsPlace, name_word, place_words}
 use Rattle.pg_words.proofs.Stamps.{same_stamp}
 use Rattle.pg_words.proofs.Lacking.{Ends, literal, Lacks-spelling, Lacks-stamp}
 use Rattle.pg_words.proofs.Splitting.{Lacks, word_at}

@@ -1,10 +1,8 @@
 -- Places as words: when it was made, the directory, the name in it, and whether it is live.
-use Rattle.std.specs.Prelude.{ℕ, ◌≡◌, ◌⊎◌, List, [], ◌∷◌, codes}
-use Rattle.pg_base.specs.Id.{spelling, Fits}
+use Rattle.std.specs.Prelude.{ℕ, List, [], ◌∷◌, codes}
+use Rattle.pg_base.specs.Id.{spelling}
 use Rattle.pg_base.specs.StampText.{stamp_text}
-use Rattle.pg_base.specs.declared.id.FileId.{FileId}
-use Rattle.pg_path.specs.Name.{IsClientName}
-use Rattle.pg_register.specs.Place.{tilde_name}
+use Rattle.pg_register.specs.Place.{IsPlaceName}
 use Rattle.pg_register.specs.declared.place.Place.{Place}
 use Rattle.pg_words.specs.ChoiceWord.{life_word}
 use Rattle.pg_words.specs.FileWord.{IsDirectory}
@@ -14,11 +12,6 @@ use Rattle.pg_words.specs.StampWord.{IsStamp}
 abbrev pub name_word : List ℕ → List ℕ
 name_word [] = codes "/"
 name_word (byte ∷ bytes) = byte ∷ bytes
-
--- none, a client's name, or one that is made of an id
-abbrev pub IsPlaceName : List ℕ → Type 0
-IsPlaceName name = (name ≡ []) ⊎ (IsClientName name
-    ⊎ ((id : FileId) × Fits id × (name ≡ tilde_name id)))
 
 abbrev pub place_words : Place → List (List ℕ)
 place_words place =

@@ -16,7 +16,7 @@ pub use choice_word::{
 };
 pub use hex_word::{HexWord, read_hex, read_hex_word};
 pub use list_word::items_of;
-pub use place_word::{NameWord, PlaceWords, is_place_name, one_place_spelling, read_place};
+pub use place_word::{NameWord, PlaceWords, one_place_spelling, read_place};
 pub use stamp_word::{StampsWord, one_stamp_spelling, read_stamp, read_stamps};
 pub use text_word::{TextWord, is_text};
 pub use word::{is_same, read_directory, read_file, read_id};

@@ -1,19 +1,16 @@
 //! Places as words.
 
 ghost use Rattle.std.specs.Prelude.{◌≡◌, ◌↔◌, ◌∷◌, [], ℕ, List, IfOk, IfSome, IfNone, IsTrue};
-ghost use Rattle.pg_base.specs.Id.{Fits};
-ghost use Rattle.pg_base.specs.declared.id.FileId.{FileId};
-ghost use Rattle.pg_register.specs.Place.{tilde_name};
+ghost use Rattle.pg_register.specs.Place.{IsPlaceName};
 ghost use Rattle.pg_register.specs.declared.place.Place.{Place};
-ghost use Rattle.pg_words.specs.PlaceWords.{IsPlace, IsPlaceName, name_word, place_words};
+ghost use Rattle.pg_words.specs.PlaceWords.{IsPlace, name_word, place_words};
 
 use crate::choice_word::{LifeWord, read_life};
 use crate::stamp_word::read_stamp;
 use crate::text_word::TextWord;
-use crate::word::{is_same, read_directory, read_id};
+use crate::word::{is_same, read_directory};
 use pg_base::SharedBytes;
-use pg_path::is_client_name;
-use pg_register::Place;
+use pg_register::{Place, is_place_name};
 use std::alloc::{AllocError, Global};
 use std::fmt;
 
@@ -54,23 +51,6 @@ impl fmt::Display for PlaceWords<'_> {
         let life = LifeWord(self.0.live);
         write!(f, "{stamp} {parent} {name} {life}")
     }
-}
-
-/// Whether the bytes are a tilde and the spelling of an id.
-fn is_tilde_name(bytes: &[u8]) -> bool
-    ensures { IsTrue result ↔ ((id : FileId) × Fits id × (bytes.now ≡ tilde_name id)) }
-{
-    let Some(word) = bytes.strip_prefix(b"~") else {
-        return false;
-    };
-    read_id(word).is_some()
-}
-
-/// Whether the bytes are a name that a place may have.
-pub fn is_place_name(bytes: &[u8]) -> bool
-    ensures { IsTrue result ↔ IsPlaceName bytes.now }
-{
-    bytes.is_empty() || is_client_name(bytes) || is_tilde_name(bytes)
 }
 
 /// The bytes of the name that the word stands for.

@@ -1,8 +1,12 @@
 use Rattle.std.proofs.Common.{sym, ◌∙◌, [], arith}
+use Rattle.pg_sched.proofs.Words.{deliver_line}
 use Rattle.pg_world.specs.Played.{final}
 use Rattle.pangaea.proofs.Gone.{Reaches-refl, delivery_goes, goes_same}
 use Rattle.pangaea.proofs.Settled.{deliveries_over, delivers_none}
 use Rattle.pangaea.proofs.journal.Replay.deliver_all.Goals as goal
+
+pub happen_within-requires : goal.happen_within-requires
+happen_within-requires c = deliver_line 1 (omega arith)
 
 pub loop-left-preserved : goal.loop-left-preserved
 loop-left-preserved c =

@@ -1,4 +1,4 @@
-use Rattle.std.proofs.Common.{◌≡◌, ◌<◌, List, length, arith, Some, nat_eq, get_or, ap, sym, ◌∙◌, refl}
+use Rattle.std.proofs.Common.{◌≡◌, ◌<◌, List, length, arith, Some, nat_eq, get_or, ap, sym, ◌∙◌}
 use Rattle.std.proofs.lemmas.Bool.{ne_eqb, eq-eqb}
 use Rattle.pg_edges.specs.declared.edge.Edge.{Edge}
 use Rattle.std.proofs.lemmas.List.{get_or_default}

@@ -1,4 +1,4 @@
-use Rattle.std.proofs.Common.{ap, refl, sym, subst, ◌≡◌, ℕ, ◌∙◌, length, ◌+◌, arith}
+use Rattle.std.proofs.Common.{ap, sym, ◌≡◌, ◌∙◌, length, arith}
 use Rattle.std.proofs.Math.Dec.{leb}
 use Rattle.pg_edges.specs.Edges.{are_clean}
 use Rattle.pg_edges.proofs.Cleaning.{clean_by_first}

@@ -1,4 +1,3 @@
-use Rattle.std.proofs.Common.{◌∙◌}
 use Rattle.pg_edges.proofs.Searching.{put_at, put_gap}
 use Rattle.pg_edges.proofs.many.Many.set.Goals as goal
 

@@ -10,8 +10,14 @@ use Rattle.pg_replica.proofs.replicas.Replicas.acknowledge.Goals as goal
 pub invariant_of-self-2 : goal.invariant_of-self-2
 invariant_of-self-2 c =
     let w = c.acknowledge_listed.new.replica in
-    index_there (in_order c.self.inside.by_file.entries) c.self.invariant c.acknowledge_listed.ensures.listed file_cmp refl _
-    (lookup-in_order c.args.file c.self.inside.by_file.entries ∙ sym c.in-Some.ensures.value) (in_order-set c.self.inside.by_file (c.get_mut.follows.lender w) c.args.file _ w (sym c.in-Some.ensures.value) (c.get_mut.follows.holds w).3)
+    record {
+      unacknowledged =
+          index_there (in_order c.self.inside.by_file.entries) c.self.invariant.unacknowledged c.acknowledge_listed.ensures.listed file_cmp refl _
+          (lookup-in_order c.args.file c.self.inside.by_file.entries ∙ sym c.in-Some.ensures.value) (in_order-set c.self.inside.by_file (c.get_mut.follows.lender w) c.args.file _ w (sym c.in-Some.ensures.value) (c.get_mut.follows.holds w).3);
+      ended =
+          index_there (in_order c.self.inside.by_file.entries) c.self.invariant.ended c.acknowledge_listed.ensures.ended file_cmp refl _
+          (lookup-in_order c.args.file c.self.inside.by_file.entries ∙ sym c.in-Some.ensures.value) (in_order-set c.self.inside.by_file (c.get_mut.follows.lender w) c.args.file _ w (sym c.in-Some.ensures.value) (c.get_mut.follows.holds w).3);
+    }
 
 pub returns : goal.returns
 returns c =
@@ -22,7 +28,7 @@ returns c =
     (λ rs. ds ≡ replicas_acked rs c.args.file c.args.link.now c.args.key c.args.tag (replica_in rs c.args.file)) in
     subst P c.self.view_is
     (acked_there file_cmp refl es ds c.args.file c.in-Some.replica.now w c.args.link.now c.args.key c.args.tag
-    c.self.invariant.by_file (lookup-in_order c.args.file c.self.inside.by_file.entries ∙ sym c.in-Some.ensures.value) (in_order-set c.self.inside.by_file (c.get_mut.follows.lender w) c.args.file _ w (sym c.in-Some.ensures.value) (c.get_mut.follows.holds w).3) c.acknowledge_listed.ensures.replica)
+    c.self.invariant.unacknowledged.by_file (lookup-in_order c.args.file c.self.inside.by_file.entries ∙ sym c.in-Some.ensures.value) (in_order-set c.self.inside.by_file (c.get_mut.follows.lender w) c.args.file _ w (sym c.in-Some.ensures.value) (c.get_mut.follows.holds w).3) c.acknowledge_listed.ensures.replica)
 
 pub returns-in_default : goal.returns-in_default
 returns-in_default c =

@@ -8,6 +8,7 @@ use Rattle.pg_edges.specs.Edges.{are_clean}
 use Rattle.pg_replica.specs.Replica.{tags_taking, taking}
 use Rattle.pg_replica.specs.Replicas.{ByFile, replica_for, replicas_taking}
 use Rattle.pg_replica.proofs.Clean.{clean_new}
+use Rattle.pg_replica.proofs.Ends.{new_none}
 use Rattle.pg_replica.proofs.Relisting.{index_beside, index_come, index_there}
 use Rattle.pg_replica.proofs.Takings.{for_new, for_there, news_new, ok_more, same_new, taken_there}
 use Rattle.pg_replica.proofs.replicas.Replicas.take_version.Goals as goal
@@ -17,8 +18,14 @@ use Rattle.pg_replica.proofs.replicas.Replicas.take_version.Goals as goal
 pub invariant_of-self : goal.invariant_of-self
 invariant_of-self c =
     let w = c.take_listed.new.replica in
-    index_there (in_order c.self.inside.by_file.entries) c.self.invariant c.take_listed.ensures.listed file_cmp refl _
-    (lookup-in_order c.args.file c.self.inside.by_file.entries ∙ sym c.in-Some.ensures.value) (in_order-set c.self.inside.by_file (c.get_mut.follows.lender w) c.args.file _ w (sym c.in-Some.ensures.value) (c.get_mut.follows.holds w).3)
+    record {
+      unacknowledged =
+          index_there (in_order c.self.inside.by_file.entries) c.self.invariant.unacknowledged c.take_listed.ensures.listed file_cmp refl _
+          (lookup-in_order c.args.file c.self.inside.by_file.entries ∙ sym c.in-Some.ensures.value) (in_order-set c.self.inside.by_file (c.get_mut.follows.lender w) c.args.file _ w (sym c.in-Some.ensures.value) (c.get_mut.follows.holds w).3);
+      ended =
+          index_there (in_order c.self.inside.by_file.entries) c.self.invariant.ended c.take_listed.ensures.ended file_cmp refl _
+          (lookup-in_order c.args.file c.self.inside.by_file.entries ∙ sym c.in-Some.ensures.value) (in_order-set c.self.inside.by_file (c.get_mut.follows.lender w) c.args.file _ w (sym c.in-Some.ensures.value) (c.get_mut.follows.holds w).3);
+    }
 
 pub returns-in-Some-clause-taking : goal.returns-in-Some-clause-taking
 returns-in-Some-clause-taking c =
@@ -44,32 +51,58 @@ returns-in-Some-clause-replicas c =
     ok_more c.take_listed.result _ _ c.take_listed.ensures.replica (λ is.
     subst P c.self.view_is
     (taken_there c.args.home es ds c.args.file c.in-Some.replica.now w c.args.link.now c.args.version c.args.tags.now file_cmp refl
-    c.self.invariant.by_file (lookup-in_order c.args.file c.self.inside.by_file.entries ∙ sym c.in-Some.ensures.value) (in_order-set c.self.inside.by_file (c.get_mut.follows.lender w) c.args.file _ w (sym c.in-Some.ensures.value) (c.get_mut.follows.holds w).3) is))
+    c.self.invariant.unacknowledged.by_file (lookup-in_order c.args.file c.self.inside.by_file.entries ∙ sym c.in-Some.ensures.value) (in_order-set c.self.inside.by_file (c.get_mut.follows.lender w) c.args.file _ w (sym c.in-Some.ensures.value) (c.get_mut.follows.holds w).3) is))
 
 -- ---- it is made
 
 pub invariant_of-self-in_err-taking-in-None : goal.invariant_of-self-in_err-taking-in-None
 invariant_of-self-in_err-taking-in-None c =
-    index_beside (in_order c.self.inside.by_file.entries) c.self.invariant c.take_listed-in-None.ensures.listed file_cmp refl _
-    (lookup-in_order c.args.file c.self.inside.by_file.entries ∙ sym c.in-None.ensures.value) (in_order-same _ _ c.get_mut.follows.holds-at-none)
+    record {
+      unacknowledged =
+          index_beside (in_order c.self.inside.by_file.entries) c.self.invariant.unacknowledged c.take_listed-in-None.ensures.listed file_cmp refl _
+          (lookup-in_order c.args.file c.self.inside.by_file.entries ∙ sym c.in-None.ensures.value) (in_order-same _ _ c.get_mut.follows.holds-at-none);
+      ended =
+          index_beside (in_order c.self.inside.by_file.entries) c.self.invariant.ended c.take_listed-in-None.ensures.ended file_cmp refl _
+          (lookup-in_order c.args.file c.self.inside.by_file.entries ∙ sym c.in-None.ensures.value) (in_order-same _ _ c.get_mut.follows.holds-at-none);
+    }
 
 pub invariant_of-self-in_err-insert-in-News : goal.invariant_of-self-in_err-insert-in-News
 invariant_of-self-in_err-insert-in-News c =
-    index_beside (in_order c.self.inside.by_file.entries) c.self.invariant c.take_listed-in-None.ensures.listed file_cmp refl _
-    (lookup-in_order c.args.file c.self.inside.by_file.entries ∙ sym c.in-None.ensures.value)
-    (ap in_order c.in_err-insert-in-News.ensures.err ∙ in_order-same _ _ c.get_mut.follows.holds-at-none)
+    record {
+      unacknowledged =
+          index_beside (in_order c.self.inside.by_file.entries) c.self.invariant.unacknowledged c.take_listed-in-None.ensures.listed file_cmp refl _
+          (lookup-in_order c.args.file c.self.inside.by_file.entries ∙ sym c.in-None.ensures.value)
+          (ap in_order c.in_err-insert-in-News.ensures.err ∙ in_order-same _ _ c.get_mut.follows.holds-at-none);
+      ended =
+          index_beside (in_order c.self.inside.by_file.entries) c.self.invariant.ended c.take_listed-in-None.ensures.ended file_cmp refl _
+          (lookup-in_order c.args.file c.self.inside.by_file.entries ∙ sym c.in-None.ensures.value)
+          (ap in_order c.in_err-insert-in-News.ensures.err ∙ in_order-same _ _ c.get_mut.follows.holds-at-none);
+    }
 
 pub invariant_of-self-in-NoEdge-1 : goal.invariant_of-self-in-NoEdge-1
 invariant_of-self-in-NoEdge-1 c =
-    index_beside (in_order c.self.inside.by_file.entries) c.self.invariant c.take_listed-in-None.ensures.listed file_cmp refl _
-    (lookup-in_order c.args.file c.self.inside.by_file.entries ∙ sym c.in-None.ensures.value) (in_order-same _ _ c.get_mut.follows.holds-at-none)
+    record {
+      unacknowledged =
+          index_beside (in_order c.self.inside.by_file.entries) c.self.invariant.unacknowledged c.take_listed-in-None.ensures.listed file_cmp refl _
+          (lookup-in_order c.args.file c.self.inside.by_file.entries ∙ sym c.in-None.ensures.value) (in_order-same _ _ c.get_mut.follows.holds-at-none);
+      ended =
+          index_beside (in_order c.self.inside.by_file.entries) c.self.invariant.ended c.take_listed-in-None.ensures.ended file_cmp refl _
+          (lookup-in_order c.args.file c.self.inside.by_file.entries ∙ sym c.in-None.ensures.value) (in_order-same _ _ c.get_mut.follows.holds-at-none);
+    }
 
 pub invariant_of-self-in-News : goal.invariant_of-self-in-News
 invariant_of-self-in-News c =
     let x = c.in_ok-replica-in-None.replica in
-    index_come (in_order c.self.inside.by_file.entries) c.self.invariant c.take_listed-in-None.ensures.listed file_cmp refl _
-    (ap (λ (y : Replica). are_clean y.edges) c.in_ok-replica-in-None.ensures ∙ clean_new c.args.home.server c.args.home.servers)
-    (in_order-come c.self.inside.by_file _ c.insert.new.self c.args.file c.take_listed-in-None.new.replica c.get_mut.follows.holds-at-none c.in_ok-insert-in-News.ensures.updates)
+    record {
+      unacknowledged =
+          index_come (in_order c.self.inside.by_file.entries) c.self.invariant.unacknowledged c.take_listed-in-None.ensures.listed file_cmp refl _
+          (ap (λ (y : Replica). are_clean y.edges) c.in_ok-replica-in-None.ensures ∙ clean_new c.args.home.server c.args.home.servers)
+          (in_order-come c.self.inside.by_file _ c.insert.new.self c.args.file c.take_listed-in-None.new.replica c.get_mut.follows.holds-at-none c.in_ok-insert-in-News.ensures.updates);
+      ended =
+          index_come (in_order c.self.inside.by_file.entries) c.self.invariant.ended c.take_listed-in-None.ensures.ended file_cmp refl _
+          (new_none _ c.args.home.server c.args.home.servers c.args.file c.in_ok-replica-in-None.ensures)
+          (in_order-come c.self.inside.by_file _ c.insert.new.self c.args.file c.take_listed-in-None.new.replica c.get_mut.follows.holds-at-none c.in_ok-insert-in-News.ensures.updates);
+    }
 
 pub returns-in_ok-insert-in-News-clause-taking : goal.returns-in_ok-insert-in-News-clause-taking
 returns-in_ok-insert-in-News-clause-taking c =

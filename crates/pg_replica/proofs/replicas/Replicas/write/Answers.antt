@@ -11,6 +11,7 @@ use Rattle.pg_edges.specs.Edges.{are_clean}
 use Rattle.pg_replica.specs.Replica.{has_room, refusal_of}
 use Rattle.pg_replica.specs.Replicas.{ByFile, replica_for, replicas_writing}
 use Rattle.pg_replica.proofs.Clean.{clean_new}
+use Rattle.pg_replica.proofs.Ends.{new_none}
 use Rattle.pg_replica.proofs.Relisting.{index_beside, index_come, index_there}
 use Rattle.pg_replica.proofs.Takings.{err_more, for_new, for_there, ok_more, same_there, written_new, written_there}
 use Rattle.pg_replica.proofs.replicas.Replicas.write.Goals as goal
@@ -26,8 +27,14 @@ write_listed-requires-clause-room c =
 pub invariant_of-self : goal.invariant_of-self
 invariant_of-self c =
     let w = c.write_listed.new.replica in
-    index_there (in_order c.self.inside.by_file.entries) c.self.invariant c.write_listed.ensures.listed file_cmp refl _
-    (lookup-in_order c.args.file c.self.inside.by_file.entries ∙ sym c.in-Some.ensures.value) (in_order-set c.self.inside.by_file (c.get_mut.follows.lender w) c.args.file _ w (sym c.in-Some.ensures.value) (c.get_mut.follows.holds w).3)
+    record {
+      unacknowledged =
+          index_there (in_order c.self.inside.by_file.entries) c.self.invariant.unacknowledged c.write_listed.ensures.listed file_cmp refl _
+          (lookup-in_order c.args.file c.self.inside.by_file.entries ∙ sym c.in-Some.ensures.value) (in_order-set c.self.inside.by_file (c.get_mut.follows.lender w) c.args.file _ w (sym c.in-Some.ensures.value) (c.get_mut.follows.holds w).3);
+      ended =
+          index_there (in_order c.self.inside.by_file.entries) c.self.invariant.ended c.write_listed.ensures.ended file_cmp refl _
+          (lookup-in_order c.args.file c.self.inside.by_file.entries ∙ sym c.in-Some.ensures.value) (in_order-set c.self.inside.by_file (c.get_mut.follows.lender w) c.args.file _ w (sym c.in-Some.ensures.value) (c.get_mut.follows.holds w).3);
+    }
 
 pub returns-in-Some-clause-bases : goal.returns-in-Some-clause-bases
 returns-in-Some-clause-bases c =
@@ -77,14 +84,20 @@ returns-in-Some-clause-replicas c =
     ok_more c.write_listed.result _ _ c.write_listed.ensures.replica (λ is.
     subst P c.self.view_is
     (written_there file_cmp refl c.args.home es ds c.args.file c.in-Some.replica.now w c.args.stamp c.args.ranges.now c.args.tags.now
-    c.self.invariant.by_file (lookup-in_order c.args.file c.self.inside.by_file.entries ∙ sym c.in-Some.ensures.value) (in_order-set c.self.inside.by_file (c.get_mut.follows.lender w) c.args.file _ w (sym c.in-Some.ensures.value) (c.get_mut.follows.holds w).3) is))
+    c.self.invariant.unacknowledged.by_file (lookup-in_order c.args.file c.self.inside.by_file.entries ∙ sym c.in-Some.ensures.value) (in_order-set c.self.inside.by_file (c.get_mut.follows.lender w) c.args.file _ w (sym c.in-Some.ensures.value) (c.get_mut.follows.holds w).3) is))
 
 -- ---- it is made
 
 pub invariant_of-self-in_err-bases-in-None : goal.invariant_of-self-in_err-bases-in-None
 invariant_of-self-in_err-bases-in-None c =
-    index_beside (in_order c.self.inside.by_file.entries) c.self.invariant c.write_listed-in-None.ensures.listed file_cmp refl _
-    (lookup-in_order c.args.file c.self.inside.by_file.entries ∙ sym c.in-None.ensures.value) (in_order-same _ _ c.get_mut.follows.holds-at-none)
+    record {
+      unacknowledged =
+          index_beside (in_order c.self.inside.by_file.entries) c.self.invariant.unacknowledged c.write_listed-in-None.ensures.listed file_cmp refl _
+          (lookup-in_order c.args.file c.self.inside.by_file.entries ∙ sym c.in-None.ensures.value) (in_order-same _ _ c.get_mut.follows.holds-at-none);
+      ended =
+          index_beside (in_order c.self.inside.by_file.entries) c.self.invariant.ended c.write_listed-in-None.ensures.ended file_cmp refl _
+          (lookup-in_order c.args.file c.self.inside.by_file.entries ∙ sym c.in-None.ensures.value) (in_order-same _ _ c.get_mut.follows.holds-at-none);
+    }
 
 pub returns-in_err-bases-in-None-clause-refused : goal.returns-in_err-bases-in-None-clause-refused
 returns-in_err-bases-in-None-clause-refused c =
@@ -97,15 +110,29 @@ returns-in_err-bases-in-None-clause-refused c =
 
 pub invariant_of-self-in_err-insert-in-None : goal.invariant_of-self-in_err-insert-in-None
 invariant_of-self-in_err-insert-in-None c =
-    index_beside (in_order c.self.inside.by_file.entries) c.self.invariant c.write_listed-in-None.ensures.listed file_cmp refl _
-    (lookup-in_order c.args.file c.self.inside.by_file.entries ∙ sym c.in-None.ensures.value)
-    (ap in_order c.in_err-insert-in-None.ensures.err ∙ in_order-same _ _ c.get_mut.follows.holds-at-none)
+    record {
+      unacknowledged =
+          index_beside (in_order c.self.inside.by_file.entries) c.self.invariant.unacknowledged c.write_listed-in-None.ensures.listed file_cmp refl _
+          (lookup-in_order c.args.file c.self.inside.by_file.entries ∙ sym c.in-None.ensures.value)
+          (ap in_order c.in_err-insert-in-None.ensures.err ∙ in_order-same _ _ c.get_mut.follows.holds-at-none);
+      ended =
+          index_beside (in_order c.self.inside.by_file.entries) c.self.invariant.ended c.write_listed-in-None.ensures.ended file_cmp refl _
+          (lookup-in_order c.args.file c.self.inside.by_file.entries ∙ sym c.in-None.ensures.value)
+          (ap in_order c.in_err-insert-in-None.ensures.err ∙ in_order-same _ _ c.get_mut.follows.holds-at-none);
+    }
 
 pub invariant_of-self-in-None : goal.invariant_of-self-in-None
 invariant_of-self-in-None c =
-    index_come (in_order c.self.inside.by_file.entries) c.self.invariant c.write_listed-in-None.ensures.listed file_cmp refl _
-    (ap (λ (y : Replica). are_clean y.edges) c.in_ok-replica-in-None.ensures ∙ clean_new c.args.home.server c.args.home.servers)
-    (in_order-come c.self.inside.by_file _ c.insert.new.self c.args.file c.write_listed-in-None.new.replica c.get_mut.follows.holds-at-none c.in_ok-insert-in-None.ensures.updates)
+    record {
+      unacknowledged =
+          index_come (in_order c.self.inside.by_file.entries) c.self.invariant.unacknowledged c.write_listed-in-None.ensures.listed file_cmp refl _
+          (ap (λ (y : Replica). are_clean y.edges) c.in_ok-replica-in-None.ensures ∙ clean_new c.args.home.server c.args.home.servers)
+          (in_order-come c.self.inside.by_file _ c.insert.new.self c.args.file c.write_listed-in-None.new.replica c.get_mut.follows.holds-at-none c.in_ok-insert-in-None.ensures.updates);
+      ended =
+          index_come (in_order c.self.inside.by_file.entries) c.self.invariant.ended c.write_listed-in-None.ensures.ended file_cmp refl _
+          (new_none _ c.args.home.server c.args.home.servers c.args.file c.in_ok-replica-in-None.ensures)
+          (in_order-come c.self.inside.by_file _ c.insert.new.self c.args.file c.write_listed-in-None.new.replica c.get_mut.follows.holds-at-none c.in_ok-insert-in-None.ensures.updates);
+    }
 
 pub returns-in_ok-insert-in-None-clause-bases : goal.returns-in_ok-insert-in-None-clause-bases
 returns-in_ok-insert-in-None-clause-bases c =

@@ -1,0 +1,5 @@
+pub mod Kept
+pub mod Chain
+pub mod Taking
+pub mod Leading
+pub mod Whole

@@ -1,0 +1,46 @@
+-- The house rules hold what was held.
+use Rattle.std.proofs.Common.{◌≡◌, ℕ, List, [], ◌∷◌, length, Option, None, Some, refl, ◌∙◌}
+use Rattle.std.specs.Map.{keys_of}
+use Rattle.pg_base.specs.declared.id.FileId.{FileId}
+use Rattle.pg_names.specs.declared.own.Own.{Own}
+use Rattle.pg_names.specs.Names.{own_at, directories, with_last, with_own}
+use Rattle.pg_names.proofs.Lookups.{update_frame}
+use Rattle.pg_house.specs.Work.{State}
+use Rattle.pg_house.specs.Passing.{greatest, is_held_back, pass, pass_own, pass_all}
+use Rattle.pg_house.specs.Placing.{drawn, live_place, made_at, own_with, placed}
+use Rattle.pg_house.specs.Returning.{return_first, returned, first_returning}
+use Rattle.pg_house.specs.Cycles.{break_first, moved, first_moving}
+use Rattle.pg_house.specs.House.{movable, rules}
+use Rattle.pg_house.proofs.AfterPassing.{after_frame}
+use Rattle.pg_house.proofs.Repeating.{repeated_keeps}
+
+abbrev pub keys : State → List FileId
+keys st = keys_of st.names.held
+
+pub pass_own_keys : (st : State) (ds : List FileId) (f : FileId) (o : Option Own) → keys (pass_own st ds f o) ≡ keys st
+pass_own_keys st ds f None = refl
+pass_own_keys st ds f (Some own) = (after_frame st ds f own (greatest st.names f own ds) (is_held_back st.names.removed f own (greatest st.names f own ds))).keys
+
+pass_all_keys : (st : State) (ds fs : List FileId) → keys (pass_all st ds fs) ≡ keys st
+pass_all_keys st ds [] = refl
+pass_all_keys st ds (f ∷ fs) = pass_all_keys (pass st ds f) ds fs ∙ pass_own_keys st ds f (own_at st.names f)
+
+pub placed_keys : (moment : ℕ) (ds : List FileId) (st : State) (f p : FileId) (name : List ℕ) → keys (placed moment ds st f p name) ≡ keys st
+placed_keys moment ds st f p name =
+    let place = live_place (drawn moment st.names) p name in
+    let made = made_at st f place in
+    pass_own_keys made ds f (own_at made.names f) ∙ (update_frame (with_last st.names place.stamp.time) f (with_own (own_with st.names f place))).keys
+
+returned_keys : (moment : ℕ) (ds : List FileId) (st : State) (o : Option FileId) → keys (returned moment ds st o) ≡ keys st
+returned_keys moment ds st None = refl
+returned_keys moment ds st (Some d) = placed_keys moment ds st d _ _
+
+moved_keys : (moment : ℕ) (ds : List FileId) (st : State) (o : Option FileId) → keys (moved moment ds st o) ≡ keys st
+moved_keys moment ds st None = refl
+moved_keys moment ds st (Some d) = placed_keys moment ds st d _ _
+
+pub rules_keys : (moment : ℕ) (st : State) → keys_of (rules moment st).names.held ≡ keys_of st.names.held
+rules_keys moment st =
+    let ds = directories st.names in
+    repeated_keeps (λ (t : State). keys t ≡ keys st) (break_first moment ds) (λ t h. moved_keys moment ds t (first_moving t.names (length ds) None ds) ∙ h) (length ds) _
+    (repeated_keeps (λ (t : State). keys t ≡ keys st) (return_first moment ds) (λ t h. returned_keys moment ds t (first_returning t.names ds) ∙ h) (length ds) _ (pass_all_keys st ds (movable st.names)))

@@ -1,0 +1,5 @@
+use Rattle.pg_house.proofs.Behind as lemmas
+use Rattle.pg_house.proofs.laws.all_have_passed.Goals as goal
+
+pub returns : goal.returns
+returns c = lemmas.passing

@@ -1,0 +1,107 @@
+//! Return: a dead directory that lists a child comes back.
+
+ghost use Rattle.std.specs.Prelude.{◌≡◌, ◌<◌, ◌≤◌, ◌+◌, ◌^◌, false, None, Some, OnOk, IfOk, length, max};
+ghost use Rattle.std.specs.Option.{option_copied};
+ghost use Rattle.pg_house.specs.Work.{state_of};
+ghost use Rattle.pg_house.specs.Placing.{place_at, repeated};
+ghost use Rattle.pg_house.specs.Returning.{first_returning, is_dead, is_returning, is_root, return_first, returned};
+
+use crate::placing::{place, place_at};
+use pg_base::{FileId, Kind, Stamp};
+use pg_msg::Work;
+use pg_names::Names;
+use pg_register::Place;
+use std::alloc::AllocError;
+
+pub(crate) fn is_root(file: &FileId) -> bool
+    ensures { result ≡ is_root file.now }
+{
+    let root = FileId {
+        kind: Kind::Dir,
+        server: 0,
+        number: 0,
+    };
+    file.compare(&root).is_eq()
+}
+
+/// Whether this is a dead place of a directory, other than the blank one.
+fn is_dead(dir: &FileId, place: &Place) -> bool
+    ensures { result ≡ is_dead dir.now place.now }
+{
+    let first = Stamp { time: 0, server: 0 };
+    !is_root(dir) && !place.live && first.is_before(place.stamp)
+}
+
+fn is_returning(names: &Names, dir: &FileId) -> bool
+    ensures { result ≡ is_returning names.now dir.now }
+{
+    match names.get(dir) {
+        Some(held) => is_dead(dir, &held.own().place) && held.entries().lists_any(*dir),
+        None => false,
+    }
+}
+
+fn first_returning<'a>(names: &Names, dirs: &'a [FileId]) -> Option<&'a FileId>
+    ensures { option_copied result ≡ first_returning names.now dirs.now }
+{
+    dirs.iter().find(|dir| is_returning(names, dir))
+}
+
+/// The directory comes back, where it was.
+fn come_back(
+    names: &mut Names,
+    work: &mut Work,
+    moment: u64,
+    dirs: &[FileId],
+    dir: &FileId,
+) -> Result<(), AllocError>
+    requires { names.old.last < 2 ^ 63 }
+    ensures { OnOk result (state_of names.new work.new
+        ≡ returned moment dirs.now (state_of names.old work.old) (Some dir.now)) }
+{
+    let old = place_at(names, dir)?;
+    place(names, work, moment, dirs, dir, old.parent, old.name)?;
+    Ok(())
+}
+
+/// The first directory that is to come back does. Tells whether there was one.
+fn return_first(
+    names: &mut Names,
+    work: &mut Work,
+    moment: u64,
+    dirs: &[FileId],
+) -> Result<bool, AllocError>
+    requires { names.old.last < 2 ^ 63 }
+    ensures back { OnOk result (state_of names.new work.new
+        ≡ return_first moment dirs.now (state_of names.old work.old)) }
+    ensures none { IfOk result (λ more. more ≡ false → first_returning names.new dirs.now ≡ None) }
+{
+    match first_returning(names, dirs) {
+        Some(dir) => {
+            come_back(names, work, moment, dirs, dir)?;
+            Ok(true)
+        }
+        None => Ok(false),
+    }
+}
+
+/// Each directory that is to come back does, one after another.
+pub(crate) fn return_all(
+    names: &mut Names,
+    work: &mut Work,
+    moment: u64,
+    dirs: &[FileId],
+) -> Result<(), AllocError>
+    requires { max (2 ^ 62) names.old.last + length dirs.now < 2 ^ 63 }
+    ensures back { OnOk result (state_of names.new work.new
+        ≡ repeated (length dirs.now) (return_first moment dirs.now) (state_of names.old work.old)) }
+    ensures last { OnOk result (names.new.last
+        ≤ max (2 ^ 62) names.old.last + length dirs.now) }
+{
+    for i in 0..dirs.len() {
+        if !return_first(names, work, moment, dirs)? {
+            return Ok(());
+        }
+    }
+    Ok(())
+}

@@ -1,0 +1,88 @@
+//! Which keys changed.
+
+ghost use Rattle.std.specs.Prelude.{◌≡◌, not, OnOk};
+ghost use Rattle.pg_edges.specs.declared.key.Key.TheVariants as key;
+ghost use Rattle.pg_msg.specs.Work.{with_touched};
+ghost use Rattle.pg_register.specs.Flag.{flag_of};
+ghost use Rattle.pg_house.specs.Work.{touched};
+ghost use Rattle.pg_house.specs.Passing.{flags_touched, is_other_flag, own_touched};
+
+use pg_base::FileId;
+use pg_edges::Key;
+use pg_msg::{Touched, Work};
+use pg_names::{Own, is_same_flag, is_same_place};
+use pg_register::{Flag, GoldFlags};
+use std::alloc::AllocError;
+
+/// Notes a key that changed.
+pub(crate) fn touch(work: &mut Work, file: FileId, key: Key) -> Result<(), AllocError>
+    ensures { OnOk result (work.new ≡ with_touched work.old file key) }
+{
+    work.touched.push(Touched { file, key })?;
+    Ok(())
+}
+
+/// Notes a key, if it changed.
+fn touch_if(work: &mut Work, file: FileId, key: Key, changed: bool) -> Result<(), AllocError>
+    ensures { OnOk result (work.new ≡ touched work.old file key changed) }
+{
+    if changed {
+        touch(work, file, key)?;
+    }
+    Ok(())
+}
+
+/// Whether the flag of its server is not this one.
+fn is_other_flag(held: &GoldFlags, flag: &Flag) -> bool
+    ensures { result ≡ is_other_flag (flag_of held.now flag.now.server) flag.now }
+{
+    match held.get(flag.server) {
+        Some(one) => !is_same_flag(one, flag),
+        None => true,
+    }
+}
+
+/// Notes a flag that is not held so.
+fn touch_flag(
+    work: &mut Work,
+    file: FileId,
+    held: &GoldFlags,
+    flag: &Flag,
+) -> Result<(), AllocError>
+    ensures { OnOk result (work.new ≡ touched work.old file (key.Flag flag.now.server)
+        (is_other_flag (flag_of held.now flag.now.server) flag.now)) }
+{
+    let changed = is_other_flag(held, flag);
+    touch_if(work, file, Key::Flag(flag.server), changed)?;
+    Ok(())
+}
+
+/// And so each of these flags.
+fn touch_flags(
+    work: &mut Work,
+    file: FileId,
+    held: &GoldFlags,
+    flags: &[Flag],
+) -> Result<(), AllocError>
+    ensures { OnOk result (work.new ≡ flags_touched work.old file held.now flags.now) }
+{
+    for flag in flags {
+        touch_flag(work, file, held, flag)?;
+    }
+    Ok(())
+}
+
+/// Notes what changes where a thing takes another place and other flags.
+pub(crate) fn touch_own(
+    work: &mut Work,
+    file: FileId,
+    own: &Own,
+    taken: &Own,
+) -> Result<(), AllocError>
+    ensures { OnOk result (work.new ≡ own_touched work.old file own.now taken.now) }
+{
+    let moved = !is_same_place(&own.place, &taken.place);
+    touch_if(work, file, Key::Place, moved)?;
+    touch_flags(work, file, &own.flags, taken.flags.as_slice())?;
+    Ok(())
+}

@@ -1,0 +1,4 @@
+pub mod Action
+pub mod Draw
+pub mod Event
+pub mod Made

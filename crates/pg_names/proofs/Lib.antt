@@ -1,0 +1,4 @@
+pub mod Writes
+pub mod Lookups
+pub mod Holding
+pub mod Alike

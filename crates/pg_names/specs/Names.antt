@@ -1,0 +1,180 @@
+-- What one server knows of names: where files and directories stand, their flags, and the entries
+-- of directories.
+use Rattle.std.specs.Prelude.{ℕ, Bool, true, false, max, List, [], Option, None, Some}
+use Rattle.std.specs.List.{filter}
+use Rattle.std.specs.BTreeMap.{is_at, insert_entry}
+use Rattle.std.specs.Map.{keys_of, lookup, set_value}
+use Rattle.pg_base.specs.declared.id.Kind.{Kind}
+use Rattle.pg_base.specs.declared.id.Kind.TheVariants.{Dir, File}
+use Rattle.pg_base.specs.declared.id.FileId.{FileId}
+use Rattle.pg_base.specs.Id.{file_cmp}
+use Rattle.pg_base.specs.Stamp.{is_before}
+use Rattle.pg_register.specs.declared.flag.Flag.{Flag}
+use Rattle.pg_register.specs.declared.place.Place.{Place}
+use Rattle.pg_register.specs.Flag.{flag_of}
+use Rattle.pg_register.specs.Flag as flags
+use Rattle.pg_register.specs.Place.{blank_place, newer_place}
+use Rattle.pg_entries.specs.declared.entry.Entry.{Entry}
+use Rattle.pg_entries.specs.Entry.{brings, entry_of, put_entry}
+use Rattle.pg_entries.specs.Entry as entries
+use Rattle.pg_names.specs.declared.own.Own.{Own}
+
+-- own: the thing's own place and flags
+-- entries: of a directory, by child
+pub record HeldValue : Type 0 where
+  pub own : Own
+  pub entries : List (FileId × Entry)
+
+-- last: the greatest time of a stamp that the server made or took
+-- removed: the servers that were removed in its view
+-- held: the files and directories that it holds, by id
+pub record NamesValue : Type 0 where
+  pub server : ℕ
+  pub last : ℕ
+  pub removed : List ℕ
+  pub held : List (FileId × HeldValue)
+
+abbrev pub is_dir_kind : Kind → Bool
+is_dir_kind Dir = true
+is_dir_kind File = false
+
+abbrev pub is_dir : FileId → Bool
+is_dir file = is_dir_kind file.kind
+
+-- ---- what is held
+
+abbrev pub known : NamesValue → FileId → Option HeldValue
+known names file = lookup (is_at (file_cmp file)) names.held
+
+abbrev pub own_of : Option HeldValue → Option Own
+own_of None = None
+own_of (Some x) = Some x.own
+
+abbrev pub entry_in : FileId → Option HeldValue → Option Entry
+entry_in child None = None
+entry_in child (Some x) = entry_of x.entries child
+
+-- the own place and flags of a thing, where it is held
+abbrev pub own_at : NamesValue → FileId → Option Own
+own_at names file = own_of (known names file)
+
+-- the cell for a child in a directory, where it is held and has one
+abbrev pub cell_at : NamesValue → FileId → FileId → Option Entry
+cell_at names dir child = entry_in child (known names dir)
+
+-- the held directories, by id
+abbrev pub directories : NamesValue → List FileId
+directories names = filter is_dir (keys_of names.held)
+
+-- ---- changes
+
+-- what is known of a thing before anything is: the blank place, and no flag
+abbrev pub blank_own : FileId → Own
+blank_own file = record { place = blank_place file; flags = [] }
+
+abbrev pub blank : FileId → HeldValue
+blank file = record { own = blank_own file; entries = [] }
+
+-- a server that holds nothing
+abbrev pub new_names : ℕ → NamesValue
+new_names server = record { server = server; last = 0; removed = []; held = [] }
+
+-- this is what is held of a thing from now on, where it is held
+abbrev pub with_held : NamesValue → FileId → HeldValue → NamesValue
+with_held names file x = record {
+  server = names.server;
+  last = names.last;
+  removed = names.removed;
+  held = set_value (is_at (file_cmp file)) names.held x;
+}
+
+abbrev pub changed : NamesValue → FileId → (HeldValue → HeldValue) → Option HeldValue → NamesValue
+changed names file change None = names
+changed names file change (Some x) = with_held names file (change x)
+
+-- what is held of a thing changes; where it is not held nothing does
+abbrev pub update : NamesValue → FileId → (HeldValue → HeldValue) → NamesValue
+update names file change = changed names file change (known names file)
+
+-- one thing more is held
+abbrev pub with_new : NamesValue → FileId → NamesValue
+with_new names file = record {
+  server = names.server;
+  last = names.last;
+  removed = names.removed;
+  held = insert_entry file_cmp names.held file (blank file);
+}
+
+abbrev pub held_with : NamesValue → FileId → Option HeldValue → NamesValue
+held_with names file None = with_new names file
+held_with names file (Some x) = names
+
+-- the thing is held: if it was not, it has the blank place, no flag and no entry
+abbrev pub hold : NamesValue → FileId → NamesValue
+hold names file = held_with names file (known names file)
+
+abbrev pub with_own : Own → HeldValue → HeldValue
+with_own own x = record { own = own; entries = x.entries }
+
+abbrev pub with_entries : HeldValue → List (FileId × Entry) → HeldValue
+with_entries x entries = record { own = x.own; entries = entries }
+
+abbrev pub with_entry : Entry → HeldValue → HeldValue
+with_entry entry x = with_entries x (put_entry x.entries entry)
+
+abbrev pub with_joined : Entry → HeldValue → HeldValue
+with_joined entry x = with_entries x (entries.join_entry x.entries entry)
+
+abbrev pub with_place : Place → HeldValue → HeldValue
+with_place place x =
+    with_own (record { place = newer_place x.own.place place; flags = x.own.flags }) x
+
+abbrev pub with_flag : Flag → HeldValue → HeldValue
+with_flag flag x =
+    with_own (record { place = x.own.place; flags = flags.join_flag x.own.flags flag }) x
+
+-- the own place and flags of a held thing are these
+abbrev pub set_own : NamesValue → FileId → Own → NamesValue
+set_own names file own = update names file (with_own own)
+
+-- this is the cell for its child in a held directory, whole
+abbrev pub set_entry : NamesValue → FileId → Entry → NamesValue
+set_entry names dir entry = update names dir (with_entry entry)
+
+-- a place came to a held thing: it has the newer one
+abbrev pub join_place : NamesValue → FileId → Place → NamesValue
+join_place names file place = update names file (with_place place)
+
+-- a flag came to a held thing: it has the newer one of that server
+abbrev pub join_flag : NamesValue → FileId → Flag → NamesValue
+join_flag names file flag = update names file (with_flag flag)
+
+-- a cell came to a held directory: it has the newer place and the newer flags of the child
+abbrev pub join_entry : NamesValue → FileId → Entry → NamesValue
+join_entry names dir entry = update names dir (with_joined entry)
+
+-- the greatest time is this one
+abbrev pub with_last : NamesValue → ℕ → NamesValue
+with_last names last =
+    record { server = names.server; last = last; removed = names.removed; held = names.held }
+
+-- a stamp of this time was taken
+abbrev pub raise : NamesValue → ℕ → NamesValue
+raise names time = with_last names (max names.last time)
+
+-- ---- which of these change a cell
+
+-- a place that comes is newer than the one of a held thing
+abbrev pub is_place_new : Option Own → Place → Bool
+is_place_new None place = false
+is_place_new (Some own) place = is_before own.place.stamp place.stamp
+
+-- a flag that comes is newer than the one that a held thing has of its server
+abbrev pub is_flag_new : Option Own → Flag → Bool
+is_flag_new None flag = false
+is_flag_new (Some own) flag = flags.is_new (flag_of own.flags flag.server) flag
+
+-- a cell that comes brings a held directory a newer place or flag
+abbrev pub is_entry_new : Option HeldValue → Entry → Bool
+is_entry_new None entry = false
+is_entry_new (Some x) entry = brings (entry_of x.entries entry.child) entry

@@ -1,0 +1,5 @@
+pub mod Fields
+pub mod Fits
+pub mod Messages
+pub mod Calls
+pub mod Datagrams
