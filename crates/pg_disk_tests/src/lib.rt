@@ -1,7 +1,9 @@
-//! Tests of disks and of logs on them.
+//! Tests of disks, and of logs and checkpoints on them.
 #![tactic(auto)]
 
 #[cfg(test)]
 mod disk;
 #[cfg(test)]
 mod log;
+#[cfg(test)]
+mod snap;

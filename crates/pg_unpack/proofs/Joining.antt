@@ -3,9 +3,9 @@ use Rattle.std.proofs.Common.{◌≡◌, ℕ, ◌+◌, List, [], ◌++◌, lengt
 use Rattle.std.proofs.lemmas.List.{length-append}
 use Rattle.pg_codec.specs.Unread.{Unread}
 use Rattle.pg_codec.specs.declared.error.ReadError.{ReadError}
-use Rattle.pg_codec.specs.Reading.{Field, ◌>>=◌}
+use Rattle.pg_codec.specs.Reading.{Field, ◌>>=◌, followed_by, seen_as}
 use Rattle.pg_codec.specs.Laws.{Takes, IsField}
-use Rattle.pg_codec.proofs.Binding.{bind_ok, ok_is, takes_then}
+use Rattle.pg_codec.proofs.Binding.{bind_ok, both_are, ok_is, seen_is, takes_then}
 use Rattle.pg_unpack.specs.Faults.{of_packet, with_fault}
 use Rattle.pg_unpack.specs.declared.error.PacketError.{PacketError}
 
@@ -70,3 +70,17 @@ chosen_is {A = A} {B = B} {E = E} kind FA sA rA FB sB behind rB fa fits_kind spe
       ap (λ (t : List ℕ). read (record { place = place; rest = t })) (append_assoc (sA (kind b)) (behind b) rest) ∙ joined ∙ ap (λ (p : ℕ). Ok (b, after p)) far in
       subst (λ (t : List ℕ). read (record { place = place; rest = t ++ rest }) ≡ Ok (b, after (place + length t))) (sym (spelled b)) whole;
 }
+
+-- One field and another behind it, which does not depend on the first.
+pub then_is : {A B E : Type 0} {FA : A → Type 0} {sA : A → List ℕ} {rA : Field E A} {FB : B → Type 0} {sB : B → List ℕ} {rB : Field E B}
+    → IsField FA sA rA → IsField FB sB rB
+    → IsField (λ (x : A × B). FA x.0 × FB x.1) (λ (x : A × B). sA x.0 ++ sB x.1) (followed_by rA (λ a. rB))
+then_is {FA = FA} {sA = sA} {rA = rA} {FB = FB} {sB = sB} {rB = rB} fa fb = both_are FA sA rA (λ a. FB) (λ a. sB) (λ a. rB) fa (λ a _. fb)
+
+-- The same field, whose value is seen as another.
+pub view_is : {A B E : Type 0} {FA : A → Type 0} {sA : A → List ℕ} {rA : Field E A}
+    → IsField FA sA rA → (view : A → B) (FB : B → Type 0) (sB : B → List ℕ)
+    → ((a : A) → FA a → FB (view a) × (sB (view a) ≡ sA a))
+    → ((b : B) → FB b → (a : A) × FA a × (view a ≡ b))
+    → IsField FB sB (seen_as view rA)
+view_is {FA = FA} {sA = sA} {rA = rA} fa view FB sB to back = seen_is view FA sA rA FB sB to back fa

@@ -2,3 +2,11 @@ pub mod Joining
 pub mod Plain
 pub mod Many
 pub mod Loop
+pub mod Names
+pub mod PlaceFields
+pub mod Golds
+pub mod Actors
+pub mod HeadFields
+pub mod Parts
+pub mod PatchFields
+pub mod CellFields

@@ -1,5 +1,5 @@
 -- A list is a field where each of its items is one behind the item before it.
-use Rattle.std.proofs.Common.{◌≡◌, ℕ, zero, suc, ◌+◌, ◌≤◌, Bool, true, false, cond, leb, ltb, eqb, List, [], ◌∷◌, ◌++◌, length, Option, Some, None, Ok, Err, refl, sym, ap, subst, ◌∙◌, append_assoc, arith, inl, inr}
+use Rattle.std.proofs.Common.{◌≡◌, ℕ, zero, suc, ◌+◌, ◌^◌, ◌≤◌, ◌<◌, Bool, true, false, cond, leb, ltb, eqb, List, [], ◌∷◌, ◌++◌, length, Option, Some, None, Ok, Err, refl, sym, ap, subst, ◌∙◌, append_assoc, arith, inl, inr, lt_of_le_of_lt}
 use Rattle.std.specs.Prelude.{◌&&◌, ◌||◌}
 use Rattle.std.specs.List.{flat_map}
 use Rattle.std.proofs.lemmas.Bool.{leb-true, le-leb, ltb-true, lt-ltb, eqb-true, eq-eqb}
@@ -16,33 +16,33 @@ use Rattle.pg_codec.proofs.Ids.{stamp_field}
 use Rattle.pg_codec.proofs.Numbers.{short_field}
 use Rattle.pg_packet.specs.Fields.{listed, stamps_bytes}
 use Rattle.pg_unpack.specs.Faults.{of_packet}
-use Rattle.pg_unpack.specs.Lists.{AreStamps, Chain, IsLater, count_of, is_later, later_at, later_of, many, stamps_at}
+use Rattle.pg_unpack.specs.Lists.{AreListed, AreStamps, Chain, IsLater, count_of, is_later, later_at, later_of, list_at, many, stamps_at, to_last}
 use Rattle.pg_unpack.specs.declared.error.PacketError.{PacketError}
 use Rattle.pg_unpack.specs.declared.error.PacketError.TheVariants.{BadTag, TooLong}
 use Rattle.pg_unpack.proofs.Joining.{packet_is}
 
 -- the items that were read behind those that were there
-record Reads {X : Type 0} (Fits : Option X → X → Type 0) (s : X → List ℕ) (n : ℕ) (last : Option X) (done : List X) (from : Unread) (all : List X) (to : Unread) : Type 0 where
+record Reads {X S : Type 0} (Fits : S → X → Type 0) (next : S → X → S) (s : X → List ℕ) (n : ℕ) (state : S) (done : List X) (from : Unread) (all : List X) (to : Unread) : Type 0 where
   items : List X
   are : all ≡ done ++ items
   count : length items ≡ n
-  chain : Chain Fits last items
+  chain : Chain Fits next state items
   taken : Takes from (flat_map s items) to
 
-many_takes : {X E : Type 0} (Fits : Option X → X → Type 0) (s : X → List ℕ) (item : Option X → Field E X)
-    → ((last : Option X) → IsField (Fits last) s (item last))
-    → (n : ℕ) (last : Option X) (done : List X) (from : Unread) (x : List X × Unread) → AreBytes from.rest
-    → many item n last done from ≡ Ok x → Reads Fits s n last done from x.0 x.1
+many_takes : {X S E : Type 0} (Fits : S → X → Type 0) (next : S → X → S) (s : X → List ℕ) (item : S → Field E X)
+    → ((state : S) → IsField (Fits state) s (item state))
+    → (n : ℕ) (state : S) (done : List X) (from : Unread) (x : List X × Unread) → AreBytes from.rest
+    → many item next n state done from ≡ Ok x → Reads Fits next s n state done from x.0 x.1
 unfolding many
-many_takes {X = X} {E = E} Fits s item field zero last done from x bytes e =
+many_takes {X = X} {S = S} {E = E} Fits next s item field zero state done from x bytes e =
     let made : List X × Unread = (done, from) in
     let none : Takes from [] from = record { parts = refl; place = omega arith; width = bytes } in
-    subst (λ (y : List X × Unread). Reads Fits s zero last done from y.0 y.1) (ok_is E made x e)
+    subst (λ (y : List X × Unread). Reads Fits next s zero state done from y.0 y.1) (ok_is E made x e)
     (record { items = []; are = sym (append-nil done); count = refl; chain = tt; taken = none })
-many_takes {X = X} {E = E} Fits s item field (suc n) last done from x bytes e =
-    let a = bind_ok (item last from) (λ x. many item n (Some x.0) (done ++ x.0 ∷ []) x.1) x e in
-    let t = (field last).takes from a.0 bytes a.1 in
-    let r = many_takes Fits s item field n (Some a.0.0) (done ++ a.0.0 ∷ []) a.0.1 x t.1.width a.2 in
+many_takes {X = X} {S = S} {E = E} Fits next s item field (suc n) state done from x bytes e =
+    let a = bind_ok (item state from) (λ x. many item next n (next state x.0) (done ++ x.0 ∷ []) x.1) x e in
+    let t = (field state).takes from a.0 bytes a.1 in
+    let r = many_takes Fits next s item field n (next state a.0.0) (done ++ a.0.0 ∷ []) a.0.1 x t.1.width a.2 in
     let both : Takes from (s a.0.0 ++ flat_map s r.items) x.1 = takes_then from (s a.0.0) a.0.1 (flat_map s r.items) x.1 t.1 r.taken in
     record {
       items = a.0.0 ∷ r.items;
@@ -52,48 +52,44 @@ many_takes {X = X} {E = E} Fits s item field (suc n) last done from x bytes e =
       taken = subst (λ (b : List ℕ). Takes from b x.1) (sym (flat_map-cons s a.0.0 r.items)) both;
     }
 
-many_again : {X E : Type 0} (Fits : Option X → X → Type 0) (s : X → List ℕ) (item : Option X → Field E X)
-    → ((last : Option X) → IsField (Fits last) s (item last))
-    → (xs : List X) (last : Option X) (done : List X) (place : ℕ) (rest : List ℕ) → Chain Fits last xs
-    → many item (length xs) last done (record { place = place; rest = flat_map s xs ++ rest })
+many_again : {X S E : Type 0} (Fits : S → X → Type 0) (next : S → X → S) (s : X → List ℕ) (item : S → Field E X)
+    → ((state : S) → IsField (Fits state) s (item state))
+    → (xs : List X) (state : S) (done : List X) (place : ℕ) (rest : List ℕ) → Chain Fits next state xs
+    → many item next (length xs) state done (record { place = place; rest = flat_map s xs ++ rest })
     ≡ Ok (done ++ xs, record { place = place + length (flat_map s xs); rest = rest })
 unfolding many
-many_again Fits s item field [] last done place rest chain =
+many_again Fits next s item field [] state done place rest chain =
     let same : done ≡ done ++ [] = sym (append-nil done) in
     let here : place ≡ place + 0 = omega arith in
     ap (λ (d : List _). Ok (d, record { place = place; rest = rest })) same ∙ ap (λ (p : ℕ). Ok (done ++ [], record { place = p; rest = rest })) here
-many_again {X = X} {E = E} Fits s item field (x ∷ xs) last done place rest chain =
+many_again {X = X} {S = S} {E = E} Fits next s item field (x ∷ xs) state done place rest chain =
     let after : ℕ → Unread = λ (p : ℕ). record { place = p; rest = rest } in
-    let one = (field last).again x place (flat_map s xs ++ rest) chain.0 in
-    let two = many_again Fits s item field xs (Some x) (done ++ x ∷ []) (place + length (s x)) rest chain.1 in
+    let one = (field state).again x place (flat_map s xs ++ rest) chain.0 in
+    let two = many_again Fits next s item field xs (next state x) (done ++ x ∷ []) (place + length (s x)) rest chain.1 in
     let grouped : flat_map s (x ∷ xs) ++ rest ≡ s x ++ (flat_map s xs ++ rest) = ap (λ (b : List ℕ). b ++ rest) (flat_map-cons s x xs) ∙ append_assoc (s x) (flat_map s xs) rest in
     let long = ap length (flat_map-cons s x xs) in
     let far : place + length (s x) + length (flat_map s xs) ≡ place + length (flat_map s (x ∷ xs)) = omega (arith, long, length-append (s x) (flat_map s xs)) in
-    let joined : many item (suc (length xs)) last done (record { place = place; rest = s x ++ (flat_map s xs ++ rest) }) ≡ Ok ((done ++ x ∷ []) ++ xs, after (place + length (s x) + length (flat_map s xs))) = rw one two in
-    ap (λ (b : List ℕ). many item (suc (length xs)) last done (record { place = place; rest = b })) grouped ∙ joined
+    let joined : many item next (suc (length xs)) state done (record { place = place; rest = s x ++ (flat_map s xs ++ rest) }) ≡ Ok ((done ++ x ∷ []) ++ xs, after (place + length (s x) + length (flat_map s xs))) = rw one two in
+    ap (λ (b : List ℕ). many item next (suc (length xs)) state done (record { place = place; rest = b })) grouped ∙ joined
     ∙ ap (λ (d : List X). Ok (d, after (place + length (s x) + length (flat_map s xs)))) (append_assoc done (x ∷ []) xs)
     ∙ ap (λ (p : ℕ). Ok (done ++ x ∷ xs, after p)) far
 
 -- so many items in a row
-pub record IsRow {X : Type 0} (Fits : Option X → X → Type 0) (n : ℕ) (xs : List X) : Type 0 where
+pub record IsRow {X S : Type 0} (Fits : S → X → Type 0) (next : S → X → S) (start : S) (n : ℕ) (xs : List X) : Type 0 where
   pub count : length xs ≡ n
-  pub chain : Chain Fits None xs
+  pub chain : Chain Fits next start xs
 
-pub many_is : {X E : Type 0} (Fits : Option X → X → Type 0) (s : X → List ℕ) (item : Option X → Field E X)
-    → ((last : Option X) → IsField (Fits last) s (item last))
-    → (n : ℕ) → IsField (IsRow Fits n) (flat_map s) (many item n None [])
-many_is {X = X} {E = E} Fits s item field n = record {
+pub many_is : {X S E : Type 0} (Fits : S → X → Type 0) (next : S → X → S) (s : X → List ℕ) (item : S → Field E X)
+    → ((state : S) → IsField (Fits state) s (item state))
+    → (start : S) (n : ℕ) → IsField (IsRow Fits next start n) (flat_map s) (many item next n start [])
+many_is {X = X} {S = S} {E = E} Fits next s item field start n = record {
   takes = λ from x bytes e.
-      let r = many_takes Fits s item field n None [] from x bytes e in
-      subst (λ (xs : List X). IsRow Fits n xs × Takes from (flat_map s xs) x.1) (sym r.are) (record { count = r.count; chain = r.chain }, r.taken);
+      let r = many_takes Fits next s item field n start [] from x bytes e in
+      subst (λ (xs : List X). IsRow Fits next start n xs × Takes from (flat_map s xs) x.1) (sym r.are) (record { count = r.count; chain = r.chain }, r.taken);
   again = λ xs place rest fits.
-      let read = many_again Fits s item field xs None [] place rest fits.chain in
-      subst (λ (k : ℕ). many item k None [] (record { place = place; rest = flat_map s xs ++ rest }) ≡ Ok (xs, record { place = place + length (flat_map s xs); rest = rest })) fits.count read;
+      let read = many_again Fits next s item field xs start [] place rest fits.chain in
+      subst (λ (k : ℕ). many item next k start [] (record { place = place; rest = flat_map s xs ++ rest }) ≡ Ok (xs, record { place = place + length (flat_map s xs); rest = rest })) fits.count read;
 }
-
--- a count up to the most, of so many bytes
-AtMost : ℕ → ℕ → Type 0
-AtMost most n = n ≤ most
 
 count_case : (t : Bool) (most place n k : ℕ) → leb n most ≡ t → cond t (Ok n) (Err (TooLong place)) ≡ Ok k → (k ≤ most) × (k ≡ n)
 count_case true most place n k test e =
@@ -102,11 +98,35 @@ count_case true most place n k test e =
     (omega (arith, same, few), sym same)
 count_case false most place n k test e = absurd cc
 
-pub count_field : IsField (λ n. n ≤ 256) (number_bytes 2) (checked (count_of 256) (of_packet (number_at 2)))
-count_field = checked_is (count_of 256) (HasWidth 2) (number_bytes 2) (of_packet (number_at 2)) (λ n. n ≤ 256) (number_bytes 2)
-    (λ place n k fits e. let both = count_case (leb n 256) 256 place n k refl e in (both.0, ap (number_bytes 2) both.1))
-    (λ k few. (k, omega (arith, few), λ place. let test : leb k 256 ≡ true = le-leb k 256 few in rw test refl))
-    (packet_is (HasWidth 2) (number_bytes 2) (number_at 2) short_field)
+-- a count up to the most, of so many bytes
+pub count_field : (size most : ℕ) → most < 256 ^ size → IsField (HasWidth size) (number_bytes size) (of_packet (number_at size))
+    → IsField (λ n. n ≤ most) (number_bytes size) (checked (count_of most) (of_packet (number_at size)))
+count_field size most width field = checked_is (count_of most) (HasWidth size) (number_bytes size) (of_packet (number_at size)) (λ n. n ≤ most) (number_bytes size)
+    (λ place n k fits e. let both = count_case (leb n most) most place n k refl e in (both.0, ap (number_bytes size) both.1))
+    (λ k few. (k, lt_of_le_of_lt few width, λ place. let test : leb k most ≡ true = le-leb k most few in rw test refl)) field
+
+abbrev row_view : {X : Type 0} → ℕ × List X → List X
+row_view x = x.1
+
+list_to : {X S : Type 0} (Fits : S → X → Type 0) (next : S → X → S) (s : X → List ℕ) (size most : ℕ) (start : S) (n : ℕ) (xs : List X)
+    → n ≤ most → IsRow Fits next start n xs
+    → AreListed most Fits next start xs × (listed size s xs ≡ number_bytes size n ++ flat_map s xs)
+unfolding listed
+list_to Fits next s size most start n xs few row =
+    let same = row.count in
+    (record { few = omega (arith, few, same); chain = row.chain }, ap (λ (k : ℕ). number_bytes size k ++ flat_map s xs) same)
+
+-- A count and so many items.
+pub list_is : {X S : Type 0} (Fits : S → X → Type 0) (next : S → X → S) (s : X → List ℕ) (item : S → Field PacketError X)
+    → ((state : S) → IsField (Fits state) s (item state))
+    → (size most : ℕ) (start : S) → most < 256 ^ size → IsField (HasWidth size) (number_bytes size) (of_packet (number_at size))
+    → IsField (AreListed most Fits next start) (listed size s) (list_at size most item next start)
+list_is {X = X} Fits next s item field size most start width number = seen_is row_view (λ (x : ℕ × List X). (x.0 ≤ most) × IsRow Fits next start x.0 x.1) (λ x. number_bytes size x.0 ++ flat_map s x.1)
+    (followed_by (checked (count_of most) (of_packet (number_at size))) (λ count. many item next count start [])) (AreListed most Fits next start) (listed size s)
+    (λ x fits. list_to Fits next s size most start x.0 x.1 fits.0 fits.1)
+    (λ xs fits. ((length xs, xs), (fits.few, record { count = refl; chain = fits.chain }), refl))
+    (both_are (λ n. n ≤ most) (number_bytes size) (checked (count_of most) (of_packet (number_at size))) (IsRow Fits next start) (λ n. flat_map s) (λ count. many item next count start []) (count_field size most width number)
+    (λ n _. many_is Fits next s item field start n))
 
 before_case : (t u v : Bool) (a b : Stamp) → ltb a.time b.time ≡ t → eqb a.time b.time ≡ u → ltb a.server b.server ≡ v
     → (t || (u && v)) ≡ true → IsBefore a b
@@ -147,21 +167,6 @@ later_field last = checked_is (later_of last) HasStampWidth stamp_bytes (of_pack
     (λ place a b fits e. later_case (is_later last a) last place a b fits refl e)
     (λ s fits. let b = later_back last s fits in (s, b.0, b.1)) (packet_is HasStampWidth stamp_bytes stamp_at stamp_field)
 
-stamps_to : (n : ℕ) (xs : List Stamp) → n ≤ 256 → IsRow IsLater n xs
-    → AreStamps xs × (stamps_bytes xs ≡ number_bytes 2 n ++ flat_map stamp_bytes xs)
-unfolding stamps_bytes listed
-stamps_to n xs few row =
-    let same = row.count in
-    (record { few = omega (arith, few, same); rise = row.chain }, ap (λ (k : ℕ). number_bytes 2 k ++ flat_map stamp_bytes xs) same)
-
-abbrev row_view : ℕ × List Stamp → List Stamp
-row_view x = x.1
-
 pub stamps_field : IsField AreStamps stamps_bytes stamps_at
-unfolding stamps_at
-stamps_field = seen_is row_view (λ x. (x.0 ≤ 256) × IsRow IsLater x.0 x.1) (λ x. number_bytes 2 x.0 ++ flat_map stamp_bytes x.1)
-    (followed_by (checked (count_of 256) (of_packet (number_at 2))) (λ count. many later_at count None [])) AreStamps stamps_bytes
-    (λ x fits. stamps_to x.0 x.1 fits.0 fits.1)
-    (λ xs fits. ((length xs, xs), (fits.few, record { count = refl; chain = fits.rise }), refl))
-    (both_are (λ n. n ≤ 256) (number_bytes 2) (checked (count_of 256) (of_packet (number_at 2))) (IsRow IsLater) (λ n. flat_map stamp_bytes) (λ count. many later_at count None []) count_field
-    (λ n _. many_is IsLater stamp_bytes later_at later_field n))
+unfolding stamps_at stamps_bytes
+stamps_field = list_is IsLater to_last stamp_bytes later_at later_field 2 256 None (omega arith) (packet_is (HasWidth 2) (number_bytes 2) (number_at 2) short_field)

@@ -32,19 +32,22 @@ use Rattle.pg_unpack.specs.declared.error.PacketError.{PacketError}
 use Rattle.pg_unpack.specs.declared.error.PacketError.TheVariants.{BadTag}
 use Rattle.pg_unpack.proofs.Joining.{chosen_is, never_is, nothing_is, packet_is}
 
-byte_is : IsField (HasWidth 1) (number_bytes 1) (of_packet (number_at 1))
+pub byte_is : IsField (HasWidth 1) (number_bytes 1) (of_packet (number_at 1))
 byte_is = packet_is (HasWidth 1) (number_bytes 1) (number_at 1) byte_field
 
-narrow_is : IsField (HasWidth 4) (number_bytes 4) (of_packet (number_at 4))
+pub short_is : IsField (HasWidth 2) (number_bytes 2) (of_packet (number_at 2))
+short_is = packet_is (HasWidth 2) (number_bytes 2) (number_at 2) short_field
+
+pub narrow_is : IsField (HasWidth 4) (number_bytes 4) (of_packet (number_at 4))
 narrow_is = packet_is (HasWidth 4) (number_bytes 4) (number_at 4) narrow_field
 
-wide_is : IsField (HasWidth 8) (number_bytes 8) (of_packet (number_at 8))
+pub wide_is : IsField (HasWidth 8) (number_bytes 8) (of_packet (number_at 8))
 wide_is = packet_is (HasWidth 8) (number_bytes 8) (number_at 8) wide_field
 
-file_is : IsField Fits file_bytes (of_packet file_at)
+pub file_is : IsField Fits file_bytes (of_packet file_at)
 file_is = packet_is Fits file_bytes file_at file_field
 
-stamp_is : IsField HasStampWidth stamp_bytes (of_packet stamp_at)
+pub stamp_is : IsField HasStampWidth stamp_bytes (of_packet stamp_at)
 stamp_is = packet_is HasStampWidth stamp_bytes stamp_at stamp_field
 
 -- ---- policies and questions
@@ -85,11 +88,11 @@ ask_field = checked_is ask_of (HasWidth 1) (number_bytes 1) (of_packet (number_a
 
 -- ---- servers
 
-both_true : (a b : Bool) → (a && b) ≡ true → (a ≡ true) × (b ≡ true)
+pub both_true : (a b : Bool) → (a && b) ≡ true → (a ≡ true) × (b ≡ true)
 both_true true b e = (refl, e)
 both_true false b e = absurd cc
 
-within : (n : ℕ) → (nat_le 1 n && nat_le n 64) ≡ true → IsServer n
+pub within : (n : ℕ) → (nat_le 1 n && nat_le n 64) ≡ true → IsServer n
 within n e = let p = both_true (nat_le 1 n) (nat_le n 64) e in record { least = leb-true 1 n p.0; most = leb-true n 64 p.1 }
 
 tested : (place s : ℕ) → IsServer s → server_of place s ≡ Ok s

@@ -2,3 +2,8 @@ pub mod Faults
 pub mod Values
 pub mod Reading
 pub mod Lists
+pub mod Names
+pub mod Places
+pub mod Heads
+pub mod Patches
+pub mod Cells

@@ -5,8 +5,13 @@ ghost use Rattle.pg_codec.specs.Spelling.{file_bytes, number_bytes};
 ghost use Rattle.pg_packet.specs.Calls.{text_bytes};
 ghost use Rattle.pg_words.specs.FileWord.{IsDirectory};
 ghost use Rattle.pg_packet.specs.Fits.{IsServer};
-ghost use Rattle.pg_packet.specs.Fields.{ask_bytes, ends_bytes, key_bytes, policy_bytes, stamps_bytes};
+ghost use Rattle.pg_packet.specs.Fields.{ask_bytes, cell_bytes, counted, ends_bytes, entry_bytes, gold_bytes, golds_bytes, head_bytes, key_bytes, place_bytes, policy_bytes, ranges_bytes, stamps_bytes, vector_bytes, version_bytes};
+ghost use Rattle.pg_unpack.specs.Cells.{IsWholeCell, cell_at};
+ghost use Rattle.pg_unpack.specs.Heads.{AreKnown, IsHead, IsWholeVersion, head_at, vector_at, version_at};
+ghost use Rattle.pg_unpack.specs.Patches.{IsBlock, IsWholeRanges, block_at, ranges_at};
 ghost use Rattle.pg_unpack.specs.Lists.{AreStamps, stamps_at};
+ghost use Rattle.pg_unpack.specs.Names.{name_at};
+ghost use Rattle.pg_unpack.specs.Places.{AreGolds, IsGold, IsName, IsWholeEntry, IsWholePlace, entry_at, gold_at, golds_at, place_at};
 ghost use Rattle.pg_unpack.specs.Reading.{ask_at, dir_at, ends_at, key_at, policy_at, server_at, text_at};
 ghost use Rattle.pg_unpack.specs.Values.{AreEnds, IsKey, IsShortText};
 
@@ -20,4 +25,15 @@ pub fn fields_read_back()
     ensures directory { IsField IsDirectory file_bytes dir_at }
     ensures stamps { IsField AreStamps stamps_bytes stamps_at }
     ensures text { IsField IsShortText text_bytes text_at }
+    ensures name { IsField IsName (counted 1) name_at }
+    ensures place { IsField IsWholePlace place_bytes place_at }
+    ensures gold { IsField (IsGold 0) gold_bytes (gold_at 0) }
+    ensures golds { IsField AreGolds golds_bytes golds_at }
+    ensures entry { IsField IsWholeEntry entry_bytes entry_at }
+    ensures vector { IsField AreKnown vector_bytes vector_at }
+    ensures head { IsField IsHead head_bytes head_at }
+    ensures version { IsField IsWholeVersion version_bytes version_at }
+    ensures ranges { IsField IsWholeRanges ranges_bytes ranges_at }
+    ensures block { IsField IsBlock (counted 4) block_at }
+    ensures cell { IsField IsWholeCell cell_bytes cell_at }
 {}

@@ -3,7 +3,7 @@
 ghost use Rattle.std.specs.Prelude.{◌≡◌, [], None};
 ghost use Rattle.pg_codec.specs.Reading.{checked, number_at};
 ghost use Rattle.pg_unpack.specs.Faults.{Gives, of_packet};
-ghost use Rattle.pg_unpack.specs.Lists.{count_of, is_later, later_at, many, stamps_at};
+ghost use Rattle.pg_unpack.specs.Lists.{count_of, is_later, later_at, many, stamps_at, to_last};
 
 use crate::error::PacketError;
 use pg_base::{Items, Stamp};
@@ -11,7 +11,7 @@ use pg_codec::Reader;
 use std::alloc::Global;
 
 /// A count in two bytes, up to 256.
-fn read_count(reader: &mut Reader<'_>) -> Result<u16, PacketError>
+pub(crate) fn read_count(reader: &mut Reader<'_>) -> Result<u16, PacketError>
     ensures { Gives (λ n. (n, reader.new)) result
         (checked (count_of 256) (of_packet (number_at 2)) reader.old) }
 {
@@ -53,7 +53,8 @@ fn read_each_stamp(
     count: u16,
     reader: &mut Reader<'_>,
 ) -> Result<Items<Stamp>, PacketError>
-    ensures { Gives (λ s. (s, reader.new)) result (many later_at count None [] reader.old) }
+    ensures { Gives (λ s. (s, reader.new)) result
+        (many later_at to_last count None [] reader.old) }
 {
     let mut stamps = Items::new(alloc);
     let mut last = None;

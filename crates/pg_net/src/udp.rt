@@ -1,0 +1,119 @@
+//! The system's packets, on this machine alone. Their content and their order are known to no clause.
+
+ghost use Rattle.std.specs.Prelude.{◌≡◌, ◌≤◌, ◌+◌, ◌-◌, ◌^◌, ℕ, min, length, IfOk, OnOk, OnErr};
+ghost use Rattle.pg_net.specs.Net.{IsWithin, untold};
+
+use crate::net::{Net, Taken};
+use crate::queue::LONGEST;
+use pg_io::Failed;
+use std::io;
+use std::io::ErrorKind;
+use std::net::{Ipv4Addr, UdpSocket};
+use std::time::Duration;
+
+/// How long a take waits for a packet.
+const PATIENCE_SECONDS: u64 = 1;
+
+/// UDP on 127.0.0.1. A take is Idle after one second without a packet. Each error of the system is a
+/// failure, an interrupted call too, and so is a take or a send before a port was bound.
+#[derive(Drop)]
+pub struct UdpNet<R> {
+    system: R,
+    socket: Option<UdpSocket>,
+    takes: u64,
+    faults: u64,
+}
+
+impl<R> UdpNet<R> {
+    pub fn new(system: R) -> Self
+        ensures takes { result.takes ≡ 0 }
+        ensures faults { result.faults ≡ 0 }
+    {
+        UdpNet {
+            system,
+            socket: None,
+            takes: 0,
+            faults: 0,
+        }
+    }
+
+    /// How many takes answered Ok.
+    pub fn takes(&self) -> u64
+        ensures { result ≡ self.now.takes }
+    {
+        self.takes
+    }
+
+    /// How many calls failed.
+    pub fn faults(&self) -> u64
+        ensures { result ≡ self.now.faults }
+    {
+        self.faults
+    }
+
+    fn receive(&self, buf: &mut [u8]) -> io::Result<Taken>
+        ensures { IfOk result (λ answer. IsWithin 40_001 answer) }
+    {
+        let Some(socket) = &self.socket else {
+            return Err(io::Error::from(ErrorKind::NotConnected));
+        };
+        match socket.recv_from(buf) {
+            Ok((length, from)) => Ok(Taken::Packet {
+                port: from.port(),
+                length: length.min(LONGEST),
+            }),
+            Err(e) if e.kind() == ErrorKind::WouldBlock => Ok(Taken::Idle),
+            Err(e) => Err(e),
+        }
+    }
+}
+
+impl<R: std::net::Net> UdpNet<R> {
+    fn open(&self, port: u16) -> io::Result<UdpSocket> {
+        let socket = UdpSocket::bind(&self.system, (Ipv4Addr::LOCALHOST, port))?;
+        socket.set_read_timeout(Some(Duration::from_secs(PATIENCE_SECONDS)))?;
+        Ok(socket)
+    }
+}
+
+impl<R: std::net::Net> Net for UdpNet<R> {
+    ghost tells = { ⊥ };
+
+    ghost told = { λ _. untold };
+
+    ghost takes = { λ n. n.takes };
+
+    ghost faults = { λ n. n.faults };
+
+    fn bind(&mut self, port: u16) -> Result<(), Failed> {
+        match self.open(port) {
+            Ok(socket) => {
+                self.socket = Some(socket);
+                Ok(())
+            }
+            Err(_) => Err(Failed::counted(&mut self.faults)),
+        }
+    }
+
+    fn take(&mut self, buf: &mut [u8]) -> Result<Taken, Failed> {
+        match self.receive(buf) {
+            Ok(answer) => {
+                self.takes = self.takes.saturating_add(1);
+                Ok(answer)
+            }
+            Err(_) => Err(Failed::counted(&mut self.faults)),
+        }
+    }
+
+    fn send(&mut self, port: u16, bytes: &[u8]) -> Result<(), Failed> {
+        let sent = match &self.socket {
+            Some(socket) => socket.send_to(bytes, (Ipv4Addr::LOCALHOST, port)).is_ok(),
+            None => false,
+        };
+        if sent {
+            Ok(())
+        } else {
+            Err(Failed::counted(&mut self.faults))
+        }
+    }
+}

@@ -1,0 +1,4 @@
+pub mod Slots
+pub mod Loads
+pub mod Saves
+pub mod Heads
