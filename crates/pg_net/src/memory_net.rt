@@ -121,6 +121,8 @@ impl Net for MemoryNet {
         ensures cause { HasCause self.old.counts.faults self.new.counts.faults result }
         ensures idle { IfOk result (λ answer. answer ≡ Idle ↔ self.old.told.left ≡ []) }
         ensures fails { Contains self.old.counts.fails self.old.counts.calls → IsErr result }
+        ensures only { OnErr result (¬ (Contains self.old.counts.fails self.old.counts.calls)
+            → self.old.told.left ≡ []) }
         ensures counted { IsCounted self.old.counts self.new.counts result }
     {
         self.count.begin()?;

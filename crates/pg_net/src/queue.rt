@@ -45,12 +45,13 @@ impl Queue {
         }
     }
 
-    /// Nothing where no further take that finds no packet can be counted.
+    /// Nothing where no packet is left and no further take that finds none can be counted.
     pub fn take(&mut self, buf: &mut [u8]) -> Option<Taken>
         requires { 40_001 ≤ length buf.old }
         ensures within { IfSome result (λ answer. IsWithin 40_001 answer) }
         ensures next { IfSome result (λ answer. IsNext 40_001 answer buf.new self.old self.new) }
         ensures none { IfNone result (self.new ≡ self.old) }
+        ensures left { IfNone result (self.old.left ≡ []) }
     {
         match self.packets.get(self.at) {
             Some(packet) => {
