@@ -1,1 +1,6 @@
+mod Components
 mod Lengths
+mod InTime
+mod First
+mod Made
+mod Telling

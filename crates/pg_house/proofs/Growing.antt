@@ -10,12 +10,12 @@ use Rattle.pg_register.proofs.ByServer.{IsByServer-nil}
 use Rattle.pg_entries.specs.declared.entry.Entry.{Entry}
 use Rattle.pg_msg.specs.declared.work.Work.{Work}
 use Rattle.pg_names.specs.declared.own.Own.{Own}
-use Rattle.pg_names.specs.Names.{HeldValue, NamesValue, blank, blank_own, cell_at, directories, hold, known, own_at}
+use Rattle.pg_names.specs.Names.{HeldValue, NamesValue, blank, blank_own, cell_at, directories, hold, known, own_at, or_blank, own_or_blank}
 use Rattle.pg_names.proofs.Holding.{hold_back, hold_cells, hold_known, hold_last, hold_removed, hold_stays}
 use Rattle.pg_house.specs.Work.{state_of}
 use Rattle.pg_house.specs.Parents.{hold_parent, hold_parents, parent_held, takes}
 use Rattle.pg_house.specs.House.{movable, with_parents}
-use Rattle.pg_house.specs.Facts.{AreByServer, AreOrdered, IsLast, IsOfDirs, or_blank, own_or_blank}
+use Rattle.pg_house.specs.Facts.{AreByServer, AreOrdered, IsLast, IsOfDirs}
 use Rattle.pg_house.proofs.Telling.{Tells}
 
 abbrev NoEntries : List (FileId × Entry)

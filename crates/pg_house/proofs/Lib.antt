@@ -30,3 +30,4 @@ pub mod Kept
 pub mod Started
 pub mod Children
 pub mod Made
+mod HeldBack

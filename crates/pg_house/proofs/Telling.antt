@@ -13,13 +13,13 @@ use Rattle.pg_msg.specs.declared.work.Touched.{Touched}
 use Rattle.pg_msg.specs.declared.work.Work.{Work}
 use Rattle.pg_msg.specs.Work.{with_touched}
 use Rattle.pg_names.specs.declared.own.Own.{Own}
-use Rattle.pg_names.specs.Names.{cell_at, own_at}
+use Rattle.pg_names.specs.Names.{cell_at, own_at, or_blank, own_or_blank}
 use Rattle.pg_names.specs.Same.{is_same_flag, is_same_own, is_same_place}
 use Rattle.pg_names.proofs.Alike.{flag-true, place-true}
 use Rattle.pg_names.proofs.Lookups.{apart_back, entry_other_child, entry_other_dir, entry_own, own_cell, own_other, own_same}
 use Rattle.pg_house.specs.Work.{State, touched}
 use Rattle.pg_house.specs.Passing.{cell_for, flags_touched, gets, given, greatest, is_held_back, is_other_flag, offered, own_taken, pass, pass_own, pass_all, spread, taking, took}
-use Rattle.pg_house.specs.Facts.{IsIn, IsTold, IsTouched, or_blank, own_or_blank}
+use Rattle.pg_house.specs.Facts.{IsIn, IsTold, IsTouched}
 use Rattle.pg_house.proofs.Truths.{bool_cases, chosen, not_back}
 use Rattle.pg_house.proofs.Greatest.{greatest_flag}
 use Rattle.pg_house.proofs.Spreading.{spread_own}

@@ -8,7 +8,7 @@ use Rattle.pg_register.specs.Flag.{flag_of}
 use Rattle.pg_register.specs.Place.{root, tilde_name}
 use Rattle.pg_edges.specs.declared.key.Key.TheVariants as key
 use Rattle.pg_names.specs.declared.own.Own.{Own}
-use Rattle.pg_names.specs.Names.{NamesValue, directories, own_at, with_last, with_own}
+use Rattle.pg_names.specs.Names.{NamesValue, directories, own_at, with_last, with_own, or_blank, own_or_blank}
 use Rattle.pg_names.proofs.Lookups.{known_absent, own_cell, own_other, own_same}
 use Rattle.pg_house.specs.Work.{State, state_of}
 use Rattle.pg_house.specs.Passing.{pass, pass_all}
@@ -16,7 +16,7 @@ use Rattle.pg_house.specs.Placing.{drawn, flags_of, live_place, made_at, own_wit
 use Rattle.pg_house.specs.Returning.{first_returning, return_first, returned}
 use Rattle.pg_house.specs.Cycles.{break_first, first_moving, moved}
 use Rattle.pg_house.specs.House.{house, movable, rules, with_parents}
-use Rattle.pg_house.specs.Facts.{IsTold, IsTouched, or_blank, own_or_blank}
+use Rattle.pg_house.specs.Facts.{IsTold, IsTouched}
 use Rattle.pg_house.proofs.Truths.{bool_cases}
 use Rattle.pg_house.proofs.Telling.{Tells, Tells-refl, Tells-trans, all_tells, in_front, in_last, pass_tells}
 use Rattle.pg_house.proofs.Growing.{grows, grows_tells}

@@ -1,5 +1,5 @@
 -- What holds of a server where no house rule applies.
-use Rattle.std.specs.Prelude.{ℕ, ◌≡◌, ◌≢◌, Bool, true, false, ◌||◌, ◌⊎◌, ◌≤◌, List, [], ◌∷◌, Option, None, Some, suc}
+use Rattle.std.specs.Prelude.{ℕ, ◌≡◌, ◌≢◌, Bool, true, false, ◌||◌, ◌⊎◌, ◌≤◌, List, [], ◌∷◌, Some, suc}
 use Rattle.std.specs.List.Sorted.{IsStrictlySortedBy}
 use Rattle.std.specs.Map.{keys_of}
 use Rattle.pg_base.specs.declared.id.FileId.{FileId}
@@ -13,7 +13,7 @@ use Rattle.pg_entries.specs.Entry.{is_listed}
 use Rattle.pg_msg.specs.declared.work.Touched.{Touched}
 use Rattle.pg_msg.specs.declared.work.Work.{Work}
 use Rattle.pg_names.specs.declared.own.Own.{Own}
-use Rattle.pg_names.specs.Names.{HeldValue, NamesValue, blank_own, cell_at, directories, is_dir, known, own_at}
+use Rattle.pg_names.specs.Names.{HeldValue, NamesValue, cell_at, directories, is_dir, known, own_at, own_or_blank}
 use Rattle.pg_house.specs.Passing.{cell_for, greatest, is_cell, is_held_back, is_update}
 use Rattle.pg_house.specs.Returning.{is_dead}
 use Rattle.pg_house.specs.Cycles.{climb, is_inner}
@@ -118,14 +118,6 @@ IsIn t (x ∷ xs) = (x ≡ t) ⊎ IsIn t xs
 -- the key of a thing is among those that were touched
 abbrev pub IsTouched : Work → FileId → Key → Type 0
 IsTouched work file k = IsIn (record { file = file; key = k }) work.touched
-
-abbrev pub or_blank : FileId → Option Own → Own
-or_blank file None = blank_own file
-or_blank file (Some own) = own
-
--- what is known of a thing itself: where it is not held, nothing
-abbrev pub own_or_blank : NamesValue → FileId → Own
-own_or_blank names file = or_blank file (own_at names file)
 
 -- every cell is as it was, or its key is touched: the cells in directories, the own places, and the
 -- own flags of each server

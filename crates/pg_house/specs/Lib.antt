@@ -6,3 +6,4 @@ pub mod Returning
 pub mod Cycles
 pub mod House
 pub mod Facts
+pub mod Holding

@@ -2,6 +2,7 @@
 #![tactic(auto)]
 
 mod cycles;
+mod holding;
 mod laws;
 mod parents;
 mod passing;
@@ -10,6 +11,7 @@ mod returning;
 mod rules;
 mod touching;
 
+pub use holding::{count_held_back, first_held_back};
 pub use laws::{
     all_have_passed, all_is_told, few_places_are_made, no_cycle, no_dead_directory_lists,
     none_applies, own_parent, parents_are_held, passed_things_stay, stays_sound,

@@ -1,6 +1,6 @@
 //! The house rules, run until none applies.
 
-ghost use Rattle.std.specs.Prelude.{◌≡◌, ◌<◌, ◌≤◌, ◌^◌, not, length, OnOk, IfOk};
+ghost use Rattle.std.specs.Prelude.{◌≡◌, ◌+◌, ◌<◌, ◌≤◌, ◌^◌, not, length, OnOk, IfOk};
 ghost use Rattle.std.specs.List.{filter};
 ghost use Rattle.std.specs.Map.{keys_of};
 ghost use Rattle.pg_names.specs.Names.{directories};
@@ -49,7 +49,7 @@ fn with_parents(names: &mut Names) -> Result<(), AllocError>
 /// all things pass, dead directories that list a child come back, and cycles break. `moment` is the
 /// clock at this event. After out of memory a part may be done.
 pub fn house(names: &mut Names, work: &mut Work, moment: u64) -> Result<(), AllocError>
-    requires { names.old.last ≤ 2 ^ 62 }
+    requires { names.old.last ≤ 2 ^ 62 + 2 ^ 40 }
     ensures { OnOk result (state_of names.new work.new
         ≡ house moment (state_of names.old work.old)) }
 {
@@ -60,7 +60,7 @@ pub fn house(names: &mut Names, work: &mut Work, moment: u64) -> Result<(), Allo
 
 /// The same, where the parents are held.
 fn rules(names: &mut Names, work: &mut Work, moment: u64) -> Result<(), AllocError>
-    requires { names.old.last ≤ 2 ^ 62 }
+    requires { names.old.last ≤ 2 ^ 62 + 2 ^ 40 }
     ensures { OnOk result (state_of names.new work.new
         ≡ rules moment (state_of names.old work.old)) }
 {
@@ -81,7 +81,7 @@ fn run(
     dirs: &[FileId],
     files: &[FileId],
 ) -> Result<(), AllocError>
-    requires last { names.old.last ≤ 2 ^ 62 }
+    requires last { names.old.last ≤ 2 ^ 62 + 2 ^ 40 }
     requires few { length dirs.now ≤ 2 ^ 40 }
     ensures { OnOk result (state_of names.new work.new
         ≡ house_with moment dirs.now files.now (state_of names.old work.old)) }

@@ -2,7 +2,7 @@
 
 use crate::servers::{ROOT, dir, server, stand, stands, tell, tells};
 use pg_base::Stamp;
-use pg_house::house;
+use pg_house::{count_held_back, first_held_back, house};
 use pg_msg::Work;
 use pg_names::Names;
 use std::alloc::{AllocError, Global};
@@ -45,6 +45,8 @@ fn a_removal_is_held_back(rt: HostRuntime) -> Result<(), Fail> {
     assert_eq!(rt; run(alloc, &mut names)?, (0, 1));
     assert!(rt; stands(&names, x, 10, d));
     assert!(rt; tells(&names, d, x, 41));
+    assert!(rt; first_held_back(&names) == Some(x));
+    assert_eq!(rt; count_held_back(&names), 1);
     Ok(())
 }
 

@@ -72,6 +72,14 @@ directories names = filter is_dir (keys_of names.held)
 abbrev pub blank_own : FileId → Own
 blank_own file = record { place = blank_place file; flags = [] }
 
+abbrev pub or_blank : FileId → Option Own → Own
+or_blank file None = blank_own file
+or_blank file (Some own) = own
+
+-- what is known of a thing itself: where it is not held, nothing
+abbrev pub own_or_blank : NamesValue → FileId → Own
+own_or_blank names file = or_blank file (own_at names file)
+
 abbrev pub blank : FileId → HeldValue
 blank file = record { own = blank_own file; entries = [] }
 

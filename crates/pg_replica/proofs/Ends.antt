@@ -206,11 +206,15 @@ none_by b false h = refl
 none_by true true h = cc
 none_by false true h = cc
 
+-- where no number of the server's own is at its end, every replica has room for one more
+pub room_without_end : (home : Home) (file : FileId) (server : ℕ) (es : ByFile) → have_own_end es server ≡ false
+    → has_room (replica_for home es file) server ≡ true
+room_without_end home file server es h = room_in home file server (replica_in es file) (found_none server file es h)
+
 -- before the clock's end, of whichever file
 pub room_in_time : (a : Store) (home : Home) (file : FileId) (server : ℕ) → server ≡ a.server → is_in_time a ≡ true
     → has_room (replica_for home a.replicas file) server ≡ true
 room_in_time a home file server own time =
     let P : ℕ → Type 0 = λ s. has_room (replica_for home a.replicas file) s ≡ true in
     subst P (sym own)
-    (room_in home file a.server (replica_in a.replicas file)
-    (found_none a.server file a.replicas (none_by (has_time a.last a.tags) (have_own_end a.replicas a.server) time)))
+    (room_without_end home file a.server a.replicas (none_by (has_time a.last a.tags) (have_own_end a.replicas a.server) time))

@@ -8,7 +8,7 @@ pub mod Lists
 pub mod Clean
 pub mod Merging
 mod Relisting
-mod Ends
+pub mod Ends
 mod Takings
 mod Refusals
 mod InOrder

@@ -99,6 +99,25 @@ module _ (home : Home) (es ds : ByFile) (file : FileId) (x w : Replica) (link : 
       same_by es ds file x w (with_head x v tags) (has_edge x link) (covers x v) t same is other
       ∙ ap (λ y. replicas_taking es file y link v tags) at
 
+-- ---- a replica that is put, made of what was there or of a new one
+
+pub put_there : (R : Order) → R ≡ file_cmp → (home : Home) (es ds : ByFile) (file : FileId) (x w : Replica) (made : Replica → Replica)
+    → IsStrictlySortedBy file_cmp (keys_of es) → lookup (is_at (R file)) es ≡ Some x
+    → ds ≡ set_value (is_at (R file)) es w → w ≡ made x
+    → ds ≡ insert_entry file_cmp es file (made (replica_for home es file))
+put_there R o home es ds file x w made sorted there set is =
+    let Q : Order → Type 0 = λ r. lookup (is_at (r file)) es ≡ Some x in
+    let P : Order → Type 0 = λ r. ds ≡ set_value (is_at (r file)) es w in
+    subst P o set ∙ sym (insert_there file_cmp file_total file x w es sorted (subst Q o there)) ∙ ap (insert_entry file_cmp es file) is
+    ∙ ap (λ y. insert_entry file_cmp es file (made y)) (for_there R o home es file x there)
+
+pub put_new : (R : Order) → R ≡ file_cmp → (home : Home) (es ds : ByFile) (file : FileId) (x w : Replica) (made : Replica → Replica)
+    → x ≡ replica_for home es file → ds ≡ insert_entry R es file w → w ≡ made x
+    → ds ≡ insert_entry file_cmp es file (made (replica_for home es file))
+put_new R o home es ds file x w made at put is =
+    let P : Order → Type 0 = λ r. ds ≡ insert_entry r es file w in
+    subst P o put ∙ ap (insert_entry file_cmp es file) is ∙ ap (λ y. insert_entry file_cmp es file (made y)) at
+
 -- ---- an answer
 
 acked_by : (es ds : ByFile) (file : FileId) (x w y : Replica) (t : Bool) → IsStrictlySortedBy file_cmp (keys_of es)

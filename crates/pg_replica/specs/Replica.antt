@@ -4,6 +4,7 @@ use Rattle.std.specs.Prelude.{ℕ, ◌+◌, ◌==◌, ◌&&◌, Bool, if◌then�
 use Rattle.std.specs.List.{list_any}
 use Rattle.pg_base.specs.declared.stamp.Stamp.{Stamp}
 use Rattle.pg_base.specs.declared.vector.Actor.{Actor}
+use Rattle.pg_base.specs.declared.policy.Policy.{Policy}
 use Rattle.pg_base.specs.Stamp.{clock_end}
 use Rattle.pg_base.specs.Vector.{number_at}
 use Rattle.pg_patch.specs.Ranges.{RangesValue, applied}
@@ -67,6 +68,21 @@ with_version x v tags = if covers x v then x else with_head x v tags
 -- the next tag then: each edge took one, if the version was not covered
 abbrev pub tags_after : Replica → VersionValue → ℕ → ℕ
 tags_after x v tags = if covers x v then tags else tags + length x.edges
+
+-- ---- touching, and the begin of a file
+
+-- a fresh tag at the key on every edge, from this tag on
+abbrev pub with_touch : Replica → Key → ℕ → Replica
+with_touch x k tags =
+    record { birth = x.birth; content = x.content; edges = touched x.edges k tags }
+
+-- the content is empty, with this policy
+abbrev pub begun : Replica → Policy → Replica
+begun x policy = record {
+  birth = x.birth;
+  content = record { policy = policy; heads = [] };
+  edges = x.edges;
+}
 
 -- ---- a write
 

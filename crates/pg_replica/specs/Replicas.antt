@@ -5,6 +5,7 @@ use Rattle.std.specs.BTreeMap.{is_at, insert_entry}
 use Rattle.std.specs.Map.{lookup}
 use Rattle.pg_base.specs.declared.id.FileId.{FileId}
 use Rattle.pg_base.specs.Id.{file_cmp}
+use Rattle.pg_base.specs.declared.policy.Policy.{Policy}
 use Rattle.pg_base.specs.declared.stamp.Stamp.{Stamp}
 use Rattle.pg_base.specs.Version.{VersionValue}
 use Rattle.pg_patch.specs.Ranges.{RangesValue}
@@ -12,7 +13,7 @@ use Rattle.pg_edges.specs.declared.key.Key.{Key}
 use Rattle.pg_replica.specs.declared.link.Link.{Link}
 use Rattle.pg_replica.specs.declared.replica.Replica.{Replica}
 use Rattle.pg_replica.specs.declared.untouched.Home.{Home}
-use Rattle.pg_replica.specs.Replica.{covers, has_edge, knows_own_end, own_actor, with_ack, with_head, with_write}
+use Rattle.pg_replica.specs.Replica.{begun, covers, has_edge, knows_own_end, own_actor, with_ack, with_head, with_touch, with_write}
 use Rattle.pg_replica.specs.Untouched.{new_replica}
 
 abbrev pub ByFile : Type 0
@@ -59,3 +60,12 @@ replicas_acked replicas file link k tag (Some x) =
     if has_edge x link
     then insert_entry file_cmp replicas file (with_ack x link.peer link.birth k tag)
     else replicas
+
+-- a key of this replica of the file is touched
+abbrev pub replicas_touched : ByFile → FileId → Replica → Key → ℕ → ByFile
+replicas_touched replicas file x k tags =
+    insert_entry file_cmp replicas file (with_touch x k tags)
+
+-- the content of this replica of the file is empty, with this policy
+abbrev pub replicas_begun : ByFile → FileId → Replica → Policy → ByFile
+replicas_begun replicas file x policy = insert_entry file_cmp replicas file (begun x policy)

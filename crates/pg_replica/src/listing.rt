@@ -2,13 +2,13 @@
 
 ghost use Rattle.std.specs.Prelude.{[], ◌≡◌, ◌≢◌, ◌≤◌, ◌+◌, ◌^◌, IfErr, IfOk, None, OnErr, OnOk, Some, length, map, true};
 ghost use Rattle.pg_base.specs.Version.{stamp_of};
-ghost use Rattle.pg_replica.specs.Replica.{has_room, own_actor, refusal_of, tags_taking, taking, with_ack_along, with_taking, with_write};
+ghost use Rattle.pg_replica.specs.Replica.{begun, has_room, own_actor, refusal_of, tags_taking, taking, with_ack_along, with_taking, with_touch, with_write};
 ghost use Rattle.pg_replica.specs.Index.{IsAllClean, KnowsNoEnd, Relists, with_end};
 
 use crate::link::{Link, Taking};
 use crate::numbers::has_end;
 use crate::replica::Replica;
-use pg_base::{FileId, Items, Stamp, Version};
+use pg_base::{FileId, Items, Policy, Stamp, Version};
 use pg_content::WriteError;
 use pg_edges::Key;
 use pg_patch::Ranges;
@@ -95,7 +95,7 @@ pub(crate) fn write_listed(
     ranges: &Ranges,
     tags: &mut u64,
 ) -> Result<Items<Stamp>, WriteError>
-    requires tags { tags.old ≤ 2 ^ 62 }
+    requires tags { tags.old ≤ 2 ^ 63 }
     requires room { has_room replica.old stamp.server ≡ true }
     ensures bases { IfOk result (λ ss. ss ≡ map stamp_of replica.old.content.heads) }
     ensures replica { OnOk result
@@ -120,6 +120,46 @@ pub(crate) fn write_listed(
     list_end(&mut lists.ended, file, &version)?;
     replica.put_alone(version, tags)?;
     Ok(bases)
+}
+
+/// Touches the key on every edge. `tags` is the next tag to give.
+pub(crate) fn touch_listed(
+    replica: &mut Replica,
+    lists: &mut Lists,
+    file: FileId,
+    key: Key,
+    tags: &mut u64,
+) -> Result<(), AllocError>
+    requires { tags.old ≤ 2 ^ 63 }
+    ensures replica { OnOk result (replica.new ≡ with_touch replica.old key tags.old) }
+    ensures tags { OnOk result (tags.new ≡ tags.old + length replica.old.edges) }
+    ensures listed { Relists IsAllClean lists.old.unacknowledged.entries
+        lists.new.unacknowledged.entries file replica.old replica.new }
+    ensures ended { Relists KnowsNoEnd lists.old.ended.entries lists.new.ended.entries file
+        replica.old replica.new }
+{
+    // These are fewer than 2^63, so the tags stay in range.
+    let _count = replica.edges.as_slice().len();
+    lists.unacknowledged.insert(file, ())?;
+    replica.touch(key, tags)?;
+    Ok(())
+}
+
+/// The content is empty from now on, with this policy.
+pub(crate) fn begin_listed(
+    replica: &mut Replica,
+    lists: &Lists,
+    alloc: Global,
+    file: FileId,
+    policy: Policy,
+)
+    ensures replica { replica.new ≡ begun replica.old policy }
+    ensures listed { Relists IsAllClean lists.now.unacknowledged.entries
+        lists.now.unacknowledged.entries file replica.old replica.new }
+    ensures ended { Relists KnowsNoEnd lists.now.ended.entries lists.now.ended.entries file
+        replica.old replica.new }
+{
+    replica.begin(alloc, policy);
 }
 
 /// An answer that came along an edge takes the key off where the tag is the present one there.

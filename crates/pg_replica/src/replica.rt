@@ -6,11 +6,11 @@ ghost use Rattle.pg_base.specs.Version.{stamp_of};
 ghost use Rattle.pg_patch.specs.Ranges.{applied};
 ghost use Rattle.pg_content.specs.Content.{actor_limit, body_limit, next_vector, next_version, shown_bytes};
 ghost use Rattle.pg_edges.specs.Edges.{are_clean};
-ghost use Rattle.pg_replica.specs.Replica.{cell_at, covers, has_edge, has_room, is_too_long, keys, own_actor, refusal_of, with_ack_along, with_head, with_only};
+ghost use Rattle.pg_replica.specs.Replica.{begun, cell_at, covers, has_edge, has_room, is_too_long, keys, own_actor, refusal_of, with_ack_along, with_head, with_only, with_touch};
 
 use crate::link::Link;
 use crate::retiring::{key_of, retire_all, retire_replaced};
-use pg_base::{Actor, Items, NodeId, Stamp, Version};
+use pg_base::{Actor, Items, NodeId, Policy, Stamp, Version};
 use pg_content::{Content, WriteError};
 use pg_edges::{Edges, Key};
 use pg_patch::Ranges;
@@ -85,6 +85,25 @@ impl Replica {
         self.edges.touch(key_of(&version), tags)?;
         self.content.put_head(version)?;
         Ok(())
+    }
+
+    /// Touches the key on every edge. `tags` is the next tag to give. After a refusal edges and tags may be changed in
+    /// part.
+    pub(crate) fn touch(&mut self, key: Key, tags: &mut u64) -> Result<(), AllocError>
+        requires { tags.old + length self.old.edges < 2 ^ 64 }
+        ensures replica { OnOk result (self.new ≡ with_touch self.old key tags.old) }
+        ensures tags { OnOk result (tags.new ≡ tags.old + length self.old.edges) }
+        ensures err { OnErr result (self.new.content ≡ self.old.content) }
+    {
+        self.edges.touch(key, tags)?;
+        Ok(())
+    }
+
+    /// The content is empty from now on, with this policy. It takes no memory.
+    pub(crate) fn begin(&mut self, alloc: Global, policy: Policy)
+        ensures { self.new ≡ begun self.old policy }
+    {
+        self.content = Content::new(alloc, policy);
     }
 
     /// The version that the server makes of what the ranges make of what is shown, with all heads as its bases. Nothing

@@ -6,15 +6,17 @@ ghost use Rattle.std.specs.Map.{keys_of};
 ghost use Rattle.pg_base.specs.Id.{file_cmp};
 ghost use Rattle.pg_base.specs.Version.{stamp_of};
 ghost use Rattle.pg_replica.specs.Replica.{has_room, refusal_of, tags_taking, taking};
-ghost use Rattle.pg_replica.specs.Replicas.{have_own_end, is_own_end_in, replica_for, replica_in, replicas_acked, replicas_taking, replicas_writing};
+ghost use Rattle.pg_replica.specs.Replicas.{have_own_end, is_own_end_in, replica_for, replica_in, replicas_acked, replicas_begun, replicas_taking, replicas_touched, replicas_writing};
 ghost use Rattle.pg_replica.specs.Index.{IsIndex};
 
 use crate::link::{Link, Taking};
-use crate::listing::{Lists, acknowledge_listed, take_listed, write_listed};
+use crate::listing::{
+    Lists, acknowledge_listed, begin_listed, take_listed, touch_listed, write_listed,
+};
 use crate::numbers::knows_own_end;
 use crate::replica::Replica;
 use crate::untouched::{Home, new_replica};
-use pg_base::{FileId, Items, NodeId, Stamp, Version};
+use pg_base::{FileId, Items, NodeId, Policy, Stamp, Version};
 use pg_content::WriteError;
 use pg_edges::Key;
 use pg_patch::Ranges;
@@ -98,8 +100,57 @@ impl Replicas {
         }
     }
 
+    /// Touches a key of the replica of a file on every edge. `tags` is the next tag to give. After a refusal a part may be
+    /// done.
+    pub fn touch(
+        &mut self,
+        home: Home,
+        file: FileId,
+        key: Key,
+        tags: &mut u64,
+    ) -> Result<(), AllocError>
+        requires { tags.old ≤ 2 ^ 63 }
+        ensures replicas { OnOk result
+            (self.new ≡ replicas_touched self.old file (replica_for home self.old file) key
+            tags.old) }
+        ensures tags { OnOk result
+            (tags.new ≡ tags.old + length (replica_for home self.old file).edges) }
+    {
+        match self.by_file.get_mut(&file) {
+            Some(replica) => {
+                touch_listed(replica, &mut self.lists, file, key, tags)?;
+                Ok(())
+            }
+            None => {
+                let mut replica = new_replica(self.alloc, home, &file)?;
+                touch_listed(&mut replica, &mut self.lists, file, key, tags)?;
+                self.by_file.insert(file, replica)?;
+                Ok(())
+            }
+        }
+    }
+
+    /// The content of a file is empty from now on, with this policy.
+    pub fn begin(&mut self, home: Home, file: FileId, policy: Policy) -> Result<(), AllocError>
+        ensures { OnOk result
+            (self.new ≡ replicas_begun self.old file (replica_for home self.old file) policy) }
+    {
+        match self.by_file.get_mut(&file) {
+            Some(replica) => {
+                begin_listed(replica, &self.lists, self.alloc, file, policy);
+                Ok(())
+            }
+            None => {
+                let mut replica = new_replica(self.alloc, home, &file)?;
+                begin_listed(&mut replica, &self.lists, self.alloc, file, policy);
+                self.by_file.insert(file, replica)?;
+                Ok(())
+            }
+        }
+    }
+
     /// Takes a version that came along an edge. `tags` is the next tag to give. After a refusal a part may be done.
-    pub(crate) fn take_version(
+    pub fn take_version(
         &mut self,
         home: Home,
         file: FileId,
@@ -136,7 +187,7 @@ impl Replicas {
     /// Makes a version of what the ranges make of what is shown of the file, and answers the stamps of the heads that it
     /// is based on. It is the only head then. Where that is refused nothing changes. Where memory ran out a part may be
     /// done. `tags` is the next tag to give.
-    pub(crate) fn write(
+    pub fn write(
         &mut self,
         home: Home,
         file: FileId,
@@ -144,7 +195,7 @@ impl Replicas {
         ranges: &Ranges,
         tags: &mut u64,
     ) -> Result<Items<Stamp>, WriteError>
-        requires tags { tags.old ≤ 2 ^ 62 }
+        requires tags { tags.old ≤ 2 ^ 63 }
         requires room { has_room (replica_for home self.old file) stamp.server ≡ true }
         ensures bases { IfOk result
             (λ ss. ss ≡ map stamp_of (replica_for home self.old file).content.heads) }
@@ -189,7 +240,7 @@ impl Replicas {
 
     /// An answer that came along an edge takes the key off where the tag is the present one there. The file is listed no
     /// longer where its last key went.
-    pub(crate) fn acknowledge(&mut self, file: FileId, link: &Link, key: Key, tag: u64)
+    pub fn acknowledge(&mut self, file: FileId, link: &Link, key: Key, tag: u64)
         ensures { self.new
             ≡ replicas_acked self.old file link.now key tag (replica_in self.old file) }
     {

@@ -7,4 +7,4 @@ mod paths;
 mod tests;
 
 pub use chain::is_above;
-pub use paths::{is_full, reach, reach_parent, shown_by, walk};
+pub use paths::{ROOT, is_full, reach, reach_parent, reached, shown_by, walk};

@@ -10,7 +10,7 @@ use pg_names::{Names, is_dir};
 use pg_path::Path;
 
 /// The directory above all others.
-pub(crate) const ROOT: FileId = FileId {
+pub const ROOT: FileId = FileId {
     kind: Kind::Dir,
     server: 0,
     number: 0,
@@ -86,8 +86,8 @@ fn look_up(
     Ok(child)
 }
 
-/// What a call is about, which has to be held.
-fn reached(names: &Names, file: FileId) -> Result<FileId, Refusal>
+/// What a call is about, which has to be held: else it is refused with `NotYet`.
+pub fn reached(names: &Names, file: FileId) -> Result<FileId, Refusal>
     ensures { result ≡ reached names.now file }
 {
     match names.get(&file) {

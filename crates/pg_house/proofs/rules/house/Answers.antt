@@ -1,4 +1,4 @@
-use Rattle.std.proofs.Common.{ℕ, ◌≤◌, ◌^◌, sym, ap, ◌∙◌, subst}
+use Rattle.std.proofs.Common.{ℕ, ◌+◌, ◌≤◌, ◌^◌, sym, ap, ◌∙◌, subst}
 use Rattle.pg_names.specs.Names.{NamesValue}
 use Rattle.pg_house.proofs.Growing.{grows}
 use Rattle.pg_house.proofs.rules.house.Goals as goal
@@ -6,4 +6,4 @@ use Rattle.pg_house.proofs.rules.house.Goals as goal
 pub rules-requires : goal.rules-requires
 rules-requires c =
     let same = ap (λ (s : NamesValue). s.last) c.in_ok-with_parents.ensures ∙ (grows c.args.names.now).last in
-    subst (λ (n : ℕ). n ≤ 2 ^ 62) (sym same) c.requires
+    subst (λ (n : ℕ). n ≤ 2 ^ 62 + 2 ^ 40) (sym same) c.requires

@@ -1,0 +1,168 @@
+-- The tests of components and of client names tell what the relations on paths say, and so does the
+-- check of a whole text.
+use Rattle.std.proofs.Common.{ℕ, suc, ◌≡◌, ◌<◌, ◌≤◌, ◌-◌, ◌==◌, Bool, true, false, List, [], ◌∷◌, Some, None, Ok, Err, length, get_or, All, arith, refl, sym, ap, ◌∙◌, inl, inr}
+use Rattle.std.specs.Prelude.{◌≢◌, ◌&&◌, ◌||◌, ◌↔◌, IsTrue, not, nat_le, nat_lt, slice_index}
+use Rattle.std.specs.List.{list_all, position, position_or_len, slice_get}
+use Rattle.std.proofs.lemmas.Bool.{false≢true, leb-true, le-leb, le-ltb}
+use Rattle.std.proofs.lemmas.Bool.Decides.{eqb_tells}
+use Rattle.std.proofs.lemmas.List.Elements.{All-head, All-tail, All-cons, All-nil}
+use Rattle.std.proofs.lemmas.List.Sums.{position_or_len_is}
+use Rattle.std.proofs.lemmas.Option.{get_or_from_slice_get}
+use Rattle.pg_path.specs.First.{IsFirstWithout}
+use Rattle.pg_path.specs.Name.{IsClientName, IsComponentByte, IsNameByte}
+use Rattle.pg_path.specs.Path.{HasBadName, IsComponent, IsPath, parts_of, path_text}
+use Rattle.pg_call.specs.declared.refusal.Refusal.TheVariants.{BadPath}
+use Rattle.pg_house.proofs.Truths.{and_true, bool_cases, both_true, chosen_false, not_true}
+use Rattle.pg_calls.specs.Paths.{all_of, checked_parts, is_client_name, is_component, is_component_byte, is_none, last_of, path_of}
+
+-- ---- bytes
+
+differs : (a b : ℕ) → a ≢ b → (a == b) ≡ false
+differs a b apart = elim (eqb_tells a b) [ inl h ↦ absurd (apart h.1) | inr h ↦ h.0 ]
+
+apart_by : (a b : ℕ) → not (a == b) ≡ true → a ≢ b
+apart_by a b h e = elim (eqb_tells a b) [ inl p ↦ absurd (false≢true (sym (not_true (a == b) h) ∙ p.0)) | inr p ↦ absurd (p.1 e) ]
+
+component_byte : (byte : ℕ) → IsComponentByte byte → is_component_byte byte ≡ true
+component_byte byte h =
+    both_true (nat_le 33 byte) (nat_le byte 126 && not (byte == 47)) (le-leb 33 byte h.least)
+    (both_true (nat_le byte 126) (not (byte == 47)) (le-leb byte 126 h.most) (ap not (differs byte 47 h.no_slash)))
+
+component_byte_is : (byte : ℕ) → is_component_byte byte ≡ true → IsComponentByte byte
+component_byte_is byte e =
+    let p = and_true (nat_le 33 byte) (nat_le byte 126 && not (byte == 47)) e in
+    let q = and_true (nat_le byte 126) (not (byte == 47)) p.1 in
+    record { least = leb-true 33 byte p.0; most = leb-true byte 126 q.0; no_slash = apart_by byte 47 q.1 }
+
+abbrev is_name_byte : ℕ → Bool
+is_name_byte byte = is_component_byte byte && not (byte == 126)
+
+name_byte : (byte : ℕ) → IsNameByte byte → is_name_byte byte ≡ true
+name_byte byte h =
+    both_true (is_component_byte byte) (not (byte == 126))
+    (component_byte byte (record { least = h.least; most = h.most; no_slash = h.no_slash }))
+    (ap not (differs byte 126 h.no_tilde))
+
+name_byte_is : (byte : ℕ) → is_name_byte byte ≡ true → IsNameByte byte
+name_byte_is byte e =
+    let p = and_true (is_component_byte byte) (not (byte == 126)) e in
+    let b = component_byte_is byte p.0 in
+    record { least = b.least; most = b.most; no_slash = b.no_slash; no_tilde = apart_by byte 126 p.1 }
+
+-- ---- texts of bytes
+
+all_pass : {X : Type 0} (P : X → Type 0) (test : X → Bool) → ((x : X) → P x → test x ≡ true) → (xs : List X) → All P xs → list_all test xs ≡ true
+all_pass P test passes [] h = refl
+all_pass P test passes (x ∷ xs) h = both_true (test x) (list_all test xs) (passes x (All-head P x xs h)) (all_pass P test passes xs (All-tail P x xs h))
+
+all_have : {X : Type 0} (P : X → Type 0) (test : X → Bool) → ((x : X) → test x ≡ true → P x) → (xs : List X) → list_all test xs ≡ true → All P xs
+all_have P test has [] e = All-nil P
+all_have P test has (x ∷ xs) e =
+    let p = and_true (test x) (list_all test xs) e in
+    All-cons P x xs (has x p.0) (all_have P test has xs p.1)
+
+component : (part : List ℕ) → IsComponent part → is_component part ≡ true
+component part h =
+    both_true (nat_le 1 (length part)) (nat_le (length part) 288 && list_all is_component_byte part) (le-leb 1 (length part) h.some)
+    (both_true (nat_le (length part) 288) (list_all is_component_byte part) (le-leb (length part) 288 h.most) (all_pass IsComponentByte is_component_byte component_byte part h.each))
+
+component_is : (part : List ℕ) → is_component part ≡ true → IsComponent part
+component_is part e =
+    let p = and_true (nat_le 1 (length part)) (nat_le (length part) 288 && list_all is_component_byte part) e in
+    let q = and_true (nat_le (length part) 288) (list_all is_component_byte part) p.1 in
+    record { some = leb-true 1 (length part) p.0; most = leb-true (length part) 288 q.0; each = all_have IsComponentByte is_component_byte component_byte_is part q.1 }
+
+no_component : (part : List ℕ) → ¬ (IsComponent part) → is_component part ≡ false
+no_component part h = elim (bool_cases (is_component part)) [ inl e ↦ absurd (h (component_is part e)) | inr e ↦ e ]
+
+client_name : (name : List ℕ) → IsClientName name → is_client_name name ≡ true
+client_name name h =
+    both_true (nat_le 1 (length name)) (nat_le (length name) 255 && list_all is_name_byte name) (le-leb 1 (length name) h.some)
+    (both_true (nat_le (length name) 255) (list_all is_name_byte name) (le-leb (length name) 255 h.most) (all_pass IsNameByte is_name_byte name_byte name h.each))
+
+client_name_is : (name : List ℕ) → is_client_name name ≡ true → IsClientName name
+client_name_is name e =
+    let p = and_true (nat_le 1 (length name)) (nat_le (length name) 255 && list_all is_name_byte name) e in
+    let q = and_true (nat_le (length name) 255) (list_all is_name_byte name) p.1 in
+    record { some = leb-true 1 (length name) p.0; most = leb-true (length name) 255 q.0; each = all_have IsNameByte is_name_byte name_byte_is name q.1 }
+
+-- a test that tells client names is the test of client names
+tells_names : (t : Bool) (name : List ℕ) → (IsTrue t ↔ IsClientName name) → t ≡ is_client_name name
+tells_names true name h = sym (client_name name (h.0 refl))
+tells_names false name h = elim (bool_cases (is_client_name name)) [ inl e ↦ absurd (false≢true (h.1 (client_name_is name e))) | inr e ↦ sym e ]
+
+-- ---- the last component
+
+last_at : (parts : List (List ℕ)) (d : List ℕ) → 0 < length parts → get_or parts (length parts - 1) d ≡ last_of parts
+last_at [] d h = absurd (omega arith)
+last_at (part ∷ []) d h = refl
+last_at (part ∷ next ∷ parts) d h =
+    let e : length (part ∷ next ∷ parts) - 1 ≡ suc (length (next ∷ parts) - 1) = omega arith in
+    ap (λ k. get_or (part ∷ next ∷ parts) k d) e ∙ last_at (next ∷ parts) d (omega arith)
+
+pub last_is : (parts : List (List ℕ)) (k : ℕ) (part : List ℕ) → 0 < length parts → k ≡ length parts - 1 → slice_get parts k ≡ Some part → part ≡ last_of parts
+last_is parts k part some e at =
+    sym (get_or_from_slice_get parts k part part at) ∙ ap (λ i. get_or parts i part) e ∙ last_at parts part some
+
+-- there is no last component, or it is tested
+pub ends_in_name : (parts : List (List ℕ)) (t : Bool) (name : List ℕ) → (length parts == 0) ≡ false → name ≡ last_of parts → (IsTrue t ↔ IsClientName name) → t ≡ (is_none parts || is_client_name (last_of parts))
+ends_in_name [] t name none e h = absurd (false≢true (sym none))
+ends_in_name (part ∷ parts) t name none e h = tells_names t name h ∙ ap is_client_name e
+
+-- ---- whole texts
+
+abbrev is_bad : List ℕ → Bool
+is_bad part = not (is_component part)
+
+first_bad : (parts : List (List ℕ)) (i : ℕ) → IsFirstWithout IsComponent parts i → position is_bad parts ≡ Some i
+first_bad parts i h =
+    let inside = h.inside in
+    let at : position_or_len is_bad parts ≡ i = position_or_len_is is_bad parts i [] (omega arith)
+    (λ k lt. ap not (component (get_or parts k []) (h.before k [] (omega arith) lt)))
+    (λ lt. ap not (no_component (get_or parts i []) (h.lacks []))) in
+    let within : nat_lt i (length parts) ≡ true = le-leb (suc i) (length parts) (omega arith) in
+    rw (at, within) refl
+
+none_bad : (parts : List (List ℕ)) → All IsComponent parts → position is_bad parts ≡ None
+none_bad parts each =
+    let at : position_or_len is_bad parts ≡ length parts = position_or_len_is is_bad parts (length parts) [] (omega arith)
+    (λ k lt. ap not (component (get_or parts k []) (each k [] lt)))
+    (λ lt. absurd (omega arith)) in
+    let within : nat_lt (length parts) (length parts) ≡ false = le-ltb (length parts) (length parts) (omega arith) in
+    rw (at, within) refl
+
+-- a text with a slash in front, neither too long nor too deep, is told by its components
+checked : (text : List ℕ) → slice_index text 0 ≡ 47 → length text ≤ 4096 → length (parts_of text) ≤ 64 → path_of text ≡ checked_parts (parts_of text)
+checked text slash short few =
+    let front : not (slice_index text 0 == 47) ≡ false = ap (λ b. not (b == 47)) slash in
+    let long : nat_lt 4096 (length text) ≡ false = le-ltb 4096 (length text) short in
+    let deep : nat_lt 64 (length (parts_of text)) ≡ false = le-ltb 64 (length (parts_of text)) few in
+    chosen_false (not (slice_index text 0 == 47)) _ _ front
+    ∙ chosen_false (nat_lt 4096 (length text)) _ _ long
+    ∙ chosen_false (nat_lt 64 (length (parts_of text))) _ _ deep
+
+pub bad_number : (text : List ℕ) (number : ℕ) → HasBadName text number → number ≤ 64
+bad_number text number h =
+    let few = h.few in
+    let e = h.first.1 in
+    let inside = h.first.2.inside in
+    omega arith
+
+pub bad_component : (text : List ℕ) (number : ℕ) → HasBadName text number → path_of text ≡ Err (BadPath number)
+bad_component text number h =
+    let i = h.first.0 in
+    let e = h.first.1 in
+    checked text h.slash h.short h.few
+    ∙ ap (all_of (parts_of text)) (first_bad (parts_of text) i h.first.2)
+    ∙ ap (λ n. Err (BadPath n)) (sym e)
+
+pub whole_path : (text : List ℕ) (parts : List (List ℕ)) → IsPath parts → text ≡ path_text parts → parts ≡ parts_of text → path_of text ≡ Ok parts
+whole_path text parts h spelled e =
+    let slash : slice_index text 0 ≡ 47 = ap (λ t. slice_index t 0) spelled in
+    let size : length text ≡ length (path_text parts) = ap length spelled in
+    let short = h.short in
+    let few = h.few in
+    let count : length parts ≡ length (parts_of text) = ap length e in
+    checked text slash (omega arith) (omega arith)
+    ∙ ap checked_parts (sym e)
+    ∙ ap (all_of parts) (none_bad parts h.each)

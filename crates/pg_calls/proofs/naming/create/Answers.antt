@@ -1,0 +1,20 @@
+use Rattle.std.proofs.Common.{ap, sym, ◌∙◌}
+use Rattle.pg_calls.specs.Answer.{Answer}
+use Rattle.pg_calls.proofs.Made.{create_is}
+use Rattle.pg_calls.proofs.naming.create.Goals as goal
+
+pub returns-in_ok-make_first_version-in-Ok-clause-store : goal.returns-in_ok-make_first_version-in-Ok-clause-store
+returns-in_ok-make_first_version-in-Ok-clause-store c =
+    c.in_ok-make_first_version-in-Ok.ensures.store
+    ∙ sym (ap (λ (a : Answer). a.store)
+    (create_is c.args.store.now c.give_id-id.new.store c.args.work.now c.args.text.now c.in-Ok.new c.give_id-id.result
+    c.args.policy c.make_thing.new.store c.make_thing.new.work c.in-Ok.ensures c.give_id-id.ensures.store
+    c.give_id-id.ensures.id c.in_ok-make_thing-in-Ok.ensures.store c.in_ok-make_thing-in-Ok.ensures.work))
+
+pub returns-in_ok-make_first_version-in-Ok-clause-work : goal.returns-in_ok-make_first_version-in-Ok-clause-work
+returns-in_ok-make_first_version-in-Ok-clause-work c =
+    c.in_ok-make_first_version-in-Ok.ensures.work
+    ∙ sym (ap (λ (a : Answer). a.work)
+    (create_is c.args.store.now c.give_id-id.new.store c.args.work.now c.args.text.now c.in-Ok.new c.give_id-id.result
+    c.args.policy c.make_thing.new.store c.make_thing.new.work c.in-Ok.ensures c.give_id-id.ensures.store
+    c.give_id-id.ensures.id c.in_ok-make_thing-in-Ok.ensures.store c.in_ok-make_thing-in-Ok.ensures.work))

@@ -1,0 +1,16 @@
+use Rattle.std.proofs.Common.{rules, ◌≡◌, ◌+◌, min, subst, Result}
+use Rattle.pg_call.specs.declared.refusal.Refusal.{Refusal}
+use Rattle.pg_calls.specs.declared.checks.NewName.{NewName}
+use Rattle.pg_calls.specs.Answer.{Tells}
+use Rattle.pg_calls.specs.Naming.{next_id}
+use Rattle.pg_calls.proofs.InTime.{is_next, same_name}
+use Rattle.pg_calls.proofs.naming.name_for_new.Goals as goal
+
+pub returns : goal.returns
+returns c =
+    let most : c.saturating_add.result ≡ min (c.args.store.now.files + 1) 18446744073709551615 = search rules in
+    let P : Result NewName Refusal → Type 0 = λ r. Tells c.new_name.result r in
+    subst P
+    (same_name c.args.store.now _ (next_id c.args.store.now c.args.kind) c.args.text.now
+    (is_next c.args.store.now c.args.kind c.server.result c.saturating_add.result c.server.ensures most))
+    c.new_name.ensures

@@ -1,0 +1,19 @@
+use Rattle.std.proofs.Common.{ap, Err, arith}
+use Rattle.pg_path.specs.Path.{HasBadName}
+use Rattle.pg_calls.proofs.Components.{bad_component, bad_number, whole_path}
+use Rattle.pg_calls.proofs.paths.path_of.Goals as goal
+
+pub overflow_cast-result : goal.overflow_cast-result
+overflow_cast-result c =
+    let bad : HasBadName c.args.text.now c.in-Err-BadName.component = (c.in-Err-BadName.ensures.bad c.in-Err-BadName.component).0 (ap Err c.in-Err-BadName.field-0-is) in
+    let few = bad_number c.args.text.now c.in-Err-BadName.component bad in
+    omega arith
+
+pub returns-in-Ok : goal.returns-in-Ok
+returns-in-Ok c =
+    whole_path c.args.text.now c.in-Ok.path c.in-Ok.ensures.found.0 c.in-Ok.ensures.found.1 c.in-Ok.ensures.parts
+
+pub returns-in-Err-BadName : goal.returns-in-Err-BadName
+returns-in-Err-BadName c =
+    let bad : HasBadName c.args.text.now c.in-Err-BadName.component = (c.in-Err-BadName.ensures.bad c.in-Err-BadName.component).0 (ap Err c.in-Err-BadName.field-0-is) in
+    bad_component c.args.text.now c.in-Err-BadName.component bad

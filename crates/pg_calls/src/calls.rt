@@ -1,0 +1,72 @@
+//! What a server does where a client calls it.
+
+ghost use Rattle.std.specs.Prelude.{◌≡◌, IfOk, OnOk};
+ghost use Rattle.pg_calls.specs.Calls.{do_call, is_built};
+
+use crate::bodies::{cut, read, write};
+use crate::looks::{fresh, ls, stat, status, stop};
+use crate::naming::{create, mkdir, rename, rmdir, unlink};
+use pg_call::{Call, Reply};
+use pg_msg::Work;
+use pg_store::Store;
+use std::alloc::AllocError;
+
+/// Whether the call is built.
+pub fn is_built(call: &Call) -> bool
+    ensures { result ≡ is_built call.now }
+{
+    match call {
+        Call::Mkdir { .. }
+        | Call::Create { .. }
+        | Call::Write { .. }
+        | Call::Cut { .. }
+        | Call::Read { .. }
+        | Call::Fresh { .. }
+        | Call::Ls { .. }
+        | Call::Stat { .. }
+        | Call::Rename { .. }
+        | Call::Unlink { .. }
+        | Call::Rmdir { .. }
+        | Call::Status
+        | Call::Stop => true,
+        Call::Forget { .. } | Call::Demote { .. } | Call::Drop { .. } | Call::Giveup { .. } => {
+            false
+        }
+    }
+}
+
+/// A client calls the server. A call that is refused changes nothing, nor does one that is not built. Where memory ran
+/// out a part may be done.
+pub fn do_call(store: &mut Store, call: &Call, work: &mut Work) -> Result<Reply, AllocError>
+    ensures store { OnOk result (store.new ≡ (do_call store.old call.now work.old).store) }
+    ensures work { OnOk result (work.new ≡ (do_call store.old call.now work.old).work) }
+    ensures reply { IfOk result (λ r. r ≡ (do_call store.old call.now work.old).reply) }
+{
+    Ok(match call {
+        Call::Mkdir { path } => mkdir(store, path.as_slice(), work)?,
+        Call::Create { path, policy } => create(store, path.as_slice(), *policy, work)?,
+        Call::Write {
+            path,
+            offset,
+            bytes,
+        } => write(store, path.as_slice(), *offset, bytes, work)?,
+        Call::Cut { path, length } => cut(store, path.as_slice(), *length, work)?,
+        Call::Read {
+            path,
+            offset,
+            count,
+        } => read(store, path.as_slice(), *offset, *count)?,
+        Call::Fresh { path } => fresh(store, path.as_slice())?,
+        Call::Ls { path, from } => ls(store, path.as_slice(), *from)?,
+        Call::Stat { target } => stat(store, target)?,
+        Call::Rename { from, to } => rename(store, from.as_slice(), to.as_slice(), work)?,
+        Call::Unlink { path } => unlink(store, path.as_slice(), work)?,
+        Call::Rmdir { path } => rmdir(store, path.as_slice(), work)?,
+        Call::Status => status(store)?,
+        Call::Forget { .. }
+        | Call::Demote { .. }
+        | Call::Drop { .. }
+        | Call::Giveup { .. }
+        | Call::Stop => stop(store)?,
+    })
+}

@@ -1,0 +1,218 @@
+//! What a call is about, and why it is refused before anything is done.
+
+ghost use Rattle.std.specs.Prelude.{◌≡◌, IfOk};
+ghost use Rattle.pg_house.specs.Returning.{is_root};
+ghost use Rattle.pg_names.specs.Names.{known};
+ghost use Rattle.pg_calls.specs.Answer.{Tells};
+ghost use Rattle.pg_calls.specs.Checks.{dir_at, empty_dir_at, file_at, first_child, first_row, id_at, in_time, is_filling, move_along, move_of, move_to, new_name, new_name_in, reach_full, target_at, thing_at, when_free, when_full};
+
+use crate::denied::Denied;
+use crate::paths::{Paths, last_of, new_path_of, path_of, paths_of};
+use pg_base::{FileId, SharedBytes};
+use pg_call::{Refusal, Target};
+use pg_names::{Names, is_dir};
+use pg_path::{Path, Row};
+use pg_store::Store;
+use pg_walk::{ROOT, is_above, is_full, reach, reach_parent, reached, shown_by};
+use std::alloc::AllocError;
+
+/// The directory in which a new name is to be, and the name.
+#[derive(Debug, Drop)]
+pub(crate) struct NewName {
+    pub dir: FileId,
+    pub name: SharedBytes,
+}
+
+/// A thing, and where it is to go.
+#[derive(Debug, Drop)]
+pub(crate) struct Move {
+    pub thing: FileId,
+    pub to: NewName,
+}
+
+/// The clock is looked at behind the texts of paths.
+pub(crate) fn in_time(store: &Store) -> Result<(), Denied>
+    ensures { Tells result (in_time store.now tt) }
+{
+    if !store.is_in_time() {
+        return Err(Denied::Refused(Refusal::ClockEnd));
+    }
+    Ok(())
+}
+
+/// The thing, if it is a directory or a file that has a version.
+pub(crate) fn when_full(store: &Store, file: FileId) -> Result<FileId, Denied>
+    ensures { Tells result (when_full store.now file) }
+{
+    if is_filling(store, &file) {
+        return Err(Denied::Refused(Refusal::NotYet(file)));
+    }
+    Ok(file)
+}
+
+/// Whether it is a file with no version.
+fn is_filling(store: &Store, file: &FileId) -> bool
+    ensures { result ≡ is_filling store.now file.now }
+{
+    !is_dir(file) && store.has_no_head(file)
+}
+
+/// What the path leads to, held and full.
+pub(crate) fn reach_full(store: &Store, needs_dir: bool, path: &Path) -> Result<FileId, Denied>
+    ensures { Tells result (reach_full store.now needs_dir path.now) }
+{
+    let file = reach(&store.names, path, needs_dir)?;
+    when_full(store, file)
+}
+
+/// What the text of a path leads to, held and full.
+pub(crate) fn thing_at(store: &Store, needs_dir: bool, text: &[u8]) -> Result<FileId, Denied>
+    ensures { Tells result (thing_at store.now needs_dir text.now) }
+{
+    let path = path_of(store.allocator(), text)?;
+    in_time(store)?;
+    reach_full(store, needs_dir, &path)
+}
+
+/// The same, which has to be a file.
+pub(crate) fn file_at(store: &Store, text: &[u8]) -> Result<FileId, Denied>
+    ensures { Tells result (file_at store.now text.now) }
+{
+    let file = thing_at(store, false, text)?;
+    if is_dir(&file) {
+        return Err(Denied::Refused(Refusal::IsDir));
+    }
+    Ok(file)
+}
+
+/// The same, which has to be a directory.
+pub(crate) fn dir_at(store: &Store, text: &[u8]) -> Result<FileId, Denied>
+    ensures { Tells result (dir_at store.now text.now) }
+{
+    thing_at(store, true, text)
+}
+
+/// What a target names.
+pub(crate) fn target_at(store: &Store, target: &Target) -> Result<FileId, Denied>
+    ensures { Tells result (target_at store.now target.now) }
+{
+    match target {
+        Target::Path(text) => thing_at(store, false, text.as_slice()),
+        Target::Id(id) => id_at(store, *id),
+    }
+}
+
+/// What an id names, held and full.
+fn id_at(store: &Store, id: FileId) -> Result<FileId, Denied>
+    ensures { Tells result (id_at store.now id) }
+{
+    in_time(store)?;
+    let file = reached(&store.names, id)?;
+    when_full(store, file)
+}
+
+/// Where the last component of the path is to be a new name, for this child.
+pub(crate) fn new_name(store: &Store, child: FileId, text: &[u8]) -> Result<NewName, Denied>
+    ensures { Tells result (new_name store.now child text.now) }
+{
+    let path = new_path_of(store.allocator(), text)?;
+    in_time(store)?;
+    let dir = reach_parent(&store.names, &path)?;
+    new_name_in(&store.names, child, &path, dir)
+}
+
+/// The last component as a new name in this directory. The root shows its own path.
+fn new_name_in(names: &Names, child: FileId, path: &Path, dir: FileId) -> Result<NewName, Denied>
+    ensures { Tells result (new_name_in names.now child path.now dir) }
+{
+    if path.is_empty() {
+        return Err(Denied::Refused(Refusal::Exists(ROOT)));
+    }
+    when_free(names, child, dir, last_of(path))
+}
+
+/// The name, if nothing shows it in the directory, which has room for a cell of the child.
+fn when_free(names: &Names, child: FileId, dir: FileId, name: &[u8]) -> Result<NewName, Denied>
+    ensures { Tells result
+        (when_free names.now child (record { dir = dir; name = name.now })) }
+{
+    if let Some(other) = shown_by(names, dir, name) {
+        return Err(Denied::Refused(Refusal::Exists(other)));
+    }
+    if is_full(names, dir, child) {
+        return Err(Denied::Refused(Refusal::DirFull));
+    }
+    let name = SharedBytes::from_slice(names.allocator(), name)?;
+    Ok(NewName { dir, name })
+}
+
+/// What the first path leads to, and the last component of the second as its new name.
+pub(crate) fn move_of(store: &Store, from: &[u8], to: &[u8]) -> Result<Move, Denied>
+    ensures { Tells result (move_of store.now from.now to.now) }
+{
+    let paths = paths_of(store.allocator(), from, to)?;
+    in_time(store)?;
+    move_along(store, &paths)
+}
+
+/// The same along these paths.
+fn move_along(store: &Store, paths: &Paths) -> Result<Move, Denied>
+    ensures { Tells result (move_along store.now paths.now) }
+{
+    let thing = reach_full(store, false, &paths.from)?;
+    let dir = reach_parent(&store.names, &paths.to)?;
+    move_to(&store.names, thing, &paths.to, dir)
+}
+
+/// The thing as it is to go into this directory: the root does not move, and a directory not below itself.
+fn move_to(names: &Names, thing: FileId, path: &Path, dir: FileId) -> Result<Move, Denied>
+    ensures { Tells result (move_to names.now thing path.now dir) }
+{
+    if is_root(&thing) {
+        return Err(Denied::Refused(Refusal::Root));
+    }
+    let to = new_name_in(names, thing, path, dir)?;
+    if is_dir(&thing) && is_above(names, thing, to.dir) {
+        return Err(Denied::Refused(Refusal::Loop));
+    }
+    Ok(Move { thing, to })
+}
+
+fn is_root(file: &FileId) -> bool
+    ensures { result ≡ is_root file.now }
+{
+    file.compare(&ROOT).is_eq()
+}
+
+/// A directory other than the root, which shows no name.
+pub(crate) fn empty_dir_at(store: &Store, text: &[u8]) -> Result<FileId, Denied>
+    ensures { Tells result (empty_dir_at store.now text.now) }
+{
+    let dir = dir_at(store, text)?;
+    if is_root(&dir) {
+        return Err(Denied::Refused(Refusal::Root));
+    }
+    match first_child(&store.names, dir)? {
+        Some(child) => Err(Denied::Refused(Refusal::NotEmpty(child))),
+        None => Ok(dir),
+    }
+}
+
+/// The first child that a directory shows.
+fn first_child(names: &Names, dir: FileId) -> Result<Option<FileId>, AllocError>
+    ensures { IfOk result (λ child. child ≡ first_child dir (known names.now dir)) }
+{
+    match names.get(&dir) {
+        Some(held) => Ok(first_row(held.entries().page(dir, 0, 1)?.as_slice())),
+        None => Ok(None),
+    }
+}
+
+fn first_row(rows: &[Row]) -> Option<FileId>
+    ensures { result ≡ first_row rows.now }
+{
+    match rows {
+        [row, ..] => Some(row.child),
+        [] => None,
+    }
+}

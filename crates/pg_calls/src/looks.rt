@@ -1,0 +1,180 @@
+//! Calls that look and change nothing.
+
+ghost use Rattle.std.specs.Prelude.{◌≡◌, IfOk, count_by};
+ghost use Rattle.pg_names.specs.Names.{known, own_or_blank};
+ghost use Rattle.pg_register.specs.Flag.{is_live};
+ghost use Rattle.pg_store.specs.Store.{replica_of};
+ghost use Rattle.pg_calls.specs.Looks.{counts, fresh, head_count, listing, ls, page, rows_from, shown_length, stat, stat_of, status, stop};
+
+use crate::checks::{dir_at, file_at, in_time, target_at};
+use pg_base::{FileId, Items, Shared};
+use pg_call::{Counts, Reply, Stat, Target};
+use pg_cells::key_count;
+use pg_house::count_held_back;
+use pg_names::{Names, Own, is_dir};
+use pg_path::Row;
+use pg_register::GoldFlags;
+use pg_store::Store;
+use std::alloc::AllocError;
+
+/// The most names that one reply has.
+const MOST_NAMES: usize = 100;
+
+/// The names in a directory from this position on, at most 100 of them, and how many there are in all.
+pub(crate) fn ls(store: &Store, text: &[u8], from: u32) -> Result<Reply, AllocError>
+    ensures { IfOk result (λ r. r ≡ ls store.now text.now from) }
+{
+    match dir_at(store, text) {
+        Ok(dir) => page(listing(store, dir)?, from),
+        Err(denied) => denied.reply(),
+    }
+}
+
+fn listing(store: &Store, dir: FileId) -> Result<Items<Row>, AllocError>
+    ensures { IfOk result (λ rows. rows ≡ listing dir (known store.now.names dir)) }
+{
+    match store.names.get(&dir) {
+        Some(held) => held.entries().listing(dir),
+        None => Ok(Items::new(store.allocator())),
+    }
+}
+
+/// So many names in all, and those from a position on. More than a reply can count are as if memory ran out.
+fn page(rows: Items<Row>, from: u32) -> Result<Reply, AllocError>
+    ensures { IfOk result (λ r. r ≡ page rows from) }
+{
+    if rows.len() > u32::MAX as usize {
+        return Err(AllocError);
+    }
+    let total = rows.len() as u32;
+    let rows = rows_from(rows, from)?;
+    Ok(Reply::Names { total, rows })
+}
+
+fn rows_from(rows: Items<Row>, from: u32) -> Result<Items<Row>, AllocError>
+    ensures { IfOk result (λ page. page ≡ rows_from rows from) }
+{
+    let mut rows = rows.into_vec();
+    let first = (from as usize).min(rows.len());
+    let mut page = rows.split_off(first)?;
+    page.truncate(MOST_NAMES);
+    Ok(Items::from_vec(page))
+}
+
+/// Whether every version of a file that was announced is here: none is announced before it comes.
+pub(crate) fn fresh(store: &Store, text: &[u8]) -> Result<Reply, AllocError>
+    ensures { IfOk result (λ r. r ≡ fresh store.now text.now) }
+{
+    match file_at(store, text) {
+        Ok(_) => Ok(Reply::Done),
+        Err(denied) => denied.reply(),
+    }
+}
+
+/// The replica at this server.
+pub(crate) fn stat(store: &Store, target: &Target) -> Result<Reply, AllocError>
+    ensures { IfOk result (λ r. r ≡ stat store.now target.now) }
+{
+    match target_at(store, target) {
+        Ok(file) => {
+            let stat = stat_of(store, file)?;
+            Ok(Reply::Stat(Shared::new(store.allocator(), stat)?))
+        }
+        Err(denied) => denied.reply(),
+    }
+}
+
+fn stat_of(store: &Store, file: FileId) -> Result<Stat, AllocError>
+    ensures { IfOk result (λ stat. stat ≡ stat_of store.now file) }
+{
+    let own = own_or_blank(store, file)?;
+    Ok(Stat {
+        id: file,
+        gold: own.flags.is_raised(store.server(), birth(store, file)),
+        golds: live_golds(&store.names, &own.flags),
+        heads: head_count(store, file),
+        length: shown_length(store, file),
+        edges: store.edge_count(&file) as u64,
+        place: own.place,
+    })
+}
+
+fn own_or_blank(store: &Store, file: FileId) -> Result<Own, AllocError>
+    ensures { IfOk result (λ own. own ≡ own_or_blank store.now.names file) }
+{
+    match store.names.own(&file) {
+        Some(own) => own.copy(),
+        None => Own::blank(store.allocator(), file),
+    }
+}
+
+fn birth(store: &Store, file: FileId) -> u64
+    ensures { result ≡ (replica_of store.now file).birth }
+{
+    match store.replica(&file) {
+        Some(replica) => replica.birth,
+        None => 1,
+    }
+}
+
+/// How many flags are raised of servers that are not removed.
+fn live_golds(names: &Names, flags: &GoldFlags) -> u64
+    ensures { result ≡ count_by (is_live names.now.removed) flags.now }
+{
+    let live = flags
+        .as_slice()
+        .iter()
+        .filter(|flag| flag.raised && !names.is_removed(flag.server));
+    live.count() as u64
+}
+
+fn head_count(store: &Store, file: FileId) -> u64
+    ensures { result ≡ head_count store.now file }
+{
+    match store.replica(&file) {
+        Some(replica) if !is_dir(&file) => replica.content.heads().len() as u64,
+        _ => 0,
+    }
+}
+
+fn shown_length(store: &Store, file: FileId) -> u64
+    ensures { result ≡ shown_length store.now file }
+{
+    match store.replica(&file) {
+        Some(replica) if !is_dir(&file) => replica.content.length(),
+        _ => 0,
+    }
+}
+
+/// What the server holds and waits for, in numbers.
+pub(crate) fn status(store: &Store) -> Result<Reply, AllocError>
+    ensures { IfOk result (λ r. r ≡ status store.now) }
+{
+    match in_time(store) {
+        Ok(()) => Ok(Reply::Status(Shared::new(store.allocator(), counts(store))?)),
+        Err(denied) => denied.reply(),
+    }
+}
+
+fn counts(store: &Store) -> Counts
+    ensures { result ≡ counts store.now }
+{
+    Counts {
+        view: 0,
+        last: store.names.last(),
+        replicas: store.names.as_map().len() as u64,
+        intents: 0,
+        cells: key_count(store),
+        held: count_held_back(&store.names) as u64,
+    }
+}
+
+/// The server is to end: what it holds stays as it is.
+pub(crate) fn stop(store: &Store) -> Result<Reply, AllocError>
+    ensures { IfOk result (λ r. r ≡ stop store.now) }
+{
+    match in_time(store) {
+        Ok(()) => Ok(Reply::Done),
+        Err(denied) => denied.reply(),
+    }
+}

@@ -1,0 +1,7 @@
+//! Tests of client calls.
+#![tactic(auto)]
+
+#[cfg(test)]
+mod checks;
+#[cfg(test)]
+mod servers;

@@ -1,0 +1,9 @@
+pub mod Done
+pub mod Sending
+pub mod Cells
+pub mod Acks
+pub mod Ticks
+pub mod Finish
+pub mod Settling
+pub mod Counts
+pub mod Choice

@@ -1,0 +1,74 @@
+-- Cells as they are sent, along edges on which their keys are unacknowledged.
+use Rattle.std.specs.Prelude.{ℕ, Bool, true, false, ◌&&◌, not, if◌then◌else◌, List, [], ◌∷◌, Option, None, Some}
+use Rattle.std.specs.List.{filter, flat_map, list_any}
+use Rattle.pg_base.specs.declared.id.FileId.{FileId}
+use Rattle.pg_base.specs.Id.{is_same_file}
+use Rattle.pg_edges.specs.declared.edge.Edge.{Edge}
+use Rattle.pg_edges.specs.declared.key.Key.{Key}
+use Rattle.pg_edges.specs.declared.key.Key.TheVariants as key
+use Rattle.pg_edges.specs.Key.{is_same_key}
+use Rattle.pg_edges.specs.Keys.{has_entry}
+use Rattle.pg_entries.specs.declared.cell.Cell.{Cell}
+use Rattle.pg_msg.specs.declared.message.Message.TheVariants as message
+use Rattle.pg_msg.specs.declared.message.Sent.{Sent}
+use Rattle.pg_msg.specs.declared.work.Touched.{Touched}
+use Rattle.pg_names.specs.Names.{is_dir, own_or_blank}
+use Rattle.pg_replica.specs.declared.replica.Replica.{Replica}
+use Rattle.pg_store.specs.declared.store.Store.{Store}
+use Rattle.pg_store.specs.Cells.{cell_at}
+
+-- ---- one cell
+
+-- a cell under a tag, to the peer of an edge; from a replica of this birth
+abbrev pub cell_to : ℕ → FileId → ℕ → Edge → Cell → ℕ → Sent
+cell_to server file birth e c tag = record {
+  to = e.peer;
+  packet = record {
+    from = server;
+    view = 0;
+    message = message.Cell (record { file = file; sender = birth; receiver = e.birth }) tag c;
+  };
+}
+
+-- the same, where the key has a cell
+abbrev pub cell_under : ℕ → FileId → ℕ → Edge → ℕ → Option Cell → List Sent
+cell_under server file birth e tag None = []
+cell_under server file birth e tag (Some c) = cell_to server file birth e c tag ∷ []
+
+abbrev pub is_place : Key → Bool
+is_place key.Place = true
+is_place (key.Flag server) = false
+is_place (key.Entry child) = false
+is_place (key.Version stamp) = false
+
+-- the gate: the dead place of a directory waits while the key of an entry is on the edge
+abbrev pub waits : Store → FileId → Edge → Key → Bool
+waits store file e k = is_place k && (is_dir file
+    && (not (own_or_blank store.names file).place.live && has_entry e.keys))
+
+-- the cell of a key that is on the edge under a tag, unless it waits
+abbrev pub key_cell : Store → FileId → ℕ → Edge → Key × ℕ → List Sent
+key_cell store file birth e k =
+    if waits store file e k.0 then []
+    else cell_under store.names.server file birth e k.1 (cell_at store file k.0)
+
+-- ---- all cells of keys that are wanted, by file, peer and key
+
+abbrev pub edge_cells : Store → (FileId → Key → Bool) → FileId → ℕ → Edge → List Sent
+edge_cells store wanted file birth e =
+    flat_map (key_cell store file birth e) (filter (λ k. wanted file k.0) e.keys)
+
+abbrev pub replica_cells : Store → (FileId → Key → Bool) → FileId × Replica → List Sent
+replica_cells store wanted r =
+    flat_map (edge_cells store wanted r.0 r.1.birth) r.1.edges
+
+abbrev pub cells_where : Store → (FileId → Key → Bool) → List Sent
+cells_where store wanted = flat_map (replica_cells store wanted) store.replicas
+
+-- every key is wanted
+abbrev pub is_any : FileId → Key → Bool
+is_any file k = true
+
+-- the key of the file is among those that were touched
+abbrev pub is_touched : List Touched → FileId → Key → Bool
+is_touched ts file k = list_any (λ t. is_same_file t.file file && is_same_key t.key k) ts

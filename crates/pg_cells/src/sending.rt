@@ -1,0 +1,173 @@
+//! Cells as they are sent, along edges on which their keys are unacknowledged.
+
+ghost use Rattle.std.specs.Prelude.{◌≡◌, ◌++◌, ◌&&◌, IfOk, OnOk, not};
+ghost use Rattle.pg_names.specs.Names.{is_dir, own_or_blank};
+ghost use Rattle.pg_store.specs.Store.{replica_at};
+ghost use Rattle.pg_cells.specs.Choice.{ListsChosen, chosen_cells, file_cells, is_chosen};
+ghost use Rattle.pg_cells.specs.Sending.{cell_to, cells_where, edge_cells, is_place, key_cell, replica_cells, waits};
+
+use crate::choice::Choice;
+use pg_base::{FileId, Items, NodeId};
+use pg_edges::{Edge, Key};
+use pg_entries::Cell;
+use pg_msg::{Ends, Message, Packet, Sent};
+use pg_names::is_dir;
+use pg_replica::Replica;
+use pg_store::Store;
+use std::alloc::AllocError;
+use std::collections::BTreeMap;
+
+/// A cell under a tag, to the peer of an edge, from a replica of this birth.
+fn cell_to(server: NodeId, file: FileId, birth: u64, edge: &Edge, cell: Cell, tag: u64) -> Sent
+    ensures { result ≡ cell_to server file birth edge.now cell tag }
+{
+    let ends = Ends {
+        file,
+        sender: birth,
+        receiver: edge.birth,
+    };
+    Sent {
+        to: edge.peer,
+        packet: Packet {
+            from: server,
+            view: 0,
+            message: Message::Cell { ends, tag, cell },
+        },
+    }
+}
+
+fn is_place(key: &Key) -> bool
+    ensures { result ≡ is_place key.now }
+{
+    matches!(key, Key::Place)
+}
+
+/// Whether the place of a thing is a dead one, be it the blank one.
+fn has_dead_place(store: &Store, file: &FileId) -> bool
+    ensures { result ≡ not (own_or_blank store.now.names file.now).place.live }
+{
+    match store.names.own(file) {
+        Some(own) => !own.place.live,
+        None => true,
+    }
+}
+
+/// Whether the key is not sent yet: the dead place of a directory waits while the key of an entry is on the edge.
+fn waits(store: &Store, file: &FileId, edge: &Edge, key: &Key) -> bool
+    ensures { result ≡ waits store.now file.now edge.now key.now }
+{
+    is_place(key) && is_dir(file) && has_dead_place(store, file) && edge.keys.has_entry()
+}
+
+/// The cell of a key that is on the edge under this tag, unless it waits.
+fn send_key(
+    store: &Store,
+    file: FileId,
+    birth: u64,
+    edge: &Edge,
+    key: &Key,
+    tag: u64,
+    sent: &mut Items<Sent>,
+) -> Result<(), AllocError>
+    ensures { OnOk result
+        (sent.new ≡ sent.old ++ key_cell store.now file birth edge.now (key.now, tag)) }
+{
+    if waits(store, &file, edge, key) {
+        return Ok(());
+    }
+    if let Some(cell) = store.cell(file, key)? {
+        sent.push(cell_to(store.server(), file, birth, edge, cell, tag))?;
+    }
+    Ok(())
+}
+
+/// The same, where it is chosen.
+fn send_chosen(
+    store: &Store,
+    choice: &Choice<'_>,
+    file: FileId,
+    birth: u64,
+    edge: &Edge,
+    key: &Key,
+    tag: u64,
+    sent: &mut Items<Sent>,
+) -> Result<(), AllocError>
+    ensures { OnOk result (sent.new
+        ≡ sent.old
+        ++ chosen_cells store.now choice.now file birth edge.now (key.now, tag)) }
+{
+    if choice.has(&file, key) {
+        send_key(store, file, birth, edge, key, tag, sent)?;
+    }
+    Ok(())
+}
+
+/// Of each key of an edge, by key.
+fn send_edge(
+    store: &Store,
+    choice: &Choice<'_>,
+    file: FileId,
+    birth: u64,
+    edge: &Edge,
+    sent: &mut Items<Sent>,
+) -> Result<(), AllocError>
+    ensures { OnOk result (sent.new
+        ≡ sent.old ++ edge_cells store.now (is_chosen choice.now) file birth edge.now) }
+{
+    for entry in edge.keys.as_slice() {
+        send_chosen(store, choice, file, birth, edge, &entry.0, entry.1, sent)?;
+    }
+    Ok(())
+}
+
+/// Of each edge of a replica, by peer.
+fn send_replica(
+    store: &Store,
+    choice: &Choice<'_>,
+    file: FileId,
+    replica: &Replica,
+    sent: &mut Items<Sent>,
+) -> Result<(), AllocError>
+    ensures { OnOk result (sent.new
+        ≡ sent.old ++ replica_cells store.now (is_chosen choice.now) (file, replica.now)) }
+{
+    for edge in replica.edges.as_slice() {
+        send_edge(store, choice, file, replica.birth, edge, sent)?;
+    }
+    Ok(())
+}
+
+/// Of the replica of a file, if it was touched.
+fn send_file(
+    store: &Store,
+    choice: &Choice<'_>,
+    file: &FileId,
+    sent: &mut Items<Sent>,
+) -> Result<(), AllocError>
+    ensures { OnOk result (sent.new
+        ≡ sent.old
+        ++ file_cells store.now (is_chosen choice.now) file.now (replica_at store.now file.now)) }
+{
+    if let Some(replica) = store.replica(file) {
+        send_replica(store, choice, *file, replica, sent)?;
+    }
+    Ok(())
+}
+
+/// All cells of keys that are chosen, by file, peer and key. These are the files that may have one.
+pub(crate) fn send_cells(
+    store: &Store,
+    choice: &Choice<'_>,
+    files: &BTreeMap<FileId, ()>,
+    sent: &mut Items<Sent>,
+) -> Result<(), AllocError>
+    requires { ListsChosen store.now choice.now files.now.entries }
+    ensures { OnOk result (sent.new ≡ sent.old ++ cells_where store.now (is_chosen choice.now)) }
+{
+    // It says that the replicas are in order.
+    let _index = store.replicas.unacknowledged();
+    for file in files.keys() {
+        send_file(store, choice, file, sent)?;
+    }
+    Ok(())
+}

@@ -1,0 +1,5 @@
+//! Tests of cells, acknowledgements and ticks.
+#![tactic(auto)]
+
+#[cfg(test)]
+mod events;

@@ -1,0 +1,4 @@
+pub mod FirstEdges
+pub mod Stays
+mod Old
+mod Linked

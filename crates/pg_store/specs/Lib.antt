@@ -1,0 +1,3 @@
+pub mod Start
+pub mod Store
+pub mod Cells

@@ -1,0 +1,147 @@
+//! What a server holds.
+
+ghost use Rattle.std.specs.Prelude.{◌≡◌, ◌≤◌, ◌^◌, IfOk, OnOk, length};
+ghost use Rattle.std.specs.Option.{option_copied};
+ghost use Rattle.pg_replica.specs.Replica.{has_edge};
+ghost use Rattle.pg_store.specs.Store.{acknowledge, has_time, have_own_flag_at_end, home_of, is_in_time, is_own_flag_at_end, new_store, replica_at, replica_of, touch, with_names};
+
+use crate::start::{first_edge_count, first_names, is_first_link};
+use pg_base::{FileId, NodeId, Stamp};
+use pg_edges::Key;
+use pg_names::{Held, Names};
+use pg_replica::{Home, Link, Replica, Replicas};
+use std::alloc::{AllocError, Global};
+
+/// What a server holds.
+#[derive(Debug, Drop)]
+pub struct Store {
+    /// How many servers the run has.
+    pub servers: u32,
+    /// The next tag that it gives out.
+    pub tags: u64,
+    /// The number of the latest id that it gave out: 0 before the first.
+    pub files: u64,
+    /// What it knows of names: by id, all that it holds.
+    pub names: Names,
+    /// The replicas that were touched, with their edges and contents.
+    pub replicas: Replicas,
+}
+
+/// More tags than this are not given out in one event: memory ends before.
+const MOST_TAGS: u64 = 1 << 63;
+
+impl Store {
+    /// A server at the start of a run with so many servers.
+    pub fn new(alloc: Global, server: NodeId, servers: u32) -> Result<Store, AllocError>
+        ensures { IfOk result (λ store. store ≡ new_store servers server) }
+    {
+        Ok(Store {
+            servers,
+            tags: 1,
+            files: 0,
+            names: first_names(alloc, server, servers)?,
+            replicas: Replicas::new(alloc),
+        })
+    }
+
+    pub fn allocator(&self) -> Global {
+        self.replicas.allocator()
+    }
+
+    /// Which server it is.
+    pub fn server(&self) -> NodeId
+        ensures { result ≡ self.now.names.server }
+    {
+        self.names.server()
+    }
+
+    pub(crate) fn home(&self) -> Home
+        ensures { result ≡ home_of self.now }
+    {
+        Home {
+            server: self.server(),
+            servers: self.servers,
+        }
+    }
+
+    /// Whether the clock is not at its end: no stamp that was taken, no tag and no id that was given out, and no number of
+    /// one of the server's own actors or flags that is known here, has come to 2^62.
+    pub fn is_in_time(&self) -> bool
+        ensures { result ≡ is_in_time self.now }
+    {
+        self.has_time()
+            && !self.replicas.have_own_end(self.server())
+            && !self.have_own_flag_at_end()
+    }
+
+    fn has_time(&self) -> bool
+        ensures { result ≡ has_time self.now.names.last self.now.tags self.now.files }
+    {
+        self.names.last() < Stamp::LATEST
+            && self.tags <= Stamp::LATEST
+            && self.files < Stamp::LATEST
+    }
+
+    fn have_own_flag_at_end(&self) -> bool
+        ensures { result ≡ have_own_flag_at_end self.now.names }
+    {
+        let server = self.server();
+        self.names
+            .as_map()
+            .values()
+            .any(|held| is_own_flag_at_end(server, held))
+    }
+
+    /// The replica of a file or directory, if it was touched.
+    pub fn replica(&self, file: &FileId) -> Option<&Replica>
+        ensures { option_copied result ≡ replica_at self.now file.now }
+    {
+        self.replicas.get(file)
+    }
+
+    /// Whether the replica has an edge between these births.
+    pub fn has_edge(&self, file: &FileId, link: &Link) -> bool
+        ensures { result ≡ has_edge (replica_of self.now file.now) link.now }
+    {
+        match self.replica(file) {
+            Some(replica) => replica.has_edge(link),
+            None => is_first_link(self.home(), link),
+        }
+    }
+
+    /// How many edges the replica has.
+    pub fn edge_count(&self, file: &FileId) -> usize
+        ensures { result ≡ length (replica_of self.now file.now).edges }
+    {
+        match self.replica(file) {
+            Some(replica) => replica.edges.len(),
+            None => first_edge_count(self.home()),
+        }
+    }
+
+    /// Puts a fresh tag at the key on each edge of the replica, by peers. After out of memory a part may be done.
+    pub fn touch(&mut self, file: FileId, key: Key) -> Result<(), AllocError>
+        ensures { OnOk result (self.new ≡ touch self.old file key) }
+    {
+        if self.tags > MOST_TAGS {
+            return Err(AllocError);
+        }
+        let home = self.home();
+        self.replicas.touch(home, file, key, &mut self.tags)?;
+        Ok(())
+    }
+
+    /// An answer that came along an edge takes the key off where its tag is the present one there.
+    pub fn acknowledge(&mut self, file: FileId, link: &Link, key: Key, tag: u64)
+        ensures { self.new ≡ acknowledge self.old file link.now key tag }
+    {
+        self.replicas.acknowledge(file, link, key, tag);
+    }
+}
+
+/// Whether the server's own flag of a thing has a number of 2^62 or more.
+fn is_own_flag_at_end(server: NodeId, held: &Held) -> bool
+    ensures { result ≡ is_own_flag_at_end server held.now }
+{
+    Stamp::LATEST <= held.own().flags.number(server)
+}

@@ -1,0 +1,5 @@
+//! Tests of what a server holds.
+#![tactic(auto)]
+
+#[cfg(test)]
+mod taking;
