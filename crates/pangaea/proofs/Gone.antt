@@ -9,10 +9,10 @@ use Rattle.std.proofs.lemmas.Grind.{flat_map-append}
 use Rattle.pg_trace.specs.Printed.{journal_spelling, printed_text}
 use Rattle.pg_trace.specs.declared.printed.Printed.{Printed}
 use Rattle.pg_trace.proofs.Lines.{joined}
-use Rattle.pg_node.specs.Journal.{bag}
+use Rattle.pg_run.specs.Journal.{bag}
 use Rattle.pg_world.specs.Played.{final}
-use Rattle.pg_node.specs.Quiet.{has_some, quiet_of}
-use Rattle.pg_node.specs.Run.{World, run_from}
+use Rattle.pg_run.specs.Quiet.{has_some, quiet_of}
+use Rattle.pg_run.specs.Run.{World, run_from}
 use Rattle.pg_world.proofs.Standing.{run_from-append}
 use Rattle.pangaea.specs.declared.journal.Replay.{Replay}
 use Rattle.pangaea.specs.Going.{GoesOn, Reaches}

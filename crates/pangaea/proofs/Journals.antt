@@ -8,8 +8,8 @@ use Rattle.pg_trace.specs.declared.printed.Printed.{Printed}
 use Rattle.pg_trace.specs.declared.printed.Printed.TheVariants as printed
 use Rattle.pg_trace.specs.declared.printed.Word.TheVariants as word
 use Rattle.pg_trace.proofs.Lines.{joined}
-use Rattle.pg_node.specs.Quiet.{quiet_of}
-use Rattle.pg_node.specs.Run.{World, run_from}
+use Rattle.pg_run.specs.Quiet.{quiet_of}
+use Rattle.pg_run.specs.Run.{World, run_from}
 use Rattle.pg_world.specs.Played.{final}
 use Rattle.pangaea.specs.declared.journal.Replay.{Replay}
 use Rattle.pangaea.specs.Going.{GoesOn, Reaches, Takes, written_of}

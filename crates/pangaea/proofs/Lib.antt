@@ -2,3 +2,4 @@ pub mod Settled
 pub mod Gone
 pub mod Lines
 pub mod Journals
+pub mod Showing

@@ -5,7 +5,7 @@ use Rattle.pg_sched.specs.declared.line.Line.{Line}
 use Rattle.pg_trace.specs.Printed.{ArePrinted, journal_spelling}
 use Rattle.pg_trace.specs.declared.printed.Printed.{Printed}
 use Rattle.pg_world.specs.Played.{final}
-use Rattle.pg_node.specs.Run.{run_from}
+use Rattle.pg_run.specs.Run.{run_from}
 use Rattle.pangaea.specs.declared.journal.Replay.{Replay}
 use Rattle.pangaea.specs.Settling.{after_line, events_of}
 use Rattle.pangaea.specs.Text.{form_from, inner_lines, line_output, output_lines}

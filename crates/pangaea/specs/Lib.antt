@@ -1,4 +1,5 @@
 pub mod Settling
+pub mod Shown
 pub mod Text
 pub mod Going
 pub mod Ending

@@ -1,39 +1,34 @@
 -- The journal of a run: its lines, and its text.
 use Rattle.std.specs.Prelude.{ℕ, ◌+◌, List, [], ◌∷◌, ◌++◌, zero, suc}
 use Rattle.pg_base.specs.declared.id.FileId.{FileId}
-use Rattle.pg_base.specs.declared.id.Kind.{Kind}
-use Rattle.pg_base.specs.declared.id.Kind.TheVariants.{Dir, File}
-use Rattle.pg_content.specs.Content.{ContentValue}
 use Rattle.pg_event.specs.declared.entry.VoidCause.TheVariants.{Unbuilt}
 use Rattle.pg_event.specs.declared.event.Event.{Event}
 use Rattle.pg_sched.specs.declared.line.Form.{Form}
 use Rattle.pg_sched.specs.declared.line.Form.TheVariants.{Short}
 use Rattle.pg_sched.specs.declared.line.Line.{Line}
 use Rattle.pg_sched.specs.declared.line.Line.TheVariants as line
-use Rattle.pg_trace.specs.Text.{entry_lines, head_lines, show_line}
+use Rattle.pg_trace.specs.Text.{entry_lines, head_lines}
 use Rattle.pg_trace.specs.Printed.{journal_spelling}
 use Rattle.pg_trace.specs.declared.printed.Printed.{Printed}
 use Rattle.pg_trace.specs.declared.printed.Printed.TheVariants as printed
 use Rattle.pg_trace.specs.declared.printed.Word.TheVariants as word
-use Rattle.pg_node.specs.Journal.{taken, state_of}
-use Rattle.pg_node.specs.Run.{World, next, start}
-use Rattle.pg_node.specs.Quiet.{quiet_of}
+use Rattle.pg_run.specs.Run.{World, next, start}
+use Rattle.pg_run.specs.Quiet.{quiet_of}
+use Rattle.pangaea.specs.Shown.{held_lines}
 use Rattle.pangaea.specs.Settling.{after_event, most_deliveries, settling, after_line}
 
--- the state of exactly the versions of a file that a server took
-abbrev pub state_at : World → FileId → ℕ → ContentValue
-state_at w file server = state_of file w.journal (taken server file w.journal)
-
--- what the first servers show of a file, in increasing order
+-- what the first servers show of a file or directory, in increasing order
 abbrev pub shows_lines : World → FileId → ℕ → List Printed
-shows_lines w file zero = []
-shows_lines w file (suc k) =
-    shows_lines w file k ++ show_line (suc k) file (state_at w file (suc k)) ∷ []
+shows_lines w id zero = []
+shows_lines w id (suc k) = shows_lines w id k ++ held_lines (suc k) (w.stores (suc k)) id
 
--- a file is held by each of the first servers. No server holds a directory yet
-abbrev pub shown_lines : World → FileId → Kind → ℕ → List Printed
-shown_lines w what Dir servers = printed.Nowhere what ∷ []
-shown_lines w what File servers = shows_lines w what servers
+-- where no server holds it, that is told
+abbrev pub or_nowhere : FileId → List Printed → List Printed
+or_nowhere id [] = printed.Nowhere id ∷ []
+or_nowhere id (line ∷ lines) = line ∷ lines
+
+abbrev pub shown_lines : World → FileId → ℕ → List Printed
+shown_lines w id servers = or_nowhere id (shows_lines w id servers)
 
 abbrev pub event_lines : ℕ → ℕ → Form → World → Event → List Printed
 event_lines servers number form w event = entry_lines number form (next servers w event).entry
@@ -65,7 +60,7 @@ output_lines servers number form w (line.Settle rounds moment) =
     inner_lines servers number form w (settling servers most_deliveries moment w rounds)
     ++ printed.Asked word.Settle (quiet_of servers (after_line servers w (line.Settle rounds moment)))
     ∷ []
-output_lines servers number form w (line.Show what) = shown_lines w what what.kind servers
+output_lines servers number form w (line.Show id) = shown_lines w id servers
 output_lines servers number form w line.Quiet = printed.Asked word.Quiet (quiet_of servers w) ∷ []
 output_lines servers number form w (line.Trace next) = []
 output_lines servers number form w (line.MeterOff meter) = printed.Void number Unbuilt ∷ []

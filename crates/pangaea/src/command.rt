@@ -5,19 +5,27 @@ ghost use Rattle.std.specs.Io.KnownBytes.{IsAtEnd};
 ghost use Rattle.pg_io.specs.Causes.{Rose};
 ghost use Rattle.pg_sched.specs.Schedule.{IsFirstBad};
 ghost use Rattle.pg_call.specs.declared.fault.Fault.{Fault};
-ghost use Rattle.pg_node.specs.Laws.{AncestryByVectors, CarriesHistory, ClockEndsFirst, HoldsWhatItTook, MakesHistories, OneVersionAStamp, QuietIsTold, QuietServersAgree, StateIsDetermined, StateIsItsHeads, TakesWhatCame, TicksSendWhatIsOwed};
+ghost use Rattle.pg_run.specs.Came.{TakesWhatCame};
+ghost use Rattle.pg_run.specs.Histories.{AncestryByVectors, CarriesHistory, ClockEndsFirst, MakesHistories, OneVersionAStamp, StateIsDetermined, StateIsItsHeads};
+ghost use Rattle.pg_run.specs.Laws.{HoldsWhatItTook, HouseIsInOrder, NamesMerge, QuietDirectoriesAreBroughtBack, QuietIsTold, QuietNamesFormATree, QuietServersAgree, QuietThingsAreListedOnlyWhereTheyStand, ReturnsAreJustified};
+ghost use Rattle.pg_run.specs.Ticks.{TicksSendWhatIsOwed};
+ghost use Rattle.pg_places.specs.Laws.{OnePlaceAStamp};
 ghost use Rattle.pangaea.specs.Ending.{EndsOnly, FirstBadIs};
 ghost use Rattle.pangaea.specs.Laws.{LinesAreEvents};
 ghost use Rattle.pangaea.specs.Written.{AreGoodWords, FirstIsReplay, IsGoodInput, IsTooLong, WritesAll, WritesPrefix, most_input};
 
 use crate::journal::journal_of;
 use crate::laws::lines_are_events;
-use pg_agreement::{quiet_is_told, ticks_send_what_is_owed};
+use pg_contents::{contents_are_states, runs_make_histories, states_are_heads};
 use pg_event::Status;
 use pg_io::{ReadAllError, Sink, Source, read_all, write_all};
-use pg_merge::{replicas_are_states, runs_make_histories, states_are_heads};
+use pg_naming::{names_are_what_was_taken, returns_are_justified};
+use pg_order::house_is_in_order;
+use pg_places::one_place_a_stamp;
+use pg_quiet::{quiet_names_form_a_tree, quiet_servers_agree};
+use pg_run::{quiet_is_told, takes_are_what_came};
 use pg_sched::{ReadError, read};
-use pg_world::quiet_servers_agree;
+use pg_ticks::ticks_send_what_is_owed;
 use std::alloc::Global;
 
 /// The most bytes that an input may have.
@@ -99,27 +107,41 @@ pub fn run<S: Source, K: Sink>(
         → WritesPrefix (S.remaining source.old) (K.contents sink.old) (K.contents sink.new) }
     ensures untouched { result ≢ Status.Done → result ≢ Status.WriteFault → sink.new ≡ sink.old }
 
-    // What is shown: of each run, every replica is the state of exactly the versions that it took,
-    // in whatever order they came: their heads, with the bodies that the history gives them.
+    // What each server took is what it made, what was delivered to it, and what was there from the start
+    // on. What it holds is the state of exactly that: contents, and names.
+    ensures took { (servers : ℕ) → TakesWhatCame servers }
     ensures merge { (servers : ℕ) → servers < 2 ^ 32 → HoldsWhatItTook servers }
-    ensures took { (servers : ℕ) → servers < 2 ^ 32 → TakesWhatCame servers }
+    ensures names { (servers : ℕ) → NamesMerge servers }
     ensures heads { (servers : ℕ) → servers < 2 ^ 32 → StateIsItsHeads servers }
     ensures determined { (servers : ℕ) → servers < 2 ^ 32 → StateIsDetermined servers }
 
-    // What was made: the versions of a file are a history, whose vectors tell ancestry, and
-    // messages carry it.
+    // The versions of a file are a history, whose ancestors vectors tell, and which messages carry. Of
+    // one stamp there is one version, and one place of a thing. Clocks end before other numbers do.
     ensures histories { (servers : ℕ) → servers < 2 ^ 32 → MakesHistories servers }
     ensures one { (servers : ℕ) → servers < 2 ^ 32 → OneVersionAStamp servers }
+    ensures one_place { (servers : ℕ) → servers < 2 ^ 32 → OnePlaceAStamp servers }
     ensures ancestry { (servers : ℕ) → servers < 2 ^ 32 → AncestryByVectors servers }
     ensures carried { (servers : ℕ) → servers < 2 ^ 32 → CarriesHistory servers }
     ensures clock { (servers : ℕ) → servers < 2 ^ 32 → ClockEndsFirst servers }
 
-    // What holds where all is done: each line is events of the run, and at every prefix of them
-    // that is quiet, also within a settling, all replicas of a file agree.
+    // Behind every event names are as the house rules ask. Each line is events of the run, those of a
+    // settling among them. A tick sends what is owed, and is refused exactly at the clock's end.
+    ensures order { (servers : ℕ) → HouseIsInOrder servers }
     ensures events { (servers : ℕ) → LinesAreEvents servers }
-    ensures agree { (servers : ℕ) → servers < 2 ^ 32 → QuietServersAgree servers }
+    ensures owed { (servers : ℕ) → servers < 2 ^ 32 → TicksSendWhatIsOwed servers }
+
+    // Quiet is told exactly where no message is under way and no server owes anything. There all
+    // servers agree, and the names form one tree, in which each survivor is listed where it stands and
+    // nowhere else, in no dead directory.
     ensures quiet { QuietIsTold }
-    ensures owed { (servers : ℕ) → TicksSendWhatIsOwed servers }
+    ensures agree { (servers : ℕ) → servers < 2 ^ 32 → QuietServersAgree servers }
+    ensures tree { (servers : ℕ) → servers < 2 ^ 32 → QuietNamesFormATree servers }
+    ensures listed { (servers : ℕ) → servers < 2 ^ 32
+        → QuietThingsAreListedOnlyWhereTheyStand servers }
+    ensures back { (servers : ℕ) → servers < 2 ^ 32 → QuietDirectoriesAreBroughtBack servers }
+
+    // Where a directory comes back, whoever removed it had not heard of the places that it lists.
+    ensures justified { (servers : ℕ) → servers < 2 ^ 32 → ReturnsAreJustified servers }
 
     // When it ends how.
     ensures first_word { result ≡ Status.Usage 1 ↔ ¬ (FirstIsReplay words.now) }
@@ -148,13 +170,19 @@ pub fn run<S: Source, K: Sink>(
         → EndsOnly result Status.Done }
 {
     // The laws of every run: these calls say what holds, and do nothing.
-    replicas_are_states();
+    takes_are_what_came();
+    contents_are_states();
+    names_are_what_was_taken();
     states_are_heads();
     runs_make_histories();
+    one_place_a_stamp();
+    house_is_in_order();
     lines_are_events();
-    quiet_servers_agree();
-    quiet_is_told();
     ticks_send_what_is_owed();
+    quiet_is_told();
+    quiet_servers_agree();
+    quiet_names_form_a_tree();
+    returns_are_justified();
 
     if !is_replay(words) {
         return Status::Usage(1);

@@ -1,9 +1,8 @@
 //! The journal of a schedule's run.
 
-ghost use Rattle.std.specs.Prelude.{◌≡◌, ◌++◌, IfOk, OnOk};
+ghost use Rattle.std.specs.Prelude.{◌≡◌, ◌++◌, ◌||◌, IfOk, OnOk};
 ghost use Rattle.pg_sched.specs.Schedule.{IsCount};
 ghost use Rattle.pg_base.specs.Id.{Fits};
-ghost use Rattle.pg_base.specs.declared.id.Kind.TheVariants.{File};
 ghost use Rattle.pg_event.specs.declared.entry.VoidCause.TheVariants.{Unbuilt};
 ghost use Rattle.pg_event.specs.Event.{IsEvent};
 ghost use Rattle.pg_sched.specs.Line.{IsLine};
@@ -14,10 +13,11 @@ ghost use Rattle.pg_trace.specs.declared.printed.Printed.TheVariants as printed;
 ghost use Rattle.pangaea.specs.Text as journal;
 ghost use Rattle.pangaea.specs.Text.{text_of};
 
-use pg_base::{Bytes, FileId, Kind};
+use crate::shown::write_held;
+use pg_base::{Bytes, FileId, NodeId};
 use pg_event::{Event, Quiet};
 use pg_sched::{Form, Line, Schedule};
-use pg_trace::{Word, write_entry, write_head, write_quiet, write_show};
+use pg_trace::{Word, write_entry, write_head, write_quiet};
 use pg_world::World;
 use pg_written::entries_suit;
 use std::alloc::{AllocError, Global};
@@ -36,12 +36,13 @@ struct Replay {
 }
 
 impl Replay {
-    ghost use Rattle.std.specs.Prelude.{◌∷◌, [], false};
+    ghost use Rattle.std.specs.Prelude.{◌∷◌, ◌≤◌, [], false};
     ghost use Rattle.pg_trace.specs.declared.printed.Word.{Word};
-    ghost use Rattle.pg_world.specs.Played.{final};
-    ghost use Rattle.pg_node.specs.Quiet.{quiet_of};
+    ghost use Rattle.pg_world.specs.Played.{final, held};
+    ghost use Rattle.pg_run.specs.Quiet.{has_some, quiet_of};
     ghost use Rattle.pangaea.specs.Going.{Answers, GoesOn, Reaches, Takes};
     ghost use Rattle.pangaea.specs.Settling.{deliveries, settling, ticks};
+    ghost use Rattle.pangaea.specs.Shown.{held_lines};
     ghost use Rattle.pangaea.specs.Text.{event_lines, line_head, shown_lines, shows_lines};
 
     /// An event happens, and what the journal says of it is written.
@@ -119,32 +120,48 @@ impl Replay {
         Ok(())
     }
 
-    /// Writes what each server shows of a file, or that no server holds the directory.
+    /// Writes what each server shows of a file or directory, or that none holds it.
     fn show(&mut self, id: &FileId) -> Result<(), AllocError>
         requires { self.old.world.failed ≡ false }
-        ensures { let lines = shown_lines (final self.old.world) id.now id.now.kind
-            self.old.world.servers in
+        ensures { let lines = shown_lines (final self.old.world) id.now self.old.world.servers in
             OnOk result (Reaches self.old self.new [] lines) }
     {
-        match id.kind {
-            Kind::Dir => Ok(write_nowhere(*id, &mut self.out)?),
-            Kind::File => Ok(self.show_file(id)?),
-        }
-    }
-
-    /// Writes what each server shows of a file.
-    fn show_file(&mut self, file: &FileId) -> Result<(), AllocError>
-        requires going { self.old.world.failed ≡ false }
-        requires file { file.now.kind ≡ File }
-        ensures { let lines = shows_lines (final self.old.world) file.now self.old.world.servers in
-            OnOk result (Reaches self.old self.new [] lines) }
-    {
-        for k in 0..self.world.servers() {
-            let server = k + 1;
-            let content = self.world.content(server, file);
-            write_show(server, file, content, &mut self.out)?;
+        if !self.show_held(id)? {
+            write_nowhere(*id, &mut self.out)?;
         }
         Ok(())
+    }
+
+    /// Writes what each server shows of it, and says whether one holds it.
+    fn show_held(&mut self, id: &FileId) -> Result<bool, AllocError>
+        requires { self.old.world.failed ≡ false }
+        ensures lines { let lines = shows_lines (final self.old.world) id.now self.old.world.servers in
+            OnOk result (Reaches self.old self.new [] lines) }
+        ensures any { let lines = shows_lines (final self.old.world) id.now self.old.world.servers in
+            IfOk result (λ any. any ≡ has_some lines) }
+    {
+        let mut any = false;
+        for k in 0..self.world.servers() {
+            let here = self.show_at(k + 1, id)?;
+            any = either(any, here);
+        }
+        Ok(any)
+    }
+
+    /// Writes what one server shows of it, and says whether it holds it.
+    fn show_at(&mut self, server: NodeId, id: &FileId) -> Result<bool, AllocError>
+        requires going { self.old.world.failed ≡ false }
+        requires server { (1 ≤ server) × (server ≤ self.old.world.servers) }
+        ensures lines { let lines = held_lines server (held self.old.world server) id.now in
+            OnOk result (Reaches self.old self.new [] lines) }
+        ensures any { let lines = held_lines server (held self.old.world server) id.now in
+            IfOk result (λ any. any ≡ has_some lines) }
+    {
+        entries_suit();
+        let Some(store) = self.world.store(server) else {
+            return Ok(false);
+        };
+        Ok(write_held(server, *id, store, &mut self.out)?)
     }
 
     /// Writes whether all is done, behind this word.
@@ -216,6 +233,13 @@ fn write_event(number: u64, form: Form, event: &Event, out: &mut Bytes) -> Resul
         Form::Full => write!(out, "event {number} {event}\n"),
         Form::Short => Ok(()),
     }
+}
+
+/// Whether one of these holds.
+fn either(a: bool, b: bool) -> bool
+    ensures { result ≡ (a || b) }
+{
+    a || b
 }
 
 /// An id is in its range by its type.

@@ -4,6 +4,7 @@
 mod command;
 mod journal;
 mod laws;
+mod shown;
 
 pub use command::{LIMIT, replay, run};
 use pg_event::Status;

@@ -45,24 +45,23 @@ fn outcome(
     })
 }
 
-const TWO_WRITES: &[u8] = b"pangaea 1 2\n\
-              put 1 40 f1.1 61\n\
-              put 2 39 f1.1 6262\n\
+const MADE: &[u8] = b"pangaea 1 2\n\
+              call 2 40 mkdir /a\n\
               settle 9 50\n\
-              show f1.1\n";
+              show d2.1\n";
 
+/// Schedules, and what is written for each.
 #[test]
 fn writes_the_journal_of_the_run(rt: HostRuntime) -> Result<(), Fail> {
-    let rows: [(&[u8], &[u8]); 4] = [
+    let rows: [(&[u8], &[u8]); 11] = [
         // No line.
         (b"pangaea 1 1\n", b"end quiet\n"),
         (
-            TWO_WRITES,
-            b"put 1 -> wrote 40@1\n\
-              put 2 -> wrote 39@2\n\
+            MADE,
+            b"call 2 mkdir -> made d2.1\n\
               settle quiet\n\
-              at 1 f1.1 heads 39@2,40@1 shown 1 61\n\
-              at 2 f1.1 heads 39@2,40@1 shown 1 61\n\
+              at 1 d2.1 bronze full place 40@2 d0.0 a live lists 0\n\
+              at 2 d2.1 gold full place 40@2 d0.0 a live lists 0\n\
               end quiet\n",
         ),
         // The number of a line, and the form from the next line on.
@@ -70,18 +69,166 @@ fn writes_the_journal_of_the_run(rt: HostRuntime) -> Result<(), Fail> {
             b"pangaea 1 1\nlose 1\ntrace full\nquiet\n",
             b"void 2 no-message\nevent 4 quiet\nquiet quiet\nend quiet\n",
         ),
-        // A settling that has to tick, with its events among the lines.
+        // A settling that has to tick, with its events among the lines; and what nobody holds.
         (
-            b"pangaea 1 2\nput 1 1 f1.1 61\nlose 1\ntrace full\nsettle 1 5\n",
-            b"put 1 -> wrote 1@1\n\
-              event 5 settle 1 5\n\
-              event 5 tick 1 5 0\n\
+            b"pangaea 1 2\ncall 1 1 mkdir /a\nlose 1\nlose 1\nlose 1\ntrace full\nsettle 1 5\nshow f1.1\n",
+            b"call 1 mkdir -> made d1.1\n\
+              event 7 settle 1 5\n\
+              event 7 tick 1 5 0\n\
               tick 1 -> done\n\
-              sent 1 2 cell f1.1 version:1@1\n\
-              event 5 tick 2 5 0\n\
+              sent 1 2 cell d0.0 entry:d1.1\n\
+              sent 1 2 cell d1.1 place\n\
+              sent 1 2 cell d1.1 flag:1\n\
+              event 7 tick 2 5 0\n\
               tick 2 -> done\n\
-              settle waits message 1 2 cell f1.1 version:1@1\n\
-              end waits message 1 2 cell f1.1 version:1@1\n",
+              settle waits message 1 2 cell d0.0 entry:d1.1\n\
+              event 8 show f1.1\n\
+              at - f1.1\n\
+              end waits message 1 2 cell d0.0 entry:d1.1\n",
+        ),
+        // Names made and read on two servers.
+        (
+            b"pangaea 1 1\n\
+              call 1 10 mkdir /a\n\
+              call 1 11 create /a/x last\n\
+              call 1 12 write /a/x 0 68656c6c6f\n\
+              call 1 13 read /a/x 0 100\n\
+              call 1 14 ls /a 0\n",
+            b"call 1 mkdir -> made d1.1\n\
+              call 1 create -> made f1.2\n\
+              call 1 write -> wrote 13@1\n\
+              call 1 read -> bytes 68656c6c6f\n\
+              call 1 ls -> names 1 x=f1.2\n\
+              end quiet\n",
+        ),
+        // One file is moved to two directories at once.
+        (
+            b"pangaea 1 2\n\
+              call 1 10 mkdir /alice\n\
+              call 1 11 mkdir /bob\n\
+              call 1 12 create /foo last\n\
+              settle 9 20\n\
+              call 1 40 rename /foo /alice/foo\n\
+              call 2 41 rename /foo /bob/foo\n\
+              settle 9 50\n\
+              call 1 60 ls /alice 0\n\
+              call 1 60 ls /bob 0\n\
+              call 2 60 ls / 0\n",
+            b"call 1 mkdir -> made d1.1\n\
+              call 1 mkdir -> made d1.2\n\
+              call 1 create -> made f1.3\n\
+              settle quiet\n\
+              call 1 rename -> done\n\
+              call 2 rename -> done\n\
+              settle quiet\n\
+              call 1 ls -> names 0\n\
+              call 1 ls -> names 1 foo=f1.3\n\
+              call 2 ls -> names 2 alice=d1.1 bob=d1.2\n\
+              end quiet\n",
+        ),
+        // What a server holds in numbers, what is not held, and what is not built.
+        (
+            b"pangaea 1 1\n\
+              call 1 10 mkdir /a\n\
+              call 1 11 create /a/x last\n\
+              call 1 12 write /a/x 0 68656c6c6f\n\
+              call 1 13 read /a/x 0 100\n\
+              call 1 14 ls /a 0\n\
+              call 1 15 status\n\
+              call 1 16 stat f9.9\n\
+              restart 1\n",
+            b"call 1 mkdir -> made d1.1\n\
+              call 1 create -> made f1.2\n\
+              call 1 write -> wrote 13@1\n\
+              call 1 read -> bytes 68656c6c6f\n\
+              call 1 ls -> names 1 x=f1.2\n\
+              call 1 status -> status view 0 last 13 replicas 3 intents 0 cells 0 held 0\n\
+              call 1 stat -> refused 3 NotYet f9.9\n\
+              void 9 unbuilt\n\
+              end quiet\n",
+        ),
+        // The end of a clock.
+        (
+            b"pangaea 1 1\n\
+              call 1 4611686018427387904 mkdir /a\n\
+              call 1 5 mkdir /b\n\
+              tick 1 6 0\n",
+            b"call 1 mkdir -> made d1.1\n\
+              call 1 mkdir -> refused 2 ClockEnd\n\
+              tick 1 -> refused 2 ClockEnd\n\
+              end quiet\n",
+        ),
+        // A directory is removed while another server fills it.
+        (
+            b"pangaea 1 2\n\
+              call 1 10 mkdir /d\n\
+              settle 9 20\n\
+              call 2 20 ls /d 0\n\
+              settle 9 30\n\
+              call 1 40 rmdir /d\n\
+              call 2 41 create /d/x last\n\
+              settle 9 50\n\
+              show d1.1\n\
+              call 2 60 rmdir /d\n\
+              call 2 60 unlink /d\n",
+            b"call 1 mkdir -> made d1.1\n\
+              settle quiet\n\
+              call 2 ls -> names 0\n\
+              settle quiet\n\
+              call 1 rmdir -> done\n\
+              call 2 create -> made f2.1\n\
+              settle quiet\n\
+              at 1 d1.1 gold full place 43@2 d0.0 d live lists 1\n\
+              at 2 d1.1 bronze full place 43@2 d0.0 d live lists 1\n\
+              call 2 rmdir -> refused 10 NotEmpty f2.1\n\
+              call 2 unlink -> refused 6 IsDir\n\
+              end quiet\n",
+        ),
+        // A removal is held back.
+        (
+            b"pangaea 1 2\n\
+              call 1 10 mkdir /d\n\
+              call 1 11 create /d/x last\n\
+              settle 9 20\n\
+              call 1 40 unlink /d/x\n\
+              call 1 41 rmdir /d\n\
+              deliver 3\n\
+              settle 9 50\n\
+              show d1.1\n\
+              call 2 60 ls / 0\n",
+            b"call 1 mkdir -> made d1.1\n\
+              call 1 create -> made f1.2\n\
+              settle quiet\n\
+              call 1 unlink -> done\n\
+              call 1 rmdir -> done\n\
+              settle quiet\n\
+              at 1 d1.1 gold full place 41@1 d0.0 d dead lists 0\n\
+              at 2 d1.1 bronze full place 41@1 d0.0 d dead lists 0\n\
+              call 2 ls -> names 0\n\
+              end quiet\n",
+        ),
+        // Two directories are moved into each other.
+        (
+            b"pangaea 1 2\n\
+              call 1 10 mkdir /a\n\
+              call 1 11 mkdir /b\n\
+              settle 9 20\n\
+              call 1 40 rename /a /b/a\n\
+              call 2 41 rename /b /a/b\n\
+              settle 9 50\n\
+              call 1 60 ls / 0\n\
+              call 1 61 ls /~d1.2 0\n\
+              call 1 62 rename /~d1.2 /~d1.2/a/q\n",
+            b"call 1 mkdir -> made d1.1\n\
+              call 1 mkdir -> made d1.2\n\
+              settle quiet\n\
+              call 1 rename -> done\n\
+              call 2 rename -> done\n\
+              settle quiet\n\
+              call 1 ls -> names 1 ~d1.2=d1.2\n\
+              call 1 ls -> names 1 a=d1.1\n\
+              call 1 rename -> refused 11 Loop\n\
+              end quiet\n",
         ),
     ];
     for (schedule, journal) in rows {
@@ -94,7 +241,7 @@ fn writes_the_journal_of_the_run(rt: HostRuntime) -> Result<(), Fail> {
 
 #[test]
 fn says_why_it_ends(rt: HostRuntime) -> Result<(), Fail> {
-    let good = b"pangaea 1 1\nput 1 1 f1.1 61\n".as_slice();
+    let good = b"pangaea 1 1\ncall 1 1 mkdir /a\n".as_slice();
     let rows: [(&[&str], &[u8], Status); 8] = [
         (&[], good, Status::Usage(1)),
         (&["play"], good, Status::Usage(1)),
@@ -113,7 +260,7 @@ fn says_why_it_ends(rt: HostRuntime) -> Result<(), Fail> {
         ),
         (
             &["replay"],
-            b"pangaea 1 1\nput 1 1 f1.1 61\nlose 01\n",
+            b"pangaea 1 1\ncall 1 1 mkdir /a\nlose 01\n",
             Status::BadLine(3, Fault::Number),
         ),
     ];
@@ -138,10 +285,10 @@ fn ends_with_the_fault(rt: HostRuntime) -> Result<(), Fail> {
         (&[0], &[], Status::ReadFault, b""),
         (&[1], &[], Status::ReadFault, b""),
         (&[], &[0], Status::WriteFault, b""),
-        (&[], &[2], Status::WriteFault, b"put 1 -> wrote"),
+        (&[], &[2], Status::WriteFault, b"call 2 mkdir -"),
     ];
     for (reads, writes, answer, written) in rows {
-        let ended = outcome(rt.alloc(), &["replay"], TWO_WRITES, reads, writes)?;
+        let ended = outcome(rt.alloc(), &["replay"], MADE, reads, writes)?;
         assert_eq!(rt; ended.status, answer);
         assert_eq!(rt; ended.written.as_slice(), written);
     }

@@ -118,6 +118,17 @@ fn a_version_alone(rt: HostRuntime) -> Result<(), Fail> {
     Ok(())
 }
 
+#[test]
+fn a_content_of_given_heads(rt: HostRuntime) -> Result<(), Fail> {
+    let alloc = rt.alloc();
+    let mut heads = Vec::new(alloc);
+    heads.push(version(alloc, stamp(5, 1), 3, b"ab")?)?;
+    let content = Content::from_parts(Policy::Last, heads);
+    assert!(rt; shows(&content, 0, 9, b"ab")?);
+    assert!(rt; content.covers(actor(1), 3) && !content.covers(actor(1), 4));
+    Ok(())
+}
+
 // A content that one server wrote at one moment.
 fn written(alloc: Global, server: u32, bytes: &[u8]) -> Result<Content, Fail> {
     let mut content = Content::new(alloc, Policy::Join);

@@ -1,5 +1,5 @@
 -- What a server makes: places, flags and versions. It takes them as it takes what comes.
-use Rattle.std.specs.Prelude.{ℕ, true, [], map}
+use Rattle.std.specs.Prelude.{ℕ, [], map}
 use Rattle.pg_base.specs.declared.id.FileId.{FileId}
 use Rattle.pg_base.specs.declared.stamp.Stamp.{Stamp}
 use Rattle.pg_base.specs.Stamp.{next_stamp}
@@ -61,7 +61,3 @@ make_version file stamp ranges done = record {
 -- what the first version of a file makes of nothing: no byte
 abbrev pub first_ranges : RangesValue
 first_ranges = record { keep = all; least = 0; parts = [] }
-
--- the raised flag of a server's first replica
-abbrev pub first_flag : ℕ → Flag
-first_flag server = record { server = server; birth = 1; number = 1; raised = true }

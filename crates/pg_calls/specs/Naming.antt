@@ -9,13 +9,14 @@ use Rattle.pg_msg.specs.declared.work.Work.{Work}
 use Rattle.pg_names.specs.Names.{own_or_blank}
 use Rattle.pg_call.specs.declared.reply.Reply.TheVariants.{Done as IsDone, Made}
 use Rattle.pg_store.specs.declared.store.Store.{Store}
+use Rattle.pg_store.specs.Start.{first_flag}
 use Rattle.pg_store.specs.Store.{begin_file}
 use Rattle.pg_cells.specs.Done.{Done, idle}
 use Rattle.pg_calls.specs.declared.checks.Move.{Move}
 use Rattle.pg_calls.specs.declared.checks.NewName.{NewName}
 use Rattle.pg_calls.specs.Answer.{Answer, answer, answered}
 use Rattle.pg_calls.specs.Checks.{empty_dir_at, file_at, move_of, new_name}
-use Rattle.pg_calls.specs.Making.{drawn, first_flag, first_ranges, make_flag, make_place, make_version}
+use Rattle.pg_calls.specs.Making.{drawn, first_ranges, make_flag, make_place, make_version}
 
 -- the id that the server gives out next
 abbrev pub next_id : Store → Kind → FileId

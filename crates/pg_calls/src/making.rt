@@ -5,9 +5,9 @@ ghost use Rattle.pg_replica.specs.Replica.{has_room, refusal_of};
 ghost use Rattle.pg_store.specs.Store.{replica_of};
 ghost use Rattle.pg_cells.specs.Cells.{with_news};
 ghost use Rattle.pg_cells.specs.Done.{idle};
-ghost use Rattle.pg_calls.specs.Making.{drawn, first_flag, first_ranges, make_flag, make_place, make_version, with_version};
+ghost use Rattle.pg_calls.specs.Making.{drawn, first_ranges, make_flag, make_place, make_version, with_version};
 
-use pg_base::{FileId, Items, NodeId, Stamp};
+use pg_base::{FileId, Items, Stamp};
 use pg_content::WriteError;
 use pg_edges::Key;
 use pg_msg::{MadeVersion, Touched, Update, Work};
@@ -22,18 +22,6 @@ pub(crate) fn next_stamp(store: &Store, moment: u64) -> Stamp
     ensures { result ≡ drawn store.now moment }
 {
     Stamp::next(moment, store.names.last(), store.server())
-}
-
-/// The raised flag of a server's first replica.
-pub(crate) fn first_flag(server: NodeId) -> Flag
-    ensures { result ≡ first_flag server }
-{
-    Flag {
-        server,
-        birth: 1,
-        number: 1,
-        raised: true,
-    }
 }
 
 /// What the first version of a file makes of nothing: no byte.

@@ -9,17 +9,14 @@ ghost use Rattle.pg_calls.specs.Naming.{create, dead_place, mkdir, moved, next_i
 
 use crate::checks::{Move, NewName, empty_dir_at, file_at, move_of, new_name};
 use crate::denied::Denied;
-use crate::making::{first_flag, first_ranges, make_flag, make_place, make_version, next_stamp};
+use crate::making::{first_ranges, make_flag, make_place, make_version, next_stamp};
 use pg_base::{FileId, Kind, Policy};
 use pg_call::Reply;
 use pg_content::WriteError;
 use pg_msg::Work;
 use pg_register::Place;
-use pg_store::Store;
+use pg_store::{MOST_TAGS, Store, first_flag};
 use std::alloc::AllocError;
-
-/// No version is made where so many tags were given out: memory ends before.
-const MOST_TAGS: u64 = 1 << 63;
 
 /// A new directory. Where it is refused nothing changes. After out of memory a part may be done.
 pub fn mkdir(store: &mut Store, text: &[u8], work: &mut Work) -> Result<Reply, AllocError>

@@ -10,7 +10,7 @@ ghost use Rattle.pg_cells.specs.Done.{is_accepted, link_of};
 use pg_base::{FileId, NodeId};
 use pg_edges::Key;
 use pg_entries::Cell;
-use pg_msg::{Ends, Message, Packet, Sent, Touched, Work};
+use pg_msg::{Ends, Message, Packet, Sent, Touched, Work, key_of};
 use pg_names::is_dir;
 use pg_replica::Link;
 use pg_store::Store;
@@ -42,17 +42,6 @@ fn fits(file: &FileId, received: &Cell) -> bool
         Cell::Flag(_) => true,
         Cell::Entry(_, _) => is_dir(file),
         Cell::Version(_, _) => !is_dir(file),
-    }
-}
-
-fn key_of(received: &Cell) -> Key
-    ensures { result ≡ cell_key received.now }
-{
-    match received {
-        Cell::Place(_) => Key::Place,
-        Cell::Flag(flag) => Key::Flag(flag.get().server),
-        Cell::Entry(entry, _) => Key::Entry(entry.get().child),
-        Cell::Version(version, _) => Key::Version(version.head().stamp),
     }
 }
 

@@ -58,6 +58,19 @@ impl Content {
         }
     }
 
+    /// The content with exactly these heads. It takes no memory of its own.
+    pub fn from_parts(policy: Policy, heads: Vec<Version>) -> Content
+        requires { InStampOrder heads.items }
+        ensures { result ≡ record { policy = policy; heads = heads.items } }
+    {
+        let index = index_of_many(*heads.allocator(), &heads);
+        Content {
+            policy,
+            heads,
+            index,
+        }
+    }
+
     pub fn policy(&self) -> Policy
         ensures { result ≡ self.now.policy }
     {

@@ -13,6 +13,10 @@ pub record Told : Type 0 where
   pub chosen : List ℕ
   pub history : List Event
 
+-- of a disk that does not tell
+abbrev pub untold : Told
+untold = record { chosen = []; history = [] }
+
 -- the steps of one file of a name
 abbrev pub steps_of : List ℕ → ℕ → List Event → List Step
 steps_of name file [] = []

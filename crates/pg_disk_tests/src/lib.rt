@@ -4,6 +4,8 @@
 #[cfg(test)]
 mod disk;
 #[cfg(test)]
+mod files;
+#[cfg(test)]
 mod log;
 #[cfg(test)]
 mod snap;

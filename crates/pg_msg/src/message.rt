@@ -465,7 +465,7 @@ impl Message {
 }
 
 /// The key of a cell.
-fn key_of(cell: &Cell) -> Key
+pub fn key_of(cell: &Cell) -> Key
     ensures { result ≡ cell_key cell.now }
 {
     match cell {

@@ -2,22 +2,32 @@
 
 ghost use Rattle.std.specs.Prelude.{◌≡◌, IfOk, OnOk, false, true};
 
-use pg_base::{FileId, Kind, SharedBytes, Stamp};
-use pg_call::{Call, Change};
-use pg_edges::Key;
-use pg_event::{Cause, Event, OwedKey, Owing, Quiet, VoidCause};
-use pg_msg::{Detail, MessageKind as Sort, Summary};
+use pg_base::{FileId, Kind, SharedBytes};
+use pg_call::{Change, read_call};
+use pg_event::{Event, VoidCause};
+use pg_words::first_words;
 use pg_world::World;
 use std::alloc::{AllocError, Global};
 use std::test::Fail;
 
-const FILE: FileId = FileId {
-    kind: Kind::File,
-    server: 1,
+/// The directory that the second server makes first.
+const MADE: FileId = FileId {
+    kind: Kind::Dir,
+    server: 2,
     number: 1,
 };
 
-const KEY: Key = Key::Version(Stamp { time: 9, server: 2 });
+/// A client calls a server at the moment 9 with these words.
+fn call(alloc: Global, server: u32, line: &[u8]) -> Result<Event, Fail> {
+    let mut room = [b"".as_slice(); 7];
+    let count = first_words(line, &mut room);
+    let call = read_call(alloc, &room[..count])?.ok_or("call")?;
+    Ok(Event::Call {
+        server,
+        moment: 9,
+        call,
+    })
+}
 
 /// An event happens, and is not void.
 fn happen(world: &mut World, event: Event) -> Result<(), Fail>
@@ -30,95 +40,98 @@ fn happen(world: &mut World, event: Event) -> Result<(), Fail>
     }
 }
 
-fn write(alloc: Global) -> Result<Event, AllocError> {
-    Ok(Event::Write {
-        server: 2,
-        moment: 9,
-        file: FILE,
-        change: Change::Put(SharedBytes::from_slice(alloc, b"ab")?),
-    })
-}
-
-/// A run of two servers, of which the second wrote.
-fn written(alloc: Global) -> Result<World, Fail>
+/// A run of two servers, of which the second made a directory.
+fn made(alloc: Global) -> Result<World, Fail>
     ensures { IfOk result (λ w. w.failed ≡ false) }
 {
     let mut world = World::new(alloc, 2)?;
-    happen(&mut world, write(alloc)?)?;
+    happen(&mut world, call(alloc, 2, b"mkdir /a")?)?;
     Ok(world)
 }
 
-fn shows(world: &World, server: u32, bytes: &[u8]) -> Result<bool, Fail>
+fn is_held(world: &World, server: u32) -> bool
     requires { world.now.failed ≡ false }
 {
-    let content = world.content(server, &FILE).ok_or("a content")?;
-    Ok(content.view(0, 16)?.as_slice() == bytes)
+    match world.store(server) {
+        Some(store) => store.names.own(&MADE).is_some(),
+        None => false,
+    }
 }
 
 #[test]
 fn a_run_is_its_events(rt: HostRuntime) -> Result<(), Fail> {
-    let mut world = written(rt.alloc())?;
-    happen(&mut world, Event::Deliver(1))?;
+    let mut world = made(rt.alloc())?;
+    assert!(rt; !is_held(&world, 1));
+    happen(&mut world, Event::Deliver(2))?;
     assert!(rt; !world.has_failed());
-    assert!(rt; shows(&world, 1, b"ab")?);
+    assert!(rt; is_held(&world, 1));
+    assert!(rt; is_held(&world, 2));
+    assert!(rt; !is_held(&world, 3));
     Ok(())
 }
 
-/// The message of the write is under way.
-const UNDER_WAY: Quiet = Quiet::Waits(Cause::Message(Summary {
-    from: 2,
-    to: 1,
-    kind: Sort::Cell,
-    file: FILE,
-    detail: Detail::Key(KEY),
-}));
-
-/// The second server has no answer from the first.
-const OWED: Quiet = Quiet::Waits(Cause::Owed(Owing::Key(OwedKey {
-    server: 2,
-    file: FILE,
-    peer: 1,
-    key: KEY,
-})));
-
-fn waits_for(world: &World, quiet: Quiet) -> bool
+/// Whether the run waits for this first.
+fn waits_for(alloc: Global, world: &World, expected: &str) -> Result<bool, Fail>
     requires { world.now.failed ≡ false }
 {
-    world.is_quiet() == quiet
+    let quiet = world.is_quiet();
+    let text = format!(in alloc; "{quiet}")?;
+    Ok(text.as_str() == expected)
+}
+
+/// The three messages that tell of the directory are lost.
+fn lose_all(world: &mut World) -> Result<(), Fail>
+    ensures { OnOk result (world.new.failed ≡ false) }
+{
+    happen(world, Event::Lose(1))?;
+    happen(world, Event::Lose(1))?;
+    happen(world, Event::Lose(1))?;
+    Ok(())
 }
 
 #[test]
 fn tells_what_it_waits_for(rt: HostRuntime) -> Result<(), Fail> {
-    let mut world = written(rt.alloc())?;
-    assert!(rt; waits_for(&world, UNDER_WAY));
+    let alloc = rt.alloc();
+    let mut world = made(alloc)?;
+    assert!(rt; waits_for(alloc, &world, "waits message 2 1 cell d0.0 entry:d2.1")?);
     assert!(rt; world.has_message());
-    happen(&mut world, Event::Lose(1))?;
-    assert!(rt; waits_for(&world, OWED));
+    lose_all(&mut world)?;
+    assert!(rt; waits_for(alloc, &world, "waits cell 2 d0.0 1 entry:d2.1")?);
     assert!(rt; !world.has_message());
     Ok(())
 }
 
-/// Whether an event is void since nothing of its kind is done yet.
-fn is_unbuilt(world: &mut World, event: Event) -> bool
+/// Whether an event is void for this reason.
+fn is_void(world: &mut World, event: Event, cause: VoidCause) -> bool
     ensures { result ≡ true → world.new.failed ≡ false }
 {
     match world.step(event) {
-        Ok(entry) => entry.void == Some(VoidCause::Unbuilt) && entry.reply.is_none(),
+        Ok(entry) => entry.void == Some(cause) && entry.reply.is_none(),
         Err(_) => false,
     }
 }
 
-// What is not built yet is void, whichever server it names.
-#[test]
-fn what_is_not_built_is_void(rt: HostRuntime) -> Result<(), Fail> {
-    let mut world = World::new(rt.alloc(), 2)?;
-    let call = Event::Call {
+/// A change of a file by its id.
+fn write(alloc: Global) -> Result<Event, AllocError> {
+    Ok(Event::Write {
         server: 1,
         moment: 9,
-        call: Call::Status,
-    };
-    assert!(rt; is_unbuilt(&mut world, call));
-    assert!(rt; is_unbuilt(&mut world, Event::Restart(1)));
-    assert!(rt; is_unbuilt(&mut world, Event::Remove(7)));
+        file: MADE,
+        change: Change::Put(SharedBytes::from_slice(alloc, b"ab")?),
+    })
+}
+
+// What is not built is void, whichever server it names; and then what no server is there for.
+#[test]
+fn what_is_not_built_is_void(rt: HostRuntime) -> Result<(), Fail> {
+    let alloc = rt.alloc();
+    let mut world = World::new(alloc, 2)?;
+    let unbuilt = VoidCause::Unbuilt;
+    assert!(rt; is_void(&mut world, write(alloc)?, unbuilt));
+    assert!(rt; is_void(&mut world, call(alloc, 7, b"forget d1.1")?, unbuilt));
+    assert!(rt; is_void(&mut world, Event::Restart(1), unbuilt));
+    assert!(rt; is_void(&mut world, Event::Remove(7), unbuilt));
+    assert!(rt; is_void(&mut world, call(alloc, 7, b"status")?, VoidCause::NoServer));
+    assert!(rt; is_void(&mut world, Event::Deliver(1), VoidCause::NoMessage));
     Ok(())
 }

@@ -9,7 +9,7 @@ use Rattle.pg_names.specs.Names.{NamesValue, hold, new_names, set_own}
 use Rattle.pg_replica.specs.declared.link.Link.{Link}
 use Rattle.pg_replica.specs.declared.untouched.Home.{Home}
 
--- the flag of a server's first replica of the root
+-- the raised flag of a server's first replica of a thing
 abbrev pub first_flag : ℕ → Flag
 first_flag server = record { server = server; birth = 1; number = 1; raised = true }
 

@@ -8,4 +8,5 @@ mod store;
 mod taking;
 mod versions;
 
-pub use store::Store;
+pub use start::first_flag;
+pub use store::{MOST_TAGS, Store};

@@ -18,7 +18,8 @@ const ROOT: FileId = FileId {
     number: 0,
 };
 
-fn first_flag(server: NodeId) -> Flag
+/// The raised flag of a server's first replica of a thing.
+pub fn first_flag(server: NodeId) -> Flag
     ensures { result ≡ first_flag server }
 {
     Flag {

@@ -27,8 +27,8 @@ pub struct Store {
     pub replicas: Replicas,
 }
 
-/// More tags than this are not given out in one event: memory ends before.
-const MOST_TAGS: u64 = 1 << 63;
+/// Where more tags than this were given out, no version is made and no key is touched: memory ends before.
+pub const MOST_TAGS: u64 = 1 << 63;
 
 impl Store {
     /// A server at the start of a run with so many servers.

@@ -4,22 +4,28 @@
 ghost use Rattle.std.specs.Prelude.{◌≡◌, ◌<◌, ◌^◌, Some};
 ghost use Rattle.std.specs.List.{AllByRecursion};
 ghost use Rattle.pg_base.specs.Id.{Fits};
+ghost use Rattle.pg_base.specs.declared.id.Kind.{Kind};
 ghost use Rattle.pg_base.specs.declared.id.Kind.TheVariants.{File};
-ghost use Rattle.pg_call.specs.Reply.{IsWriteReply};
+ghost use Rattle.pg_call.specs.Refusal.{IsRefusal};
+ghost use Rattle.pg_call.specs.Reply.{IsCounts, IsReply, IsRow, IsStat, IsWriteReply};
 ghost use Rattle.pg_event.specs.Quiet.{IsAnswer, IsCause, IsOwing};
 ghost use Rattle.pg_msg.specs.Text.{IsKey, IsSummary};
 ghost use Rattle.pg_msg.specs.UpdateText.{ArePartBytes, IsFlag, IsMadeVersion, IsUpdate};
+ghost use Rattle.pg_trace.specs.Printed.{IsContents, IsReplica};
 ghost use Rattle.pg_trace.specs.Spelled.{IsTold};
-ghost use Rattle.pg_trace.specs.Suited.{Answers, DetailFits, IsWriteAnswer, SuitsCause, SuitsKind, SuitsQuiet, SuitsUpdate};
+ghost use Rattle.pg_trace.specs.Suited.{Answers, DetailFits, IsCallAnswer, IsWriteAnswer, SuitsCause, SuitsContents, SuitsKind, SuitsPlace, SuitsQuiet, SuitsReplica, SuitsRow, SuitsUpdate};
+ghost use Rattle.pg_words.specs.PlaceWords.{IsPlace};
 ghost use Rattle.pg_words.specs.StampWord.{IsStamp};
 
+use crate::replica::{Contents, ShownReplica};
 use pg_base::{FileId, Stamp};
-use pg_call::Reply;
+use pg_call::{Counts, Refusal, Reply, Stat};
 use pg_edges::Key;
 use pg_event::{Cause, Event, OwedIntent, OwedKey, Owing, Quiet};
 use pg_msg::{Detail, MadeVersion, Summary, Update};
 use pg_patch::Part;
-use pg_register::Flag;
+use pg_path::Row;
+use pg_register::{Flag, Place};
 
 pub fn id_fits(id: FileId)
     ensures { Fits id }
@@ -91,12 +97,21 @@ fn version_fits(made: &MadeVersion)
     parts_fit(made.ranges.parts());
 }
 
+fn place_fits(id: FileId, place: &Place)
+    ensures id { Fits id }
+    ensures place { SuitsPlace id place.now → IsPlace place.now }
+{
+    id_fits(id);
+    id_fits(place.parent);
+    stamp_fits(place.stamp);
+}
+
 pub fn update_fits(update: &Update)
     ensures { SuitsUpdate update.now → IsUpdate update.now }
 {
     match update {
         Update::Version(made) => version_fits(made),
-        Update::Place { id, .. } => id_fits(*id),
+        Update::Place { id, place } => place_fits(*id, place),
         Update::Flag { id, flag } => {
             id_fits(*id);
             flag_fits(*flag);
@@ -112,6 +127,73 @@ fn write_reply_fits(reply: &Reply)
     }
 }
 
+fn row_fits(row: &Row)
+    ensures { SuitsRow row.now → IsRow row.now }
+{
+    id_fits(row.child);
+}
+
+fn rows_fit(rows: &[Row])
+    ensures { AllByRecursion (λ r. SuitsRow r → IsRow r) rows.now }
+{
+    for row in rows {
+        row_fits(row);
+    }
+}
+
+fn number_fits(number: u64)
+    ensures { number < 2 ^ 64 }
+{}
+
+fn stat_fits(stat: &Stat)
+    ensures { SuitsPlace stat.now.id stat.now.place → IsStat stat.now }
+{
+    place_fits(stat.id, &stat.place);
+    number_fits(stat.golds);
+    number_fits(stat.heads);
+    number_fits(stat.length);
+    number_fits(stat.edges);
+}
+
+fn counts_fit(counts: Counts)
+    ensures { IsCounts counts }
+{}
+
+fn refusal_fits(refusal: Refusal)
+    ensures { IsRefusal refusal }
+{
+    match refusal {
+        Refusal::NotYet(id) => id_fits(id),
+        Refusal::Exists(id) => id_fits(id),
+        Refusal::NotEmpty(id) => id_fits(id),
+        Refusal::HasChild(id) => id_fits(id),
+        Refusal::Unsettled { id, .. } => id_fits(id),
+        Refusal::Behind(stamp) => stamp_fits(stamp),
+        _ => {}
+    }
+}
+
+fn call_reply_fits(reply: &Reply)
+    ensures { IsCallAnswer reply.now → IsReply reply.now }
+{
+    match reply {
+        Reply::Done => {}
+        Reply::Made(id) => id_fits(*id),
+        Reply::Wrote(stamp) => stamp_fits(*stamp),
+        Reply::Bytes(bytes) => bytes_fit(bytes.as_slice()),
+        Reply::Names { total, rows } => {
+            let _total = *total;
+            rows_fit(rows.as_slice());
+        }
+        Reply::Stat(stat) => stat_fits(stat.get()),
+        Reply::Leaving(server) => {
+            let _server = *server;
+        }
+        Reply::Status(counts) => counts_fit(*counts.get()),
+        Reply::Refused(refusal) => refusal_fits(*refusal),
+    }
+}
+
 pub fn reply_fits(event: &Event, reply: &Option<Reply>)
     ensures { Answers event.now reply.now → IsTold event.now reply.now }
 {
@@ -120,8 +202,9 @@ pub fn reply_fits(event: &Event, reply: &Option<Reply>)
             let _server = *server;
             write_reply_fits(reply);
         }
-        (Event::Call { server, .. }, Some(_)) => {
+        (Event::Call { server, .. }, Some(reply)) => {
             let _server = *server;
+            call_reply_fits(reply);
         }
         (Event::Tick { server, .. }, Some(_)) => {
             let _server = *server;
@@ -164,6 +247,31 @@ fn cause_fits(cause: Cause)
         Cause::View { .. } => {}
         Cause::Owed(owing) => owing_fits(owing),
     }
+}
+
+fn contents_fit(contents: &Contents)
+    ensures { (kind : Kind) → SuitsContents kind contents.now → IsContents kind contents.now }
+{
+    match contents {
+        Contents::File {
+            heads,
+            length,
+            first,
+        } => {
+            stamps_fit(heads.as_slice());
+            number_fits(*length);
+            bytes_fit(first.as_slice());
+        }
+        Contents::Dir(count) => number_fits(*count),
+    }
+}
+
+pub fn replica_fits(replica: &ShownReplica)
+    ensures { SuitsReplica replica.now → IsReplica replica.now }
+{
+    let _server = replica.server;
+    place_fits(replica.id, &replica.place);
+    contents_fit(&replica.contents);
 }
 
 pub fn quiet_fits(quiet: Quiet)

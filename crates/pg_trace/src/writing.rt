@@ -13,13 +13,14 @@ ghost use Rattle.pg_msg.specs.UpdateText.{IsUpdate};
 ghost use Rattle.pg_sched.specs.Line.{IsLine};
 ghost use Rattle.pg_trace.specs.declared.printed.Printed.TheVariants as printed;
 ghost use Rattle.pg_trace.specs.Printed.{printed_text, journal_spelling, ArePrinted, IsPrinted};
-ghost use Rattle.pg_trace.specs.Suited.{Answers, IsSuited, SuitsKind, SuitsQuiet, SuitsUpdate};
+ghost use Rattle.pg_trace.specs.Suited.{Answers, IsSuited, SuitsKind, SuitsQuiet, SuitsReplica, SuitsUpdate};
 ghost use Rattle.pg_trace.specs.Text.{told_lines, tick_lines, done_lines, entry_lines, entry_text, head_lines, head_text, show_line, show_text, quiet_text};
 
 use crate::fitting::{
-    bytes_fit, id_fits, quiet_fits, reply_fits, stamps_fit, summary_fits, update_fits,
+    bytes_fit, id_fits, quiet_fits, replica_fits, reply_fits, stamps_fit, summary_fits, update_fits,
 };
 use crate::printed::{Printed, Word};
+use crate::replica::ShownReplica;
 use crate::shown::ShowWords;
 use pg_base::{Bytes, FileId, NodeId, Stamp, Version};
 use pg_call::Reply;
@@ -242,6 +243,15 @@ fn stamps_of(alloc: Global, versions: &[Version]) -> Result<Vec<Stamp>, AllocErr
         .iter()
         .map(|version| version.head().stamp)
         .collect(alloc)
+}
+
+/// Writes a replica that a server holds.
+pub fn write_replica(replica: &ShownReplica, out: &mut Bytes) -> Result<(), AllocError>
+    ensures text { OnOk result (out.new ≡ out.old ++ printed_text (printed.Replica replica.now)) }
+    ensures spelled { SuitsReplica replica.now → IsPrinted (printed.Replica replica.now) }
+{
+    replica_fits(replica);
+    write!(out, "{replica}\n")
 }
 
 /// Writes whether all is done, behind this word.

@@ -10,3 +10,5 @@ pub mod HeadFields
 pub mod Parts
 pub mod PatchFields
 pub mod CellFields
+pub mod EachKind
+pub mod Fitting

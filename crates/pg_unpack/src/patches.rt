@@ -28,8 +28,9 @@ pub(crate) fn read_bytes(
 
 /// A length up to 32,768.
 fn read_block_length(reader: &mut Reader<'_>) -> Result<u32, PacketError>
-    ensures { Gives (λ n. (n, reader.new)) result
+    ensures read { Gives (λ n. (n, reader.new)) result
         (checked (count_of 32768) (of_packet (number_at 4)) reader.old) }
+    ensures most { IfOk result (λ n. n ≤ 32768) }
 {
     let place = reader.place();
     let count = reader.u32()?;
@@ -43,7 +44,8 @@ fn read_block_length(reader: &mut Reader<'_>) -> Result<u32, PacketError>
 /// At most 32,768 bytes.
 #[tactic(auto, unfolding(crate::specs::Patches::block_at))]
 pub fn read_block(alloc: Global, reader: &mut Reader<'_>) -> Result<SharedBytes, PacketError>
-    ensures { Gives (λ b. (b, reader.new)) result (block_at reader.old) }
+    ensures read { Gives (λ b. (b, reader.new)) result (block_at reader.old) }
+    ensures most { IfOk result (λ b. length b ≤ 32768) }
 {
     let count = read_block_length(reader)?;
     read_bytes(alloc, count, reader)

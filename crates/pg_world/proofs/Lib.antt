@@ -1,3 +1,2 @@
-pub mod QuietAgree
 pub mod Standing
 pub mod Kept

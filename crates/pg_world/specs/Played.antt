@@ -1,11 +1,9 @@
 -- A run by its events.
 use Rattle.std.specs.Prelude.{ℕ, Bool, List}
-use Rattle.pg_base.specs.declared.id.FileId.{FileId}
-use Rattle.pg_content.specs.Content.{ContentValue}
 use Rattle.pg_event.specs.declared.event.Event.{Event}
 use Rattle.pg_event.specs.declared.entry.Entry.{Entry}
-use Rattle.pg_node.specs.Journal.{taken, state_of}
-use Rattle.pg_node.specs.Run.{World, next, run}
+use Rattle.pg_store.specs.declared.store.Store.{Store}
+use Rattle.pg_run.specs.Run.{World, next, run}
 
 -- events: all that happened, void events too
 -- failed: an event ran out of memory
@@ -22,6 +20,6 @@ final p = run p.servers p.events
 abbrev pub next_entry : Played → Event → Entry
 next_entry p event = (next p.servers (final p) event).entry
 
--- what the versions of a file come to that a server took
-abbrev pub state : Played → ℕ → FileId → ContentValue
-state p server file = state_of file (final p).journal (taken server file (final p).journal)
+-- what a server holds then
+abbrev pub held : Played → ℕ → Store
+held p server = (final p).stores server

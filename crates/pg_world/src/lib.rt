@@ -1,10 +1,8 @@
-//! Whole runs: the servers, the messages between them, and what holds after any events.
+//! Whole runs: the servers, and the messages between them.
 #![tactic(auto)]
 
 mod event_list;
-mod laws;
 mod machine;
 mod world;
 
-pub use laws::quiet_servers_agree;
 pub use world::World;

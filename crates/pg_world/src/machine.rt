@@ -1,29 +1,27 @@
 //! The servers and the messages between them.
 
-ghost use Rattle.std.specs.Prelude.{[], ◌≡◌, ◌++◌, ◌<◌, ◌≤◌, OnOk, IfOk, ℕ, length, true, IsNone, ◌⊎◌, None, slice_get};
+ghost use Rattle.std.specs.Prelude.{◌≡◌, ◌++◌, ◌<◌, ◌≤◌, OnOk, IfOk, length, true, IsNone, ◌⊎◌, None, Some, slice_get};
 ghost use Rattle.std.specs.Option.{option_copied};
-ghost use Rattle.pg_content.specs.Content.{or_empty};
-ghost use Rattle.pg_replica.specs.Store.{held_content};
-ghost use Rattle.pg_replica.specs.Untouched.{policy_of};
-ghost use Rattle.pg_node.specs.Journal.{message_at, without, bag};
-ghost use Rattle.pg_node.specs.Run.{World, is_server, start, idle_entry};
-ghost use Rattle.pg_node.specs.Quiet.{quiet_of, owed_by, has_some};
+ghost use Rattle.pg_run.specs.Journal.{message_at, without, bag};
+ghost use Rattle.pg_run.specs.Run.{World, is_server, start, idle_entry};
+ghost use Rattle.pg_run.specs.Quiet.{quiet_of, owed_by, has_some};
 ghost use Rattle.pg_world.specs.Stands.{Stands, EachStandsBehind, BagBehind, IsEntryBy, StandsBehind, IsEntryOf};
 
 use pg_bag::Bag;
 use pg_base::{FileId, Items, NodeId};
 use pg_call::{Call, Change};
-use pg_content::Content;
-use pg_event::{Cause, Entry, Event, OwedKey, Owing, Quiet, VoidCause};
+use pg_calls::is_built;
+use pg_event::{Cause, Entry, Event, Owing, Quiet, VoidCause};
 use pg_msg::Sent;
-use pg_node::{Input, Node, Out};
+use pg_server::{Input, Out, Server};
+use pg_store::Store;
 use std::alloc::{AllocError, Global};
 
 /// The servers 1 to n, and the messages under way, in order of sending.
 #[derive(Drop)]
 pub struct Machine {
     pub alloc: Global,
-    pub nodes: Vec<Node>,
+    pub servers: Vec<Server>,
     pub bag: Bag<Sent>,
 }
 
@@ -31,38 +29,38 @@ impl Machine {
     /// Servers 1 to so many, that have taken nothing, and no message.
     pub fn new(alloc: Global, servers: u32) -> Result<Machine, AllocError>
         ensures stands { IfOk result (λ m. Stands m (start servers)) }
-        ensures count { IfOk result (λ m. length m.nodes.items ≡ servers) }
+        ensures count { IfOk result (λ m. length m.servers.items ≡ servers) }
     {
-        let mut nodes = Vec::new(alloc);
+        let mut all = Vec::new(alloc);
         for k in 0..servers {
-            nodes.push(Node::new(alloc, k + 1, servers))?;
+            let server = Server::new(alloc, k + 1, servers)?;
+            all.push(server)?;
         }
         Ok(Machine {
             alloc,
-            nodes,
+            servers: all,
             bag: Bag::new(alloc),
         })
     }
 
     /// Whether the run has a server of this number.
     fn has_server(&self, server: NodeId) -> bool
-        ensures { result ≡ is_server (length self.now.nodes.items) server }
+        ensures { result ≡ is_server (length self.now.servers.items) server }
     {
-        1 <= server && server as usize <= self.nodes.len()
+        1 <= server && server as usize <= self.servers.len()
     }
 
-    /// What a server holds of a file: none where nothing came to it.
-    pub fn content(&self, server: NodeId, file: &FileId) -> Option<&Content>
+    /// What a server holds. None where the run has no such server.
+    pub fn store(&self, server: NodeId) -> Option<&Store>
         ensures held { (w : World) → Stands self.now w
-            → 1 ≤ server → server ≤ length self.now.nodes.items
-            → or_empty (policy_of file.now) (option_copied result)
-            ≡ held_content (w.stores server) file.now }
-        ensures nobody { (server ≡ 0) ⊎ (length self.now.nodes.items < server) → IsNone result }
+            → 1 ≤ server → server ≤ length self.now.servers.items
+            → option_copied result ≡ Some (w.stores server) }
+        ensures nobody { (server ≡ 0) ⊎ (length self.now.servers.items < server) → IsNone result }
     {
         if !self.has_server(server) {
             return None;
         }
-        self.nodes[server as usize - 1].content(file)
+        Some(self.servers[server as usize - 1].store())
     }
 
     /// The message with this number, which leaves the bag.
@@ -70,7 +68,7 @@ impl Machine {
     fn take_message(&mut self, number: u64) -> Option<Sent>
         ensures found { result ≡ message_at self.old.bag number }
         ensures bag { self.new.bag ≡ without self.old.bag number (message_at self.old.bag number) }
-        ensures nodes { self.new.nodes ≡ self.old.nodes }
+        ensures servers { self.new.servers ≡ self.old.servers }
     {
         if number == 0 {
             return None;
@@ -94,7 +92,7 @@ impl Machine {
     /// Copies of these messages go to the end of the bag.
     fn send(&mut self, sent: &[Sent]) -> Result<(), AllocError>
         ensures bag { OnOk result (self.new.bag ≡ self.old.bag ++ sent.now) }
-        ensures nodes { self.new.nodes ≡ self.old.nodes }
+        ensures servers { self.new.servers ≡ self.old.servers }
     {
         for message in sent {
             self.bag.push_back(message.copy()?)?;
@@ -105,14 +103,14 @@ impl Machine {
     /// A server is given an input.
     #[inline(always)]
     fn act(&mut self, event: Event, server: NodeId, input: Input) -> Result<Entry, AllocError>
-        requires { is_server (length self.old.nodes.items) server ≡ true }
-        ensures nodes { OnOk result (EachStandsBehind self.old self.new server input) }
+        requires { is_server (length self.old.servers.items) server ≡ true }
+        ensures servers { OnOk result (EachStandsBehind self.old self.new server input) }
         ensures bag { OnOk result (BagBehind self.old self.new server input) }
         ensures entry { IfOk result (IsEntryBy self.old event server input) }
-        ensures count { OnOk result (length self.new.nodes.items ≡ length self.old.nodes.items) }
+        ensures count { OnOk result (length self.new.servers.items ≡ length self.old.servers.items) }
     {
         // A server that has failed belongs to a run that has failed, and that takes no event.
-        let Ok(Out { reply, made, sent }) = self.nodes[server as usize - 1].step(input) else {
+        let Ok(Out { reply, made, sent }) = self.servers[server as usize - 1].step(input) else {
             return Err(AllocError);
         };
         self.send(sent.as_slice())?;
@@ -125,51 +123,40 @@ impl Machine {
         })
     }
 
-    /// A client changes a file at a server.
-    fn write(
-        &mut self,
-        server: NodeId,
-        moment: u64,
-        file: FileId,
-        change: Change,
-    ) -> Result<Entry, AllocError>
-        ensures state { OnOk result
-            (StandsBehind self.old self.new (Event.Write server moment file change)) }
-        ensures entry { IfOk result (IsEntryOf self.old (Event.Write server moment file change)) }
-        ensures count { OnOk result (length self.new.nodes.items ≡ length self.old.nodes.items) }
+    /// A change of a file by its id: nothing is done of it.
+    fn write(&mut self, server: NodeId, moment: u64, file: FileId, change: Change) -> Entry
+        ensures state { StandsBehind self.old self.new (Event.Write server moment file change) }
+        ensures entry { IsEntryOf self.old (Event.Write server moment file change) result }
+        ensures count { length self.new.servers.items ≡ length self.old.servers.items }
     {
         let event = Event::Write {
             server,
             moment,
             file,
-            change: change.copy()?,
+            change,
         };
-        if !self.has_server(server) {
-            return Ok(self.idle_entry(event, Some(VoidCause::NoServer)));
-        }
-        self.act(
-            event,
-            server,
-            Input::Write {
-                moment,
-                file,
-                change,
-            },
-        )
+        self.idle_entry(event, Some(VoidCause::Unbuilt))
     }
 
-    /// A client calls a server: nothing is done of it yet.
-    fn call(&mut self, server: NodeId, moment: u64, call: Call) -> Entry
-        ensures state { StandsBehind self.old self.new (Event.Call server moment call) }
-        ensures entry { IsEntryOf self.old (Event.Call server moment call) result }
-        ensures count { length self.new.nodes.items ≡ length self.old.nodes.items }
+    /// A client calls a server. What is not built is void, whichever server is called.
+    fn call(&mut self, server: NodeId, moment: u64, call: Call) -> Result<Entry, AllocError>
+        ensures state { OnOk result
+            (StandsBehind self.old self.new (Event.Call server moment call)) }
+        ensures entry { IfOk result (IsEntryOf self.old (Event.Call server moment call)) }
+        ensures count { OnOk result (length self.new.servers.items ≡ length self.old.servers.items) }
     {
         let event = Event::Call {
             server,
             moment,
-            call,
+            call: call.copy()?,
         };
-        self.idle_entry(event, Some(VoidCause::Unbuilt))
+        if !is_built(&call) {
+            return Ok(self.idle_entry(event, Some(VoidCause::Unbuilt)));
+        }
+        if !self.has_server(server) {
+            return Ok(self.idle_entry(event, Some(VoidCause::NoServer)));
+        }
+        self.act(event, server, Input::Call { moment, call })
     }
 
     /// A server sends again what is not acknowledged.
@@ -177,7 +164,7 @@ impl Machine {
         ensures state { OnOk result
             (StandsBehind self.old self.new (Event.Tick server moment word)) }
         ensures entry { IfOk result (IsEntryOf self.old (Event.Tick server moment word)) }
-        ensures count { OnOk result (length self.new.nodes.items ≡ length self.old.nodes.items) }
+        ensures count { OnOk result (length self.new.servers.items ≡ length self.old.servers.items) }
     {
         let event = Event::Tick {
             server,
@@ -194,7 +181,7 @@ impl Machine {
     fn deliver(&mut self, number: u64) -> Result<Entry, AllocError>
         ensures state { OnOk result (StandsBehind self.old self.new (Event.Deliver number)) }
         ensures entry { IfOk result (IsEntryOf self.old (Event.Deliver number)) }
-        ensures count { OnOk result (length self.new.nodes.items ≡ length self.old.nodes.items) }
+        ensures count { OnOk result (length self.new.servers.items ≡ length self.old.servers.items) }
     {
         let event = Event::Deliver(number);
         let Some(message) = self.take_message(number) else {
@@ -210,7 +197,7 @@ impl Machine {
     fn lose(&mut self, number: u64) -> Entry
         ensures state { StandsBehind self.old self.new (Event.Lose number) }
         ensures entry { IsEntryOf self.old (Event.Lose number) result }
-        ensures count { length self.new.nodes.items ≡ length self.old.nodes.items }
+        ensures count { length self.new.servers.items ≡ length self.old.servers.items }
     {
         match self.take_message(number) {
             None => self.idle_entry(Event::Lose(number), Some(VoidCause::NoMessage)),
@@ -235,7 +222,7 @@ impl Machine {
     fn repeat(&mut self, number: u64) -> Result<Entry, AllocError>
         ensures state { OnOk result (StandsBehind self.old self.new (Event.Repeat number)) }
         ensures entry { IfOk result (IsEntryOf self.old (Event.Repeat number)) }
-        ensures count { OnOk result (length self.new.nodes.items ≡ length self.old.nodes.items) }
+        ensures count { OnOk result (length self.new.servers.items ≡ length self.old.servers.items) }
     {
         let Some(again) = self.copy_message(number)? else {
             return Ok(self.idle_entry(Event::Repeat(number), Some(VoidCause::NoMessage)));
@@ -248,7 +235,7 @@ impl Machine {
     fn restart(&mut self, server: NodeId) -> Entry
         ensures state { StandsBehind self.old self.new (Event.Restart server) }
         ensures entry { IsEntryOf self.old (Event.Restart server) result }
-        ensures count { length self.new.nodes.items ≡ length self.old.nodes.items }
+        ensures count { length self.new.servers.items ≡ length self.old.servers.items }
     {
         self.idle_entry(Event::Restart(server), Some(VoidCause::Unbuilt))
     }
@@ -257,7 +244,7 @@ impl Machine {
     fn remove(&mut self, server: NodeId) -> Entry
         ensures state { StandsBehind self.old self.new (Event.Remove server) }
         ensures entry { IsEntryOf self.old (Event.Remove server) result }
-        ensures count { length self.new.nodes.items ≡ length self.old.nodes.items }
+        ensures count { length self.new.servers.items ≡ length self.old.servers.items }
     {
         self.idle_entry(Event::Remove(server), Some(VoidCause::Unbuilt))
     }
@@ -266,7 +253,7 @@ impl Machine {
     pub fn step(&mut self, event: Event) -> Result<Entry, AllocError>
         ensures state { OnOk result (StandsBehind self.old self.new event) }
         ensures entry { IfOk result (IsEntryOf self.old event) }
-        ensures count { OnOk result (length self.new.nodes.items ≡ length self.old.nodes.items) }
+        ensures count { OnOk result (length self.new.servers.items ≡ length self.old.servers.items) }
     {
         match event {
             Event::Write {
@@ -274,12 +261,12 @@ impl Machine {
                 moment,
                 file,
                 change,
-            } => self.write(server, moment, file, change),
+            } => Ok(self.write(server, moment, file, change)),
             Event::Call {
                 server,
                 moment,
                 call,
-            } => Ok(self.call(server, moment, call)),
+            } => self.call(server, moment, call),
             Event::Tick {
                 server,
                 moment,
@@ -300,13 +287,13 @@ impl Machine {
         !self.bag.is_empty()
     }
 
-    /// The first key that a server owes, by server.
-    fn owed(&self) -> Option<OwedKey>
+    /// The first that a server owes, by server: of each first keys, and then places that it holds back.
+    fn owed(&self) -> Option<Owing>
         ensures { (w : World) → Stands self.now w
-            → result ≡ slice_get (owed_by w.stores (length self.now.nodes.items)) 0 }
+            → result ≡ slice_get (owed_by w.stores (length self.now.servers.items)) 0 }
     {
-        for node in self.nodes.as_slice() {
-            if let Some(owing) = node.owed() {
+        for server in self.servers.as_slice() {
+            if let Some(owing) = server.owed() {
                 return Some(owing);
             }
         }
@@ -316,12 +303,12 @@ impl Machine {
     /// Whether all is done, or what is to be waited for first.
     pub fn quiet(&self) -> Quiet
         ensures { (w : World) → Stands self.now w
-            → result ≡ quiet_of (length self.now.nodes.items) w }
+            → result ≡ quiet_of (length self.now.servers.items) w }
     {
         match self.bag.front() {
             Some(sent) => Quiet::Waits(Cause::Message(sent.summary())),
             None => match self.owed() {
-                Some(owing) => Quiet::Waits(Cause::Owed(Owing::Key(owing))),
+                Some(owing) => Quiet::Waits(Cause::Owed(owing)),
                 None => Quiet::Quiet,
             },
         }

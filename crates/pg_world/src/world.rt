@@ -1,22 +1,18 @@
 //! A whole run: the servers, the messages between them, and all events so far.
 
-ghost use Rattle.std.specs.Prelude.{◌≡◌, ◌++◌, ◌∷◌, [], ◌≤◌, ◌<◌, ◌↔◌, ℕ, OnOk, OnErr, IfOk, IsErrOf, IsNone, ◌⊎◌, false, true};
+ghost use Rattle.std.specs.Prelude.{◌≡◌, ◌++◌, ◌∷◌, [], ◌≤◌, ◌<◌, ◌↔◌, OnOk, OnErr, IfOk, IsErrOf, IsNone, Some, ◌⊎◌, false, true};
 ghost use Rattle.std.specs.Option.{option_copied};
-ghost use Rattle.pg_base.specs.declared.id.FileId.{FileId};
-ghost use Rattle.pg_content.specs.Content.{or_empty};
-ghost use Rattle.pg_content.specs.StandsFor.{StandsFor};
-ghost use Rattle.pg_replica.specs.Untouched.{policy_of};
-ghost use Rattle.pg_node.specs.Journal.{bag, taken, versions};
-ghost use Rattle.pg_node.specs.Quiet.{has_some, IsQuiet, quiet_of};
-ghost use Rattle.pg_node.specs.Laws.{Agree};
-ghost use Rattle.pg_world.specs.Played.{next_entry, state, final};
+ghost use Rattle.pg_run.specs.Journal.{bag};
+ghost use Rattle.pg_run.specs.Quiet.{has_some, IsQuiet, quiet_of};
+ghost use Rattle.pg_world.specs.Played.{next_entry, held, final};
 
 use crate::event_list::EventList;
 use crate::machine::Machine;
-use pg_base::{FileId, NodeId};
-use pg_content::Content;
+use pg_base::NodeId;
 use pg_event::{Entry, Event, Quiet};
-use pg_node::StepError;
+use pg_run::quiet_is_told;
+use pg_server::StepError;
+use pg_store::Store;
 use std::alloc::{AllocError, Global};
 use std::marker::Model;
 
@@ -91,20 +87,14 @@ impl World {
         Ok(entry)
     }
 
-    /// What a server holds of a file: the state of the versions that it took. None where nothing came to it, and where the
-    /// run has no such server.
-    pub fn content(&self, server: NodeId, file: &FileId) -> Option<&Content>
+    /// What a server holds after these events. None where the run has no such server.
+    pub fn store(&self, server: NodeId) -> Option<&Store>
         requires { self.now.failed ≡ false }
-        ensures state { 1 ≤ server → server ≤ self.now.servers
-            → or_empty (policy_of file.now) (option_copied result)
-            ≡ state self.now server file.now }
-        ensures heads { 1 ≤ server → server ≤ self.now.servers
-            → StandsFor (or_empty (policy_of file.now) (option_copied result))
-            (versions file.now (final self.now).journal)
-            (taken server file.now (final self.now).journal) }
+        ensures held { 1 ≤ server → server ≤ self.now.servers
+            → option_copied result ≡ Some (held self.now server) }
         ensures nobody { (server ≡ 0) ⊎ (self.now.servers < server) → IsNone result }
     {
-        self.machine.content(server, file)
+        self.machine.store(server)
     }
 
     /// Whether a message is under way.
@@ -116,15 +106,14 @@ impl World {
     }
 
     /// Whether the run is quiet: no message is under way, and no server owes anything. Else what it waits for first: the
-    /// oldest message; then, by server, the first unacknowledged key, by file, peer and key. It takes no memory.
+    /// oldest message; then, by server, the first unacknowledged key, by file, peer and key, and behind a server's keys
+    /// the first place that it holds back, by id. It takes no memory.
     pub fn is_quiet(&self) -> Quiet
         requires { self.now.failed ≡ false }
         ensures answer { result ≡ quiet_of self.now.servers (final self.now) }
         ensures quiet { (result ≡ Quiet.Quiet) ↔ IsQuiet self.now.servers (final self.now) }
-        ensures agree { result ≡ Quiet.Quiet → (file : FileId) (s t : ℕ)
-            → 1 ≤ s → s ≤ self.now.servers → 1 ≤ t → t ≤ self.now.servers
-            → Agree (final self.now) file s t }
     {
+        quiet_is_told();
         self.machine.quiet()
     }
 }

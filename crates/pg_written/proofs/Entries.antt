@@ -1,183 +1,202 @@
--- Entries suit.
-use Rattle.std.proofs.Common.{[], ℕ, ◌≡◌, Bool, List, ◌∷◌, ◌++◌, Option, None, Some, All, ◌&&◌, refl}
-use Rattle.std.specs.Prelude.{nat_le}
-use Rattle.std.proofs.lemmas.List.Elements.{All-append, All-nil, All-push, recursion_from_All}
-use Rattle.pg_base.specs.declared.id.FileId.{FileId}
-use Rattle.pg_base.specs.declared.id.Kind.TheVariants.{File}
-use Rattle.pg_base.specs.declared.stamp.Stamp.{Stamp}
-use Rattle.pg_base.specs.Stamp.{next_stamp}
-use Rattle.pg_patch.specs.Ranges.{RangesValue}
-use Rattle.pg_call.specs.declared.change.Change.{Change}
+-- What is told of one event suits, and what all servers hold and what is under way behind it; and so of any run.
+use Rattle.std.proofs.Common.{ℕ, ◌≡◌, ◌==◌, ◌&&◌, List, [], ◌++◌, Option, None, Some, All, refl}
+use Rattle.std.specs.List.{AllByRecursion}
+use Rattle.std.proofs.lemmas.List.Elements.{All-append, All-nil, recursion_from_All}
+use Rattle.pg_call.specs.declared.call.Call.{Call}
+use Rattle.pg_call.specs.declared.refusal.Refusal.TheVariants.{ClockEnd}
 use Rattle.pg_call.specs.declared.reply.Reply.{Reply}
 use Rattle.pg_call.specs.declared.reply.Reply.TheVariants as reply
-use Rattle.pg_call.specs.declared.refusal.Refusal.{Refusal}
-use Rattle.pg_call.specs.declared.refusal.Refusal.TheVariants.{ClockEnd, TooLong, ManyActors}
-use Rattle.pg_call.specs.Reply.{IsTickReply}
-use Rattle.pg_calls.specs.Writes.{Answer, do_change, ranges_of, refusal, update_of, with_update, write, write_to, write_where_fit}
-use Rattle.pg_event.specs.declared.entry.Entry.{Entry}
 use Rattle.pg_event.specs.declared.entry.VoidCause.{VoidCause}
-use Rattle.pg_event.specs.declared.entry.VoidCause.TheVariants.{NoServer}
+use Rattle.pg_event.specs.declared.entry.VoidCause.TheVariants.{NoServer, Unbuilt}
 use Rattle.pg_event.specs.declared.event.Event.{Event}
-use Rattle.pg_event.specs.declared.event.Event.TheVariants.{Write, Call, Tick, Deliver, Lose, Repeat, Restart, Remove}
+use Rattle.pg_event.specs.declared.event.Event.TheVariants.{Write, Call as Called, Tick, Deliver, Lose, Repeat, Restart, Remove}
 use Rattle.pg_event.specs.Event.{IsEvent}
+use Rattle.pg_msg.specs.declared.message.Packet.{Packet}
 use Rattle.pg_msg.specs.declared.message.Sent.{Sent}
-use Rattle.pg_msg.specs.declared.update.Update.{Update}
-use Rattle.pg_msg.specs.declared.update.Update.TheVariants as update
 use Rattle.pg_msg.specs.declared.work.Work.{Work}
+use Rattle.pg_msg.specs.Numbers.{is_in_range}
 use Rattle.pg_msg.specs.Sent.{summary}
 use Rattle.pg_msg.specs.Work.{new_work}
-use Rattle.pg_node.specs.declared.input.Input.TheVariants as input
-use Rattle.pg_node.specs.Journal.{bag, message_at}
-use Rattle.pg_node.specs.Local.{Effect, after_call, after_message, effect, finish_with, receive_in_time, tick_in_time}
-use Rattle.pg_node.specs.Run.{Step, World, bag_step, call_step, delivery_step, effect_step, idle_step, is_server, next}
-use Rattle.pg_node.proofs.Choices.{chosen}
-use Rattle.pg_repair.specs.Ticks.{tick, unacknowledged_cells}
-use Rattle.pg_replica.specs.declared.replica.Replica.{Replica}
-use Rattle.pg_replica.specs.declared.store.Store.{Store}
-use Rattle.pg_replica.specs.Replica.{has_many_actors, is_too_long}
-use Rattle.pg_replica.specs.Store.{is_in_time, replica_of}
-use Rattle.pg_trace.specs.Suited.{Answers, IsSuited, IsWriteAnswer, SuitsKind, SuitsUpdate}
-use Rattle.pg_written.proofs.Sending.{AllSuit, Left, Suits, WorkSuits, finished, of_server, received}
+use Rattle.pg_store.specs.declared.store.Store.{Store}
+use Rattle.pg_store.specs.Store.{is_in_time}
+use Rattle.pg_house.proofs.Truths.{chosen}
+use Rattle.pg_cells.specs.Done.{Done, idle}
+use Rattle.pg_cells.specs.Sending.{cells_where, is_any, is_touched}
+use Rattle.pg_cells.specs.Settling.{settle}
+use Rattle.pg_cells.specs.Ticks.{tick}
+use Rattle.pg_calls.specs.Calls.{do_call, is_built}
+use Rattle.pg_server.specs.declared.input.Input.{Input}
+use Rattle.pg_server.specs.declared.input.Input.TheVariants as input
+use Rattle.pg_server.specs.Local.{Effect, arrival_effect, call_effect, closed, effect, finished, receive, tick_effect}
+use Rattle.pg_run.specs.Journal.{bag, bag_after, message_at, with_copy, without}
+use Rattle.pg_run.specs.Run.{Step, World, bag_step, delivery_step, effect_step, idle_step, is_server, next, server_step, unbuilt_step, world_after}
+use Rattle.pg_run.proofs.Bags.{at_message, left_copied, left_without}
+use Rattle.pg_trace.specs.Suited.{Answers, IsSuited, SuitsKind, SuitsUpdate}
+use Rattle.pg_written.proofs.Calls.{call_suits}
+use Rattle.pg_written.proofs.House.{WorkSuits}
+use Rattle.pg_written.proofs.Places.{NamesSuit}
+use Rattle.pg_written.proofs.Sending.{cells_suit}
+use Rattle.pg_written.proofs.Stores.{AllSuit, DoneSuits, Suits, SuitsMessage, received_suits, settled_suits}
 
--- ---- an input
+-- ---- an input of a server
 
-pub new_suits : (U : Update → Type 0) (now from : ℕ) → WorkSuits U (new_work now from)
-new_suits U now from = record { made = All-nil U; sent = All-nil Suits }
-
--- what was made and sent in answer to an input
-pub record EffectSuits (U : Update → Type 0) (done : Effect) : Type 0 where
-  pub made : All U done.out.made
+-- what the server holds then, what it made and sent, and what it answers to this event
+pub record EffectSuits (e : Event) (done : Effect) : Type 0 where
+  pub names : NamesSuit done.store.names
+  pub made : All SuitsUpdate done.out.made
   pub sent : AllSuit done.out.sent
+  pub told : IsEvent e → Answers e done.out.reply
 
-pub finishes : (U : Update → Type 0) (answer : Option Reply) (a : Store) (work : Work)
-    → WorkSuits U work → EffectSuits U (finish_with answer a work)
-finishes U answer a work h = record {
-  made = h.made;
-  sent = finished a work.sent work.touched h.sent;
+new_suits : (now from : ℕ) → WorkSuits Suits (new_work now from)
+new_suits now from = record { made = All-nil SuitsUpdate; sent = All-nil Suits }
+
+begun : (s : Store) (now from : ℕ) → NamesSuit s.names → DoneSuits (idle s (new_work now from))
+begun s now from h = record { names = h; work = new_suits now from }
+
+finished_suits : (e : Event) (answer : Option Reply) (done : Done) → (IsEvent e → Answers e answer) → DoneSuits done → EffectSuits e (finished answer done)
+finished_suits e answer done told h = record {
+  names = h.names;
+  made = h.work.made;
+  sent = All-append Suits done.work.sent (cells_where done.store (is_touched done.work.touched)) h.work.sent
+      (cells_suit done.store h.names (is_touched done.work.touched));
+  told = told;
 }
 
--- ---- a write
+closed_suits : (e : Event) (answer : Option Reply) (s : Store) (work : Work) → (IsEvent e → Answers e answer) → DoneSuits (idle s work)
+    → EffectSuits e (closed answer (idle s work))
+closed_suits e answer s work told h = finished_suits e answer (settle s work) told (settled_suits s work h)
 
-pub record IsAnswer (U : Update → Type 0) (answer : Answer) : Type 0 where
-  pub told : IsWriteAnswer answer.reply
-  pub work : WorkSuits U answer.work
+called_suits : (s : Store) (server moment : ℕ) (c : Call) → NamesSuit s.names → EffectSuits (Called server moment c) (call_effect s moment c)
+called_suits s server moment c h =
+    let e = Called server moment c in
+    let a = do_call s c (new_work moment 0) in
+    let is = call_suits s (new_work moment 0) (begun s moment 0 h) c in
+    let told : IsEvent e → Answers e (Some a.reply) = (λ k. is.told k.2) in
+    chosen (EffectSuits e) (is_in_time s) (closed (Some a.reply) (idle a.store a.work)) (finished (Some a.reply) (idle a.store a.work))
+    (closed_suits e (Some a.reply) a.store a.work told is.done) (finished_suits e (Some a.reply) (idle a.store a.work) told is.done)
 
--- whichever version is made of the file is so
-abbrev pub IsOf : (Update → Type 0) → FileId → Type 0
-IsOf U file = (x : Replica) (stamp : Stamp) (r : RangesValue)
-    → U (update.Version (update_of file x stamp r))
+ticked_suits : (s : Store) (server moment word : ℕ) → NamesSuit s.names → EffectSuits (Tick server moment word) (tick_effect s moment)
+ticked_suits s server moment word h =
+    let e = Tick server moment word in
+    let work = new_work moment 0 in
+    let sent : DoneSuits (idle s (tick s work)) = record {
+      names = h;
+      work = record { made = All-nil SuitsUpdate; sent = All-append Suits [] (cells_where s is_any) (All-nil Suits) (cells_suit s h is_any) };
+    } in
+    chosen (EffectSuits e) (is_in_time s) (closed (Some reply.Done) (idle s (tick s work))) (finished (Some (reply.Refused ClockEnd)) (idle s work))
+    (closed_suits e (Some reply.Done) s (tick s work) (λ k. tt) sent) (finished_suits e (Some (reply.Refused ClockEnd)) (idle s work) (λ k. refl) (begun s moment 0 h))
 
-written : (U : Update → Type 0) (a : Store) (file : FileId) (x : Replica) (stamp : Stamp)
-    (r : RangesValue) (work : Work) → IsOf U file → WorkSuits U work
-    → IsAnswer U (write a file x stamp r work)
-written U a file x stamp r work of h = record {
-  told = tt;
-  work = record {
-    made = All-push U work.made (update.Version (update_of file x stamp r)) h.made (of x stamp r);
-    sent = h.sent;
-  };
-}
-
-fits : (U : Update → Type 0) (a : Store) (file : FileId) (x : Replica) (stamp : Stamp)
-    (r : RangesValue) (work : Work) → IsOf U file → WorkSuits U work
-    → IsAnswer U (write_where_fit a file x stamp r work)
-fits U a file x stamp r work of h =
-    let long : IsAnswer U (refusal a work TooLong) = record { told = tt; work = h } in
-    let many : IsAnswer U (refusal a work ManyActors) = record { told = tt; work = h } in
-    let done = write a file x stamp r work in
-    chosen (IsAnswer U) (is_too_long x r) (refusal a work TooLong) _ long
-    (chosen (IsAnswer U) (has_many_actors x a.server) (refusal a work ManyActors) done many
-    (written U a file x stamp r work of h))
-
-pub changed : (U : Update → Type 0) (a : Store) (file : FileId) (what : Change) (work : Work)
-    → IsOf U file → WorkSuits U work → IsAnswer U (do_change a file what work)
-changed U a file what work of h =
-    let stamp = next_stamp work.now a.last a.server in
-    let late : IsAnswer U (refusal a work ClockEnd) = record { told = tt; work = h } in
-    chosen (IsAnswer U) (is_in_time a)
-    (write_to a file stamp (ranges_of what) work) (refusal a work ClockEnd)
-    (fits U a file (replica_of a file) stamp (ranges_of what) work of h) late
-
--- ---- a tick
-
-pub record IsTicked (U : Update → Type 0) (answer : Answer) : Type 0 where
-  pub told : IsTickReply answer.reply
-  pub work : WorkSuits U answer.work
-
-pub ticks : (U : Update → Type 0) (a : Store) (work : Work) → WorkSuits U work
-    → IsTicked U (tick_in_time a work)
-ticks U a work h =
-    let done : Answer = record { store = a; work = (tick a work).work; reply = reply.Done } in
-    let late : Answer = record { store = a; work = work; reply = reply.Refused ClockEnd } in
-    chosen (IsTicked U) (is_in_time a) done late
-    (record {
-      told = tt;
-      work = record {
-        made = h.made;
-        sent = All-append Suits work.sent (unacknowledged_cells a) h.sent (of_server a);
-      };
-    })
-    (record { told = refl; work = h })
+arrived_suits : (s : Store) (number : ℕ) (p : Packet) → SuitsMessage p.message → NamesSuit s.names → EffectSuits (Deliver number) (arrival_effect s p)
+arrived_suits s number p k h =
+    let e = Deliver number in
+    let work = new_work 0 p.from in
+    let done = receive s p.message work in
+    let left : DoneSuits (idle done.store done.work) = received_suits s p.message work h k (new_suits 0 p.from) in
+    chosen (EffectSuits e) (is_in_time s && is_in_range p.message) (closed None done) (finished None (idle s work))
+    (closed_suits e None done.store done.work (λ k. tt) left) (finished_suits e None (idle s work) (λ k. tt) (begun s 0 p.from h))
 
 -- ---- an event
 
-abbrev pub StepSuits : Step → Type 0
-StepSuits s = IsSuited s.entry
+pub record RunSuits (w : World) : Type 0 where
+  pub names : (server : ℕ) → NamesSuit (w.stores server).names
+  pub sent : AllSuit (bag w.journal)
 
-did : (w : World) (e : Event) (server : ℕ) (done : Effect) → Answers e done.out.reply
-    → EffectSuits SuitsUpdate done → StepSuits (effect_step w e server done)
-did w e server done told h = record {
-  told = told;
-  made = recursion_from_All SuitsUpdate done.out.made h.made;
-  sent = recursion_from_All Suits done.out.sent h.sent;
+pub record StepSuits (e : Event) (w : World) (step : Step) : Type 0 where
+  pub entry : IsEvent e → IsSuited step.entry
+  pub behind : RunSuits (world_after w step)
+
+-- of messages that suit what is told suits
+told_all : (ms : List Sent) → AllSuit ms → AllByRecursion (λ m. SuitsKind (summary m)) ms
+told_all ms h = recursion_from_All (λ m. SuitsKind (summary m)) ms (λ i d lt. (h i d lt).told)
+
+-- nothing is done: this is left under way
+idle_suits : (w : World) (e : Event) (cause : Option VoidCause) → Answers e None → RunSuits w → AllSuit (bag_after (bag w.journal) e [])
+    → StepSuits e w (idle_step w e cause)
+idle_suits w e cause told h left = record {
+  entry = λ k. record { told = told; made = tt; sent = tt };
+  behind = record { names = h.names; sent = left };
 }
 
-idle : (w : World) (e : Event) (cause : Option VoidCause) → Answers e None
-    → StepSuits (idle_step w e cause)
-idle w e cause told = record { told = told; made = tt; sent = tt }
+-- a server does this: its messages and what is left are under way
+did_suits : (w : World) (e : Event) (server : ℕ) (asked : Input) → RunSuits w → EffectSuits e (effect (w.stores server) asked)
+    → AllSuit (bag_after (bag w.journal) e (effect (w.stores server) asked).out.sent) → StepSuits e w (effect_step w e server asked)
+did_suits w e server asked h done left =
+    let out = effect (w.stores server) asked in
+    record {
+      entry = λ k. record {
+        told = done.told k;
+        made = recursion_from_All SuitsUpdate out.out.made done.made;
+        sent = told_all out.out.sent done.sent;
+      };
+      behind = record {
+        names = λ k. chosen (λ (x : Store). NamesSuit x.names) (k == server) out.store (w.stores k) done.names (h.names k);
+        sent = left;
+      };
+    }
 
-delivered : (n : ℕ) (w : World) (number : ℕ) (o : Option Sent)
-    → StepSuits (delivery_step n w (Deliver number) o)
-delivered n w number None = idle w (Deliver number) _ tt
-delivered n w number (Some m) =
-    let e = Deliver number in
-    let a = w.stores m.to in
-    let work = new_work 0 m.packet.from in
-    let done = effect a (input.Arrival m.packet) in
-    let left = received SuitsUpdate a m.packet.message work (new_suits SuitsUpdate 0 m.packet.from) in
-    let after = receive_in_time a m.packet.message work in
-    chosen StepSuits (is_server n m.to) (effect_step w e m.to done) (idle_step w e None)
-    (did w e m.to done tt (finishes SuitsUpdate None after.store after.work left)) (idle w e None tt)
+-- what is under way behind an input of a client, or a tick
+more_sent : (ms sent : List Sent) → AllSuit ms → AllSuit sent → AllSuit (ms ++ sent)
+more_sent ms sent a b = All-append Suits ms sent a b
 
-in_bag : (w : World) (e : Event) (o : Option Sent) → Answers e None → StepSuits (bag_step w e o)
-in_bag w e None told = idle w e _ told
-in_bag w e (Some m) told = idle w e None told
+server_suits : (n : ℕ) (w : World) (e : Event) (server : ℕ) (asked : Input) → Answers e None
+    → ((ms : List Sent) → AllSuit ms → AllSuit (bag_after (bag w.journal) e ms)) → RunSuits w → EffectSuits e (effect (w.stores server) asked)
+    → StepSuits e w (server_step n w e server asked)
+server_suits n w e server asked told left h done =
+    chosen (StepSuits e w) (is_server n server) (effect_step w e server asked) (idle_step w e (Some NoServer))
+    (did_suits w e server asked h done (left (effect (w.stores server) asked).out.sent done.sent))
+    (idle_suits w e (Some NoServer) told h (left [] (All-nil Suits)))
 
-pub entries : (n : ℕ) (w : World) (e : Event) → IsEvent e → StepSuits (next n w e)
-entries n w (Write server moment file what) h =
-    let e = Write server moment file what in
-    let a = w.stores server in
-    let asked = input.Write moment file what in
-    let answer = do_change a file what (new_work moment 0) in
-    let is = changed SuitsUpdate a file what (new_work moment 0) (λ x stamp r. h.2.kind)
-    (new_suits SuitsUpdate moment 0) in
-    chosen StepSuits (is_server n server) (effect_step w e server (effect a asked))
-    (idle_step w e (Some NoServer))
-    (did w e server (effect a asked) is.told (finishes SuitsUpdate (Some answer.reply) answer.store answer.work is.work))
-    (idle w e (Some NoServer) tt)
-entries n w (Call server moment call) h = idle w (Call server moment call) _ tt
-entries n w (Tick server moment word) h =
-    let e = Tick server moment word in
-    let a = w.stores server in
-    let asked = input.Tick moment word in
-    let answer = tick_in_time a (new_work moment 0) in
-    let is = ticks SuitsUpdate a (new_work moment 0) (new_suits SuitsUpdate moment 0) in
-    chosen StepSuits (is_server n server) (effect_step w e server (effect a asked))
-    (idle_step w e (Some NoServer))
-    (did w e server (effect a asked) is.told (finishes SuitsUpdate (Some answer.reply) answer.store answer.work is.work))
-    (idle w e (Some NoServer) tt)
-entries n w (Deliver number) h = delivered n w number (message_at (bag w.journal) number)
-entries n w (Lose number) h = in_bag w (Lose number) (message_at (bag w.journal) number) tt
-entries n w (Repeat number) h = in_bag w (Repeat number) (message_at (bag w.journal) number) tt
-entries n w (Restart server) h = idle w (Restart server) _ tt
-entries n w (Remove server) h = idle w (Remove server) _ tt
+delivered_suits : (n : ℕ) (w : World) (number : ℕ) (o : Option Sent) → RunSuits w → message_at (bag w.journal) number ≡ o
+    → StepSuits (Deliver number) w (delivery_step n w (Deliver number) o)
+delivered_suits n w number o h is = by o is
+  where
+    rest : List Sent
+    rest = without (bag w.journal) number (message_at (bag w.journal) number)
+
+    left : (ms : List Sent) → AllSuit ms → AllSuit (rest ++ ms)
+    left ms k = more_sent rest ms (left_without Suits (bag w.journal) number (message_at (bag w.journal) number) h.sent) k
+
+    by : (o : Option Sent) → message_at (bag w.journal) number ≡ o → StepSuits (Deliver number) w (delivery_step n w (Deliver number) o)
+    by None is = idle_suits w (Deliver number) _ tt h (left [] (All-nil Suits))
+    by (Some m) is =
+        let e = Deliver number in
+        let asked = input.Arrival m.packet in
+        let here : Suits m = at_message Suits (bag w.journal) number m h.sent is in
+        let done : EffectSuits e (effect (w.stores m.to) asked) = arrived_suits (w.stores m.to) number m.packet here.carried (h.names m.to) in
+        chosen (StepSuits e w) (is_server n m.to) (effect_step w e m.to asked) (idle_step w e None)
+        (did_suits w e m.to asked h done (left (effect (w.stores m.to) asked).out.sent done.sent))
+        (idle_suits w e None tt h (left [] (All-nil Suits)))
+
+lost_suits : (w : World) (number : ℕ) (o : Option Sent) → RunSuits w → StepSuits (Lose number) w (bag_step w (Lose number) o)
+lost_suits w number None h = idle_suits w (Lose number) _ tt h (left_without Suits (bag w.journal) number (message_at (bag w.journal) number) h.sent)
+lost_suits w number (Some m) h = idle_suits w (Lose number) None tt h (left_without Suits (bag w.journal) number (message_at (bag w.journal) number) h.sent)
+
+copied : (w : World) (number : ℕ) → RunSuits w → AllSuit (with_copy (bag w.journal) (message_at (bag w.journal) number))
+copied w number h =
+    left_copied Suits (bag w.journal) (message_at (bag w.journal) number) h.sent (λ m e. at_message Suits (bag w.journal) number m h.sent e)
+
+repeated_suits : (w : World) (number : ℕ) (o : Option Sent) → RunSuits w → StepSuits (Repeat number) w (bag_step w (Repeat number) o)
+repeated_suits w number None h = idle_suits w (Repeat number) _ tt h (copied w number h)
+repeated_suits w number (Some m) h = idle_suits w (Repeat number) None tt h (copied w number h)
+
+unbuilt_suits : (w : World) (e : Event) → Answers e None → RunSuits w → AllSuit (bag_after (bag w.journal) e []) → StepSuits e w (unbuilt_step w e)
+unbuilt_suits w e told h left = idle_suits w e (Some Unbuilt) told h left
+
+pub step_suits : (n : ℕ) (w : World) (e : Event) → RunSuits w → StepSuits e w (next n w e)
+step_suits n w (Write server moment file what) h =
+    unbuilt_suits w (Write server moment file what) tt h (more_sent (bag w.journal) [] h.sent (All-nil Suits))
+step_suits n w (Called server moment c) h =
+    let e = Called server moment c in
+    let more : (ms : List Sent) → AllSuit ms → AllSuit (bag w.journal ++ ms) = (λ ms p. more_sent (bag w.journal) ms h.sent p) in
+    chosen (StepSuits e w) (is_built c) (server_step n w e server (input.Call moment c)) (idle_step w e (Some Unbuilt))
+    (server_suits n w e server (input.Call moment c) tt more h (called_suits (w.stores server) server moment c (h.names server)))
+    (unbuilt_suits w e tt h (more [] (All-nil Suits)))
+step_suits n w (Tick server moment word) h =
+    let more : (ms : List Sent) → AllSuit ms → AllSuit (bag w.journal ++ ms) = (λ ms p. more_sent (bag w.journal) ms h.sent p) in
+    server_suits n w (Tick server moment word) server (input.Tick moment word) tt more h
+    (ticked_suits (w.stores server) server moment word (h.names server))
+step_suits n w (Deliver number) h = delivered_suits n w number (message_at (bag w.journal) number) h refl
+step_suits n w (Lose number) h = lost_suits w number (message_at (bag w.journal) number) h
+step_suits n w (Repeat number) h = repeated_suits w number (message_at (bag w.journal) number) h
+step_suits n w (Restart server) h = unbuilt_suits w (Restart server) tt h h.sent
+step_suits n w (Remove server) h = unbuilt_suits w (Remove server) tt h h.sent

@@ -1,3 +1,9 @@
+pub mod Places
+pub mod House
+pub mod Stores
 pub mod Sending
+pub mod Found
+pub mod Rows
+pub mod Calls
 pub mod Entries
 pub mod Waiting

@@ -1,177 +1,83 @@
--- What is told of each message that a server sends goes by the message's kind.
-use Rattle.std.proofs.Common.{[], ℕ, List, ◌∷◌, ◌++◌, Option, None, Some, All}
-use Rattle.std.proofs.lemmas.List.Elements.{All-append, All-cons, All-nil, All-push}
+-- What is sent at the end of an event, and what a tick sends, suits.
+use Rattle.std.proofs.Common.{ℕ, ◌≡◌, Bool, List, [], ◌∷◌, Option, None, Some, All, refl, subst, sym}
+use Rattle.std.specs.List.{filter, flat_map}
+use Rattle.std.proofs.lemmas.List.Elements.{All-append, All-cons, All-nil}
 use Rattle.pg_base.specs.declared.id.FileId.{FileId}
+use Rattle.pg_base.specs.declared.policy.Policy.{Policy}
 use Rattle.pg_base.specs.Version.{VersionValue}
 use Rattle.pg_edges.specs.declared.edge.Edge.{Edge}
 use Rattle.pg_edges.specs.declared.key.Key.{Key}
-use Rattle.pg_edges.specs.Keys.{tag_in}
-use Rattle.pg_entries.specs.declared.cell.Cell.TheVariants as cells
-use Rattle.pg_msg.specs.declared.message.Ends.{Ends}
-use Rattle.pg_msg.specs.declared.message.Message.{Message}
-use Rattle.pg_msg.specs.declared.message.Message.TheVariants as message
-use Rattle.pg_msg.specs.declared.message.Sent.{Sent}
-use Rattle.pg_msg.specs.declared.update.Update.{Update}
-use Rattle.pg_msg.specs.declared.work.Touched.{Touched}
-use Rattle.pg_msg.specs.declared.work.Work.{Work}
-use Rattle.pg_msg.specs.Sent.{summary}
+use Rattle.pg_edges.specs.declared.key.Key.TheVariants as key
+use Rattle.pg_entries.specs.declared.cell.Cell.{Cell}
+use Rattle.pg_entries.specs.declared.entry.Entry.{Entry}
+use Rattle.pg_names.specs.Names.{NamesValue, cell_at as entry_at, own_or_blank}
+use Rattle.pg_register.specs.declared.flag.Flag.{Flag}
+use Rattle.pg_register.specs.Flag.{flag_of}
 use Rattle.pg_replica.specs.declared.replica.Replica.{Replica}
-use Rattle.pg_replica.specs.declared.store.Store.{Store}
-use Rattle.pg_replica.specs.Replica.{cell_at, covers, key_of, with_head}
-use Rattle.pg_replica.specs.Store.{is_in_time, replica_at, replica_of, with_news}
-use Rattle.pg_repair.specs.Cells.{ack_to, cell, with_answer}
-use Rattle.pg_repair.specs.Done.{Done, idle}
-use Rattle.pg_repair.specs.Finish.{finish, present_cells, replica_sends, sent_with, touched_cells}
-use Rattle.pg_repair.specs.Sending.{cell_to, cells_under, key_cell, tagged_cell}
-use Rattle.pg_repair.specs.Ticks.{edge_cells, replica_cells, unacknowledged_cells}
-use Rattle.pg_msg.specs.Numbers.{is_in_range}
-use Rattle.pg_msg.specs.View.{view}
-use Rattle.pg_msg.specs.Work.{with_touched}
-use Rattle.pg_node.specs.Local.{handle, receive, receive_in_range, receive_in_time}
-use Rattle.pg_node.proofs.Choices.{All-every, All-flat_map, chosen, linked}
-use Rattle.pg_trace.specs.Suited.{SuitsKind, SuitsUpdate}
+use Rattle.pg_replica.specs.Replica.{cell_at as head_at}
+use Rattle.pg_store.specs.declared.store.Store.{Store}
+use Rattle.pg_store.specs.Cells.{cell_at, entry_cell, flag_cell, version_cell}
+use Rattle.pg_store.specs.Store.{content_of}
+use Rattle.pg_house.proofs.Truths.{chosen}
+use Rattle.pg_cells.specs.Sending.{cell_to, cell_under, cells_where, edge_cells, key_cell, replica_cells, waits}
+use Rattle.pg_written.proofs.Places.{NamesSuit, SuitsEntry, blank_suits, cell_suits}
+use Rattle.pg_written.proofs.Stores.{AllSuit, Suits, SuitsCell}
 
-abbrev pub Suits : Sent → Type 0
-Suits m = SuitsKind (summary m)
+-- ---- lists
 
-abbrev pub AllSuit : List Sent → Type 0
-AllSuit ms = All Suits ms
+all_parts : {A B : Type 0} (P : B → Type 0) (f : A → List B) (xs : List A) → ((x : A) → All P (f x)) → All P (flat_map f xs)
+all_parts P f [] h = All-nil P
+all_parts P f (x ∷ xs) h = All-append P (f x) (flat_map f xs) (h x) (all_parts P f xs h)
 
--- ---- cells and answers
+-- ---- the cell of a key
 
-cell_suits : (server : ℕ) (file : FileId) (birth : ℕ) (e : Edge) (v : VersionValue) (tag : ℕ)
-    → Suits (cell_to server file birth e v tag)
-cell_suits server file birth e v tag = record { about = λ h. h; told = λ h. h }
+-- there is none, or it suits
+abbrev MaySuit : FileId → Option Cell → Type 0
+MaySuit f None = Unit {0}
+MaySuit f (Some c) = SuitsCell f c
 
-ack_suits : (server from : ℕ) (ends : Ends) (k : Key) (tag : ℕ)
-    → Suits (ack_to server from ends k tag)
-ack_suits server from ends k tag = record { about = λ h. h; told = λ h. h }
+flag_may : (f : FileId) (o : Option Flag) → MaySuit f (flag_cell o)
+flag_may f None = tt
+flag_may f (Some g) = tt
 
-tagged : (server : ℕ) (file : FileId) (birth : ℕ) (e : Edge) (v : VersionValue) (o : Option ℕ)
-    → AllSuit (tagged_cell server file birth e v o)
-tagged server file birth e v None = All-nil Suits
-tagged server file birth e v (Some tag) =
-    All-cons Suits (cell_to server file birth e v tag) []
-    (cell_suits server file birth e v tag) (All-nil Suits)
+version_may : (f : FileId) (policy : Policy) (o : Option VersionValue) → MaySuit f (version_cell policy o)
+version_may f policy None = tt
+version_may f policy (Some v) = tt
 
-keyed : (server : ℕ) (file : FileId) (birth : ℕ) (e : Edge) (o : Option VersionValue) (tag : ℕ)
-    → AllSuit (key_cell server file birth e o tag)
-keyed server file birth e None tag = All-nil Suits
-keyed server file birth e (Some v) tag =
-    All-cons Suits (cell_to server file birth e v tag) []
-    (cell_suits server file birth e v tag) (All-nil Suits)
+own_child : (k : FileId) (e : Entry) → SuitsEntry k e → SuitsEntry e.child e
+own_child k e h = subst (λ (q : FileId). SuitsEntry q e) (sym h.child) h
 
--- ---- what was touched
+entry_may : (s : NamesValue) (f child : FileId) (o : Option Entry) → NamesSuit s → entry_at s f child ≡ o → MaySuit f (entry_cell o)
+entry_may s f child None h e = tt
+entry_may s f child (Some c) h e = own_child child c (cell_suits s h f child c e)
 
-under : (server : ℕ) (file : FileId) (x : Replica) (k : Key) (v : VersionValue)
-    → AllSuit (cells_under server file x k v)
-under server file x k v =
-    let f : Edge → List Sent = (λ e. tagged_cell server file x.birth e v (tag_in e.keys k)) in
-    All-flat_map Suits f x.edges
-    (All-every (λ e. AllSuit (f e)) x.edges (λ e. tagged server file x.birth e v (tag_in e.keys k)))
+key_may : (s : Store) (f : FileId) (k : Key) → NamesSuit s.names → MaySuit f (cell_at s f k)
+key_may s f key.Place h = blank_suits s.names h f
+key_may s f (key.Flag server) h = flag_may f (flag_of (own_or_blank s.names f).flags server)
+key_may s f (key.Entry child) h = entry_may s.names f child (entry_at s.names f child) h refl
+key_may s f (key.Version stamp) h =
+    version_may f (content_of s f).policy (head_at (content_of s f).heads (key.Version stamp))
 
-present : (server : ℕ) (file : FileId) (x : Replica) (k : Key) (o : Option VersionValue)
-    → AllSuit (present_cells server file x k o)
-present server file x k None = All-nil Suits
-present server file x k (Some v) = under server file x k v
+-- ---- what is sent
 
-sends : (server : ℕ) (file : FileId) (k : Key) (o : Option Replica)
-    → AllSuit (replica_sends server file k o)
-sends server file k None = All-nil Suits
-sends server file k (Some x) = present server file x k (cell_at x.content.heads k)
+under_suits : (server : ℕ) (f : FileId) (birth : ℕ) (e : Edge) (tag : ℕ) (o : Option Cell) → MaySuit f o
+    → AllSuit (cell_under server f birth e tag o)
+under_suits server f birth e tag None k = All-nil Suits
+under_suits server f birth e tag (Some c) k =
+    All-cons Suits (cell_to server f birth e c tag) []
+    (record { told = record { about = λ h. h; told = λ h. h }; carried = k }) (All-nil Suits)
 
-pub finished : (a : Store) (sent : List Sent) (ts : List Touched) → AllSuit sent
-    → AllSuit (sent_with a sent ts)
-finished a sent [] h = h
-finished a sent (t ∷ ts) h =
-    finished a (sent ++ touched_cells a t) ts
-    (All-append Suits sent (touched_cells a t) h (sends a.server t.file t.key (replica_at a t.file)))
+module _ (s : Store) (h : NamesSuit s.names) (wanted : FileId → Key → Bool) where
+  keys_suit : (f : FileId) (birth : ℕ) (e : Edge) (k : Key × ℕ) → AllSuit (key_cell s f birth e k)
+  keys_suit f birth e k =
+      chosen AllSuit (waits s f e k.0) [] (cell_under s.names.server f birth e k.1 (cell_at s f k.0)) (All-nil Suits)
+      (under_suits s.names.server f birth e k.1 (cell_at s f k.0) (key_may s f k.0 h))
 
--- ---- a tick
+  edge_suits : (f : FileId) (birth : ℕ) (e : Edge) → AllSuit (edge_cells s wanted f birth e)
+  edge_suits f birth e = all_parts Suits (key_cell s f birth e) (filter (λ k. wanted f k.0) e.keys) (keys_suit f birth e)
 
-of_edge : (server : ℕ) (file : FileId) (x : Replica) (e : Edge)
-    → AllSuit (edge_cells server file x e)
-of_edge server file x e =
-    let f : Key × ℕ → List Sent =
-    (λ k. key_cell server file x.birth e (cell_at x.content.heads k.0) k.1) in
-    All-flat_map Suits f e.keys
-    (All-every (λ k. AllSuit (f k)) e.keys
-    (λ k. keyed server file x.birth e (cell_at x.content.heads k.0) k.1))
+  replica_suits : (r : FileId × Replica) → AllSuit (replica_cells s wanted r)
+  replica_suits r = all_parts Suits (edge_cells s wanted r.0 r.1.birth) r.1.edges (edge_suits r.0 r.1.birth)
 
-of_replica : (server : ℕ) (r : FileId × Replica) → AllSuit (replica_cells server r)
-of_replica server r =
-    All-flat_map Suits (edge_cells server r.0 r.1) r.1.edges
-    (All-every (λ e. AllSuit (edge_cells server r.0 r.1 e)) r.1.edges (of_edge server r.0 r.1))
-
-pub of_server : (a : Store) → AllSuit (unacknowledged_cells a)
-of_server a =
-    All-flat_map Suits (replica_cells a.server) a.replicas
-    (All-every (λ r. AllSuit (replica_cells a.server r)) a.replicas (of_replica a.server))
-
--- ---- a message
-
--- what was made is so, and what is sent suits
-pub record WorkSuits (U : Update → Type 0) (work : Work) : Type 0 where
-  pub made : All U work.made
-  pub sent : AllSuit work.sent
-
-abbrev pub Left : (Update → Type 0) → Done → Type 0
-Left U done = WorkSuits U done.work
-
-answered : (U : Update → Type 0) (a : Store) (ends : Ends) (tag : ℕ) (v : VersionValue) (work : Work) → WorkSuits U work
-    → WorkSuits U (with_answer a ends tag v work)
-answered U a ends tag v work h = record {
-  made = h.made;
-  sent = All-push Suits work.sent (ack_to a.server work.from ends (key_of v) tag) h.sent
-      (ack_suits a.server work.from ends (key_of v) tag);
-}
-
-cell_leaves : (U : Update → Type 0) (a : Store) (ends : Ends) (tag : ℕ) (v : VersionValue) (work : Work) → WorkSuits U work
-    → Left U (cell a ends tag v work)
-cell_leaves U a ends tag v work h =
-    let both = answered U a ends tag v work h in
-    let news : Done = record {
-      store = with_news a ends.file (with_head (replica_of a ends.file) v a.tags) v.head.stamp;
-      work = with_touched (with_answer a ends tag v work) ends.file (key_of v);
-    } in
-    let held : Done = record { store = a; work = with_answer a ends tag v work } in
-    chosen (Left U) (covers (replica_of a ends.file) v) held news both
-    (record { made = both.made; sent = both.sent })
-
-handled : (U : Update → Type 0) (a : Store) (m : Message) (work : Work) → WorkSuits U work → Left U (handle a m work)
-handled U a (message.Cell ends tag (cells.Version v policy)) work h = cell_leaves U a ends tag v work h
-handled U a (message.Cell ends tag (cells.Place place)) work h = h
-handled U a (message.Cell ends tag (cells.Flag flag)) work h = h
-handled U a (message.Cell ends tag (cells.Entry entry sure)) work h = h
-handled U a (message.Ack ends k tag) work h = h
-handled U a (message.Harbinger ends tag head) work h = h
-handled U a (message.Want ends wanted) work h = h
-handled U a (message.Delta ends delta) work h = h
-handled U a (message.Piece ends piece) work h = h
-handled U a (message.Later ends stamp) work h = h
-handled U a (message.Fetch file birth) work h = h
-handled U a (message.Grant ends granted) work h = h
-handled U a (message.NoGrant file birth) work h = h
-handled U a (message.Full ends) work h = h
-handled U a (message.Seek file birth) work h = h
-handled U a (message.Here ends) work h = h
-handled U a (message.NoneHere ask file child) work h = h
-handled U a (message.Gone file birth) work h = h
-handled U a (message.Bye ends) work h = h
-handled U a (message.ByeOk file birth) work h = h
-handled U a (message.Confirm dir entry) work h = h
-handled U a (message.PlaceIs dir entry) work h = h
-handled U a (message.Tell dir entry) work h = h
-handled U a (message.TellOk dir child stamp) work h = h
-handled U a (message.Leave ends stamp) work h = h
-handled U a (message.LeaveOk ends stamp) work h = h
-handled U a (message.Invite ends) work h = h
-handled U a (message.Walk ends origin birth hops word) work h = h
-handled U a (message.Meet ends) work h = h
-
-pub received : (U : Update → Type 0) (a : Store) (m : Message) (work : Work) → WorkSuits U work
-    → Left U (receive_in_time a m work)
-received U a m work h =
-    chosen (Left U) (is_in_time a) (receive_in_range a m work) (idle a work)
-    (chosen (Left U) (is_in_range m) (receive a m work) (idle a work)
-    (linked (Left U) a (view m).edge work (handle a m work) (λ e. handled U a m work h) h) h) h
+  pub cells_suit : AllSuit (cells_where s wanted)
+  cells_suit = all_parts Suits (replica_cells s wanted) s.replicas replica_suits

@@ -1,15 +1,23 @@
 -- What is told of any run suits what is written of it.
-use Rattle.std.specs.Prelude.{ℕ, List}
+use Rattle.std.specs.Prelude.{ℕ, ◌≡◌, List, Some}
+use Rattle.pg_base.specs.declared.id.FileId.{FileId}
 use Rattle.pg_event.specs.Event.{IsEvent}
 use Rattle.pg_event.specs.declared.event.Event.{Event}
-use Rattle.pg_node.specs.Quiet.{quiet_of}
-use Rattle.pg_node.specs.Run.{World, next, run}
-use Rattle.pg_trace.specs.Suited.{IsSuited, SuitsQuiet}
+use Rattle.pg_names.specs.Names.{HeldValue, known}
+use Rattle.pg_run.specs.Quiet.{quiet_of}
+use Rattle.pg_run.specs.Run.{next, run}
+use Rattle.pg_trace.specs.Suited.{IsSuited, SuitsPlace, SuitsQuiet}
 
--- whatever the servers hold, the entry of an event that a schedule may have suits
+-- after any events, the entry of one more that a schedule may have suits
 abbrev pub EntriesSuit : ℕ → Type 0
-EntriesSuit servers = (w : World) (event : Event) → IsEvent event → IsSuited (next servers w event).entry
+EntriesSuit servers = (events : List Event) (event : Event) → IsEvent event
+    → IsSuited (next servers (run servers events) event).entry
 
 -- after any events, what the run waits for suits
 abbrev pub AnswersSuit : ℕ → Type 0
 AnswersSuit servers = (events : List Event) → SuitsQuiet (quiet_of servers (run servers events))
+
+-- after any events, the place of whatever a server holds suits
+abbrev pub PlacesSuit : ℕ → Type 0
+PlacesSuit servers = (events : List Event) (server : ℕ) (file : FileId) (x : HeldValue)
+    → known ((run servers events).stores server).names file ≡ Some x → SuitsPlace file x.own.place

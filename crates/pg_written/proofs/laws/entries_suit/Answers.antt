@@ -1,5 +1,4 @@
-use Rattle.pg_written.proofs.Entries.{entries}
-use Rattle.pg_written.proofs.Waiting.{answers}
+use Rattle.pg_written.proofs.Waiting.{answers, entries, places}
 use Rattle.pg_written.proofs.laws.entries_suit.Goals as goal
 
 pub returns-clause-entries : goal.returns-clause-entries
@@ -7,3 +6,6 @@ returns-clause-entries c = entries
 
 pub returns-clause-answers : goal.returns-clause-answers
 returns-clause-answers c = answers
+
+pub returns-clause-places : goal.returns-clause-places
+returns-clause-places c = places

@@ -4,7 +4,7 @@ use Rattle.pg_trace.specs.Printed.{ArePrinted}
 use Rattle.pg_trace.specs.Suited.{IsSuited}
 use Rattle.pg_trace.specs.Text.{entry_lines}
 use Rattle.pg_world.specs.Played.{final}
-use Rattle.pg_node.specs.Run.{start}
+use Rattle.pg_run.specs.Run.{start}
 use Rattle.pg_world.proofs.Standing.{run_from-push}
 use Rattle.pangaea.proofs.journal.Replay.happen.Goals as goal
 
@@ -14,7 +14,7 @@ returns-in_ok-write_entry-in-Ok c =
     let p = a.world in
     let P : Entry → Type 0 = (λ e. ArePrinted (entry_lines a.number a.form e)) in
     let is = c.in-Ok.ensures.entry in
-    let suits = c.entries_suit.ensures.entries p.servers (final p) c.args.event c.requires in
+    let suits = c.entries_suit.ensures.entries p.servers p.events c.args.event c.requires in
     record {
       world = ap final c.in-Ok.ensures.state ∙ run_from-push p.servers (start p.servers) p.events c.args.event;
       going = search rules;

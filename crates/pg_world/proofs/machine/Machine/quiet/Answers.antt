@@ -7,15 +7,15 @@ use Rattle.pg_world.proofs.machine.Machine.quiet.Goals as goal
 pub returns-in-Some : goal.returns-in-Some
 returns-in-Some c = λ w h.
     ap (λ x. Waits (Message x)) c.summary.ensures
-    ∙ waits_message (length c.args.self.now.nodes.items) w c.args.self.now.bag c.in-Some.sent.now h.bag c.in-Some.ensures
+    ∙ waits_message (length c.args.self.now.servers.items) w c.args.self.now.bag c.in-Some.sent.now h.bag c.in-Some.ensures
 
 pub returns-in-Some-owed : goal.returns-in-Some-owed
 returns-in-Some-owed c = λ w h.
     let none = none_there c.args.self.now.bag (sym c.in-None.ensures) in
-    sym (waits_for (length c.args.self.now.nodes.items) w c.in-Some-owed.owing (sym h.bag ∙ none)
+    sym (waits_for (length c.args.self.now.servers.items) w c.in-Some-owed.owing (sym h.bag ∙ none)
     (sym (c.in-Some-owed.ensures w h)))
 
 pub returns-in-None-owed : goal.returns-in-None-owed
 returns-in-None-owed c = λ w h.
     let none = none_there c.args.self.now.bag (sym c.in-None.ensures) in
-    sym (waits_not (length c.args.self.now.nodes.items) w (sym h.bag ∙ none) (sym (c.in-None-owed.ensures w h)))
+    sym (waits_not (length c.args.self.now.servers.items) w (sym h.bag ∙ none) (sym (c.in-None-owed.ensures w h)))

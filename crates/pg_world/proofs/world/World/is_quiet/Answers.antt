@@ -1,11 +1,9 @@
-use Rattle.std.proofs.Common.{◌≡◌, ◌≤◌, ◌↔◌, subst, sym, ap, ◌∙◌, arith}
+use Rattle.std.proofs.Common.{◌≡◌, ◌↔◌, subst, sym, ap, ◌∙◌}
 use Rattle.pg_event.specs.declared.quiet.Quiet.{Quiet}
 use Rattle.pg_event.specs.declared.quiet.Quiet.TheVariants as told
-use Rattle.pg_node.specs.Quiet.{IsQuiet, quiet_of}
-use Rattle.pg_node.specs.Run.{run}
+use Rattle.pg_run.specs.Quiet.{IsQuiet, quiet_of}
+use Rattle.pg_run.specs.Run.{run}
 use Rattle.pg_world.specs.Played.{Played, final}
-use Rattle.pg_agreement.proofs.QuietAnswers.{quiet_is_told}
-use Rattle.pg_world.proofs.QuietAgree.{quiet_servers_agree}
 use Rattle.pg_world.proofs.world.World.is_quiet.Goals as goal
 
 -- what is answered is what is said of the run
@@ -21,10 +19,4 @@ pub returns-clause-quiet : goal.returns-clause-quiet
 returns-clause-quiet c =
     let p = c.args.self.now in
     let P : Quiet → Type 0 = (λ q. (q ≡ told.Quiet) ↔ IsQuiet p.servers (final p)) in
-    subst P (sym (returns-clause-answer c)) (quiet_is_told p.servers (final p))
-
-pub returns-clause-agree : goal.returns-clause-agree
-returns-clause-agree c quiet =
-    let p = c.args.self.now in
-    let is : IsQuiet p.servers (final p) = (quiet_is_told p.servers (final p)).0 (sym (returns-clause-answer c) ∙ quiet) in
-    quiet_servers_agree p.servers (let few : p.servers ≤ 64 = (let P : Played → Type 0 = (λ q. q.servers ≤ 64) in subst P c.self.view_is c.self.invariant.few) in omega arith) p.events is
+    subst P (sym (returns-clause-answer c)) (c.quiet_is_told.ensures p.servers (final p))

@@ -1,5 +1,5 @@
 use Rattle.std.proofs.Common.{sym, ap, subst, ◌∙◌}
-use Rattle.pg_node.specs.Run.{World, next, world_after, run, run_from, start}
+use Rattle.pg_run.specs.Run.{World, next, world_after, run, run_from, start}
 use Rattle.pg_world.specs.Stands.{Stands}
 use Rattle.pg_world.proofs.Standing.{run_from-push}
 use Rattle.pg_world.proofs.world.World.step.Goals as goal

@@ -1,0 +1,261 @@
+-- What a server holds of one file's content: the state of the versions that it took. A write, a
+-- version that comes, and another server's write keep it so.
+use Rattle.std.proofs.Common.{[], ℕ, ◌≡◌, ◌≢◌, ◌≤◌, Bool, true, false, cond, List, ◌∷◌, map, refl, sym, ap, subst, ◌∙◌, inl, inr, ◌↔◌, ◌⊎◌, arith}
+use Rattle.std.proofs.lemmas.Bool.{false≢true}
+use Rattle.pg_base.specs.declared.id.FileId.{FileId}
+use Rattle.pg_base.specs.declared.policy.Policy.{Policy}
+use Rattle.pg_base.specs.declared.stamp.Stamp.{Stamp}
+use Rattle.pg_base.specs.Version.{VersionValue, actor_of, stamp_of}
+use Rattle.pg_content.specs.Content.{Among, ContentValue, is_covered, joined_content, put_version, written}
+use Rattle.pg_content.specs.History.{IsAncestor, IsHistory, Made, maker, version_of}
+use Rattle.pg_content.specs.StandsFor.{StandsFor}
+use Rattle.pg_content.proofs.Standing.{stands_same}
+use Rattle.pg_content.proofs.StandsJoined.{stands_joined}
+use Rattle.pg_content.proofs.StandsWritten.{stands_later, stands_written}
+use Rattle.pg_run.specs.Journal.{with_ancestors}
+use Rattle.pg_replica.specs.Untouched.{policy_of}
+use Rattle.pg_store.specs.Store.{is_empty}
+use Rattle.pg_contents.proofs.Sets.{AreMembers, itself_taken, taken_is, taken_with, with_member, within_later}
+
+-- ---- policies
+
+-- the policy of a file's content: that of the file, and until a version comes, what an untouched
+-- replica has
+abbrev pub policy_in : Policy → FileId → List VersionValue → Policy
+policy_in p file [] = policy_of file
+policy_in p file (v ∷ vs) = p
+
+pub policy_headed : (p : Policy) (file : FileId) (vs : List VersionValue) (v : VersionValue)
+    → Among v vs → policy_in p file vs ≡ p
+policy_headed p file [] v l = absurd l
+policy_headed p file (w ∷ vs) v l = refl
+
+policy_none : (p q : Policy) (file : FileId) (vs : List VersionValue)
+    → ((v : VersionValue) → Among v vs → ⊥) → policy_in p file vs ≡ policy_in q file vs
+policy_none p q file [] none = refl
+policy_none p q file (v ∷ vs) none = absurd (none v (inl refl))
+
+-- ---- what stands for what was taken
+
+-- the heads stand for these versions with their ancestors; the server's own are among them
+pub record Stood (s : ℕ) (c : ContentValue) (h : List Made) (set : List Stamp) : Type 0 where
+  pub stands : StandsFor c h (with_ancestors h set)
+  pub own : (m : Made) → Among m h → m.stamp.server ≡ s → Among m.stamp (with_ancestors h set)
+
+-- and they have the file's policy
+pub record HoldsFile (s : ℕ) (file : FileId) (p : Policy) (c : ContentValue) (h : List Made)
+    (set : List Stamp) : Type 0 where
+  pub policy : c.policy ≡ policy_in p file c.heads
+  pub stood : Stood s c h set
+
+module _ {s : ℕ} {c : ContentValue} {h : List Made} {set : List Stamp} (f : Stood s c h set)
+    (are : AreMembers h set) where
+  module _ (m : Made) (k : IsHistory (m ∷ h)) where
+    abbrev before : List Stamp
+    before = with_ancestors h set
+
+    later_stands : StandsFor c (m ∷ h) before
+    later_stands = stands_later m h k c before f.stands
+
+    later_same : (t : Stamp) → Among t before ↔ Among t (with_ancestors (m ∷ h) set)
+    later_same = taken_is (m ∷ h) k before set later_stands.closed (itself_taken h k.1 set are)
+        (within_later m h set set (λ t l. l))
+
+    -- another server's write
+    pub stood_later : m.stamp.server ≢ s → Stood s c (m ∷ h) set
+    stood_later other = record {
+      stands = stands_same c (m ∷ h) before (with_ancestors (m ∷ h) set) later_same later_stands;
+      own = λ n l same. elim l [
+        | inl last ↦ absurd (other (ap (λ (x : Made). x.stamp.server) (sym last) ∙ same))
+        | inr earlier ↦ (later_same n.stamp).0 (f.own n earlier same)
+      ];
+    }
+
+    module _ (based : m.bases ≡ map stamp_of c.heads) where
+      abbrev now : ContentValue
+      now = written c (maker m) m.stamp m.ranges
+
+      now_stands : StandsFor now (m ∷ h) (m.stamp ∷ before)
+      now_stands = stands_written m h k c before f.stands based
+
+      now_same : (t : Stamp) → Among t (m.stamp ∷ before)
+          ↔ Among t (with_ancestors (m ∷ h) (m.stamp ∷ set))
+      now_same =
+          taken_is (m ∷ h) k (m.stamp ∷ before) (m.stamp ∷ set) now_stands.closed
+          (λ t l. elim l [
+            | inl last ↦ inl last
+            | inr earlier ↦ inr
+                (itself_taken h k.1 set are t earlier)
+          ])
+          (λ t l. elim l [
+            | inl last ↦ (m.stamp, inl refl, inl last)
+            | inr earlier ↦ within_later m h
+                set (m.stamp ∷ set) (λ x n. inr n) t earlier
+          ])
+
+      -- its own write, on all heads
+      pub stood_wrote : Stood s now (m ∷ h) (m.stamp ∷ set)
+      stood_wrote = record {
+        stands = stands_same now (m ∷ h) (m.stamp ∷ before) (with_ancestors (m ∷ h) (m.stamp ∷ set))
+            now_same now_stands;
+        own = λ n l same. elim l [
+          | inl last ↦ (now_same n.stamp).0 (inl (ap (λ (x : Made). x.stamp) last))
+          | inr earlier ↦ (now_same n.stamp).0 (inr (f.own n earlier same))
+        ];
+      }
+
+  module _ (k : IsHistory h) (m : Made) (is : Among m h) where
+    -- a version that comes
+    pub stood_came : Stood s (joined_content c (version_of c.policy h m)) h (m.stamp ∷ set)
+    stood_came = record {
+      stands = stands_joined h k c (with_ancestors h set)
+          (with_ancestors h (m.stamp ∷ set)) f.stands m is (taken_with h k set are m is);
+      own = λ n l same. (taken_with h k set are m is n.stamp).1 (inl (f.own n l same));
+    }
+
+-- a version of a history, with the vector and the body that it has there under this policy
+abbrev pub IsMadeOf : Policy → List Made → VersionValue → Type 0
+IsMadeOf p h v = (m : Made) × Among m h × (v ≡ version_of p h m)
+
+-- ---- one file
+
+module _ {s : ℕ} {file : FileId} {p : Policy} {c : ContentValue} {h : List Made}
+    {set : List Stamp} where
+  module _ (f : HoldsFile s file p c h set) where
+    -- whoever has a head has the policy of the file
+    pub headed : (v : VersionValue) → Among v c.heads → c.policy ≡ p
+    headed v l = f.policy ∙ policy_headed p file c.heads v l
+
+    -- each head is a version of the history of the file, whole
+    pub held_version : (v : VersionValue) → Among v c.heads → IsMadeOf p h v
+    held_version v l =
+        let r = f.stood.stands.heads v l in
+        (r.made, r.member, r.version ∙ ap (λ q. version_of q h r.made) (headed v l))
+
+    -- another policy, where the file has no version yet
+    pub no_version : h ≡ [] → (v : VersionValue) → Among v c.heads → ⊥
+    no_version none v l =
+        let r = f.stood.stands.heads v l in subst (λ x. Among r.made x) none r.member
+
+    pub file_policy : (q : Policy) → (q ≡ p) ⊎ (h ≡ []) → HoldsFile s file q c h set
+    file_policy q (inl same) = record {
+      policy = f.policy ∙ ap (λ x. policy_in x file c.heads) (sym same);
+      stood = f.stood;
+    }
+    file_policy q (inr none) = record {
+      policy = f.policy ∙ policy_none p q file c.heads (no_version none);
+      stood = f.stood;
+    }
+
+    pub file_later : AreMembers h set → (m : Made) → IsHistory (m ∷ h) → m.stamp.server ≢ s
+        → HoldsFile s file p c (m ∷ h) set
+    file_later are m k other =
+        record { policy = f.policy; stood = stood_later f.stood are m k other }
+
+-- a content with the policy of its file, as a write or a version finds it
+module _ {s : ℕ} {p : Policy} {c : ContentValue} {h : List Made} {set : List Stamp}
+    (policy : c.policy ≡ p) (f : Stood s c h set) (are : AreMembers h set) where
+  pub file_wrote : (file : FileId) (m : Made) → IsHistory (m ∷ h)
+      → m.bases ≡ map stamp_of c.heads
+      → HoldsFile s file p (written c (maker m) m.stamp m.ranges) (m ∷ h) (m.stamp ∷ set)
+  file_wrote file m k based = record { policy = policy; stood = stood_wrote f are m k based }
+
+  module _ (k : IsHistory h) (m : Made) (is : Among m h) where
+    came_by : (v : VersionValue) → v ≡ version_of c.policy h m
+        → Stood s (joined_content c v) h (v.head.stamp ∷ set)
+    came_by v e =
+        let P : VersionValue → Type 0 =
+        (λ x. Stood s (joined_content c x) h (x.head.stamp ∷ set)) in
+        subst P (sym e) (stood_came f are k m is)
+
+    same_version : (v : VersionValue) → v ≡ version_of p h m → v ≡ version_of c.policy h m
+    same_version v e = e ∙ ap (λ q. version_of q h m) (sym policy)
+
+    came_members : (v : VersionValue) → v ≡ version_of p h m
+        → AreMembers h (v.head.stamp ∷ set)
+    came_members v e =
+        subst (λ t. AreMembers h (t ∷ set)) (sym (ap (λ (x : VersionValue). x.head.stamp) e))
+        (with_member h k set are m is)
+
+    -- the version is among what is taken then
+    came_taken : (v : VersionValue) → v ≡ version_of p h m
+        → Among v.head.stamp (with_ancestors h (v.head.stamp ∷ set))
+    came_taken v e =
+        itself_taken h k (v.head.stamp ∷ set) (came_members v e) v.head.stamp (inl refl)
+
+    pub file_came : (file : FileId) (v : VersionValue) → v ≡ version_of p h m
+        → HoldsFile s file p (joined_content c v) h (v.head.stamp ∷ set)
+    file_came file v e =
+        let g = came_by v (same_version v e) in
+        let a = g.stands.all v.head.stamp (came_taken v e) in
+        record {
+          policy = policy ∙ sym (policy_headed p file (joined_content c v).heads a.0 a.1);
+          stood = g;
+        }
+
+    -- a version that some head covers was taken before, so its time is no news
+    pub covered_upto : (last : ℕ) → ((t u : Stamp) → IsAncestor h t u → t.time ≤ u.time)
+        → ((w : VersionValue) → Among w c.heads → w.head.stamp.time ≤ last)
+        → (v : VersionValue) → v ≡ version_of p h m
+        → is_covered c.heads (actor_of v.head) v.head.number ≡ true → v.head.stamp.time ≤ last
+    covered_upto last order upto v e covered =
+        let same : joined_content c v ≡ c =
+        ap (λ t. record { policy = c.policy; heads = cond t c.heads (put_version c.heads v) })
+        covered in
+        let P : ContentValue → Type 0 = (λ x. Stood s x h (v.head.stamp ∷ set)) in
+        let g = subst P same (came_by v (same_version v e)) in
+        let x = g.stands.all v.head.stamp (came_taken v e) in
+        let there = upto x.0 x.1 in
+        elim x.2 [
+          | inl itself ↦ (let Q : Stamp → Type 0 = (λ t. t.time ≤ last) in
+              subst Q (sym itself) there)
+          | inr further ↦ (let earlier = order v.head.stamp x.0.head.stamp further in
+              omega arith)
+        ]
+
+-- ---- a policy comes with the first version
+
+abbrev pub begun_with : Policy → ContentValue → ContentValue
+begun_with policy c = cond (is_empty c.heads) (record { policy = policy; heads = [] }) c
+
+no_heads : (vs : List VersionValue) → is_empty vs ≡ true → (v : VersionValue) → Among v vs → ⊥
+no_heads [] e v l = l
+no_heads (w ∷ vs) e v l = absurd (false≢true e)
+
+pub a_head : (vs : List VersionValue) → is_empty vs ≡ false → (v : VersionValue) × Among v vs
+a_head [] e = absurd (let f : true ≡ false = e in cc)
+a_head (v ∷ vs) e = (v, inl refl)
+
+-- a content without heads stands for nothing, whatever its policy
+pub stood_begun : {s : ℕ} {c : ContentValue} {h : List Made} {set : List Stamp}
+    → Stood s c h set → ((v : VersionValue) → Among v c.heads → ⊥) → (policy : Policy)
+    → Stood s (record { policy = policy; heads = [] }) h set
+stood_begun f none policy = record {
+  stands = record {
+    closed = f.stands.closed;
+    order = tt;
+    heads = λ v l. absurd l;
+    all = λ t l. let a = f.stands.all t l in absurd (none a.0 a.1);
+  };
+  own = f.own;
+}
+
+pub record IsReady (s : ℕ) (p : Policy) (c : ContentValue) (h : List Made) (set : List Stamp)
+    : Type 0 where
+  pub policy : c.policy ≡ p
+  pub stood : Stood s c h set
+
+ready_by : {s : ℕ} {file : FileId} {p : Policy} {c : ContentValue} {h : List Made}
+    {set : List Stamp} → HoldsFile s file p c h set → (policy : Policy) → policy ≡ p → (t : Bool)
+    → is_empty c.heads ≡ t
+    → IsReady s p (cond t (record { policy = policy; heads = [] }) c) h set
+ready_by {c = c} f policy same true e =
+    record { policy = same; stood = stood_begun f.stood (no_heads c.heads e) policy }
+ready_by {c = c} f policy same false e =
+    let a = a_head c.heads e in record { policy = headed f a.0 a.1; stood = f.stood }
+
+-- so a version may come then
+pub ready : {s : ℕ} {file : FileId} {p : Policy} {c : ContentValue} {h : List Made}
+    {set : List Stamp} → HoldsFile s file p c h set → (policy : Policy) → policy ≡ p
+    → IsReady s p (begun_with policy c) h set
+ready {c = c} f policy same = ready_by f policy same (is_empty c.heads) refl

@@ -1,0 +1,149 @@
+-- The house rules make places of directories alone.
+use Rattle.std.proofs.Common.{[], ℕ, drop, length, ◌≡◌, ◌++◌, ◌&&◌, Bool, true, false, List, ◌∷◌, Option, None, Some, All, refl, sym, ap, subst, ◌∙◌, inl, inr}
+use Rattle.std.specs.Map.{keys_of}
+use Rattle.std.proofs.Math.Seq.{drop-append_seam}
+use Rattle.std.proofs.lemmas.List.{append-nil, append_assoc}
+use Rattle.std.proofs.lemmas.List.Elements.{All-append, All-cons, All-nil}
+use Rattle.std.proofs.lemmas.Option.{none-some}
+use Rattle.pg_base.specs.declared.id.FileId.{FileId}
+use Rattle.pg_edges.specs.declared.key.Key.{Key}
+use Rattle.pg_register.specs.declared.place.Place.{Place}
+use Rattle.pg_register.specs.Place.{root, tilde_name}
+use Rattle.pg_msg.specs.declared.update.Update.{Update}
+use Rattle.pg_msg.specs.declared.update.Update.TheVariants as update
+use Rattle.pg_msg.specs.declared.work.Work.{Work}
+use Rattle.pg_msg.specs.Numbers.{is_in_range}
+use Rattle.pg_msg.specs.Sent.{cell_key}
+use Rattle.pg_msg.specs.Work.{new_work}
+use Rattle.pg_call.specs.declared.refusal.Refusal.TheVariants.{ClockEnd}
+use Rattle.pg_call.specs.declared.reply.Reply.{Reply}
+use Rattle.pg_call.specs.declared.reply.Reply.TheVariants as reply
+use Rattle.pg_names.specs.declared.own.Own.{Own}
+use Rattle.pg_names.specs.Names.{directories, is_dir, own_at}
+use Rattle.pg_house.specs.Cycles.{break_first, first_moving, moved}
+use Rattle.pg_house.specs.Facts.{is_among}
+use Rattle.pg_house.specs.House.{house, movable, with_parents}
+use Rattle.pg_house.specs.Passing.{greatest, is_held_back, own_taken, pass, pass_all, pass_own, spread}
+use Rattle.pg_house.specs.Placing.{drawn, live_place, made_at, place_at, placed}
+use Rattle.pg_house.specs.Returning.{first_returning, is_returning, return_first, returned}
+use Rattle.pg_house.specs.Work.{State, state_of}
+use Rattle.pg_house.proofs.AllClimb.{IsDeep, member_deep, moving_member}
+use Rattle.pg_house.proofs.Counting.{find_found, kept_dir}
+use Rattle.pg_house.proofs.NoCycles.{inner_parts, some_dirs}
+use Rattle.pg_house.proofs.Repeating.{repeated_keeps}
+use Rattle.pg_store.specs.declared.store.Store.{Store}
+use Rattle.pg_store.specs.Store.{is_in_time}
+use Rattle.pg_cells.specs.Cells.{is_news, with_answer, with_news}
+use Rattle.pg_cells.specs.Done.{Done, idle}
+use Rattle.pg_cells.specs.Ticks.{tick}
+use Rattle.pg_calls.specs.Calls.{do_call}
+use Rattle.pg_server.specs.declared.input.Input.{Input}
+use Rattle.pg_server.specs.declared.input.Input.TheVariants as input
+use Rattle.pg_server.specs.Local.{Effect, closed, finished, receive}
+use Rattle.pg_promises.proofs.Choices.{chosen}
+use Rattle.pg_run.specs.Run.{first_made, made_behind}
+use Rattle.pg_gate.proofs.HouseDeaths.{spread_made, taking_made}
+use Rattle.pg_order.proofs.Received.{received}
+
+-- where an update is a place, it is one of a directory
+abbrev pub IsOfDir : Update → Type 0
+IsOfDir u = (f : FileId) (p : Place) → u ≡ update.Place f p → is_dir f ≡ true
+
+-- the rules made these, of directories
+pub record Makes (base : List Update) (st : State) : Type 0 where
+  pub news : List Update
+  pub is : st.work.made ≡ base ++ news
+  pub dirs : All IsOfDir news
+
+pass_made : (st : State) (ds : List FileId) (f : FileId) (o : Option Own) → (pass_own st ds f o).work.made ≡ st.work.made
+pass_made st ds f None = refl
+pass_made st ds f (Some own) =
+    let top = greatest st.names f own ds in
+    let back = is_held_back st.names.removed f own top in
+    taking_made (spread st f own top back ds) f own (own_taken own top back) ∙ spread_made st f own top back ds
+
+same_file_of : (f g : FileId) (p q : Place) → update.Place f p ≡ update.Place g q → f ≡ g
+same_file_of f g p q h = cc
+
+module _ (base : List Update) where
+  pass_makes : (st : State) (ds : List FileId) (f : FileId) → Makes base st → Makes base (pass st ds f)
+  pass_makes st ds f k = record { news = k.news; is = pass_made st ds f (own_at st.names f) ∙ k.is; dirs = k.dirs }
+
+  all_make : (st : State) (ds fs : List FileId) → Makes base st → Makes base (pass_all st ds fs)
+  all_make st ds [] k = k
+  all_make st ds (f ∷ fs) k = all_make (pass st ds f) ds fs (pass_makes st ds f k)
+
+  placed_makes : (moment : ℕ) (ds : List FileId) (st : State) (f q : FileId) (name : List ℕ) → is_dir f ≡ true → Makes base st → Makes base (placed moment ds st f q name)
+  placed_makes moment ds st f q name dir k =
+      let new = live_place (drawn moment st.names) q name in
+      let u = update.Place f new in
+      pass_makes (made_at st f new) ds f (record {
+        news = k.news ++ u ∷ [];
+        is = ap (λ us. us ++ u ∷ []) k.is ∙ append_assoc base k.news (u ∷ []);
+        dirs = All-append IsOfDir k.news (u ∷ []) k.dirs (All-cons IsOfDir u [] (λ g p same. ap is_dir (sym (same_file_of f g new p same)) ∙ dir) (All-nil IsOfDir));
+      })
+
+  module _ (ds : List FileId) (dirs : (d : FileId) → is_among d ds ≡ true → is_dir d ≡ true) where
+    returned_makes : (moment : ℕ) (st : State) (o : Option FileId) → first_returning st.names ds ≡ o → Makes base st → Makes base (returned moment ds st o)
+    returned_makes moment st None h k = k
+    returned_makes moment st (Some d) h k =
+        placed_makes moment ds st d (place_at st.names d).parent (place_at st.names d).name (dirs d (find_found (is_returning st.names) ds d h).1) k
+
+    moved_makes : (moment : ℕ) (st : State) (o : Option FileId) → first_moving st.names (length ds) None ds ≡ o → Makes base st → Makes base (moved moment ds st o)
+    moved_makes moment st None h k = k
+    moved_makes moment st (Some d) h k =
+        elim (moving_member st.names (length ds) None ds d h) [
+          | inl never ↦ absurd (none-some d never)
+          | inr m ↦
+              let deep : IsDeep st.names d = subst (IsDeep st.names) m.2 (member_deep st.names (length ds) m.0 (some_dirs moment ds st.names (length ds) ds d h) m.1) in
+              placed_makes moment ds st d root (tilde_name d) (inner_parts st.names d deep.0).dir k
+        ]
+
+  house_makes : (moment : ℕ) (st : State) → st.work.made ≡ base → Makes base (house moment st)
+  house_makes moment st is =
+      let full = state_of (with_parents st.names) st.work in
+      let ds = directories full.names in
+      let dirs = kept_dir is_dir (keys_of full.names.held) in
+      let begins : Makes base full = record { news = []; is = is ∙ sym (append-nil base); dirs = All-nil IsOfDir } in
+      repeated_keeps (Makes base) (break_first moment ds) (λ t q. moved_makes ds dirs moment t (first_moving t.names (length ds) None ds) refl q) (length ds) _
+      (repeated_keeps (Makes base) (return_first moment ds) (λ t q. returned_makes ds dirs moment t (first_returning t.names ds) refl q) (length ds) _ (all_make full ds (movable full.names) begins))
+
+-- ---- in an event
+
+module _ (a : Store) where
+  abbrev DirsBehind : Input → Effect → Type 0
+  DirsBehind asked done = All IsOfDir (drop (length (first_made a asked)) done.out.made)
+
+  closed_dirs : (asked : Input) (answer : Option Reply) (d : Done) → d.work.made ≡ first_made a asked → DirsBehind asked (closed answer d)
+  closed_dirs asked answer d is =
+      let m = house_makes (first_made a asked) d.work.now (state_of d.store.names d.work) is in
+      subst (All IsOfDir) (sym (ap (drop (length (first_made a asked))) m.is ∙ drop-append_seam (first_made a asked) m.news)) m.dirs
+
+  finished_dirs : (asked : Input) (answer : Option Reply) (d : Done) → d.work.made ≡ first_made a asked → DirsBehind asked (finished answer d)
+  finished_dirs asked answer d is =
+      let base = first_made a asked in
+      let none : drop (length base) d.work.made ≡ [] = ap (drop (length base)) (is ∙ sym (append-nil base)) ∙ drop-append_seam base [] in
+      subst (All IsOfDir) (sym none) (All-nil IsOfDir)
+
+  news_made : (news : Bool) (w : Work) (f : FileId) (k : Key) → (with_news news w f k).made ≡ w.made
+  news_made true w f k = refl
+  news_made false w f k = refl
+
+  -- WHAT THE HOUSE RULES MADE in an event
+  pub made_dirs : (asked : Input) → All IsOfDir (made_behind a asked)
+  made_dirs (input.Call moment c) =
+      let asked = input.Call moment c in
+      let b = do_call a c (new_work moment 0) in
+      chosen (DirsBehind asked) (is_in_time a) (closed (Some b.reply) (idle b.store b.work)) (finished (Some b.reply) (idle b.store b.work))
+      (closed_dirs asked (Some b.reply) (idle b.store b.work) refl) (finished_dirs asked (Some b.reply) (idle b.store b.work) refl)
+  made_dirs (input.Tick moment word) =
+      let asked = input.Tick moment word in
+      let work = tick a (new_work moment 0) in
+      chosen (DirsBehind asked) (is_in_time a) (closed (Some reply.Done) (idle a work)) (finished (Some (reply.Refused ClockEnd)) (idle a (new_work moment 0)))
+      (closed_dirs asked (Some reply.Done) (idle a work) refl) (finished_dirs asked (Some (reply.Refused ClockEnd)) (idle a (new_work moment 0)) refl)
+  made_dirs (input.Arrival packet) =
+      let asked = input.Arrival packet in
+      let work = new_work 0 packet.from in
+      let d = receive a packet.message work in
+      let none = received a work (λ (x : Done). x.work.made ≡ []) packet.message (λ ends tag c is fit. news_made (is_news a ends.file c) (with_answer a ends tag c work) ends.file (cell_key c)) (λ ends q tag. refl) refl in
+      chosen (DirsBehind asked) (is_in_time a && is_in_range packet.message) (closed None d) (finished None (idle a work)) (closed_dirs asked None d none) (finished_dirs asked None (idle a work) refl)

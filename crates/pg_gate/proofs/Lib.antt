@@ -1,0 +1,12 @@
+pub mod HouseDeaths
+pub mod Deaths
+pub mod Causes
+pub mod Gating
+pub mod Wholes
+pub mod Lasting
+pub mod Sends
+pub mod Gated
+pub mod Begun
+pub mod Returned
+pub mod HouseDirs
+pub mod Justified

@@ -1,0 +1,6 @@
+pub mod Sends
+pub mod Calls
+pub mod Effects
+pub mod Coming
+pub mod Histories
+pub mod Runs

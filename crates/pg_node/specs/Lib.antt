@@ -1,5 +1,0 @@
-pub mod Local
-pub mod Journal
-pub mod Run
-pub mod Quiet
-pub mod Laws

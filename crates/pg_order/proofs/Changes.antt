@@ -1,0 +1,89 @@
+-- What a change of one thing leaves of what is held.
+use Rattle.std.proofs.Common.{◌≡◌, Bool, true, false, cond, Option, None, Some, refl, sym, ap, subst, ◌∙◌, inl, inr, ◌⊎◌}
+use Rattle.std.specs.List.Sorted.{IsStrictlySortedBy}
+use Rattle.std.specs.Map.{keys_of}
+use Rattle.std.proofs.lemmas.Option.{same_Some}
+use Rattle.pg_base.specs.declared.id.FileId.{FileId}
+use Rattle.pg_base.specs.Id.{file_cmp, is_same_file}
+use Rattle.pg_base.proofs.Maps.{lookup-insert_entry}
+use Rattle.pg_base.proofs.Orders.{file_total, is_same_file-true}
+use Rattle.pg_entries.specs.declared.entry.Entry.{Entry}
+use Rattle.pg_names.specs.declared.own.Own.{Own}
+use Rattle.pg_names.specs.Names.{HeldValue, NamesValue, blank, cell_at, changed, held_with, hold, known, own_at, own_of, set_entry, set_own, update, with_own}
+use Rattle.pg_names.proofs.Lookups.{entry_other_child, entry_other_dir, entry_same, known_absent, known_held, own_back, own_other, own_same}
+use Rattle.pg_names.specs.Names.{with_entry}
+use Rattle.pg_house.specs.Facts.{AreOrdered, IsHeld}
+use Rattle.pg_promises.proofs.Growth.{OneOwn}
+
+-- ---- the own place and flags of one thing change
+
+-- what is held stays held
+pub one_stays : (s t : NamesValue) (f : FileId) (b c : Own) → OneOwn s t f b c → (q : FileId) → IsHeld s q → IsHeld t q
+one_stays s t f b c k q h = at (is_same_file f q) refl
+  where
+    at : (u : Bool) → is_same_file f q ≡ u → IsHeld t q
+    at true e = (c, ap (own_at t) (sym (is_same_file-true f q e)) ∙ k.is)
+    at false e = (h.0, k.others q e ∙ h.1)
+
+-- what holds of it and of all others before holds of all
+pub one_own : (P : FileId → Own → Type 0) (s t : NamesValue) (f : FileId) (b c : Own) → OneOwn s t f b c → P f c → ((q : FileId) (o : Own) → own_at s q ≡ Some o → P q o) → (q : FileId) (o : Own) → own_at t q ≡ Some o → P q o
+one_own P s t f b c k here there q o h = at (is_same_file f q) refl
+  where
+    at : (u : Bool) → is_same_file f q ≡ u → P q o
+    at true e =
+        let one : f ≡ q = is_same_file-true f q e in
+        let is : c ≡ o = same_Some c o (sym k.is ∙ ap (own_at t) one ∙ h) in
+        let Q : FileId → Type 0 = λ x. P x o in
+        subst Q one (subst (P f) is here)
+    at false e = there q o (sym (k.others q e) ∙ h)
+
+-- ---- a write
+
+-- of what is held behind a write, it is what was written or was held before
+pub own_written : (s : NamesValue) (f : FileId) (c : Own) (q : FileId) (b : Own) → own_at (set_own s f c) q ≡ Some b → (own_at s q ≡ Some b) ⊎ ((q ≡ f) × (b ≡ c))
+own_written s f c q b h = at (is_same_file f q) refl
+  where
+    at : (u : Bool) → is_same_file f q ≡ u → (own_at s q ≡ Some b) ⊎ ((q ≡ f) × (b ≡ c))
+    at false e = inl (sym (own_other s f c q e) ∙ h)
+    at true e =
+        let one : f ≡ q = is_same_file-true f q e in
+        let was = own_back s f (with_own c) q b h in
+        let here : own_at s f ≡ Some was.0 = ap (own_at s) one ∙ was.1 in
+        inr (sym one, same_Some b c (sym h ∙ ap (own_at (set_own s f c)) (sym one) ∙ own_same s f was.0 c here))
+
+-- and of the cells
+pub cell_written : (s : NamesValue) (d : FileId) (e : Entry) (q g : FileId) (c : Entry) → cell_at (set_entry s d e) q g ≡ Some c → (cell_at s q g ≡ Some c) ⊎ ((g ≡ e.child) × (c ≡ e))
+cell_written s d e q g c h = at (is_same_file d q) (is_same_file g e.child) (own_at s d) refl refl refl
+  where
+    at : (t u : Bool) (o : Option Own) → is_same_file d q ≡ t → is_same_file g e.child ≡ u → own_at s d ≡ o → (cell_at s q g ≡ Some c) ⊎ ((g ≡ e.child) × (c ≡ e))
+    at false u o apart i j = inl (sym (entry_other_dir s d e q g apart) ∙ h)
+    at true false o same apart j = inl (sym (entry_other_child s d e q g apart) ∙ h)
+    at true true None same child none = inl (ap (λ (x : NamesValue). cell_at x q g) (sym (known_absent s d (with_entry e) none)) ∙ h)
+    at true true (Some b) same child held =
+        let one : d ≡ q = is_same_file-true d q same in
+        let two : g ≡ e.child = is_same_file-true g e.child child in
+        inr (two, same_Some c e (sym h ∙ ap (cell_at (set_entry s d e) q) two ∙ ap (λ (x : FileId). cell_at (set_entry s d e) x e.child) (sym one) ∙ entry_same s d b e held))
+
+-- ---- one thing more is held
+
+hold_other_by : (s : NamesValue) (f q : FileId) (o : Option HeldValue) → is_same_file q f ≡ false → known (held_with s f o) q ≡ known s q
+hold_other_by s f q None apart = lookup-insert_entry file_cmp file_total q f (blank f) s.held ∙ ap (λ t. cond t (Some (blank f)) (known s q)) apart
+hold_other_by s f q (Some x) apart = refl
+
+-- any other thing is held as it was
+pub hold_other : (s : NamesValue) (f q : FileId) → is_same_file q f ≡ false → own_at (hold s f) q ≡ own_at s q
+hold_other s f q apart = ap own_of (hold_other_by s f q (known s f) apart)
+
+-- ---- entries stay in order
+
+ordered_at : (s : NamesValue) (d : FileId) (x y : HeldValue) → known s d ≡ Some x → AreOrdered s → IsStrictlySortedBy file_cmp (keys_of y.entries) → (q : FileId) (z : HeldValue) (t : Bool) → cond t (Some y) (known s q) ≡ Some z → IsStrictlySortedBy file_cmp (keys_of z.entries)
+ordered_at s d x y h ordered sorted q z false g = ordered q z g
+ordered_at s d x y h ordered sorted q z true g = subst (λ (w : HeldValue). IsStrictlySortedBy file_cmp (keys_of w.entries)) (same_Some y z g) sorted
+
+ordered_by : (s : NamesValue) (d : FileId) (change : HeldValue → HeldValue) → ((x : HeldValue) → IsStrictlySortedBy file_cmp (keys_of x.entries) → IsStrictlySortedBy file_cmp (keys_of (change x).entries)) → (o : Option HeldValue) → known s d ≡ o → AreOrdered s → AreOrdered (changed s d change o)
+ordered_by s d change keeps None h ordered = ordered
+ordered_by s d change keeps (Some x) h ordered = λ q z g. ordered_at s d x (change x) h ordered (keeps x (ordered d x h)) q z (is_same_file d q) (sym (known_held s d x (change x) q h) ∙ g)
+
+-- where one directory changes and its own do
+pub ordered_update : (s : NamesValue) (d : FileId) (change : HeldValue → HeldValue) → ((x : HeldValue) → IsStrictlySortedBy file_cmp (keys_of x.entries) → IsStrictlySortedBy file_cmp (keys_of (change x).entries)) → AreOrdered s → AreOrdered (update s d change)
+ordered_update s d change keeps ordered = ordered_by s d change keeps (known s d) refl ordered

@@ -1,0 +1,17 @@
+pub mod Types
+pub mod Changes
+pub mod Sounding
+pub mod Found
+pub mod Older
+pub mod Called
+pub mod Received
+pub mod Settled
+pub mod Acting
+pub mod HouseSays
+pub mod StoreSays
+pub mod Sent
+pub mod Said
+pub mod Naming
+pub mod Named
+pub mod Quiet
+pub mod Tree

@@ -1,0 +1,4 @@
+pub mod Sound
+pub mod Saying
+pub mod Named
+pub mod Laws

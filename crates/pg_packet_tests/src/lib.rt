@@ -1,0 +1,5 @@
+//! Tests of packets.
+#![tactic(auto)]
+
+#[cfg(test)]
+mod datagram;

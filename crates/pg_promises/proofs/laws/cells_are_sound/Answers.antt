@@ -1,0 +1,5 @@
+use Rattle.pg_promises.proofs.UpTo.{is_sound}
+use Rattle.pg_promises.proofs.laws.cells_are_sound.Goals as goal
+
+pub returns : goal.returns
+returns c = is_sound

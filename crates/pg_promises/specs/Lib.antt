@@ -1,0 +1,6 @@
+pub mod UpTo
+pub mod Names
+pub mod Histories
+pub mod Whole
+pub mod Seen
+pub mod Laws

@@ -1,0 +1,5 @@
+pub mod Across
+pub mod Alike
+pub mod Agreement
+pub mod Servers
+pub mod Names

@@ -1,0 +1,19 @@
+-- What holds wherever a run is quiet: statements.
+use Rattle.std.specs.Prelude.{ℕ, ◌≡◌}
+use Rattle.pg_base.specs.declared.id.FileId.{FileId}
+use Rattle.pg_names.specs.Names.{cell_at, own_or_blank}
+use Rattle.pg_store.specs.declared.store.Store.{Store}
+use Rattle.pg_store.specs.Store.{content_of}
+use Rattle.pg_run.specs.Laws.{AtEach, WhereQuiet}
+
+-- two servers hold the same of a thing: place and flags, entries and content
+pub record HoldTheSame (a b : Store) (file : FileId) : Type 0 where
+  pub own : own_or_blank a.names file ≡ own_or_blank b.names file
+  pub entries : (child : FileId) → cell_at a.names file child ≡ cell_at b.names file child
+  pub content : content_of a file ≡ content_of b file
+
+-- AGREEMENT WHEN QUIET: wherever no message is under way and nothing is owed, all servers hold the
+-- same of every thing
+abbrev pub QuietStoresAgree : ℕ → Type 0
+QuietStoresAgree servers = WhereQuiet servers (λ w. (file : FileId)
+    → AtEach servers (λ s. AtEach servers (λ t. HoldTheSame (w.stores s) (w.stores t) file)))

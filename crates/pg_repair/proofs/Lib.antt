@@ -1,2 +1,0 @@
-mod Unacknowledged
-pub mod Bridge

@@ -1,0 +1,11 @@
+pub mod Lists
+pub mod Bags
+pub mod QuietAnswers
+pub mod Makes
+pub mod Knowing
+pub mod Coming
+pub mod Pigeons
+pub mod StillRules
+mod Rows
+pub mod OwedOrder
+pub mod Ticks

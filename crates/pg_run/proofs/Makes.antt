@@ -1,0 +1,140 @@
+-- What is made in an event: first what its first effect made, then what the house rules made.
+use Rattle.std.proofs.Common.{◌≡◌, ℕ, zero, suc, Bool, not, List, [], ◌∷◌, ◌++◌, length, Option, None, Some, refl, sym, ap, ◌∙◌}
+use Rattle.std.specs.Prelude.{drop}
+use Rattle.std.proofs.Math.Seq.{drop-append_seam}
+use Rattle.std.proofs.lemmas.List.{append-nil, append_assoc}
+use Rattle.pg_base.specs.declared.id.FileId.{FileId}
+use Rattle.pg_register.specs.declared.flag.Flag.{Flag}
+use Rattle.pg_register.specs.Flag.{flag_of}
+use Rattle.pg_register.specs.Place.{root, tilde_name}
+use Rattle.pg_edges.specs.declared.key.Key.{Key}
+use Rattle.pg_edges.specs.declared.key.Key.TheVariants as key
+use Rattle.pg_msg.specs.declared.update.Update.{Update}
+use Rattle.pg_msg.specs.declared.update.Update.TheVariants as update
+use Rattle.pg_msg.specs.declared.work.Work.{Work}
+use Rattle.pg_msg.specs.Work.{new_work, with_touched}
+use Rattle.pg_names.specs.declared.own.Own.{Own}
+use Rattle.pg_names.specs.Names.{directories, own_at}
+use Rattle.pg_names.specs.Same.{is_same_own, is_same_place}
+use Rattle.pg_house.specs.Work.{State, state_of, touched}
+use Rattle.pg_house.specs.Passing.{flags_touched, gets, given, greatest, is_held_back, is_other_flag, offered, own_taken, pass, pass_own, pass_all, spread, taking, took}
+use Rattle.pg_house.specs.Placing.{drawn, live_place, made_at, place_at, placed, repeated}
+use Rattle.pg_house.specs.Returning.{first_returning, return_first, returned}
+use Rattle.pg_house.specs.Cycles.{break_first, first_moving, moved}
+use Rattle.pg_house.specs.House.{house, movable, with_parents}
+use Rattle.pg_house.proofs.Truths.{chosen}
+use Rattle.pg_store.specs.declared.store.Store.{Store}
+use Rattle.pg_store.specs.Store.{is_in_time}
+use Rattle.pg_cells.specs.Done.{idle}
+use Rattle.pg_calls.specs.Calls.{do_call}
+use Rattle.pg_server.specs.declared.input.Input.{Input}
+use Rattle.pg_server.specs.declared.input.Input.TheVariants as input
+use Rattle.pg_server.specs.Local.{Effect, closed, effect, finished}
+use Rattle.pg_run.specs.Run.{first_made}
+use Rattle.pg_run.specs.Came.{IsMadeInParts}
+
+-- ---- a list goes on from another
+
+abbrev IsFront : List Update → List Update → Type 0
+IsFront xs ys = (us : List Update) × (ys ≡ xs ++ us)
+
+front_same : (xs ys : List Update) → ys ≡ xs → IsFront xs ys
+front_same xs ys e = ([], e ∙ sym (append-nil xs))
+
+front_then : (xs ys zs : List Update) → IsFront xs ys → IsFront ys zs → IsFront xs zs
+front_then xs ys zs f g = (f.0 ++ g.0, g.1 ∙ ap (λ l. l ++ g.0) f.1 ∙ append_assoc xs f.0 g.0)
+
+rest_of : (xs ys : List Update) → IsFront xs ys → ys ≡ xs ++ drop (length xs) ys
+rest_of xs ys f = f.1 ∙ ap (λ l. xs ++ l) (sym (ap (drop (length xs)) f.1 ∙ drop-append_seam xs f.0))
+
+-- ---- passing makes nothing
+
+touched_made : (work : Work) (f : FileId) (k : Key) (t : Bool) → (touched work f k t).made ≡ work.made
+touched_made work f k t = chosen (λ (w : Work). w.made ≡ work.made) t (with_touched work f k) work refl refl
+
+flags_made : (work : Work) (f : FileId) (held flags : List Flag) → (flags_touched work f held flags).made ≡ work.made
+flags_made work f held [] = refl
+flags_made work f held (g ∷ gs) =
+    let other = is_other_flag (flag_of held g.server) g in
+    flags_made (touched work f (key.Flag g.server) other) f held gs ∙ touched_made work f (key.Flag g.server) other
+
+spread_made : (st : State) (f : FileId) (own top : Own) (back : Bool) (ds : List FileId)
+    → (spread st f own top back ds).work.made ≡ st.work.made
+spread_made st f own top back [] = refl
+spread_made st f own top back (d ∷ ds) =
+    spread_made (offered st f own top back d) f own top back ds
+    ∙ chosen (λ (s : State). s.work.made ≡ st.work.made) (gets st.names f own top back d) (given st f top d) st refl refl
+
+taking_made : (st : State) (f : FileId) (own taken : Own) → (taking st f own taken).work.made ≡ st.work.made
+taking_made st f own taken =
+    let moved = not (is_same_place own.place taken.place) in
+    chosen (λ (s : State). s.work.made ≡ st.work.made) (is_same_own own taken) st (took st f own taken) refl
+    (flags_made (touched st.work f key.Place moved) f own.flags taken.flags ∙ touched_made st.work f key.Place moved)
+
+pass_own_made : (st : State) (ds : List FileId) (f : FileId) (o : Option Own) → (pass_own st ds f o).work.made ≡ st.work.made
+pass_own_made st ds f None = refl
+pass_own_made st ds f (Some own) =
+    let top = greatest st.names f own ds in
+    let back = is_held_back st.names.removed f own top in
+    taking_made (spread st f own top back ds) f own (own_taken own top back) ∙ spread_made st f own top back ds
+
+pass_made : (st : State) (ds : List FileId) (f : FileId) → (pass st ds f).work.made ≡ st.work.made
+pass_made st ds f = pass_own_made st ds f (own_at st.names f)
+
+all_made : (st : State) (ds fs : List FileId) → (pass_all st ds fs).work.made ≡ st.work.made
+all_made st ds [] = refl
+all_made st ds (f ∷ fs) = all_made (pass st ds f) ds fs ∙ pass_made st ds f
+
+-- ---- return and cycles make more
+
+abbrev GoesOn : State → State → Type 0
+GoesOn a b = IsFront a.work.made b.work.made
+
+on_then : (a b c : State) → GoesOn a b → GoesOn b c → GoesOn a c
+on_then a b c f g = front_then a.work.made b.work.made c.work.made f g
+
+still : (a : State) → GoesOn a a
+still a = front_same a.work.made a.work.made refl
+
+placed_on : (moment : ℕ) (ds : List FileId) (st : State) (f p : FileId) (name : List ℕ) → GoesOn st (placed moment ds st f p name)
+placed_on moment ds st f p name =
+    let place = live_place (drawn moment st.names) p name in
+    (update.Place f place ∷ [], pass_made (made_at st f place) ds f)
+
+returned_on : (moment : ℕ) (ds : List FileId) (st : State) (o : Option FileId) → GoesOn st (returned moment ds st o)
+returned_on moment ds st None = still st
+returned_on moment ds st (Some d) = placed_on moment ds st d (place_at st.names d).parent (place_at st.names d).name
+
+moved_on : (moment : ℕ) (ds : List FileId) (st : State) (o : Option FileId) → GoesOn st (moved moment ds st o)
+moved_on moment ds st None = still st
+moved_on moment ds st (Some d) = placed_on moment ds st d root (tilde_name d)
+
+repeated_on : (step : State → State) → ((st : State) → GoesOn st (step st)) → (n : ℕ) (st : State) → GoesOn st (repeated n step st)
+repeated_on step each zero st = still st
+repeated_on step each (suc n) st = on_then st (step st) (repeated n step (step st)) (each st) (repeated_on step each n (step st))
+
+house_on : (moment : ℕ) (st : State) → GoesOn st (house moment st)
+house_on moment st =
+    let begun = state_of (with_parents st.names) st.work in
+    let ds = directories begun.names in
+    let one = pass_all begun ds (movable begun.names) in
+    let two = repeated (length ds) (return_first moment ds) one in
+    on_then st one (house moment st) (front_same st.work.made one.work.made (all_made begun ds (movable begun.names)))
+    (on_then one two (house moment st)
+    (repeated_on (return_first moment ds) (λ t. returned_on moment ds t (first_returning t.names ds)) (length ds) one)
+    (repeated_on (break_first moment ds) (λ t. moved_on moment ds t (first_moving t.names (length ds) None ds)) (length ds) two))
+
+-- ---- an effect
+
+made_front : (store : Store) (asked : Input) → IsFront (first_made store asked) (effect store asked).out.made
+made_front store (input.Call moment call) =
+    let a = do_call store call (new_work moment 0) in
+    chosen (λ (done : Effect). IsFront a.work.made done.out.made) (is_in_time store)
+    (closed (Some a.reply) (idle a.store a.work)) (finished (Some a.reply) (idle a.store a.work))
+    (house_on a.work.now (state_of a.store.names a.work))
+    (front_same a.work.made a.work.made refl)
+made_front store (input.Tick moment word) = ((effect store (input.Tick moment word)).out.made, refl)
+made_front store (input.Arrival packet) = ((effect store (input.Arrival packet)).out.made, refl)
+
+pub is_made_in_parts : IsMadeInParts
+is_made_in_parts store asked = rest_of (first_made store asked) (effect store asked).out.made (made_front store asked)

@@ -1,0 +1,60 @@
+-- What a server took, by what was made and delivered: nothing comes of passing that it did not know
+-- before.
+use Rattle.std.specs.Prelude.{ℕ, ◌⊎◌, ◌≡◌, ◌↔◌, true, List, [], ◌∷◌, ◌++◌, Some, map}
+use Rattle.pg_base.specs.declared.id.FileId.{FileId}
+use Rattle.pg_base.specs.declared.stamp.Stamp.{Stamp}
+use Rattle.pg_content.specs.Content.{Among}
+use Rattle.pg_register.specs.declared.flag.Flag.{Flag}
+use Rattle.pg_register.specs.declared.place.Place.{Place}
+use Rattle.pg_event.specs.declared.event.Event.{Event}
+use Rattle.pg_store.specs.declared.store.Store.{Store}
+use Rattle.pg_store.specs.Start.{first_flags}
+use Rattle.pg_server.specs.declared.input.Input.{Input}
+use Rattle.pg_server.specs.Local.{effect}
+use Rattle.pg_run.specs.Took.{Take, first_takes, stamps_taken, take_of}
+use Rattle.pg_run.specs.Passed.{flags_known, places_known}
+use Rattle.pg_run.specs.Run.{World, brought, first_made, made_behind, next, run, start, takes_effect, taking_in, world_after}
+
+-- what an input brings a server: what its first effect brings, and what is made in the event
+abbrev pub all_brought : Store → Input → List Take
+all_brought store asked = brought store asked ++ map take_of (effect store asked).out.made
+
+-- an event brings a server, whose clock is not at its end, takes of which this holds
+pub record Brings (servers : ℕ) (w : World) (event : Event) (s : ℕ) (P : List Take → Type 0)
+    : Type 0 where
+  pub asked : Input
+  pub takes : taking_in servers w event ≡ Some (record { server = s; asked = asked })
+  pub going : takes_effect (w.stores s) asked ≡ true
+  pub holds : P (all_brought (w.stores s) asked)
+
+-- one of these events does, in a run that goes on from a world
+abbrev pub CameFrom : ℕ → World → List Event → ℕ → (List Take → Type 0) → Type 0
+CameFrom servers w [] s P = ⊥
+CameFrom servers w (event ∷ events) s P = Brings servers w event s P
+    ⊎ CameFrom servers (world_after w (next servers w event)) events s P
+
+-- it was there from the start on, or one of the events brought it
+abbrev pub Came : ℕ → List Event → ℕ → (List Take → Type 0) → Type 0
+Came servers events s P =
+    P (first_takes (first_flags servers)) ⊎ CameFrom servers (start servers) events s P
+
+-- the places and flags that a server knows of a thing, and the versions of a file that came to it,
+-- are those that it made, that were delivered to it, or that were there from the start on
+pub record TookWhatCame (servers : ℕ) (events : List Event) (s : ℕ) : Type 0 where
+  pub places : (thing : FileId) (place : Place)
+      → Among place (places_known thing ((run servers events).took s))
+      ↔ Came servers events s (λ takes. Among place (places_known thing takes))
+  pub flags : (thing : FileId) (flag : Flag)
+      → Among flag (flags_known thing ((run servers events).took s))
+      ↔ Came servers events s (λ takes. Among flag (flags_known thing takes))
+  pub versions : (file : FileId) (stamp : Stamp)
+      → Among stamp (stamps_taken file ((run servers events).took s))
+      ↔ Came servers events s (λ takes. Among stamp (stamps_taken file takes))
+
+abbrev pub TakesWhatCame : ℕ → Type 0
+TakesWhatCame servers = (events : List Event) (s : ℕ) → TookWhatCame servers events s
+
+-- what is made in an event is what its first effect made, and behind that what the house rules made
+abbrev pub IsMadeInParts : Type 0
+IsMadeInParts = (store : Store) (asked : Input)
+    → (effect store asked).out.made ≡ first_made store asked ++ made_behind store asked

@@ -1,0 +1,80 @@
+-- What a journal says: which versions were made, and which messages are under way. A journal is the
+-- list of its entries, the latest first.
+use Rattle.std.specs.Prelude.{[], ℕ, ◌-◌, ◌==◌, ◌||◌, Bool, if◌then◌else◌, List, ◌∷◌, ◌++◌, filter, map, Option, None, Some, slice_get, remove}
+use Rattle.std.specs.List.{list_any}
+use Rattle.pg_base.specs.declared.id.FileId.{FileId}
+use Rattle.pg_base.specs.declared.stamp.Stamp.{Stamp}
+use Rattle.pg_base.specs.Id.{is_same_file}
+use Rattle.pg_content.specs.History.{Made, is_ancestor, is_same_stamp}
+use Rattle.pg_msg.specs.declared.message.Sent.{Sent}
+use Rattle.pg_msg.specs.declared.update.MadeVersion.{MadeVersion}
+use Rattle.pg_msg.specs.declared.update.Update.{Update}
+use Rattle.pg_msg.specs.declared.update.Update.TheVariants as update
+use Rattle.pg_event.specs.declared.event.Event.{Event}
+use Rattle.pg_event.specs.declared.event.Event.TheVariants.{Write, Call, Tick, Deliver, Lose, Repeat, Restart, Remove}
+use Rattle.pg_event.specs.declared.entry.Entry.{Entry}
+
+-- the versions among what was made
+abbrev pub versions_in : List Update → List MadeVersion
+versions_in [] = []
+versions_in (update.Version made ∷ us) = made ∷ versions_in us
+versions_in (update.Place file place ∷ us) = versions_in us
+versions_in (update.Flag file flag ∷ us) = versions_in us
+
+-- all versions that were made, the latest first
+abbrev pub history : List Entry → List MadeVersion
+history [] = []
+history (entry ∷ earlier) = versions_in entry.made ++ history earlier
+
+-- a version as the history of its file has it. Every replica has birth 1
+abbrev pub made_of : MadeVersion → Made
+made_of u = record { stamp = u.stamp; birth = 1; bases = u.bases; ranges = u.ranges }
+
+abbrev pub made_for : FileId → List MadeVersion → List Made
+made_for file [] = []
+made_for file (u ∷ us) =
+    if is_same_file file u.file then made_of u ∷ made_for file us else made_for file us
+
+-- the history of a file: its versions, the latest first
+abbrev pub versions : FileId → List Entry → List Made
+versions file journal = made_for file (history journal)
+
+-- whether the version is one of these or an ancestor of one
+abbrev pub is_within : List Made → List Stamp → Stamp → Bool
+is_within h set s = list_any (λ t. is_same_stamp s t || is_ancestor h s t) set
+
+-- these versions of a history, each with its ancestors
+abbrev pub with_ancestors : List Made → List Stamp → List Stamp
+with_ancestors h set = map (λ m. m.stamp) (filter (λ m. is_within h set m.stamp) h)
+
+-- ---- messages under way
+
+-- the message with this number; messages are counted from 1, in order of sending
+abbrev pub message_at : List Sent → ℕ → Option Sent
+message_at bag number = if number == 0 then None else slice_get bag (number - 1)
+
+-- without the message of this number, where there is one
+abbrev pub without : List Sent → ℕ → Option Sent → List Sent
+without bag number None = bag
+without bag number (Some m) = remove bag (number - 1)
+
+-- with this message once more at the end
+abbrev pub with_copy : List Sent → Option Sent → List Sent
+with_copy bag None = bag
+with_copy bag (Some m) = bag ++ m ∷ []
+
+-- what is left of the messages under way, with what an event sends or copies
+abbrev pub bag_after : List Sent → Event → List Sent → List Sent
+bag_after bag (Write server moment file what) sent = bag ++ sent
+bag_after bag (Call server moment call) sent = bag ++ sent
+bag_after bag (Tick server moment word) sent = bag ++ sent
+bag_after bag (Deliver number) sent = without bag number (message_at bag number) ++ sent
+bag_after bag (Lose number) sent = without bag number (message_at bag number)
+bag_after bag (Repeat number) sent = with_copy bag (message_at bag number)
+bag_after bag (Restart server) sent = bag
+bag_after bag (Remove server) sent = bag
+
+-- the messages under way, in order of sending
+abbrev pub bag : List Entry → List Sent
+bag [] = []
+bag (entry ∷ earlier) = bag_after (bag earlier) entry.event entry.sent

@@ -1,0 +1,10 @@
+pub mod Journal
+pub mod Took
+pub mod Passed
+pub mod Run
+pub mod State
+pub mod Quiet
+pub mod Laws
+pub mod Histories
+pub mod Ticks
+pub mod Came

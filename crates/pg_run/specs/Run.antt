@@ -1,0 +1,230 @@
+-- What each event does to the servers, to the journal, and to what replicas took.
+use Rattle.std.specs.Prelude.{[], ℕ, ◌&&◌, Bool, nat_le, if◌then◌else◌, List, ◌∷◌, ◌++◌, drop, length, map, Option, None, Some}
+use Rattle.pg_msg.specs.declared.message.Message.{Message}
+use Rattle.pg_msg.specs.declared.message.Message.TheVariants as message
+use Rattle.pg_msg.specs.declared.message.Sent.{Sent}
+use Rattle.pg_msg.specs.declared.update.Update.{Update}
+use Rattle.pg_msg.specs.Numbers.{is_in_range}
+use Rattle.pg_msg.specs.Work.{new_work}
+use Rattle.pg_call.specs.declared.call.Call.{Call}
+use Rattle.pg_event.specs.declared.event.Event.{Event}
+use Rattle.pg_event.specs.declared.event.Event.TheVariants.{Write, Call as Called, Tick, Deliver, Lose, Repeat, Restart, Remove}
+use Rattle.pg_event.specs.declared.entry.Entry.{Entry}
+use Rattle.pg_event.specs.declared.entry.VoidCause.{VoidCause}
+use Rattle.pg_event.specs.declared.entry.VoidCause.TheVariants.{NoMessage, NoServer, Unbuilt}
+use Rattle.pg_flood.specs.World.{after}
+use Rattle.pg_run.specs.Journal.{bag, message_at}
+use Rattle.pg_store.specs.declared.store.Store.{Store}
+use Rattle.pg_store.specs.Start.{first_flags}
+use Rattle.pg_store.specs.Store.{is_in_time, new_store}
+use Rattle.pg_cells.specs.Cells.{fits}
+use Rattle.pg_cells.specs.Done.{is_accepted}
+use Rattle.pg_calls.specs.Calls.{do_call, is_built}
+use Rattle.pg_server.specs.declared.input.Input.{Input}
+use Rattle.pg_server.specs.declared.input.Input.TheVariants as input
+use Rattle.pg_server.specs.Local.{Effect, effect}
+use Rattle.pg_run.specs.Took.{Take, first_takes, take_of, takes_in}
+use Rattle.pg_run.specs.Passed.{passed, passed_with}
+
+-- stores: what each server holds, by its number
+-- journal: the entries so far, the latest first
+-- took: what each server's replicas took
+pub record World : Type 0 where
+  pub stores : ℕ → Store
+  pub journal : List Entry
+  pub took : ℕ → List Take
+
+-- what the servers hold after an event, its entry, and what replicas took
+pub record Step : Type 0 where
+  pub stores : ℕ → Store
+  pub entry : Entry
+  pub took : ℕ → List Take
+
+-- ---- what an event brings a server's replicas
+
+-- what a message carries: a cell that is accepted, of a thing that may have it
+abbrev pub carried : Store → ℕ → Message → List Take
+carried store from (message.Cell ends tag c) =
+    if is_accepted store from ends && fits ends.file c then takes_in ends.file c else []
+carried store from (message.Ack ends k tag) = []
+carried store from (message.Harbinger ends tag head) = []
+carried store from (message.Want ends wanted) = []
+carried store from (message.Delta ends delta) = []
+carried store from (message.Piece ends piece) = []
+carried store from (message.Later ends stamp) = []
+carried store from (message.Fetch file birth) = []
+carried store from (message.Grant ends granted) = []
+carried store from (message.NoGrant file birth) = []
+carried store from (message.Full ends) = []
+carried store from (message.Seek file birth) = []
+carried store from (message.Here ends) = []
+carried store from (message.NoneHere ask file child) = []
+carried store from (message.Gone file birth) = []
+carried store from (message.Bye ends) = []
+carried store from (message.ByeOk file birth) = []
+carried store from (message.Confirm dir entry) = []
+carried store from (message.PlaceIs dir entry) = []
+carried store from (message.Tell dir entry) = []
+carried store from (message.TellOk dir child stamp) = []
+carried store from (message.Leave ends stamp) = []
+carried store from (message.LeaveOk ends stamp) = []
+carried store from (message.Invite ends) = []
+carried store from (message.Walk ends origin birth hops word) = []
+carried store from (message.Meet ends) = []
+
+-- what the first effect of an event made, before the house rules
+abbrev pub first_made : Store → Input → List Update
+first_made store (input.Call moment call) = (do_call store call (new_work moment 0)).work.made
+first_made store (input.Tick moment word) = []
+first_made store (input.Arrival packet) = []
+
+-- what its first effect brings: what was made, or what came
+abbrev pub brought : Store → Input → List Take
+brought store (input.Call moment call) =
+    map take_of (do_call store call (new_work moment 0)).work.made
+brought store (input.Tick moment word) = []
+brought store (input.Arrival packet) = carried store packet.from packet.message
+
+-- the updates that the house rules made in the event, in their order
+abbrev pub made_behind : Store → Input → List Update
+made_behind store asked = drop (length (first_made store asked)) (effect store asked).out.made
+
+-- an input takes effect where the server's clock is not at its end, and a message where its numbers
+-- are in range
+abbrev pub takes_effect : Store → Input → Bool
+takes_effect store (input.Call moment call) = is_in_time store
+takes_effect store (input.Tick moment word) = is_in_time store
+takes_effect store (input.Arrival packet) = is_in_time store && is_in_range packet.message
+
+-- what a server's replicas took then: what its first effect brings passes, and so does each place
+-- that a house rule makes
+abbrev pub took_after : Store → List Take → Input → List Take
+took_after store takes asked =
+    if takes_effect store asked
+    then passed_with store.names.removed
+    (passed store.names.removed (brought store asked ++ takes)) (made_behind store asked)
+    else takes
+
+-- ---- events
+
+-- the entry of an event at which no server did anything; where it is void, this is why
+abbrev pub idle_entry : Event → Option VoidCause → Entry
+idle_entry event cause = record { event = event; void = cause; reply = None; made = []; sent = [] }
+
+-- the entry of an event at which one server did this
+abbrev pub effect_entry : Event → Effect → Entry
+effect_entry event done = record {
+  event = event;
+  void = None;
+  reply = done.out.reply;
+  made = done.out.made;
+  sent = done.out.sent;
+}
+
+abbrev pub idle_step : World → Event → Option VoidCause → Step
+idle_step w event cause =
+    record { stores = w.stores; entry = idle_entry event cause; took = w.took }
+
+-- one server takes an input
+abbrev pub effect_step : World → Event → ℕ → Input → Step
+effect_step w event server asked = record {
+  stores = after w.stores server (effect (w.stores server) asked).store;
+  entry = effect_entry event (effect (w.stores server) asked);
+  took = after w.took server (took_after (w.stores server) (w.took server) asked);
+}
+
+abbrev pub is_server : ℕ → ℕ → Bool
+is_server servers server = nat_le 1 server && nat_le server servers
+
+-- a client's call, or a tick
+abbrev pub server_step : ℕ → World → Event → ℕ → Input → Step
+server_step servers w event server asked =
+    if is_server servers server then effect_step w event server asked
+    else idle_step w event (Some NoServer)
+
+-- a call that is not built is void, before its server is looked at
+abbrev pub call_step : ℕ → World → ℕ → ℕ → Call → Step
+call_step servers w server moment call =
+    if is_built call
+    then server_step servers w (Called server moment call) server (input.Call moment call)
+    else idle_step w (Called server moment call) (Some Unbuilt)
+
+abbrev pub delivery_step : ℕ → World → Event → Option Sent → Step
+delivery_step servers w event None = idle_step w event (Some NoMessage)
+delivery_step servers w event (Some m) =
+    if is_server servers m.to then effect_step w event m.to (input.Arrival m.packet)
+    else idle_step w event None
+
+-- a loss or a copy: only the bag changes
+abbrev pub bag_step : World → Event → Option Sent → Step
+bag_step w event None = idle_step w event (Some NoMessage)
+bag_step w event (Some m) = idle_step w event None
+
+-- an event of which nothing is done yet
+abbrev pub unbuilt_step : World → Event → Step
+unbuilt_step w event = idle_step w event (Some Unbuilt)
+
+-- what comes of one event in a run with so many servers
+abbrev pub next : ℕ → World → Event → Step
+next servers w (Write server moment file what) = unbuilt_step w (Write server moment file what)
+next servers w (Called server moment call) = call_step servers w server moment call
+next servers w (Tick server moment word) =
+    server_step servers w (Tick server moment word) server (input.Tick moment word)
+next servers w (Deliver number) =
+    delivery_step servers w (Deliver number) (message_at (bag w.journal) number)
+next servers w (Lose number) = bag_step w (Lose number) (message_at (bag w.journal) number)
+next servers w (Repeat number) = bag_step w (Repeat number) (message_at (bag w.journal) number)
+next servers w (Restart server) = unbuilt_step w (Restart server)
+next servers w (Remove server) = unbuilt_step w (Remove server)
+
+-- ---- which server takes an input in an event
+
+pub record Taking : Type 0 where
+  pub server : ℕ
+  pub asked : Input
+
+abbrev pub taking_at : ℕ → ℕ → Input → Option Taking
+taking_at servers server asked =
+    if is_server servers server then Some (record { server = server; asked = asked }) else None
+
+abbrev pub taking_call : ℕ → ℕ → ℕ → Call → Option Taking
+taking_call servers server moment call =
+    if is_built call then taking_at servers server (input.Call moment call) else None
+
+abbrev pub taking_message : ℕ → Option Sent → Option Taking
+taking_message servers None = None
+taking_message servers (Some m) = taking_at servers m.to (input.Arrival m.packet)
+
+-- the server that takes one, and the input; where there is none, no server does anything
+abbrev pub taking_in : ℕ → World → Event → Option Taking
+taking_in servers w (Write server moment file what) = None
+taking_in servers w (Called server moment call) = taking_call servers server moment call
+taking_in servers w (Tick server moment word) =
+    taking_at servers server (input.Tick moment word)
+taking_in servers w (Deliver number) =
+    taking_message servers (message_at (bag w.journal) number)
+taking_in servers w (Lose number) = None
+taking_in servers w (Repeat number) = None
+taking_in servers w (Restart server) = None
+taking_in servers w (Remove server) = None
+
+-- the world after a step
+abbrev pub world_after : World → Step → World
+world_after w step =
+    record { stores = step.stores; journal = step.entry ∷ w.journal; took = step.took }
+
+abbrev pub start : ℕ → World
+start servers = record {
+  stores = new_store servers;
+  journal = [];
+  took = λ server. first_takes (first_flags servers);
+}
+
+-- the world after these events, the first of them first
+abbrev pub run_from : ℕ → World → List Event → World
+run_from servers w [] = w
+run_from servers w (event ∷ events) = run_from servers (world_after w (next servers w event)) events
+
+-- the one run of these events
+abbrev pub run : ℕ → List Event → World
+run servers events = run_from servers (start servers) events

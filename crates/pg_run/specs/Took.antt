@@ -1,0 +1,135 @@
+-- What replicas took: the updates that a server's replicas of files and directories have, in the
+-- order in which they came to it, the latest first.
+use Rattle.std.specs.Prelude.{Bool, true, false, ◌&&◌, if◌then◌else◌, List, [], ◌∷◌, map}
+use Rattle.std.specs.List.{flat_map}
+use Rattle.pg_base.specs.declared.id.FileId.{FileId}
+use Rattle.pg_base.specs.declared.stamp.Stamp.{Stamp}
+use Rattle.pg_base.specs.Id.{is_same_file}
+use Rattle.pg_register.specs.declared.flag.Flag.{Flag}
+use Rattle.pg_register.specs.declared.place.Place.{Place}
+use Rattle.pg_register.specs.Flag.{join_flags}
+use Rattle.pg_register.specs.Place.{blank_place, newer_place, root, root_place}
+use Rattle.pg_entries.specs.declared.cell.Cell.{Cell}
+use Rattle.pg_entries.specs.declared.cell.Cell.TheVariants as cell
+use Rattle.pg_msg.specs.declared.update.Update.{Update}
+use Rattle.pg_msg.specs.declared.update.Update.TheVariants as update
+use Rattle.pg_house.specs.Facts.{is_among}
+
+-- which replica took what came of a thing: its own, or that of a directory with an entry for it
+pub data Taker : Type 0 where
+  Itself : Taker
+  InDir : (dir : FileId) → Taker
+
+-- one update that a replica took: a version of a file by its stamp; or a place or a flag of a
+-- thing. Or a replica began with nothing, since the thing is the parent in the place of another
+pub data Take : Type 0 where
+  TookVersion : (file : FileId) (stamp : Stamp) → Take
+  TookPlace : (by : Taker) (thing : FileId) (place : Place) → Take
+  TookFlag : (by : Taker) (thing : FileId) (flag : Flag) → Take
+  Began : (file : FileId) → Take
+
+-- ---- what comes
+
+-- an update that its maker made is taken by the maker's replica of that thing
+abbrev pub take_of : Update → Take
+take_of (update.Version made) = TookVersion made.file made.stamp
+take_of (update.Place thing place) = TookPlace Itself thing place
+take_of (update.Flag thing flag) = TookFlag Itself thing flag
+
+-- a cell brings the replica of a file its update; an entry's brings a directory those of the child
+abbrev pub takes_in : FileId → Cell → List Take
+takes_in file (cell.Place place) = TookPlace Itself file place ∷ []
+takes_in file (cell.Flag flag) = TookFlag Itself file flag ∷ []
+takes_in file (cell.Entry entry sure) =
+    TookPlace (InDir file) entry.child entry.place
+    ∷ map (TookFlag (InDir file) entry.child) entry.flags
+takes_in file (cell.Version version policy) = TookVersion file version.head.stamp ∷ []
+
+-- the start: every server's replica of the root has the root's place, and these flags
+abbrev pub first_takes : List Flag → List Take
+first_takes flags = TookPlace Itself root root_place ∷ map (TookFlag Itself root) flags
+
+-- ---- what a server's replicas took of a thing
+
+abbrev pub is_same_taker : Taker → Taker → Bool
+is_same_taker Itself Itself = true
+is_same_taker Itself (InDir e) = false
+is_same_taker (InDir d) Itself = false
+is_same_taker (InDir d) (InDir e) = is_same_file d e
+
+abbrev pub stamp_taken_by : FileId → Take → List Stamp
+stamp_taken_by file (TookVersion f stamp) = if is_same_file f file then stamp ∷ [] else []
+stamp_taken_by file (TookPlace b t place) = []
+stamp_taken_by file (TookFlag b t flag) = []
+stamp_taken_by file (Began f) = []
+
+-- the versions that came to the replica of a file
+abbrev pub stamps_taken : FileId → List Take → List Stamp
+stamps_taken file takes = flat_map (stamp_taken_by file) takes
+
+abbrev pub place_taken_by : Taker → FileId → Take → List Place
+place_taken_by by thing (TookVersion f stamp) = []
+place_taken_by by thing (TookPlace b t place) =
+    if is_same_taker b by && is_same_file t thing then place ∷ [] else []
+place_taken_by by thing (TookFlag b t flag) = []
+place_taken_by by thing (Began f) = []
+
+-- the places of a thing that a replica took
+abbrev pub places_taken : Taker → FileId → List Take → List Place
+places_taken by thing takes = flat_map (place_taken_by by thing) takes
+
+abbrev pub flag_taken_by : Taker → FileId → Take → List Flag
+flag_taken_by by thing (TookVersion f stamp) = []
+flag_taken_by by thing (TookPlace b t place) = []
+flag_taken_by by thing (TookFlag b t flag) =
+    if is_same_taker b by && is_same_file t thing then flag ∷ [] else []
+flag_taken_by by thing (Began f) = []
+
+abbrev pub flags_taken : Taker → FileId → List Take → List Flag
+flags_taken by thing takes = flat_map (flag_taken_by by thing) takes
+
+-- ---- the newest of them
+
+-- the place of a thing of which none came: the blank one, but the root stands in itself
+abbrev pub first_place : FileId → Place
+first_place thing = if is_same_file thing root then root_place else blank_place thing
+
+-- the place of the latest stamp
+abbrev pub latest_place : FileId → List Place → Place
+latest_place thing [] = first_place thing
+latest_place thing (place ∷ places) = newer_place (latest_place thing places) place
+
+-- of each server the newest flag, by server
+abbrev pub newest_flags : List Flag → List Flag
+newest_flags flags = join_flags [] flags
+
+-- the place that a replica has of a thing
+abbrev pub place_in : Taker → FileId → List Take → Place
+place_in by thing takes = latest_place thing (places_taken by thing takes)
+
+abbrev pub flags_in : Taker → FileId → List Take → List Flag
+flags_in by thing takes = newest_flags (flags_taken by thing takes)
+
+-- a thing's own place
+abbrev pub own_place : FileId → List Take → Place
+own_place thing takes = place_in Itself thing takes
+
+-- ---- what is held
+
+-- the replicas that an update tells of: that of the thing, and of the directory that took it
+abbrev pub dirs_of : Taker → List FileId
+dirs_of Itself = []
+dirs_of (InDir dir) = dir ∷ []
+
+abbrev pub told_by : Take → List FileId
+told_by (TookVersion file stamp) = file ∷ []
+told_by (TookPlace by thing place) = thing ∷ dirs_of by
+told_by (TookFlag by thing flag) = thing ∷ dirs_of by
+told_by (Began file) = file ∷ []
+
+-- all that is held, each as often as it is told of
+abbrev pub held : List Take → List FileId
+held takes = flat_map told_by takes
+
+abbrev pub is_held : FileId → List Take → Bool
+is_held file takes = is_among file (held takes)

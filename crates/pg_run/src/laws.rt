@@ -1,0 +1,18 @@
+//! What holds of any run.
+
+ghost use Rattle.std.specs.Prelude.{ℕ};
+ghost use Rattle.pg_run.specs.Came.{IsMadeInParts, TakesWhatCame};
+ghost use Rattle.pg_run.specs.Laws.{QuietIsTold};
+
+/// A world is told to be quiet exactly where no message is under way and no server owes anything.
+pub fn quiet_is_told()
+    ensures { QuietIsTold }
+{}
+
+/// The places and flags that a server knows of a thing, and the versions of a file that came to it, are those that it
+/// made, that were delivered to it, or that were there from the start on: passing brings nothing, and nothing is
+/// forgotten. What is made in an event is what its first effect made, and behind that what the house rules made.
+pub fn takes_are_what_came()
+    ensures took { (servers : ℕ) → TakesWhatCame servers }
+    ensures parts { IsMadeInParts }
+{}

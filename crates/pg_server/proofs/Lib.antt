@@ -1,0 +1,6 @@
+mod Unacknowledged
+mod FirstOwed
+mod Results
+mod Lasting
+mod LastingMessages
+mod LastingCalls

@@ -1,0 +1,78 @@
+//! What a server owes.
+
+ghost use Rattle.std.specs.Prelude.{◌≡◌, slice_get};
+ghost use Rattle.pg_store.specs.Store.{replica_at};
+ghost use Rattle.pg_server.specs.Owing.{edge_owes, file_owes, owed, owed_keys, replica_owes};
+
+use pg_base::{FileId, NodeId};
+use pg_edges::Edge;
+use pg_event::{OwedKey, Owing};
+use pg_house::first_held_back;
+use pg_replica::Replica;
+use pg_store::Store;
+
+/// The first unacknowledged key of an edge.
+fn first_of_edge(server: NodeId, file: FileId, edge: &Edge) -> Option<OwedKey>
+    ensures { result ≡ slice_get (edge_owes server file edge.now) 0 }
+{
+    match edge.keys.as_slice().first() {
+        Some(entry) => Some(OwedKey {
+            server,
+            file,
+            peer: edge.peer,
+            key: entry.0,
+        }),
+        None => None,
+    }
+}
+
+/// The first unacknowledged key of a replica: of its first edge that has one.
+fn first_of_replica(server: NodeId, file: FileId, replica: &Replica) -> Option<OwedKey>
+    ensures { result ≡ slice_get (replica_owes server (file, replica.now)) 0 }
+{
+    for edge in replica.edges.as_slice() {
+        if let Some(owing) = first_of_edge(server, file, edge) {
+            return Some(owing);
+        }
+    }
+    None
+}
+
+/// The same of a file.
+fn first_of_file(store: &Store, file: &FileId) -> Option<OwedKey>
+    ensures { result
+        ≡ slice_get (file_owes store.now.names.server file.now (replica_at store.now file.now)) 0 }
+{
+    match store.replica(file) {
+        Some(replica) => first_of_replica(store.server(), *file, replica),
+        None => None,
+    }
+}
+
+/// The same of all files, by file: those with unacknowledged keys are gone over.
+fn first_key(store: &Store) -> Option<OwedKey>
+    ensures { result ≡ slice_get (owed_keys store.now) 0 }
+{
+    for file in store.replicas.unacknowledged().keys() {
+        if let Some(owing) = first_of_file(store, file) {
+            return Some(owing);
+        }
+    }
+    None
+}
+
+/// The first that a server owes: a key, or else a place that it holds back. It takes no memory.
+pub(crate) fn first_owed(store: &Store) -> Option<Owing>
+    ensures { result ≡ slice_get (owed store.now) 0 }
+{
+    match first_key(store) {
+        Some(key) => Some(Owing::Key(key)),
+        None => match first_held_back(&store.names) {
+            Some(id) => Some(Owing::HeldBack {
+                server: store.server(),
+                id,
+            }),
+            None => None,
+        },
+    }
+}

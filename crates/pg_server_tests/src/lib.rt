@@ -1,0 +1,5 @@
+//! Tests of one server.
+#![tactic(auto)]
+
+#[cfg(test)]
+mod steps;

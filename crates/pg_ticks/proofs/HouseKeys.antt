@@ -1,0 +1,213 @@
+-- Each key that the house rules touch has a cell behind them.
+use Rattle.std.proofs.Common.{ℕ, ◌≡◌, Bool, true, false, List, [], ◌∷◌, ◌++◌, drop, length, Option, None, Some, refl, sym, ap, subst, ◌∙◌, inl, inr, ◌⊎◌}
+use Rattle.std.proofs.lemmas.List.{append-nil}
+use Rattle.std.proofs.lemmas.Option.{none-some}
+use Rattle.std.proofs.Math.Seq.{drop-append_seam}
+use Rattle.pg_base.specs.declared.id.FileId.{FileId}
+use Rattle.pg_base.specs.Id.{is_same_file}
+use Rattle.pg_base.proofs.Orders.{is_same_file-refl}
+use Rattle.pg_edges.specs.declared.key.Key.{Key}
+use Rattle.pg_edges.specs.declared.key.Key.TheVariants as key
+use Rattle.pg_register.specs.declared.place.Place.{Place}
+use Rattle.pg_register.specs.Flag.{flag_of}
+use Rattle.pg_register.specs.Place.{root, tilde_name}
+use Rattle.pg_entries.specs.declared.entry.Entry.{Entry}
+use Rattle.pg_msg.specs.declared.message.Sent.{Sent}
+use Rattle.pg_msg.specs.declared.work.Touched.{Touched}
+use Rattle.pg_msg.specs.declared.work.Work.{Work}
+use Rattle.pg_names.specs.declared.own.Own.{Own}
+use Rattle.pg_names.specs.Names.{HeldValue, NamesValue, cell_at, changed, directories, known, or_blank, own_at, own_of, own_or_blank, set_own, with_last, with_own}
+use Rattle.pg_names.specs.Same.{is_same_own}
+use Rattle.pg_names.proofs.Lookups.{own_cell, own_other, own_same}
+use Rattle.pg_house.specs.Facts.{IsHeld, IsIn, is_among}
+use Rattle.pg_house.specs.Work.{State, state_of}
+use Rattle.pg_house.specs.Passing.{greatest, is_held_back, joined_with, own_taken, pass, pass_all, pass_own, spread, taking, took}
+use Rattle.pg_house.specs.Placing.{drawn, flags_of, live_place, made_at, own_with, place_at, placed}
+use Rattle.pg_house.specs.Returning.{first_returning, return_first, returned}
+use Rattle.pg_house.specs.Cycles.{break_first, first_moving, moved}
+use Rattle.pg_house.specs.House.{house, movable, rules, with_parents}
+use Rattle.pg_house.proofs.Growing.{grown_own, grows}
+use Rattle.pg_house.proofs.Repeating.{repeated_keeps}
+use Rattle.pg_house.proofs.Settling.{dirs_held}
+use Rattle.pg_house.proofs.Spreading.{spread_own}
+use Rattle.pg_house.proofs.Truths.{or_left, or_right}
+use Rattle.pg_promises.specs.UpTo.{AreFlagsUpTo}
+use Rattle.pg_promises.proofs.Choices.{chosen}
+use Rattle.pg_promises.proofs.Flags.{flags_joined}
+use Rattle.pg_promises.proofs.Front.{house_behind}
+use Rattle.pg_promises.proofs.Growth.{OneOwn}
+use Rattle.pg_promises.proofs.UpTo.{flags_further, flags_themselves}
+use Rattle.pg_order.proofs.Changes.{one_stays as one_held_stays}
+use Rattle.pg_ticks.proofs.Keyed.{AllHeld, NameHas, Touches, Touches-refl, Touches-trans, held_further, in_split, one_stays, spread_touches, took_touches}
+
+-- ---- passing
+
+joined_up : (top : Own) (o : Option Entry) → AreFlagsUpTo top.flags (joined_with top o).flags
+joined_up top None = flags_themselves top.flags
+joined_up top (Some c) = flags_joined top.flags c.flags
+
+greatest_up : (s : NamesValue) (f : FileId) (top : Own) (ds : List FileId) → AreFlagsUpTo top.flags (greatest s f top ds).flags
+greatest_up s f top [] = flags_themselves top.flags
+greatest_up s f top (d ∷ ds) =
+    let next = joined_with top (cell_at s d f) in
+    flags_further top.flags next.flags (greatest s f next ds).flags (joined_up top (cell_at s d f)) (greatest_up s f next ds)
+
+taken_up : (own top : Own) (t : Bool) → AreFlagsUpTo own.flags top.flags → AreFlagsUpTo own.flags (own_taken own top t).flags
+taken_up own top true up = up
+taken_up own top false up = up
+
+pass_by : (st : State) (ds : List FileId) (f : FileId) (o : Option Own) → own_at st.names f ≡ o → AllHeld st.names ds → Touches st (pass_own st ds f o)
+pass_by st ds f None e h = Touches-refl st
+pass_by st ds f (Some own) e h =
+    let top = greatest st.names f own ds in
+    let back = is_held_back st.names.removed f own top in
+    let next = spread st f own top back ds in
+    let there : own_at next.names f ≡ Some own = spread_own st f own top back ds f ∙ e in
+    let taken = own_taken own top back in
+    Touches-trans st next (taking next f own taken) (spread_touches st f own top back ds h)
+    (chosen (Touches next) (is_same_own own taken) next (took next f own taken) (Touches-refl next) (took_touches next f own taken there (taken_up own top back (greatest_up st.names f own ds))))
+
+pass_touches : (st : State) (ds : List FileId) (f : FileId) → AllHeld st.names ds → Touches st (pass st ds f)
+pass_touches st ds f h = pass_by st ds f (own_at st.names f) refl h
+
+all_touches : (st : State) (ds fs : List FileId) → AllHeld st.names ds → Touches st (pass_all st ds fs)
+all_touches st ds [] h = Touches-refl st
+all_touches st ds (f ∷ fs) h =
+    let next = pass st ds f in
+    let one = pass_touches st ds f h in
+    Touches-trans st next (pass_all next ds fs) one (all_touches next ds fs (held_further st.names next.names one.held ds h))
+
+-- where no cell changes
+held_stays : (s t : NamesValue) → ((q : FileId) → own_or_blank t q ≡ own_or_blank s q) → ((d g : FileId) → cell_at t d g ≡ cell_at s d g) → (f : FileId) (k : Key) → NameHas s f k → NameHas t f k
+held_stays s t own cells f key.Place h = tt
+held_stays s t own cells f (key.Flag m) h = (h.0, ap (λ (o : Own). flag_of o.flags m) (own f) ∙ h.1)
+held_stays s t own cells f (key.Entry g) h = (h.0, cells f g ∙ h.1)
+held_stays s t own cells f (key.Version stamp) h = absurd h
+
+-- ---- new places
+
+none_changes : (s : NamesValue) (f : FileId) (c : Own) (o : Option HeldValue) → known s f ≡ o → own_of o ≡ None → set_own s f c ≡ s
+none_changes s f c None e h = ap (changed s f (with_own c)) e
+none_changes s f c (Some x) e h = absurd (none-some x.own (sym h))
+
+same_stays : (s t : NamesValue) → ((q : FileId) → own_at t q ≡ own_at s q) → ((d g : FileId) → cell_at t d g ≡ cell_at s d g) → (f : FileId) (k : Key) → NameHas s f k → NameHas t f k
+same_stays s t own cells f key.Place h = tt
+same_stays s t own cells f (key.Flag m) h = (h.0, ap (λ o. flag_of (or_blank f o).flags m) (own f) ∙ h.1)
+same_stays s t own cells f (key.Entry g) h = (h.0, cells f g ∙ h.1)
+same_stays s t own cells f (key.Version stamp) h = absurd h
+
+module _ (st : State) (f : FileId) (place : Place) where
+  abbrev Late : NamesValue
+  Late = with_last st.names place.stamp.time
+
+  abbrev Mine : Own
+  Mine = own_with st.names f place
+
+  new_by : (x : Touched) → IsIn x (made_at st f place).work.touched → IsIn x st.work.touched ⊎ NameHas (made_at st f place).names x.file x.key
+  new_by x h =
+      let P : Touched → Type 0 = λ y. NameHas (made_at st f place).names y.file y.key in
+      elim (in_split x (record { file = f; key = key.Place }) st.work.touched h) [ inl old ↦ inl old | inr is ↦ inr (subst P is tt) ]
+
+  made_by : (o : Option Own) → own_at st.names f ≡ o → Touches st (made_at st f place)
+  made_by None e =
+      let same : (made_at st f place).names ≡ Late = none_changes Late f Mine (known Late f) refl e in
+      let own : (q : FileId) → own_at (made_at st f place).names q ≡ own_at st.names q = λ q. ap (λ (x : NamesValue). own_at x q) same in
+      record {
+        held = λ q h. (h.0, own q ∙ h.1);
+        stays = same_stays st.names (made_at st f place).names own (λ d g. ap (λ (x : NamesValue). cell_at x d g) same);
+        new = new_by;
+      }
+  made_by (Some b) e =
+      let one : OneOwn st.names (made_at st f place).names f b Mine = record { was = e; is = own_same Late f b Mine e; others = own_other Late f Mine } in
+      let flags : Mine.flags ≡ b.flags = ap flags_of e in
+      record {
+        held = one_held_stays st.names (made_at st f place).names f b Mine one;
+        stays = one_stays st.names (made_at st f place).names f b Mine one (λ d g. own_cell Late f Mine d g) (λ m g h. (g, ap (λ fs. flag_of fs m) flags ∙ h));
+        new = new_by;
+      }
+
+  made_touches : Touches st (made_at st f place)
+  made_touches = made_by (own_at st.names f) refl
+
+module _ (moment : ℕ) (ds : List FileId) (s : State) where
+  abbrev Goes : State → Type 0
+  Goes t = Touches s t × AllHeld t.names ds
+
+  placed_goes : (t : State) (f p : FileId) (name : List ℕ) → Goes t → Goes (placed moment ds t f p name)
+  placed_goes t f p name k =
+      let made = made_at t f (live_place (drawn moment t.names) p name) in
+      let one = made_touches t f (live_place (drawn moment t.names) p name) in
+      let held = held_further t.names made.names one.held ds k.1 in
+      let two = pass_touches made ds f held in (
+        Touches-trans s t (pass made ds f) k.0 (Touches-trans t made (pass made ds f) one two),
+        held_further made.names (pass made ds f).names two.held ds held,
+      )
+
+  returned_goes : (t : State) (o : Option FileId) → Goes t → Goes (returned moment ds t o)
+  returned_goes t None k = k
+  returned_goes t (Some d) k = placed_goes t d (place_at t.names d).parent (place_at t.names d).name k
+
+  moved_goes : (t : State) (o : Option FileId) → Goes t → Goes (moved moment ds t o)
+  moved_goes t None k = k
+  moved_goes t (Some d) k = placed_goes t d root (tilde_name d) k
+
+all_of_among : (s : NamesValue) (ds : List FileId) → ((q : FileId) → is_among q ds ≡ true → IsHeld s q) → AllHeld s ds
+all_of_among s [] h = tt
+all_of_among s (d ∷ ds) h =
+    (h d (or_left (is_same_file d d) _ (is_same_file-refl d)), all_of_among s ds (λ q among. h q (or_right (is_same_file d q) _ among)))
+
+rules_touch : (moment : ℕ) (st : State) → Touches st (rules moment st)
+rules_touch moment st =
+    let ds = directories st.names in
+    let held : AllHeld st.names ds = all_of_among st.names ds (λ q among. (dirs_held st.names q among).0) in
+    let one = all_touches st ds (movable st.names) held in
+    let start : Goes moment ds st (pass_all st ds (movable st.names)) = (one, held_further st.names (pass_all st ds (movable st.names)).names one.held ds held) in
+    (repeated_keeps (Goes moment ds st) (break_first moment ds) (λ t k. moved_goes moment ds st t (first_moving t.names (length ds) None ds) k) (length ds) _
+    (repeated_keeps (Goes moment ds st) (return_first moment ds) (λ t k. returned_goes moment ds st t (first_returning t.names ds) k) (length ds) (pass_all st ds (movable st.names)) start)).0
+
+house_touches : (moment : ℕ) (st : State) → Touches st (house moment st)
+house_touches moment st =
+    let more = with_parents st.names in
+    let g = grows st.names in
+    let begun = state_of more st.work in
+    let own : (q : FileId) → own_or_blank more q ≡ own_or_blank st.names q = grown_own st.names more g in
+    let first : Touches st begun = record {
+      held = λ q h. (h.0, g.stays q h.0 h.1);
+      stays = held_stays st.names more own g.cells;
+      new = λ x h. inl h;
+    } in
+    Touches-trans st begun (house moment st) first (rules_touch moment begun)
+
+-- ---- so each key that the rules touch has a cell
+
+abbrev with_lists : Work → List Sent → List Touched → Work
+with_lists w sent ts = record { now = w.now; from = w.from; made = w.made; sent = sent; touched = ts }
+
+abbrev behind : List Touched → List Sent → State → State
+behind p sent st = state_of st.names (with_lists st.work sent (p ++ st.work.touched))
+
+module _ (moment : ℕ) (names : NamesValue) (work : Work) where
+  abbrev Alone : State
+  Alone = house moment (state_of names (with_lists work work.sent []))
+
+  starts : state_of names work ≡ behind work.touched work.sent (state_of names (with_lists work work.sent []))
+  starts = ap (λ ts. state_of names (with_lists work work.sent ts)) (sym (append-nil work.touched))
+
+  ends : house moment (state_of names work) ≡ behind work.touched work.sent Alone
+  ends = ap (house moment) starts ∙ house_behind work.touched work.sent moment (state_of names (with_lists work work.sent []))
+
+  new_keys : drop (length work.touched) (house moment (state_of names work)).work.touched ≡ Alone.work.touched
+  new_keys = ap (λ (s : State). drop (length work.touched) s.work.touched) ends ∙ drop-append_seam work.touched Alone.work.touched
+
+  none_before : (x : Touched) → IsIn x Alone.work.touched → NameHas Alone.names x.file x.key
+  none_before x h = elim ((house_touches moment (state_of names (with_lists work work.sent []))).new x h) [ inl none ↦ absurd none | inr has ↦ has ]
+
+  pub new_has : (x : Touched) → IsIn x (drop (length work.touched) (house moment (state_of names work)).work.touched) → NameHas (house moment (state_of names work)).names x.file x.key
+  new_has x h =
+      let P : List Touched → Type 0 = IsIn x in
+      let Q : State → Type 0 = λ s. NameHas s.names x.file x.key in
+      subst Q (sym ends) (none_before x (subst P new_keys h))
+
+  -- and what had one keeps one
+  pub old_has : (f : FileId) (k : Key) → NameHas names f k → NameHas (house moment (state_of names work)).names f k
+  old_has f k h = (house_touches moment (state_of names work)).stays f k h

@@ -1,0 +1,69 @@
+-- What a run waits for, and what stands on edges: statements.
+use Rattle.std.specs.Prelude.{ℕ, ◌≡◌, ◌≤◌, ◌<◌, ◌↔◌, [], List, Some, slice_get}
+use Rattle.pg_base.specs.declared.id.FileId.{FileId}
+use Rattle.pg_edges.specs.declared.key.Key.{Key}
+use Rattle.pg_edges.specs.Edges.{tag_at}
+use Rattle.pg_entries.specs.declared.cell.Cell.{Cell}
+use Rattle.pg_event.specs.declared.event.Event.{Event}
+use Rattle.pg_event.specs.declared.quiet.Cause.{Cause}
+use Rattle.pg_event.specs.declared.quiet.Cause.TheVariants.{Message, Owed, View}
+use Rattle.pg_event.specs.declared.quiet.Owing.{Owing}
+use Rattle.pg_event.specs.declared.quiet.Quiet.TheVariants.{Waits}
+use Rattle.pg_house.specs.House.{house}
+use Rattle.pg_house.specs.Work.{state_of}
+use Rattle.pg_msg.specs.declared.message.Sent.{Sent}
+use Rattle.pg_msg.specs.declared.summary.Summary.{Summary}
+use Rattle.pg_msg.specs.declared.work.Work.{Work}
+use Rattle.pg_msg.specs.Sent.{summary}
+use Rattle.pg_store.specs.Cells.{cell_at}
+use Rattle.pg_store.specs.Store.{replica_of}
+use Rattle.pg_server.specs.Owing.{owed}
+use Rattle.pg_run.specs.Journal.{bag}
+use Rattle.pg_run.specs.Laws.{AtEach, names_after, store_after}
+use Rattle.pg_run.specs.Quiet.{quiet_of}
+use Rattle.pg_run.specs.Run.{World}
+
+-- ---- keys on edges
+
+-- each key that is unacknowledged on an edge has a cell
+abbrev pub KeysHaveCells : ℕ → Type 0
+KeysHaveCells servers = (events : List Event) (s : ℕ) (file : FileId) (peer birth : ℕ) (key : Key)
+    (tag : ℕ) → let a = store_after servers events s in
+    tag_at (replica_of a file).edges peer birth key ≡ Some tag
+    → (c : Cell) × (cell_at a file key ≡ Some c)
+
+-- ---- what a run waits for
+
+-- of all that is owed the first, by server: no lesser server owes anything
+pub record IsFirstOwed (servers : ℕ) (w : World) (o : Owing) : Type 0 where
+  pub server : ℕ
+  pub least : 1 ≤ server
+  pub most : server ≤ servers
+  pub first : slice_get (owed (w.stores server)) 0 ≡ Some o
+  pub before : (s : ℕ) → 1 ≤ s → s < server → owed (w.stores s) ≡ []
+
+-- of all messages under way the first
+pub record IsFirstMessage (w : World) (told : Summary) : Type 0 where
+  pub message : Sent
+  pub first : slice_get (bag w.journal) 0 ≡ Some message
+  pub is : summary message ≡ told
+
+-- messages come before what is owed. Nobody waits for a view yet
+abbrev pub IsFirstCause : ℕ → World → Cause → Type 0
+IsFirstCause servers w (Message told) = IsFirstMessage w told
+IsFirstCause servers w (Owed o) = (bag w.journal ≡ []) × IsFirstOwed servers w o
+IsFirstCause servers w (View server view) = ⊥
+
+-- a world is told to wait for this exactly where it is the first
+abbrev pub FirstCauseIsTold : Type 0
+FirstCauseIsTold = (servers : ℕ) (w : World) (cause : Cause)
+    → (quiet_of servers w ≡ Waits cause) ↔ IsFirstCause servers w cause
+
+-- ---- the house rules
+
+-- after all events no house rule applies at any server, at whichever moment: run again they change
+-- nothing, touch nothing and make nothing
+abbrev pub NoRuleApplies : ℕ → Type 0
+NoRuleApplies servers = (events : List Event) → AtEach servers (λ s. (moment : ℕ) (work : Work)
+    → house moment (state_of (names_after servers events s) work)
+    ≡ state_of (names_after servers events s) work)

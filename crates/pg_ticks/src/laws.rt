@@ -1,0 +1,27 @@
+//! What holds of all runs. Each law is a clause of a function that does nothing.
+
+ghost use Rattle.std.specs.Prelude.{ℕ, ◌<◌, ◌^◌};
+ghost use Rattle.pg_run.specs.Ticks.{TicksSendWhatIsOwed};
+ghost use Rattle.pg_ticks.specs.Laws.{FirstCauseIsTold, KeysHaveCells, NoRuleApplies};
+
+/// Each key that is unacknowledged on an edge has a cell.
+pub fn keys_have_cells()
+    ensures { (servers : ℕ) → servers < 2 ^ 32 → KeysHaveCells servers }
+{}
+
+/// A tick sends the present cell of each key that its server owes and that does not wait, in their
+/// order, and nothing else; it is refused exactly where the clock is at its end.
+pub fn ticks_send_what_is_owed()
+    ensures { (servers : ℕ) → servers < 2 ^ 32 → TicksSendWhatIsOwed servers }
+{}
+
+/// What a world is told to wait for is the first message under way, and where there is none what the
+/// least server that owes something owes first.
+pub fn first_cause_is_told()
+    ensures { FirstCauseIsTold }
+{}
+
+/// No house rule applies after any events.
+pub fn no_rule_applies()
+    ensures { (servers : ℕ) → NoRuleApplies servers }
+{}

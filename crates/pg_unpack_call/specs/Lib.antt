@@ -1,0 +1,5 @@
+pub mod Numbered
+pub mod Targets
+pub mod Calls
+pub mod Refusals
+pub mod Replies
