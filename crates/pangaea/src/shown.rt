@@ -2,15 +2,14 @@
 
 ghost use Rattle.std.specs.Prelude.{◌≡◌, ◌++◌, IfOk, OnOk, map};
 ghost use Rattle.pg_base.specs.Version.{stamp_of};
-ghost use Rattle.pg_calls.specs.Checks.{is_filling};
 ghost use Rattle.pg_run.specs.Quiet.{has_some};
-ghost use Rattle.pg_store.specs.Store.{replica_of};
 ghost use Rattle.pg_trace.specs.Printed.{ArePrinted, journal_spelling};
 ghost use Rattle.pangaea.specs.Shown.{HoldsSuited, contents_at, contents_of, file_contents, held_lines, no_content, shown_of};
 
 use pg_base::{Bytes, FileId, Items, Kind, NodeId, SharedBytes, Stamp, Version};
+use pg_calls::is_filling;
 use pg_content::Content;
-use pg_names::{Held, is_dir};
+use pg_names::Held;
 use pg_store::Store;
 use pg_trace::{Contents, ShownReplica, write_replica};
 use std::alloc::{AllocError, Global};
@@ -51,28 +50,11 @@ fn shown_of(
     Ok(ShownReplica {
         server,
         id,
-        gold: own.flags.is_raised(server, birth(store, &id)),
+        gold: own.flags.is_raised(server, store.birth(&id)),
         full: !is_filling(store, &id),
         place: own.place.copy()?,
         contents: contents_at(id, store, held)?,
     })
-}
-
-/// The birth of the replica.
-fn birth(store: &Store, id: &FileId) -> u64
-    ensures { result ≡ (replica_of store.now id.now).birth }
-{
-    match store.replica(id) {
-        Some(replica) => replica.birth,
-        None => 1,
-    }
-}
-
-/// Whether it is a file with no version.
-fn is_filling(store: &Store, id: &FileId) -> bool
-    ensures { result ≡ is_filling store.now id.now }
-{
-    !is_dir(id) && store.has_no_head(id)
 }
 
 fn contents_at(id: FileId, store: &Store, held: &Held) -> Result<Contents, AllocError>

@@ -5,7 +5,7 @@ use Rattle.pg_base.specs.declared.policy.Policy.{Policy}
 use Rattle.pg_base.specs.declared.policy.Policy.TheVariants as policy
 use Rattle.pg_call.specs.Call.{call_kind, call_words, argument_words, kind_word, policy_word, target_word, IsCall, IsTarget}
 use Rattle.pg_call.specs.Fields.{Field, call_fields, AreCounted, AreWordsOf, IsBadWord, IsWordOf}
-use Rattle.pg_call.specs.Fields.Field.{Narrow, Wide, Count, Bytes, File, AnyId, Path, PathOrId, PolicyName, Form, Off}
+use Rattle.pg_call.specs.Fields.Field.{Narrow, Wide, Count, Bytes, AnyId, Path, PathOrId, PolicyName, Form, Off}
 use Rattle.pg_call.specs.declared.call.Call.{Call}
 use Rattle.pg_call.specs.declared.call.Call.TheVariants as call
 use Rattle.pg_call.specs.declared.call.CallKind.{CallKind}
@@ -109,7 +109,6 @@ word_some Narrow word h = let lt = h.1 in let w = decimal_word h.0 (omega arith)
 word_some Wide word h = let w = decimal_word h.0 h.1 in subst HasByte (sym h.2) w.some
 word_some Count word h = let le = h.1 in let w = decimal_word h.0 (omega arith) in subst HasByte (sym h.2) w.some
 word_some Bytes word h = subst HasByte (sym h.2) (hex_word-not_empty h.0)
-word_some File word h = let file = h.1 in let w = spelling_word h.0 file.fits in subst HasByte (sym h.2) w.some
 word_some AnyId word h = let w = spelling_word h.0 h.1 in subst HasByte (sym h.2) w.some
 word_some Path word h = h.some
 word_some PathOrId word h = subst HasByte (sym h.2) (target_some h.0 h.1)

@@ -1,4 +1,3 @@
 pub mod CallSpelling
 pub mod CallTable
-pub mod Changes
 pub mod RowWords

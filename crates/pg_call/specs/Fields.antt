@@ -9,19 +9,17 @@ use Rattle.pg_call.specs.declared.call.CallKind.{CallKind}
 use Rattle.pg_call.specs.declared.call.CallKind.TheVariants as kind
 use Rattle.pg_call.specs.declared.call.Target.{Target}
 use Rattle.pg_call.specs.Call.{IsPayload, IsTarget, policy_word, target_word}
-use Rattle.pg_words.specs.FileWord.{IsFile}
 use Rattle.pg_words.specs.HexWord.{hex_word}
 use Rattle.pg_words.specs.TextWord.{IsText}
 
 -- what a word is: a number below 2^32 or below 2^64, or of bytes to be read; bytes; the id of a
--- file, or of a file or a directory; a path, or a path or an id; a policy; the form of a journal;
--- or that a meter is off
+-- file or a directory; a path, or a path or an id; a policy; the form of a journal; or that a meter
+-- is off
 pub data Field : Type 0 where
   Narrow : Field
   Wide : Field
   Count : Field
   Bytes : Field
-  File : Field
   AnyId : Field
   Path : Field
   PathOrId : Field
@@ -55,7 +53,6 @@ IsWordOf Narrow word = (n : ℕ) × (n < 2 ^ 32) × (word ≡ decimal n)
 IsWordOf Wide word = (n : ℕ) × (n < 2 ^ 64) × (word ≡ decimal n)
 IsWordOf Count word = (n : ℕ) × (n ≤ 32768) × (word ≡ decimal n)
 IsWordOf Bytes word = (bytes : List ℕ) × IsPayload bytes × (word ≡ hex_word bytes)
-IsWordOf File word = (file : FileId) × IsFile file × (word ≡ spelling file)
 IsWordOf AnyId word = (id : FileId) × Fits id × (word ≡ spelling id)
 IsWordOf Path word = IsText word
 IsWordOf PathOrId word = (what : Target) × IsTarget what × (word ≡ target_word what)
@@ -77,7 +74,6 @@ fault_of Narrow = fault.Number
 fault_of Wide = fault.Number
 fault_of Count = fault.Number
 fault_of Bytes = fault.Hex
-fault_of File = fault.Id
 fault_of AnyId = fault.Id
 fault_of Path = fault.Byte
 fault_of PathOrId = fault.Id

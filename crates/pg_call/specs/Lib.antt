@@ -1,5 +1,4 @@
 pub mod Call
-pub mod Change
 pub mod Fault
 pub mod Fields
 pub mod Refusal

@@ -87,18 +87,6 @@ IsReply (reply.Leaving server) = server < 2 ^ 32
 IsReply (reply.Status counts) = IsCounts counts
 IsReply (reply.Refused refusal) = IsRefusal refusal
 
--- whoever writes is told the stamp or why not
-abbrev pub IsWriteReply : Reply → Type 0
-IsWriteReply reply.Done = ⊥
-IsWriteReply (reply.Made id) = ⊥
-IsWriteReply (reply.Wrote stamp) = IsStamp stamp
-IsWriteReply (reply.Bytes bytes) = ⊥
-IsWriteReply (reply.Names total rows) = ⊥
-IsWriteReply (reply.Stat stat) = ⊥
-IsWriteReply (reply.Leaving server) = ⊥
-IsWriteReply (reply.Status counts) = ⊥
-IsWriteReply (reply.Refused refusal) = IsRefusal refusal
-
 -- a tick makes no version, and is refused at the clock's end alone
 abbrev pub IsTickReply : Reply → Type 0
 IsTickReply reply.Done = Unit {0}

@@ -4,11 +4,10 @@ ghost use Rattle.std.specs.Prelude.{◌≡◌, IfOk, IfErr, IsTrue, ◌↔◌, A
 ghost use Rattle.pg_base.specs.Id.{Fits, spelling};
 ghost use Rattle.pg_call.specs.Call.{HasSlash, IsPayload, IsTarget, policy_word, target_word};
 ghost use Rattle.pg_call.specs.Fields.{AreCounted, IsWordOf, call_fields};
-ghost use Rattle.pg_call.specs.Fields.Field.{Narrow, Wide, Count, Bytes, File, AnyId, Path, PathOrId, PolicyName};
+ghost use Rattle.pg_call.specs.Fields.Field.{Narrow, Wide, Count, Bytes, AnyId, Path, PathOrId, PolicyName};
 ghost use Rattle.pg_call.specs.declared.error.WordsError.TheVariants.{Bad};
 ghost use Rattle.pg_call.specs.declared.fault.Fault.{Fault};
 ghost use Rattle.pg_call.specs.declared.fault.Fault.TheVariants as fault;
-ghost use Rattle.pg_words.specs.FileWord.{IsFile};
 ghost use Rattle.pg_words.specs.HexWord.{hex_word};
 ghost use Rattle.pg_words.specs.TextWord.{IsText};
 
@@ -17,7 +16,7 @@ use crate::error::WordsError;
 use crate::fault::Fault;
 use crate::limits::{MOST_BYTES, Payload, ReadCount};
 use pg_base::{FileId, Policy, SharedBytes, number, number_u32};
-use pg_words::{is_text, read_file, read_hex_word, read_id};
+use pg_words::{is_text, read_hex_word, read_id};
 use std::alloc::Global;
 
 /// The number below 2^32 that the word spells.
@@ -54,18 +53,6 @@ pub fn count_of(word: &[u8]) -> Result<ReadCount, WordsError>
     match ReadCount::new(count) {
         Some(count) => Ok(count),
         None => Err(WordsError::Bad(Fault::Number)),
-    }
-}
-
-/// The file that the word names.
-pub fn file_of(word: &[u8]) -> Result<FileId, WordsError>
-    ensures found { IfOk result (λ f. IsFile f × (word.now ≡ spelling f)) }
-    ensures bad { IfErr result (λ e. e ≡ Bad fault.Id) }
-    ensures none { IfErr result (λ e. IsWordOf File word.now → ⊥) }
-{
-    match read_file(word) {
-        Some(file) => Ok(file),
-        None => Err(WordsError::Bad(Fault::Id)),
     }
 }
 

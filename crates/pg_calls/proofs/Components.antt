@@ -1,90 +1,24 @@
 -- The tests of components and of client names tell what the relations on paths say, and so does the
 -- check of a whole text.
 use Rattle.std.proofs.Common.{ℕ, suc, ◌≡◌, ◌<◌, ◌≤◌, ◌-◌, ◌==◌, Bool, true, false, List, [], ◌∷◌, Some, None, Ok, Err, length, get_or, All, arith, refl, sym, ap, ◌∙◌, inl, inr}
-use Rattle.std.specs.Prelude.{◌≢◌, ◌&&◌, ◌||◌, ◌↔◌, IsTrue, not, nat_le, nat_lt, slice_index}
-use Rattle.std.specs.List.{list_all, position, position_or_len, slice_get}
-use Rattle.std.proofs.lemmas.Bool.{false≢true, leb-true, le-leb, le-ltb}
-use Rattle.std.proofs.lemmas.Bool.Decides.{eqb_tells}
-use Rattle.std.proofs.lemmas.List.Elements.{All-head, All-tail, All-cons, All-nil}
+use Rattle.std.specs.Prelude.{◌≢◌, ◌||◌, ◌↔◌, IsTrue, not, nat_lt, slice_index}
+use Rattle.std.specs.List.{position, position_or_len, slice_get}
+use Rattle.std.proofs.lemmas.Bool.{false≢true, le-leb, le-ltb}
 use Rattle.std.proofs.lemmas.List.Sums.{position_or_len_is}
 use Rattle.std.proofs.lemmas.Option.{get_or_from_slice_get}
 use Rattle.pg_path.specs.First.{IsFirstWithout}
-use Rattle.pg_path.specs.Name.{IsClientName, IsComponentByte, IsNameByte}
+use Rattle.pg_path.specs.Name.{IsClientName}
 use Rattle.pg_path.specs.Path.{HasBadName, IsComponent, IsPath, parts_of, path_text}
+use Rattle.pg_path.specs.Tested.{is_client_name, is_component}
+use Rattle.pg_path.proofs.Tested.{client_name, client_name_is, component, component_is}
 use Rattle.pg_call.specs.declared.refusal.Refusal.TheVariants.{BadPath}
-use Rattle.pg_house.proofs.Truths.{and_true, bool_cases, both_true, chosen_false, not_true}
-use Rattle.pg_calls.specs.Paths.{all_of, checked_parts, is_client_name, is_component, is_component_byte, is_none, last_of, path_of}
+use Rattle.pg_house.proofs.Truths.{bool_cases, chosen_false}
+use Rattle.pg_calls.specs.Paths.{all_of, checked_parts, is_none, last_of, path_of}
 
--- ---- bytes
-
-differs : (a b : ℕ) → a ≢ b → (a == b) ≡ false
-differs a b apart = elim (eqb_tells a b) [ inl h ↦ absurd (apart h.1) | inr h ↦ h.0 ]
-
-apart_by : (a b : ℕ) → not (a == b) ≡ true → a ≢ b
-apart_by a b h e = elim (eqb_tells a b) [ inl p ↦ absurd (false≢true (sym (not_true (a == b) h) ∙ p.0)) | inr p ↦ absurd (p.1 e) ]
-
-component_byte : (byte : ℕ) → IsComponentByte byte → is_component_byte byte ≡ true
-component_byte byte h =
-    both_true (nat_le 33 byte) (nat_le byte 126 && not (byte == 47)) (le-leb 33 byte h.least)
-    (both_true (nat_le byte 126) (not (byte == 47)) (le-leb byte 126 h.most) (ap not (differs byte 47 h.no_slash)))
-
-component_byte_is : (byte : ℕ) → is_component_byte byte ≡ true → IsComponentByte byte
-component_byte_is byte e =
-    let p = and_true (nat_le 33 byte) (nat_le byte 126 && not (byte == 47)) e in
-    let q = and_true (nat_le byte 126) (not (byte == 47)) p.1 in
-    record { least = leb-true 33 byte p.0; most = leb-true byte 126 q.0; no_slash = apart_by byte 47 q.1 }
-
-abbrev is_name_byte : ℕ → Bool
-is_name_byte byte = is_component_byte byte && not (byte == 126)
-
-name_byte : (byte : ℕ) → IsNameByte byte → is_name_byte byte ≡ true
-name_byte byte h =
-    both_true (is_component_byte byte) (not (byte == 126))
-    (component_byte byte (record { least = h.least; most = h.most; no_slash = h.no_slash }))
-    (ap not (differs byte 126 h.no_tilde))
-
-name_byte_is : (byte : ℕ) → is_name_byte byte ≡ true → IsNameByte byte
-name_byte_is byte e =
-    let p = and_true (is_component_byte byte) (not (byte == 126)) e in
-    let b = component_byte_is byte p.0 in
-    record { least = b.least; most = b.most; no_slash = b.no_slash; no_tilde = apart_by byte 126 p.1 }
-
--- ---- texts of bytes
-
-all_pass : {X : Type 0} (P : X → Type 0) (test : X → Bool) → ((x : X) → P x → test x ≡ true) → (xs : List X) → All P xs → list_all test xs ≡ true
-all_pass P test passes [] h = refl
-all_pass P test passes (x ∷ xs) h = both_true (test x) (list_all test xs) (passes x (All-head P x xs h)) (all_pass P test passes xs (All-tail P x xs h))
-
-all_have : {X : Type 0} (P : X → Type 0) (test : X → Bool) → ((x : X) → test x ≡ true → P x) → (xs : List X) → list_all test xs ≡ true → All P xs
-all_have P test has [] e = All-nil P
-all_have P test has (x ∷ xs) e =
-    let p = and_true (test x) (list_all test xs) e in
-    All-cons P x xs (has x p.0) (all_have P test has xs p.1)
-
-component : (part : List ℕ) → IsComponent part → is_component part ≡ true
-component part h =
-    both_true (nat_le 1 (length part)) (nat_le (length part) 288 && list_all is_component_byte part) (le-leb 1 (length part) h.some)
-    (both_true (nat_le (length part) 288) (list_all is_component_byte part) (le-leb (length part) 288 h.most) (all_pass IsComponentByte is_component_byte component_byte part h.each))
-
-component_is : (part : List ℕ) → is_component part ≡ true → IsComponent part
-component_is part e =
-    let p = and_true (nat_le 1 (length part)) (nat_le (length part) 288 && list_all is_component_byte part) e in
-    let q = and_true (nat_le (length part) 288) (list_all is_component_byte part) p.1 in
-    record { some = leb-true 1 (length part) p.0; most = leb-true (length part) 288 q.0; each = all_have IsComponentByte is_component_byte component_byte_is part q.1 }
+-- ---- components and client names
 
 no_component : (part : List ℕ) → ¬ (IsComponent part) → is_component part ≡ false
 no_component part h = elim (bool_cases (is_component part)) [ inl e ↦ absurd (h (component_is part e)) | inr e ↦ e ]
-
-client_name : (name : List ℕ) → IsClientName name → is_client_name name ≡ true
-client_name name h =
-    both_true (nat_le 1 (length name)) (nat_le (length name) 255 && list_all is_name_byte name) (le-leb 1 (length name) h.some)
-    (both_true (nat_le (length name) 255) (list_all is_name_byte name) (le-leb (length name) 255 h.most) (all_pass IsNameByte is_name_byte name_byte name h.each))
-
-client_name_is : (name : List ℕ) → is_client_name name ≡ true → IsClientName name
-client_name_is name e =
-    let p = and_true (nat_le 1 (length name)) (nat_le (length name) 255 && list_all is_name_byte name) e in
-    let q = and_true (nat_le (length name) 255) (list_all is_name_byte name) p.1 in
-    record { some = leb-true 1 (length name) p.0; most = leb-true (length name) 255 q.0; each = all_have IsNameByte is_name_byte name_byte_is name q.1 }
 
 -- a test that tells client names is the test of client names
 tells_names : (t : Bool) (name : List ℕ) → (IsTrue t ↔ IsClientName name) → t ≡ is_client_name name

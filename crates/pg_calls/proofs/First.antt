@@ -21,7 +21,7 @@ use Rattle.pg_calls.specs.Making.{first_ranges}
 begun_is : (store : Store) (file : FileId) (policy : Policy)
     → replica_of (begin_file store file policy) file ≡ begun (replica_of store file) policy
 begun_is store file policy =
-    ap (or_new (home_of store) file)
+    ap (or_new (home_of store))
     (lookup-insert_entry file_cmp file_total file file (begun (replica_of store file) policy) store.replicas
     ∙ ap (λ b. cond b (Some (begun (replica_of store file) policy)) (lookup (is_at (file_cmp file)) store.replicas)) (is_same_file-refl file))
 

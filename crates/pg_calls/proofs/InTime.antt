@@ -1,9 +1,7 @@
 -- What a check that found something says of the clock, and what the clock says of numbers.
 use Rattle.std.proofs.Common.{ℕ, ◌≡◌, ◌<◌, ◌^◌, ◌+◌, Bool, true, false, not, min, refl, sym, ap, subst, ◌∙◌, List, Result, Ok, Err, arith}
-use Rattle.std.proofs.lemmas.Bool.{ltb-true}
 use Rattle.pg_base.specs.declared.id.FileId.{FileId}
 use Rattle.pg_base.specs.declared.id.Kind.{Kind}
-use Rattle.pg_base.specs.Stamp.{clock_end}
 use Rattle.pg_base.proofs.Orders.{file_of_parts}
 use Rattle.pg_replica.specs.Replica.{has_room}
 use Rattle.pg_replica.specs.Replicas.{have_own_end}
@@ -15,26 +13,22 @@ use Rattle.pg_call.specs.declared.refusal.Refusal.{Refusal}
 use Rattle.pg_call.specs.declared.refusal.Refusal.TheVariants.{ClockEnd, IsDir, Root}
 use Rattle.pg_store.specs.declared.store.Store.{Store}
 use Rattle.pg_store.specs.Store.{has_time, home_of, is_in_time, replica_of}
+use Rattle.pg_store.proofs.InTime.{files_in_time}
 use Rattle.pg_calls.specs.declared.checks.Move.{Move}
 use Rattle.pg_calls.specs.declared.checks.NewName.{NewName}
 use Rattle.pg_calls.specs.Answer.{and_then, unless}
 use Rattle.pg_calls.specs.Checks.{dir_at, empty_dir_at, file_at, first_child, in_time, move_of, new_name, reach_full, thing_at, unless_child}
 use Rattle.pg_calls.specs.Naming.{next_id}
 use Rattle.pg_calls.specs.Paths.{new_path_of, path_of, paths_of}
+use Rattle.pg_calls.proofs.Checked.{behind}
 
 -- ---- checks
-
--- what a check found behind another
-behind : {A B : Type 0} (first : Result A Refusal) (second : A → Result B Refusal) (found : B)
-    → and_then first second ≡ Ok found → (x : A) × (first ≡ Ok x)
-behind (Err why) second found h = cc
-behind (Ok x) second found h = (x, refl)
 
 time_by : {A : Type 0} (b : Bool) (x y : A) → unless (not b) ClockEnd x ≡ Ok y → b ≡ true
 time_by true x y h = refl
 time_by false x y h = cc
 
-behind_time : {A B : Type 0} (store : Store) (texts : Result A Refusal) (next : A → Result B Refusal) (found : B)
+pub behind_time : {A B : Type 0} (store : Store) (texts : Result A Refusal) (next : A → Result B Refusal) (found : B)
     → and_then (and_then texts (in_time store)) next ≡ Ok found → is_in_time store ≡ true
 behind_time store (Err why) next found h = cc
 behind_time store (Ok x) next found h =
@@ -79,15 +73,6 @@ pub same_name : (store : Store) (a b : FileId) (text : List ℕ) → (is_in_time
 same_name store a b text same = same_by store a b text (is_in_time store) refl same
 
 -- ---- numbers
-
-time_parts : (store : Store) → is_in_time store ≡ true → has_time store.names.last store.tags store.files ≡ true
-time_parts store h = (and_true (has_time store.names.last store.tags store.files) _ h).0
-
-pub last_in_time : (store : Store) → is_in_time store ≡ true → store.names.last < 2 ^ 62
-last_in_time store h = ltb-true store.names.last clock_end (and_true _ _ (time_parts store h)).0
-
-pub files_in_time : (store : Store) → is_in_time store ≡ true → store.files < 2 ^ 62
-files_in_time store h = ltb-true store.files clock_end (and_true _ _ (and_true _ _ (time_parts store h)).1).1
 
 -- every replica has room for a version of the server
 pub room_in_time : (store : Store) (file : FileId) (server : ℕ) → server ≡ store.names.server → is_in_time store ≡ true

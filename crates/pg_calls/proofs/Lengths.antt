@@ -1,11 +1,8 @@
 -- Changes that are too long for every body.
-use Rattle.std.proofs.Common.{◌≡◌, ◌↔◌, ℕ, ◌+◌, ◌<◌, Bool, true, false, cond, eqb, length, refl, List, [], ◌∷◌, Result, Ok, Err, IfErr, IsErrOf, sym, ap, subst, arith}
+use Rattle.std.proofs.Common.{◌≡◌, ℕ, ◌+◌, ◌<◌, Bool, true, false, cond, eqb, length, refl, List, [], ◌∷◌, sym, subst, arith}
 use Rattle.pg_patch.specs.Ranges.{RangesValue, applied, write_end, written}
-use Rattle.pg_patch.specs.declared.error.RangeError.{RangeError}
-use Rattle.pg_patch.specs.declared.error.RangeError.TheVariants.{TooLong}
 use Rattle.pg_patch.proofs.Composed.{length-applied}
 use Rattle.pg_content.specs.Content.{body_limit}
-use Rattle.pg_calls.specs.Writes.{whole}
 
 -- a result is as long as its `least` at the least
 pub long_result : (r : RangesValue) → body_limit < r.least → (body : List ℕ) → body_limit < length (applied body r)
@@ -17,12 +14,3 @@ least_by offset bytes false = refl
 
 pub long_write : (offset : ℕ) (bytes : List ℕ) → body_limit < write_end offset bytes → (body : List ℕ) → body_limit < length (applied body (written offset bytes))
 long_write offset bytes h = let P : ℕ → Type 0 = λ n. body_limit < n in long_result (written offset bytes) (subst P (least_by offset bytes (eqb (length bytes) 0)) h)
-
--- bytes that are too many
-pub long_whole : (bytes : List ℕ) → body_limit < length bytes → (body : List ℕ) → body_limit < length (applied body (whole bytes))
-long_whole [] h = absurd (omega arith)
-long_whole (b ∷ bs) h = long_result (whole (b ∷ bs)) h
-
-pub length_told : {A : Type 0} (r : Result A RangeError) (n : ℕ) (P : Type 0) → IsErrOf r TooLong ↔ (body_limit < n) → (body_limit < n → P) → IfErr r (λ e. e ≡ TooLong → P)
-length_told (Ok a) n P h f = tt
-length_told (Err e) n P h f = λ is. f (h.0 (ap Err is))

@@ -1,6 +1,8 @@
 mod Components
 mod Lengths
-mod InTime
+pub mod Checked
+pub mod Walked
+pub mod InTime
 mod First
 mod Made
 mod Telling

@@ -6,4 +6,3 @@ pub mod Naming
 pub mod Bodies
 pub mod Looks
 pub mod Calls
-pub mod Writes

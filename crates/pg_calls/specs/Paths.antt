@@ -1,27 +1,12 @@
 -- The texts of paths: what they name, and which component is at fault.
-use Rattle.std.specs.Prelude.{ℕ, ◌+◌, ◌==◌, ◌&&◌, Bool, true, false, not, nat_le, nat_lt, if◌then◌else◌, List, [], ◌∷◌, length, slice_index, Option, None, Some, Result, Ok, Err}
-use Rattle.std.specs.List.{list_all, position}
+use Rattle.std.specs.Prelude.{ℕ, ◌+◌, ◌==◌, Bool, true, false, not, nat_lt, if◌then◌else◌, List, [], ◌∷◌, length, slice_index, Option, None, Some, Result, Ok, Err}
+use Rattle.std.specs.List.{position}
 use Rattle.pg_path.specs.Path.{parts_of}
+use Rattle.pg_path.specs.Tested.{is_client_name, is_component}
 use Rattle.pg_call.specs.declared.refusal.Refusal.{Refusal}
 use Rattle.pg_call.specs.declared.refusal.Refusal.TheVariants.{BadPath}
 use Rattle.pg_calls.specs.declared.paths.Paths.{Paths}
 use Rattle.pg_calls.specs.Answer.{and_then}
-
--- ---- components
-
--- a byte of a component: it can be seen, and is no slash
-abbrev pub is_component_byte : ℕ → Bool
-is_component_byte byte = nat_le 33 byte && (nat_le byte 126 && not (byte == 47))
-
--- 1 to 288 of them
-abbrev pub is_component : List ℕ → Bool
-is_component part =
-    nat_le 1 (length part) && (nat_le (length part) 288 && list_all is_component_byte part)
-
--- 1 to 255 of them, and none a tilde
-abbrev pub is_client_name : List ℕ → Bool
-is_client_name name = nat_le 1 (length name) && (nat_le (length name) 255
-    && list_all (λ byte. is_component_byte byte && not (byte == 126)) name)
 
 -- ---- whole texts
 

@@ -17,7 +17,7 @@ use std::alloc::{AllocError, Global};
 
 /// The bytes stand at the offset from then on, over what stood there. Where that is refused nothing changes. After out of
 /// memory a part may be done.
-pub fn write(
+pub(crate) fn write(
     store: &mut Store,
     text: &[u8],
     offset: u32,
@@ -38,7 +38,7 @@ pub fn write(
 
 /// The body has this length from then on: it is cut, or has zeros behind it. Where that is refused nothing changes. After
 /// out of memory a part may be done.
-pub fn cut(
+pub(crate) fn cut(
     store: &mut Store,
     text: &[u8],
     length: u32,
@@ -54,7 +54,12 @@ pub fn cut(
 }
 
 /// What is shown from the offset on, at most so many bytes. Nothing changes.
-pub fn read(store: &Store, text: &[u8], offset: u32, count: ReadCount) -> Result<Reply, AllocError>
+pub(crate) fn read(
+    store: &Store,
+    text: &[u8],
+    offset: u32,
+    count: ReadCount,
+) -> Result<Reply, AllocError>
     ensures { IfOk result (λ r. r ≡ read store.now text.now offset count) }
 {
     match file_at(store, text) {

@@ -18,14 +18,14 @@ use std::alloc::AllocError;
 
 /// The directory in which a new name is to be, and the name.
 #[derive(Debug, Drop)]
-pub(crate) struct NewName {
+pub struct NewName {
     pub dir: FileId,
     pub name: SharedBytes,
 }
 
 /// A thing, and where it is to go.
 #[derive(Debug, Drop)]
-pub(crate) struct Move {
+pub struct Move {
     pub thing: FileId,
     pub to: NewName,
 }
@@ -51,7 +51,7 @@ pub(crate) fn when_full(store: &Store, file: FileId) -> Result<FileId, Denied>
 }
 
 /// Whether it is a file with no version.
-fn is_filling(store: &Store, file: &FileId) -> bool
+pub fn is_filling(store: &Store, file: &FileId) -> bool
     ensures { result ≡ is_filling store.now file.now }
 {
     !is_dir(file) && store.has_no_head(file)

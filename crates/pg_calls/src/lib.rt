@@ -3,14 +3,13 @@
 
 mod bodies;
 mod calls;
-mod changing;
 mod checks;
 mod denied;
 mod looks;
 mod making;
 mod naming;
 mod paths;
-mod writes;
 
 pub use calls::{do_call, is_built};
-pub use writes::do_change;
+pub use checks::{Move, NewName, is_filling};
+pub use paths::Paths;

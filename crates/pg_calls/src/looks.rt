@@ -1,9 +1,8 @@
 //! Calls that look and change nothing.
 
 ghost use Rattle.std.specs.Prelude.{◌≡◌, IfOk, count_by};
-ghost use Rattle.pg_names.specs.Names.{known, own_or_blank};
+ghost use Rattle.pg_names.specs.Names.{known};
 ghost use Rattle.pg_register.specs.Flag.{is_live};
-ghost use Rattle.pg_store.specs.Store.{replica_of};
 ghost use Rattle.pg_calls.specs.Looks.{counts, fresh, head_count, listing, ls, page, rows_from, shown_length, stat, stat_of, status, stop};
 
 use crate::checks::{dir_at, file_at, in_time, target_at};
@@ -11,7 +10,7 @@ use pg_base::{FileId, Items, Shared};
 use pg_call::{Counts, Reply, Stat, Target};
 use pg_cells::key_count;
 use pg_house::count_held_back;
-use pg_names::{Names, Own, is_dir};
+use pg_names::{Names, is_dir};
 use pg_path::Row;
 use pg_register::GoldFlags;
 use pg_store::Store;
@@ -87,34 +86,16 @@ pub(crate) fn stat(store: &Store, target: &Target) -> Result<Reply, AllocError>
 fn stat_of(store: &Store, file: FileId) -> Result<Stat, AllocError>
     ensures { IfOk result (λ stat. stat ≡ stat_of store.now file) }
 {
-    let own = own_or_blank(store, file)?;
+    let own = store.names.own_or_blank(file)?;
     Ok(Stat {
         id: file,
-        gold: own.flags.is_raised(store.server(), birth(store, file)),
+        gold: own.flags.is_raised(store.server(), store.birth(&file)),
         golds: live_golds(&store.names, &own.flags),
         heads: head_count(store, file),
         length: shown_length(store, file),
         edges: store.edge_count(&file) as u64,
         place: own.place,
     })
-}
-
-fn own_or_blank(store: &Store, file: FileId) -> Result<Own, AllocError>
-    ensures { IfOk result (λ own. own ≡ own_or_blank store.now.names file) }
-{
-    match store.names.own(&file) {
-        Some(own) => own.copy(),
-        None => Own::blank(store.allocator(), file),
-    }
-}
-
-fn birth(store: &Store, file: FileId) -> u64
-    ensures { result ≡ (replica_of store.now file).birth }
-{
-    match store.replica(&file) {
-        Some(replica) => replica.birth,
-        None => 1,
-    }
 }
 
 /// How many flags are raised of servers that are not removed.

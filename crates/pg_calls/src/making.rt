@@ -3,11 +3,11 @@
 ghost use Rattle.std.specs.Prelude.{◌≡◌, ◌≢◌, ◌<◌, ◌≤◌, ◌^◌, IfErr, IfOk, None, OnOk, Some, true};
 ghost use Rattle.pg_replica.specs.Replica.{has_room, refusal_of};
 ghost use Rattle.pg_store.specs.Store.{replica_of};
-ghost use Rattle.pg_cells.specs.Cells.{with_news};
 ghost use Rattle.pg_cells.specs.Done.{idle};
 ghost use Rattle.pg_calls.specs.Making.{drawn, first_ranges, make_flag, make_place, make_version, with_version};
 
 use pg_base::{FileId, Items, Stamp};
+use pg_cells::touch_news;
 use pg_content::WriteError;
 use pg_edges::Key;
 use pg_msg::{MadeVersion, Touched, Update, Work};
@@ -49,7 +49,7 @@ pub(crate) fn make_place(
     };
     work.made.push(made)?;
     let news = store.take_place(file, place)?;
-    note_news(news, work, file, Key::Place)?;
+    touch_news(news, work, file, Key::Place)?;
     Ok(())
 }
 
@@ -67,17 +67,7 @@ pub(crate) fn make_flag(
 {
     work.made.push(Update::Flag { id: file, flag })?;
     let news = store.take_flag(file, flag)?;
-    note_news(news, work, file, Key::Flag(flag.server))?;
-    Ok(())
-}
-
-/// The key was touched, where what was taken there was news.
-fn note_news(news: bool, work: &mut Work, file: FileId, key: Key) -> Result<(), AllocError>
-    ensures { OnOk result (work.new ≡ with_news news work.old file key) }
-{
-    if news {
-        work.touched.push(Touched { file, key })?;
-    }
+    touch_news(news, work, file, Key::Flag(flag.server))?;
     Ok(())
 }
 

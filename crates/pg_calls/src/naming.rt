@@ -1,7 +1,6 @@
 //! Calls that make names, move them and take them away.
 
 ghost use Rattle.std.specs.Prelude.{◌≡◌, ◌<◌, ◌≤◌, ◌^◌, IfOk, OnOk};
-ghost use Rattle.pg_names.specs.Names.{own_or_blank};
 ghost use Rattle.pg_cells.specs.Done.{idle};
 ghost use Rattle.pg_calls.specs.Answer.{Tells};
 ghost use Rattle.pg_calls.specs.Checks.{new_name};
@@ -19,7 +18,7 @@ use pg_store::{MOST_TAGS, Store, first_flag};
 use std::alloc::AllocError;
 
 /// A new directory. Where it is refused nothing changes. After out of memory a part may be done.
-pub fn mkdir(store: &mut Store, text: &[u8], work: &mut Work) -> Result<Reply, AllocError>
+pub(crate) fn mkdir(store: &mut Store, text: &[u8], work: &mut Work) -> Result<Reply, AllocError>
     ensures store { OnOk result (store.new ≡ (mkdir store.old text.now work.old).store) }
     ensures work { OnOk result (work.new ≡ (mkdir store.old text.now work.old).work) }
     ensures reply { IfOk result (λ r. r ≡ (mkdir store.old text.now work.old).reply) }
@@ -36,7 +35,7 @@ pub fn mkdir(store: &mut Store, text: &[u8], work: &mut Work) -> Result<Reply, A
 
 /// A new file with this policy and an empty version. Where it is refused nothing changes. After out of memory a part may be
 /// done.
-pub fn create(
+pub(crate) fn create(
     store: &mut Store,
     text: &[u8],
     policy: Policy,
@@ -59,7 +58,7 @@ pub fn create(
 }
 
 /// A thing gets a new place. Where that is refused nothing changes. After out of memory a part may be done.
-pub fn rename(
+pub(crate) fn rename(
     store: &mut Store,
     from: &[u8],
     to: &[u8],
@@ -79,7 +78,7 @@ pub fn rename(
 }
 
 /// A file is taken away. Where that is refused nothing changes. After out of memory a part may be done.
-pub fn unlink(store: &mut Store, text: &[u8], work: &mut Work) -> Result<Reply, AllocError>
+pub(crate) fn unlink(store: &mut Store, text: &[u8], work: &mut Work) -> Result<Reply, AllocError>
     ensures store { OnOk result (store.new ≡ (unlink store.old text.now work.old).store) }
     ensures work { OnOk result (work.new ≡ (unlink store.old text.now work.old).work) }
     ensures reply { IfOk result (λ r. r ≡ (unlink store.old text.now work.old).reply) }
@@ -95,7 +94,7 @@ pub fn unlink(store: &mut Store, text: &[u8], work: &mut Work) -> Result<Reply, 
 
 /// A directory that shows no name is taken away. Where that is refused nothing changes. After out of memory a part may be
 /// done.
-pub fn rmdir(store: &mut Store, text: &[u8], work: &mut Work) -> Result<Reply, AllocError>
+pub(crate) fn rmdir(store: &mut Store, text: &[u8], work: &mut Work) -> Result<Reply, AllocError>
     ensures store { OnOk result (store.new ≡ (rmdir store.old text.now work.old).store) }
     ensures work { OnOk result (work.new ≡ (rmdir store.old text.now work.old).work) }
     ensures reply { IfOk result (λ r. r ≡ (rmdir store.old text.now work.old).reply) }
@@ -223,21 +222,11 @@ fn dead_place(store: &Store, moment: u64, file: &FileId) -> Result<Place, AllocE
     requires { store.now.names.last < 2 ^ 63 }
     ensures { IfOk result (λ place. place ≡ dead_place store.now moment file.now) }
 {
-    let own = own_place(store, file)?;
+    let own = store.names.place_or_blank(*file)?;
     Ok(Place {
         stamp: next_stamp(store, moment),
         parent: own.parent,
         name: own.name,
         live: false,
     })
-}
-
-/// The place that a thing has: the blank one, where it is not held.
-fn own_place(store: &Store, file: &FileId) -> Result<Place, AllocError>
-    ensures { IfOk result (λ place. place ≡ (own_or_blank store.now.names file.now).place) }
-{
-    match store.names.own(file) {
-        Some(own) => own.place.copy(),
-        None => Place::blank(store.allocator(), *file),
-    }
 }

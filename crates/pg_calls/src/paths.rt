@@ -2,7 +2,8 @@
 
 ghost use Rattle.std.specs.Prelude.{◌≡◌, ◌<◌, ◌||◌, length};
 ghost use Rattle.pg_calls.specs.Answer.{Tells};
-ghost use Rattle.pg_calls.specs.Paths.{is_client_name, is_none, last_of, new_path_of, path_of, paths_of};
+ghost use Rattle.pg_path.specs.Tested.{is_client_name};
+ghost use Rattle.pg_calls.specs.Paths.{is_none, last_of, new_path_of, path_of, paths_of};
 
 use crate::denied::Denied;
 use pg_call::Refusal;
@@ -11,7 +12,7 @@ use std::alloc::Global;
 
 /// The paths of a move. The first is walked to its end, the second to the parent of its last component.
 #[derive(Debug, Drop)]
-pub(crate) struct Paths {
+pub struct Paths {
     pub from: Path,
     pub to: Path,
 }

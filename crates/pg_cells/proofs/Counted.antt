@@ -6,14 +6,14 @@ use Rattle.std.specs.Map.{keys_of}
 use Rattle.std.proofs.lemmas.List.{length-append}
 use Rattle.pg_base.specs.declared.id.FileId.{FileId}
 use Rattle.pg_base.specs.Id.{file_cmp}
-use Rattle.pg_base.proofs.Orders.{file_total}
+use Rattle.pg_base.proofs.Orders.{file_exact, file_total}
 use Rattle.pg_edges.specs.declared.edge.Edge.{Edge}
 use Rattle.pg_edges.specs.declared.key.Key.{Key}
 use Rattle.pg_replica.specs.declared.replica.Replica.{Replica}
 use Rattle.pg_replica.specs.Index.{Files, IsIndex}
 use Rattle.pg_replica.specs.Replicas.{ByFile, replica_in}
 use Rattle.pg_replica.proofs.Clean.{clean_pieces}
-use Rattle.pg_replica.proofs.Merging.{by_index, file_exact}
+use Rattle.pg_replica.proofs.Merging.{by_index}
 use Rattle.pg_cells.specs.Counts.{edge_keys, file_keys, replica_keys}
 
 -- the keys of these files, by the replicas that they have

@@ -12,14 +12,14 @@ use Rattle.std.specs.Ordering.{eq_by_cmp}
 use Rattle.pg_base.specs.declared.id.FileId.{FileId}
 use Rattle.pg_base.specs.Id.{file_cmp, is_same_file}
 use Rattle.pg_base.proofs.Maps.{lookup-insert_entry}
-use Rattle.pg_base.proofs.Orders.{file_total, is_same_file-true, is_same_file-refl}
+use Rattle.pg_base.proofs.Orders.{file_total, is_same_file-true, is_same_file-refl, file_exact}
 use Rattle.pg_edges.specs.declared.edge.Edge.{Edge}
 use Rattle.pg_edges.specs.declared.key.Key.{Key}
 use Rattle.pg_edges.specs.Key.{is_same_key}
 use Rattle.pg_msg.specs.declared.work.Touched.{Touched}
 use Rattle.pg_replica.specs.Index.{Files, IsIndex}
 use Rattle.pg_replica.proofs.Clean.{clean_pieces}
-use Rattle.pg_replica.proofs.Merging.{by_index, file_exact}
+use Rattle.pg_replica.proofs.Merging.{by_index}
 use Rattle.pg_store.specs.declared.store.Store.{Store}
 use Rattle.pg_store.specs.Store.{replica_at}
 use Rattle.pg_cells.specs.declared.choice.Choice.{Choice}

@@ -4,7 +4,7 @@ ghost use Rattle.std.specs.Prelude.{◌≡◌, ◌≤◌, ◌^◌, IfOk, OnOk, t
 ghost use Rattle.pg_msg.specs.Sent.{cell_key};
 ghost use Rattle.pg_replica.specs.Replica.{has_edge};
 ghost use Rattle.pg_store.specs.Store.{replica_of};
-ghost use Rattle.pg_cells.specs.Cells.{ack_to, cell, cell_if_accepted, fits, is_news, taken};
+ghost use Rattle.pg_cells.specs.Cells.{ack_to, cell, cell_if_accepted, fits, is_news, taken, with_news};
 ghost use Rattle.pg_cells.specs.Done.{is_accepted, link_of};
 
 use pg_base::{FileId, NodeId};
@@ -97,6 +97,14 @@ fn take_and_answer(
     let answer = ack_to(store.server(), work.from, &ends, key, tag);
     let news = take(store, file, &link_of(work.from, &ends), received)?;
     work.sent.push(answer)?;
+    touch_news(news, work, file, key)?;
+    Ok(())
+}
+
+/// The key is touched, where what was taken there was news.
+pub fn touch_news(news: bool, work: &mut Work, file: FileId, key: Key) -> Result<(), AllocError>
+    ensures { OnOk result (work.new ≡ with_news news work.old file key) }
+{
     if news {
         work.touched.push(Touched { file, key })?;
     }

@@ -12,7 +12,7 @@ mod settling;
 mod ticks;
 
 pub use acks::ack;
-pub use cells::cell;
+pub use cells::{cell, touch_news};
 pub use counting::key_count;
 pub use finishing::finish;
 pub use settling::settle;

@@ -35,11 +35,11 @@ use Rattle.pg_store.specs.declared.store.Store.{Store}
 use Rattle.pg_store.specs.Store.{acknowledge, content_of, is_in_time, take_version, with_names, with_policy}
 use Rattle.pg_cells.specs.Cells.{ack_to, cell as take_cell, fits, is_news, taken, with_answer}
 use Rattle.pg_cells.specs.Done.{Done, idle, is_accepted, link_of}
+use Rattle.pg_cells.proofs.News.{news_made, news_sent}
 use Rattle.pg_server.specs.declared.input.Input.TheVariants as input
 use Rattle.pg_server.specs.Local.{Effect, arrival_effect, closed, finished, receive}
 use Rattle.pg_promises.specs.Whole.{IsWhole}
 use Rattle.pg_promises.proofs.Whole.{whole_acknowledge, whole_entry, whole_flag, whole_place, whole_taken}
-use Rattle.pg_contents.proofs.Calls.{news_made, news_sent}
 use Rattle.pg_contents.proofs.Carrying.{Carries, CarriesCell}
 use Rattle.pg_contents.proofs.Ends.{Ends as IsEnd, closed_ends, finished_ends}
 use Rattle.pg_contents.proofs.Files.{IsReady, begun_with, covered_upto, file_came, ready}
@@ -110,7 +110,7 @@ module _ {n s : ℕ} {a : Store} {us : List MadeVersion} {p : FileId → Policy}
   version_stands =
       stands_came k.stands end file (joined_content c v) came_puts v.head.stamp came_time
       (file_came is_ready.policy is_ready.stood (k.stands.known file) (k.made.histories file)
-      h.made h.among file v h.whole) came_member
+      h.made h.among v h.whole) came_member
 
 -- ---- a cell
 

@@ -18,13 +18,13 @@ use Rattle.pg_run.specs.Took.{stamps_taken, take_of}
 use Rattle.pg_store.specs.declared.store.Store.{Store}
 use Rattle.pg_store.specs.Start.{first_flag}
 use Rattle.pg_store.specs.Store.{begin_file, is_in_time, take_place}
+use Rattle.pg_store.proofs.InTime.{last_in_time}
 use Rattle.pg_cells.specs.Done.{Done}
 use Rattle.pg_calls.specs.Answer.{Answer, answer}
 use Rattle.pg_calls.specs.Making.{drawn, first_ranges, version_of}
 use Rattle.pg_calls.specs.Naming.{next_id, with_first_version, with_id}
 use Rattle.pg_promises.proofs.Whole.{whole_begin}
 use Rattle.pg_contents.proofs.Calls.{Did, did_thing, thing_at, thing_updates}
-use Rattle.pg_contents.proofs.Checks.{last_in_time}
 use Rattle.pg_contents.proofs.Files.{IsReady, no_version, stood_begun}
 use Rattle.pg_contents.proofs.Pieces.{begun_puts, flag_upto, id_keeps, place_upto}
 use Rattle.pg_contents.proofs.Sending.{SamePolicies}

@@ -1,13 +1,11 @@
 -- What calls do to contents. All but those that make or write a file leave all contents as they
 -- are.
-use Rattle.std.proofs.Common.{ℕ, ◌≡◌, ◌+◌, Bool, true, false, List, [], ◌∷◌, ◌++◌, map, refl, ap, ◌∙◌}
+use Rattle.std.proofs.Common.{ℕ, ◌≡◌, ◌+◌, List, [], ◌∷◌, ◌++◌, map, refl, ap, ◌∙◌}
 use Rattle.pg_base.specs.declared.id.FileId.{FileId}
 use Rattle.pg_call.specs.declared.reply.Reply.{Reply}
-use Rattle.pg_edges.specs.declared.key.Key.{Key}
 use Rattle.pg_edges.specs.declared.key.Key.TheVariants as key
 use Rattle.pg_msg.specs.declared.update.Update.{Update}
 use Rattle.pg_msg.specs.declared.update.Update.TheVariants as update
-use Rattle.pg_msg.specs.declared.work.Work.{Work}
 use Rattle.pg_msg.specs.Work.{new_work, with_made}
 use Rattle.pg_run.specs.Journal.{versions_in}
 use Rattle.pg_register.specs.declared.flag.Flag.{Flag}
@@ -16,8 +14,8 @@ use Rattle.pg_run.specs.Took.{stamps_taken, take_of}
 use Rattle.pg_store.specs.declared.store.Store.{Store}
 use Rattle.pg_store.specs.Store.{is_newer_flag, is_newer_place}
 use Rattle.pg_store.specs.Start.{first_flag}
-use Rattle.pg_cells.specs.Cells.{with_news}
 use Rattle.pg_cells.specs.Done.{Done, idle}
+use Rattle.pg_cells.proofs.News.{news_made, news_now, news_sent}
 use Rattle.pg_calls.specs.Answer.{Answer, answer, told}
 use Rattle.pg_calls.specs.Making.{make_flag, make_place}
 use Rattle.pg_calls.specs.Naming.{with_id}
@@ -35,21 +33,6 @@ pub record Did (n s : ℕ) (a : Store) (moment : ℕ) (us : List Update) (d : Do
   pub made : d.work.made ≡ us
   pub sent : d.work.sent ≡ []
   pub now : d.work.now ≡ moment
-
-pub news_made : (t : Bool) (work : Work) (file : FileId) (q : Key)
-    → (with_news t work file q).made ≡ work.made
-news_made true work file q = refl
-news_made false work file q = refl
-
-pub news_sent : (t : Bool) (work : Work) (file : FileId) (q : Key)
-    → (with_news t work file q).sent ≡ work.sent
-news_sent true work file q = refl
-news_sent false work file q = refl
-
-news_now : (t : Bool) (work : Work) (file : FileId) (q : Key)
-    → (with_news t work file q).now ≡ work.now
-news_now true work file q = refl
-news_now false work file q = refl
 
 module _ {n s : ℕ} {a : Store} {moment : ℕ} {us : List Update} {d : Done}
     (k : Did n s a moment us d) where

@@ -40,17 +40,6 @@ keeps_puts k p =
       others = λ q apart. p.others q apart ∙ k.each q;
     }
 
-pub puts_keeps : {a b d : Store} {file : FileId} {c : ContentValue} → Puts a b file c → Keeps b d
-    → Puts a d file c
-puts_keeps {file = file} p k =
-    let e = k.last in let f = p.last in let g = k.files in let h = p.files in
-    record {
-      last = omega arith;
-      files = omega arith;
-      here = k.each file ∙ p.here;
-      others = λ q apart. k.each q ∙ p.others q apart;
-    }
-
 pub puts_puts : {a b d : Store} {file : FileId} {c e : ContentValue} → Puts a b file c
     → Puts b d file e → Puts a d file e
 puts_puts p r =

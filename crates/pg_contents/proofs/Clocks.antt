@@ -52,7 +52,7 @@ module _ {n s : ℕ} {a : Store} {us : List MadeVersion} {p : FileId → Policy}
   file_ends_not : (server : ℕ) (file : FileId) (x : Replica) → replica_at a file ≡ Some x
       → knows_own_end server x ≡ false
   file_ends_not server file x here =
-      let same : replica_of a file ≡ x = ap (or_new (home_of a) file) here in
+      let same : replica_of a file ≡ x = ap (or_new (home_of a)) here in
       let P : Replica → Type 0 = (λ y. knows_own_end server y ≡ false) in
       subst P same
       (list_any_none (λ (v : VersionValue). has_own_end server v.head.vector)

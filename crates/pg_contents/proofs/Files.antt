@@ -2,8 +2,8 @@
 -- version that comes, and another server's write keep it so.
 use Rattle.std.proofs.Common.{[], ℕ, ◌≡◌, ◌≢◌, ◌≤◌, Bool, true, false, cond, List, ◌∷◌, map, refl, sym, ap, subst, ◌∙◌, inl, inr, ◌↔◌, ◌⊎◌, arith}
 use Rattle.std.proofs.lemmas.Bool.{false≢true}
-use Rattle.pg_base.specs.declared.id.FileId.{FileId}
 use Rattle.pg_base.specs.declared.policy.Policy.{Policy}
+use Rattle.pg_base.specs.declared.policy.Policy.TheVariants.{Last}
 use Rattle.pg_base.specs.declared.stamp.Stamp.{Stamp}
 use Rattle.pg_base.specs.Version.{VersionValue, actor_of, stamp_of}
 use Rattle.pg_content.specs.Content.{Among, ContentValue, is_covered, joined_content, put_version, written}
@@ -13,7 +13,6 @@ use Rattle.pg_content.proofs.Standing.{stands_same}
 use Rattle.pg_content.proofs.StandsJoined.{stands_joined}
 use Rattle.pg_content.proofs.StandsWritten.{stands_later, stands_written}
 use Rattle.pg_run.specs.Journal.{with_ancestors}
-use Rattle.pg_replica.specs.Untouched.{policy_of}
 use Rattle.pg_store.specs.Store.{is_empty}
 use Rattle.pg_contents.proofs.Sets.{AreMembers, itself_taken, taken_is, taken_with, with_member, within_later}
 
@@ -21,19 +20,19 @@ use Rattle.pg_contents.proofs.Sets.{AreMembers, itself_taken, taken_is, taken_wi
 
 -- the policy of a file's content: that of the file, and until a version comes, what an untouched
 -- replica has
-abbrev pub policy_in : Policy → FileId → List VersionValue → Policy
-policy_in p file [] = policy_of file
-policy_in p file (v ∷ vs) = p
+abbrev pub policy_in : Policy → List VersionValue → Policy
+policy_in p [] = Last
+policy_in p (v ∷ vs) = p
 
-pub policy_headed : (p : Policy) (file : FileId) (vs : List VersionValue) (v : VersionValue)
-    → Among v vs → policy_in p file vs ≡ p
-policy_headed p file [] v l = absurd l
-policy_headed p file (w ∷ vs) v l = refl
+pub policy_headed : (p : Policy) (vs : List VersionValue) (v : VersionValue) → Among v vs
+    → policy_in p vs ≡ p
+policy_headed p [] v l = absurd l
+policy_headed p (w ∷ vs) v l = refl
 
-policy_none : (p q : Policy) (file : FileId) (vs : List VersionValue)
-    → ((v : VersionValue) → Among v vs → ⊥) → policy_in p file vs ≡ policy_in q file vs
-policy_none p q file [] none = refl
-policy_none p q file (v ∷ vs) none = absurd (none v (inl refl))
+policy_none : (p q : Policy) (vs : List VersionValue)
+    → ((v : VersionValue) → Among v vs → ⊥) → policy_in p vs ≡ policy_in q vs
+policy_none p q [] none = refl
+policy_none p q (v ∷ vs) none = absurd (none v (inl refl))
 
 -- ---- what stands for what was taken
 
@@ -43,9 +42,9 @@ pub record Stood (s : ℕ) (c : ContentValue) (h : List Made) (set : List Stamp)
   pub own : (m : Made) → Among m h → m.stamp.server ≡ s → Among m.stamp (with_ancestors h set)
 
 -- and they have the file's policy
-pub record HoldsFile (s : ℕ) (file : FileId) (p : Policy) (c : ContentValue) (h : List Made)
-    (set : List Stamp) : Type 0 where
-  pub policy : c.policy ≡ policy_in p file c.heads
+pub record HoldsFile (s : ℕ) (p : Policy) (c : ContentValue) (h : List Made) (set : List Stamp)
+    : Type 0 where
+  pub policy : c.policy ≡ policy_in p c.heads
   pub stood : Stood s c h set
 
 module _ {s : ℕ} {c : ContentValue} {h : List Made} {set : List Stamp} (f : Stood s c h set)
@@ -119,12 +118,11 @@ IsMadeOf p h v = (m : Made) × Among m h × (v ≡ version_of p h m)
 
 -- ---- one file
 
-module _ {s : ℕ} {file : FileId} {p : Policy} {c : ContentValue} {h : List Made}
-    {set : List Stamp} where
-  module _ (f : HoldsFile s file p c h set) where
+module _ {s : ℕ} {p : Policy} {c : ContentValue} {h : List Made} {set : List Stamp} where
+  module _ (f : HoldsFile s p c h set) where
     -- whoever has a head has the policy of the file
     pub headed : (v : VersionValue) → Among v c.heads → c.policy ≡ p
-    headed v l = f.policy ∙ policy_headed p file c.heads v l
+    headed v l = f.policy ∙ policy_headed p c.heads v l
 
     -- each head is a version of the history of the file, whole
     pub held_version : (v : VersionValue) → Among v c.heads → IsMadeOf p h v
@@ -137,28 +135,28 @@ module _ {s : ℕ} {file : FileId} {p : Policy} {c : ContentValue} {h : List Mad
     no_version none v l =
         let r = f.stood.stands.heads v l in subst (λ x. Among r.made x) none r.member
 
-    pub file_policy : (q : Policy) → (q ≡ p) ⊎ (h ≡ []) → HoldsFile s file q c h set
+    pub file_policy : (q : Policy) → (q ≡ p) ⊎ (h ≡ []) → HoldsFile s q c h set
     file_policy q (inl same) = record {
-      policy = f.policy ∙ ap (λ x. policy_in x file c.heads) (sym same);
+      policy = f.policy ∙ ap (λ x. policy_in x c.heads) (sym same);
       stood = f.stood;
     }
     file_policy q (inr none) = record {
-      policy = f.policy ∙ policy_none p q file c.heads (no_version none);
+      policy = f.policy ∙ policy_none p q c.heads (no_version none);
       stood = f.stood;
     }
 
     pub file_later : AreMembers h set → (m : Made) → IsHistory (m ∷ h) → m.stamp.server ≢ s
-        → HoldsFile s file p c (m ∷ h) set
+        → HoldsFile s p c (m ∷ h) set
     file_later are m k other =
         record { policy = f.policy; stood = stood_later f.stood are m k other }
 
 -- a content with the policy of its file, as a write or a version finds it
 module _ {s : ℕ} {p : Policy} {c : ContentValue} {h : List Made} {set : List Stamp}
     (policy : c.policy ≡ p) (f : Stood s c h set) (are : AreMembers h set) where
-  pub file_wrote : (file : FileId) (m : Made) → IsHistory (m ∷ h)
+  pub file_wrote : (m : Made) → IsHistory (m ∷ h)
       → m.bases ≡ map stamp_of c.heads
-      → HoldsFile s file p (written c (maker m) m.stamp m.ranges) (m ∷ h) (m.stamp ∷ set)
-  file_wrote file m k based = record { policy = policy; stood = stood_wrote f are m k based }
+      → HoldsFile s p (written c (maker m) m.stamp m.ranges) (m ∷ h) (m.stamp ∷ set)
+  file_wrote m k based = record { policy = policy; stood = stood_wrote f are m k based }
 
   module _ (k : IsHistory h) (m : Made) (is : Among m h) where
     came_by : (v : VersionValue) → v ≡ version_of c.policy h m
@@ -183,13 +181,13 @@ module _ {s : ℕ} {p : Policy} {c : ContentValue} {h : List Made} {set : List S
     came_taken v e =
         itself_taken h k (v.head.stamp ∷ set) (came_members v e) v.head.stamp (inl refl)
 
-    pub file_came : (file : FileId) (v : VersionValue) → v ≡ version_of p h m
-        → HoldsFile s file p (joined_content c v) h (v.head.stamp ∷ set)
-    file_came file v e =
+    pub file_came : (v : VersionValue) → v ≡ version_of p h m
+        → HoldsFile s p (joined_content c v) h (v.head.stamp ∷ set)
+    file_came v e =
         let g = came_by v (same_version v e) in
         let a = g.stands.all v.head.stamp (came_taken v e) in
         record {
-          policy = policy ∙ sym (policy_headed p file (joined_content c v).heads a.0 a.1);
+          policy = policy ∙ sym (policy_headed p (joined_content c v).heads a.0 a.1);
           stood = g;
         }
 
@@ -245,8 +243,8 @@ pub record IsReady (s : ℕ) (p : Policy) (c : ContentValue) (h : List Made) (se
   pub policy : c.policy ≡ p
   pub stood : Stood s c h set
 
-ready_by : {s : ℕ} {file : FileId} {p : Policy} {c : ContentValue} {h : List Made}
-    {set : List Stamp} → HoldsFile s file p c h set → (policy : Policy) → policy ≡ p → (t : Bool)
+ready_by : {s : ℕ} {p : Policy} {c : ContentValue} {h : List Made} {set : List Stamp}
+    → HoldsFile s p c h set → (policy : Policy) → policy ≡ p → (t : Bool)
     → is_empty c.heads ≡ t
     → IsReady s p (cond t (record { policy = policy; heads = [] }) c) h set
 ready_by {c = c} f policy same true e =
@@ -255,7 +253,7 @@ ready_by {c = c} f policy same false e =
     let a = a_head c.heads e in record { policy = headed f a.0 a.1; stood = f.stood }
 
 -- so a version may come then
-pub ready : {s : ℕ} {file : FileId} {p : Policy} {c : ContentValue} {h : List Made}
-    {set : List Stamp} → HoldsFile s file p c h set → (policy : Policy) → policy ≡ p
+pub ready : {s : ℕ} {p : Policy} {c : ContentValue} {h : List Made} {set : List Stamp}
+    → HoldsFile s p c h set → (policy : Policy) → policy ≡ p
     → IsReady s p (begun_with policy c) h set
 ready {c = c} f policy same = ready_by f policy same (is_empty c.heads) refl

@@ -8,7 +8,7 @@ use Rattle.pg_base.specs.Id.{is_same_file}
 use Rattle.pg_base.specs.Vector.{number_at}
 use Rattle.pg_base.proofs.Orders.{is_same_file-true, is_same_file-refl}
 use Rattle.pg_content.specs.Content.{Among}
-use Rattle.pg_content.specs.History.{IsAncestor, IsHistory, IsMember, IsNext, Made, vector_of}
+use Rattle.pg_content.specs.History.{IsAncestor, IsHistory, IsNext, Made, vector_of}
 use Rattle.pg_content.proofs.Numbers.{earlier_vector, member_of}
 use Rattle.pg_msg.specs.declared.update.MadeVersion.{MadeVersion}
 use Rattle.pg_run.specs.Journal.{made_for, made_of}
@@ -48,13 +48,6 @@ pub update_of : (file : FileId) (m : Made) (us : List MadeVersion) → Among m (
 update_of file m [] l = absurd l
 update_of file m (u ∷ us) l =
     update_by file m u us (is_same_file file u.file) refl l (update_of file m us)
-
--- a member stays one
-pub member_later : (file : FileId) (s : Stamp) (u : MadeVersion) (us : List MadeVersion)
-    → IsMember (made_for file us) s → IsMember (made_for file (u ∷ us)) s
-member_later file s u us is =
-    cond_both (is_same_file file u.file) (made_of u ∷ made_for file us) (made_for file us)
-    (λ h. IsMember h s) (λ e. inr is) (λ e. is)
 
 -- ---- what holds of the versions that were made
 

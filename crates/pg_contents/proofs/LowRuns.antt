@@ -11,7 +11,7 @@ use Rattle.pg_edges.specs.declared.key.Key.{Key}
 use Rattle.pg_event.specs.declared.entry.VoidCause.{VoidCause}
 use Rattle.pg_event.specs.declared.entry.VoidCause.TheVariants.{NoMessage, NoServer, Unbuilt}
 use Rattle.pg_event.specs.declared.event.Event.{Event}
-use Rattle.pg_event.specs.declared.event.Event.TheVariants.{Write, Call as Called, Tick, Deliver, Lose, Repeat, Restart, Remove}
+use Rattle.pg_event.specs.declared.event.Event.TheVariants.{Call as Called, Tick, Deliver, Lose, Repeat, Restart, Remove}
 use Rattle.pg_msg.specs.declared.message.Packet.{Packet}
 use Rattle.pg_msg.specs.declared.message.Sent.{Sent}
 use Rattle.pg_msg.specs.declared.update.MadeVersion.{MadeVersion}
@@ -206,8 +206,6 @@ module _ (n : ℕ) (small : n < 2 ^ 32) (w : World) (k : IsSound n w) (low : IsL
   moved_next e (Some m) sent = idle_low e None sent
 
   pub next_low : (e : Event) → LowAfter (next n w e)
-  next_low (Write s moment file what) =
-      idle_low (Write s moment file what) (Some Unbuilt) no_more
   next_low (Called s moment asked) = called_next s moment asked
   next_low (Tick s moment word) = tick_next s moment word
   next_low (Deliver number) = delivery_next number (message_at under_way number) refl

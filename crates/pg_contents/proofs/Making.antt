@@ -16,13 +16,15 @@ use Rattle.pg_replica.specs.Replica.{own_actor}
 use Rattle.pg_run.specs.Took.{stamps_taken, take_of}
 use Rattle.pg_store.specs.declared.store.Store.{Store}
 use Rattle.pg_store.specs.Store.{content_of, is_in_time, replica_of, write}
+use Rattle.pg_store.proofs.InTime.{last_in_time}
 use Rattle.pg_cells.specs.Done.{idle}
 use Rattle.pg_calls.specs.Answer.{Answer, answer}
 use Rattle.pg_calls.specs.Checks.{file_at}
 use Rattle.pg_calls.specs.Making.{drawn, make_version, version_of}
+use Rattle.pg_calls.proofs.InTime.{file_in_time}
 use Rattle.pg_promises.specs.Whole.{IsWhole}
 use Rattle.pg_promises.proofs.Whole.{full_of, whole_write}
-use Rattle.pg_contents.proofs.Checks.{file_found, file_in_time, last_in_time}
+use Rattle.pg_contents.proofs.Checks.{file_found}
 use Rattle.pg_contents.proofs.Files.{HoldsFile, IsReady, a_head, headed, held_version}
 use Rattle.pg_contents.proofs.Histories.{IsNextUpdate, update_of}
 use Rattle.pg_contents.proofs.Pieces.{write_puts}
@@ -99,14 +101,14 @@ module _ {n s : ℕ} {a : Store} {us : List MadeVersion} {q : FileId → Policy}
   abbrev now : ContentValue
   now = written (content_of b file) (own_actor (replica_of b file) stamp.server) stamp ranges
 
-  made_file : HoldsFile s file (q file) now (made_of new ∷ made_for file us) (stamp ∷ came file)
+  made_file : HoldsFile s (q file) now (made_of new ∷ made_for file us) (stamp ∷ came file)
   made_file =
       let P : ContentValue → Type 0 =
-      (λ d. HoldsFile s file (q file)
+      (λ d. HoldsFile s (q file)
       (written d (own_actor (replica_of b file) stamp.server) stamp ranges)
       (made_of new ∷ made_for file us) (stamp ∷ came file)) in
       let Q : ℕ → Type 0 =
-      (λ z. HoldsFile s file (q file)
+      (λ z. HoldsFile s (q file)
       (written c (record { server = stamp.server; birth = z }) stamp ranges)
       (made_of new ∷ made_for file us) (stamp ∷ came file)) in
       subst P (sym puts.here) (subst Q (sym (full_of n s b whole file).born) (next_file is_write))

@@ -22,8 +22,10 @@ use Rattle.pg_cells.specs.Done.{idle}
 use Rattle.pg_calls.specs.Checks.{empty_dir_at, file_at, move_of, new_name}
 use Rattle.pg_calls.specs.Paths.{new_path_of}
 use Rattle.pg_calls.specs.Naming.{dead_place, next_id, place_in, with_id}
+use Rattle.pg_calls.proofs.Checked.{fit_found}
+use Rattle.pg_calls.proofs.InTime.{behind_time}
 use Rattle.pg_contents.proofs.Calls.{Still, did_move, did_still, did_thing, still_from, thing_at, told_still}
-use Rattle.pg_contents.proofs.Checks.{answered_by, behind_time, fit_found}
+use Rattle.pg_contents.proofs.Checks.{answered_by}
 use Rattle.pg_contents.proofs.Beginning.{first_makes}
 use Rattle.pg_contents.proofs.Making.{Makes, written_makes}
 use Rattle.pg_contents.proofs.Pieces.{id_keeps}

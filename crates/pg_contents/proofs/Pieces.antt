@@ -145,7 +145,7 @@ module _ (a : Store) where
       let y = with_ack x link.peer link.birth k tag in
       let rs = insert_entry file_cmp a.replicas file y in
       let here : content_of a file ≡ x.content =
-      ap (λ o. (or_new (home_of a) file o).content) there in
+      ap (λ o. (or_new (home_of a) o).content) there in
       chosen HasSame (has_edge x link) rs a.replicas
       (by_file (λ q z. z.content ≡ content_of a q) a (with_replicas rs) file y
       (record { server = refl; servers = refl; replicas = refl }) (sym here) (λ q. refl))

@@ -3,6 +3,7 @@ use Rattle.std.proofs.Common.{ℕ, ◌≡◌, ◌<◌, ◌^◌, List, [], ◌∷
 use Rattle.std.proofs.lemmas.List.Elements.{All-contains}
 use Rattle.pg_base.specs.declared.id.FileId.{FileId}
 use Rattle.pg_base.specs.declared.policy.Policy.{Policy}
+use Rattle.pg_base.specs.declared.policy.Policy.TheVariants.{Last}
 use Rattle.pg_base.specs.declared.stamp.Stamp.{Stamp}
 use Rattle.pg_base.specs.Version.{VersionValue}
 use Rattle.pg_content.specs.Content.{Among, ContentValue}
@@ -14,7 +15,6 @@ use Rattle.pg_content.proofs.HeadsOf.{content_is, content_stands}
 use Rattle.pg_content.proofs.Standing.{content_of_parts, same_content}
 use Rattle.pg_event.specs.declared.entry.Entry.{Entry}
 use Rattle.pg_event.specs.declared.event.Event.{Event}
-use Rattle.pg_replica.specs.Untouched.{policy_of}
 use Rattle.pg_run.specs.Histories.{AncestryByVectors, CarriesHistory, MakesHistories, OneVersionAStamp, StateIsDetermined, StateIsItsHeads}
 use Rattle.pg_run.specs.Journal.{bag, history, versions, with_ancestors}
 use Rattle.pg_run.specs.Laws.{HoldsWhatItTook}
@@ -62,14 +62,14 @@ module _ (journal : List Entry) (file : FileId) (k : IsHistory (versions file jo
 
   -- what a server holds of a file is that state
   pub held_is : (s : ℕ) (policy : Policy) (c : ContentValue) (stamps set : List Stamp)
-      → with_ancestors h stamps ≡ set → HoldsFile s file policy c h stamps
+      → with_ancestors h stamps ≡ set → HoldsFile s policy c h stamps
       → c ≡ content_with policy journal file set
   held_is s policy c stamps [] e f =
       let none = no_heads c.heads
       (λ v l. subst (λ x. Among (f.stood.stands.heads v l).made.stamp x) e
       (f.stood.stands.heads v l).head.0) in
-      content_of_parts c.policy (policy_of file) c.heads []
-      (f.policy ∙ ap (policy_in policy file) none) none
+      content_of_parts c.policy Last c.heads []
+      (f.policy ∙ ap (policy_in policy) none) none
   held_is s policy c stamps (t ∷ ts) e f =
       let stands : StandsFor c h (t ∷ ts) = subst (StandsFor c h) e f.stood.stands in
       let a = stands.all t (inl refl) in

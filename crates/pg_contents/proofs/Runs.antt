@@ -9,7 +9,7 @@ use Rattle.pg_call.specs.declared.call.Call.{Call}
 use Rattle.pg_event.specs.declared.entry.VoidCause.{VoidCause}
 use Rattle.pg_event.specs.declared.entry.VoidCause.TheVariants.{NoMessage, NoServer, Unbuilt}
 use Rattle.pg_event.specs.declared.event.Event.{Event}
-use Rattle.pg_event.specs.declared.event.Event.TheVariants.{Write, Call as Called, Tick, Deliver, Lose, Repeat, Restart, Remove}
+use Rattle.pg_event.specs.declared.event.Event.TheVariants.{Call as Called, Tick, Deliver, Lose, Repeat, Restart, Remove}
 use Rattle.pg_msg.specs.declared.message.Sent.{Sent}
 use Rattle.pg_msg.specs.declared.update.MadeVersion.{MadeVersion}
 use Rattle.pg_msg.specs.Work.{new_work}
@@ -198,8 +198,6 @@ module _ (n : ℕ) (small : n < 2 ^ 32) (w : World) (k : IsSound n w) where
 
   -- WHATEVER HAPPENS
   pub next_sound : (e : Event) → SoundAfter (next n w e)
-  next_sound (Write s moment file what) =
-      idle_sound (Write s moment file what) (Some Unbuilt) no_more
   next_sound (Called s moment asked) = called_sound s moment asked
   next_sound (Tick s moment word) = tick_sound s moment word
   next_sound (Deliver number) = delivery_sound number (message_at under_way number) refl

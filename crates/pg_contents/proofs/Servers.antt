@@ -2,6 +2,7 @@
 use Rattle.std.proofs.Common.{[], ℕ, ◌≡◌, ◌≢◌, ◌<◌, ◌≤◌, ◌^◌, Bool, true, false, cond, List, ◌∷◌, ◌++◌, refl, sym, subst, inl, inr, ◌⊎◌, arith}
 use Rattle.pg_base.specs.declared.id.FileId.{FileId}
 use Rattle.pg_base.specs.declared.policy.Policy.{Policy}
+use Rattle.pg_base.specs.declared.policy.Policy.TheVariants.{Last}
 use Rattle.pg_base.specs.declared.stamp.Stamp.{Stamp}
 use Rattle.pg_base.specs.declared.vector.Actor.{Actor}
 use Rattle.pg_base.specs.Id.{is_same_file}
@@ -14,7 +15,6 @@ use Rattle.pg_content.proofs.HeadsOf.{content_stands}
 use Rattle.pg_msg.specs.declared.update.MadeVersion.{MadeVersion}
 use Rattle.pg_names.proofs.Lookups.{apart_back}
 use Rattle.pg_run.specs.Journal.{made_for, made_of, with_ancestors}
-use Rattle.pg_replica.specs.Untouched.{policy_of}
 use Rattle.pg_run.specs.Took.{Take, stamps_taken}
 use Rattle.pg_store.specs.declared.store.Store.{Store}
 use Rattle.pg_store.specs.Store.{content_of, new_store}
@@ -42,7 +42,7 @@ with_came file stamp came q = cond (is_same_file file q) (stamp ∷ []) [] ++ ca
 pub record Stands (s : ℕ) (a : Store) (us : List MadeVersion) (p : FileId → Policy) (came : Came)
     : Type 0 where
   pub files : (file : FileId)
-      → HoldsFile s file (p file) (content_of a file) (made_for file us) (came file)
+      → HoldsFile s (p file) (content_of a file) (made_for file us) (came file)
   pub known : (file : FileId) → AreMembers (made_for file us) (came file)
   pub upto : (file : FileId) (t : Stamp) → Among t (came file) → t.time ≤ a.names.last
 
@@ -54,7 +54,7 @@ module _ {s : ℕ} {a : Store} {us : List MadeVersion} {p : FileId → Policy} {
 
   pub stands_kept : (b : Store) → Keeps a b → Stands s b us p came
   stands_kept b e = record {
-    files = λ file. subst (λ c. HoldsFile s file (p file) c (made_for file us) (came file))
+    files = λ file. subst (λ c. HoldsFile s (p file) c (made_for file us) (came file))
         (sym (e.each file)) (k.files file);
     known = k.known;
     upto = raised b e.last;
@@ -73,7 +73,7 @@ module _ {s : ℕ} {a : Store} {us : List MadeVersion} {p : FileId → Policy} {
   pub stands_later : (u : MadeVersion) → IsHistory (made_of u ∷ made_for u.file us)
       → u.stamp.server ≢ s → Stands s a (u ∷ us) p came
   stands_later u history other = record {
-    files = by_file (λ file h. HoldsFile s file (p file) (content_of a file) h (came file)) u us
+    files = by_file (λ file h. HoldsFile s (p file) (content_of a file) h (came file)) u us
         (file_later (k.files u.file) (k.known u.file) (made_of u) history other) k.files;
     known = by_file (λ file h. AreMembers h (came file)) u us
         (λ t l. inr (k.known u.file t l)) k.known;
@@ -123,10 +123,10 @@ module _ {s : ℕ} {a : Store} {us : List MadeVersion} {p : FileId → Policy} {
     (k : Stands s a us p came) (b : Store) (file : FileId) (c : ContentValue)
     (puts : Puts a b file c) (stamp : Stamp) (time : stamp.time ≤ b.names.last) where
   -- a version that comes
-  pub stands_came : HoldsFile s file (p file) c (made_for file us) (stamp ∷ came file)
+  pub stands_came : HoldsFile s (p file) c (made_for file us) (stamp ∷ came file)
       → IsMember (made_for file us) stamp → Stands s b us p (with_came file stamp came)
   stands_came here is = record {
-    files = by_came (λ q d set. HoldsFile s q (p q) d (made_for q us) set) a b file stamp c came puts
+    files = by_came (λ q d set. HoldsFile s (p q) d (made_for q us) set) a b file stamp c came puts
         here (λ q apart. k.files q);
     known = by_came (λ q d set. AreMembers (made_for q us) set) a b file stamp c came puts
         (λ t l. elim l [
@@ -141,7 +141,7 @@ module _ {s : ℕ} {a : Store} {us : List MadeVersion} {p : FileId → Policy} {
 pub record StandsBut (s : ℕ) (a : Store) (us : List MadeVersion) (p : FileId → Policy)
     (came : Came) (file : FileId) : Type 0 where
   pub others : (q : FileId) → is_same_file q file ≡ false
-      → HoldsFile s q (p q) (content_of a q) (made_for q us) (came q)
+      → HoldsFile s (p q) (content_of a q) (made_for q us) (came q)
   pub known : (q : FileId) → AreMembers (made_for q us) (came q)
   pub upto : (q : FileId) (t : Stamp) → Among t (came q) → t.time ≤ a.names.last
 
@@ -152,7 +152,7 @@ pub stands_but : {s : ℕ} {a : Store} {us : List MadeVersion} {p : FileId → P
 stands_but {s = s} {us = us} {p = p} {came = came} k b file c puts =
     let up = puts.last in
     record {
-      others = λ q apart. subst (λ d. HoldsFile s q (p q) d (made_for q us) (came q))
+      others = λ q apart. subst (λ d. HoldsFile s (p q) d (made_for q us) (came q))
           (sym (puts.others q apart)) (k.files q);
       known = k.known;
       upto = λ q t l. let upto = k.upto q t l in omega arith;
@@ -171,15 +171,15 @@ module _ {s : ℕ} {a : Store} {us : List MadeVersion} {p : FileId → Policy} {
       subst (λ t. P (cond t (made_of u ∷ made_for q us) (made_for q us))) (sym apart) h
 
   pub stands_wrote
-      : HoldsFile s u.file (p u.file) c (made_of u ∷ made_for u.file us) (u.stamp ∷ came u.file)
+      : HoldsFile s (p u.file) c (made_of u ∷ made_for u.file us) (u.stamp ∷ came u.file)
       → Stands s b (u ∷ us) p after_write
   stands_wrote here = record {
     files =
-        by_came (λ q d set. HoldsFile s q (p q) d (made_for q (u ∷ us)) set) a b u.file u.stamp c
+        by_came (λ q d set. HoldsFile s (p q) d (made_for q (u ∷ us)) set) a b u.file u.stamp c
         came puts
-        (subst (λ h. HoldsFile s u.file (p u.file) c h (u.stamp ∷ came u.file))
+        (subst (λ h. HoldsFile s (p u.file) c h (u.stamp ∷ came u.file))
         (sym (own_file u us)) here)
-        (λ q apart. same_made (λ h. HoldsFile s q (p q) (content_of a q) h (came q)) q apart
+        (λ q apart. same_made (λ h. HoldsFile s (p q) (content_of a q) h (came q)) q apart
         (k.others q apart));
     known =
         by_came (λ q d set. AreMembers (made_for q (u ∷ us)) set) a b u.file u.stamp c came puts
@@ -198,7 +198,7 @@ new_stands n s p = record {
   files = λ file. record {
     policy = refl;
     stood = record {
-      stands = content_stands (policy_of file) [] tt [] (record {
+      stands = content_stands Last [] tt [] (record {
         members = λ t l. l;
         ancestors = λ t u l a. absurd l;
       });

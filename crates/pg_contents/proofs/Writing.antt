@@ -126,5 +126,5 @@ module _ {s : ℕ} {last : ℕ} {p : Policy} {c : ContentValue} {us : List MadeV
 
   -- and the server holds what comes of it
   pub next_file
-      : HoldsFile s u.file p (written c (maker m) u.stamp u.ranges) (m ∷ h) (u.stamp ∷ set)
-  next_file = file_wrote i.ready.policy i.ready.stood i.known u.file m next_history i.based
+      : HoldsFile s p (written c (maker m) u.stamp u.ranges) (m ∷ h) (u.stamp ∷ set)
+  next_file = file_wrote i.ready.policy i.ready.stood i.known m next_history i.based

@@ -12,6 +12,7 @@ use Rattle.std.proofs.lemmas.Map.Lookups.{exact_bytes}
 use Rattle.std.proofs.lemmas.Bool.{or_right, or_left, or_from, false_from_ne_true, and_right, and_from}
 use Rattle.pg_base.specs.Id.{spelling}
 use Rattle.pg_register.specs.Place.{tilde_name}
+use Rattle.pg_register.proofs.Joining.{or-false, or_assoc}
 use Rattle.pg_entries.specs.Entry.{is_listed}
 use Rattle.pg_entries.specs.Names.{same_name}
 use Rattle.pg_base.proofs.Orders.{file_total, stamp_total}
@@ -42,14 +43,6 @@ least_by b o c false false v ht hu hv = hu ∙ sym (or_from (is_lt (claim_cmp b 
 lesser_beats : (first : Option Claim) (o c : Claim) → is_lt (claim_cmp (lesser first o) c) ≡ (is_beaten first c || is_lt (claim_cmp o c))
 lesser_beats None o c = refl
 lesser_beats (Some b) o c = least_by b o c (is_lt (claim_cmp o b)) (is_lt (claim_cmp b c)) (is_lt (claim_cmp o c)) refl refl refl
-
-or-false : (a : Bool) → (a || false) ≡ a
-or-false true = refl
-or-false false = refl
-
-or_assoc : (a b c : Bool) → ((a || b) || c) ≡ (a || (b || c))
-or_assoc true b c = refl
-or_assoc false b c = refl
 
 take_beats_by : (first : Option Claim) (e : Entry) (c : Claim) (t : Bool) → is_beaten (cond t (Some (lesser first (claim_of e))) first) c ≡ (is_beaten first c || (t && is_lt (claim_cmp (claim_of e) c)))
 take_beats_by first e c true = lesser_beats first (claim_of e) c

@@ -1,17 +1,9 @@
 -- What happens in a run: what it is spelled as.
 use Rattle.std.specs.Prelude.{ℕ, ◌<◌, ◌^◌, List, [], ◌∷◌, decimal, codes}
 use Rattle.std.specs.List.{join_with_byte}
-use Rattle.pg_base.specs.Id as id
-use Rattle.pg_call.specs.declared.change.ChangeKind.{ChangeKind}
 use Rattle.pg_call.specs.Call.{call_words, IsCall}
-use Rattle.pg_call.specs.Change.{kind_of, kind_word, change_words, IsChange}
 use Rattle.pg_event.specs.declared.event.Event.{Event}
-use Rattle.pg_event.specs.declared.event.Event.TheVariants.{Write, Call, Tick, Deliver, Lose, Repeat, Restart, Remove}
-use Rattle.pg_words.specs.FileWord.{IsFile}
-
--- the words of a write of that kind whose words after the verb are these
-abbrev pub write_words : ChangeKind → List ℕ → List ℕ → List ℕ → List (List ℕ) → List (List ℕ)
-write_words kind server moment file change = kind_word kind ∷ server ∷ moment ∷ file ∷ change
+use Rattle.pg_event.specs.declared.event.Event.TheVariants.{Call, Tick, Deliver, Lose, Repeat, Restart, Remove}
 
 -- the words of a call whose words for the server, the moment and the call itself are these
 abbrev pub called_words : List ℕ → List ℕ → List (List ℕ) → List (List ℕ)
@@ -22,9 +14,6 @@ abbrev pub tick_words : List ℕ → List ℕ → List ℕ → List (List ℕ)
 tick_words server moment word = codes "tick" ∷ server ∷ moment ∷ word ∷ []
 
 abbrev pub event_words : Event → List (List ℕ)
-event_words (Write server moment file change) =
-    write_words (kind_of change) (decimal server) (decimal moment) (id.spelling file)
-    (change_words change)
 event_words (Call server moment call) =
     called_words (decimal server) (decimal moment) (call_words call)
 event_words (Tick server moment word) = tick_words (decimal server) (decimal moment) (decimal word)
@@ -40,8 +29,6 @@ event_body event = join_with_byte 32 (event_words event)
 
 -- what has a spelling
 abbrev pub IsEvent : Event → Type 0
-IsEvent (Write server moment file change) =
-    (server < 2 ^ 32) × (moment < 2 ^ 64) × IsFile file × IsChange change
 IsEvent (Call server moment call) = (server < 2 ^ 32) × (moment < 2 ^ 64) × IsCall call
 IsEvent (Tick server moment word) = (server < 2 ^ 32) × (moment < 2 ^ 64) × (word < 2 ^ 64)
 IsEvent (Deliver number) = number < 2 ^ 64

@@ -2,21 +2,14 @@
 
 ghost use Rattle.std.specs.Prelude.{◌≡◌, IfOk};
 
-use pg_base::{FileId, NodeId};
-use pg_call::{Call, Change, ChangeWords};
+use pg_base::NodeId;
+use pg_call::Call;
 use std::alloc::AllocError;
 use std::fmt;
 
 /// What happens in a run.
 #[derive(Debug, Drop)]
 pub enum Event {
-    /// A client changes a file at a server, at a moment of its clock.
-    Write {
-        server: NodeId,
-        moment: u64,
-        file: FileId,
-        change: Change,
-    },
     /// A client calls a server, at a moment of its clock.
     Call {
         server: NodeId,
@@ -47,17 +40,6 @@ impl Event {
         ensures { IfOk result (λ e. e ≡ self.now) }
     {
         Ok(match self {
-            Event::Write {
-                server,
-                moment,
-                file,
-                change,
-            } => Event::Write {
-                server: *server,
-                moment: *moment,
-                file: *file,
-                change: change.copy()?,
-            },
             Event::Call {
                 server,
                 moment,
@@ -93,16 +75,6 @@ impl fmt::Display for Event {
 
     fn fmt<W: fmt::Write>(&self, f: &mut fmt::Formatter<W>) -> fmt::Result {
         match self {
-            Event::Write {
-                server,
-                moment,
-                file,
-                change,
-            } => {
-                let kind = change.kind();
-                let words = ChangeWords(change);
-                write!(f, "{kind} {server} {moment} {file} {words}")
-            }
             Event::Call {
                 server,
                 moment,

@@ -27,6 +27,7 @@ use Rattle.pg_path.specs.declared.row.Row.{Row}
 use Rattle.pg_register.specs.declared.place.Place.{Place}
 use Rattle.pg_register.specs.Place.{root}
 use Rattle.pg_house.specs.Facts.{IsLast}
+use Rattle.pg_house.proofs.Lasting.{drawn_late}
 use Rattle.pg_store.specs.declared.store.Store.{Store}
 use Rattle.pg_store.specs.Start.{root_own}
 use Rattle.pg_calls.specs.Checks.{first_child, first_row}
@@ -44,7 +45,7 @@ use Rattle.pg_order.proofs.Acting.{AreLeft, IsAsked, IsUnderWay, next_by}
 use Rattle.pg_gate.proofs.Causes.{IsCaused, IsGoing, effect_then}
 use Rattle.pg_gate.proofs.Gated.{Later, all_sent, caused, gated_from, grown, knows_on, later_knows, sent_known}
 use Rattle.pg_gate.proofs.HouseDeaths.{IsOfFirst}
-use Rattle.pg_gate.proofs.Lasting.{drawn_later, last_up}
+use Rattle.pg_gate.proofs.Lasting.{last_up}
 use Rattle.pg_run.proofs.Bags.{at_message}
 use Rattle.pg_order.proofs.Settled.{AreSettled, next_kept, settled_after, settled_effect, settled_run}
 use Rattle.pg_gate.proofs.Wholes.{IsPlain, plain_next, plain_run}
@@ -217,7 +218,7 @@ module _ (n : ℕ) (dir : FileId) (is : is_dir dir ≡ true) (removal : Place) (
         let a = w.stores s in
         let end = (effect a asked).store in
         let same : Maker ≡ s = ap (λ (x : Stamp). x.server) goes.now ∙ (plain.whole s).server in
-        let late : a.names.last < removal.stamp.time = subst (λ (x : Stamp). a.names.last < x.time) (sym goes.now) (drawn_later moment a.names.last (drawn a moment).time refl) in
+        let late : a.names.last < removal.stamp.time = subst (λ (x : Stamp). a.names.last < x.time) (sym goes.now) (drawn_late moment a.names.last (drawn a moment).time refl) in
         let u = k (subst (λ (i : ℕ). (w.stores i).names.last < removal.stamp.time) (sym same) late) in
         let now_known : KnowsChildren dir Known end.names = knows_on dir Known a.names end.names (itself s same) (grown n dir is removal dead w settled plain edges s asked) in
         let P : Sent → Type 0 = λ m. Brings dir removal m.packet.message → 1 ≤ m.to → m.to ≤ n → KnowsChildren dir Known (Later n dir is removal dead w settled plain edges s asked m.to).names in

@@ -41,6 +41,7 @@ use Rattle.pg_gate.specs.Gate.{Brings, place_at}
 use Rattle.pg_order.proofs.Called.{IsAsBefore, called, called_late}
 use Rattle.pg_gate.proofs.Deaths.{Has, flag_has, place_has, taken_has}
 use Rattle.pg_gate.proofs.HouseDeaths.{IsOfFirst, Stays, house_stays}
+use Rattle.pg_gate.proofs.HouseDirs.{same_file_of}
 use Rattle.pg_order.proofs.Received.{received}
 
 -- ---- what is said of them
@@ -66,9 +67,6 @@ IsGoing a (input.Arrival packet) f p = ⊥
 made_more : (P : Update → Type 0) (w : Work) (u : Update) (news : Bool) (f : FileId) (k : Key) → P u → All P w.made → All P (with_news news (with_made w u) f k).made
 made_more P w u false f k one all = All-append P w.made (u ∷ []) all (All-cons P u [] one (All-nil P))
 made_more P w u true f k one all = All-append P w.made (u ∷ []) all (All-cons P u [] one (All-nil P))
-
-same_file_of : (f g : FileId) (p q : Place) → update.Place f p ≡ update.Place g q → f ≡ g
-same_file_of f g p q h = cc
 
 same_place_of : (f g : FileId) (p q : Place) → update.Place f p ≡ update.Place g q → p ≡ q
 same_place_of f g p q h = cc

@@ -1,5 +1,5 @@
 -- The gate stands along a run: a removal comes to a server only with all that its remover knew of the directory's children.
-use Rattle.std.proofs.Common.{[], ℕ, ◌≡◌, ◌≤◌, ◌++◌, true, false, List, ◌∷◌, get_or, None, All, refl, sym, ap, subst, ◌∙◌, inl, inr}
+use Rattle.std.proofs.Common.{[], ℕ, ◌≡◌, ◌≤◌, ◌++◌, true, false, List, ◌∷◌, get_or, None, All, sym, ap, subst, ◌∙◌, inl, inr}
 use Rattle.std.proofs.lemmas.List.Elements.{All-append, All-weaker}
 use Rattle.pg_base.specs.declared.id.FileId.{FileId}
 use Rattle.pg_edges.specs.declared.key.Key.{Key}
@@ -9,7 +9,7 @@ use Rattle.pg_event.specs.declared.event.Event.{Event}
 use Rattle.pg_flood.specs.Protocol.{Covers, Has, KeepsEdges, tag}
 use Rattle.pg_flood.specs.Server.{Slot}
 use Rattle.pg_flood.specs.World.{after}
-use Rattle.pg_flood.proofs.Flood.{here}
+use Rattle.pg_flood.proofs.Flood.{after_itself, here}
 use Rattle.pg_msg.specs.declared.message.Ends.{Ends}
 use Rattle.pg_msg.specs.declared.message.Message.TheVariants as message
 use Rattle.pg_msg.specs.declared.message.Packet.{Packet}
@@ -64,9 +64,6 @@ module _ (n : ℕ) (dir : FileId) (is : is_dir dir ≡ true) (removal : Place) (
     pub grown : AreNamesUpTo Here.names Then.names
     grown = effect_ages Here asked (settled s).sound
 
-    at_itself : Later s ≡ Then
-    at_itself = elim (here w.stores s Then s) [ inl e ↦ e.1 | inr e ↦ absurd (e.0 refl) ]
-
     pub later_knows : (known : NamesValue) (t : ℕ) → KnowsChildren dir known (w.stores t).names → KnowsChildren dir known (Later t).names
     later_knows known t h = elim (here w.stores s Then t) [
       | inl e ↦ (let P : Store → Type 0 = λ x. KnowsChildren dir known x.names in
@@ -89,12 +86,12 @@ module _ (n : ℕ) (dir : FileId) (is : is_dir dir ≡ true) (removal : Place) (
       children_then t = (settled_after w.stores s Then settled (settled_effect Here asked (settled s)) t).sound.orderly.children
 
       pub whole_then : IsWhole n s Then
-      whole_then = subst (IsWhole n s) at_itself ((plain_after n w.stores s asked plain).whole s)
+      whole_then = subst (IsWhole n s) (after_itself w.stores s Then) ((plain_after n w.stores s asked plain).whole s)
 
       pub keeps_then : (q : Slot) (c : Cell) → Has cells Then q c → tag cells Then q ≡ None → Covers cells (Later q.peer) q c
       keeps_then q c =
           let P : Store → Type 0 = λ x. Has cells x q c → tag cells x q ≡ None → Covers cells (Later q.peer) q c in
-          subst P at_itself (then_edges q c)
+          subst P (after_itself w.stores s Then) (then_edges q c)
 
       abbrev Before : Sent → Type 0
       Before m = Guards n s Here (plain.whole s) w.stores children_before (edges.edges s) dir is removal dead m

@@ -1,8 +1,8 @@
 -- Where the dead place of a directory is sent, the peer knows all entries of the directory that the sender does.
-use Rattle.std.proofs.Common.{ℕ, ◌≡◌, ◌≢◌, ◌&&◌, ◌||◌, not, is_some, cond, Bool, true, false, List, [], ◌∷◌, get_or, Option, None, Some, All, refl, sym, ap, subst, ◌∙◌, inl, inr}
+use Rattle.std.proofs.Common.{ℕ, ◌≡◌, ◌≢◌, ◌&&◌, not, is_some, cond, Bool, true, false, List, [], ◌∷◌, get_or, Option, None, Some, All, refl, sym, ap, subst, ◌∙◌, inl, inr}
 use Rattle.std.specs.List.{filter, list_any}
 use Rattle.std.specs.Map.{keys_of}
-use Rattle.std.proofs.lemmas.Bool.{eq-eqb, false≢true}
+use Rattle.std.proofs.lemmas.Bool.{eq-eqb, false≢true, or_parts}
 use Rattle.std.proofs.lemmas.List.Elements.{All-cons, All-nil}
 use Rattle.std.proofs.lemmas.Option.{none-some, same_Some}
 use Rattle.pg_base.specs.declared.id.FileId.{FileId}
@@ -45,14 +45,10 @@ apart_by : (k q : Key) (t : Bool) → is_same_key k q ≡ t → is_entry q ≡ f
 apart_by k q false e entry other = refl
 apart_by k q true e entry other = absurd (false≢true (sym entry ∙ ap is_entry (sym (is_same_key-true k q e)) ∙ other))
 
-first_by : (b c : Bool) → (b || c) ≡ false → (b ≡ false) × (c ≡ false)
-first_by true c h = absurd (false≢true (sym h))
-first_by false c h = (refl, h)
-
 no_entry : (ks : List (Key × ℕ)) (child : FileId) → has_entry ks ≡ false → tag_in ks (key.Entry child) ≡ None
 no_entry [] child h = refl
 no_entry (k ∷ ks) child h =
-    let b = first_by (is_entry k.0) (list_any is_entry (keys_of ks)) h in
+    let b = or_parts (is_entry k.0) (list_any is_entry (keys_of ks)) h in
     let other : is_same_key (key.Entry child) k.0 ≡ false = apart_by (key.Entry child) k.0 (is_same_key (key.Entry child) k.0) refl b.0 refl in
     ap (λ t. cond t (Some k.1) (tag_in ks (key.Entry child))) other ∙ no_entry ks child b.1
 
@@ -171,4 +167,4 @@ module _ (n s : ℕ) (a : Store) (whole : IsWhole n s a) (stores : ℕ → Store
   pub guarded : (wanted : FileId → Key → Bool) → All Guards (cells_where a wanted)
   guarded wanted =
       All-flat_map Guards (replica_cells a wanted) a.replicas
-      (λ i d lt. let r = get_or a.replicas i d in guarded_replica wanted r (ap (or_new (home_of a) r.0) (entries_known a whole.order i d lt)) (whole.replicas i d lt))
+      (λ i d lt. let r = get_or a.replicas i d in guarded_replica wanted r (ap (or_new (home_of a)) (entries_known a whole.order i d lt)) (whole.replicas i d lt))

@@ -9,28 +9,22 @@ use Rattle.pg_base.specs.declared.stamp.Stamp.{Stamp}
 use Rattle.pg_base.specs.Id.{is_same_file}
 use Rattle.pg_base.specs.Stamp.{is_before}
 use Rattle.pg_base.proofs.Orders.{is_same_file-true}
-use Rattle.pg_edges.specs.declared.key.Key.{Key}
-use Rattle.pg_edges.specs.declared.key.Key.TheVariants as key
-use Rattle.pg_register.specs.declared.flag.Flag.{Flag}
 use Rattle.pg_register.specs.declared.place.Place.{Place}
-use Rattle.pg_register.specs.Flag.{flag_of, is_removed}
+use Rattle.pg_register.specs.Flag.{is_removed}
 use Rattle.pg_register.specs.Place.{newer_place, root, tilde_name}
 use Rattle.pg_entries.specs.declared.entry.Entry.{Entry}
 use Rattle.pg_msg.specs.declared.update.Update.{Update}
 use Rattle.pg_msg.specs.declared.update.Update.TheVariants as update
-use Rattle.pg_msg.specs.declared.work.Work.{Work}
-use Rattle.pg_msg.specs.Work.{with_touched}
 use Rattle.pg_names.specs.declared.own.Own.{Own}
 use Rattle.pg_names.specs.Names.{NamesValue, cell_at, directories, is_dir, known, or_blank, own_at, own_or_blank, with_last, with_own}
-use Rattle.pg_names.specs.Same.{is_same_own, is_same_place}
 use Rattle.pg_names.proofs.Lookups.{own_other, own_same, update_frame}
 use Rattle.pg_house.specs.Cycles.{break_first, first_moving, moved}
 use Rattle.pg_house.specs.Facts.{IsHeld}
 use Rattle.pg_house.specs.House.{house, movable, rules, with_parents}
-use Rattle.pg_house.specs.Passing.{flags_touched, gets, given, greatest, is_held_back, is_other_flag, joined_with, offered, own_taken, pass, pass_all, pass_own, passed, spread, taking, took}
+use Rattle.pg_house.specs.Passing.{greatest, is_held_back, joined_with, own_taken, pass, pass_all, pass_own, passed, spread}
 use Rattle.pg_house.specs.Placing.{drawn, live_place, made_at, own_with, place_at, placed}
 use Rattle.pg_house.specs.Returning.{first_returning, is_returning, return_first, returned}
-use Rattle.pg_house.specs.Work.{State, state_of, touched}
+use Rattle.pg_house.specs.Work.{State, state_of}
 use Rattle.pg_house.proofs.AfterPassing.{after_frame, after_other, after_own}
 use Rattle.pg_house.proofs.AllClimb.{IsDeep, member_deep, moving_member}
 use Rattle.pg_house.proofs.AllReturned.{returning_by}
@@ -39,31 +33,8 @@ use Rattle.pg_house.proofs.Growing.{grown_own, grows}
 use Rattle.pg_house.proofs.NoCycles.{inner_parts, some_dirs}
 use Rattle.pg_house.proofs.Repeating.{repeated_keeps}
 use Rattle.pg_house.proofs.Truths.{both_true, chosen_false, chosen_true, not_false}
+use Rattle.pg_house.proofs.Made.{spread_made, taking_made}
 use Rattle.pg_gate.specs.Returns.{midst_of}
-use Rattle.pg_promises.proofs.Choices.{chosen}
-
--- ---- passing makes nothing
-
-touched_made : (work : Work) (f : FileId) (k : Key) (t : Bool) → (touched work f k t).made ≡ work.made
-touched_made work f k t = chosen (λ (w : Work). w.made ≡ work.made) t (with_touched work f k) work refl refl
-
-flags_made : (work : Work) (f : FileId) (held flags : List Flag) → (flags_touched work f held flags).made ≡ work.made
-flags_made work f held [] = refl
-flags_made work f held (g ∷ gs) =
-    let other = is_other_flag (flag_of held g.server) g in
-    flags_made (touched work f (key.Flag g.server) other) f held gs ∙ touched_made work f (key.Flag g.server) other
-
-pub spread_made : (st : State) (f : FileId) (own top : Own) (back : Bool) (ds : List FileId) → (spread st f own top back ds).work.made ≡ st.work.made
-spread_made st f own top back [] = refl
-spread_made st f own top back (d ∷ ds) =
-    spread_made (offered st f own top back d) f own top back ds
-    ∙ chosen (λ (s : State). s.work.made ≡ st.work.made) (gets st.names f own top back d) (given st f top d) st refl refl
-
-pub taking_made : (st : State) (f : FileId) (own taken : Own) → (taking st f own taken).work.made ≡ st.work.made
-taking_made st f own taken =
-    let moved = not (is_same_place own.place taken.place) in
-    chosen (λ (s : State). s.work.made ≡ st.work.made) (is_same_own own taken) st (took st f own taken) refl
-    (flags_made (touched st.work f key.Place moved) f own.flags taken.flags ∙ touched_made st.work f key.Place moved)
 
 -- ---- the greatest is later
 

@@ -1,29 +1,26 @@
 -- The house rules make places of directories alone.
-use Rattle.std.proofs.Common.{[], ℕ, drop, length, ◌≡◌, ◌++◌, ◌&&◌, Bool, true, false, List, ◌∷◌, Option, None, Some, All, refl, sym, ap, subst, ◌∙◌, inl, inr}
+use Rattle.std.proofs.Common.{[], ℕ, drop, length, ◌≡◌, ◌++◌, ◌&&◌, true, List, ◌∷◌, Option, None, Some, All, refl, sym, ap, subst, ◌∙◌, inl, inr}
 use Rattle.std.specs.Map.{keys_of}
 use Rattle.std.proofs.Math.Seq.{drop-append_seam}
 use Rattle.std.proofs.lemmas.List.{append-nil, append_assoc}
 use Rattle.std.proofs.lemmas.List.Elements.{All-append, All-cons, All-nil}
 use Rattle.std.proofs.lemmas.Option.{none-some}
 use Rattle.pg_base.specs.declared.id.FileId.{FileId}
-use Rattle.pg_edges.specs.declared.key.Key.{Key}
 use Rattle.pg_register.specs.declared.place.Place.{Place}
 use Rattle.pg_register.specs.Place.{root, tilde_name}
 use Rattle.pg_msg.specs.declared.update.Update.{Update}
 use Rattle.pg_msg.specs.declared.update.Update.TheVariants as update
-use Rattle.pg_msg.specs.declared.work.Work.{Work}
 use Rattle.pg_msg.specs.Numbers.{is_in_range}
 use Rattle.pg_msg.specs.Sent.{cell_key}
 use Rattle.pg_msg.specs.Work.{new_work}
 use Rattle.pg_call.specs.declared.refusal.Refusal.TheVariants.{ClockEnd}
 use Rattle.pg_call.specs.declared.reply.Reply.{Reply}
 use Rattle.pg_call.specs.declared.reply.Reply.TheVariants as reply
-use Rattle.pg_names.specs.declared.own.Own.{Own}
-use Rattle.pg_names.specs.Names.{directories, is_dir, own_at}
+use Rattle.pg_names.specs.Names.{directories, is_dir}
 use Rattle.pg_house.specs.Cycles.{break_first, first_moving, moved}
 use Rattle.pg_house.specs.Facts.{is_among}
 use Rattle.pg_house.specs.House.{house, movable, with_parents}
-use Rattle.pg_house.specs.Passing.{greatest, is_held_back, own_taken, pass, pass_all, pass_own, spread}
+use Rattle.pg_house.specs.Passing.{pass, pass_all}
 use Rattle.pg_house.specs.Placing.{drawn, live_place, made_at, place_at, placed}
 use Rattle.pg_house.specs.Returning.{first_returning, is_returning, return_first, returned}
 use Rattle.pg_house.specs.Work.{State, state_of}
@@ -31,18 +28,19 @@ use Rattle.pg_house.proofs.AllClimb.{IsDeep, member_deep, moving_member}
 use Rattle.pg_house.proofs.Counting.{find_found, kept_dir}
 use Rattle.pg_house.proofs.NoCycles.{inner_parts, some_dirs}
 use Rattle.pg_house.proofs.Repeating.{repeated_keeps}
+use Rattle.pg_house.proofs.Made.{pass_made}
 use Rattle.pg_store.specs.declared.store.Store.{Store}
 use Rattle.pg_store.specs.Store.{is_in_time}
-use Rattle.pg_cells.specs.Cells.{is_news, with_answer, with_news}
+use Rattle.pg_cells.specs.Cells.{is_news, with_answer}
 use Rattle.pg_cells.specs.Done.{Done, idle}
 use Rattle.pg_cells.specs.Ticks.{tick}
+use Rattle.pg_cells.proofs.News.{news_made}
 use Rattle.pg_calls.specs.Calls.{do_call}
 use Rattle.pg_server.specs.declared.input.Input.{Input}
 use Rattle.pg_server.specs.declared.input.Input.TheVariants as input
 use Rattle.pg_server.specs.Local.{Effect, closed, finished, receive}
 use Rattle.pg_promises.proofs.Choices.{chosen}
 use Rattle.pg_run.specs.Run.{first_made, made_behind}
-use Rattle.pg_gate.proofs.HouseDeaths.{spread_made, taking_made}
 use Rattle.pg_order.proofs.Received.{received}
 
 -- where an update is a place, it is one of a directory
@@ -55,19 +53,12 @@ pub record Makes (base : List Update) (st : State) : Type 0 where
   pub is : st.work.made ≡ base ++ news
   pub dirs : All IsOfDir news
 
-pass_made : (st : State) (ds : List FileId) (f : FileId) (o : Option Own) → (pass_own st ds f o).work.made ≡ st.work.made
-pass_made st ds f None = refl
-pass_made st ds f (Some own) =
-    let top = greatest st.names f own ds in
-    let back = is_held_back st.names.removed f own top in
-    taking_made (spread st f own top back ds) f own (own_taken own top back) ∙ spread_made st f own top back ds
-
-same_file_of : (f g : FileId) (p q : Place) → update.Place f p ≡ update.Place g q → f ≡ g
+pub same_file_of : (f g : FileId) (p q : Place) → update.Place f p ≡ update.Place g q → f ≡ g
 same_file_of f g p q h = cc
 
 module _ (base : List Update) where
   pass_makes : (st : State) (ds : List FileId) (f : FileId) → Makes base st → Makes base (pass st ds f)
-  pass_makes st ds f k = record { news = k.news; is = pass_made st ds f (own_at st.names f) ∙ k.is; dirs = k.dirs }
+  pass_makes st ds f k = record { news = k.news; is = pass_made st ds f ∙ k.is; dirs = k.dirs }
 
   all_make : (st : State) (ds fs : List FileId) → Makes base st → Makes base (pass_all st ds fs)
   all_make st ds [] k = k
@@ -124,10 +115,6 @@ module _ (a : Store) where
       let base = first_made a asked in
       let none : drop (length base) d.work.made ≡ [] = ap (drop (length base)) (is ∙ sym (append-nil base)) ∙ drop-append_seam base [] in
       subst (All IsOfDir) (sym none) (All-nil IsOfDir)
-
-  news_made : (news : Bool) (w : Work) (f : FileId) (k : Key) → (with_news news w f k).made ≡ w.made
-  news_made true w f k = refl
-  news_made false w f k = refl
 
   -- WHAT THE HOUSE RULES MADE in an event
   pub made_dirs : (asked : Input) → All IsOfDir (made_behind a asked)

@@ -1,5 +1,5 @@
 -- The greatest time of a server never falls.
-use Rattle.std.proofs.Common.{[], ℕ, drop, length, ◌≡◌, ◌<◌, ◌≤◌, ◌+◌, ◌^◌, ◌&&◌, max, min, List, ◌∷◌, Option, None, Some, refl, sym, subst, arith}
+use Rattle.std.proofs.Common.{[], ℕ, drop, length, ◌≡◌, ◌≤◌, ◌+◌, ◌^◌, ◌&&◌, max, min, List, ◌∷◌, Option, None, Some, refl, sym, subst, arith}
 use Rattle.pg_base.specs.declared.id.FileId.{FileId}
 use Rattle.pg_base.specs.declared.policy.Policy.{Policy}
 use Rattle.pg_base.specs.Version.{VersionValue}
@@ -53,10 +53,6 @@ raised_most n a t h = grind arith
 
 drawn_most : (moment last n t : ℕ) → t ≡ max (min moment (2 ^ 62)) (last + 1) → n ≤ last → n ≤ t
 drawn_most moment last n t e h = grind arith
-
--- the time that is drawn is later
-pub drawn_later : (moment last t : ℕ) → t ≡ max (min moment (2 ^ 62)) (last + 1) → last < t
-drawn_later moment last t e = grind arith
 
 -- it has come so far
 module _ (n : ℕ) where

@@ -6,7 +6,7 @@ use Rattle.std.proofs.lemmas.Option.{none-some, same_Some}
 use Rattle.pg_base.specs.declared.id.FileId.{FileId}
 use Rattle.pg_base.specs.Id.{is_same_file}
 use Rattle.pg_event.specs.declared.event.Event.{Event}
-use Rattle.pg_event.specs.declared.event.Event.TheVariants.{Write, Call as Called, Tick, Deliver, Lose, Repeat, Restart, Remove}
+use Rattle.pg_event.specs.declared.event.Event.TheVariants.{Call as Called, Tick, Deliver, Lose, Repeat, Restart, Remove}
 use Rattle.pg_msg.specs.declared.message.Sent.{Sent}
 use Rattle.pg_msg.specs.Work.{new_work}
 use Rattle.pg_names.specs.Names.{cell_at, is_dir}
@@ -68,7 +68,6 @@ module _ (n : ℕ) (w : World) (s : ℕ) (asked : Input) where
   message_by number (Some m) is h = at m.to (input.Arrival m.packet) h (number, m, is, refl, refl)
 
   pub reached : (e : Event) → TakesIn n w e s asked → IsReached n w s asked
-  reached (Write t moment file what) h = absurd (none-some (record { server = s; asked = asked }) h)
   reached (Called t moment c) h = called_by t (input.Call moment c) (is_built c) h tt
   reached (Tick t moment word) h = at t (input.Tick moment word) h tt
   reached (Deliver number) h = message_by number (message_at (bag w.journal) number) refl h

@@ -12,10 +12,11 @@ use Rattle.pg_entries.specs.declared.entry.Entry.{Entry}
 use Rattle.pg_names.specs.declared.own.Own.{Own}
 use Rattle.pg_names.specs.Names.{NamesValue, own_at, cell_at, is_dir}
 use Rattle.pg_names.proofs.Lookups.{SameFrame, SameFrame-trans}
+use Rattle.pg_names.proofs.Alike.{own_of_parts}
 use Rattle.pg_house.specs.Work.{State}
 use Rattle.pg_house.specs.Passing.{cell_for, greatest, is_cell, is_held_back, is_update, joined, own_taken, passed, spread, wants}
 use Rattle.pg_house.specs.Facts.{IsPassed, HasOwnParent, is_among}
-use Rattle.pg_house.proofs.Truths.{and_true, before_itself, both_true, own_of_parts, chosen_true, not_true, or_left, or_right}
+use Rattle.pg_house.proofs.Truths.{and_true, before_itself, both_true, chosen_true, not_true, or_left, or_right}
 use Rattle.pg_house.proofs.Flags.{join_same}
 use Rattle.pg_house.proofs.Taking.{taking_cell, taking_frame, taking_other, taking_own}
 use Rattle.pg_house.proofs.Spreading.{spread_own, spread_frame, spread_child, spread_cell, spread_gives, spread_new}

@@ -41,7 +41,7 @@ parent_idle : (s : NamesValue) (ds : List FileId) (f : FileId) (o : Option Own) 
 parent_idle s ds f None h all = refl
 parent_idle s ds f (Some own) h all = let held = all own h in hold_by s (takes s ds f own).place.parent (known s (takes s ds f own).place.parent) held.0 held.1
 
-parents_idle : (s : NamesValue) (ds fs : List FileId) → ((g : FileId) → is_among g fs ≡ true → (own : Own) → own_at s g ≡ Some own → IsHeld s (takes s ds g own).place.parent) → hold_parents s ds fs ≡ s
+pub parents_idle : (s : NamesValue) (ds fs : List FileId) → ((g : FileId) → is_among g fs ≡ true → (own : Own) → own_at s g ≡ Some own → IsHeld s (takes s ds g own).place.parent) → hold_parents s ds fs ≡ s
 parents_idle s ds [] all = refl
 parents_idle s ds (f ∷ fs) all =
     ap (λ (t : NamesValue). hold_parents t ds fs) (parent_idle s ds f (own_at s f) refl (λ own h. all f (or_left (is_same_file f f) _ (is_same_file-refl f)) own h))

@@ -8,6 +8,7 @@ use Rattle.pg_base.proofs.Orders.{is_same_file-true, is_same_file-refl}
 use Rattle.pg_entries.specs.declared.entry.Entry.{Entry}
 use Rattle.pg_names.specs.declared.own.Own.{Own}
 use Rattle.pg_names.specs.Names.{HeldValue, NamesValue, own_of, own_at, cell_at, entry_in, known}
+use Rattle.pg_names.proofs.Alike.{own_of_parts}
 use Rattle.pg_base.specs.Stamp.{is_before}
 use Rattle.pg_register.specs.declared.flag.Flag.{Flag}
 use Rattle.pg_register.specs.Flag.{IsByServer, flag_of, join_flags}
@@ -15,7 +16,7 @@ use Rattle.pg_register.specs.Place.{newer_place}
 use Rattle.pg_register.proofs.ByServer.{IsByServer-join_flags}
 use Rattle.pg_house.specs.Passing.{cell_for, greatest, is_cell, joined, joined_with}
 use Rattle.pg_house.proofs.Flags.{flags_stay, join_same}
-use Rattle.pg_house.proofs.Truths.{chosen, or_cases, or_left, or_right, own_of_parts}
+use Rattle.pg_house.proofs.Truths.{chosen, or_cases, or_left, or_right}
 use Rattle.pg_house.specs.Facts.{is_among}
 
 -- a directory with a cell is held

@@ -29,6 +29,11 @@ use Rattle.pg_house.proofs.Ends.{first_dirs, one_last, one_settled}
 abbrev pub Keeps : (FileId → Type 0) → List FileId → State → Type 0
 Keeps H ds st = (Settled ds st.names) × (IsLast st.names) × OwnIn H st.names
 
+-- what comes back is not the root
+pub not_root : (d : FileId) (o : Option Own) → is_dead_own d o ≡ true → is_root d ≡ false
+not_root d None h = absurd (false≢true h)
+not_root d (Some c) h = not_true (is_root d) (and_true _ _ h).0
+
 module _ (H : FileId → Type 0) (moment : ℕ) (ds : List FileId) (st : State) (k : Keeps H ds st) where
   module _ (f p : FileId) (name : List ℕ) (held : IsHeld st.names f) (in_p : H p) where
     abbrev After : NamesValue
@@ -42,10 +47,6 @@ module _ (H : FileId → Type 0) (moment : ℕ) (ds : List FileId) (st : State) 
 
     placed_keeps : Keeps H ds (placed moment ds st f p name)
     placed_keeps = (placed_settled moment ds st f p name k.0, placed_is_last moment ds st f p name k.0 k.1 held, λ g own apart h. own_by g own apart h (bool_cases (is_same_file f g)))
-
-  not_root : (d : FileId) (o : Option Own) → is_dead_own d o ≡ true → is_root d ≡ false
-  not_root d None h = absurd (false≢true h)
-  not_root d (Some c) h = not_true (is_root d) (and_true _ _ h).0
 
   return_keeps : (o : Option FileId) → first_returning st.names ds ≡ o → Keeps H ds (returned moment ds st o)
   return_keeps None h = k

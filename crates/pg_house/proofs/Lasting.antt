@@ -27,6 +27,10 @@ placed_last moment ds st f p name =
     let place = live_place (drawn moment st.names) p name in
     pass_last (made_at st f place) ds f ∙ (update_frame (with_last st.names place.stamp.time) f (with_own (own_with st.names f place))).last
 
+-- a new stamp is later than the last
+pub drawn_late : (moment last n : ℕ) → n ≡ max (min moment (2 ^ 62)) (last + 1) → last < n
+drawn_late moment last n h = grind arith
+
 -- a new stamp is at most one later than the last, or no later than the latest moment
 drawn_up : (moment last n : ℕ) → n ≡ max (min moment (2 ^ 62)) (last + 1) → n ≤ max (2 ^ 62) (last + 1)
 drawn_up moment last n h = grind arith

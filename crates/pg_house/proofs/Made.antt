@@ -33,13 +33,13 @@ flags_made work f held (g ∷ gs) =
     let other = is_other_flag (flag_of held g.server) g in
     flags_made (touched work f (key.Flag g.server) other) f held gs ∙ touched_made work f (key.Flag g.server) other
 
-spread_made : (st : State) (f : FileId) (own top : Own) (back : Bool) (ds : List FileId) → (spread st f own top back ds).work.made ≡ st.work.made
+pub spread_made : (st : State) (f : FileId) (own top : Own) (back : Bool) (ds : List FileId) → (spread st f own top back ds).work.made ≡ st.work.made
 spread_made st f own top back [] = refl
 spread_made st f own top back (d ∷ ds) =
     spread_made (offered st f own top back d) f own top back ds
     ∙ chosen (λ (s : State). s.work.made ≡ st.work.made) (gets st.names f own top back d) (given st f top d) st refl refl
 
-taking_made : (st : State) (f : FileId) (own taken : Own) → (taking st f own taken).work.made ≡ st.work.made
+pub taking_made : (st : State) (f : FileId) (own taken : Own) → (taking st f own taken).work.made ≡ st.work.made
 taking_made st f own taken =
     let moved = not (is_same_place own.place taken.place) in
     chosen (λ (s : State). s.work.made ≡ st.work.made) (is_same_own own taken) st (took st f own taken) refl
@@ -52,10 +52,10 @@ pass_own_made st ds f (Some own) =
     let back = is_held_back st.names.removed f own top in
     taking_made (spread st f own top back ds) f own (own_taken own top back) ∙ spread_made st f own top back ds
 
-pass_made : (st : State) (ds : List FileId) (f : FileId) → (pass st ds f).work.made ≡ st.work.made
+pub pass_made : (st : State) (ds : List FileId) (f : FileId) → (pass st ds f).work.made ≡ st.work.made
 pass_made st ds f = pass_own_made st ds f (own_at st.names f)
 
-all_made : (st : State) (ds fs : List FileId) → (pass_all st ds fs).work.made ≡ st.work.made
+pub all_made : (st : State) (ds fs : List FileId) → (pass_all st ds fs).work.made ≡ st.work.made
 all_made st ds [] = refl
 all_made st ds (f ∷ fs) = all_made (pass st ds f) ds fs ∙ pass_made st ds f
 

@@ -18,7 +18,7 @@ use Rattle.pg_house.specs.Placing.{drawn, live_place, place_at, place_of, placed
 use Rattle.pg_house.specs.Returning.{is_dead, is_root}
 use Rattle.pg_house.specs.Cycles.{above, break_first, first_moving, is_inner, is_live_own, moved}
 use Rattle.pg_house.specs.Facts.{IsLast, NoCycle, NoDeadLists}
-use Rattle.pg_house.proofs.Truths.{and_true, bool_cases, chosen_true, not_true, not_false}
+use Rattle.pg_house.proofs.Truths.{and_true, bool_cases, chosen_true, not_true, not_false, both_true}
 use Rattle.pg_house.proofs.Counting.{count, count_length, count_less, until}
 use Rattle.pg_house.proofs.Touches.{IsHeld}
 use Rattle.pg_house.proofs.Placed.{Settled, placed_cells, placed_is_last, placed_own, placed_settled, placed_touches}
@@ -34,10 +34,6 @@ is_stray_own d o = is_inner_own d o && not (is_root (place_of o).parent)
 
 abbrev pub stray : NamesValue → FileId → Bool
 stray s d = is_stray_own d (own_at s d)
-
-both : (a b : Bool) → a ≡ true → b ≡ true → (a && b) ≡ true
-both true b h g = g
-both false b h g = absurd (false≢true h)
 
 -- ---- what an inner directory is
 
@@ -61,7 +57,7 @@ deep_stray : (s : NamesValue) (d : FileId) → IsDeep s d → stray s d ≡ true
 deep_stray s d h =
     let up : above s d ≡ (place_at s d).parent = chosen_true (is_inner s d) (place_at s d).parent root h.0 in
     let other = inner_parts s (above s d) h.1 in
-    both (is_inner s d) _ h.0 (not_false (is_root (place_at s d).parent) (ap is_root (sym up) ∙ other.other))
+    both_true (is_inner s d) _ h.0 (not_false (is_root (place_at s d).parent) (ap is_root (sym up) ∙ other.other))
 
 -- ---- each move leaves fewer of them
 

@@ -28,7 +28,7 @@ ordered_at s d x y h ordered sorted q z false g = ordered q z g
 ordered_at s d x y h ordered sorted q z true g = subst (λ (w : HeldValue). IsStrictlySortedBy file_cmp (keys_of w.entries)) (same_Some y z g) sorted
 
 -- a change that keeps the order of entries
-changed_ordered : (s : NamesValue) (d : FileId) (change : HeldValue → HeldValue) → ((x : HeldValue) → IsStrictlySortedBy file_cmp (keys_of x.entries) → IsStrictlySortedBy file_cmp (keys_of (change x).entries)) → (o : Option HeldValue) → known s d ≡ o → AreOrdered s → AreOrdered (changed s d change o)
+pub changed_ordered : (s : NamesValue) (d : FileId) (change : HeldValue → HeldValue) → ((x : HeldValue) → IsStrictlySortedBy file_cmp (keys_of x.entries) → IsStrictlySortedBy file_cmp (keys_of (change x).entries)) → (o : Option HeldValue) → known s d ≡ o → AreOrdered s → AreOrdered (changed s d change o)
 changed_ordered s d change keeps None h ordered = ordered
 changed_ordered s d change keeps (Some x) h ordered = λ q z g. ordered_at s d x (change x) h ordered (keeps x (ordered d x h)) q z (is_same_file d q) (sym (known_held s d x (change x) q h) ∙ g)
 

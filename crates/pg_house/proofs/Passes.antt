@@ -1,4 +1,5 @@
 -- What holds after passing, of one file and of all.
+use Rattle.std.specs.Map.{keys_of}
 use Rattle.std.proofs.Common.{◌≡◌, Bool, true, List, [], ◌∷◌, Option, None, Some, refl, sym, ◌∙◌, subst, inl, inr, ◌⊎◌}
 use Rattle.std.proofs.lemmas.Bool.{false≢true}
 use Rattle.std.proofs.lemmas.Option.{none-some, same_Some}
@@ -70,13 +71,23 @@ pub record AllPass (ds : List FileId) (s t : NamesValue) : Type 0 where
   pub was : (q : FileId) → IsHeld t q → IsHeld s q
   pub last : t.last ≡ s.last
   pub dirs : AreDirs t ds
+  pub removed : t.removed ≡ s.removed
+  pub server : t.server ≡ s.server
+  pub keys : keys_of t.held ≡ keys_of s.held
 
 pub all_pass : (st : State) (ds fs : List FileId) → AreDirs st.names ds → AllPass ds st.names (pass_all st ds fs).names
-all_pass st ds [] dirs = record { was = λ q h. h; last = refl; dirs = dirs }
+all_pass st ds [] dirs = record { was = λ q h. h; last = refl; dirs = dirs; removed = refl; server = refl; keys = refl }
 all_pass st ds (f ∷ fs) dirs =
     let one = one_pass st ds f dirs in
     let more = all_pass (pass st ds f) ds fs one.dirs in
-    record { was = λ q h. one.touches.was q (more.was q h); last = more.last ∙ one.last; dirs = more.dirs }
+    record {
+      was = λ q h. one.touches.was q (more.was q h);
+      last = more.last ∙ one.last;
+      dirs = more.dirs;
+      removed = more.removed ∙ one.touches.removed;
+      server = more.server ∙ one.touches.server;
+      keys = more.keys ∙ one.touches.keys;
+    }
 
 pub all_passed : (st : State) (ds fs : List FileId) → AreDirs st.names ds → (g : FileId) → (is_among g fs ≡ true) ⊎ HasPassed st.names ds g → HasPassed (pass_all st ds fs).names ds g
 all_passed st ds [] dirs g (inl among) = absurd (false≢true among)

@@ -96,7 +96,7 @@ module _ (moment : ℕ) (ds : List FileId) (st : State) (f p : FileId) (name : L
       let e : Mine ≡ b = same_Some Mine b (sym (own_same Late f was.0 Mine here) ∙ ap (own_at Made.names) (is_same_file-true f q same) ∙ h) in
       subst (λ (x : Own). IsByServer x.flags) e (flags_by (own_at st.names f) refl dirs)
 
-  made_dirs : AreDirs st.names ds → AreDirs Made.names ds
+  pub made_dirs : AreDirs st.names ds → AreDirs Made.names ds
   made_dirs dirs = record {
     cells = λ q g c h. dirs.cells q g c (sym (own_cell Late f Mine q g) ∙ h);
     held = λ q b h d. let was = own_back Late f (with_own Mine) q b h in dirs.held q was.0 was.1 d;

@@ -50,7 +50,7 @@ was_at test d f ds true h rest =
       | inr later ↦ or_right (is_same_file d f) _ (rest later)
     ]
 
-among_was : (test : FileId → Bool) (ds : List FileId) (f : FileId) → is_among f (filter test ds) ≡ true → is_among f ds ≡ true
+pub among_was : (test : FileId → Bool) (ds : List FileId) (f : FileId) → is_among f (filter test ds) ≡ true → is_among f ds ≡ true
 among_was test [] f h = h
 among_was test (d ∷ ds) f h = was_at test d f ds (test d) h (among_was test ds f)
 
@@ -86,12 +86,12 @@ no_return_by : (s : NamesValue) (d : FileId) (o : Option HeldValue) → known s 
 no_return_by s d None h dir ordered none = refl
 no_return_by s d (Some x) h dir ordered none = dead_or_not s d x h dir ordered none (is_dead d x.own.place) refl
 
-none_returns_at : (s : NamesValue) → AreOrdered s → NoDeadLists s → first_returning s (directories s) ≡ None
+pub none_returns_at : (s : NamesValue) → AreOrdered s → NoDeadLists s → first_returning s (directories s) ≡ None
 none_returns_at s ordered none = nothing_found (is_returning s) (directories s) (λ d among. no_return_by s d (known s d) refl (dirs_held s d among).1 ordered none)
 
 -- ---- none passes
 
-all_idle : (st : State) (ds fs : List FileId) → AreHeld st.names ds → ((g : FileId) → is_among g fs ≡ true → HasPassed st.names ds g) → pass_all st ds fs ≡ st
+pub all_idle : (st : State) (ds fs : List FileId) → AreHeld st.names ds → ((g : FileId) → is_among g fs ≡ true → HasPassed st.names ds g) → pass_all st ds fs ≡ st
 all_idle st ds [] dirs done = refl
 all_idle st ds (f ∷ fs) dirs done =
     ap (λ (s : State). pass_all s ds fs) (pass_idle st ds f dirs (done f (or_left (is_same_file f f) _ (is_same_file-refl f))))

@@ -34,7 +34,7 @@ module _ (s t : NamesValue) (m : Grows s t) where
   grown_greatest g top [] = refl
   grown_greatest g top (d ∷ ds) = ap (λ o. greatest t g (joined_with top o) ds) (m.cells d g) ∙ grown_greatest g (joined_with top (cell_at s d g)) ds
 
-  grown_takes : (g : FileId) (own : Own) (ds : List FileId) → takes t ds g own ≡ takes s ds g own
+  pub grown_takes : (g : FileId) (own : Own) (ds : List FileId) → takes t ds g own ≡ takes s ds g own
   grown_takes g own ds =
       ap (λ (top : Own). own_taken own top (is_held_back t.removed g own top)) (grown_greatest g own ds)
       ∙ ap (λ r. own_taken own (greatest s g own ds) (is_held_back r g own (greatest s g own ds))) m.removed

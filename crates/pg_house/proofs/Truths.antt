@@ -1,12 +1,9 @@
 -- Small facts on tests, and parts of what is known of a thing.
-use Rattle.std.proofs.Common.{◌≡◌, Bool, true, false, ◌&&◌, ◌||◌, not, if◌then◌else◌, List, refl, sym, arith, inl, inr, ◌⊎◌}
+use Rattle.std.proofs.Common.{◌≡◌, Bool, true, false, ◌&&◌, ◌||◌, not, if◌then◌else◌, refl, sym, arith, inl, inr, ◌⊎◌}
 use Rattle.std.proofs.lemmas.Bool.Decides.{nat_tests}
-use Rattle.pg_register.specs.declared.place.Place.{Place}
 use Rattle.std.proofs.lemmas.Bool.{false≢true}
 use Rattle.pg_base.specs.declared.stamp.Stamp.{Stamp}
 use Rattle.pg_base.specs.Stamp.{is_before}
-use Rattle.pg_register.specs.declared.flag.Flag.{Flag}
-use Rattle.pg_names.specs.declared.own.Own.{Own}
 
 pub or_left : (a b : Bool) → a ≡ true → (a || b) ≡ true
 or_left true b h = refl
@@ -55,9 +52,6 @@ chosen_false false x y h = refl
 
 pub before_itself : (a : Stamp) → is_before a a ≡ false
 before_itself a = grind (arith, nat_tests)
-
-pub own_of_parts : (p q : Place) (m n : List Flag) → p ≡ q → m ≡ n → ◌≡◌ {A = Own} (record { place = p; flags = m }) (record { place = q; flags = n })
-own_of_parts p q m n e f = cc
 
 pub and_false : (a b : Bool) → b ≡ false → (a && b) ≡ false
 and_false true b h = h

@@ -2,18 +2,17 @@
 use Rattle.std.proofs.Common.{ℕ, ◌≡◌, ◌≢◌, ◌<◌, ◌^◌, List, [], ◌∷◌, ◌++◌, Option, Some, None, IfSome, IfNone, sym, ap, ◌∙◌, codes, decimal, All, take, append_assoc}
 use Rattle.std.proofs.lemmas.List.{append_cancel_left}
 use Rattle.pg_base.proofs.Parts.{cut_same, not_cut}
-use Rattle.pg_call.specs.declared.change.ChangeKind.{ChangeKind}
 use Rattle.pg_call.specs.declared.reply.Reply.{Reply}
 use Rattle.pg_sched.specs.declared.line.Line.{Line}
 use Rattle.pg_sched.specs.Line.{line_body, IsLine}
 use Rattle.pg_trace.specs.declared.printed.Printed.{Printed}
-use Rattle.pg_trace.specs.declared.printed.Printed.TheVariants.{Event, Write, Tick}
+use Rattle.pg_trace.specs.declared.printed.Printed.TheVariants.{Event, Tick}
 use Rattle.pg_journal.specs.declared.verb.Verb.{Verb}
 use Rattle.pg_journal.specs.declared.verb.Verb.TheVariants as verb
 use Rattle.pg_trace.specs.Printed.{printed_words, printed_body, printed_text, IsPrinted}
 use Rattle.pg_call.specs.Reply.{IsReply}
 use Rattle.pg_journal.specs.Reading.{Reads, told_words, too_many, verb_word, verb_of, event_text}
-use Rattle.pg_reply.proofs.ReplyLacks.{write_reply, tick_reply}
+use Rattle.pg_reply.proofs.ReplyLacks.{tick_reply}
 use Rattle.pg_journal.proofs.OnePrinted.{event_only}
 use Rattle.pg_words.specs.Words.{words_in}
 use Rattle.pg_words.proofs.Lacking.{space, Lacks-decimal}
@@ -23,10 +22,6 @@ use Rattle.pg_journal.proofs.PrintedWords.{spelled, event_body, words-first, tex
 -- a server that told something, as these words say
 abbrev pub IsTold : List (List ℕ) → Type 0
 IsTold words = (n : ℕ) × (r : Reply) × (n < 2 ^ 32) × IsReply r × (words ≡ told_words n r)
-
-pub write_told : (kind : ChangeKind) (words : List (List ℕ)) (p : Printed) → Reads (verb.Write kind) words p → IsTold words
-write_told kind words (Write k n r) h = let f = h.fits in (n, r, f.0, write_reply r f.1, h.behind)
-write_told kind words p h = absurd (let v = h.verb in cc)
 
 pub tick_told : (words : List (List ℕ)) (p : Printed) → Reads verb.Tick words p → IsTold words
 tick_told words (Tick n r) h = let f = h.fits in (n, r, f.0, tick_reply r f.1, h.behind)

@@ -1,5 +1,5 @@
 -- What the words behind `at` are, where they spell a line.
-use Rattle.std.proofs.Common.{ℕ, ◌≡◌, ◌≢◌, ◌<◌, ◌^◌, Bool, Bor, List, [], ◌∷◌, ◌++◌, All, refl, sym, ap, ◌∙◌, subst, arith, codes, decimal, length}
+use Rattle.std.proofs.Common.{ℕ, ◌≡◌, ◌≢◌, ◌<◌, ◌^◌, Bool, Bor, List, [], ◌∷◌, ◌++◌, All, refl, sym, ap, subst, arith, codes, decimal, length}
 use Rattle.std.specs.List.{AllByRecursion}
 use Rattle.std.proofs.lemmas.List.Elements.{All-head}
 use Rattle.pg_base.specs.Id.{Fits, spelling}
@@ -11,13 +11,12 @@ use Rattle.pg_base.proofs.Parts.{decimal-without}
 use Rattle.pg_base.proofs.Spellings.{spelling-same}
 use Rattle.pg_register.specs.declared.place.Place.{Place}
 use Rattle.pg_trace.specs.declared.printed.Printed.{Printed}
-use Rattle.pg_trace.specs.declared.printed.Printed.TheVariants.{Show, Replica, Nowhere}
+use Rattle.pg_trace.specs.declared.printed.Printed.TheVariants.{Replica, Nowhere}
 use Rattle.pg_trace.specs.declared.replica.Contents.{Contents}
 use Rattle.pg_trace.specs.declared.replica.Contents.TheVariants as contents
 use Rattle.pg_trace.specs.Printed.{contents_words, AreFirst, IsContents}
 use Rattle.pg_journal.specs.Reading.{Reads}
 use Rattle.pg_journal.specs.declared.verb.Verb.TheVariants as verb
-use Rattle.pg_journal.proofs.OnePrinted.{no_gold}
 use Rattle.pg_words.specs.ChoiceWord.{full_word, gold_word}
 use Rattle.pg_words.specs.PlaceWords.{IsPlace, place_words}
 use Rattle.pg_words.specs.StampWord.{IsStamp}
@@ -43,16 +42,20 @@ file_shown words (contents.Dir n) fits e = absurd fits
 -- a dash, and an id
 pub nowhere_is : (words : List (List ℕ)) (p : Printed) → Reads verb.At (codes "-" ∷ words) p → (f : FileId) × Fits f × (words ≡ spelling f ∷ [])
 nowhere_is words (Nowhere f) h = (f, h.fits, ap behind h.behind)
-nowhere_is words (Show n f s k b) h = let t = h.fits in absurd (no_dash n t.0 (ap (word_at 0) h.behind))
 nowhere_is words (Replica r) h = let t = h.fits in absurd (no_dash r.server t.server (ap (word_at 0) h.behind))
 nowhere_is words p h = absurd (let v = h.verb in cc)
 
 -- something stands behind the id
 pub some_held : (n : ℕ) (f : FileId) (p : Printed) → n < 2 ^ 32 → Reads verb.At (decimal n ∷ spelling f ∷ []) p → ⊥
-some_held n f (Show m g s k b) lt h = let l = ap length h.behind in omega arith
 some_held n f (Replica r) lt h = let l = ap length h.behind in omega arith
 some_held n f (Nowhere g) lt h = no_dash n lt (sym (ap (word_at 0) h.behind))
 some_held n f p lt h = let v = h.verb in cc
+
+-- and that is the word of a gold flag
+pub gold_held : (n : ℕ) (f : FileId) (word : List ℕ) (rest : List (List ℕ)) (p : Printed) → n < 2 ^ 32 → ((g : Bool) → word ≡ gold_word g → ⊥) → Reads verb.At (decimal n ∷ spelling f ∷ word ∷ rest) p → ⊥
+gold_held n f word rest (Replica r) lt other h = other r.gold (ap (word_at 2) h.behind)
+gold_held n f word rest (Nowhere g) lt other h = no_dash n lt (sym (ap (word_at 0) h.behind))
+gold_held n f word rest p lt other h = let v = h.verb in cc
 
 -- what stands behind a replica's gold flag
 abbrev pub IsReplicaHeld : Kind → List (List ℕ) → Type 0
@@ -65,24 +68,8 @@ replica_is n f g words (Replica r) fits h =
     let same : r.id ≡ f = sym (spelling-same f r.id fits t.id_fits (ap (word_at 1) h.behind)) in
     let P : FileId → Type 0 = λ x. IsContents x.kind r.contents in
     (r.full, r.place, r.contents, t.place, subst P same t.contents_fit, ap (λ ws. behind (behind (behind ws))) h.behind)
-replica_is n f g words (Show m q s k b) fits h = absurd (no_gold g (sym (ap (word_at 2) h.behind)))
 replica_is n f g words (Nowhere q) fits h = absurd (let l = ap length h.behind in omega arith)
 replica_is n f g words p fits h = absurd (let v = h.verb in cc)
-
--- what stands behind the id where no gold flag does
-abbrev pub IsFileHeld : FileId → List (List ℕ) → Type 0
-IsFileHeld f words = (c : Contents) × (f.kind ≡ File) × IsContents File c × (words ≡ contents_words c)
-
-pub show_is : (n : ℕ) (f : FileId) (words : List (List ℕ)) (p : Printed) → n < 2 ^ 32 → Fits f → ((g : Bool) (rest : List (List ℕ)) → words ≡ gold_word g ∷ rest → ⊥) → Reads verb.At (decimal n ∷ spelling f ∷ words) p
-    → IsFileHeld f words
-show_is n f words (Show m q s k b) lt fits other h =
-    let t = h.fits in
-    let same : f ≡ q = spelling-same f q fits t.1.fits (ap (word_at 1) h.behind) in
-    (contents.File s k b, ap (λ (x : FileId). x.kind) same ∙ t.1.kind, (t.2, t.3, t.4), ap (λ ws. behind (behind ws)) h.behind)
-show_is n f words (Replica r) lt fits other h =
-    absurd (other r.gold (full_word r.full ∷ codes "place" ∷ (place_words r.place ++ contents_words r.contents)) (ap (λ ws. behind (behind ws)) h.behind))
-show_is n f words (Nowhere q) lt fits other h = absurd (no_dash n lt (sym (ap (word_at 0) h.behind)))
-show_is n f words p lt fits other h = absurd (let v = h.verb in cc)
 
 -- five words, of which two are those of each thing that is shown
 pub five : (ws : List (Bor (List ℕ))) (d : Bor (List ℕ)) → length ws ≡ 5 → at ws d 0 ≡ codes "heads" → at ws d 2 ≡ codes "shown"

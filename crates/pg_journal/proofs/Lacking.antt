@@ -9,7 +9,6 @@ use Rattle.pg_call.specs.Reply.{IsReply}
 use Rattle.pg_call.specs.declared.call.CallKind.{CallKind}
 use Rattle.pg_call.specs.declared.call.CallKind.TheVariants as kind
 use Rattle.pg_call.specs.declared.reply.Reply.{Reply}
-use Rattle.pg_call.proofs.Changes.{Lacks-change}
 use Rattle.pg_event.specs.Meter.{meter_word}
 use Rattle.pg_event.specs.declared.meter.MeterKind.{MeterKind}
 use Rattle.pg_event.specs.declared.meter.MeterKind.TheVariants.{Packets, Bodies, Repeats}
@@ -17,7 +16,7 @@ use Rattle.pg_event.proofs.Quiets.{quiet-lack}
 use Rattle.pg_event.proofs.Voids.{Lacks-void}
 use Rattle.pg_msg.proofs.Summaries.{summary-lack}
 use Rattle.pg_msg.proofs.Updates.{update-lack}
-use Rattle.pg_reply.proofs.ReplyLacks.{reply-lack, tick_reply, write_reply}
+use Rattle.pg_reply.proofs.ReplyLacks.{Lacks-gold, reply-lack, tick_reply}
 use Rattle.pg_trace.specs.declared.printed.Word.{Word}
 use Rattle.pg_trace.specs.declared.printed.Word.TheVariants as word
 use Rattle.pg_trace.specs.declared.printed.Printed.{Printed}
@@ -29,7 +28,7 @@ use Rattle.pg_trace.specs.Printed.{asked_word, contents_words, IsContents, IsPri
 use Rattle.pg_journal.specs.declared.verb.Verb.{Verb}
 use Rattle.pg_journal.specs.declared.verb.Verb.TheVariants as verb
 use Rattle.pg_journal.specs.Reading.{answer_words, verb_word, verb_of, words_behind}
-use Rattle.pg_words.specs.ChoiceWord.{full_word, gold_word}
+use Rattle.pg_words.specs.ChoiceWord.{full_word}
 use Rattle.pg_words.specs.StampWord.{IsStamp}
 use Rattle.pg_words.proofs.Lacking.{Ends, literal, Lacks-decimal, Lacks-hex, Lacks-list, Lacks-server, Lacks-spelling, Lacks-stamp}
 use Rattle.pg_words.proofs.Places.{place-lack}
@@ -42,7 +41,6 @@ Lacks-asked c word.End h = let low = h.low in literal c (codes "end") (omega ari
 
 pub Lacks-verb : (c : ℕ) (v : Verb) → Ends c → Lacks c (verb_word v)
 Lacks-verb c verb.Event h = let low = h.low in literal c (codes "event") (omega arith)
-Lacks-verb c (verb.Write k) h = Lacks-change c k h
 Lacks-verb c verb.Call h = let low = h.low in literal c (codes "call") (omega arith)
 Lacks-verb c verb.Tick h = let low = h.low in literal c (codes "tick") (omega arith)
 Lacks-verb c verb.Void h = let low = h.low in literal c (codes "void") (omega arith)
@@ -61,10 +59,6 @@ Lacks-meter : (c : ℕ) (k : MeterKind) → Ends c → Lacks c (meter_word k)
 Lacks-meter c Packets h = let low = h.low in literal c (codes "packets") (omega arith)
 Lacks-meter c Bodies h = let low = h.low in literal c (codes "bodies") (omega arith)
 Lacks-meter c Repeats h = let low = h.low in literal c (codes "repeats") (omega arith)
-
-Lacks-gold : (c : ℕ) (b : Bool) → Ends c → Lacks c (gold_word b)
-Lacks-gold c true h = let low = h.low in literal c (codes "gold") (omega arith)
-Lacks-gold c false h = let low = h.low in literal c (codes "bronze") (omega arith)
 
 Lacks-full : (c : ℕ) (b : Bool) → Ends c → Lacks c (full_word b)
 Lacks-full c true h = let low = h.low in literal c (codes "full") (omega arith)
@@ -107,15 +101,12 @@ replica-lack c r h low fits =
 -- of each line that is no event
 pub behind-lack : (c : ℕ) (p : Printed) → Ends c → c < 33 → IsPrinted p → verb_of p ≢ verb.Event → AllByRecursion (Lacks c) (words_behind p)
 behind-lack c (printed.Event n what) h low fits other = absurd (other refl)
-behind-lack c (printed.Write k n r) h low fits other = (Lacks-server c n h fits.0, answer-lack c r h low (write_reply r fits.1))
 behind-lack c (printed.Call k n r) h low fits other = (Lacks-server c n h fits.0, (Lacks-call c k h, answer-lack c r h low fits.1))
 behind-lack c (printed.Tick n r) h low fits other = (Lacks-server c n h fits.0, answer-lack c r h low (tick_reply r fits.1))
 behind-lack c (printed.Void n v) h low fits other = (Lacks-decimal c n h fits, (Lacks-void c v h, tt))
 behind-lack c (printed.Made u) h low fits other = update-lack c u h low fits
 behind-lack c (printed.Sent s) h low fits other = summary-lack c s h fits
 behind-lack c (printed.Asked w q) h low fits other = quiet-lack c q h fits
-behind-lack c (printed.Show n f s k b) h low fits other =
-    (Lacks-server c n h fits.0, (Lacks-spelling c f h fits.1.fits, contents-lack c File (contents.File s k b) h low (fits.2, fits.3, fits.4)))
 behind-lack c (printed.Replica r) h low fits other = replica-lack c r h low fits
 behind-lack c (printed.Nowhere f) h low fits other = (literal c (codes "-") (omega arith), (Lacks-spelling c f h fits, tt))
 behind-lack c (printed.Meter k n) h low fits other = (Lacks-meter c k h, (Lacks-decimal c n h fits, tt))

@@ -1,5 +1,5 @@
 -- No two lines of a journal have one spelling.
-use Rattle.std.proofs.Common.{rules, ℕ, ◌≡◌, ◌≢◌, ◌<◌, ◌^◌, ◌+◌, ◌*◌, List, [], ◌∷◌, ◌++◌, cond, eqb, Bool, true, false, length, subst, refl, sym, ap, ◌∙◌, arith, codes, decimal}
+use Rattle.std.proofs.Common.{rules, ℕ, ◌≡◌, ◌≢◌, ◌<◌, ◌^◌, ◌+◌, ◌*◌, List, [], ◌∷◌, ◌++◌, cond, eqb, Bool, length, subst, refl, sym, ap, ◌∙◌, arith, codes, decimal}
 use Rattle.std.specs.List.{slice_split, join_with_byte}
 use Rattle.std.proofs.lemmas.List.{append_cancel_left}
 use Rattle.std.proofs.lemmas.Fmt.{decimal_injective}
@@ -8,7 +8,6 @@ use Rattle.pg_base.specs.declared.id.Kind.{Kind}
 use Rattle.pg_base.specs.declared.id.Kind.TheVariants.{Dir, File}
 use Rattle.pg_base.proofs.Parts.{cut_same, not_cut}
 use Rattle.pg_base.proofs.Spellings.{spelling-same}
-use Rattle.pg_call.specs.declared.change.ChangeKind.TheVariants as kind
 use Rattle.pg_call.proofs.CallTable.{same_kind}
 use Rattle.pg_event.specs.Meter.{meter_word}
 use Rattle.pg_event.specs.declared.meter.MeterKind.{MeterKind}
@@ -17,15 +16,15 @@ use Rattle.pg_event.proofs.Voids.{same_void}
 use Rattle.pg_msg.proofs.Summaries.{same_summary}
 use Rattle.pg_msg.proofs.Updates.{same_update}
 use Rattle.pg_register.specs.declared.place.Place.{Place}
-use Rattle.pg_reply.proofs.ReplyLacks.{tick_reply, write_reply}
-use Rattle.pg_reply.proofs.ReplySpelling.{one_reply}
+use Rattle.pg_reply.proofs.ReplyLacks.{tick_reply}
+use Rattle.pg_reply.proofs.ReplySpelling.{one_reply, same_gold}
 use Rattle.pg_sched.specs.declared.line.Line.{Line}
 use Rattle.pg_sched.specs.Line.{line_body, IsLine}
 use Rattle.pg_sched.proofs.OneLine.{one_line}
 use Rattle.pg_trace.specs.declared.printed.Word.{Word}
 use Rattle.pg_trace.specs.declared.printed.Word.TheVariants as word
 use Rattle.pg_trace.specs.declared.printed.Printed.{Printed}
-use Rattle.pg_trace.specs.declared.printed.Printed.TheVariants.{Event, Write, Call, Tick, Void, Made, Sent, Asked, Show, Replica, Nowhere, Meter}
+use Rattle.pg_trace.specs.declared.printed.Printed.TheVariants.{Event, Call, Tick, Void, Made, Sent, Asked, Replica, Nowhere, Meter}
 use Rattle.pg_trace.specs.declared.replica.Contents.{Contents}
 use Rattle.pg_trace.specs.declared.replica.Contents.TheVariants as contents
 use Rattle.pg_trace.specs.declared.replica.ShownReplica.{ShownReplica}
@@ -40,7 +39,7 @@ use Rattle.pg_words.proofs.HexWords.{one_hex_word}
 use Rattle.pg_words.proofs.Places.{same_place}
 use Rattle.pg_words.proofs.Lacking.{space, Lacks-decimal}
 use Rattle.pg_words.proofs.Splitting.{Lacks, behind, word_at}
-use Rattle.pg_words.proofs.Stamps.{same_file, same_server, same_stamps}
+use Rattle.pg_words.proofs.Stamps.{same_server, same_stamps}
 
 -- what tells one verb from another: its first three bytes
 abbrev mark : List ℕ → ℕ
@@ -52,9 +51,6 @@ mark (a ∷ b ∷ c ∷ rest) = a * 65536 + b * 256 + c
 abbrev verb_at : ℕ → Verb
 verb_at m =
     cond (eqb m 6649445) verb.Event
-    (cond (eqb m 7370100) (verb.Write kind.Put)
-    (cond (eqb m 7364980) (verb.Write kind.Patch)
-    (cond (eqb m 7631465) (verb.Write kind.Trim)
     (cond (eqb m 6513004) verb.Call
     (cond (eqb m 7629155) verb.Tick
     (cond (eqb m 7761769) verb.Void
@@ -63,10 +59,9 @@ verb_at m =
     (cond (eqb m 7562612) (verb.Asked word.Settle)
     (cond (eqb m 7435625) (verb.Asked word.Quiet)
     (cond (eqb m 6647396) (verb.Asked word.End)
-    (cond (eqb m 7169396) verb.Meter verb.At))))))))))))
+    (cond (eqb m 7169396) verb.Meter verb.At)))))))))
 
 known : (v : Verb) → verb_at (mark (verb_word v)) ≡ v
-known (verb.Write kind.Put) = refl
 known (verb.Asked word.Settle) = refl
 known v = refl
 
@@ -96,9 +91,6 @@ same_contents Dir (contents.File s n b) y hx hy e = absurd hx
 same_contents File (contents.File s n b) (contents.Dir m) hx hy e = absurd hy
 same_contents Dir (contents.Dir n) (contents.File t m d) hx hy e = absurd hy
 
-same_gold : (a b : Bool) → gold_word a ≡ gold_word b → a ≡ b
-same_gold = search rules
-
 same_full : (a b : Bool) → full_word a ≡ full_word b → a ≡ b
 same_full = search rules
 
@@ -127,18 +119,9 @@ same_replica a b ha hb e =
     (same_place a.place b.place ha.place hb.place (ap place_at e))
     (same_contents a.id.kind a.contents b.contents ha.contents_fit (subst P (sym same_id) hb.contents_fit) (ap behind_place e))
 
-pub no_gold : (g : Bool) → codes "heads" ≡ gold_word g → ⊥
-no_gold true e = let h = ap mark e in omega arith
-no_gold false e = let h = ap mark e in omega arith
-
 -- lines of one verb with the same words behind it are one
 same_behind : (x y : Printed) → IsPrinted x → IsPrinted y → verb_of x ≢ verb.Event → verb_of x ≡ verb_of y → words_behind x ≡ words_behind y → x ≡ y
 same_behind (Event n what) y hx hy other v e = absurd (other refl)
-same_behind (Write a n r) (Write b k s) hx hy other v e =
-    let kind : a ≡ b = cc in
-    let server = same_server n k hx.0 hy.0 (ap (word_at 0) e) in
-    let reply = one_reply r s (write_reply r hx.1) (write_reply s hy.1) (ap (λ ws. behind (behind ws)) e) in
-    cc
 same_behind (Call a n r) (Call b k s) hx hy other v e =
     let server = same_server n k hx.0 hy.0 (ap (word_at 0) e) in
     let kind = same_kind a b (ap (word_at 1) e) in
@@ -158,19 +141,8 @@ same_behind (Asked a q) (Asked b r) hx hy other v e =
     let quiet = same_quiet q r hx hy e in
     let asked : a ≡ b = cc in
     cc
-same_behind (Show n f s k a) (Show m g t l b) hx hy other v e =
-    let server = same_server n m hx.0 hy.0 (ap (word_at 0) e) in
-    let file = same_file f g hx.1 hy.1 (ap (word_at 1) e) in
-    let heads = same_stamps s t hx.2 hy.2 (ap (word_at 3) e) in
-    let count = decimal_injective k l hx.3 hy.3 (ap (word_at 5) e) in
-    let front = one_hex_word a b hx.4.each hy.4.each (ap (word_at 6) e) in
-    cc
 same_behind (Replica a) (Replica b) hx hy other v e = ap Replica (same_replica a b hx hy e)
 same_behind (Nowhere f) (Nowhere g) hx hy other v e = ap Nowhere (spelling-same f g hx hy (ap (word_at 1) e))
-same_behind (Show n f s k a) (Replica r) hx hy other v e = absurd (no_gold r.gold (ap (word_at 2) e))
-same_behind (Replica r) (Show n f s k a) hx hy other v e = absurd (no_gold r.gold (sym (ap (word_at 2) e)))
-same_behind (Show n f s k a) (Nowhere g) hx hy other v e = absurd (let h = ap length e in omega arith)
-same_behind (Nowhere g) (Show n f s k a) hx hy other v e = absurd (let h = ap length e in omega arith)
 same_behind (Replica r) (Nowhere g) hx hy other v e = absurd (let h = ap length e in omega arith)
 same_behind (Nowhere g) (Replica r) hx hy other v e = absurd (let h = ap length e in omega arith)
 same_behind (Meter a n) (Meter b m) hx hy other v e =

@@ -4,20 +4,19 @@ use Rattle.std.proofs.lemmas.List.{take_all}
 use Rattle.std.specs.List.{AllByRecursion, join_with_byte}
 use Rattle.std.proofs.lemmas.List.Elements.{All-append, All-cons}
 use Rattle.std.proofs.lemmas.List.Splits.{join_with_byte-slice_split}
-use Rattle.pg_call.specs.declared.change.Change.TheVariants as change
 use Rattle.pg_call.specs.declared.call.Call.TheVariants as call
 use Rattle.pg_event.specs.declared.event.Event.TheVariants as event
 use Rattle.pg_event.proofs.Quiets.{few_asked}
 use Rattle.pg_msg.specs.UpdateText.{update_spelling}
 use Rattle.pg_msg.specs.declared.update.Update.{Update}
 use Rattle.pg_msg.specs.declared.update.Update.TheVariants as update
-use Rattle.pg_reply.proofs.ReplyLacks.{few_replied, tick_reply, write_reply}
+use Rattle.pg_reply.proofs.ReplyLacks.{few_replied, tick_reply}
 use Rattle.pg_sched.specs.declared.line.Line.{Line}
 use Rattle.pg_sched.specs.declared.line.Line.TheVariants as line
 use Rattle.pg_sched.specs.Line.{line_body, line_words, IsLine}
 use Rattle.pg_sched.proofs.Lines.{line_body-lacks}
 use Rattle.pg_trace.specs.declared.printed.Printed.{Printed}
-use Rattle.pg_trace.specs.declared.printed.Printed.TheVariants.{Event, Write, Call, Tick, Void, Made, Sent, Asked, Show, Replica, Nowhere, Meter}
+use Rattle.pg_trace.specs.declared.printed.Printed.TheVariants.{Event, Call, Tick, Void, Made, Sent, Asked, Replica, Nowhere, Meter}
 use Rattle.pg_trace.specs.declared.replica.Contents.{Contents}
 use Rattle.pg_trace.specs.declared.replica.Contents.TheVariants as contents
 use Rattle.pg_trace.specs.Printed.{contents_words, printed_words, printed_body, IsPrinted}
@@ -72,7 +71,6 @@ words-again p fits other =
     ap (λ ws. words_in (join_with_byte 32 ws)) (spelled p) ∙ split-join 32 (verb_word (verb_of p)) (words_behind p) (words-lack 32 p space (omega arith) fits other) ∙ sym (spelled p)
 
 few_line : (what : Line) → length (line_words what) < 8
-few_line (line.Happens (event.Write s m f (change.Put b))) = omega arith
 few_line (line.Happens (event.Call s m (call.Mkdir p))) = omega arith
 few_line what = omega arith
 
@@ -86,14 +84,12 @@ few_contents (contents.Dir n) = omega arith
 
 few_words : (p : Printed) → IsPrinted p → length (printed_words p) < too_many
 few_words (Event n what) fits = let h = few_line what in omega arith
-few_words (Write k n r) fits = let h = few_replied r (write_reply r fits.1) in omega arith
 few_words (Call k n r) fits = let h = few_replied r fits.1 in omega arith
 few_words (Tick n r) fits = let h = few_replied r (tick_reply r fits.1) in omega arith
 few_words (Void n v) fits = omega arith
 few_words (Made u) fits = let h = few_made u in omega arith
 few_words (Sent s) fits = omega arith
 few_words (Asked w q) fits = let h = few_asked q in omega arith
-few_words (Show n f s k b) fits = omega arith
 few_words (Replica r) fits = let h = few_contents r.contents in omega arith
 few_words (Nowhere f) fits = omega arith
 few_words (Meter k n) fits = omega arith

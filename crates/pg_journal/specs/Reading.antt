@@ -4,7 +4,6 @@ use Rattle.pg_base.specs.Id as id
 use Rattle.pg_call.specs.declared.reply.Reply.{Reply}
 use Rattle.pg_call.specs.Call as call
 use Rattle.pg_call.specs.declared.call.CallKind.{CallKind}
-use Rattle.pg_call.specs.Change.{kind_word}
 use Rattle.pg_call.specs.Reply.{reply_words}
 use Rattle.pg_event.specs.Entry.{void_word}
 use Rattle.pg_event.specs.Meter.{meter_word}
@@ -15,16 +14,14 @@ use Rattle.pg_sched.specs.Line.{line_words}
 use Rattle.pg_trace.specs.declared.printed.Printed.{Printed}
 use Rattle.pg_trace.specs.declared.printed.Printed.TheVariants as printed
 use Rattle.pg_trace.specs.Printed.{asked_word, contents_words, IsPrinted}
-use Rattle.pg_trace.specs.declared.replica.Contents.TheVariants as contents
 use Rattle.pg_journal.specs.declared.verb.Verb.{Verb}
-use Rattle.pg_journal.specs.declared.verb.Verb.TheVariants.{Event, Write, Call, Tick, Void, Made, Sent, Asked, At, Meter}
+use Rattle.pg_journal.specs.declared.verb.Verb.TheVariants.{Event, Call, Tick, Void, Made, Sent, Asked, At, Meter}
 use Rattle.pg_words.specs.ChoiceWord.{full_word, gold_word}
 use Rattle.pg_words.specs.PlaceWords.{place_words}
 
 -- the word that a verb is
 abbrev pub verb_word : Verb → List ℕ
 verb_word Event = codes "event"
-verb_word (Write kind) = kind_word kind
 verb_word Tick = codes "tick"
 verb_word Void = codes "void"
 verb_word Made = codes "made"
@@ -37,14 +34,12 @@ verb_word Meter = codes "meter"
 -- the verb of a line
 abbrev pub verb_of : Printed → Verb
 verb_of (printed.Event line what) = Event
-verb_of (printed.Write kind server reply) = Write kind
 verb_of (printed.Tick server reply) = Tick
 verb_of (printed.Void line cause) = Void
 verb_of (printed.Made update) = Made
 verb_of (printed.Sent summary) = Sent
 verb_of (printed.Asked word answer) = Asked word
 verb_of (printed.Call kind server reply) = Call
-verb_of (printed.Show server file heads count bytes) = At
 verb_of (printed.Replica replica) = At
 verb_of (printed.Nowhere id) = At
 verb_of (printed.Meter kind value) = Meter
@@ -64,7 +59,6 @@ told_words server reply = decimal server ∷ answer_words reply
 -- the words of a line behind the first
 abbrev pub words_behind : Printed → List (List ℕ)
 words_behind (printed.Event line what) = decimal line ∷ line_words what
-words_behind (printed.Write kind server reply) = told_words server reply
 words_behind (printed.Call kind server reply) =
     decimal server ∷ call.kind_word kind ∷ answer_words reply
 words_behind (printed.Tick server reply) = told_words server reply
@@ -72,8 +66,6 @@ words_behind (printed.Void line cause) = decimal line ∷ void_word cause ∷ []
 words_behind (printed.Made update) = update_spelling update
 words_behind (printed.Sent summary) = summary_words summary
 words_behind (printed.Asked word answer) = quiet_words answer
-words_behind (printed.Show server file heads count bytes) =
-    decimal server ∷ id.spelling file ∷ contents_words (contents.File heads count bytes)
 words_behind (printed.Replica r) =
     decimal r.server ∷ id.spelling r.id ∷ gold_word r.gold ∷ full_word r.full
     ∷ codes "place" ∷ (place_words r.place ++ contents_words r.contents)

@@ -8,10 +8,10 @@ ghost use Rattle.pg_trace.specs.Printed.{IsPrinted, printed_words, printed_body}
 ghost use Rattle.pg_trace.specs.declared.printed.Printed.{Printed};
 
 use crate::replica::at_of;
-use crate::told::{is_tick_reply, is_write_reply, read_answer, read_told};
+use crate::told::{is_tick_reply, read_answer, read_told};
 use crate::verb::Verb;
 use pg_base::{cut_at, number, number_u32};
-use pg_call::{CallKind, ChangeKind};
+use pg_call::CallKind;
 use pg_event::{read_meter_kind, read_quiet, read_void};
 use pg_msg::{read_summary, read_update};
 use pg_sched::read_line;
@@ -21,26 +21,6 @@ use std::alloc::{AllocError, Global};
 
 /// More words than any line has that is no event.
 const TOO_MANY: usize = 107;
-
-/// What the client of a write was told, from the words behind the one for its kind.
-fn write_of(alloc: Global, kind: ChangeKind, words: &[&[u8]]) -> Result<Option<Printed>, AllocError>
-    ensures found { IfOk result (λ o. IfSome o
-        (Reads (verb.Write kind) (map (λ w. w.now) words.now))) }
-    ensures none { IfOk result (λ o. IfNone o ((p : Printed)
-        → Reads (verb.Write kind) (map (λ w. w.now) words.now) p → ⊥)) }
-{
-    let Some((server, reply)) = read_told(alloc, words)? else {
-        return Ok(None);
-    };
-    if !is_write_reply(&reply) {
-        return Ok(None);
-    }
-    Ok(Some(Printed::Write {
-        kind,
-        server,
-        reply,
-    }))
-}
 
 /// What the client of a call was told, from the words behind `call`.
 fn call_of(alloc: Global, words: &[&[u8]]) -> Result<Option<Printed>, AllocError>
@@ -153,7 +133,6 @@ fn verb_line(alloc: Global, verb: Verb, words: &[&[u8]]) -> Result<Option<Printe
 {
     match verb {
         Verb::Event => Ok(None),
-        Verb::Write(kind) => Ok(write_of(alloc, kind, words)?),
         Verb::Call => Ok(call_of(alloc, words)?),
         Verb::Tick => Ok(tick_of(alloc, words)?),
         Verb::Void => Ok(nothing_of(words)),

@@ -1,6 +1,6 @@
 //! What servers show, in a journal's lines.
 
-ghost use Rattle.std.specs.Prelude.{◌≡◌, ◌≢◌, ◌++◌, ◌∷◌, Bool, List, ℕ, codes, decimal, map, IfOk, IfSome, IfNone};
+ghost use Rattle.std.specs.Prelude.{◌≡◌, ◌≢◌, ◌++◌, ◌∷◌, List, ℕ, codes, decimal, map, IfOk, IfSome, IfNone};
 ghost use Rattle.pg_base.specs.Id.{Fits, spelling};
 ghost use Rattle.pg_base.specs.declared.id.Kind.TheVariants as kind;
 ghost use Rattle.pg_journal.specs.Reading.{Reads};
@@ -155,43 +155,6 @@ fn replica_of(
     })))
 }
 
-/// What the server shows of the file, from the words behind its id.
-fn show_of(
-    alloc: Global,
-    server: NodeId,
-    id: FileId,
-    words: &[&[u8]],
-) -> Result<Option<Printed>, AllocError>
-    requires fits { Fits id }
-    requires none { (gold : Bool) (rest : List (List ℕ))
-        → map (λ w. w.now) words.now ≡ gold_word gold ∷ rest → ⊥ }
-    ensures found { IfOk result (λ o. IfSome o (Reads verb.At
-        (decimal server ∷ spelling id ∷ map (λ w. w.now) words.now))) }
-    ensures none { IfOk result (λ o. IfNone o ((p : Printed) → Reads verb.At
-        (decimal server ∷ spelling id ∷ map (λ w. w.now) words.now) p → ⊥)) }
-{
-    if id.kind == Kind::Dir {
-        return Ok(None);
-    }
-    match file_contents_of(alloc, words)? {
-        Some(
-            Contents::File {
-                heads,
-                length,
-                first,
-            },
-        ) => Ok(Some(Printed::Show {
-            server,
-            file: id,
-            heads,
-            length,
-            first,
-        })),
-        Some(Contents::Dir(_)) => Ok(None),
-        None => Ok(None),
-    }
-}
-
 /// What the server shows of the file or directory, from the words behind its id.
 fn shown_of(
     alloc: Global,
@@ -208,10 +171,10 @@ fn shown_of(
     let Some((word, rest)) = first_word(words) else {
         return Ok(None);
     };
-    match read_gold(word) {
-        Some(gold) => replica_of(alloc, server, id, gold, rest),
-        None => show_of(alloc, server, id, words),
-    }
+    let Some(gold) = read_gold(word) else {
+        return Ok(None);
+    };
+    replica_of(alloc, server, id, gold, rest)
 }
 
 /// What no server holds, from the words behind the dash.

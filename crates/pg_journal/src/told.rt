@@ -1,7 +1,7 @@
 //! What servers told, in a journal's lines.
 
 ghost use Rattle.std.specs.Prelude.{◌≡◌, ◌<◌, ◌^◌, ◌↔◌, ℕ, map, IfOk, IfSome, IfNone, IsTrue};
-ghost use Rattle.pg_call.specs.Reply.{IsReply, IsTickReply, IsWriteReply};
+ghost use Rattle.pg_call.specs.Reply.{IsReply, IsTickReply};
 ghost use Rattle.pg_call.specs.declared.reply.Reply.{Reply};
 ghost use Rattle.pg_journal.specs.Reading.{answer_words, told_words};
 
@@ -46,17 +46,6 @@ pub(crate) fn read_told(
     match read_answer(alloc, told)? {
         Some(reply) => Ok(Some((server, reply))),
         None => Ok(None),
-    }
-}
-
-/// Whether it is what a client can be told of a write.
-pub(crate) fn is_write_reply(reply: &Reply) -> bool
-    ensures { IsReply reply.now → (IsTrue result ↔ IsWriteReply reply.now) }
-{
-    match reply {
-        Reply::Wrote(_) => true,
-        Reply::Refused(_) => true,
-        _ => false,
     }
 }
 

@@ -4,14 +4,12 @@ ghost use Rattle.std.specs.Prelude.{◌≡◌, ◌≢◌, IfSome, IfNone};
 ghost use Rattle.pg_journal.specs.Reading.{verb_word};
 ghost use Rattle.pg_journal.specs.declared.verb.Verb.{Verb};
 
-use pg_call::ChangeKind;
 use pg_trace::Word;
 
 /// What a line of a journal is, as its first word tells.
 #[derive(Clone, Copy, Debug, PartialEq, Eq)]
 pub(crate) enum Verb {
     Event,
-    Write(ChangeKind),
     Call,
     Tick,
     Void,
@@ -30,9 +28,6 @@ impl Verb {
     {
         let verb = match word {
             b"event" => Verb::Event,
-            b"put" => Verb::Write(ChangeKind::Put),
-            b"patch" => Verb::Write(ChangeKind::Patch),
-            b"trim" => Verb::Write(ChangeKind::Trim),
             b"call" => Verb::Call,
             b"tick" => Verb::Tick,
             b"void" => Verb::Void,

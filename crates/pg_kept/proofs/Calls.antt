@@ -1,5 +1,5 @@
 -- Calls keep the rule of the edges, where contents are of the history.
-use Rattle.std.proofs.Common.{ℕ, ◌≡◌, ◌+◌, Bool, true, false, List, [], Result, Ok, Err, refl, sym, ap, subst, ◌∙◌}
+use Rattle.std.proofs.Common.{ℕ, ◌≡◌, ◌+◌, true, List, [], Result, Ok, Err, sym, ap, subst, ◌∙◌}
 use Rattle.pg_base.specs.declared.id.FileId.{FileId}
 use Rattle.pg_base.specs.declared.id.Kind.TheVariants.{Dir, File}
 use Rattle.pg_base.specs.declared.policy.Policy.{Policy}
@@ -7,7 +7,6 @@ use Rattle.pg_base.specs.declared.stamp.Stamp.{Stamp}
 use Rattle.pg_patch.specs.Ranges.{RangesValue}
 use Rattle.pg_content.specs.Content.{ContentValue}
 use Rattle.pg_content.specs.History.{Made}
-use Rattle.pg_edges.specs.declared.key.Key.{Key}
 use Rattle.pg_edges.specs.declared.key.Key.TheVariants as key
 use Rattle.pg_flood.specs.Promises.{Saying}
 use Rattle.pg_flood.specs.Server.{Slot}
@@ -20,14 +19,12 @@ use Rattle.pg_call.specs.declared.call.Call.{Call}
 use Rattle.pg_call.specs.declared.call.Call.TheVariants as call
 use Rattle.pg_call.specs.declared.refusal.Refusal.{Refusal}
 use Rattle.pg_register.specs.declared.flag.Flag.{Flag}
-use Rattle.pg_replica.specs.declared.replica.Replica.{Replica}
-use Rattle.pg_replica.specs.Replica.{begun as begun_replica}
 use Rattle.pg_register.specs.declared.place.Place.{Place}
 use Rattle.pg_store.specs.declared.store.Store.{Store}
 use Rattle.pg_store.specs.Start.{first_flag}
 use Rattle.pg_store.specs.Store.{begin_file, content_of, has_no_head, is_empty, is_newer_flag, is_newer_place, replica_of, take_flag, take_place}
-use Rattle.pg_cells.specs.Cells.{with_news}
 use Rattle.pg_cells.specs.Done.{Done, idle}
+use Rattle.pg_cells.proofs.News.{news_sent}
 use Rattle.pg_calls.specs.Answer.{Answer, answered}
 use Rattle.pg_calls.specs.Bodies.{change_file}
 use Rattle.pg_calls.specs.Calls.{do_call}
@@ -36,29 +33,14 @@ use Rattle.pg_calls.specs.Naming.{dead_place, next_id, place_in, with_first_vers
 use Rattle.pg_promises.specs.Histories.{IsOfHistory}
 use Rattle.pg_promises.specs.Whole.{IsWhole}
 use Rattle.pg_promises.proofs.Events.{IsUnderWay, begin_on, begun, flag_on, id_on, place_on, write_on}
-use Rattle.pg_promises.proofs.Stores.{replica_here}
 use Rattle.pg_promises.proofs.Taking.{flag_taken, place_taken}
+use Rattle.pg_promises.proofs.Policies.{begun_history}
 
 -- what is asked of a server's contents: they are of a history, and of the file whose id it gives out
 -- next it has no version
 pub record AreOfHistory (a : Store) : Type 0 where
   pub each : (file : FileId) → (h : List Made) × IsOfHistory h (content_of a file)
   pub fresh : (content_of a (next_id a File)).heads ≡ []
-
-pub news_sent : (news : Bool) (work : Work) (f : FileId) (q : Key)
-    → (with_news news work f q).sent ≡ work.sent
-news_sent true work f q = refl
-news_sent false work f q = refl
-
--- a file begins
-begun_history : (a : Store) (file : FileId) (policy : Policy) (h : List Made) → IsOfHistory h (content_of a file)
-    → IsOfHistory h (content_of (begin_file a file policy) file)
-begun_history a file policy h k =
-    let P : Replica → Type 0 = λ y. IsOfHistory h y.content in
-    subst P
-    (sym (replica_here a (begin_file a file policy) file (begun_replica (replica_of a file) policy)
-    (record { server = refl; servers = refl; replicas = refl })))
-    (record { history = k.history; order = tt; versions = λ v among. absurd among })
 
 module _ (n s : ℕ) (a : Store) (k : IsWhole n s a) (heard : Saying Slot Cell) where
   -- what came of the event so far keeps the rule

@@ -30,7 +30,7 @@ use Rattle.pg_promises.proofs.Choices.{chosen}
 use Rattle.pg_promises.proofs.Events.{IsComing, IsGood, IsUnderWay, ack_good, begun, cell_on, finish_good, settle_on}
 use Rattle.pg_promises.proofs.Sending.{tick_may}
 use Rattle.pg_kept.proofs.Calls.{AreOfHistory, IsDone, call_on}
-use Rattle.pg_kept.proofs.Sends.{all_may_later}
+use Rattle.pg_flood.proofs.Later.{all_may_later}
 
 -- what is asked of a message: a version that it brings is one of the history
 abbrev pub Comes : Store → Message → Type 0

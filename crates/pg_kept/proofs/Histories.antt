@@ -30,7 +30,7 @@ use Rattle.pg_kept.specs.Histories.{HoldHistories, policy_with}
 
 -- ---- policies and messages
 
-same_in : (file : FileId) (journal : List Entry) (vs : List VersionValue) → policy_in (policy_made file journal) file vs ≡ policy_with file journal vs
+same_in : (file : FileId) (journal : List Entry) (vs : List VersionValue) → policy_in (policy_made file journal) vs ≡ policy_with file journal vs
 same_in file journal [] = refl
 same_in file journal (v ∷ vs) = refl
 

@@ -1,4 +1,3 @@
-pub mod Sends
 pub mod Calls
 pub mod Effects
 pub mod Coming

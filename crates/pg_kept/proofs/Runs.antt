@@ -13,7 +13,7 @@ use Rattle.pg_msg.specs.declared.message.Sent.{Sent}
 use Rattle.pg_call.specs.declared.call.Call.{Call}
 use Rattle.pg_calls.specs.Calls.{is_built}
 use Rattle.pg_event.specs.declared.event.Event.{Event}
-use Rattle.pg_event.specs.declared.event.Event.TheVariants.{Write, Call as Called, Tick, Deliver, Lose, Repeat, Restart, Remove}
+use Rattle.pg_event.specs.declared.event.Event.TheVariants.{Call as Called, Tick, Deliver, Lose, Repeat, Restart, Remove}
 use Rattle.pg_event.specs.declared.entry.VoidCause.{VoidCause}
 use Rattle.pg_event.specs.declared.entry.VoidCause.TheVariants.{NoMessage, NoServer, Unbuilt}
 use Rattle.pg_server.specs.declared.input.Input.{Input}
@@ -128,8 +128,6 @@ module _ (n : ℕ) (w : World) (holds : HoldsHistory n w) (k : Keeps n w) where
 
   -- EVERY EVENT KEEPS IT, where what servers hold and messages carry is of the history
   pub next_keeps : (e : Event) → Keeps n (world_after w (next n w e))
-  next_keeps (Write s moment file what) =
-      still (Write s moment file what) (Some Unbuilt) (no_more (bag w.journal) all_left)
   next_keeps (Called s moment c) =
       chosen (λ z. Keeps n (world_after w z)) (is_built c)
       (server_step n w (Called s moment c) s (input.Call moment c))

@@ -3,13 +3,13 @@ use Rattle.std.specs.Prelude.{ℕ, ◌≡◌, ◌≤◌, List, [], ◌∷◌, Al
 use Rattle.pg_base.specs.declared.id.FileId.{FileId}
 use Rattle.pg_base.specs.declared.id.Kind.TheVariants.{File}
 use Rattle.pg_base.specs.declared.policy.Policy.{Policy}
+use Rattle.pg_base.specs.declared.policy.Policy.TheVariants.{Last}
 use Rattle.pg_base.specs.declared.stamp.Stamp.{Stamp}
 use Rattle.pg_base.specs.Version.{VersionValue}
 use Rattle.pg_content.specs.History.{IsHistory}
 use Rattle.pg_content.specs.StandsFor.{StandsFor}
 use Rattle.pg_event.specs.declared.event.Event.{Event}
 use Rattle.pg_event.specs.declared.entry.Entry.{Entry}
-use Rattle.pg_replica.specs.Untouched.{no_content}
 use Rattle.pg_store.specs.Store.{content_of}
 use Rattle.pg_calls.specs.Naming.{next_id}
 use Rattle.pg_run.specs.Histories.{BringsVersion, OfCell}
@@ -19,7 +19,7 @@ use Rattle.pg_run.specs.State.{policy_made}
 
 -- the policy of a content: that of the call that made the file, from the first version on
 abbrev pub policy_with : FileId → List Entry → List VersionValue → Policy
-policy_with file journal [] = (no_content file).policy
+policy_with file journal [] = Last
 policy_with file journal (v ∷ vs) = policy_made file journal
 
 -- the versions of each file are a history. Each server's content of a file stands for versions of

@@ -9,11 +9,9 @@ use std::alloc::Global;
 use std::test::Fail;
 
 /// A line of each shape.
-const ALL: &[u8] = b"event 2 put 1 10 f1.1 61
-event 3 quiet
+const ALL: &[u8] = b"event 3 quiet
 event 18446744073709551615 settle 4294967295 0
-event 4 patch 1 10 f1.1 4294967295 00ff
-event 5 trim 1 10 f1.1 0
+event 5 tick 1 10 18446744073709551615
 event 6 call 1 10 mkdir /a
 event 7 call 4294967295 18446744073709551615 status
 event 8 call 1 10 write /a/b 0 00ff
@@ -32,14 +30,11 @@ call 1 giveup -> leaving 2
 call 1 unlink -> done
 call 1 write -> wrote 10@1
 call 1 write -> refused 17 Unsettled Cell f1.1 2
-put 1 -> wrote 10@1
-put 4294967295 -> refused 2 ClockEnd
-put 2 -> refused 20 ManyActors
-put 2 -> refused 3 NotYet f1.1
-patch 1 -> wrote 10@1
-patch 1 -> refused 12 TooLong
-trim 1 -> wrote 10@1
-trim 1 -> refused 2 ClockEnd
+call 4294967295 write -> refused 2 ClockEnd
+call 2 write -> refused 20 ManyActors
+call 2 write -> refused 3 NotYet f1.1
+call 1 cut -> wrote 10@1
+call 1 cut -> refused 12 TooLong
 tick 1 -> done
 tick 1 -> refused 2 ClockEnd
 void 4 no-message
@@ -59,10 +54,8 @@ quiet waits message 1 2 cell f1.1 entry:d1.2
 quiet waits intent 1 Bye f1.1 - 2
 end waits cell 1 f1.1 2 entry:f1.2
 end quiet
-at 1 f1.1 heads 10@1 shown 18446744073709551615 00ff61626364656667686970717273ff
-at 1 f1.2 heads 40@1,40@2 shown 4 61616262
-at 2 f1.1 heads - shown 0 -
-at 1 f1.1 gold full place 1@1 d0.0 a live heads 10@1 shown 1 61
+at 1 f1.1 gold full place 1@1 d0.0 a live heads 10@1 shown 18446744073709551615 00ff61626364656667686970717273ff
+at 1 f1.2 gold full place 1@1 d0.0 a live heads 40@1,40@2 shown 4 61616262
 at 4294967295 f1.1 bronze filling place 1@1 d0.0 ~f1.1 dead heads - shown 0 -
 at 1 d0.0 gold full place 0@0 d0.0 / live lists 18446744073709551615
 at - f1.1
@@ -126,14 +119,15 @@ fn other_lines(rt: HostRuntime) {
         b"quiet waits\n".as_slice(),
         b"quiet waits cell 1 f1.1 2 place 3\n".as_slice(),
         b"quiet waits message 1 2 nack f1.1 place\n".as_slice(),
-        b"put 1 -> done\n".as_slice(),
-        b"put 1 wrote 10@1\n".as_slice(),
-        b"put 1 -> wrote 10\n".as_slice(),
-        b"put 1 -> wrote 10@01\n".as_slice(),
-        b"put 4294967296 -> wrote 10@1\n".as_slice(),
-        b"patch 1 -> done\n".as_slice(),
-        b"trim 1 -> refused 12 ManyActors\n".as_slice(),
-        b"trim 1 -> refused 2 TooLong\n".as_slice(),
+        b"put 1 -> wrote 10@1\n".as_slice(),
+        b"patch 1 -> wrote 10@1\n".as_slice(),
+        b"trim 1 -> wrote 10@1\n".as_slice(),
+        b"call 1 write wrote 10@1\n".as_slice(),
+        b"call 1 write -> wrote 10\n".as_slice(),
+        b"call 1 write -> wrote 10@01\n".as_slice(),
+        b"call 4294967296 write -> wrote 10@1\n".as_slice(),
+        b"call 1 cut -> refused 12 ManyActors\n".as_slice(),
+        b"call 1 cut -> refused 2 TooLong\n".as_slice(),
         b"write 1 -> wrote 10@1\n".as_slice(),
         b"tick 1 -> refused 3 ClockEnd\n".as_slice(),
         b"tick 1 -> refused 12 TooLong\n".as_slice(),
@@ -142,6 +136,7 @@ fn other_lines(rt: HostRuntime) {
         b"void 01 no-server\n".as_slice(),
         b"void 1 no-file\n".as_slice(),
         b"event 3 mkdir /a\n".as_slice(),
+        b"event 3 put 1 10 f1.1 61\n".as_slice(),
         b"event 3\n".as_slice(),
         b"event 3 \n".as_slice(),
         b"event 03 quiet\n".as_slice(),
@@ -151,17 +146,18 @@ fn other_lines(rt: HostRuntime) {
         b"sent 1 2 cell f1.1 place:\n".as_slice(),
         b"sent 1 2 cell f1.1 version:10\n".as_slice(),
         b"sent 1 2 cell f1.1\n".as_slice(),
-        b"at 1 f1.1 heads 10@1 shown 1 6A\n".as_slice(),
-        b"at 1 f1.1 heads 10@1 shown 1 6\n".as_slice(),
-        b"at 1 f1.1 heads 10@1 shown 17 0001020304050607080910111213141516\n".as_slice(),
-        b"at 1 f1.1 heads -- shown 0 -\n".as_slice(),
-        b"at 1 f1.1 heads  shown 0 -\n".as_slice(),
-        b"at 1 f1.1 heads 10@1, shown 1 61\n".as_slice(),
-        b"at 1 f1.1 heads ,10@1 shown 1 61\n".as_slice(),
-        b"at 1 f1.1 heads 10@1,,11@1 shown 1 61\n".as_slice(),
-        b"at 1 f1.1 heads 10@1,- shown 1 61\n".as_slice(),
-        b"at 1 f1.1 heads 10@1 11@1 shown 1 61\n".as_slice(),
-        b"at 1 d1.1 heads - shown 0 -\n".as_slice(),
+        b"at 1 f1.1 gold full place 1@1 d0.0 a live heads 10@1 shown 1 6A\n".as_slice(),
+        b"at 1 f1.1 gold full place 1@1 d0.0 a live heads 10@1 shown 1 6\n".as_slice(),
+        b"at 1 f1.1 gold full place 1@1 d0.0 a live heads 10@1 shown 17 0001020304050607080910111213141516\n".as_slice(),
+        b"at 1 f1.1 gold full place 1@1 d0.0 a live heads -- shown 0 -\n".as_slice(),
+        b"at 1 f1.1 gold full place 1@1 d0.0 a live heads  shown 0 -\n".as_slice(),
+        b"at 1 f1.1 gold full place 1@1 d0.0 a live heads 10@1, shown 1 61\n".as_slice(),
+        b"at 1 f1.1 gold full place 1@1 d0.0 a live heads ,10@1 shown 1 61\n".as_slice(),
+        b"at 1 f1.1 gold full place 1@1 d0.0 a live heads 10@1,,11@1 shown 1 61\n".as_slice(),
+        b"at 1 f1.1 gold full place 1@1 d0.0 a live heads 10@1,- shown 1 61\n".as_slice(),
+        b"at 1 f1.1 gold full place 1@1 d0.0 a live heads 10@1 11@1 shown 1 61\n".as_slice(),
+        b"at 1 f1.1 heads 10@1 shown 1 61\n".as_slice(),
+        b"at 1 f1.1 heads - shown 0 -\n".as_slice(),
     ];
     for text in table {
         assert_eq!(rt;
@@ -327,7 +323,7 @@ fn parts_have_no_limit_of_their_own(rt: HostRuntime) -> Result<(), Fail> {
 }
 
 /// What was made and what is shown, with all, some and none of their lists, and an event.
-const LINES: [&[u8]; 18] = [
+const LINES: [&[u8]; 17] = [
     b"made version f1.1 10@1 from - keep 0 least 1 parts 0:61\n",
     b"made version f1.1 10@1 from - keep 0 least 0 parts -\n",
     b"made version f1.1 10@1 from 8@1 keep all least 5 parts 3:6a6b\n",
@@ -335,10 +331,9 @@ const LINES: [&[u8]; 18] = [
     b"made version f1.1 10@1 from 8@1,9@2 keep all least 3 parts 1:6263\n",
     b"made version f1.1 10@1 from 8@1 keep all least 0 parts -\n",
     b"made version f1.1 10@1 from 11@1 keep 1024 least 1024 parts -\n",
-    b"event 3 put 1 10 f1.1 61\n",
-    b"at 1 f1.1 heads 10@1 shown 1 61\n",
-    b"at 1 f1.1 heads 40@1,40@2 shown 4 61616262\n",
-    b"at 1 f1.1 heads - shown 0 -\n",
+    b"event 3 call 1 10 write /a 0 61\n",
+    b"at 1 f1.1 gold full place 1@1 d0.0 a live heads 40@1,40@2 shown 4 61616262\n",
+    b"at 1 f1.1 gold full place 1@1 d0.0 a live heads - shown 0 -\n",
     b"at 1 f1.1 bronze full place 1@1 d0.0 a live heads 10@1 shown 1 61\n",
     b"at 1 d1.1 gold filling place 1@1 d0.0 ~d1.1 dead lists 3\n",
     b"at - f1.1\n",

@@ -71,7 +71,10 @@ fn names_a_bad_verb_or_count(rt: HostRuntime) -> Result<(), Fail> {
         (" deliver 1", Fault::Verb),
         ("Deliver 1", Fault::Verb),
         ("mkdir /a", Fault::Verb),
-        ("patches", Fault::Verb),
+        ("put 1 1 f1.1 61", Fault::Verb),
+        ("patch 1 1 f1.1 0 61", Fault::Verb),
+        ("trim 1 1 f1.1 0", Fault::Verb),
+        ("trim", Fault::Verb),
         ("call 1 1 tick", Fault::Verb),
         ("call 1 1 ", Fault::Verb),
         ("call  1 halt", Fault::Verb),
@@ -86,16 +89,15 @@ fn names_a_bad_verb_or_count(rt: HostRuntime) -> Result<(), Fail> {
         ("deliver", Fault::Words),
         ("deliver 1 ", Fault::Words),
         ("deliver  1", Fault::Words),
-        ("put 1 1 f1.1", Fault::Words),
-        ("put 1 1 f1.1 ", Fault::Words),
-        ("put x x x x x x x x x", Fault::Words),
-        ("patch 1 1 f1.1 61", Fault::Words),
-        ("patch 1 1 f1.1  61", Fault::Words),
-        ("patch 1 1 f1.1 0 61 62", Fault::Words),
-        ("trim 1 1 f1.1", Fault::Words),
+        ("call 1 1 write /x  61", Fault::Words),
+        ("call 1 1 cut /x", Fault::Words),
+        ("show f1.1 ", Fault::Words),
+        ("tick x x x x x x x x x", Fault::Words),
         ("quiet ", Fault::Words),
         ("tick 1 1", Fault::Words),
         ("settle 1", Fault::Words),
+        ("settle  1", Fault::Words),
+        ("settle 1 1 1", Fault::Words),
         ("restart", Fault::Words),
         ("remove 1 1", Fault::Words),
         ("meter off", Fault::Words),
@@ -112,16 +114,15 @@ fn names_the_leftmost_bad_word(rt: HostRuntime) -> Result<(), Fail> {
     let table = [
         ("call x 1 mkdir /a", Fault::Number),
         ("call 1 x stat x", Fault::Number),
+        ("call x y write /x 0 6A", Fault::Number),
+        ("call 1 1 write /x 4294967296 6A", Fault::Number),
+        ("call 1 1 cut /x -", Fault::Number),
         ("call 1 1 read /x 0 32769", Fault::Number),
         ("call 1 1 read /x 4294967296 1", Fault::Number),
         ("call 1 1 giveup 18446744073709551616 1", Fault::Number),
         ("deliver 01", Fault::Number),
         ("deliver +1", Fault::Number),
         ("deliver 18446744073709551616", Fault::Number),
-        ("put 4294967296 1 f1.1 -", Fault::Number),
-        ("put x y d1.1 6A", Fault::Number),
-        ("patch 1 1 f1.1 4294967296 6A", Fault::Number),
-        ("trim 1 1 f1.1 -", Fault::Number),
         ("tick 4294967296 1 1", Fault::Number),
         ("settle 4294967296 1", Fault::Number),
         ("restart 4294967296", Fault::Number),
@@ -129,14 +130,13 @@ fn names_the_leftmost_bad_word(rt: HostRuntime) -> Result<(), Fail> {
         ("meter off 18446744073709551616", Fault::Number),
         ("call 1 1 forget /x", Fault::Id),
         ("call 1 1 stat x", Fault::Id),
-        ("put 1 1 d1.1 6A", Fault::Id),
-        ("patch 1 1 d1.1 x 6A", Fault::Id),
+        ("call 1 1 forget f01.1", Fault::Id),
         ("show g1.1", Fault::Id),
         ("show f4294967296.1", Fault::Id),
         ("call 1 1 write /x 0 6", Fault::Hex),
-        ("put 1 1 f1.1 616", Fault::Hex),
-        ("put 1 1 f1.1 --", Fault::Hex),
-        ("patch 1 1 f1.1 0 6A", Fault::Hex),
+        ("call 1 1 write /x 0 616", Fault::Hex),
+        ("call 1 1 write /x 0 --", Fault::Hex),
+        ("call 1 1 write /x 0 6A", Fault::Hex),
         ("call 1 1 create /x first", Fault::Policy),
         ("trace on", Fault::Mode),
         ("meter on 1", Fault::Mode),
@@ -202,11 +202,9 @@ fn paths_have_what_a_line_has(rt: HostRuntime) -> Result<(), Fail> {
     Ok(())
 }
 
-/// A schedule of one line: these words, and a word of so many bytes.
-fn one_write(alloc: Global, words: &[u8], bytes: usize) -> Result<Bytes, Fail> {
-    let mut text = Bytes::from_slice(alloc, b"pangaea 1 1\n")?;
-    text.extend(words)?;
-    text.push(b' ')?;
+/// A schedule of one write of so many bytes.
+fn one_write(alloc: Global, bytes: usize) -> Result<Bytes, Fail> {
+    let mut text = Bytes::from_slice(alloc, b"pangaea 1 1\ncall 1 1 write /a 0 ")?;
     for _ in 0..bytes {
         text.extend(b"61")?;
     }
@@ -216,20 +214,13 @@ fn one_write(alloc: Global, words: &[u8], bytes: usize) -> Result<Bytes, Fail> {
 
 #[test]
 fn bodies_have_a_limit(rt: HostRuntime) -> Result<(), Fail> {
-    let table = [
-        b"put 1 1 f1.1".as_slice(),
-        b"patch 1 1 f1.1 0".as_slice(),
-        b"call 1 1 write /a 0".as_slice(),
-    ];
-    for words in table {
-        let most = one_write(rt.alloc(), words, MOST_BYTES)?;
-        assert!(rt; read(rt.alloc(), most.as_slice()).is_ok());
-        let more = one_write(rt.alloc(), words, MOST_BYTES + 1)?;
-        assert_eq!(rt;
-            bad_line(rt.alloc(), more.as_slice()),
-            Some((2, Fault::Hex))
-        );
-    }
+    let most = one_write(rt.alloc(), MOST_BYTES)?;
+    assert!(rt; read(rt.alloc(), most.as_slice()).is_ok());
+    let more = one_write(rt.alloc(), MOST_BYTES + 1)?;
+    assert_eq!(rt;
+        bad_line(rt.alloc(), more.as_slice()),
+        Some((2, Fault::Hex))
+    );
     Ok(())
 }
 
@@ -237,8 +228,7 @@ fn bodies_have_a_limit(rt: HostRuntime) -> Result<(), Fail> {
 fn reads_what_it_writes(rt: HostRuntime) -> Result<(), Fail> {
     let table = [
         b"pangaea 1 1\n".as_slice(),
-        b"pangaea 1 2\npatch 1 60 f1.2 0 63\npatch 4294967295 18446744073709551615 f0.0 4294967295 -\ntrim 1 80 f1.2 1048577\ntrim 0 0 f1.1 4294967295\n".as_slice(),
-        b"pangaea 1 64\nput 1 40 f1.1 61ff00\nput 4294967295 18446744073709551615 f0.0 -\ntick 4294967295 0 18446744073709551615\ndeliver 1\nlose 2\nrepeat 3\nrestart 4294967295\nremove 0\nsettle 4294967295 18446744073709551615\nquiet\ntrace full\ntrace short\nshow f4294967295.18446744073709551615\nshow d1.1\nmeter off 18446744073709551615\n".as_slice(),
+        b"pangaea 1 64\ntick 4294967295 0 18446744073709551615\ndeliver 1\nlose 2\nrepeat 3\nrestart 4294967295\nremove 0\nsettle 4294967295 18446744073709551615\nquiet\ntrace full\ntrace short\nshow f4294967295.18446744073709551615\nshow d1.1\nmeter off 18446744073709551615\n".as_slice(),
         b"pangaea 1 1\ncall 4294967295 18446744073709551615 status\ncall 0 0 stop\ncall 1 1 mkdir /!\"#$%&'()*+,-./0123456789:;<=>?@ABCDEFGHIJKLMNOPQRSTUVWXYZ[\\]^_`abcdefghijklmnopqrstuvwxyz{|}~\ncall 1 1 create a join\ncall 1 1 create /a last\ncall 1 1 write /x 4294967295 00ff\ncall 1 1 write /x 0 -\ncall 1 1 cut /x 4294967295\ncall 1 1 read /x 0 32768\ncall 1 1 fresh /x\ncall 1 1 ls / 100\n".as_slice(),
         b"pangaea 1 1\ncall 1 1 stat /\ncall 1 1 stat d1.1\ncall 1 1 rename /a /b\ncall 1 1 unlink /a\ncall 1 1 rmdir /a\ncall 1 1 forget d4294967295.18446744073709551615\ncall 1 1 demote /a\ncall 1 1 drop f1.1\ncall 1 1 giveup 18446744073709551615 4294967295\n".as_slice(),
     ];
@@ -257,9 +247,9 @@ fn reads_one_line(rt: HostRuntime) -> Result<(), Fail> {
         (b"settle 3 70".as_slice(), true),
         (b"settle 3 70\n".as_slice(), false),
         (b"settle 3".as_slice(), false),
-        (b"patch 1 60 f1.2 0 63".as_slice(), true),
-        (b"patch 1 60 f1.2 0".as_slice(), false),
-        (b"trim 1 80 f1.2 1048577".as_slice(), true),
+        (b"put 1 40 f1.2 6161".as_slice(), false),
+        (b"patch 1 60 f1.2 0 63".as_slice(), false),
+        (b"trim 1 80 f1.2 1048577".as_slice(), false),
         (b"call 1 1 stat /".as_slice(), true),
         (b"call 1 1 stat x".as_slice(), false),
         (b"pangaea 1 1".as_slice(), false),

@@ -1,6 +1,5 @@
 pub mod Text
 pub mod Sent
-pub mod View
 pub mod Work
 pub mod UpdateText
 pub mod VersionWords

@@ -2,7 +2,6 @@
 
 ghost use Rattle.std.specs.Prelude.{◌≡◌, IfOk};
 ghost use Rattle.pg_msg.specs.Sent.{cell_key, detail_of, file_of, kind_of, summary_of, summary};
-ghost use Rattle.pg_msg.specs.View.{view};
 
 use crate::summary::{Detail, MessageKind, Summary};
 use pg_base::{FileId, Head, Items, NodeId, Policy, Shared, SharedBytes, Stamp};
@@ -204,40 +203,6 @@ pub enum Message {
 }
 
 impl Message {
-    /// The edge that it goes along, where it goes along one.
-    pub fn ends(&self) -> Option<Ends>
-        ensures { result ≡ (view self.now).edge }
-    {
-        match self {
-            Message::Cell { ends, .. } => Some(*ends),
-            Message::Ack { ends, .. } => Some(*ends),
-            Message::Harbinger { ends, .. } => Some(*ends),
-            Message::Want { ends, .. } => Some(*ends),
-            Message::Delta { ends, .. } => Some(*ends),
-            Message::Piece { ends, .. } => Some(*ends),
-            Message::Later { ends, .. } => Some(*ends),
-            Message::Fetch { .. } => None,
-            Message::Grant { ends, .. } => Some(*ends),
-            Message::NoGrant { .. } => None,
-            Message::Full { ends } => Some(*ends),
-            Message::Seek { .. } => None,
-            Message::Here { ends } => Some(*ends),
-            Message::NoneHere { .. } => None,
-            Message::Gone { .. } => None,
-            Message::Bye { ends } => Some(*ends),
-            Message::ByeOk { .. } => None,
-            Message::Confirm { .. } => None,
-            Message::PlaceIs { .. } => None,
-            Message::Tell { .. } => None,
-            Message::TellOk { .. } => None,
-            Message::Leave { ends, .. } => Some(*ends),
-            Message::LeaveOk { ends, .. } => Some(*ends),
-            Message::Invite { ends } => Some(*ends),
-            Message::Walk { ends, .. } => Some(*ends),
-            Message::Meet { ends } => Some(*ends),
-        }
-    }
-
     /// The kind of message that it is.
     pub fn kind(&self) -> MessageKind
         ensures { result ≡ kind_of self.now }

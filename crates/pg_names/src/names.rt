@@ -6,7 +6,7 @@ ghost use Rattle.std.specs.List.{filter};
 ghost use Rattle.pg_register.specs.Flag.{is_removed};
 ghost use Rattle.std.specs.Map.{keys_of};
 ghost use Rattle.pg_base.specs.Stamp.{next_stamp};
-ghost use Rattle.pg_names.specs.Names.{cell_at, directories, hold, is_dir, is_entry_new, is_flag_new, is_place_new, join_entry, join_flag, join_place, known, new_names, own_at, raise, set_entry, set_own, with_last, with_new};
+ghost use Rattle.pg_names.specs.Names.{cell_at, directories, hold, is_dir, is_entry_new, is_flag_new, is_place_new, join_entry, join_flag, join_place, known, new_names, own_at, own_or_blank, raise, set_entry, set_own, with_last, with_new};
 
 use crate::held::Held;
 use crate::own::Own;
@@ -130,6 +130,26 @@ impl Names {
         match self.get(file) {
             Some(held) => Some(held.own()),
             None => None,
+        }
+    }
+
+    /// A copy of the own place and flags of a thing: where it is not held the blank place, and no flag.
+    pub fn own_or_blank(&self, file: FileId) -> Result<Own, AllocError>
+        ensures { IfOk result (λ own. own ≡ own_or_blank self.now file) }
+    {
+        match self.own(&file) {
+            Some(own) => own.copy(),
+            None => Own::blank(self.alloc, file),
+        }
+    }
+
+    /// The place alone.
+    pub fn place_or_blank(&self, file: FileId) -> Result<Place, AllocError>
+        ensures { IfOk result (λ place. place ≡ (own_or_blank self.now file).place) }
+    {
+        match self.own(&file) {
+            Some(own) => own.place.copy(),
+            None => Place::blank(self.alloc, file),
         }
     }
 

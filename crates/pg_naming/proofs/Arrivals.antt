@@ -10,7 +10,6 @@ use Rattle.pg_register.specs.declared.place.Place.{Place}
 use Rattle.pg_entries.specs.declared.cell.Cell.{Cell}
 use Rattle.pg_entries.specs.declared.cell.Cell.TheVariants as cell
 use Rattle.pg_entries.specs.declared.entry.Entry.{Entry}
-use Rattle.pg_edges.specs.declared.key.Key.{Key}
 use Rattle.pg_msg.specs.declared.message.Ends.{Ends}
 use Rattle.pg_msg.specs.declared.message.Message.{Message}
 use Rattle.pg_msg.specs.declared.message.Message.TheVariants as message
@@ -25,8 +24,9 @@ use Rattle.pg_promises.proofs.Orderly.{orderly_held, orderly_raised}
 use Rattle.pg_replica.specs.Replica.{covers}
 use Rattle.pg_store.specs.declared.store.Store.{Store}
 use Rattle.pg_store.specs.Store.{has_no_head, replica_of, take_entry, take_flag, take_place, take_version, with_names, with_policy}
-use Rattle.pg_cells.specs.Cells.{cell as cell_done, fits, is_news, taken, with_answer, with_news}
+use Rattle.pg_cells.specs.Cells.{cell as cell_done, fits, is_news, taken, with_answer}
 use Rattle.pg_cells.specs.Done.{idle, is_accepted}
+use Rattle.pg_cells.proofs.News.{news_made}
 use Rattle.pg_server.specs.Local.{receive}
 use Rattle.pg_run.specs.Took.{Take, Taker, takes_in}
 use Rattle.pg_run.specs.Took.Take.{TookFlag, TookPlace, TookVersion}
@@ -155,10 +155,6 @@ module _ (Old : FileId → Place → Type 0) (n base : ℕ) (gone : List ℕ) (a
   message_arrives from m good = k
 
 -- it makes nothing
-news_made : (b : Bool) (work : Work) (f : FileId) (k : Key) → (with_news b work f k).made ≡ work.made
-news_made true work f k = refl
-news_made false work f k = refl
-
 accepted_made : (a : Store) (t : Bool) (ends : Ends) (tag : ℕ) (c : Cell) (w : Work) → (cond t (cell_done a ends tag c w) (idle a w)).work.made ≡ w.made
 accepted_made a true ends tag c w = news_made (is_news a ends.file c) (with_answer a ends tag c w) ends.file (cell_key c)
 accepted_made a false ends tag c w = refl

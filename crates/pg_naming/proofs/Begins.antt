@@ -11,9 +11,8 @@ use Rattle.pg_content.specs.Content.{Among}
 use Rattle.pg_content.proofs.Members.{among_map, map_among}
 use Rattle.pg_register.specs.declared.flag.Flag.{Flag}
 use Rattle.pg_register.specs.declared.place.Place.{Place}
-use Rattle.pg_register.specs.Flag.{IsByServer, flag_of, is_new, put_flag}
+use Rattle.pg_register.specs.Flag.{flag_of, is_new, put_flag}
 use Rattle.pg_register.specs.Place.{blank_place, root, root_place}
-use Rattle.pg_register.proofs.ByServer.{IsByServer-join_flag, IsByServer-nil}
 use Rattle.pg_names.specs.declared.own.Own.{Own}
 use Rattle.pg_names.specs.Names.{NamesValue, blank_own, cell_at, hold, new_names, or_blank, own_at, own_or_blank, with_own}
 use Rattle.pg_names.proofs.Holding.{hold_cells, hold_held}
@@ -22,7 +21,7 @@ use Rattle.pg_house.specs.Facts.{IsHeld}
 use Rattle.pg_house.proofs.Growing.{grown_own, hold_grows}
 use Rattle.pg_house.proofs.Truths.{chosen_false}
 use Rattle.pg_promises.specs.Whole.{AreOrderly}
-use Rattle.pg_promises.proofs.Start.{start_whole}
+use Rattle.pg_promises.proofs.Start.{first_sorted, start_whole}
 use Rattle.pg_store.specs.Start.{first_flag, first_flags, first_names, root_own}
 use Rattle.pg_run.specs.Took.{Take, Taker, first_place, first_takes, is_held, told_by}
 use Rattle.pg_run.specs.Took.Take.{TookFlag, TookPlace}
@@ -65,10 +64,6 @@ flags_first (suc k) g h =
       | inl e ↦ subst IsFirst (sym e) refl
       | inr old ↦ flags_first k g old
     ]
-
-flags_sorted : (n : ℕ) → IsByServer (first_flags n)
-flags_sorted zero = IsByServer-nil
-flags_sorted (suc k) = IsByServer-join_flag (first_flag (suc k)) (first_flags k) (flags_sorted k)
 
 module _ (n s : ℕ) where
   abbrev Names : NamesValue
@@ -152,7 +147,7 @@ module _ (n s : ℕ) where
   root_newest : AreNewest (HasFlag Takes Itself root) (first_flags n)
   root_newest =
       newest_same {P = λ g. Among g (first_flags n)} {Q = HasFlag Takes Itself root} (λ g h. inr (map_among (TookFlag Itself root) (first_flags n) g h)) root_flag (first_flags n)
-      (newest_themselves (first_flags n) (flags_sorted n))
+      (newest_themselves (first_flags n) (first_sorted n))
 
   apart_root : (f : FileId) → is_same_file root f ≡ false → f ≡ root → ⊥
   apart_root f apart e = false≢true (sym apart ∙ ap (is_same_file root) e ∙ is_same_file-refl root)

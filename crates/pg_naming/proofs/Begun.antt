@@ -10,9 +10,8 @@ use Rattle.pg_base.proofs.Maps.{lookup-insert_entry}
 use Rattle.pg_content.specs.Content.{Among}
 use Rattle.pg_content.proofs.Members.{among_filter}
 use Rattle.pg_names.specs.declared.own.Own.{Own}
-use Rattle.pg_names.specs.Names.{HeldValue, NamesValue, blank, cell_at, directories, held_with, hold, known, own_at, own_of}
+use Rattle.pg_names.specs.Names.{HeldValue, NamesValue, blank, directories, held_with, hold, known, own_at, own_of}
 use Rattle.pg_names.proofs.Holding.{hold_held}
-use Rattle.pg_house.specs.Passing.{greatest, is_held_back, joined_with, own_taken}
 use Rattle.pg_house.specs.Parents.{hold_parent, hold_parents, parent_held, takes}
 use Rattle.pg_house.specs.Returning.{is_root}
 use Rattle.pg_house.specs.House.{movable, with_parents}
@@ -22,6 +21,7 @@ use Rattle.pg_house.proofs.Counting.{among_kept, kept_dir}
 use Rattle.pg_house.proofs.Ends.{key_of_held}
 use Rattle.pg_house.proofs.Growing.{Grows, Grows-refl, Grows-trans, grown_own, grows, one_grows, parents_grow}
 use Rattle.pg_house.proofs.Settling.{key_found}
+use Rattle.pg_house.proofs.Started.{grown_takes}
 use Rattle.pg_naming.proofs.Lists.{among_file, file_among}
 use Rattle.pg_naming.proofs.Parents.{HoldsParents}
 
@@ -41,15 +41,6 @@ held_only s f q h = held_or_new s f q h.0 (known s f) h.1
 -- ---- what a thing takes where more is held
 
 module _ (s t : NamesValue) (m : Grows s t) where
-  grown_greatest : (g : FileId) (top : Own) (ds : List FileId) → greatest t g top ds ≡ greatest s g top ds
-  grown_greatest g top [] = refl
-  grown_greatest g top (d ∷ ds) = ap (λ o. greatest t g (joined_with top o) ds) (m.cells d g) ∙ grown_greatest g (joined_with top (cell_at s d g)) ds
-
-  grown_takes : (g : FileId) (own : Own) (ds : List FileId) → takes t ds g own ≡ takes s ds g own
-  grown_takes g own ds =
-      ap (λ (top : Own). own_taken own top (is_held_back t.removed g own top)) (grown_greatest g own ds)
-      ∙ ap (λ r. own_taken own (greatest s g own ds) (is_held_back r g own (greatest s g own ds))) m.removed
-
   was_own : (g : FileId) (own : Own) → IsHeld s g → own_at t g ≡ Some own → own_at s g ≡ Some own
   was_own g own held h = held.1 ∙ sym (m.stays g held.0 held.1) ∙ h
 

@@ -1,5 +1,5 @@
 -- What a client's call makes is what it brings.
-use Rattle.std.proofs.Common.{ℕ, ◌≡◌, ◌<◌, ◌+◌, ◌^◌, max, min, Bool, true, false, List, [], ◌∷◌, ◌++◌, map, Option, None, Some, Result, Ok, Err, refl, sym, ap, subst, ◌∙◌, inl, inr, ◌⊎◌, arith}
+use Rattle.std.proofs.Common.{ℕ, ◌≡◌, ◌<◌, ◌+◌, List, [], ◌∷◌, ◌++◌, map, Result, Ok, Err, refl, sym, ap, subst, inl, inr, ◌⊎◌}
 use Rattle.pg_base.specs.declared.id.FileId.{FileId}
 use Rattle.pg_base.specs.declared.id.Kind.TheVariants.{Dir, File}
 use Rattle.pg_base.specs.declared.policy.Policy.{Policy}
@@ -7,12 +7,12 @@ use Rattle.pg_base.specs.declared.stamp.Stamp.{Stamp}
 use Rattle.pg_content.specs.Content.{Among}
 use Rattle.pg_patch.specs.Ranges.{RangesValue}
 use Rattle.pg_patch.specs.Ranges as ranges
-use Rattle.pg_edges.specs.declared.key.Key.{Key}
 use Rattle.pg_edges.specs.declared.key.Key.TheVariants as key
 use Rattle.pg_register.specs.declared.flag.Flag.{Flag}
 use Rattle.pg_register.specs.declared.place.Place.{Place}
-use Rattle.pg_names.specs.Names.{HeldValue, NamesValue, is_dir, known, own_of}
+use Rattle.pg_names.specs.Names.{NamesValue}
 use Rattle.pg_house.specs.Facts.{IsHeld}
+use Rattle.pg_house.proofs.Lasting.{drawn_late}
 use Rattle.pg_msg.specs.declared.update.Update.{Update}
 use Rattle.pg_msg.specs.declared.update.Update.TheVariants as update
 use Rattle.pg_msg.specs.declared.work.Work.{Work}
@@ -20,22 +20,19 @@ use Rattle.pg_msg.specs.Work.{new_work}
 use Rattle.pg_call.specs.declared.call.Call.{Call}
 use Rattle.pg_call.specs.declared.call.Call.TheVariants as call
 use Rattle.pg_call.specs.declared.refusal.Refusal.{Refusal}
-use Rattle.pg_call.specs.declared.refusal.Refusal.TheVariants.{IsDir, ManyActors, TooLong}
 use Rattle.pg_store.specs.declared.store.Store.{Store}
 use Rattle.pg_store.specs.Start.{first_flag}
-use Rattle.pg_replica.specs.Replica.{has_many_actors, is_too_long}
-use Rattle.pg_store.specs.Store.{replica_of, begin_file, is_newer_flag, is_newer_place, take_flag, take_place}
-use Rattle.pg_cells.specs.Cells.{with_news}
+use Rattle.pg_store.specs.Store.{begin_file, is_newer_flag, is_newer_place, take_flag, take_place}
 use Rattle.pg_cells.specs.Done.{Done, idle}
-use Rattle.pg_walk.specs.Walk.{reach, reached, reached_in, walk}
-use Rattle.pg_walk.specs.Walk as walks
-use Rattle.pg_calls.specs.Answer.{Answer, and_then, answered, unless}
+use Rattle.pg_cells.proofs.News.{news_made}
+use Rattle.pg_calls.specs.Answer.{Answer, answered}
 use Rattle.pg_calls.specs.Bodies.{change, change_file, when_fit}
 use Rattle.pg_calls.specs.Calls.{do_call}
-use Rattle.pg_calls.specs.Checks.{empty_dir_at, file_at, in_time, is_filling, move_of, new_name, reach_full, thing_at, when_full}
+use Rattle.pg_calls.specs.Checks.{empty_dir_at, file_at, move_of, new_name}
 use Rattle.pg_calls.specs.Making.{drawn, first_ranges, make_flag, make_place, make_version}
 use Rattle.pg_calls.specs.Naming.{create, dead_place, mkdir, next_id, place_in, with_id}
-use Rattle.pg_calls.specs.Paths.{path_of}
+use Rattle.pg_calls.proofs.Checked.{fit_found}
+use Rattle.pg_calls.proofs.Walked.{file_found}
 use Rattle.pg_run.specs.Took.{Take, take_of}
 use Rattle.pg_run.specs.Took.Take.{TookFlag}
 use Rattle.pg_run.specs.Took.Taker.{Itself}
@@ -59,53 +56,6 @@ last_back : (us : List Update) (u : Update) (takes : List Take) (x : Take) → A
 last_back [] u takes x h = h
 last_back (v ∷ us) u takes x (inl e) = inr (inl e)
 last_back (v ∷ us) u takes x (inr more) = behind_first v (take_of u) (map take_of us ++ takes) x (last_back us u takes x more)
-
-news_made : (b : Bool) (work : Work) (f : FileId) (k : Key) → (with_news b work f k).made ≡ work.made
-news_made true work f k = refl
-news_made false work f k = refl
-
--- ---- checks
-
-behind : {A B : Type 0} (first : Result A Refusal) (second : A → Result B Refusal) (found : B) → and_then first second ≡ Ok found → (x : A) × (first ≡ Ok x) × (second x ≡ Ok found)
-behind (Err why) second found h = absurd (cc)
-behind (Ok x) second found h = (x, refl, h)
-
-fits : {A : Type 0} (b : Bool) (why : Refusal) (x y : A) → unless b why x ≡ Ok y → x ≡ y
-fits true why x y h = absurd (cc)
-fits false why x y h = cc
-
-walked : (names : NamesValue) (r : Result FileId Refusal) (y : FileId) → walks.and_then (reached names) r ≡ Ok y → (x : FileId) × (reached names x ≡ Ok y)
-walked names (Err why) y h = absurd (cc)
-walked names (Ok x) y h = (x, h)
-
-reached_by : (names : NamesValue) (x y : FileId) (o : Option HeldValue) → known names x ≡ o → reached_in x o ≡ Ok y → IsHeld names y
-reached_by names x y None e h = absurd (cc)
-reached_by names x y (Some v) e h =
-    let same : x ≡ y = cc in
-    let P : FileId → Type 0 = IsHeld names in
-    subst P same (v.own, ap own_of e)
-
-reached_held : (names : NamesValue) (x y : FileId) → reached names x ≡ Ok y → IsHeld names y
-reached_held names x y h = reached_by names x y (known names x) refl h
-
--- what a call writes is held
-file_held : (a : Store) (text : List ℕ) (file : FileId) → file_at a text ≡ Ok file → IsHeld a.names file
-file_held a text file h =
-    let t = behind (thing_at a false text) (λ f. unless (is_dir f) IsDir f) file h in
-    let P : FileId → Type 0 = IsHeld a.names in
-    let r = behind (and_then (path_of text) (in_time a)) (reach_full a false) t.0 t.1 in
-    let w = behind (reach a.names false r.0) (when_full a) t.0 r.2 in
-    let full : w.0 ≡ t.0 = fits (is_filling a w.0) _ w.0 t.0 w.2 in
-    let there = walked a.names (walk a.names false r.0) w.0 w.1 in
-    subst P (full ∙ fits (is_dir t.0) IsDir t.0 file t.2) (reached_held a.names there.0 w.0 there.1)
-
-fit_is : (a : Store) (r : RangesValue) (file fit : FileId) → when_fit a r file ≡ Ok fit → file ≡ fit
-fit_is a r file fit h =
-    let one = behind (unless (is_too_long (replica_of a file) r) TooLong file) (λ f. unless (has_many_actors (replica_of a f) a.names.server) ManyActors f) fit h in
-    fits (is_too_long (replica_of a file) r) TooLong file one.0 one.1 ∙ fits (has_many_actors (replica_of a one.0) a.names.server) ManyActors one.0 fit one.2
-
-drawn_late : (moment last n : ℕ) → n ≡ max (min moment (2 ^ 62)) (last + 1) → last < n
-drawn_late moment last n h = grind arith
 
 -- ---- what is made
 
@@ -197,8 +147,8 @@ module _ (Old : FileId → Place → Type 0) (n base : ℕ) (gone : List ℕ) (t
     change_is path r =
         answer_is (file_at a path) (change_file a r W) (λ file h.
         answer_is (when_fit a r file) _ (λ fit g.
-        let same : file ≡ fit = fit_is a r file fit g in
-        version_made (idle a W) k fit (drawn a moment) r (let P : FileId → Type 0 = IsHeld a.names in subst P same (file_held a path file h))))
+        let same : file ≡ fit = fit_found a r file fit g in
+        version_made (idle a W) k fit (drawn a moment) r (let P : FileId → Type 0 = IsHeld a.names in subst P same (file_found a path file h).0)))
 
     -- A CALL
     pub call_is : (c : Call) → AnswerIs (do_call a c W)

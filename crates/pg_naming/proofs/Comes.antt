@@ -37,7 +37,7 @@ newer_first f a =
 not_newer : (a p : Place) → is_before a.stamp p.stamp ≡ false → newer_place a p ≡ a
 not_newer a p h = chosen_false (is_before a.stamp p.stamp) p a h
 
-old_flag : (fs : List Flag) (g : Flag) → is_new (flag_of fs g.server) g ≡ false → join_flag fs g ≡ fs
+pub old_flag : (fs : List Flag) (g : Flag) → is_new (flag_of fs g.server) g ≡ false → join_flag fs g ≡ fs
 old_flag fs g h = chosen_false (is_new (flag_of fs g.server) g) (put_flag fs g) fs h
 
 -- ---- of one thing itself

@@ -1,5 +1,5 @@
 -- What passing leaves of each thing, from what was known of it before any thing passed.
-use Rattle.std.proofs.Common.{◌≡◌, ◌&&◌, ◌||◌, Bool, true, false, cond, List, [], ◌∷◌, Option, None, Some, refl, sym, ap, subst, ◌∙◌, inl, inr}
+use Rattle.std.proofs.Common.{◌≡◌, ◌&&◌, ◌||◌, Bool, true, false, cond, List, [], ◌∷◌, Option, Some, refl, sym, ap, subst, ◌∙◌, inl, inr}
 use Rattle.std.specs.Map.{keys_of}
 use Rattle.std.proofs.lemmas.Bool.{false≢true}
 use Rattle.pg_base.specs.declared.id.FileId.{FileId}
@@ -20,6 +20,7 @@ use Rattle.pg_house.proofs.Spreading.{offered_dir}
 use Rattle.pg_house.proofs.Taking.{taking_cell}
 use Rattle.pg_house.proofs.Touches.{Touches, passed_of, same_greatest}
 use Rattle.pg_house.proofs.Truths.{and_true, bool_cases, or_cases, or_left, or_right}
+use Rattle.pg_house.proofs.Greatest.{cell_is}
 
 -- ---- a cell that a directory has then was wanted
 
@@ -45,16 +46,12 @@ module _ (f : FileId) (own top : Own) (back : Bool) where
     | inr other ↦ not_given st d q c (gets st.names f own top back d) refl other h
   ]
 
-  some_cell : (o : Option Entry) → is_cell o ≡ true → (c : Entry) × (o ≡ Some c)
-  some_cell None h = absurd (false≢true h)
-  some_cell (Some c) h = (c, refl)
-
   spread_wants : (st : State) (ds : List FileId) (q : FileId) (c : Entry) → cell_at (spread st f own top back ds).names q f ≡ Some c → wants st.names f own top back q ≡ true
   spread_wants st [] q c h = wanted_cell st.names q c h
   spread_wants st (d ∷ ds) q c h =
       let next = offered st f own top back d in
       elim (or_cases (is_cell (cell_at next.names q f)) (Rest q) (spread_wants next ds q c h)) [
-        | inl is ↦ (let e = some_cell (cell_at next.names q f) is in offered_wants st d q e.0 e.1)
+        | inl is ↦ (let e = cell_is (cell_at next.names q f) is in offered_wants st d q e.0 e.1)
         | inr rest ↦ or_right (is_cell (cell_at st.names q f)) (Rest q) rest
       ]
 

@@ -1,6 +1,6 @@
 -- An entry of a directory comes, or a version of a file.
 use Rattle.std.proofs.Common.{ℕ, ◌≡◌, true, false, List, [], ◌∷◌, ◌++◌, map, Option, None, Some, refl, sym, ap, subst, ◌∙◌, inl, inr, ◌⊎◌}
-use Rattle.std.proofs.lemmas.Bool.{false≢true}
+use Rattle.std.proofs.lemmas.Bool.{false≢true, or_parts}
 use Rattle.std.proofs.lemmas.Option.{none-some}
 use Rattle.pg_base.specs.declared.id.FileId.{FileId}
 use Rattle.pg_base.specs.declared.policy.Policy.{Policy}
@@ -12,7 +12,7 @@ use Rattle.pg_content.proofs.Members.{among_map, map_among}
 use Rattle.pg_edges.specs.declared.key.Key.TheVariants as key
 use Rattle.pg_register.specs.declared.flag.Flag.{Flag}
 use Rattle.pg_register.specs.declared.place.Place.{Place}
-use Rattle.pg_register.specs.Flag.{IsByServer, brings_news, flag_of, is_new, join_flag, join_flags, put_flag}
+use Rattle.pg_register.specs.Flag.{IsByServer, brings_news, flag_of, is_new, join_flags}
 use Rattle.pg_register.specs.Place.{newer_place}
 use Rattle.pg_register.proofs.ByServer.{IsByServer-join_flags, IsByServer-nil, flag_of-join_flags, same_flags}
 use Rattle.pg_entries.specs.declared.entry.Entry.{Entry}
@@ -25,7 +25,6 @@ use Rattle.pg_house.specs.Facts.{IsHeld}
 use Rattle.pg_house.proofs.Growing.{grown_own, hold_grows}
 use Rattle.pg_house.proofs.Truths.{chosen_false}
 use Rattle.pg_promises.proofs.Choices.{chosen, decided}
-use Rattle.pg_promises.proofs.Flags.{either_false}
 use Rattle.pg_promises.proofs.Growth.{entry_at_one}
 use Rattle.pg_store.specs.declared.store.Store.{Store}
 use Rattle.pg_replica.specs.Replica.{covers}
@@ -43,6 +42,7 @@ use Rattle.pg_naming.proofs.Parents.{SameTakes, same_tells}
 use Rattle.pg_naming.proofs.Pieces.{AreOf, EntryComes, entry_tells, held_old}
 use Rattle.pg_naming.proofs.Singles.{flag_taker, flag_thing, not_flag, not_place, same_flag, same_place, same_taker, same_thing}
 use Rattle.pg_naming.proofs.Takes.{held_told, there_entry, told_held}
+use Rattle.pg_naming.proofs.Comes.{old_flag}
 
 -- ---- flags by server are the newest of themselves
 
@@ -115,21 +115,18 @@ module _ (d : FileId) (e : Entry) (sorted : IsByServer e.flags) where
 
 -- ---- an entry that brings nothing
 
-old_stays : (fs : List Flag) (g : Flag) → is_new (flag_of fs g.server) g ≡ false → join_flag fs g ≡ fs
-old_stays fs g h = chosen_false (is_new (flag_of fs g.server) g) (put_flag fs g) fs h
-
 no_news : (fs gs : List Flag) → brings_news fs gs ≡ false → join_flags fs gs ≡ fs
 no_news fs [] h = refl
 no_news fs (g ∷ gs) h =
-    let both = either_false (is_new (flag_of fs g.server) g) (brings_news fs gs) h in
-    ap (λ xs. join_flags xs gs) (old_stays fs g both.0) ∙ no_news fs gs both.1
+    let both = or_parts (is_new (flag_of fs g.server) g) (brings_news fs gs) h in
+    ap (λ xs. join_flags xs gs) (old_flag fs g both.0) ∙ no_news fs gs both.1
 
 entry_of_parts : (c : FileId) (p q : Place) (fs gs : List Flag) → p ≡ q → fs ≡ gs → ◌≡◌ {A = Entry} (record { child = c; place = p; flags = fs }) (record { child = c; place = q; flags = gs })
 entry_of_parts c p q fs gs a b = cc
 
 same_joined : (h e : Entry) → brings (Some h) e ≡ false → joined h e ≡ h
 same_joined h e old =
-    let both = either_false (is_before h.place.stamp e.place.stamp) (brings_news h.flags e.flags) old in
+    let both = or_parts (is_before h.place.stamp e.place.stamp) (brings_news h.flags e.flags) old in
     entry_of_parts h.child (newer_place h.place e.place) h.place (join_flags h.flags e.flags) h.flags
     (chosen_false (is_before h.place.stamp e.place.stamp) e.place h.place both.0) (no_news h.flags e.flags both.1)
 

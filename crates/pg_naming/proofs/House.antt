@@ -1,7 +1,7 @@
 -- The house rules run: a server knows just what its replicas took behind them.
-use Rattle.std.proofs.Common.{ℕ, ◌≡◌, ◌≤◌, ◌<◌, ◌+◌, ◌^◌, max, min, arith, true, false, List, [], ◌∷◌, ◌++◌, length, Option, None, Some, refl, sym, ap, subst, ◌∙◌, inl, inr, ◌⊎◌}
-use Rattle.std.proofs.lemmas.Bool.{false≢true}
+use Rattle.std.proofs.Common.{ℕ, ◌≡◌, ◌≤◌, ◌<◌, ◌+◌, arith, true, false, List, [], ◌∷◌, ◌++◌, length, Option, None, Some, refl, sym, ap, subst, ◌∙◌, inl, inr, ◌⊎◌}
 use Rattle.std.proofs.lemmas.Option.{none-some}
+use Rattle.std.proofs.lemmas.List.{append-nil, append_assoc}
 use Rattle.pg_base.specs.declared.id.FileId.{FileId}
 use Rattle.pg_register.specs.declared.flag.Flag.{Flag}
 use Rattle.pg_register.specs.declared.place.Place.{Place}
@@ -20,7 +20,7 @@ use Rattle.pg_house.specs.House.{house, movable, with_parents}
 use Rattle.pg_house.specs.Facts.{AreByServer, ChildrenHeld, IsHeld, IsLast, IsOfDirs}
 use Rattle.pg_house.proofs.AfterPassing.{AreDirs}
 use Rattle.pg_house.proofs.AllClimb.{IsDeep, member_deep, moving_member}
-use Rattle.pg_house.proofs.AllReturned.{is_dead_own, returning_by}
+use Rattle.pg_house.proofs.AllReturned.{returning_by}
 use Rattle.pg_house.proofs.Counting.{find_found}
 use Rattle.pg_house.proofs.Ends.{first_dirs, one_last, one_settled}
 use Rattle.pg_house.proofs.Growing.{grown_by_server, grown_dirs, grown_last, grows}
@@ -29,7 +29,6 @@ use Rattle.pg_house.proofs.Repeating.{repeated_keeps}
 use Rattle.pg_house.proofs.Settling.{dirs_held}
 use Rattle.pg_house.proofs.Started.{taken_held}
 use Rattle.pg_house.proofs.Taken.{OwnIn, all_take, taken_own}
-use Rattle.pg_house.proofs.Truths.{and_true, not_true}
 use Rattle.pg_run.specs.Took.{Take, is_held, take_of}
 use Rattle.pg_run.specs.Took.Take.{TookPlace}
 use Rattle.pg_run.specs.Took.Taker.{InDir, Itself}
@@ -38,13 +37,14 @@ use Rattle.pg_naming.specs.Fresh.{IsFresh}
 use Rattle.pg_naming.specs.Tells.{AreApart, KnowsFlag, KnowsPlace, Tells}
 use Rattle.pg_naming.proofs.Brought.{same_flags, same_places}
 use Rattle.pg_naming.proofs.Singles.{not_flag, same_place}
-use Rattle.pg_house.proofs.Lasting.{pass_all_last, placed_last}
+use Rattle.pg_house.proofs.Lasting.{drawn_late, pass_all_last, placed_last}
 use Rattle.pg_house.proofs.Placed.{placed_touches}
-use Rattle.pg_house.specs.Parents.{hold_parent, hold_parents, parent_held, takes as taken_by}
-use Rattle.pg_store.proofs.Stays.{hold_server}
+use Rattle.pg_house.proofs.Made.{all_made, pass_made}
+use Rattle.pg_house.proofs.Passes.{AllPass, all_pass}
+use Rattle.pg_house.proofs.Kept.{not_root}
+use Rattle.pg_promises.proofs.Rules.{parents_server}
 use Rattle.pg_naming.proofs.Begun.{is_movable, not_movable, parents_held}
 use Rattle.pg_naming.proofs.Coming.{all_come, held_by_keys, others_still}
-use Rattle.pg_naming.proofs.Makes.{all_keys, all_made, all_removed, all_server, all_was, pass_made}
 use Rattle.pg_naming.proofs.Parents.{parents_apart, parents_same, parents_tell}
 use Rattle.pg_naming.proofs.PassedAll.{AllPassed, passed_apart, passed_tells}
 use Rattle.pg_naming.proofs.Rules.{Stands, placed_stands}
@@ -55,14 +55,6 @@ use Rattle.pg_naming.proofs.Takes.{HasEntry, entry_there, flag_told, place_told}
 pub with_one_more : (removed : List ℕ) (takes : List Take) (us : List Update) (u : Update) → passed_with removed takes (us ++ u ∷ []) ≡ passed removed (take_of u ∷ passed_with removed takes us)
 with_one_more removed takes [] u = refl
 with_one_more removed takes (v ∷ us) u = with_one_more removed (passed removed (take_of v ∷ takes)) us u
-
-pub append_assoc : {A : Type 0} (xs ys zs : List A) → (xs ++ ys) ++ zs ≡ xs ++ (ys ++ zs)
-append_assoc [] ys zs = refl
-append_assoc (x ∷ xs) ys zs = ap (λ l. x ∷ l) (append_assoc xs ys zs)
-
-pub append_nil : {A : Type 0} (xs : List A) → xs ++ [] ≡ xs
-append_nil [] = refl
-append_nil (x ∷ xs) = ap (λ l. x ∷ l) (append_nil xs)
 
 -- the rules made these behind what was made before
 pub record Follows (removed : List ℕ) (ds : List FileId) (server last : ℕ) (made : List Update) (start : List Take) (st : State) : Type 0 where
@@ -86,10 +78,6 @@ new_or_old f g p q takes h = elim h.1 [ inl e ↦ inl (same_place h.0 Itself g f
 
 old_flag : (f g : FileId) (p : Place) (q : Flag) (takes : List Take) → KnowsFlag (TookPlace Itself f p ∷ takes) g q → KnowsFlag takes g q
 old_flag f g p q takes h = elim h.1 [ inl e ↦ absurd (not_flag h.0 Itself g f p q e) | inr old ↦ (h.0, old) ]
-
--- a stamp that is drawn is later than the last, and of the server
-drawn_late : (moment last n : ℕ) → n ≡ max (min moment (2 ^ 62)) (last + 1) → last < n
-drawn_late moment last n h = grind arith
 
 late_then : (a b c : ℕ) → a ≤ b → b < c → a < c
 late_then a b c h k = omega arith
@@ -126,10 +114,6 @@ module _ (moment : ℕ) (removed : List ℕ) (ds : List FileId) (server last : �
         flags = subst L (sym (with_one_more removed start k.more u)) (λ g q h.
             k.flags g q (old_flag f g new q so_far (passed_flags removed (TookPlace Itself f new ∷ so_far) g q h)));
       }
-
-  not_root : (d : FileId) (o : Option Own) → is_dead_own d o ≡ true → is_root d ≡ false
-  not_root d None h = absurd (false≢true h)
-  not_root d (Some c) h = not_true (is_root d) (and_true _ _ h).0
 
   pub return_follows : (st : State) → Goes st → (o : Option FileId) → first_returning st.names ds ≡ o → Goes (returned moment ds st o)
   return_follows st k None h = k
@@ -169,14 +153,6 @@ module _ (s : NamesValue) (takes : List Take) (k : Tells s takes) where
 
   pub tells_children : ChildrenHeld s
   tells_children d c e h = k.held c (child_told d c (entry_there d c takes (k.some d c e h).has))
-
-parent_server : (s : NamesValue) (ds : List FileId) (f : FileId) (o : Option Own) → (parent_held s ds f o).server ≡ s.server
-parent_server s ds f None = refl
-parent_server s ds f (Some own) = hold_server s (taken_by s ds f own).place.parent
-
-parents_server : (s : NamesValue) (ds fs : List FileId) → (hold_parents s ds fs).server ≡ s.server
-parents_server s ds [] = refl
-parents_server s ds (f ∷ fs) = parents_server (hold_parent s ds f) ds fs ∙ parent_server s ds f (own_at s f)
 
 same_most : (a b : ℕ) → b ≡ a → a ≤ b
 same_most a b e = omega arith
@@ -226,13 +202,16 @@ module _ (moment : ℕ) (st : State) (takes : List Take) (k : Tells st.names tak
   ready_apart : AreApart Ready
   ready_apart = parents_apart Names Full takes (directories Names) k apart first (parents_held Names)
 
+  one_pass : AllPass Ds Full One.names
+  one_pass = all_pass Begun Ds (movable Full) dirs
+
   one_stays : (q : FileId) → IsHeld Full q → IsHeld One.names q
-  one_stays q h = held_by_keys Full One.names (all_keys Begun Ds (movable Full) dirs) q h
+  one_stays q h = held_by_keys Full One.names one_pass.keys q h
 
   one_passed : AllPassed Full One.names Ds
   one_passed = record {
     stays = one_stays;
-    was = all_was Begun Ds (movable Full) dirs;
+    was = one_pass.was;
     come = λ f own h free. all_come Ds f Begun (movable Full) own dirs (dirs_held Full) h (is_movable Full f own h free);
     still = λ f away. others_still Ds f Begun (movable Full) dirs (not_movable Full f away);
   }
@@ -264,7 +243,7 @@ module _ (moment : ℕ) (st : State) (takes : List Take) (k : Tells st.names tak
     last = one_last moment Begun full_dirs full_sorted full_last;
     tells = one_tells;
     apart = one_apart;
-    same_removed = all_removed Begun Ds (movable Full) dirs ∙ full_removed;
+    same_removed = one_pass.removed ∙ full_removed;
     dirs_held = λ q among. (let d = dirs_held Full q among in (one_stays q d.0, d.1));
     parents = one_parents;
     top = one_stays root (top.0, (grows Names).stays root top.0 top.1);
@@ -274,9 +253,9 @@ module _ (moment : ℕ) (st : State) (takes : List Take) (k : Tells st.names tak
   pub one_follows : Follows Names.removed Ds Names.server Names.last st.work.made (passed Names.removed takes) One
   one_follows = record {
     more = [];
-    is = all_made Begun Ds (movable Full) ∙ sym (append_nil st.work.made);
+    is = all_made Begun Ds (movable Full) ∙ sym (append-nil st.work.made);
     stands = one_stands;
-    same_server = all_server Begun Ds (movable Full) dirs ∙ parents_server Names (directories Names) (movable Names);
+    same_server = one_pass.server ∙ parents_server Names (directories Names) (movable Names);
     later = same_most Names.last One.names.last (pass_all_last Begun Ds (movable Full) ∙ (grows Names).last);
     places = λ f p h. inl h;
     flags = λ f g h. h;

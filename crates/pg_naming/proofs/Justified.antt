@@ -12,7 +12,7 @@ use Rattle.pg_msg.specs.declared.update.Update.{Update}
 use Rattle.pg_msg.specs.Numbers.{is_in_range}
 use Rattle.pg_msg.specs.Work.{new_work}
 use Rattle.pg_event.specs.declared.event.Event.{Event}
-use Rattle.pg_event.specs.declared.event.Event.TheVariants.{Write, Call as Called, Tick, Deliver, Lose, Repeat, Restart, Remove}
+use Rattle.pg_event.specs.declared.event.Event.TheVariants.{Call as Called, Tick, Deliver, Lose, Repeat, Restart, Remove}
 use Rattle.pg_house.specs.House.{house}
 use Rattle.pg_house.specs.Work.{state_of}
 use Rattle.pg_house.proofs.Truths.{chosen_false, chosen_true}
@@ -78,7 +78,6 @@ module _ (n : ℕ) (w : World) (k : IsSound w) where
   message_good (Some m) t h good = at_good (is_server n m.to) (record { server = m.to; asked = input.Arrival m.packet }) t h (good m refl)
 
   taking_good : (event : Event) (t : Taking) → taking_in n w event ≡ Some t → Good t
-  taking_good (Write server moment file what) t h = absurd (none-some t h)
   taking_good (Called server moment c) t h = call_good (is_built c) server moment c t h
   taking_good (Tick server moment word) t h = at_good (is_server n server) (record { server = server; asked = input.Tick moment word }) t h (tt {0})
   taking_good (Deliver number) t h =

@@ -13,7 +13,6 @@ pub mod Pieces
 pub mod Singles
 pub mod Times
 pub mod Rules
-pub mod Makes
 pub mod House
 pub mod Comes
 pub mod Entries

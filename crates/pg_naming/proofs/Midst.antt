@@ -2,6 +2,7 @@
 use Rattle.std.proofs.Common.{ℕ, ◌≡◌, ◌≤◌, ◌<◌, ◌+◌, List, [], ◌∷◌, ◌++◌, drop, length, take, Option, None, Some, refl, sym, ap, subst, ◌∙◌, inl, inr, ◌⊎◌, zero, suc, arith}
 use Rattle.std.proofs.Math.Seq.{drop-append_seam, take-append_seam}
 use Rattle.std.proofs.lemmas.Bool.{cases_lt}
+use Rattle.std.proofs.lemmas.List.{append_assoc}
 use Rattle.pg_base.specs.declared.id.FileId.{FileId}
 use Rattle.pg_register.specs.Place.{root, tilde_name}
 use Rattle.pg_msg.specs.declared.update.Update.{Update}
@@ -16,23 +17,13 @@ use Rattle.pg_house.specs.Cycles.{break_first, first_moving, moved}
 use Rattle.pg_house.specs.House.{movable, with_parents}
 use Rattle.pg_house.specs.Facts.{IsHeld, IsLast, IsOfDirs}
 use Rattle.pg_house.proofs.Repeating.{repeated_keeps}
+use Rattle.pg_house.proofs.Made.{all_made, pass_made}
 use Rattle.pg_run.specs.Took.{Take, own_place}
 use Rattle.pg_run.specs.Passed.{passed, passed_with}
+use Rattle.pg_run.proofs.Makes.{IsFront, front_same, front_then}
 use Rattle.pg_naming.specs.Tells.{AreApart, Tells}
-use Rattle.pg_naming.proofs.House.{Follows, append_assoc, append_nil, house_follows, move_follows, one_follows, return_follows}
-use Rattle.pg_naming.proofs.Makes.{all_made, pass_made}
+use Rattle.pg_naming.proofs.House.{Follows, house_follows, move_follows, one_follows, return_follows}
 use Rattle.pg_naming.proofs.States.{own_is}
-
--- ---- what is made goes on from what was
-
-abbrev IsFront : List Update → List Update → Type 0
-IsFront xs ys = (us : List Update) × (ys ≡ xs ++ us)
-
-front_same : (xs : List Update) → IsFront xs xs
-front_same xs = ([], sym (append_nil xs))
-
-front_then : (xs ys zs : List Update) → IsFront xs ys → IsFront ys zs → IsFront xs zs
-front_then xs ys zs f g = (f.0 ++ g.0, g.1 ∙ ap (λ l. l ++ g.0) f.1 ∙ append_assoc xs f.0 g.0)
 
 -- a step makes one update more, or none
 abbrev Adds : (State → State) → Type 0
@@ -49,7 +40,7 @@ length_both (x ∷ xs) ys = let h = length_both xs ys in omega arith
 module _ (step : State → State) (adds : Adds step) where
   step_front : (a : State) → IsFront a.work.made (step a).work.made
   step_front a = elim (adds a) [
-    | inl same ↦ (let P : List Update → Type 0 = IsFront a.work.made in subst P (sym same) (front_same a.work.made))
+    | inl same ↦ (let P : List Update → Type 0 = IsFront a.work.made in subst P (sym same) (front_same a.work.made a.work.made refl))
     | inr more ↦ (more.0 ∷ [], more.1)
   ]
 
@@ -60,7 +51,7 @@ module _ (step : State → State) (adds : Adds step) where
   ]
 
   front_of : (m : ℕ) (a : State) → IsFront a.work.made (repeated m step a).work.made
-  front_of zero a = front_same a.work.made
+  front_of zero a = front_same a.work.made a.work.made refl
   front_of (suc m) a = front_then a.work.made (step a).work.made (repeated m step (step a)).work.made (step_front a) (front_of m (step a))
 
   -- so each number of updates is reached
@@ -71,7 +62,7 @@ module _ (step : State → State) (adds : Adds step) where
   same_count a b h k = omega arith
 
   find : (m : ℕ) (a : State) (c : ℕ) → length a.work.made ≤ c → c ≤ length (repeated m step a).work.made → IsReached m a c
-  find zero a c least most = (zero, same_count (length a.work.made) c most least, front_same a.work.made)
+  find zero a c least most = (zero, same_count (length a.work.made) c most least, front_same a.work.made a.work.made refl)
   find (suc m) a c least most = elim (cases_lt (length a.work.made) c) [
     | inl lt ↦ (let r = find m (step a) c (few a c lt) most in (suc r.0, r.1, r.2))
     | inr le ↦ (zero, same_count (length a.work.made) c le least, front_of (suc m) a)

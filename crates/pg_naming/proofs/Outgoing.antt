@@ -28,11 +28,12 @@ use Rattle.pg_call.specs.declared.reply.Reply.{Reply}
 use Rattle.pg_call.specs.declared.reply.Reply.TheVariants as reply
 use Rattle.pg_store.specs.declared.store.Store.{Store}
 use Rattle.pg_store.specs.Store.{is_in_time, is_newer_flag, is_newer_place}
-use Rattle.pg_cells.specs.Cells.{ack_to, cell as cell_done, fits, is_news, with_answer, with_news}
+use Rattle.pg_cells.specs.Cells.{ack_to, cell as cell_done, fits, is_news, with_answer}
 use Rattle.pg_cells.specs.Done.{Done, idle, is_accepted}
 use Rattle.pg_cells.specs.Sending.{cells_where, is_any, is_touched}
 use Rattle.pg_cells.specs.Settling.{settle}
 use Rattle.pg_cells.specs.Ticks.{tick}
+use Rattle.pg_cells.proofs.News.{news_sent}
 use Rattle.pg_store.specs.Start.{first_flag}
 use Rattle.pg_calls.specs.Answer.{Answer, answer, answered}
 use Rattle.pg_calls.specs.Bodies.{change_file, when_fit}
@@ -50,10 +51,6 @@ use Rattle.pg_naming.specs.Tells.{KnowsFlag, KnowsPlace, Tells}
 use Rattle.pg_naming.proofs.Sends.{cells_good}
 
 -- ---- what is made sends nothing
-
-news_sent : (b : Bool) (work : Work) (f : FileId) (k : Key) → (with_news b work f k).sent ≡ work.sent
-news_sent true work f k = refl
-news_sent false work f k = refl
 
 place_sent : (f : FileId) (p : Place) (d : Done) → (make_place f p d).work.sent ≡ d.work.sent
 place_sent f p d = news_sent (is_newer_place d.store f p) _ f key.Place

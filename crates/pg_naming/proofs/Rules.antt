@@ -1,5 +1,5 @@
 -- A place that a house rule makes: it is taken, and all that is held passes again.
-use Rattle.std.proofs.Common.{ℕ, ◌≡◌, ◌<◌, ◌+◌, ◌^◌, max, min, Bool, true, false, List, [], ◌∷◌, None, Some, refl, sym, ap, subst, ◌∙◌, inl, inr, ◌⊎◌, arith}
+use Rattle.std.proofs.Common.{ℕ, ◌≡◌, ◌<◌, Bool, true, false, List, [], ◌∷◌, None, Some, refl, sym, ap, subst, ◌∙◌, inl, inr, ◌⊎◌}
 use Rattle.std.proofs.lemmas.Bool.{false≢true}
 use Rattle.std.proofs.lemmas.Option.{none-some, same_Some}
 use Rattle.pg_base.specs.declared.id.FileId.{FileId}
@@ -7,7 +7,6 @@ use Rattle.pg_base.specs.Id.{is_same_file}
 use Rattle.pg_base.specs.Stamp.{is_before}
 use Rattle.pg_base.proofs.Orders.{is_same_file-true}
 use Rattle.pg_register.specs.declared.place.Place.{Place}
-use Rattle.pg_register.specs.Flag.{IsByServer}
 use Rattle.pg_register.specs.Place.{newer_place, root}
 use Rattle.pg_names.specs.declared.own.Own.{Own}
 use Rattle.pg_names.specs.Names.{NamesValue, or_blank, own_at, own_or_blank, with_last, with_own}
@@ -21,10 +20,11 @@ use Rattle.pg_house.specs.Facts.{HasPassed, IsHeld, IsLast}
 use Rattle.pg_house.proofs.AfterPassing.{AreDirs}
 use Rattle.pg_house.proofs.Idle.{AreHeld, pass_idle}
 use Rattle.pg_house.proofs.Passes.{one_pass}
-use Rattle.pg_house.proofs.Placed.{Settled, placed_is_last, placed_own, placed_settled, placed_touches}
+use Rattle.pg_house.proofs.Placed.{Settled, made_dirs as placed_dirs, placed_is_last, placed_own, placed_settled, placed_touches}
 use Rattle.pg_house.proofs.Taken.{OwnIn, passed_takes}
 use Rattle.pg_house.proofs.Touches.{Touches, kept_own_parent, kept_passed}
 use Rattle.pg_house.proofs.Truths.{chosen_true}
+use Rattle.pg_house.proofs.Lasting.{drawn_late}
 use Rattle.pg_run.specs.Took.{Take}
 use Rattle.pg_run.specs.Took.Take.{TookPlace}
 use Rattle.pg_run.specs.Took.Taker.{Itself}
@@ -38,9 +38,6 @@ use Rattle.pg_naming.proofs.Pieces.{OwnComes, own_tells}
 use Rattle.pg_naming.proofs.Singles.{one_place, place_all, place_held, place_latest, place_newest}
 use Rattle.pg_naming.proofs.Times.{earlier, late_apart, late_latest, less, own_time}
 use Rattle.pg_naming.proofs.Top.{top_latest}
-
-drawn_late : (moment last n : ℕ) → n ≡ max (min moment (2 ^ 62)) (last + 1) → last < n
-drawn_late moment last n h = grind arith
 
 -- between two rules: all that is held has passed, and is what was taken
 pub record Stands (removed : List ℕ) (ds : List FileId) (st : State) (takes : List Take) : Type 0 where
@@ -116,19 +113,8 @@ module _ (moment : ℕ) (removed : List ℕ) (ds : List FileId) (st : State) (ta
 
   -- ---- the parents are held
 
-  made_sorted : (q : FileId) (b : Own) (t : Bool) → is_same_file f q ≡ t → own_at Made.names q ≡ Some b → IsByServer b.flags
-  made_sorted q b false apart h = k.settled.dirs.sorted q b (sym (own_other Late f Mine q apart) ∙ h)
-  made_sorted q b true same h =
-      let e : Mine ≡ b = same_Some Mine b (sym made_own ∙ ap (own_at Made.names) (is_same_file-true f q same) ∙ h) in
-      let mine : IsByServer Mine.flags = subst IsByServer (sym (ap flags_of held.1)) (k.settled.dirs.sorted f held.0 held.1) in
-      subst (λ (x : Own). IsByServer x.flags) e mine
-
   made_dirs : AreDirs Made.names ds
-  made_dirs = record {
-    cells = λ q g c h. k.settled.dirs.cells q g c (sym (own_cell Late f Mine q g) ∙ h);
-    held = λ q b h d. let was = made_was q (b, h) in k.settled.dirs.held q was.0 was.1 d;
-    sorted = λ q b h. made_sorted q b (is_same_file f q) refl h;
-  }
+  made_dirs = placed_dirs moment ds st f p name k.settled.dirs
 
   made_dirs_held : AreHeld Made.names ds
   made_dirs_held q among = let d = k.dirs_held q among in (made_stays q d.0, d.1)

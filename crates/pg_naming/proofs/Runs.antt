@@ -10,7 +10,7 @@ use Rattle.pg_msg.specs.declared.message.Message.{Message}
 use Rattle.pg_msg.specs.declared.message.Message.TheVariants as message
 use Rattle.pg_msg.specs.declared.message.Sent.{Sent}
 use Rattle.pg_event.specs.declared.event.Event.{Event}
-use Rattle.pg_event.specs.declared.event.Event.TheVariants.{Write, Call as Called, Tick, Deliver, Lose, Repeat, Restart, Remove}
+use Rattle.pg_event.specs.declared.event.Event.TheVariants.{Call as Called, Tick, Deliver, Lose, Repeat, Restart, Remove}
 use Rattle.pg_event.specs.declared.entry.VoidCause.{VoidCause}
 use Rattle.pg_event.specs.declared.entry.VoidCause.TheVariants.{NoMessage, NoServer, Unbuilt}
 use Rattle.pg_promises.proofs.Choices.{chosen}
@@ -50,7 +50,6 @@ later_message P Q to m good = good
 -- ---- the messages under way
 
 bag_good : (P : Sent → Type 0) (ms sent : List Sent) (event : Event) → All P ms → All P sent → All P (bag_after ms event sent)
-bag_good P ms sent (Write server moment file what) h k = All-append P ms sent h k
 bag_good P ms sent (Called server moment call) h k = All-append P ms sent h k
 bag_good P ms sent (Tick server moment word) h k = All-append P ms sent h k
 bag_good P ms sent (Deliver number) h k = All-append P _ sent (left_without P ms number (message_at ms number) h) k
@@ -95,7 +94,6 @@ module _ (w : World) (k : IsSound w) where
   bag_sound event (Some m) = idle_sound event None
 
   next_sound : (n : ℕ) (event : Event) → Behind (next n w event)
-  next_sound n (Write server moment file what) = idle_sound (Write server moment file what) (Some Unbuilt)
   next_sound n (Called server moment call) =
       chosen Behind (is_built call) (server_step n w (Called server moment call) server (input.Call moment call)) (idle_step w (Called server moment call) (Some Unbuilt))
       (server_sound n (Called server moment call) server (input.Call moment call) (tt {0})) (idle_sound (Called server moment call) (Some Unbuilt))

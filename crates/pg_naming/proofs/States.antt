@@ -5,7 +5,7 @@ use Rattle.pg_register.specs.declared.flag.Flag.{Flag}
 use Rattle.pg_register.specs.declared.place.Place.{Place}
 use Rattle.pg_entries.specs.declared.entry.Entry.{Entry}
 use Rattle.pg_names.specs.Names.{NamesValue, cell_at, own_or_blank}
-use Rattle.pg_house.proofs.Truths.{own_of_parts}
+use Rattle.pg_names.proofs.Alike.{entry_of_parts, own_of_parts}
 use Rattle.pg_run.specs.Took.{Take, Taker, flags_in, flags_taken, place_in, places_taken}
 use Rattle.pg_run.specs.Took.Taker.{InDir, Itself}
 use Rattle.pg_run.specs.Passed.{has_cell, top, places_known}
@@ -41,10 +41,6 @@ module _ (takes : List Take) (apart : AreApart takes) where
   top_is f a k =
       latest_once {f = f} {P = KnowsPlace takes f} (apart.places f) a (top f takes) k
       (latest_same {f = f} (place_known f takes) (known_place f takes) (top f takes) (latest_of f (places_known f takes)))
-
-entry_of_parts : (c d : FileId) (p q : Place) (fs gs : List Flag) → c ≡ d → p ≡ q → fs ≡ gs
-    → ◌≡◌ {A = Entry} (record { child = c; place = p; flags = fs }) (record { child = d; place = q; flags = gs })
-entry_of_parts c d p q fs gs a b e = cc
 
 module _ (names : NamesValue) (takes : List Take) (apart : AreApart takes) (k : Tells names takes) where
   pub own_is : (f : FileId) → own_or_blank names f ≡ own_state f takes

@@ -6,7 +6,7 @@ use Rattle.std.proofs.lemmas.List.Elements.{All-append, All-nil}
 use Rattle.pg_msg.specs.declared.message.Packet.{Packet}
 use Rattle.pg_msg.specs.declared.message.Sent.{Sent}
 use Rattle.pg_event.specs.declared.event.Event.{Event}
-use Rattle.pg_event.specs.declared.event.Event.TheVariants.{Write, Call as Called, Tick, Deliver, Lose, Repeat, Restart, Remove}
+use Rattle.pg_event.specs.declared.event.Event.TheVariants.{Call as Called, Tick, Deliver, Lose, Repeat, Restart, Remove}
 use Rattle.pg_event.specs.declared.entry.VoidCause.{VoidCause}
 use Rattle.pg_event.specs.declared.entry.VoidCause.TheVariants.{NoMessage, NoServer, Unbuilt}
 use Rattle.pg_calls.specs.Calls.{is_built}
@@ -79,7 +79,6 @@ module _ (n : ℕ) (w : World) (P : World → Type 0) (k : Acts n w P) where
 
   -- AN EVENT
   pub next_by : (e : Event) → StepIs (next n w e)
-  next_by (Write s moment file what) = k.still (Write s moment file what) (Some Unbuilt) whole
   next_by (Called s moment c) =
       chosen StepIs (is_built c) (server_step n w (Called s moment c) s (input.Call moment c)) (idle_step w (Called s moment c) (Some Unbuilt))
       (server_by (Called s moment c) s (input.Call moment c) tt refl whole) (k.still (Called s moment c) (Some Unbuilt) whole)

@@ -24,14 +24,17 @@ use Rattle.pg_store.specs.declared.store.Store.{Store}
 use Rattle.pg_store.specs.Start.{first_flag}
 use Rattle.pg_store.specs.Store.{begin_file, is_in_time}
 use Rattle.pg_cells.specs.Done.{Done, idle}
-use Rattle.pg_order.proofs.Types.{NewName}
+use Rattle.pg_calls.specs.declared.checks.NewName.{NewName}
 use Rattle.pg_calls.specs.Answer.{Answer, answer, answered}
 use Rattle.pg_calls.specs.Bodies.{change_file, when_fit}
 use Rattle.pg_calls.specs.Calls.{do_call}
 use Rattle.pg_calls.specs.Checks.{empty_dir_at, file_at, first_child, move_of, new_name}
 use Rattle.pg_calls.specs.Making.{drawn, first_ranges, make_flag, make_place, make_version}
 use Rattle.pg_calls.specs.Naming.{dead_place, moved, next_id, place_in, taken_away, with_first_version, with_id, with_thing}
-use Rattle.pg_order.proofs.Found.{HasNoTilde, empty_found, empty_timed, file_found, file_timed, fit_found, move_found, move_timed, name_found, name_timed}
+use Rattle.pg_calls.proofs.Checked.{fit_found}
+use Rattle.pg_calls.proofs.InTime.{dir_in_time, file_in_time, move_in_time, name_in_time}
+use Rattle.pg_calls.proofs.Walked.{file_found}
+use Rattle.pg_order.proofs.Found.{HasNoTilde, empty_found, move_found, name_found}
 use Rattle.pg_order.proofs.Older.{Ages, ages_itself, drawn_time, flag_ages, place_time, time_at, write_ages}
 
 -- ---- what a call makes
@@ -107,7 +110,7 @@ module _ (a : Store) (work : Work) (Q : Done → Type 0) where
     is_new e ages =
         let here = thing_time in
         let more = (ages.places Id).time in
-        record { going = name_timed a Id text new found; server = refl; number = refl; time = omega (arith, here, more) }
+        record { going = name_in_time a Id text new found; server = refl; number = refl; time = omega (arith, here, more) }
 
     thing_kept : (e : Store) → AreKept a e work Q → Ages Thing.store e → Q Thing
     thing_kept e k ages =
@@ -195,11 +198,11 @@ module _ (a : Store) (work : Work) (late : is_in_time a ≡ false) where
 
   -- a call changes nothing then
   pub called_late : (c : Call) → idle (do_call a c work).store (do_call a c work).work ≡ idle a work
-  called_late (call.Mkdir path) = late_answered (new_name a (next_id a Dir) path) _ (λ x h. name_timed a (next_id a Dir) path x h)
-  called_late (call.Create path policy) = late_answered (new_name a (next_id a File) path) _ (λ x h. name_timed a (next_id a File) path x h)
-  called_late (call.Write path offset bytes) = late_answered (file_at a path) (change_file a (written offset bytes) work) (λ x h. file_timed a path x h)
-  called_late (call.Cut path length) = late_answered (file_at a path) (change_file a (cut_to length) work) (λ x h. file_timed a path x h)
-  called_late (call.Rename from to) = late_answered (move_of a from to) _ (λ x h. move_timed a from to x h)
-  called_late (call.Unlink path) = late_answered (file_at a path) _ (λ x h. file_timed a path x h)
-  called_late (call.Rmdir path) = late_answered (empty_dir_at a path) _ (λ x h. empty_timed a path x h)
+  called_late (call.Mkdir path) = late_answered (new_name a (next_id a Dir) path) _ (λ x h. name_in_time a (next_id a Dir) path x h)
+  called_late (call.Create path policy) = late_answered (new_name a (next_id a File) path) _ (λ x h. name_in_time a (next_id a File) path x h)
+  called_late (call.Write path offset bytes) = late_answered (file_at a path) (change_file a (written offset bytes) work) (λ x h. file_in_time a path x h)
+  called_late (call.Cut path length) = late_answered (file_at a path) (change_file a (cut_to length) work) (λ x h. file_in_time a path x h)
+  called_late (call.Rename from to) = late_answered (move_of a from to) _ (λ x h. move_in_time a from to x h)
+  called_late (call.Unlink path) = late_answered (file_at a path) _ (λ x h. file_in_time a path x h)
+  called_late (call.Rmdir path) = late_answered (empty_dir_at a path) _ (λ x h. dir_in_time a path x h)
   called_late c = refl

@@ -9,10 +9,11 @@ use Rattle.pg_base.proofs.Maps.{lookup-insert_entry}
 use Rattle.pg_base.proofs.Orders.{file_total, is_same_file-true}
 use Rattle.pg_entries.specs.declared.entry.Entry.{Entry}
 use Rattle.pg_names.specs.declared.own.Own.{Own}
-use Rattle.pg_names.specs.Names.{HeldValue, NamesValue, blank, cell_at, changed, held_with, hold, known, own_at, own_of, set_entry, set_own, update, with_own}
-use Rattle.pg_names.proofs.Lookups.{entry_other_child, entry_other_dir, entry_same, known_absent, known_held, own_back, own_other, own_same}
+use Rattle.pg_names.specs.Names.{HeldValue, NamesValue, blank, cell_at, held_with, hold, known, own_at, own_of, set_entry, set_own, update, with_own}
+use Rattle.pg_names.proofs.Lookups.{entry_other_child, entry_other_dir, entry_same, known_absent, own_back, own_other, own_same}
 use Rattle.pg_names.specs.Names.{with_entry}
 use Rattle.pg_house.specs.Facts.{AreOrdered, IsHeld}
+use Rattle.pg_house.proofs.Ordered.{changed_ordered}
 use Rattle.pg_promises.proofs.Growth.{OneOwn}
 
 -- ---- the own place and flags of one thing change
@@ -76,14 +77,6 @@ hold_other s f q apart = ap own_of (hold_other_by s f q (known s f) apart)
 
 -- ---- entries stay in order
 
-ordered_at : (s : NamesValue) (d : FileId) (x y : HeldValue) → known s d ≡ Some x → AreOrdered s → IsStrictlySortedBy file_cmp (keys_of y.entries) → (q : FileId) (z : HeldValue) (t : Bool) → cond t (Some y) (known s q) ≡ Some z → IsStrictlySortedBy file_cmp (keys_of z.entries)
-ordered_at s d x y h ordered sorted q z false g = ordered q z g
-ordered_at s d x y h ordered sorted q z true g = subst (λ (w : HeldValue). IsStrictlySortedBy file_cmp (keys_of w.entries)) (same_Some y z g) sorted
-
-ordered_by : (s : NamesValue) (d : FileId) (change : HeldValue → HeldValue) → ((x : HeldValue) → IsStrictlySortedBy file_cmp (keys_of x.entries) → IsStrictlySortedBy file_cmp (keys_of (change x).entries)) → (o : Option HeldValue) → known s d ≡ o → AreOrdered s → AreOrdered (changed s d change o)
-ordered_by s d change keeps None h ordered = ordered
-ordered_by s d change keeps (Some x) h ordered = λ q z g. ordered_at s d x (change x) h ordered (keeps x (ordered d x h)) q z (is_same_file d q) (sym (known_held s d x (change x) q h) ∙ g)
-
 -- where one directory changes and its own do
 pub ordered_update : (s : NamesValue) (d : FileId) (change : HeldValue → HeldValue) → ((x : HeldValue) → IsStrictlySortedBy file_cmp (keys_of x.entries) → IsStrictlySortedBy file_cmp (keys_of (change x).entries)) → AreOrdered s → AreOrdered (update s d change)
-ordered_update s d change keeps ordered = ordered_by s d change keeps (known s d) refl ordered
+ordered_update s d change keeps ordered = changed_ordered s d change keeps (known s d) refl ordered

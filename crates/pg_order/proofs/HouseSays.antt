@@ -1,6 +1,5 @@
 -- What is said of all that is known of names is said of what the house rules make of it.
-use Rattle.std.proofs.Common.{ℕ, ◌≡◌, ◌||◌, Bool, true, false, cond, not, List, [], ◌∷◌, length, Option, None, Some, All, refl, sym, ap, subst, ◌∙◌, inl, inr}
-use Rattle.std.specs.List.{filter}
+use Rattle.std.proofs.Common.{ℕ, ◌≡◌, Bool, true, false, not, List, [], ◌∷◌, length, Option, None, Some, All, refl, sym, ap, subst, ◌∙◌, inl, inr}
 use Rattle.std.specs.Map.{keys_of}
 use Rattle.std.proofs.lemmas.List.Elements.{All-append, All-cons, All-nil}
 use Rattle.std.proofs.lemmas.Bool.{false≢true}
@@ -35,8 +34,8 @@ use Rattle.pg_house.proofs.AllReturned.{is_dead_own, returning_by}
 use Rattle.pg_house.proofs.Counting.{find_found, kept_dir}
 use Rattle.pg_house.proofs.NoCycles.{inner_parts, some_dirs}
 use Rattle.pg_house.proofs.Repeating.{repeated_keeps}
-use Rattle.pg_house.proofs.Settling.{key_found}
-use Rattle.pg_house.proofs.Truths.{and_true, not_true, or_cases, or_left, or_right}
+use Rattle.pg_house.proofs.Settling.{among_was, key_found}
+use Rattle.pg_house.proofs.Truths.{and_true, not_true, or_left, or_right}
 use Rattle.pg_names.specs.Names.{known, own_of}
 use Rattle.pg_promises.proofs.Choices.{chosen}
 use Rattle.pg_order.specs.Saying.{IsClosed, IsSaidOf, Saying}
@@ -49,18 +48,6 @@ apart_root s q top none = at (is_same_file q root) refl
     at : (t : Bool) → is_same_file q root ≡ t → is_same_file q root ≡ false
     at false e = e
     at true e = absurd (none-some top.0 (sym none ∙ ap (own_at s) (is_same_file-true q root e) ∙ top.1))
-
--- what is kept of a list was in it
-was_by : (test : FileId → Bool) (d f : FileId) (ds : List FileId) (t : Bool) → is_among f (cond t (d ∷ filter test ds) (filter test ds)) ≡ true → ((is_among f (filter test ds) ≡ true) → is_among f ds ≡ true) → (is_same_file d f || is_among f ds) ≡ true
-was_by test d f ds false h rest = or_right (is_same_file d f) _ (rest h)
-was_by test d f ds true h rest = elim (or_cases (is_same_file d f) (is_among f (filter test ds)) h) [
-  | inl same ↦ or_left (is_same_file d f) _ same
-  | inr later ↦ or_right (is_same_file d f) _ (rest later)
-]
-
-among_was : (test : FileId → Bool) (ds : List FileId) (f : FileId) → is_among f (filter test ds) ≡ true → is_among f ds ≡ true
-among_was test [] f h = h
-among_was test (d ∷ ds) f h = was_by test d f ds (test d) h (among_was test ds f)
 
 module _ (p : Saying) (c : IsClosed p) where
   -- ---- one thing more is held

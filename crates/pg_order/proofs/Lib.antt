@@ -1,4 +1,3 @@
-pub mod Types
 pub mod Changes
 pub mod Sounding
 pub mod Found

@@ -7,7 +7,6 @@ use Rattle.std.proofs.lemmas.Option.{none-some, same_Some}
 use Rattle.pg_base.specs.declared.id.FileId.{FileId}
 use Rattle.pg_base.specs.Id.{is_same_file}
 use Rattle.pg_base.proofs.Orders.{is_same_file-true}
-use Rattle.pg_entries.specs.declared.entry.Entry.{Entry}
 use Rattle.pg_msg.specs.declared.message.Sent.{Sent}
 use Rattle.pg_msg.specs.declared.work.Work.{Work}
 use Rattle.pg_msg.specs.Work.{new_work}
@@ -17,23 +16,24 @@ use Rattle.pg_call.specs.declared.reply.Reply.TheVariants as reply
 use Rattle.pg_msg.specs.Numbers.{is_in_range}
 use Rattle.pg_event.specs.declared.event.Event.{Event}
 use Rattle.pg_names.specs.declared.own.Own.{Own}
-use Rattle.pg_names.specs.Names.{HeldValue, entry_in, own_at, own_of}
+use Rattle.pg_names.specs.Names.{own_at, own_of}
 use Rattle.pg_register.specs.Place.{root, root_place}
 use Rattle.pg_replica.specs.declared.replica.Replica.{Replica}
 use Rattle.pg_flood.specs.World.{after}
-use Rattle.pg_flood.proofs.Flood.{here}
+use Rattle.pg_flood.proofs.Flood.{after_itself, here}
 use Rattle.pg_store.specs.declared.store.Store.{Store}
 use Rattle.pg_store.specs.Start.{first_names, root_own}
 use Rattle.pg_store.specs.Store.{is_in_time, new_store, take_flag, take_place, write}
+use Rattle.pg_store.proofs.InTime.{files_in_time}
 use Rattle.pg_cells.specs.Done.{Done, idle}
 use Rattle.pg_cells.specs.Settling.{settle}
 use Rattle.pg_cells.specs.Ticks.{tick}
 use Rattle.pg_calls.specs.Calls.{do_call}
-use Rattle.pg_order.proofs.Found.{few_files}
 use Rattle.pg_server.specs.declared.input.Input.{Input}
 use Rattle.pg_server.specs.declared.input.Input.TheVariants as input
 use Rattle.pg_server.specs.Local.{Effect, closed, effect, finished, receive}
 use Rattle.pg_promises.proofs.Choices.{chosen}
+use Rattle.pg_promises.proofs.Start.{Root, no_entry}
 use Rattle.pg_msg.specs.declared.message.Packet.{Packet}
 use Rattle.pg_run.proofs.Bags.{at_message}
 use Rattle.pg_run.specs.Journal.{bag, bag_after}
@@ -117,14 +117,11 @@ module _ (n : ℕ) (w : World) (k : AreNamed n w) (settled : AreSettled w.stores
         subst P (sym e.1) (omega arith))
   ]
 
-  at_itself : Later s ≡ Then
-  at_itself = elim (here w.stores s Then s) [ inl e ↦ e.1 | inr e ↦ absurd (e.0 refl) ]
-
   -- a thing whose id it gave out now
   is_born : (f : FileId) (e : Store) → Ages e Then → IsNew Here e f → IsMade n Later f
   is_born f e older new =
       let server : f.server ≡ s = new.server ∙ (k.servers s).server in
-      let few = few_files Here new.going in
+      let few = files_in_time Here new.going in
       let number = new.number in
       let was = new.time in
       let more = (older.places f).time in
@@ -134,7 +131,7 @@ module _ (n : ℕ) (w : World) (k : AreNamed n w) (settled : AreSettled w.stores
         least = omega (arith, server, least);
         most = omega (arith, server, most);
         number = omega (arith, number, few);
-        time = subst P (sym (ap Later server ∙ at_itself)) now;
+        time = subst P (sym (ap Later server ∙ after_itself w.stores s Then)) now;
       })
 
   -- what the event needs
@@ -186,13 +183,6 @@ module _ (n : ℕ) (w : World) (k : AreNamed n w) (settled : AreSettled w.stores
       }) e
 
 -- ---- the start
-
-abbrev Root : ℕ → HeldValue
-Root n = record { own = root_own n; entries = [] }
-
-no_entry : (n : ℕ) (g : FileId) (c : Entry) (t : Bool) → entry_in g (cond t (Some (Root n)) None) ≡ Some c → ⊥
-no_entry n g c true h = none-some c h
-no_entry n g c false h = none-some c h
 
 root_by : (n : ℕ) (f : FileId) (b : Own) (t : Bool) → is_same_file f root ≡ t → own_of (cond t (Some (Root n)) None) ≡ Some b → (f ≡ root) × (b ≡ root_own n)
 root_by n f b true e h = (is_same_file-true f root e, sym (same_Some (root_own n) b h))

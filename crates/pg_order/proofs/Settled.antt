@@ -17,10 +17,10 @@ use Rattle.pg_call.specs.declared.call.Call.{Call}
 use Rattle.pg_call.specs.declared.refusal.Refusal.TheVariants.{ClockEnd}
 use Rattle.pg_call.specs.declared.reply.Reply.TheVariants as reply
 use Rattle.pg_event.specs.declared.event.Event.{Event}
-use Rattle.pg_event.specs.declared.event.Event.TheVariants.{Write, Call as Called, Tick, Deliver, Lose, Repeat, Restart, Remove}
+use Rattle.pg_event.specs.declared.event.Event.TheVariants.{Call as Called, Tick, Deliver, Lose, Repeat, Restart, Remove}
 use Rattle.pg_event.specs.declared.entry.VoidCause.TheVariants.{NoServer, Unbuilt}
 use Rattle.pg_names.specs.declared.own.Own.{Own}
-use Rattle.pg_names.specs.Names.{HeldValue, NamesValue, cell_at, directories, entry_in, own_at, own_of}
+use Rattle.pg_names.specs.Names.{HeldValue, NamesValue, cell_at, directories, own_at, own_of}
 use Rattle.pg_house.specs.Cycles.{climb, is_inner, is_lost}
 use Rattle.pg_house.specs.Facts.{AreOrdered, is_among}
 use Rattle.pg_house.specs.House.{house, with_parents}
@@ -43,7 +43,7 @@ use Rattle.pg_server.specs.declared.input.Input.{Input}
 use Rattle.pg_server.specs.declared.input.Input.TheVariants as input
 use Rattle.pg_server.specs.Local.{Effect, closed, effect, finished, receive}
 use Rattle.pg_promises.proofs.Choices.{chosen, decided}
-use Rattle.pg_promises.proofs.Start.{start_whole}
+use Rattle.pg_promises.proofs.Start.{Root, no_entry, start_whole}
 use Rattle.pg_promises.proofs.Touching.{same_names}
 use Rattle.pg_run.specs.Journal.{bag, message_at}
 use Rattle.pg_run.specs.Run.{Step, World, delivery_step, effect_step, idle_step, is_server, bag_step, next, run, run_from, server_step, start, world_after}
@@ -134,9 +134,6 @@ settled_effect a (input.Arrival packet) k =
 
 -- ---- the start
 
-abbrev Root : ℕ → HeldValue
-Root n = record { own = root_own n; entries = [] }
-
 abbrev NoEntries : List (FileId × Entry)
 NoEntries = []
 
@@ -147,10 +144,6 @@ none_sorted = tt
 root_known : (n : ℕ) (x : HeldValue) (t : Bool) → cond t (Some (Root n)) None ≡ Some x → x ≡ Root n
 root_known n x true h = sym (same_Some (Root n) x h)
 root_known n x false h = absurd (none-some x h)
-
-no_entry : (n : ℕ) (g : FileId) (c : Entry) (t : Bool) → entry_in g (cond t (Some (Root n)) None) ≡ Some c → ⊥
-no_entry n g c true h = none-some c h
-no_entry n g c false h = none-some c h
 
 none_else : (n : ℕ) (b : Own) (t : Bool) → own_of (cond t (Some (Root n)) None) ≡ Some b → t ≡ false → ⊥
 none_else n b true h apart = false≢true (sym apart)
@@ -214,7 +207,6 @@ module _ (n : ℕ) (w : World) (P : (ℕ → Store) → Type 0) (still : P w.sto
   bag_kept e (Some m) = still
 
   pub next_kept : (e : Event) → StepKeeps (next n w e)
-  next_kept (Write s moment file what) = still
   next_kept (Called s moment c) = chosen StepKeeps (is_built c) (server_step n w (Called s moment c) s (input.Call moment c)) (idle_step w (Called s moment c) (Some Unbuilt)) (server_kept (Called s moment c) s (input.Call moment c)) still
   next_kept (Tick s moment word) = server_kept (Tick s moment word) s (input.Tick moment word)
   next_kept (Deliver number) = delivery_kept (Deliver number) (message_at (bag w.journal) number)

@@ -1,3 +1,4 @@
 pub mod Firsts
 pub mod Paths
 pub mod Cuts
+pub mod Tested

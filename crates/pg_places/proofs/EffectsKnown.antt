@@ -40,6 +40,7 @@ use Rattle.pg_cells.specs.Done.{Done, idle, is_accepted, link_of}
 use Rattle.pg_cells.specs.Sending.{cells_where, is_any, is_touched}
 use Rattle.pg_cells.specs.Settling.{settle}
 use Rattle.pg_cells.specs.Ticks.{tick}
+use Rattle.pg_cells.proofs.News.{news_sent}
 use Rattle.pg_calls.specs.Answer.{Answer, answered}
 use Rattle.pg_calls.specs.Bodies.{change_file}
 use Rattle.pg_calls.specs.Calls.{do_call}
@@ -53,7 +54,7 @@ use Rattle.pg_promises.proofs.Settling.{settle_sent, whole_settle}
 use Rattle.pg_promises.proofs.Touching.{same_names}
 use Rattle.pg_promises.proofs.Whole.{whole_acknowledge}
 use Rattle.pg_places.proofs.Book.{Book, In}
-use Rattle.pg_kept.proofs.Calls.{AreOfHistory, call_on, news_sent}
+use Rattle.pg_kept.proofs.Calls.{AreOfHistory, call_on}
 use Rattle.pg_kept.proofs.Effects.{Comes}
 use Rattle.pg_places.proofs.HouseKnown.{HasBlanks, Stood, house_stood, none_root}
 use Rattle.pg_places.proofs.Known.{AreKnown}

@@ -1,5 +1,5 @@
 -- Under the house rules each place that stands comes from the book, in which the new ones are put.
-use Rattle.std.proofs.Common.{ℕ, ◌≡◌, ◌<◌, ◌≤◌, ◌+◌, ◌^◌, max, min, Bool, true, false, List, [], ◌∷◌, length, Option, None, Some, refl, sym, ap, subst, ◌∙◌, inl, inr, arith}
+use Rattle.std.proofs.Common.{ℕ, ◌≡◌, ◌<◌, ◌≤◌, Bool, true, false, List, [], length, Option, None, Some, refl, sym, ap, subst, ◌∙◌, inl, inr, arith}
 use Rattle.std.proofs.lemmas.Option.{none-some}
 use Rattle.pg_base.specs.declared.id.FileId.{FileId}
 use Rattle.pg_base.specs.Id.{is_same_file}
@@ -8,30 +8,28 @@ use Rattle.pg_register.specs.declared.place.Place.{Place}
 use Rattle.pg_register.specs.Place.{blank_place, root, tilde_name}
 use Rattle.pg_register.proofs.ByServer.{IsByServer-nil}
 use Rattle.pg_names.specs.declared.own.Own.{Own}
-use Rattle.pg_names.specs.Names.{NamesValue, blank_own, directories, known, own_at, with_last, with_own}
-use Rattle.pg_names.proofs.Lookups.{own_back, own_cell, own_other, own_same}
+use Rattle.pg_names.specs.Names.{NamesValue, blank_own, directories, known, own_at, with_last}
+use Rattle.pg_names.proofs.Lookups.{own_cell, own_other, own_same}
 use Rattle.pg_house.specs.Work.{State, state_of}
-use Rattle.pg_house.specs.Passing.{pass, pass_all}
-use Rattle.pg_house.specs.Parents.{hold_parent, hold_parents, parent_held, takes}
+use Rattle.pg_house.specs.Passing.{pass_all}
 use Rattle.pg_house.specs.Placing.{drawn, flags_of, live_place, made_at, own_with, place_at, placed}
 use Rattle.pg_house.specs.Returning.{first_returning, is_returning, return_first, returned}
 use Rattle.pg_house.specs.Cycles.{break_first, first_moving, moved}
 use Rattle.pg_house.specs.House.{house, movable, rules, with_parents}
 use Rattle.pg_house.specs.Facts.{AreByServer, IsHeld, IsLast, IsOfDirs}
-use Rattle.pg_house.proofs.AfterPassing.{AreDirs}
 use Rattle.pg_house.proofs.AllClimb.{IsDeep, member_deep, moving_member}
 use Rattle.pg_house.proofs.AllReturned.{returning_by}
 use Rattle.pg_house.proofs.Counting.{find_found}
 use Rattle.pg_house.proofs.Ends.{first_dirs, one_last, one_settled}
 use Rattle.pg_house.proofs.Growing.{Grows, grown_by_server, grown_dirs, grown_last, grows}
-use Rattle.pg_house.proofs.Lasting.{pass_all_last, placed_last}
+use Rattle.pg_house.proofs.Lasting.{drawn_late, pass_all_last, placed_last}
 use Rattle.pg_house.proofs.NoCycles.{inner_parts, some_dirs}
-use Rattle.pg_house.proofs.Passes.{one_pass}
-use Rattle.pg_house.proofs.Placed.{Settled, placed_is_last, placed_settled, placed_touches}
+use Rattle.pg_house.proofs.Placed.{Settled, made_dirs, placed_is_last, placed_settled, placed_touches}
 use Rattle.pg_house.proofs.Repeating.{repeated_keeps}
-use Rattle.pg_store.proofs.Stays.{hold_server}
+use Rattle.pg_house.proofs.Passes.{all_pass}
 use Rattle.pg_promises.specs.Whole.{AreOrderly}
 use Rattle.pg_promises.proofs.Growth.{OneOwn}
+use Rattle.pg_promises.proofs.Rules.{parents_server}
 use Rattle.pg_order.proofs.Changes.{one_stays}
 use Rattle.pg_places.proofs.Book.{Book, Goes, Goes-trans, In, put, put_goes, put_new, put_old, put_time}
 use Rattle.pg_places.proofs.Known.{AreFirst, AreKnown, IsOwn, all_known, all_pass_held, known_further, one_known, pass_held, pass_known}
@@ -87,9 +85,6 @@ pub record Stands (s : ℕ) (book : Book) (ds : List FileId) (st : State) : Type
   pub server : st.names.server ≡ s
   pub stood : Stood s book st.names
 
-later_than : (moment last n : ℕ) → n ≡ max (min moment (2 ^ 62)) (last + 1) → last < n
-later_than moment last n h = grind arith
-
 module _ (s : ℕ) (book : Book) (moment : ℕ) (ds : List FileId) (st : State) (k : Stands s book ds st) where
   module _ (f p : FileId) (name : List ℕ) (held : IsHeld st.names f) where
     abbrev New : Place
@@ -111,7 +106,7 @@ module _ (s : ℕ) (book : Book) (moment : ℕ) (ds : List FileId) (st : State) 
     Next = put Old New
 
     late : Old.times s < New.stamp.time
-    late = let l = k.stood.low in let m = later_than moment st.names.last New.stamp.time refl in omega arith
+    late = let l = k.stood.low in let m = drawn_late moment st.names.last New.stamp.time refl in omega arith
 
     one : OneOwn st.names Made.names f held.0 Mine
     one = record { was = held.1; is = own_same Late f held.0 Mine held.1; others = own_other Late f Mine }
@@ -126,13 +121,6 @@ module _ (s : ℕ) (book : Book) (moment : ℕ) (ds : List FileId) (st : State) 
         one_known (In Next) st.names Made.names f held.0 Mine one (λ q g. own_cell Late f Mine q g)
         (known_further (In Old) (In Next) (put_old Old s New k.server late) st.names k.stood.known) mine
 
-    made_dirs : AreDirs Made.names ds
-    made_dirs = record {
-      cells = λ q g c h. k.settled.dirs.cells q g c (sym (own_cell Late f Mine q g) ∙ h);
-      held = λ q c h d. let was = own_back Late f (with_own Mine) q c h in k.settled.dirs.held q was.0 was.1 d;
-      sorted = λ q c h. (made_known.own q c h).first.sorted;
-    }
-
     place_stands : Stands s book ds (placed moment ds st f p name)
     place_stands = record {
       settled = placed_settled moment ds st f p name k.settled;
@@ -141,7 +129,7 @@ module _ (s : ℕ) (book : Book) (moment : ℕ) (ds : List FileId) (st : State) 
       stood = record {
         later = Next;
         goes = Goes-trans s book Old Next k.stood.goes (put_goes Old s New k.server late);
-        known = pass_known (In Next) Made ds f made_dirs made_known;
+        known = pass_known (In Next) Made ds f (made_dirs moment ds st f p name k.settled.dirs) made_known;
         low =
             let e : Next.times s ≡ New.stamp.time = put_time Old s New k.server late in
             let m : (placed moment ds st f p name).names.last ≡ New.stamp.time = placed_last moment ds st f p name in
@@ -176,17 +164,11 @@ module _ (s : ℕ) (book : Book) (moment : ℕ) (st : State) (of_dirs : IsOfDirs
   abbrev One : State
   One = pass_all st Ds (movable st.names)
 
-  one_server : (ds fs : List FileId) (x : State) → AreDirs x.names ds → (pass_all x ds fs).names.server ≡ x.names.server
-  one_server ds [] x dirs = refl
-  one_server ds (f ∷ fs) x dirs =
-      let one = one_pass x ds f dirs in
-      one_server ds fs (pass x ds f) one.dirs ∙ one.touches.server
-
   first : Stands s book Ds One
   first = record {
     settled = one_settled moment st of_dirs sorted;
     last = one_last moment st of_dirs sorted last;
-    server = one_server Ds (movable st.names) st (first_dirs moment st of_dirs sorted) ∙ server;
+    server = (all_pass st Ds (movable st.names) (first_dirs moment st of_dirs sorted)).server ∙ server;
     stood = record {
       later = k.later;
       goes = k.goes;
@@ -200,15 +182,6 @@ module _ (s : ℕ) (book : Book) (moment : ℕ) (st : State) (of_dirs : IsOfDirs
   rules_stand =
       repeated_keeps (Stands s book Ds) (break_first moment Ds) (λ t q. move_stands s book moment Ds t q (first_moving t.names (length Ds) None Ds) refl) (length Ds) _
       (repeated_keeps (Stands s book Ds) (return_first moment Ds) (λ t q. return_stands s book moment Ds t q (first_returning t.names Ds) refl) (length Ds) One first)
-
--- the parents are held first
-parent_server : (s : NamesValue) (ds : List FileId) (f : FileId) (o : Option Own) → (parent_held s ds f o).server ≡ s.server
-parent_server s ds f None = refl
-parent_server s ds f (Some own) = hold_server s (takes s ds f own).place.parent
-
-parents_server : (s : NamesValue) (ds fs : List FileId) → (hold_parents s ds fs).server ≡ s.server
-parents_server s ds [] = refl
-parents_server s ds (f ∷ fs) = parents_server (hold_parent s ds f) ds fs ∙ parent_server s ds f (own_at s f)
 
 -- THE HOUSE RULES
 pub house_stood : (s : ℕ) (book : Book) → HasBlanks book → (moment : ℕ) (st : State) → AreOrderly st.names → st.names.server ≡ s → Stood s book st.names

@@ -26,7 +26,7 @@ use Rattle.pg_house.proofs.Passes.{one_pass}
 use Rattle.pg_house.proofs.Truths.{bool_cases}
 use Rattle.pg_promises.proofs.Choices.{chosen}
 use Rattle.pg_promises.proofs.Growth.{OneOwn}
-use Rattle.pg_order.proofs.Changes.{one_stays}
+use Rattle.pg_order.proofs.Changes.{one_own, one_stays}
 
 -- ---- flags
 
@@ -150,16 +150,9 @@ module _ (P : FileId → Place → Type 0) where
 
   -- ---- one thing's own place and flags change
 
-  one_by : (s t : NamesValue) (f : FileId) (b c : Own) → OneOwn s t f b c → AreKnown s → IsOwn f c → (q : FileId) (o : Own) → own_at t q ≡ Some o → (is_same_file f q ≡ true) ⊎ (is_same_file f q ≡ false) → IsOwn q o
-  one_by s t f b c one k new q o h (inl same) =
-      let at : f ≡ q = is_same_file-true f q same in
-      let e : c ≡ o = same_Some c o (sym one.is ∙ ap (own_at t) at ∙ h) in
-      subst (λ (x : Own). IsOwn q x) e (subst (λ (g : FileId). IsOwn g c) at new)
-  one_by s t f b c one k new q o h (inr apart) = k.own q o (sym (one.others q apart) ∙ h)
-
   pub one_known : (s t : NamesValue) (f : FileId) (b c : Own) → OneOwn s t f b c → ((d g : FileId) → cell_at t d g ≡ cell_at s d g) → AreKnown s → IsOwn f c → AreKnown t
   one_known s t f b c one cells k new = record {
-    own = λ q o h. one_by s t f b c one k new q o h (bool_cases (is_same_file f q));
+    own = one_own (λ q o. IsOwn q o) s t f b c one new k.own;
     cells = λ d g e h. k.cells d g e (sym (cells d g) ∙ h);
   }
 

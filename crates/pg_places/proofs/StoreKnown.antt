@@ -1,5 +1,5 @@
 -- What comes to a server and what it makes: each place comes from the book.
-use Rattle.std.proofs.Common.{ℕ, ◌≡◌, ◌<◌, ◌≤◌, ◌+◌, ◌^◌, max, min, Bool, true, cond, Some, refl, sym, ap, subst, ◌∙◌, inl, inr, arith}
+use Rattle.std.proofs.Common.{ℕ, ◌≡◌, ◌<◌, ◌≤◌, max, Bool, true, cond, Some, refl, sym, ap, subst, ◌∙◌, inl, inr, arith}
 use Rattle.std.proofs.lemmas.Bool.Decides.{nat_tests}
 use Rattle.std.proofs.lemmas.Option.{same_Some}
 use Rattle.pg_base.specs.declared.id.FileId.{FileId}
@@ -18,6 +18,7 @@ use Rattle.pg_names.proofs.Holding.{hold_held, hold_last, hold_stays}
 use Rattle.pg_names.proofs.Lookups.{flag_cell, joined_own, joined_same, own_with_flag, own_with_place, place_cell, update_frame}
 use Rattle.pg_names.specs.Names.{with_flag, with_joined, with_place}
 use Rattle.pg_house.proofs.Growing.{grown_last, hold_grows}
+use Rattle.pg_house.proofs.Lasting.{drawn_late}
 use Rattle.pg_store.specs.declared.store.Store.{Store}
 use Rattle.pg_store.specs.Start.{first_flag}
 use Rattle.pg_store.specs.Store.{begin_file, has_no_head, holding_both, is_newer_entry, is_newer_flag, is_newer_place, put_version, replica_of, take_entry, take_flag, take_place, take_version, touch, with_names, with_news, with_policy}
@@ -36,9 +37,6 @@ at_least a b m h = grind arith
 
 at_most : (a t m : ℕ) → m ≡ max a t → t ≤ m
 at_most a t m h = grind arith
-
-drawn_later : (moment last n : ℕ) → n ≡ max (min moment (2 ^ 62)) (last + 1) → last < n
-drawn_later moment last n h = grind arith
 
 before_later : (t u : Stamp) → t.time < u.time → is_before t u ≡ true
 before_later t u lt = grind (arith, nat_tests)
@@ -99,7 +97,7 @@ module _ (s : ℕ) (book : Book) where
         -- that the server makes
         module _ (moment : ℕ) (own : AreOrderly b.names) (server : b.names.server ≡ s) (is : place.stamp ≡ drawn b moment) where
           late : b.names.last < place.stamp.time
-          late = drawn_later moment b.names.last place.stamp.time (ap (λ (z : Stamp). z.time) is)
+          late = drawn_late moment b.names.last place.stamp.time (ap (λ (z : Stamp). z.time) is)
 
           mine_early : Mine.place.stamp.time ≤ b.names.last
           mine_early =

@@ -9,16 +9,15 @@ use Rattle.pg_base.proofs.Orders.{is_same_file-true}
 use Rattle.pg_flood.proofs.Flood.{here}
 use Rattle.pg_register.specs.Place.{root}
 use Rattle.pg_register.proofs.ByServer.{IsByServer-nil}
-use Rattle.pg_entries.specs.declared.entry.Entry.{Entry}
 use Rattle.pg_msg.specs.declared.message.Sent.{Sent}
 use Rattle.pg_call.specs.declared.call.Call.{Call}
 use Rattle.pg_calls.specs.Calls.{is_built}
 use Rattle.pg_event.specs.declared.event.Event.{Event}
-use Rattle.pg_event.specs.declared.event.Event.TheVariants.{Write, Call as Called, Tick, Deliver, Lose, Repeat, Restart, Remove}
+use Rattle.pg_event.specs.declared.event.Event.TheVariants.{Call as Called, Tick, Deliver, Lose, Repeat, Restart, Remove}
 use Rattle.pg_event.specs.declared.entry.VoidCause.{VoidCause}
 use Rattle.pg_event.specs.declared.entry.VoidCause.TheVariants.{NoMessage, NoServer, Unbuilt}
 use Rattle.pg_names.specs.declared.own.Own.{Own}
-use Rattle.pg_names.specs.Names.{HeldValue, entry_in, own_of}
+use Rattle.pg_names.specs.Names.{own_of}
 use Rattle.pg_house.specs.Facts.{IsHeld}
 use Rattle.pg_store.specs.declared.store.Store.{Store}
 use Rattle.pg_store.specs.Start.{first_flag, first_flags, first_names, root_own}
@@ -39,6 +38,7 @@ use Rattle.pg_places.proofs.Known.{AreFirst, AreKnown, IsOwn, known_further, mor
 use Rattle.pg_places.proofs.MessagesKnown.{KnownSent, sent_further}
 use Rattle.pg_kept.proofs.Runs.{Keeps, is_in, next_keeps}
 use Rattle.pg_promises.proofs.Worlds.{starts_kept}
+use Rattle.pg_promises.proofs.Start.{Root, no_entry}
 
 pub record AllKnown (w : World) : Type 0 where
   pub book : Book
@@ -130,7 +130,6 @@ module _ (n : ℕ) (w : World) (holds : HoldsHistory n w) (kept : Keeps n w) (k 
   moved event (Some m) left = still event None left
 
   pub next_known : (e : Event) → AllKnown (world_after w (next n w e))
-  next_known (Write s moment file what) = still (Write s moment file what) (Some Unbuilt) (no_more (bag w.journal) k.sent)
   next_known (Called s moment c) =
       chosen (λ z. AllKnown (world_after w z)) (is_built c) (server_step n w (Called s moment c) s (input.Call moment c)) (idle_step w (Called s moment c) (Some Unbuilt)) (called s moment c)
       (still (Called s moment c) (Some Unbuilt) (no_more (bag w.journal) k.sent))
@@ -144,13 +143,6 @@ module _ (n : ℕ) (w : World) (holds : HoldsHistory n w) (kept : Keeps n w) (k 
   next_known (Remove s) = still (Remove s) (Some Unbuilt) k.sent
 
 -- ---- the start
-
-abbrev Root : ℕ → HeldValue
-Root n = record { own = root_own n; entries = [] }
-
-no_entry : (n : ℕ) (g : FileId) (c : Entry) (t : Bool) → entry_in g (cond t (Some (Root n)) None) ≡ Some c → ⊥
-no_entry n g c true h = none-some c h
-no_entry n g c false h = none-some c h
 
 first_all : (n : ℕ) → AreFirst (first_flags n)
 first_all zero = record { sorted = IsByServer-nil; each = λ m f h. absurd (none-some f h) }

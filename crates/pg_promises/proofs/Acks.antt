@@ -118,7 +118,7 @@ module _ (s : ℕ) (a : Store) (from : ℕ) (ends : Ends) (k : Key) (g : ℕ) wh
   acked_by None e = nothing_acked s a Heard
   acked_by (Some x) e =
       decided (λ rs. IsAcked s a Heard (with_replicas a rs)) (has_edge x (link_of from ends)) _ _
-      (λ edge. edge_acked s a ends.file x (ap (or_new (home_of a) ends.file) e) from ends.sender k g ends.receiver
+      (λ edge. edge_acked s a ends.file x (ap (or_new (home_of a)) e) from ends.sender k g ends.receiver
       (eqb-true ends.receiver x.birth (and_parts (ends.receiver == x.birth) (is_listed x.edges from ends.sender) edge).0))
       (λ none. nothing_acked s a Heard)
 

@@ -1,5 +1,5 @@
 -- What a server does in an event, and what it sends, keeps the rule of the edges.
-use Rattle.std.proofs.Common.{ℕ, ◌≡◌, ◌==◌, ◌&&◌, Bool, true, false, List, [], ◌∷◌, refl, sym, subst, ◌∙◌}
+use Rattle.std.proofs.Common.{ℕ, ◌≡◌, ◌==◌, ◌&&◌, Bool, true, List, [], ◌∷◌, refl, sym, subst, ◌∙◌}
 use Rattle.std.proofs.lemmas.Bool.{eqb-true, and_parts}
 use Rattle.pg_base.specs.declared.id.FileId.{FileId}
 use Rattle.pg_base.specs.declared.policy.Policy.{Policy}
@@ -11,7 +11,6 @@ use Rattle.pg_edges.specs.Edges.{is_listed}
 use Rattle.pg_content.specs.Content.{Among}
 use Rattle.pg_content.specs.History.{Made, version_of}
 use Rattle.pg_flood.specs.Promises.{Saying}
-use Rattle.pg_flood.specs.Promises.Saying.{Other}
 use Rattle.pg_flood.specs.Protocol.{Covers}
 use Rattle.pg_flood.specs.Server.{Holds, Slot, slot}
 use Rattle.pg_flood.proofs.Sends.{answer_may, held_covers, none_sent, one_sent}
@@ -31,11 +30,11 @@ use Rattle.pg_register.specs.declared.place.Place.{Place}
 use Rattle.pg_store.specs.declared.store.Store.{Store}
 use Rattle.pg_store.specs.Cells.{cell_at}
 use Rattle.pg_store.specs.Store.{acknowledge, begin_file, content_of, has_no_head, replica_of, take_entry, take_flag, take_place, take_version, write}
-use Rattle.pg_cells.specs.Cells.{ack_to, cell as take_cell, cell_if_accepted, fits, is_news, taken, with_answer, with_news}
+use Rattle.pg_cells.specs.Cells.{ack_to, cell as take_cell, cell_if_accepted, fits, is_news, taken, with_answer}
 use Rattle.pg_cells.specs.Done.{Done, idle, is_accepted, link_of}
 use Rattle.pg_cells.specs.Finish.{finish}
 use Rattle.pg_cells.specs.Settling.{settle}
-use Rattle.pg_cells.specs.Ticks.{tick}
+use Rattle.pg_cells.proofs.News.{news_sent}
 use Rattle.pg_promises.proofs.Choices.{decided}
 use Rattle.pg_promises.specs.Laws.{coming}
 use Rattle.pg_promises.specs.Histories.{IsOfHistory}
@@ -44,7 +43,7 @@ use Rattle.pg_promises.specs.UpTo.{IsUpTo}
 use Rattle.pg_promises.specs.Whole.{IsWhole}
 use Rattle.pg_promises.proofs.Acks.{acknowledged, none_noted}
 use Rattle.pg_promises.proofs.Policies.{Ready, begun_seen, files_seen, version_taken, with_files}
-use Rattle.pg_promises.proofs.Sending.{finish_may, tick_may}
+use Rattle.pg_promises.proofs.Sending.{finish_may}
 use Rattle.pg_promises.proofs.Single.{same_steps}
 use Rattle.pg_promises.proofs.Settling.{settle_sent, settle_steps, whole_settle}
 use Rattle.pg_promises.proofs.Taking.{entry_taken, flag_taken, place_taken, took_steps}
@@ -119,16 +118,6 @@ module _ (n s : ℕ) (a : Store) (heard : Saying Slot Cell) where
           whole = k.whole;
         }
 
--- ---- a tick
-
-pub tick_good : (n s : ℕ) (a : Store) (now from : ℕ) → IsWhole n s a → HasSoundTags cells a → IsGood n s a Other a (tick a (new_work now from)).sent
-tick_good n s a now from k tags = record {
-  rule = by_steps cells s a a Other (tick a (new_work now from)).sent (Steps-refl cells a) (none_noted a a Other)
-      (tick_may n s a a Other tags k (new_work now from) (none_sent cells s a a Other));
-  tags = tags;
-  whole = k;
-}
-
 -- ---- a cell comes
 
 -- what came is held
@@ -192,10 +181,6 @@ module _ (n s : ℕ) (a : Store) (k : IsWhole n s a) (from : ℕ) (ends : Ends) 
       whole = t.whole;
       sends = λ d f. one_sent cells s a d Heard (ack_to a.names.server from ends (cell_key c) tag) [] (answer d f) (none_sent cells s a d Heard);
     }
-
-  news_sent : (news : Bool) (work : Work) (f : FileId) (q : Key) → (with_news news work f q).sent ≡ work.sent
-  news_sent true work f q = refl
-  news_sent false work f q = refl
 
   -- A CELL IS TAKEN AND ANSWERED, where it came along an edge
   pub cell_under_way : (now : ℕ) → Arrives n s a (taken a ends.file c) ends.file c → is_accepted a from ends ≡ true

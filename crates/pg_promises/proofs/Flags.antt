@@ -1,6 +1,6 @@
 -- Flags, places and entries that come: what is known grows, and what came is known.
 use Rattle.std.proofs.Common.{ℕ, ◌≡◌, ◌==◌, eqb, ◌||◌, ◌&&◌, nat_lt, Bool, true, false, cond, List, [], ◌∷◌, Option, None, Some, refl, sym, ap, subst, ◌∙◌, arith}
-use Rattle.std.proofs.lemmas.Bool.{eqb-true, eq-eqb, false≢true}
+use Rattle.std.proofs.lemmas.Bool.{eqb-true, eq-eqb, false≢true, or_parts}
 use Rattle.std.proofs.lemmas.Bool.Decides.{nat_tests}
 use Rattle.pg_base.specs.Stamp.{UpTo, is_before}
 use Rattle.pg_base.proofs.Orders.{UpTo-refl, is_before-true, is_before-false}
@@ -98,14 +98,10 @@ none_by fs g gs n true e old rest =
     subst P (eqb-true g.server n e) (old_known (flag_of fs g.server) g (λ f h. server_of fs g.server f h) old)
 none_by fs g gs n false e old rest = rest
 
-pub either_false : (a b : Bool) → (a || b) ≡ false → (a ≡ false) × (b ≡ false)
-either_false true b h = absurd (false≢true (sym h))
-either_false false b h = (refl, h)
-
 pub no_news : (fs gs : List Flag) → brings_news fs gs ≡ false → AreFlagsUpTo gs fs
 no_news fs [] h n = tt
 no_news fs (g ∷ gs) h n =
-    let both = either_false (is_new (flag_of fs g.server) g) (brings_news fs gs) h in
+    let both = or_parts (is_new (flag_of fs g.server) g) (brings_news fs gs) h in
     none_by fs g gs n (g.server == n) refl both.0 (no_news fs gs both.1 n)
 
 -- ---- entries
@@ -128,5 +124,5 @@ known_there (Some held) e same = entry_there held e (same held refl)
 pub old_entry : (o : Option Entry) (e : Entry) → ((held : Entry) → o ≡ Some held → held.child ≡ e.child) → brings o e ≡ false → IsEntryKnownBy (Some e) o
 old_entry None e same old = absurd (false≢true (sym old))
 old_entry (Some held) e same old =
-    let both = either_false (is_before held.place.stamp e.place.stamp) (brings_news held.flags e.flags) old in
+    let both = or_parts (is_before held.place.stamp e.place.stamp) (brings_news held.flags e.flags) old in
     record { child = sym (same held refl); place = is_before-false held.place.stamp e.place.stamp both.0; flags = no_news held.flags e.flags both.1 }

@@ -25,7 +25,7 @@ use Rattle.pg_house.specs.Facts.{IsTold}
 use Rattle.pg_house.proofs.Told.{told}
 use Rattle.pg_promises.specs.Names.{IsToldBy}
 
-abbrev with_lists : Work → List Sent → List Touched → Work
+abbrev pub with_lists : Work → List Sent → List Touched → Work
 with_lists w sent ts = record { now = w.now; from = w.from; made = w.made; sent = sent; touched = ts }
 
 module _ (p : List Touched) (sent : List Sent) where
@@ -124,16 +124,16 @@ module _ (p : List Touched) (sent : List Sent) where
 -- ---- what the rules touch tells of all that they change
 
 module _ (moment : ℕ) (names : NamesValue) (work : Work) where
-  abbrev Alone : State
+  abbrev pub Alone : State
   Alone = house moment (state_of names (with_lists work work.sent []))
 
   starts : state_of names work ≡ behind work.touched work.sent (state_of names (with_lists work work.sent []))
   starts = ap (λ ts. state_of names (with_lists work work.sent ts)) (sym (append-nil work.touched))
 
-  ends : house moment (state_of names work) ≡ behind work.touched work.sent Alone
+  pub ends : house moment (state_of names work) ≡ behind work.touched work.sent Alone
   ends = ap (house moment) starts ∙ house_behind work.touched work.sent moment (state_of names (with_lists work work.sent []))
 
-  new_keys : drop (length work.touched) (house moment (state_of names work)).work.touched ≡ Alone.work.touched
+  pub new_keys : drop (length work.touched) (house moment (state_of names work)).work.touched ≡ Alone.work.touched
   new_keys = ap (λ (s : State). drop (length work.touched) s.work.touched) ends ∙ drop-append_seam work.touched Alone.work.touched
 
   pub house_told : IsToldBy (drop (length work.touched) (house moment (state_of names work)).work.touched) names (house moment (state_of names work)).names

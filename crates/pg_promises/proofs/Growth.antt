@@ -62,9 +62,6 @@ pub record SameNames (s t : NamesValue) : Type 0 where
 pub SameNames-refl : (s : NamesValue) → SameNames s s
 SameNames-refl s = record { own = λ f. refl; entries = λ d g. refl }
 
-pub SameNames-trans : (s t u : NamesValue) → SameNames s t → SameNames t u → SameNames s u
-SameNames-trans s t u a b = record { own = λ f. b.own f ∙ a.own f; entries = λ d g. b.entries d g ∙ a.entries d g }
-
 pub same_grow : (s t : NamesValue) → SameNames s t → AreNamesUpTo s t
 same_grow s t k = record {
   places = λ f. (let P : Own → Type 0 = λ o. IsPlaceUpTo (own_or_blank s f).place o.place in subst P (sym (k.own f)) (UpTo-refl (own_or_blank s f).place.stamp));

@@ -67,11 +67,12 @@ module _ (a : Store) (file : FileId) (policy : Policy) (empty : has_no_head (rep
     };
   }
 
-  begun_history : (h : List Made) → IsOfHistory h (content_of a file) → IsOfHistory h (content_of Begun file)
-  begun_history h k =
-      let P : Replica → Type 0 = λ y. IsOfHistory h y.content in
-      subst P (sym (replica_here a Begun file (begun (replica_of a file) policy) begun_changes))
-      (record { history = k.history; order = tt; versions = λ v among. absurd among })
+-- whatever the file has, it begins with no version
+pub begun_history : (a : Store) (file : FileId) (policy : Policy) (h : List Made) → IsOfHistory h (content_of a file) → IsOfHistory h (content_of (begin_file a file policy) file)
+begun_history a file policy h k =
+    let P : Replica → Type 0 = λ y. IsOfHistory h y.content in
+    subst P (sym (replica_here a (begin_file a file policy) file (begun (replica_of a file) policy) (record { server = refl; servers = refl; replicas = refl })))
+    (record { history = k.history; order = tt; versions = λ v among. absurd among })
 
 -- ---- an id is given out
 
@@ -98,7 +99,7 @@ Fits h file a b = Steps cells a b × IsOfHistory h (content_of b file)
 pub policy_fits : (h : List Made) (a : Store) (file : FileId) (policy : Policy) → IsOfHistory h (content_of a file) → Steps cells a (with_policy a file policy) × IsOfHistory h (content_of (with_policy a file policy) file)
 policy_fits h a file policy k =
     decided (Fits h file a) (has_no_head (replica_of a file)) (begin_file a file policy) a
-    (λ empty. (same_steps a (begin_file a file policy) (begun_seen a file policy empty), begun_history a file policy empty h k))
+    (λ empty. (same_steps a (begin_file a file policy) (begun_seen a file policy empty), begun_history a file policy h k))
     (λ some. (Steps-refl cells a, k))
 
 -- ---- a version is taken

@@ -1,5 +1,5 @@
 -- Under the house rules names only grow, and each entry stays at its own child.
-use Rattle.std.proofs.Common.{ℕ, ◌≡◌, ◌<◌, ◌+◌, ◌^◌, max, min, Bool, true, false, List, [], ◌∷◌, length, Option, None, Some, refl, sym, ap, subst, ◌∙◌, inl, inr, arith}
+use Rattle.std.proofs.Common.{ℕ, ◌≡◌, ◌<◌, Bool, true, false, List, [], ◌∷◌, length, Option, None, Some, refl, sym, ap, subst, ◌∙◌, inl, inr, arith}
 use Rattle.std.proofs.lemmas.Bool.{false≢true}
 use Rattle.std.proofs.lemmas.Option.{none-some, same_Some}
 use Rattle.pg_base.specs.declared.id.FileId.{FileId}
@@ -9,12 +9,11 @@ use Rattle.pg_base.specs.Stamp.{UpTo}
 use Rattle.pg_base.proofs.Orders.{UpTo-refl, UpTo-trans, is_same_file-true}
 use Rattle.pg_register.specs.declared.flag.Flag.{Flag}
 use Rattle.pg_register.specs.declared.place.Place.{Place}
-use Rattle.pg_register.specs.Flag.{IsByServer}
 use Rattle.pg_register.specs.Place.{root, tilde_name}
 use Rattle.pg_entries.specs.declared.entry.Entry.{Entry}
 use Rattle.pg_names.specs.declared.own.Own.{Own}
 use Rattle.pg_names.specs.Names.{NamesValue, cell_at, directories, known, own_at, with_last, with_own}
-use Rattle.pg_names.proofs.Lookups.{own_back, own_cell, own_other, own_same, update_frame}
+use Rattle.pg_names.proofs.Lookups.{own_cell, own_other, own_same, update_frame}
 use Rattle.pg_store.proofs.Stays.{hold_server}
 use Rattle.pg_house.specs.Work.{State, state_of}
 use Rattle.pg_house.specs.Passing.{cell_for, greatest, is_cell, is_held_back, joined_with, own_taken, pass, pass_all, pass_own}
@@ -33,9 +32,10 @@ use Rattle.pg_house.proofs.Greatest.{cell_held}
 use Rattle.pg_house.proofs.Growing.{grown_by_server, grown_dirs, grown_last, grown_own, grows}
 use Rattle.pg_house.proofs.NoCycles.{inner_parts, some_dirs}
 use Rattle.pg_house.proofs.Passes.{one_pass}
-use Rattle.pg_house.proofs.Placed.{Settled, placed_is_last, placed_settled}
+use Rattle.pg_house.proofs.Placed.{Settled, made_dirs, placed_is_last, placed_settled}
 use Rattle.pg_house.proofs.Repeating.{repeated_keeps}
 use Rattle.pg_house.proofs.Truths.{or_cases, or_left}
+use Rattle.pg_house.proofs.Lasting.{drawn_late}
 use Rattle.pg_promises.specs.Names.{AreNamesUpTo, IsEntryKnownBy}
 use Rattle.pg_promises.specs.UpTo.{AreFlagsUpTo, IsPlaceUpTo}
 use Rattle.pg_promises.specs.Whole.{AreByChild}
@@ -171,9 +171,6 @@ all_keep st ds (f ∷ fs) dirs child =
 
 -- ---- a place is made
 
-later : (moment last n : ℕ) → n ≡ max (min moment (2 ^ 62)) (last + 1) → last < n
-later moment last n h = grind arith
-
 stamp_up : (a b : Stamp) → a.time < b.time → UpTo a b
 stamp_up a b lt = record { time = omega arith; server = λ le. absurd (omega arith) }
 
@@ -199,7 +196,7 @@ module _ (moment : ℕ) (ds : List FileId) (st : State) (f p : FileId) (name : L
   time_up : IsLast st.names → UpTo b.place.stamp New.stamp
   time_up last =
       let low = last.own f b held in
-      let high = later moment st.names.last New.stamp.time refl in
+      let high = drawn_late moment st.names.last New.stamp.time refl in
       let lt : b.place.stamp.time < New.stamp.time = omega arith in
       stamp_up b.place.stamp New.stamp lt
 
@@ -208,19 +205,6 @@ module _ (moment : ℕ) (ds : List FileId) (st : State) (f p : FileId) (name : L
       let P : List Flag → Type 0 = AreFlagsUpTo b.flags in
       one_own_grows st.names Made.names f b Mine made_own (time_up last) (subst P (sym mine_flags) (flags_themselves b.flags))
       (λ q g. let Q : Option Entry → Type 0 = λ o. IsEntryKnownBy (cell_at st.names q g) o in subst Q (sym (own_cell Late f Mine q g)) (entry_known_itself (cell_at st.names q g)))
-
-  made_sorted : AreDirs st.names ds → (q : FileId) (c : Own) (u : Bool) → is_same_file f q ≡ u → own_at Made.names q ≡ Some c → IsByServer c.flags
-  made_sorted dirs q c false apart h = dirs.sorted q c (sym (own_other Late f Mine q apart) ∙ h)
-  made_sorted dirs q c true same h =
-      let e : Mine ≡ c = same_Some Mine c (sym made_own.is ∙ ap (own_at Made.names) (is_same_file-true f q same) ∙ h) in
-      subst IsByServer (sym mine_flags ∙ ap (λ (x : Own). x.flags) e) (dirs.sorted f b held)
-
-  made_dirs : AreDirs st.names ds → AreDirs Made.names ds
-  made_dirs dirs = record {
-    cells = λ q g c h. dirs.cells q g c (sym (own_cell Late f Mine q g) ∙ h);
-    held = λ q c h d. let was = own_back Late f (with_own Mine) q c h in dirs.held q was.0 was.1 d;
-    sorted = λ q c h. made_sorted dirs q c (is_same_file f q) refl h;
-  }
 
   made_keeps : IsLast st.names → AreByChild st.names → Keeps st.names Made.names
   made_keeps last child = record {
@@ -232,7 +216,7 @@ module _ (moment : ℕ) (ds : List FileId) (st : State) (f p : FileId) (name : L
   placed_keeps : AreDirs st.names ds → IsLast st.names → AreByChild st.names → Keeps st.names (placed moment ds st f p name).names
   placed_keeps dirs last child =
       let one = made_keeps last child in
-      keeps_further st.names Made.names (placed moment ds st f p name).names one (pass_keeps Made ds f (made_dirs dirs) one.child)
+      keeps_further st.names Made.names (placed moment ds st f p name).names one (pass_keeps Made ds f (made_dirs moment ds st f p name dirs) one.child)
 
 -- ---- return and cycles
 
@@ -278,7 +262,7 @@ parent_server : (s : NamesValue) (ds : List FileId) (f : FileId) (o : Option Own
 parent_server s ds f None = refl
 parent_server s ds f (Some own) = hold_server s (takes s ds f own).place.parent
 
-parents_server : (s : NamesValue) (ds fs : List FileId) → (hold_parents s ds fs).server ≡ s.server
+pub parents_server : (s : NamesValue) (ds fs : List FileId) → (hold_parents s ds fs).server ≡ s.server
 parents_server s ds [] = refl
 parents_server s ds (f ∷ fs) = parents_server (hold_parent s ds f) ds fs ∙ parent_server s ds f (own_at s f)
 

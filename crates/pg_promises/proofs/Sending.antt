@@ -103,7 +103,7 @@ module _ (n s : ℕ) (a b : Store) (heard : Saying Slot Cell) (sound : HasSoundT
   pub where_may : (wanted : FileId → Key → Bool) → MaySend (cells_where b wanted)
   where_may wanted =
       All-flat_map (λ m. May cells s a b heard (says m)) (replica_cells b wanted) b.replicas
-      (λ i d lt. let r = get_or b.replicas i d in replica_may wanted r (ap (or_new (home_of b) r.0) (entries_known b k.order i d lt)) (k.replicas i d lt))
+      (λ i d lt. let r = get_or b.replicas i d in replica_may wanted r (ap (or_new (home_of b)) (entries_known b k.order i d lt)) (k.replicas i d lt))
 
   more_may : (wanted : FileId → Key → Bool) (sent : List Sent) → MaySend sent → MaySend (sent ++ cells_where b wanted)
   more_may wanted sent h = All-append (λ m. May cells s a b heard (says m)) sent (cells_where b wanted) h (where_may wanted)

@@ -34,10 +34,10 @@ use Rattle.pg_promises.proofs.UpTo.{cell_itself}
 
 -- ---- the root alone is held
 
-abbrev Root : ℕ → HeldValue
+abbrev pub Root : ℕ → HeldValue
 Root n = record { own = root_own n; entries = [] }
 
-no_entry : (n : ℕ) (g : FileId) (c : Entry) (t : Bool) → entry_in g (cond t (Some (Root n)) None) ≡ Some c → ⊥
+pub no_entry : (n : ℕ) (g : FileId) (c : Entry) (t : Bool) → entry_in g (cond t (Some (Root n)) None) ≡ Some c → ⊥
 no_entry n g c true h = none-some c h
 no_entry n g c false h = none-some c h
 
@@ -51,7 +51,7 @@ first_own n s f b h = root_own_by n b (is_same_file f root) h
 none_first : (n s : ℕ) (d g : FileId) (c : Entry) → entry_at (first_names n s) d g ≡ Some c → ⊥
 none_first n s d g c h = no_entry n g c (is_same_file d root) h
 
-first_sorted : (n : ℕ) → IsByServer (first_flags n)
+pub first_sorted : (n : ℕ) → IsByServer (first_flags n)
 first_sorted zero = IsByServer-nil
 first_sorted (suc k) = IsByServer-join_flag (first_flag (suc k)) (first_flags k) (first_sorted k)
 

@@ -43,21 +43,21 @@ pub record Changes (a b : Store) (file : FileId) (x : Replica) : Type 0 where
 known_after : (a b : Store) (file : FileId) (x : Replica) (f : FileId) → Changes a b file x → replica_at b f ≡ cond (is_same_file f file) (Some x) (replica_at a f)
 known_after a b file x f k = ap (lookup (is_at (file_cmp f))) k.replicas ∙ lookup-insert_entry file_cmp file_total f file x a.replicas
 
-or_new_same : (a b : Store) (file : FileId) (o : Option Replica) → b.names.server ≡ a.names.server → b.servers ≡ a.servers → or_new (home_of b) file o ≡ or_new (home_of a) file o
-or_new_same a b file None e f = ap (λ s. new_replica s b.servers file) e ∙ ap (λ n. new_replica a.names.server n file) f
-or_new_same a b file (Some x) e f = refl
+or_new_same : (a b : Store) (o : Option Replica) → b.names.server ≡ a.names.server → b.servers ≡ a.servers → or_new (home_of b) o ≡ or_new (home_of a) o
+or_new_same a b None e f = ap (λ s. new_replica s b.servers) e ∙ ap (λ n. new_replica a.names.server n) f
+or_new_same a b (Some x) e f = refl
 
 pub replica_here : (a b : Store) (file : FileId) (x : Replica) → Changes a b file x → replica_of b file ≡ x
-replica_here a b file x k = ap (or_new (home_of b) file) (known_after a b file x file k ∙ ap (λ t. cond t (Some x) (replica_at a file)) (is_same_file-refl file))
+replica_here a b file x k = ap (or_new (home_of b)) (known_after a b file x file k ∙ ap (λ t. cond t (Some x) (replica_at a file)) (is_same_file-refl file))
 
 pub replica_elsewhere : (a b : Store) (file : FileId) (x : Replica) (f : FileId) → Changes a b file x → is_same_file f file ≡ false → replica_of b f ≡ replica_of a f
 replica_elsewhere a b file x f k apart =
-    ap (or_new (home_of b) f) (known_after a b file x f k ∙ ap (λ t. cond t (Some x) (replica_at a f)) apart)
-    ∙ or_new_same a b f (replica_at a f) k.server k.servers
+    ap (or_new (home_of b)) (known_after a b file x f k ∙ ap (λ t. cond t (Some x) (replica_at a f)) apart)
+    ∙ or_new_same a b (replica_at a f) k.server k.servers
 
 -- where no replica changed
 pub replica_same : (a b : Store) (f : FileId) → b.names.server ≡ a.names.server → b.servers ≡ a.servers → b.replicas ≡ a.replicas → replica_of b f ≡ replica_of a f
-replica_same a b f server servers replicas = ap (λ rs. or_new (home_of b) f (lookup (is_at (file_cmp f)) rs)) replicas ∙ or_new_same a b f (replica_at a f) server servers
+replica_same a b f server servers replicas = ap (λ rs. or_new (home_of b) (lookup (is_at (file_cmp f)) rs)) replicas ∙ or_new_same a b (replica_at a f) server servers
 
 -- of each file: it is the one that changed, or its replica stayed
 pub by_file : (P : FileId → Replica → Type 0) (a b : Store) (file : FileId) (x : Replica) → Changes a b file x → P file x → ((f : FileId) → P f (replica_of a f)) → (f : FileId) → P f (replica_of b f)

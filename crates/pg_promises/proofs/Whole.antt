@@ -40,17 +40,17 @@ use Rattle.pg_promises.proofs.Stores.{Changes}
 -- ---- replicas
 
 -- a replica that nobody has touched
-pub new_full : (n s : ℕ) (file : FileId) → IsFull n s (new_replica s n file)
-new_full n s file = record {
+pub new_full : (n s : ℕ) → IsFull n s (new_replica s n)
+new_full n s = record {
   born = refl;
   edges = record { each = clean_each n s; order = clean_order s n; listed = λ peer l m apart. clean_listed s n peer l m apart };
 }
 
-full_by : (n s : ℕ) (a : Store) → IsWhole n s a → (file : FileId) (o : Option Replica) → replica_at a file ≡ o → IsFull n s (or_new (home_of a) file o)
+full_by : (n s : ℕ) (a : Store) → IsWhole n s a → (file : FileId) (o : Option Replica) → replica_at a file ≡ o → IsFull n s (or_new (home_of a) o)
 full_by n s a k file None e =
-    let P : ℕ → Type 0 = λ z. IsFull n s (new_replica z a.servers file) in
-    let Q : ℕ → Type 0 = λ z. IsFull n s (new_replica s z file) in
-    subst P (sym k.server) (subst Q (sym k.servers) (new_full n s file))
+    let P : ℕ → Type 0 = λ z. IsFull n s (new_replica z a.servers) in
+    let Q : ℕ → Type 0 = λ z. IsFull n s (new_replica s z) in
+    subst P (sym k.server) (subst Q (sym k.servers) (new_full n s))
 full_by n s a k file (Some x) e = found_replica (IsFull n s) file x a.replicas k.replicas e
 
 -- each replica of a server is such a one

@@ -63,7 +63,7 @@ clean_replica server r e =
     }) x.keys h) r.1.edges (all_empty (edge_owes server r.0) r.1.edges e)
 
 or_clean : (a : Store) (file : FileId) (o : Option Replica) → owed_keys a ≡ [] → replica_at a file ≡ o
-    → IsClean (or_new (home_of a) file o).edges
+    → IsClean (or_new (home_of a) o).edges
 or_clean a file None e is = new_clean a.servers a.names.server
 or_clean a file (Some x) e is =
     found_replica (λ z. IsClean z.edges) file x a.replicas

@@ -10,8 +10,8 @@ use Rattle.pg_event.specs.declared.entry.Entry.{Entry as Told}
 use Rattle.pg_entries.specs.declared.entry.Entry.{Entry}
 use Rattle.pg_names.specs.declared.own.Own.{Own}
 use Rattle.pg_names.specs.Names.{cell_at, or_blank, own_at, own_or_blank}
+use Rattle.pg_names.proofs.Alike.{own_of_parts}
 use Rattle.pg_register.specs.declared.flag.Flag.{Flag}
-use Rattle.pg_register.specs.declared.place.Place.{Place}
 use Rattle.pg_register.specs.Flag.{flag_of}
 use Rattle.pg_register.specs.Laws.{IsOneFlag}
 use Rattle.pg_register.proofs.ByServer.{IsByServer-nil}
@@ -33,9 +33,6 @@ use Rattle.pg_places.proofs.WorldsKnown.{AllKnown, run_known}
 -- flags of first replicas are one
 first_one : (fs gs : List Flag) → AreFirst fs → AreFirst gs → (m : ℕ) → IsOneFlag (flag_of fs m) (flag_of gs m)
 first_one fs gs a b m f g h i birth number = a.each m f h ∙ sym (b.each m g i)
-
-own_of_parts : (p q : Place) (fs gs : List Flag) → p ≡ q → fs ≡ gs → ◌≡◌ {A = Own} (record { place = p; flags = fs }) (record { place = q; flags = gs })
-own_of_parts p q fs gs e h = cc
 
 -- what covers nothing covers no version
 none_covered : (vs : List VersionValue) → AreCoveredBy vs [] → vs ≡ []

@@ -2,34 +2,21 @@
 -- no two flags of one server have one birth and number.
 use Rattle.std.proofs.Common.{ℕ, ◌≡◌, ◌==◌, ◌&&◌, ◌||◌, nat_lt, false, List, Option, None, Some, refl, ap, arith}
 use Rattle.std.proofs.lemmas.Bool.Decides.{nat_tests}
-use Rattle.pg_base.specs.declared.id.FileId.{FileId}
-use Rattle.pg_base.specs.declared.stamp.Stamp.{Stamp}
-use Rattle.pg_base.specs.Stamp.{UpTo}
+use Rattle.pg_base.proofs.Orders.{UpTo-same}
 use Rattle.pg_register.specs.declared.flag.Flag.{Flag}
 use Rattle.pg_register.specs.declared.place.Place.{Place}
 use Rattle.pg_register.specs.Flag.{IsByServer, flag_of}
 use Rattle.pg_register.specs.Laws.{IsOneFlag, IsOnePlace}
 use Rattle.pg_register.proofs.ByServer.{same_flags}
 use Rattle.pg_entries.specs.declared.entry.Entry.{Entry}
+use Rattle.pg_names.proofs.Alike.{entry_of_parts}
 use Rattle.pg_promises.specs.Names.{IsEntryKnownBy}
 use Rattle.pg_promises.specs.UpTo.{AreFlagsUpTo, IsEntryUpTo, IsFlagKnownBy, IsFlagUpTo, IsPlaceUpTo}
 
 -- ---- places
 
-stamp_of_parts : (t u m n : ℕ) → t ≡ u → m ≡ n
-    → ◌≡◌ {A = Stamp} (record { time = t; server = m }) (record { time = u; server = n })
-stamp_of_parts t u m n e f = cc
-
-same_stamp : (a b : Stamp) → UpTo a b → UpTo b a → a ≡ b
-same_stamp a b up down =
-    let low = up.time in
-    let high = down.time in
-    let first = up.server high in
-    let second = down.server low in
-    stamp_of_parts a.time b.time a.server b.server (omega arith) (omega arith)
-
 pub same_place : (p q : Place) → IsOnePlace p q → IsPlaceUpTo p q → IsPlaceUpTo q p → p ≡ q
-same_place p q one up down = one (same_stamp p.stamp q.stamp up down)
+same_place p q one up down = one (UpTo-same p.stamp q.stamp up down)
 
 -- ---- flags
 
@@ -67,11 +54,6 @@ flags_alike fs gs first second one up down =
     (λ m. same_known (flag_of fs m) (flag_of gs m) (one m) (up m) (down m))
 
 -- ---- entries
-
-entry_of_parts : (f g : FileId) (p q : Place) (fs gs : List Flag) → f ≡ g → p ≡ q → fs ≡ gs
-    → ◌≡◌ {A = Entry} (record { child = f; place = p; flags = fs })
-    (record { child = g; place = q; flags = gs })
-entry_of_parts f g p q fs gs e h k = cc
 
 -- what is asked of two cells for one child
 pub record AreOneEntry (x y : Entry) : Type 0 where

@@ -21,7 +21,7 @@ pub record Joining (fs gs now : List Flag) (changed : Bool) (left : List Flag) :
   pub by_server : IsByServer left
   pub news : (changed || brings_news now left) ≡ brings_news fs gs
 
-or_assoc : (a b c : Bool) → ((a || b) || c) ≡ (a || (b || c))
+pub or_assoc : (a b c : Bool) → ((a || b) || c) ≡ (a || (b || c))
 or_assoc true b c = refl
 or_assoc false b c = refl
 
@@ -42,7 +42,7 @@ joining_more fs gs now new changed is i d lt joined tested j =
     let R : Bool → Type 0 = (λ t. Joining fs gs (join_flag now f) (changed || t) (drop (i + 1) gs)) in
     subst Q (sym joined) (subst R (sym tested) step)
 
-or-false : (a : Bool) → (a || false) ≡ a
+pub or-false : (a : Bool) → (a || false) ≡ a
 or-false true = refl
 or-false false = refl
 

@@ -1,6 +1,6 @@
 -- Replicas whose peers have acknowledged every key.
 use Rattle.std.proofs.lemmas.Bool.{and_parts}
-use Rattle.std.proofs.Common.{◌≡◌, ◌↔◌, IsTrue, ℕ, zero, suc, ◌<◌, ◌+◌, length, drop, get_or, Bool, true, false, cond, nat_eq, ◌&&◌, ◌==◌, Some, List, [], ◌∷◌, ◌++◌, refl, sym, ap, ◌∙◌, Less, Equal, Greater}
+use Rattle.std.proofs.Common.{◌≡◌, ℕ, zero, suc, Bool, true, false, cond, nat_eq, ◌&&◌, ◌==◌, Some, List, [], ◌∷◌, ◌++◌, refl, ap, ◌∙◌, Less, Equal, Greater}
 use Rattle.std.specs.declared.cmp.Ordering.{Ordering}
 use Rattle.std.specs.Ordering.{nat_cmp, match_ordering}
 use Rattle.std.specs.Option.{option_eq}
@@ -15,7 +15,6 @@ use Rattle.pg_replica.specs.declared.replica.Replica.{Replica}
 use Rattle.pg_edges.specs.Edges.{is_none, are_clean}
 use Rattle.pg_replica.specs.Replica.{has_edge, with_ack_along}
 use Rattle.pg_replica.specs.Untouched.{clean_edge, clean_edges}
-use Rattle.pg_replica.proofs.Lists.{pieces_from}
 
 -- ---- replicas that are all clean
 
@@ -28,16 +27,6 @@ clean_pieces f none [] h = refl
 clean_pieces f none (e ∷ es) h =
     let b = and_parts (is_none e.keys) (are_clean es) h in
     ap (λ l. l ++ flat_map f es) (none e (is_none-true e.keys b.0)) ∙ clean_pieces f none es b.1
-
-none_from : (b : Bool) (keys : List (Key × ℕ)) → IsTrue b ↔ (keys ≡ []) → b ≡ is_none keys
-none_from true [] h = refl
-none_from true (k ∷ keys) h = absurd (let e : k ∷ keys ≡ [] = h.0 refl in cc)
-none_from false [] h = h.1 refl
-none_from false (k ∷ keys) h = refl
-
--- whether the edges from an index on are all clean, by the one there
-pub clean_at : (es : List Edge) (i : ℕ) (e : Edge) (b : Bool) → i < length es → e ≡ get_or es i e → IsTrue b ↔ (e.keys ≡ []) → are_clean (drop i es) ≡ (b && are_clean (drop (i + 1) es))
-clean_at es i e b lt at h = ap are_clean (pieces_from es i e lt at) ∙ ap (λ t. t && are_clean (drop (i + 1) es)) (sym (none_from b e.keys h))
 
 -- an answer makes no replica unclean
 clean_edge_by : (key : Key) (e : Edge) (t : Bool) → is_none e.keys ≡ true → is_none (cond t (take_off key e) e).keys ≡ true

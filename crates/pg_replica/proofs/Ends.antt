@@ -1,7 +1,5 @@
 -- Numbers at their end: which replicas know none, and what one of the server's own means.
-use Rattle.std.proofs.Common.{ℕ, ◌≡◌, ◌==◌, ◌&&◌, ◌||◌, Less, Equal, Greater, Bool, true, false, cond, not, nat_le, Option, None, Some, List, [], ◌∷◌, ◌++◌, All, refl, sym, ap, subst, ◌∙◌}
-use Rattle.std.specs.declared.cmp.Ordering.{Ordering}
-use Rattle.std.specs.Ordering.{is_eq}
+use Rattle.std.proofs.Common.{ℕ, ◌≡◌, ◌==◌, ◌&&◌, ◌||◌, Bool, true, false, cond, not, nat_le, Option, None, Some, List, [], ◌∷◌, ◌++◌, All, refl, sym, ap, subst, ◌∙◌}
 use Rattle.std.specs.Prelude.{unwrap_or}
 use Rattle.std.specs.List.{filter, flat_map, list_any}
 use Rattle.std.specs.List.Sorted.{IsStrictlySortedBy}
@@ -16,7 +14,7 @@ use Rattle.pg_base.specs.Id.{file_cmp}
 use Rattle.pg_base.specs.Stamp.{clock_end, is_before}
 use Rattle.pg_base.specs.Vector.{actor_cmp, number_at}
 use Rattle.pg_base.specs.Version.{VersionValue, actor_of, stamp_of}
-use Rattle.pg_base.proofs.Orders.{file_total}
+use Rattle.pg_base.proofs.Orders.{file_exact, file_total, is_eq-true}
 use Rattle.pg_base.proofs.Vectors.{actor_exact}
 use Rattle.pg_content.specs.Shown.{inserted}
 use Rattle.pg_content.specs.Content.{ContentValue, covers_version, is_covered, joined_version, put_version}
@@ -25,10 +23,8 @@ use Rattle.pg_replica.specs.declared.untouched.Home.{Home}
 use Rattle.pg_replica.specs.Replica.{has_end, has_own_end, has_room, knows_own_end, own_actor}
 use Rattle.pg_replica.specs.Replicas.{ByFile, have_own_end, is_own_end_in, or_new, replica_for, replica_in}
 use Rattle.pg_replica.specs.Untouched.{new_replica}
-use Rattle.pg_replica.specs.declared.store.Store.{Store}
-use Rattle.pg_replica.specs.Store.{has_time, is_in_time}
 use Rattle.pg_replica.specs.Index.{Files, IsIndexBy, KnowsNoEnd, Relists, with_end}
-use Rattle.pg_replica.proofs.Merging.{by_index, file_exact}
+use Rattle.pg_replica.proofs.Merging.{by_index}
 use Rattle.pg_replica.proofs.Relisting.{relists_more, relists_same}
 
 -- ---- replicas that know none
@@ -74,12 +70,6 @@ ends_listed us vs file x y v is still =
     subst P (sym is) (ends_by us file x y v (has_end v.head.vector) refl still)
 
 -- the content is as before
-pub ends_same : (us vs : Files) (file : FileId) (x y : Replica) → vs ≡ us → y.content ≡ x.content
-    → Relists KnowsNoEnd us vs file x y
-ends_same us vs file x y is same =
-    let P : ContentValue → Type 0 = λ z. All HasNoEnd z.heads in
-    relists_same us vs file x y is (λ none. subst P (sym same) none)
-
 pub ends_kept : (us vs : Files) (file : FileId) (x y : Replica) (v : VersionValue) → vs ≡ with_end us file v
     → y.content ≡ x.content → Relists KnowsNoEnd us vs file x y
 ends_kept us vs file x y v is same =
@@ -98,8 +88,8 @@ ends_alone us vs file x y v is alone =
     ends_listed us vs file x y v is (λ h none. subst (All HasNoEnd) (sym alone) (All-cons HasNoEnd v [] h (All-nil HasNoEnd)))
 
 -- a new replica has no head
-pub new_none : (x : Replica) (server servers : ℕ) (file : FileId) → x ≡ new_replica server servers file → KnowsNoEnd x
-new_none x server servers file new =
+pub new_none : (x : Replica) (server servers : ℕ) → x ≡ new_replica server servers → KnowsNoEnd x
+new_none x server servers new =
     let P : Replica → Type 0 = λ y. KnowsNoEnd y in
     subst P (sym new) (All-nil HasNoEnd)
 
@@ -153,14 +143,9 @@ any_listed server us es sorted index =
 
 -- ---- there is room where none is known
 
-is_equal : (o : Ordering) → is_eq o ≡ true → o ≡ Equal
-is_equal Less h = cc
-is_equal Equal h = refl
-is_equal Greater h = cc
-
 same_server : (a b : Actor) → is_at (actor_cmp a) b ≡ true → (b.server == a.server) ≡ true
 same_server a b here =
-    eq-eqb b.server a.server (ap (λ (x : Actor). x.server) (sym (actor_exact a b (is_equal (actor_cmp a b) here))))
+    eq-eqb b.server a.server (ap (λ (x : Actor). x.server) (sym (actor_exact a b (is_eq-true (actor_cmp a b) here))))
 
 entry_by : (own same end : Bool) (n : ℕ) (o : Option ℕ) → (own ≡ true → same ≡ true) → nat_le clock_end n ≡ end
     → (same && end) ≡ false → nat_le clock_end (unwrap_or o 0) ≡ false
@@ -184,10 +169,10 @@ heads_room a (v ∷ vs) h =
     (found_own a v.head.vector parts.0)
     ∙ heads_room a vs parts.1
 
-room_in : (home : Home) (file : FileId) (server : ℕ) (o : Option Replica) → is_own_end_in server o ≡ false
-    → has_room (or_new home file o) server ≡ true
-room_in home file server None h = refl
-room_in home file server (Some x) h = ap not (heads_room (own_actor x server) x.content.heads h)
+room_in : (home : Home) (server : ℕ) (o : Option Replica) → is_own_end_in server o ≡ false
+    → has_room (or_new home o) server ≡ true
+room_in home server None h = refl
+room_in home server (Some x) h = ap not (heads_room (own_actor x server) x.content.heads h)
 
 found_by : (server : ℕ) (x : Replica) (t : Bool) (o : Option Replica) → knows_own_end server x ≡ false
     → is_own_end_in server o ≡ false → is_own_end_in server (cond t (Some x) o) ≡ false
@@ -201,20 +186,7 @@ found_none server file (r ∷ rs) h =
     let parts = or_false (knows_own_end server r.1) (have_own_end rs server) h in
     found_by server r.1 (is_at (file_cmp file) r.0) (replica_in rs file) parts.0 (found_none server file rs parts.1)
 
-none_by : (b c : Bool) → (b && not c) ≡ true → c ≡ false
-none_by b false h = refl
-none_by true true h = cc
-none_by false true h = cc
-
 -- where no number of the server's own is at its end, every replica has room for one more
 pub room_without_end : (home : Home) (file : FileId) (server : ℕ) (es : ByFile) → have_own_end es server ≡ false
     → has_room (replica_for home es file) server ≡ true
-room_without_end home file server es h = room_in home file server (replica_in es file) (found_none server file es h)
-
--- before the clock's end, of whichever file
-pub room_in_time : (a : Store) (home : Home) (file : FileId) (server : ℕ) → server ≡ a.server → is_in_time a ≡ true
-    → has_room (replica_for home a.replicas file) server ≡ true
-room_in_time a home file server own time =
-    let P : ℕ → Type 0 = λ s. has_room (replica_for home a.replicas file) s ≡ true in
-    subst P (sym own)
-    (room_without_end home file a.server a.replicas (none_by (has_time a.last a.tags) (have_own_end a.replicas a.server) time))
+room_without_end home file server es h = room_in home server (replica_in es file) (found_none server file es h)

@@ -1,19 +1,16 @@
 -- Cells and heads: a cell is a head, and a head is the cell at its key.
 use Rattle.std.proofs.Common.{◌≡◌, Bool, true, false, cond, List, [], ◌∷◌, None, Some, refl, sym, ap, subst, ◌∙◌, inl, inr, ◌⊎◌, All}
 use Rattle.std.proofs.lemmas.List.Elements.{All-head, All-tail}
-use Rattle.pg_base.specs.Stamp.{is_before}
 use Rattle.pg_base.specs.Vector.{Covers}
-use Rattle.pg_base.specs.Version.{VersionValue, actor_of, stamp_of}
+use Rattle.pg_base.specs.Version.{VersionValue, actor_of}
 use Rattle.pg_edges.specs.declared.key.Key.{Key}
 use Rattle.pg_edges.specs.Key.{is_same_key}
 use Rattle.pg_edges.proofs.Orders.{is_same_key-true, is_same_key-refl}
-use Rattle.pg_content.specs.Shown.{inserted}
 use Rattle.pg_content.specs.Content.{Among, covers_version}
 use Rattle.pg_content.specs.StandsFor.{InStrictOrder}
-use Rattle.pg_content.proofs.Stamps.{not_before_itself}
 use Rattle.pg_replica.specs.declared.replica.Replica.{Replica}
 use Rattle.pg_replica.specs.Replica.{key_of, cell_at}
-use Rattle.pg_replica.proofs.Cells.{Before, key_before, same_stamp}
+use Rattle.pg_replica.proofs.Cells.{Before, key_before}
 
 -- the second version's vector covers the first
 abbrev pub IsUpTo : VersionValue → VersionValue → Type 0
@@ -22,20 +19,6 @@ IsUpTo c d = Covers d.head.vector (actor_of c.head) c.head.number
 -- its own vector covers it
 abbrev pub CoversItself : VersionValue → Type 0
 CoversItself v = IsUpTo v v
-
--- ---- the cell of the version that came
-
-differs_by : (v w : VersionValue) (b : Bool) → is_same_key (key_of v) (key_of w) ≡ b → is_before w.head.stamp v.head.stamp ≡ true → b ≡ false
-differs_by v w true e h = absurd (not_before_itself w.head.stamp v.head.stamp h (sym (same_stamp v.head.stamp w.head.stamp (is_same_key-true (key_of v) (key_of w) e))))
-differs_by v w false e h = refl
-
-own_by : (v w : VersionValue) (ws : List VersionValue) (b : Bool) → is_before w.head.stamp v.head.stamp ≡ b → cell_at (inserted stamp_of v ws) (key_of v) ≡ Some v → cell_at (cond b (w ∷ inserted stamp_of v ws) (v ∷ w ∷ ws)) (key_of v) ≡ Some v
-own_by v w ws true e rest = ap (λ c. cond c (Some w) (cell_at (inserted stamp_of v ws) (key_of v))) (differs_by v w (is_same_key (key_of v) (key_of w)) refl e) ∙ rest
-own_by v w ws false e rest = ap (λ c. cond c (Some v) (cell_at (w ∷ ws) (key_of v))) (is_same_key-refl (key_of v))
-
-pub cell_at-own : (v : VersionValue) (ws : List VersionValue) → cell_at (inserted stamp_of v ws) (key_of v) ≡ Some v
-cell_at-own v [] = ap (λ c. cond c (Some v) None) (is_same_key-refl (key_of v))
-cell_at-own v (w ∷ ws) = own_by v w ws (is_before w.head.stamp v.head.stamp) refl (cell_at-own v ws)
 
 -- ---- a cell is a head
 

@@ -9,14 +9,13 @@ use Rattle.pg_base.specs.declared.id.Kind.TheVariants.{Dir, File}
 use Rattle.std.specs.List.Sorted.{IsStrictlySortedBy}
 use Rattle.std.specs.Map.{lookup, keys_of, set_value}
 use Rattle.std.specs.HashMap.{HashMap, UpdatesBy, get_by}
-use Rattle.std.proofs.lemmas.Map.Lookups.{CmpEqualImpliesEq}
 use Rattle.std.specs.BTreeMap.{is_at, insert_entry}
 use Rattle.pg_base.specs.contracts.id.FileIdPartialEq.TheImpl as derived
 use Rattle.pg_base.specs.declared.id.FileId.{FileId}
 use Rattle.pg_base.specs.Id.{file_cmp}
 use Rattle.pg_base.proofs.Entries.{IsStrictlySortedBy-insert_entry, entries_from_lookup, insert_there}
 use Rattle.pg_base.proofs.Maps.{lookup-insert_entry}
-use Rattle.pg_base.proofs.Orders.{file_total, is_same_file-true}
+use Rattle.pg_base.proofs.Orders.{file_exact, file_total}
 use Rattle.pg_replica.specs.declared.replica.Replica.{Replica}
 use Rattle.pg_replica.specs.Replicas.{ByFile, replica_in}
 use Rattle.pg_replica.specs.InOrder.{in_order}
@@ -76,9 +75,6 @@ swapped a b = same_file_is a b ∙ ap is_eq (file_total.antisymm a b) ∙ revers
     reversed_eq Less = refl
     reversed_eq Equal = refl
     reversed_eq Greater = refl
-
-file_exact : CmpEqualImpliesEq file_cmp
-file_exact a b h = is_same_file-true a b (ap is_eq h)
 
 -- this replica is at the file, and the others as before
 pub in_order-put : (es ds : ByFile) (file : FileId) (x : Replica)

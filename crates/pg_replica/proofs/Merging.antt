@@ -12,9 +12,6 @@ use Rattle.std.proofs.lemmas.List.Folds.{flat_map-map}
 use Rattle.std.proofs.lemmas.List.Kept.{IsStrictlySortedBy-filter}
 use Rattle.std.proofs.lemmas.Map.Lookups.{CmpEqualImpliesEq}
 use Rattle.std.proofs.lemmas.Map.Made.{lookup-map_values, keys_of-map_values}
-use Rattle.std.specs.Ordering.{is_eq}
-use Rattle.pg_base.specs.Id.{file_cmp}
-use Rattle.pg_base.proofs.Orders.{is_same_file-true}
 use Rattle.pg_base.proofs.Maps.{lookup-where_key}
 use Rattle.pg_base.proofs.Entries.{entries_from_lookup, lookup-place}
 
@@ -93,6 +90,3 @@ module _ {K : Type 0} (R : K → K → Ordering) where
         ∙ flat_map-map (λ (u : K × Unit {0}). at u.0) (λ (e : K × X). (e.0, tt)) kept
         ∙ sym (flat_map-map at (λ (e : K × X). e.0) kept)
         ∙ by_keys f g es in_us same (λ e there h. no_f e.0 e.1 there (is_some-false (lookup (is_at (R e.0)) us) h)) es (all_there total es se)
-
-pub file_exact : CmpEqualImpliesEq file_cmp
-file_exact a b h = is_same_file-true a b (ap is_eq h)

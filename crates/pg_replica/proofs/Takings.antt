@@ -36,14 +36,14 @@ pub for_there : (R : Order) → R ≡ file_cmp → (home : Home) (es : ByFile) (
     → lookup (is_at (R file)) es ≡ Some x → x ≡ replica_for home es file
 for_there R o home es file x there =
     let Q : Order → Type 0 = λ r. lookup (is_at (r file)) es ≡ Some x in
-    sym (ap (or_new home file) (subst Q o there))
+    sym (ap (or_new home) (subst Q o there))
 
 pub for_new : (R : Order) → R ≡ file_cmp → (home : Home) (es : ByFile) (file : FileId) (x : Replica)
-    → ◌≡◌ {A = Option Replica} (lookup (is_at (R file)) es) None → x ≡ new_replica home.server home.servers file
+    → ◌≡◌ {A = Option Replica} (lookup (is_at (R file)) es) None → x ≡ new_replica home.server home.servers
     → x ≡ replica_for home es file
 for_new R o home es file x gap is =
     let Q : Order → Type 0 = λ r. ◌≡◌ {A = Option Replica} (lookup (is_at (r file)) es) None in
-    is ∙ sym (ap (or_new home file) (subst Q o gap))
+    is ∙ sym (ap (or_new home) (subst Q o gap))
 
 -- ---- all replicas
 

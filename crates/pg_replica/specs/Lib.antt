@@ -5,4 +5,3 @@ pub mod Replicas
 pub mod InOrder
 pub mod Index
 pub mod IndexInside
-pub mod Store

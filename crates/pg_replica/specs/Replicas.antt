@@ -23,13 +23,13 @@ ByFile = List (FileId × Replica)
 abbrev pub replica_in : ByFile → FileId → Option Replica
 replica_in replicas file = lookup (is_at (file_cmp file)) replicas
 
-abbrev pub or_new : Home → FileId → Option Replica → Replica
-or_new home file None = new_replica home.server home.servers file
-or_new home file (Some x) = x
+abbrev pub or_new : Home → Option Replica → Replica
+or_new home None = new_replica home.server home.servers
+or_new home (Some x) = x
 
 -- the replica of a file: a new one, if there is none
 abbrev pub replica_for : Home → ByFile → FileId → Replica
-replica_for home replicas file = or_new home file (replica_in replicas file)
+replica_for home replicas file = or_new home (replica_in replicas file)
 
 -- the replica of a file, if there is one, knows a number at its end of this server
 abbrev pub is_own_end_in : ℕ → Option Replica → Bool

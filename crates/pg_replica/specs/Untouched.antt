@@ -1,8 +1,6 @@
 -- A replica that nobody has touched.
-use Rattle.std.specs.Prelude.{ℕ, ◌%◌, ◌==◌, if◌then◌else◌, List, [], zero, suc}
-use Rattle.pg_base.specs.declared.id.FileId.{FileId}
-use Rattle.pg_base.specs.declared.policy.Policy.{Policy}
-use Rattle.pg_base.specs.declared.policy.Policy.TheVariants as policy
+use Rattle.std.specs.Prelude.{ℕ, ◌==◌, if◌then◌else◌, List, [], zero, suc}
+use Rattle.pg_base.specs.declared.policy.Policy.TheVariants.{Last}
 use Rattle.pg_edges.specs.declared.edge.Edge.{Edge}
 use Rattle.pg_edges.specs.Edges.{put_edge}
 use Rattle.pg_content.specs.Content.{ContentValue}
@@ -18,17 +16,15 @@ clean_edges server (suc k) =
     if suc k == server then clean_edges server k
     else put_edge (clean_edges server k) (clean_edge (suc k))
 
--- a file of an even number shows the bodies of all heads, any other that of the last
-abbrev pub policy_of : FileId → Policy
-policy_of file = if file.number % 2 == 0 then policy.Join else policy.Last
+-- no version; which policy it has is settled by the call that makes the file, or by the first
+-- version that comes
+abbrev pub no_content : ContentValue
+no_content = record { policy = Last; heads = [] }
 
-abbrev pub no_content : FileId → ContentValue
-no_content file = record { policy = policy_of file; heads = [] }
-
--- each server has one of every file from the start
-abbrev pub new_replica : ℕ → ℕ → FileId → Replica
-new_replica server servers file = record {
+-- each server has one of every file and directory from the start
+abbrev pub new_replica : ℕ → ℕ → Replica
+new_replica server servers = record {
   birth = 1;
-  content = no_content file;
+  content = no_content;
   edges = clean_edges server servers;
 }

@@ -122,7 +122,7 @@ impl Replicas {
                 Ok(())
             }
             None => {
-                let mut replica = new_replica(self.alloc, home, &file)?;
+                let mut replica = new_replica(self.alloc, home)?;
                 touch_listed(&mut replica, &mut self.lists, file, key, tags)?;
                 self.by_file.insert(file, replica)?;
                 Ok(())
@@ -141,7 +141,7 @@ impl Replicas {
                 Ok(())
             }
             None => {
-                let mut replica = new_replica(self.alloc, home, &file)?;
+                let mut replica = new_replica(self.alloc, home)?;
                 begin_listed(&mut replica, &self.lists, self.alloc, file, policy);
                 self.by_file.insert(file, replica)?;
                 Ok(())
@@ -170,7 +170,7 @@ impl Replicas {
         match self.by_file.get_mut(&file) {
             Some(replica) => take_listed(replica, &mut self.lists, file, link, version, tags),
             None => {
-                let mut replica = new_replica(self.alloc, home, &file)?;
+                let mut replica = new_replica(self.alloc, home)?;
                 let taking = take_listed(&mut replica, &mut self.lists, file, link, version, tags)?;
                 match taking {
                     Taking::News => {
@@ -222,7 +222,7 @@ impl Replicas {
                 tags,
             ),
             None => {
-                let mut replica = new_replica(self.alloc, home, &file)?;
+                let mut replica = new_replica(self.alloc, home)?;
                 let bases = write_listed(
                     &mut replica,
                     &mut self.lists,

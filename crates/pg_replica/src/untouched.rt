@@ -1,11 +1,11 @@
-//! A server's replica of a file that nobody has touched.
+//! A server's replica of a file or directory that nobody has touched.
 
 ghost use Rattle.std.specs.Prelude.{◌≡◌, ◌==◌, if◌then◌else◌, OnOk, IfOk};
 ghost use Rattle.pg_edges.specs.Edges.{put_edge};
-ghost use Rattle.pg_replica.specs.Untouched.{clean_edge, clean_edges, new_replica, policy_of};
+ghost use Rattle.pg_replica.specs.Untouched.{clean_edge, clean_edges, new_replica};
 
 use crate::replica::Replica;
-use pg_base::{FileId, NodeId, Policy};
+use pg_base::{NodeId, Policy};
 use pg_content::Content;
 use pg_edges::{Edge, Edges, Keys};
 use std::alloc::{AllocError, Global};
@@ -15,17 +15,6 @@ use std::alloc::{AllocError, Global};
 pub struct Home {
     pub server: NodeId,
     pub servers: u32,
-}
-
-/// A file of an even number shows the bodies of all heads, any other that of the last.
-pub fn policy_of(file: &FileId) -> Policy
-    ensures { result ≡ policy_of file.now }
-{
-    if file.number % 2 == 0 {
-        Policy::Join
-    } else {
-        Policy::Last
-    }
 }
 
 /// A clean edge to a peer, if it is another server.
@@ -61,13 +50,14 @@ fn clean_edges(alloc: Global, server: NodeId, servers: u32) -> Result<Edges, All
     Ok(edges)
 }
 
-/// A server's replica of a file that nobody has touched.
-pub(crate) fn new_replica(alloc: Global, home: Home, file: &FileId) -> Result<Replica, AllocError>
-    ensures { IfOk result (λ x. x ≡ new_replica home.server home.servers file.now) }
+/// A server's replica of a file or directory that nobody has touched. Which policy it has is settled by the call that makes
+/// the file, or by the first version that comes.
+pub(crate) fn new_replica(alloc: Global, home: Home) -> Result<Replica, AllocError>
+    ensures { IfOk result (λ x. x ≡ new_replica home.server home.servers) }
 {
     Ok(Replica {
         birth: 1,
-        content: Content::new(alloc, policy_of(file)),
+        content: Content::new(alloc, Policy::Last),
         edges: clean_edges(alloc, home.server, home.servers)?,
     })
 }

@@ -5,7 +5,7 @@ use Rattle.std.proofs.lemmas.List.{length-map}
 use Rattle.std.proofs.lemmas.List.Elements.{All-append, All-cons, All-weaker}
 use Rattle.pg_base.specs.Id.{spelling}
 use Rattle.pg_call.specs.Refusal.{IsRefusal, refusal_words, unsettled_word}
-use Rattle.pg_call.specs.Reply.{IsReply, IsRow, IsTickReply, IsWriteReply, reply_words, row_word}
+use Rattle.pg_call.specs.Reply.{IsReply, IsRow, IsTickReply, reply_words, row_word}
 use Rattle.pg_call.specs.declared.refusal.IntentKind.TheVariants as intent
 use Rattle.pg_call.specs.declared.refusal.Refusal.{Refusal}
 use Rattle.pg_call.specs.declared.refusal.Refusal.TheVariants as refusal
@@ -36,7 +36,7 @@ Lacks-unsettled : (c : ℕ) (u : Unsettled) → Ends c → Lacks c (unsettled_wo
 Lacks-unsettled c (unsettled.Intent intent.Bye) h = let low = h.low in literal c (codes "Bye") (omega arith)
 Lacks-unsettled c u h = let low = h.low in literal c (unsettled_word u) (omega arith)
 
-Lacks-gold : (c : ℕ) (b : Bool) → Ends c → Lacks c (gold_word b)
+pub Lacks-gold : (c : ℕ) (b : Bool) → Ends c → Lacks c (gold_word b)
 Lacks-gold c true h = let low = h.low in literal c (codes "gold") (omega arith)
 Lacks-gold c false h = let low = h.low in literal c (codes "bronze") (omega arith)
 
@@ -165,12 +165,7 @@ few_replied (reply.Names n rows) fits = let most = fits.1 in let same = length-m
 few_replied (reply.Refused r) fits = let few = few_refused r in omega arith
 few_replied r fits = omega arith
 
--- whoever writes or ticks is told a reply
-pub write_reply : (r : Reply) → IsWriteReply r → IsReply r
-write_reply (reply.Wrote s) h = h
-write_reply (reply.Refused r) h = h
-write_reply r h = absurd h
-
+-- whoever ticks is told a reply
 pub tick_reply : (r : Reply) → IsTickReply r → IsReply r
 tick_reply reply.Done h = tt
 tick_reply (reply.Refused r) h = let P : Refusal → Type 0 = IsRefusal in subst P (sym h) tt

@@ -147,7 +147,7 @@ same_rows (x ∷ xs) (y ∷ ys) hx hy e =
 abbrev four : List (List ℕ) → List (List ℕ)
 four ws = word_at 2 ws ∷ word_at 3 ws ∷ word_at 4 ws ∷ word_at 5 ws ∷ []
 
-same_gold : (a b : Bool) → gold_word a ≡ gold_word b → a ≡ b
+pub same_gold : (a b : Bool) → gold_word a ≡ gold_word b → a ≡ b
 same_gold = search rules
 
 stat_of_parts : (f g : FileId) (p q : Place) (a b : Bool) (i j k l m n o t : ℕ) → f ≡ g → p ≡ q → a ≡ b → i ≡ j → k ≡ l → m ≡ n → o ≡ t

@@ -6,7 +6,7 @@ use Rattle.pg_flood.proofs.Flood.{here}
 use Rattle.pg_msg.specs.declared.message.Sent.{Sent}
 use Rattle.pg_call.specs.declared.call.Call.{Call}
 use Rattle.pg_event.specs.declared.event.Event.{Event}
-use Rattle.pg_event.specs.declared.event.Event.TheVariants.{Write, Call as Called, Tick, Deliver, Lose, Repeat, Restart, Remove}
+use Rattle.pg_event.specs.declared.event.Event.TheVariants.{Call as Called, Tick, Deliver, Lose, Repeat, Restart, Remove}
 use Rattle.pg_event.specs.declared.entry.VoidCause.{VoidCause}
 use Rattle.pg_event.specs.declared.entry.VoidCause.TheVariants.{NoServer, Unbuilt}
 use Rattle.pg_store.specs.declared.store.Store.{Store}
@@ -149,7 +149,6 @@ module _ (n s : ℕ) where
   by_bag w event (Some m) = refl
 
   by_event : (w : World) (event : Event) → TookBy w (taking_in n w event) (next n w event)
-  by_event w (Write server moment file what) = refl
   by_event w (Called server moment call) = by_call w server moment call (is_built call)
   by_event w (Tick server moment word) = by_server w (Tick server moment word) server (input.Tick moment word) (Some NoServer) (is_server n server)
   by_event w (Deliver number) = by_message w (Deliver number) (message_at (bag w.journal) number)

@@ -26,10 +26,10 @@ map_empty f (x ∷ xs) h = cc
 
 -- ---- what the first servers owe
 
-at_or_below : (k s : ℕ) → s ≤ suc k → (s ≡ suc k) ⊎ (s ≤ k)
+pub at_or_below : (k s : ℕ) → s ≤ suc k → (s ≡ suc k) ⊎ (s ≤ k)
 at_or_below k s h = elim (cases_lt k s) [ inl more ↦ inl (omega arith) | inr less ↦ inr less ]
 
-owed_below : (stores : ℕ → Store) (n s : ℕ) → owed_by stores n ≡ [] → 1 ≤ s → s ≤ n
+pub owed_below : (stores : ℕ → Store) (n s : ℕ) → owed_by stores n ≡ [] → 1 ≤ s → s ≤ n
     → owed (stores s) ≡ []
 owed_below stores zero s h least most = absurd (omega arith)
 owed_below stores (suc k) s h least most = elim (at_or_below k s most) [
@@ -40,7 +40,7 @@ owed_below stores (suc k) s h least most = elim (at_or_below k s most) [
       less
 ]
 
-none_owed : (stores : ℕ → Store) (n : ℕ) → ((s : ℕ) → 1 ≤ s → s ≤ n → owed (stores s) ≡ [])
+pub none_owed : (stores : ℕ → Store) (n : ℕ) → ((s : ℕ) → 1 ≤ s → s ≤ n → owed (stores s) ≡ [])
     → owed_by stores n ≡ []
 none_owed stores zero h = refl
 none_owed stores (suc k) h =

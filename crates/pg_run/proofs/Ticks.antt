@@ -164,7 +164,7 @@ module _ (n s : ℕ) (a : Store) (whole : IsWhole n s a) (cells : KeysAreCells a
   all_sent =
       zip_parts (IsSent a) (is_let a) (replica_owes Server) (replica_cells a is_any) a.replicas
       (λ i d lt. let r = get_or a.replicas i d in
-      replica_sends r.0 r.1 (ap (or_new (home_of a) r.0) (entries_known a whole.order i d lt)) (whole.replicas i d lt))
+      replica_sends r.0 r.1 (ap (or_new (home_of a)) (entries_known a whole.order i d lt)) (whole.replicas i d lt))
 
 -- ---- as they are told
 

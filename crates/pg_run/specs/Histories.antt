@@ -1,7 +1,6 @@
 -- What is to hold of versions in any run: the versions of a file are a history, what a server took
--- of it comes to heads, and messages carry what was made.
-use Rattle.std.specs.Prelude.{ℕ, ◌⊎◌, ◌≡◌, ◌≤◌, ◌↔◌, List, [], ◌∷◌, ◌++◌, Contains}
-use Rattle.std.specs.List.{All}
+-- of it comes to heads, and messages carry versions of the history.
+use Rattle.std.specs.Prelude.{ℕ, ◌⊎◌, ◌≡◌, ◌≤◌, ◌↔◌, List, Contains}
 use Rattle.pg_base.specs.declared.id.FileId.{FileId}
 use Rattle.pg_base.specs.declared.policy.Policy.{Policy}
 use Rattle.pg_base.specs.declared.stamp.Stamp.{Stamp}
@@ -10,23 +9,16 @@ use Rattle.pg_base.specs.Version.{VersionValue}
 use Rattle.pg_content.specs.Content.{Among, ContentValue}
 use Rattle.pg_content.specs.History.{IsAncestor, IsHistory, Made, maker, number_of, vector_of, version_of}
 use Rattle.pg_content.specs.StandsFor.{StandsFor}
-use Rattle.pg_register.specs.declared.flag.Flag.{Flag}
-use Rattle.pg_register.specs.declared.place.Place.{Place}
-use Rattle.pg_register.specs.Place.{root}
 use Rattle.pg_entries.specs.declared.cell.Cell.{Cell}
 use Rattle.pg_entries.specs.declared.cell.Cell.TheVariants as cell
 use Rattle.pg_msg.specs.declared.message.Message.{Message}
 use Rattle.pg_msg.specs.declared.message.Message.TheVariants as message
 use Rattle.pg_msg.specs.declared.message.Sent.{Sent}
 use Rattle.pg_msg.specs.declared.update.MadeVersion.{MadeVersion}
-use Rattle.pg_msg.specs.declared.update.Update.{Update}
-use Rattle.pg_msg.specs.declared.update.Update.TheVariants as update
 use Rattle.pg_event.specs.declared.entry.Entry.{Entry}
 use Rattle.pg_event.specs.declared.event.Event.{Event}
-use Rattle.pg_store.specs.Start.{first_flags}
 use Rattle.pg_store.specs.Store.{has_time, is_in_time}
 use Rattle.pg_run.specs.Journal.{bag, history, versions}
-use Rattle.pg_run.specs.Took.{first_place}
 use Rattle.pg_run.specs.State.{content_state, policy_made, versions_taken}
 use Rattle.pg_run.specs.Run.{run}
 
@@ -110,29 +102,6 @@ BringsVersion journal file (cell.Entry entry sure) = Unit {0}
 BringsVersion journal file (cell.Version v policy) =
     IsVersionOf (policy_made file journal) (versions file journal) v policy
 
--- all updates that were made
-abbrev pub updates : List Entry → List Update
-updates [] = []
-updates (entry ∷ earlier) = entry.made ++ updates earlier
-
--- a place was made for the thing, or is what comes before all of its places
-abbrev pub IsPlaceOf : List Entry → FileId → Place → Type 0
-IsPlaceOf journal thing place =
-    (place ≡ first_place thing) ⊎ Among (update.Place thing place) (updates journal)
-
--- a flag was made for the thing, or the root has it from the start on
-abbrev pub IsFlagOf : ℕ → List Entry → FileId → Flag → Type 0
-IsFlagOf servers journal thing flag = ((thing ≡ root) × Among flag (first_flags servers))
-    ⊎ Among (update.Flag thing flag) (updates journal)
-
-abbrev pub BringsUpdate : ℕ → List Entry → FileId → Cell → Type 0
-BringsUpdate servers journal file (cell.Place place) = IsPlaceOf journal file place
-BringsUpdate servers journal file (cell.Flag flag) = IsFlagOf servers journal file flag
-BringsUpdate servers journal file (cell.Entry entry sure) =
-    IsPlaceOf journal entry.child entry.place
-    × All (IsFlagOf servers journal entry.child) entry.flags
-BringsUpdate servers journal file (cell.Version v policy) = Unit {0}
-
 -- what holds of the cell that a message is, if it is one
 abbrev pub OfCell : (FileId → Cell → Type 0) → Message → Type 0
 OfCell P (message.Cell ends tag c) = P ends.file c
@@ -146,10 +115,6 @@ CarriesOnly servers P = (events : List Event) (m : Sent)
 -- each message under way that carries a version carries one of the history, as it is there
 abbrev pub CarriesHistory : ℕ → Type 0
 CarriesHistory servers = CarriesOnly servers BringsVersion
-
--- and each that carries a place or flags carries what was made
-abbrev pub CarriesWhatWasMade : ℕ → Type 0
-CarriesWhatWasMade servers = CarriesOnly servers (BringsUpdate servers)
 
 -- ---- clocks
 

@@ -11,7 +11,7 @@ use Rattle.pg_msg.specs.declared.update.MadeVersion.{MadeVersion}
 use Rattle.pg_msg.specs.declared.update.Update.{Update}
 use Rattle.pg_msg.specs.declared.update.Update.TheVariants as update
 use Rattle.pg_event.specs.declared.event.Event.{Event}
-use Rattle.pg_event.specs.declared.event.Event.TheVariants.{Write, Call, Tick, Deliver, Lose, Repeat, Restart, Remove}
+use Rattle.pg_event.specs.declared.event.Event.TheVariants.{Call, Tick, Deliver, Lose, Repeat, Restart, Remove}
 use Rattle.pg_event.specs.declared.entry.Entry.{Entry}
 
 -- the versions among what was made
@@ -65,7 +65,6 @@ with_copy bag (Some m) = bag ++ m ∷ []
 
 -- what is left of the messages under way, with what an event sends or copies
 abbrev pub bag_after : List Sent → Event → List Sent → List Sent
-bag_after bag (Write server moment file what) sent = bag ++ sent
 bag_after bag (Call server moment call) sent = bag ++ sent
 bag_after bag (Tick server moment word) sent = bag ++ sent
 bag_after bag (Deliver number) sent = without bag number (message_at bag number) ++ sent

@@ -8,7 +8,7 @@ use Rattle.pg_msg.specs.Numbers.{is_in_range}
 use Rattle.pg_msg.specs.Work.{new_work}
 use Rattle.pg_call.specs.declared.call.Call.{Call}
 use Rattle.pg_event.specs.declared.event.Event.{Event}
-use Rattle.pg_event.specs.declared.event.Event.TheVariants.{Write, Call as Called, Tick, Deliver, Lose, Repeat, Restart, Remove}
+use Rattle.pg_event.specs.declared.event.Event.TheVariants.{Call as Called, Tick, Deliver, Lose, Repeat, Restart, Remove}
 use Rattle.pg_event.specs.declared.entry.Entry.{Entry}
 use Rattle.pg_event.specs.declared.entry.VoidCause.{VoidCause}
 use Rattle.pg_event.specs.declared.entry.VoidCause.TheVariants.{NoMessage, NoServer, Unbuilt}
@@ -166,7 +166,6 @@ unbuilt_step w event = idle_step w event (Some Unbuilt)
 
 -- what comes of one event in a run with so many servers
 abbrev pub next : ℕ → World → Event → Step
-next servers w (Write server moment file what) = unbuilt_step w (Write server moment file what)
 next servers w (Called server moment call) = call_step servers w server moment call
 next servers w (Tick server moment word) =
     server_step servers w (Tick server moment word) server (input.Tick moment word)
@@ -197,7 +196,6 @@ taking_message servers (Some m) = taking_at servers m.to (input.Arrival m.packet
 
 -- the server that takes one, and the input; where there is none, no server does anything
 abbrev pub taking_in : ℕ → World → Event → Option Taking
-taking_in servers w (Write server moment file what) = None
 taking_in servers w (Called server moment call) = taking_call servers server moment call
 taking_in servers w (Tick server moment word) =
     taking_at servers server (input.Tick moment word)

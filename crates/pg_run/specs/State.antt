@@ -64,7 +64,6 @@ policy_named call.Status = None
 policy_named call.Stop = None
 
 abbrev pub policy_asked : Event → Option Policy
-policy_asked (event.Write server moment file what) = None
 policy_asked (event.Call server moment asked) = policy_named asked
 policy_asked (event.Tick server moment word) = None
 policy_asked (event.Deliver number) = None
@@ -104,7 +103,7 @@ versions_taken file journal takes =
 -- a set of versions comes to its heads, whole and by stamp; without a version the content is that
 -- of a replica that nobody has touched
 abbrev pub content_with : Policy → List Entry → FileId → List Stamp → ContentValue
-content_with policy journal file [] = no_content file
+content_with policy journal file [] = no_content
 content_with policy journal file (stamp ∷ stamps) =
     content_of policy (versions file journal) (stamp ∷ stamps)
 

@@ -2,8 +2,8 @@
 
 ghost use Rattle.std.specs.Prelude.{◌≡◌, IfOk, OnOk, false, true};
 
-use pg_base::{FileId, Kind, SharedBytes};
-use pg_call::{Change, read_call};
+use pg_base::{FileId, Kind};
+use pg_call::read_call;
 use pg_event::{Event, VoidCause};
 use pg_words::first_words;
 use pg_world::World;
@@ -111,23 +111,12 @@ fn is_void(world: &mut World, event: Event, cause: VoidCause) -> bool
     }
 }
 
-/// A change of a file by its id.
-fn write(alloc: Global) -> Result<Event, AllocError> {
-    Ok(Event::Write {
-        server: 1,
-        moment: 9,
-        file: MADE,
-        change: Change::Put(SharedBytes::from_slice(alloc, b"ab")?),
-    })
-}
-
 // What is not built is void, whichever server it names; and then what no server is there for.
 #[test]
 fn what_is_not_built_is_void(rt: HostRuntime) -> Result<(), Fail> {
     let alloc = rt.alloc();
     let mut world = World::new(alloc, 2)?;
     let unbuilt = VoidCause::Unbuilt;
-    assert!(rt; is_void(&mut world, write(alloc)?, unbuilt));
     assert!(rt; is_void(&mut world, call(alloc, 7, b"forget d1.1")?, unbuilt));
     assert!(rt; is_void(&mut world, Event::Restart(1), unbuilt));
     assert!(rt; is_void(&mut world, Event::Remove(7), unbuilt));

@@ -3,23 +3,20 @@ use Rattle.std.proofs.Common.{ℕ, ◌≡◌, List, Option, None, Some, refl, sy
 use Rattle.std.specs.List.{slice_split}
 use Rattle.std.proofs.lemmas.Fmt.{decimal_injective}
 use Rattle.pg_base.specs.declared.id.FileId.{FileId}
-use Rattle.pg_call.specs.declared.change.Change.{Change}
 use Rattle.pg_sched.specs.declared.line.Line.{Line}
 use Rattle.pg_sched.specs.declared.line.Line.TheVariants.{Happens, Settle, Show, Quiet, Trace, MeterOff}
-use Rattle.pg_event.specs.declared.event.Event.TheVariants.{Write, Call, Tick, Deliver, Lose, Repeat, Restart, Remove}
+use Rattle.pg_event.specs.declared.event.Event.TheVariants.{Call, Tick, Deliver, Lose, Repeat, Restart, Remove}
 use Rattle.pg_sched.specs.declared.line.Form.{Form}
 use Rattle.pg_sched.specs.declared.line.Form.TheVariants.{Full, Short}
 use Rattle.pg_sched.specs.declared.verb.Verb.{Verb}
 use Rattle.pg_sched.specs.declared.verb.Verb.TheVariants as verb
 use Rattle.pg_sched.specs.Fields.{verb_word}
-use Rattle.pg_call.specs.Change.{kind_of}
 use Rattle.pg_call.proofs.CallSpelling.{one_call}
-use Rattle.pg_call.proofs.Changes.{same_change}
 use Rattle.pg_call.specs.Call.{call_words}
 use Rattle.pg_call.specs.declared.call.Call as call
 use Rattle.pg_sched.specs.Line.{form_word, line_words, line_body, HasWords, IsLine}
 use Rattle.pg_words.proofs.Splitting.{behind, word_at}
-use Rattle.pg_words.proofs.Stamps.{same_file, same_server}
+use Rattle.pg_words.proofs.Stamps.{same_server}
 use Rattle.pg_base.proofs.Spellings.{spelling-same}
 use Rattle.pg_sched.proofs.Table.{not_call, same_verb}
 use Rattle.pg_sched.proofs.Words.{words-again}
@@ -33,7 +30,6 @@ same_form Short Full e = absurd (let n : 5 ≡ 4 = ap length e in omega arith)
 -- the line is one of the verb, or a call where there is none
 abbrev Shape : Option Verb → Line → Type 0
 Shape None line = (s m : ℕ) × (c : call.Call) × (line ≡ Happens (Call s m c))
-Shape (Some (verb.Write k)) line = (s m : ℕ) × (f : FileId) × (c : Change) × (kind_of c ≡ k) × (line ≡ Happens (Write s m f c))
 Shape (Some verb.Tick) line = (s m w : ℕ) × (line ≡ Happens (Tick s m w))
 Shape (Some verb.Deliver) line = (n : ℕ) × (line ≡ Happens (Deliver n))
 Shape (Some verb.Lose) line = (n : ℕ) × (line ≡ Happens (Lose n))
@@ -47,7 +43,6 @@ Shape (Some verb.Show) line = (f : FileId) × (line ≡ Show f)
 Shape (Some verb.Meter) line = (n : ℕ) × (line ≡ MeterOff n)
 
 abbrev verb_of : Line → Option Verb
-verb_of (Happens (Write s m f c)) = Some (verb.Write (kind_of c))
 verb_of (Happens (Call s m c)) = None
 verb_of (Happens (Tick s m w)) = Some verb.Tick
 verb_of (Happens (Deliver n)) = Some verb.Deliver
@@ -62,7 +57,6 @@ verb_of (Show f) = Some verb.Show
 verb_of (MeterOff n) = Some verb.Meter
 
 shape : (line : Line) → Shape (verb_of line) line
-shape (Happens (Write s m f c)) = (s, m, f, c, refl, refl)
 shape (Happens (Call s m c)) = (s, m, c, refl)
 shape (Happens (Tick s m w)) = (s, m, w, refl)
 shape (Happens (Deliver n)) = (n, refl)
@@ -88,7 +82,6 @@ same_head None (Some v) e = absurd (not_call v (sym e))
 same_head (Some v) None e = absurd (not_call v e)
 
 first_word : (line : Line) → word_at 0 (line_words line) ≡ head_word (verb_of line)
-first_word (Happens (Write s m f c)) = refl
 first_word (Happens (Call s m c)) = refl
 first_word (Happens (Tick s m w)) = refl
 first_word (Happens (Deliver n)) = refl
@@ -111,14 +104,6 @@ same_shape x y e =
 -- what is to be shown of a line of the same words
 abbrev Same : Line → Line → Type 0
 Same x y = HasWords x → HasWords y → line_words x ≡ line_words y → x ≡ y
-
-same_write : (s m t n : ℕ) (f g : FileId) (c d : Change) → kind_of d ≡ kind_of c → Same (Happens (Write s m f c)) (Happens (Write t n g d))
-same_write s m t n f g c d k hx hy e =
-    let server : s ≡ t = same_server s t hx.0 hy.0 (ap (word_at 1) e) in
-    let moment : m ≡ n = decimal_injective m n hx.1 hy.1 (ap (word_at 2) e) in
-    let file : f ≡ g = same_file f g hx.2 hy.2 (ap (word_at 3) e) in
-    let change : c ≡ d = same_change c d hx.3 hy.3 (sym k) (ap (word_at 4) e) (ap (word_at 5) e) in
-    cc
 
 same_call : (s m t n : ℕ) (c d : call.Call) → Same (Happens (Call s m c)) (Happens (Call t n d))
 same_call s m t n c d hx hy e =
@@ -145,7 +130,6 @@ same_as : (x y z : Line) → y ≡ z → Same x z → Same x y
 same_as x y z e h = let P : Line → Type 0 = Same x in subst P (sym e) h
 
 same_words : (x y : Line) → Shape (verb_of x) y → Same x y
-same_words (Happens (Write s m f c)) y h = same_as _ y _ h.5 (same_write s m h.0 h.1 f h.2 c h.3 h.4)
 same_words (Happens (Call s m c)) y h = same_as _ y _ h.3 (same_call s m h.0 h.1 c h.2)
 same_words (Happens (Tick s m w)) y h = same_as _ y _ h.3 (same_tick s m w h.0 h.1 h.2)
 same_words (Happens (Deliver n)) y h = same_as _ y _ h.1 (λ hx hy e. ap (λ q. Happens (Deliver q)) (decimal_injective n h.0 hx hy (ap (word_at 1) e)))

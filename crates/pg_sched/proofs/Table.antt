@@ -1,18 +1,14 @@
 -- Each line's words are those that the table asks for, of a verb or of a call, and words that are those have no fault.
 use Rattle.std.proofs.Common.{rules, ℕ, ◌≡◌, ◌⊎◌, List, ◌∷◌, refl, sym, ap, ◌∙◌, inl, inr, subst, cond, ◌==◌, codes}
 use Rattle.pg_call.specs.Call as call
-use Rattle.pg_call.specs.Change.{kind_of, change_words, IsChange}
 use Rattle.pg_call.specs.Fields.{Field, AreWordsOf}
 use Rattle.pg_call.specs.declared.call.CallKind.{CallKind}
-use Rattle.pg_call.specs.declared.change.Change.{Change}
-use Rattle.pg_call.specs.declared.change.Change.TheVariants as change
-use Rattle.pg_call.specs.declared.change.ChangeKind.TheVariants as kind
 use Rattle.pg_call.specs.declared.fault.Fault.{Fault}
 use Rattle.pg_call.proofs.CallTable.{byte_at, call_tabled, counted, no_bad_word, same_kind}
 use Rattle.pg_event.specs.Event.{called_words}
-use Rattle.pg_event.specs.declared.event.Event.TheVariants.{Write, Call, Tick, Deliver, Lose, Repeat, Restart, Remove}
+use Rattle.pg_event.specs.declared.event.Event.TheVariants.{Call, Tick, Deliver, Lose, Repeat, Restart, Remove}
 use Rattle.pg_sched.specs.Cause.{IsRestCause, IsCalledCause, IsWordsCause}
-use Rattle.pg_sched.specs.Fields.{called_fields, change_fields, fields, verb_word}
+use Rattle.pg_sched.specs.Fields.{called_fields, fields, verb_word}
 use Rattle.pg_sched.specs.Line.{form_word, line_words, HasWords}
 use Rattle.pg_sched.specs.declared.line.Form.{Form}
 use Rattle.pg_sched.specs.declared.line.Form.TheVariants.{Full, Short}
@@ -37,18 +33,11 @@ pub record IsOfCall (words : List (List ℕ)) : Type 0 where
   pub words_are : words ≡ called_words server moment (call.kind_word kind ∷ rest)
   pub each : AreWordsOf (called_fields kind) (server ∷ moment ∷ rest)
 
-change_tabled : (c : Change) → IsChange c → AreWordsOf (change_fields (kind_of c)) (change_words c)
-change_tabled (change.Put b) h = ((b, h, refl), tt)
-change_tabled (change.Patch o b) h = ((o, h.0, refl), ((b, h.1, refl), tt))
-change_tabled (change.Trim n) h = ((n, h, refl), tt)
-
 form_is : (form : Form) → (form_word form ≡ codes "full") ⊎ (form_word form ≡ codes "short")
 form_is Full = inl refl
 form_is Short = inr refl
 
 pub tabled : (line : Line) → HasWords line → IsOfVerb (line_words line) ⊎ IsOfCall (line_words line)
-tabled (Happens (Write s m f c)) h =
-    inl (record { verb = verb.Write (kind_of c); rest = _; words_are = refl; each = ((s, h.0, refl), ((m, h.1, refl), ((f, h.2, refl), change_tabled c h.3))) })
 tabled (Happens (Call s m c)) h =
     inr (record { kind = call.call_kind c; server = _; moment = _; rest = call.argument_words c; words_are = refl; each = ((s, h.0, refl), ((m, h.1, refl), call_tabled c h.2)) })
 tabled (Happens (Tick s m w)) h = inl (record { verb = verb.Tick; rest = _; words_are = refl; each = ((s, h.0, refl), ((m, h.1, refl), ((w, h.2, refl), tt))) })
@@ -71,17 +60,11 @@ verb_from word =
     (cond (byte_at 0 word == 109) verb.Meter
     (cond (byte_at 0 word == 113) verb.Quiet
     (cond (byte_at 0 word == 114) (cond (byte_at 2 word == 112) verb.Repeat (cond (byte_at 2 word == 115) verb.Restart verb.Remove))
-    (cond (byte_at 1 word == 97) (verb.Write kind.Patch)
     (cond (byte_at 1 word == 101) verb.Settle
     (cond (byte_at 1 word == 104) verb.Show
-    (cond (byte_at 1 word == 105) verb.Tick
-    (cond (byte_at 1 word == 117) (verb.Write kind.Put)
-    (cond (byte_at 2 word == 105) (verb.Write kind.Trim) verb.Trace))))))))))
+    (cond (byte_at 1 word == 105) verb.Tick verb.Trace)))))))
 
 verb_again : (v : Verb) → verb_from (verb_word v) ≡ v
-verb_again (verb.Write kind.Put) = refl
-verb_again (verb.Write kind.Patch) = refl
-verb_again (verb.Write kind.Trim) = refl
 verb_again verb.Tick = refl
 verb_again verb.Deliver = refl
 verb_again verb.Lose = refl

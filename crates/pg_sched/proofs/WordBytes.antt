@@ -1,24 +1,20 @@
--- The bytes of a line's words: that each is printable and no space, and how many there are, but in a path.
+-- The bytes of a line's words: that each is printable and no space, and how many there are, but in the words of a call.
 use Rattle.std.proofs.Common.{ℕ, ◌<◌, ◌≤◌, ◌^◌, List, length, sym, arith, codes, decimal, All, inl, inr, subst}
 use Rattle.std.specs.List.{AllByRecursion}
 use Rattle.std.proofs.lemmas.List.Elements.{All-from_recursion, All-weaker}
 use Rattle.pg_base.specs.declared.policy.Policy.{Policy}
 use Rattle.pg_base.specs.declared.policy.Policy.TheVariants as policy
 use Rattle.pg_call.specs.Call as call
-use Rattle.pg_call.specs.Change.{kind_word}
 use Rattle.pg_call.specs.Fields.{Field, IsWordOf}
-use Rattle.pg_call.specs.Fields.Field.{Narrow, Wide, Count, Bytes, File, AnyId, Path, PathOrId, PolicyName, Form, Off}
+use Rattle.pg_call.specs.Fields.Field.{Narrow, Wide, Count, Bytes, AnyId, Path, PathOrId, PolicyName, Form, Off}
 use Rattle.pg_call.specs.declared.call.CallKind.{CallKind}
 use Rattle.pg_call.specs.declared.call.CallKind.TheVariants as called
 use Rattle.pg_call.specs.declared.call.Target.{Target}
 use Rattle.pg_call.specs.declared.call.Target.TheVariants as target
-use Rattle.pg_call.specs.declared.change.ChangeKind.{ChangeKind}
-use Rattle.pg_call.specs.declared.change.ChangeKind.TheVariants as kind
 use Rattle.pg_sched.specs.Cause.{IsPrintable}
 use Rattle.pg_sched.specs.Fields.{verb_word}
 use Rattle.pg_sched.specs.declared.verb.Verb.{Verb}
 use Rattle.pg_sched.specs.declared.verb.Verb.TheVariants as verb
-use Rattle.pg_words.proofs.HexWords.{few_digits}
 use Rattle.pg_words.proofs.WordBytes.{IsWordByte, decimal_each, decimal_word, spelling_word, hex_each}
 use Rattle.pg_words.specs.TextWord.{IsText, IsVisible}
 
@@ -47,7 +43,6 @@ word_each Narrow word h = let lt = h.1 in subst EachIs (sym h.2) (decimal_each h
 word_each Wide word h = subst EachIs (sym h.2) (decimal_each h.0 h.1)
 word_each Count word h = let le = h.1 in subst EachIs (sym h.2) (decimal_each h.0 (omega arith))
 word_each Bytes word h = let body = h.1 in subst EachIs (sym h.2) (hex_each h.0 body.each)
-word_each File word h = let file = h.1 in let w = spelling_word h.0 file.fits in subst EachIs (sym h.2) w.each
 word_each AnyId word h = let w = spelling_word h.0 h.1 in subst EachIs (sym h.2) w.each
 word_each Path word h = text_each word h
 word_each PathOrId word h = subst EachIs (sym h.2) (target_each h.0 h.1)
@@ -61,8 +56,7 @@ abbrev pub IsBounded : Field → Type 0
 IsBounded Narrow = Unit {0}
 IsBounded Wide = Unit {0}
 IsBounded Count = ⊥
-IsBounded Bytes = Unit {0}
-IsBounded File = Unit {0}
+IsBounded Bytes = ⊥
 IsBounded AnyId = Unit {0}
 IsBounded Path = ⊥
 IsBounded PathOrId = ⊥
@@ -75,8 +69,7 @@ abbrev pub most : Field → ℕ
 most Narrow = 20
 most Wide = 20
 most Count = 0
-most Bytes = 65536
-most File = 42
+most Bytes = 0
 most AnyId = 42
 most Path = 0
 most PathOrId = 0
@@ -91,8 +84,7 @@ pub word_few : (field : Field) (word : List ℕ) → IsBounded field → IsWordO
 word_few Narrow word b h = let lt = h.1 in let w = decimal_word h.0 (omega arith) in subst (IsAtMost 20) (sym h.2) w.few
 word_few Wide word b h = let w = decimal_word h.0 h.1 in subst (IsAtMost 20) (sym h.2) w.few
 word_few Count word b h = absurd b
-word_few Bytes word b h = let body = h.1 in subst (IsAtMost 65536) (sym h.2) (few_digits h.0 body.few)
-word_few File word b h = let file = h.1 in let w = spelling_word h.0 file.fits in subst (IsAtMost 42) (sym h.2) w.few
+word_few Bytes word b h = absurd b
 word_few AnyId word b h = let w = spelling_word h.0 h.1 in subst (IsAtMost 42) (sym h.2) w.few
 word_few Path word b h = absurd b
 word_few PathOrId word b h = absurd b
@@ -103,13 +95,7 @@ word_few Off word b h = subst (IsAtMost 3) (sym h) (omega arith)
 
 -- the words that name a line
 
-kind_each : (k : ChangeKind) → All IsWordByte (kind_word k)
-kind_each kind.Put = known_each (codes "put") (omega arith)
-kind_each kind.Patch = known_each (codes "patch") (omega arith)
-kind_each kind.Trim = known_each (codes "trim") (omega arith)
-
 pub verb_each : (v : Verb) → All IsWordByte (verb_word v)
-verb_each (verb.Write k) = kind_each k
 verb_each verb.Tick = known_each (codes "tick") (omega arith)
 verb_each verb.Deliver = known_each (codes "deliver") (omega arith)
 verb_each verb.Lose = known_each (codes "lose") (omega arith)

@@ -7,7 +7,6 @@ use Rattle.pg_call.specs.Call as call
 use Rattle.pg_call.specs.Fields.{Field, call_fields, AreWordsOf, AreCounted}
 use Rattle.pg_call.specs.declared.call.CallKind.{CallKind}
 use Rattle.pg_call.specs.declared.call.CallKind.TheVariants as called
-use Rattle.pg_call.specs.declared.change.ChangeKind.TheVariants as kind
 use Rattle.pg_call.specs.declared.fault.Fault.{Fault}
 use Rattle.pg_call.proofs.CallTable.{same_count}
 use Rattle.pg_sched.specs.Cause.{IsPrintable, IsCalledCause, IsWordsCause, IsRestCause}
@@ -32,10 +31,7 @@ each_of [] (word ∷ words) h = absurd h
 each_of (field ∷ fs) [] h = absurd h
 each_of (field ∷ fs) (word ∷ words) h = (word_each field word h.0, each_of fs words h.1)
 
-few_fields : (v : Verb) → length (fields v) < 6
-few_fields (verb.Write kind.Put) = omega arith
-few_fields (verb.Write kind.Patch) = omega arith
-few_fields (verb.Write kind.Trim) = omega arith
+few_fields : (v : Verb) → length (fields v) < 4
 few_fields verb.Tick = omega arith
 few_fields verb.Deliver = omega arith
 few_fields verb.Lose = omega arith
@@ -200,9 +196,6 @@ body_short word (field ∷ fs) (next ∷ words) b h =
     omega arith
 
 room_short : (v : Verb) → AreBounded (fields v) × (length (verb_word v) + room (fields v) ≤ 70000)
-room_short (verb.Write kind.Put) = (search rules, omega arith)
-room_short (verb.Write kind.Patch) = (search rules, omega arith)
-room_short (verb.Write kind.Trim) = (search rules, omega arith)
 room_short verb.Tick = (search rules, omega arith)
 room_short verb.Deliver = (search rules, omega arith)
 room_short verb.Lose = (search rules, omega arith)

@@ -1,17 +1,13 @@
 -- The table of lines: what stands behind each verb.
 use Rattle.std.specs.Prelude.{ℕ, List, [], ◌∷◌, codes}
-use Rattle.pg_call.specs.Change.{kind_word}
 use Rattle.pg_call.specs.Fields.{Field, call_fields}
-use Rattle.pg_call.specs.Fields.Field.{Narrow, Wide, Bytes, File, AnyId, Form, Off}
+use Rattle.pg_call.specs.Fields.Field.{Narrow, Wide, AnyId, Form, Off}
 use Rattle.pg_call.specs.declared.call.CallKind.{CallKind}
-use Rattle.pg_call.specs.declared.change.ChangeKind.{ChangeKind}
-use Rattle.pg_call.specs.declared.change.ChangeKind.TheVariants as kind
 use Rattle.pg_sched.specs.declared.verb.Verb.{Verb}
-use Rattle.pg_sched.specs.declared.verb.Verb.TheVariants.{Write, Tick, Deliver, Lose, Repeat, Restart, Remove, Settle, Quiet, Trace, Show, Meter}
+use Rattle.pg_sched.specs.declared.verb.Verb.TheVariants.{Tick, Deliver, Lose, Repeat, Restart, Remove, Settle, Quiet, Trace, Show, Meter}
 
 -- the word that a verb is
 abbrev pub verb_word : Verb → List ℕ
-verb_word (Write kind) = kind_word kind
 verb_word Tick = codes "tick"
 verb_word Deliver = codes "deliver"
 verb_word Lose = codes "lose"
@@ -24,15 +20,8 @@ verb_word Trace = codes "trace"
 verb_word Show = codes "show"
 verb_word Meter = codes "meter"
 
--- the words of a change: the bytes of a body; an offset and the bytes there; a length
-abbrev pub change_fields : ChangeKind → List Field
-change_fields kind.Put = Bytes ∷ []
-change_fields kind.Patch = Narrow ∷ Bytes ∷ []
-change_fields kind.Trim = Narrow ∷ []
-
 -- the words behind a verb
 abbrev pub fields : Verb → List Field
-fields (Write kind) = Narrow ∷ Wide ∷ File ∷ change_fields kind
 fields Tick = Narrow ∷ Wide ∷ Wide ∷ []
 fields Deliver = Wide ∷ []
 fields Lose = Wide ∷ []

@@ -2,14 +2,12 @@
 
 ghost use Rattle.std.specs.Prelude.{◌≡◌, ◌≢◌, ◌≤◌, ◌<◌, ◌∷◌, [], All, IfOk, IfErr, IfSome, IfNone, IsTrue, ◌↔◌, codes, map, length};
 ghost use Rattle.pg_call.specs.Call.{kind_word};
-ghost use Rattle.pg_call.specs.Change.{IsChange, change_words, kind_of};
 ghost use Rattle.pg_call.specs.Fields.{AreCounted, IsBadWord, call_fields};
-ghost use Rattle.pg_call.specs.declared.change.ChangeKind.TheVariants as kind;
 ghost use Rattle.pg_call.specs.declared.error.WordsError.TheVariants.{Bad};
 ghost use Rattle.pg_call.specs.declared.fault.Fault.{Fault};
-ghost use Rattle.pg_event.specs.Event.{called_words, tick_words, write_words};
+ghost use Rattle.pg_event.specs.Event.{called_words, tick_words};
 ghost use Rattle.pg_sched.specs.Cause.{IsCalledCause, IsRestCause, IsWordsCause};
-ghost use Rattle.pg_sched.specs.Fields.{called_fields, change_fields, fields, verb_word};
+ghost use Rattle.pg_sched.specs.Fields.{called_fields, fields, verb_word};
 ghost use Rattle.pg_sched.specs.Line.{HasWords, IsLine, line_words, line_body, settle_words};
 ghost use Rattle.pg_sched.specs.declared.line.Line.{Line};
 ghost use Rattle.pg_sched.specs.declared.verb.Verb.TheVariants as verb;
@@ -18,82 +16,13 @@ ghost use Rattle.pg_words.specs.Words.{words_in};
 use crate::leaves::{form_of, off_of};
 use crate::line::{Line, MOST_IN_LINE};
 use crate::verb::Verb;
-use pg_call::{
-    CallKind, Change, ChangeKind, Fault, WordsError, arguments_of, bytes_of, file_of, have_bytes,
-    id_of, narrow_of, wide_of,
-};
+use pg_call::{CallKind, Fault, WordsError, arguments_of, have_bytes, id_of, narrow_of, wide_of};
 use pg_event::Event;
 use pg_words::{first_word, first_words, is_same};
 use std::alloc::{AllocError, Global};
 
 /// More words than any line has.
 const TOO_MANY: usize = 8;
-
-/// The change of this kind, of the words behind those that name the server, the moment and the file.
-fn change_of(alloc: Global, kind: ChangeKind, words: &[&[u8]]) -> Result<Change, WordsError>
-    requires { length words.now ≡ length (change_fields kind) }
-    ensures kind { IfOk result (λ c. kind_of c ≡ kind) }
-    ensures found { IfOk result (λ c. IsChange c × (map (λ w. w.now) words.now ≡ change_words c)) }
-    ensures bad { IfErr result (λ e. (f : Fault) → e ≡ Bad f
-        → IsBadWord (change_fields kind) (map (λ w. w.now) words.now) f) }
-{
-    match (kind, words) {
-        (ChangeKind::Put, [bytes]) => put_of(alloc, bytes),
-        (ChangeKind::Patch, [offset, bytes]) => patch_of(alloc, offset, bytes),
-        (ChangeKind::Trim, [length]) => Ok(Change::Trim(narrow_of(length)?)),
-        _ => unreachable!(),
-    }
-}
-
-fn put_of(alloc: Global, bytes: &[u8]) -> Result<Change, WordsError>
-    ensures kind { IfOk result (λ c. kind_of c ≡ kind.Put) }
-    ensures found { IfOk result (λ c. IsChange c × (bytes.now ∷ [] ≡ change_words c)) }
-    ensures bad { IfErr result (λ e. (f : Fault) → e ≡ Bad f
-        → IsBadWord (change_fields kind.Put) (bytes.now ∷ []) f) }
-{
-    let bytes = bytes_of(alloc, bytes)?;
-    Ok(Change::Put(bytes))
-}
-
-fn patch_of(alloc: Global, offset: &[u8], bytes: &[u8]) -> Result<Change, WordsError>
-    ensures kind { IfOk result (λ c. kind_of c ≡ kind.Patch) }
-    ensures found { IfOk result (λ c. IsChange c × (offset.now ∷ bytes.now ∷ [] ≡ change_words c)) }
-    ensures bad { IfErr result (λ e. (f : Fault) → e ≡ Bad f
-        → IsBadWord (change_fields kind.Patch) (offset.now ∷ bytes.now ∷ []) f) }
-{
-    let offset = narrow_of(offset)?;
-    let bytes = bytes_of(alloc, bytes)?;
-    Ok(Change::Patch { offset, bytes })
-}
-
-/// The line of a write of this kind, of the words after its verb.
-fn write_of(
-    alloc: Global,
-    kind: ChangeKind,
-    server: &[u8],
-    moment: &[u8],
-    file: &[u8],
-    change: &[&[u8]],
-) -> Result<Line, WordsError>
-    requires { length change.now ≡ length (change_fields kind) }
-    ensures found { IfOk result (λ l. HasWords l
-        × (write_words kind server.now moment.now file.now (map (λ w. w.now) change.now)
-        ≡ line_words l)) }
-    ensures bad { IfErr result (λ e. (f : Fault) → e ≡ Bad f
-        → IsBadWord (fields (verb.Write kind)) (server.now ∷ moment.now ∷ file.now
-        ∷ map (λ w. w.now) change.now) f) }
-{
-    let server = narrow_of(server)?;
-    let moment = wide_of(moment)?;
-    let file = file_of(file)?;
-    let change = change_of(alloc, kind, change)?;
-    Ok(Line::Happens(Event::Write {
-        server,
-        moment,
-        file,
-        change,
-    }))
-}
 
 /// The line of a tick, of the words after its verb.
 fn tick_of(server: &[u8], moment: &[u8], word: &[u8]) -> Result<Line, WordsError>
@@ -164,7 +93,7 @@ fn are_counted(verb: Verb, words: &[&[u8]]) -> bool
 }
 
 /// The line of a verb and the words after it.
-fn rest_of(alloc: Global, verb: Verb, words: &[&[u8]]) -> Result<Line, WordsError>
+fn rest_of(verb: Verb, words: &[&[u8]]) -> Result<Line, WordsError>
     requires { length words.now ≡ length (fields verb) }
     ensures found { IfOk result (λ l. HasWords l
         × (verb_word verb ∷ map (λ w. w.now) words.now ≡ line_words l)) }
@@ -172,9 +101,6 @@ fn rest_of(alloc: Global, verb: Verb, words: &[&[u8]]) -> Result<Line, WordsErro
         → IsBadWord (fields verb) (map (λ w. w.now) words.now) f) }
 {
     match (verb, words) {
-        (Verb::Write(kind), [server, moment, id, change @ ..]) => {
-            write_of(alloc, kind, server, moment, id, change)
-        }
         (Verb::Tick, [server, moment, word]) => tick_of(server, moment, word),
         (Verb::Settle, [rounds, moment]) => settle_of(rounds, moment),
         (Verb::Meter, [off, number]) => meter_of(off, number),
@@ -264,7 +190,7 @@ fn called_of(alloc: Global, words: &[&[u8]]) -> Result<Line, WordsError>
 }
 
 /// The line of a verb that the word names, and the words after it.
-fn verb_line_of(alloc: Global, word: &[u8], words: &[&[u8]]) -> Result<Line, WordsError>
+fn verb_line_of(word: &[u8], words: &[&[u8]]) -> Result<Line, WordsError>
     requires { word.now ≢ codes "call" }
     ensures found { IfOk result (λ l. HasWords l
         × (word.now ∷ map (λ w. w.now) words.now ≡ line_words l)) }
@@ -277,7 +203,7 @@ fn verb_line_of(alloc: Global, word: &[u8], words: &[&[u8]]) -> Result<Line, Wor
     if !are_counted(verb, words) {
         return Err(WordsError::Bad(Fault::Words));
     }
-    rest_of(alloc, verb, words)
+    rest_of(verb, words)
 }
 
 /// The line of these words.
@@ -293,7 +219,7 @@ fn line_of(alloc: Global, words: &[&[u8]]) -> Result<Line, WordsError>
     if is_same(word, b"call") {
         return called_of(alloc, rest);
     }
-    verb_line_of(alloc, word, rest)
+    verb_line_of(word, rest)
 }
 
 /// The line that a text without its end spells.

@@ -4,12 +4,9 @@ ghost use Rattle.std.specs.Prelude.{◌≡◌, ◌≢◌, IfSome, IfNone, length
 ghost use Rattle.pg_sched.specs.Fields.{verb_word, fields};
 ghost use Rattle.pg_sched.specs.declared.verb.Verb.{Verb};
 
-use pg_call::ChangeKind;
-
 /// The first word of a line, which says what the others are.
 #[derive(Clone, Copy, Debug, PartialEq, Eq)]
 pub(crate) enum Verb {
-    Write(ChangeKind),
     Tick,
     Deliver,
     Lose,
@@ -30,9 +27,6 @@ impl Verb {
         ensures none { IfNone result ((v : Verb) → word.now ≢ verb_word v) }
     {
         let verb = match word {
-            b"put" => Verb::Write(ChangeKind::Put),
-            b"patch" => Verb::Write(ChangeKind::Patch),
-            b"trim" => Verb::Write(ChangeKind::Trim),
             b"tick" => Verb::Tick,
             b"deliver" => Verb::Deliver,
             b"lose" => Verb::Lose,
@@ -64,10 +58,6 @@ impl Verb {
             | Verb::Show => 1,
             Verb::Settle | Verb::Meter => 2,
             Verb::Tick => 3,
-            Verb::Write(kind) => match kind {
-                ChangeKind::Put | ChangeKind::Trim => 4,
-                ChangeKind::Patch => 5,
-            },
         }
     }
 }

@@ -1,31 +1,18 @@
 -- How far the greatest time goes where a store takes something: no farther than that has a time.
-use Rattle.std.proofs.Common.{ℕ, ◌≡◌, ◌<◌, ◌≤◌, ◌^◌, Bool, true, cond, max, Option, None, Some, refl, sym, subst, arith}
-use Rattle.std.proofs.lemmas.Bool.{leb-true, ltb-true}
+use Rattle.std.proofs.Common.{ℕ, ◌≡◌, ◌≤◌, Bool, cond, max, Option, None, Some, refl, sym, subst, arith}
 use Rattle.pg_base.specs.declared.id.FileId.{FileId}
 use Rattle.pg_base.specs.declared.policy.Policy.{Policy}
-use Rattle.pg_base.specs.Stamp.{clock_end}
 use Rattle.pg_base.specs.Version.{VersionValue}
 use Rattle.pg_edges.specs.declared.key.Key.TheVariants as key
 use Rattle.pg_entries.specs.declared.entry.Entry.{Entry}
-use Rattle.pg_house.proofs.Truths.{and_true, chosen}
+use Rattle.pg_house.proofs.Truths.{chosen}
 use Rattle.pg_names.specs.Names.{HeldValue, NamesValue, changed, hold, join_entry, join_flag, join_place, known, raise, with_flag, with_joined, with_place}
 use Rattle.pg_names.proofs.Holding.{hold_last}
 use Rattle.pg_register.specs.declared.flag.Flag.{Flag}
 use Rattle.pg_register.specs.declared.place.Place.{Place}
 use Rattle.pg_replica.specs.Replica.{covers, with_head}
 use Rattle.pg_store.specs.declared.store.Store.{Store}
-use Rattle.pg_store.specs.Store.{begin_file, has_no_head, has_time, holding_both, is_in_time, is_newer_entry, is_newer_flag, is_newer_place, put_version, replica_of, take_entry, take_flag, take_place, take_version, touch, with_names, with_news, with_policy}
-
--- ---- a clock that is not at its end
-
-time_parts : (store : Store) → is_in_time store ≡ true → has_time store.names.last store.tags store.files ≡ true
-time_parts store h = (and_true (has_time store.names.last store.tags store.files) _ h).0
-
-pub last_in_time : (store : Store) → is_in_time store ≡ true → store.names.last < 2 ^ 62
-last_in_time store h = ltb-true store.names.last clock_end (and_true _ _ (time_parts store h)).0
-
-pub tags_in_time : (store : Store) → is_in_time store ≡ true → store.tags ≤ 2 ^ 62
-tags_in_time store h = leb-true store.tags clock_end (and_true _ _ (and_true _ _ (time_parts store h)).1).0
+use Rattle.pg_store.specs.Store.{begin_file, has_no_head, holding_both, is_newer_entry, is_newer_flag, is_newer_place, put_version, replica_of, take_entry, take_flag, take_place, take_version, touch, with_names, with_news, with_policy}
 
 -- ---- numbers
 

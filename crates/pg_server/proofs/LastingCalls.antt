@@ -16,6 +16,7 @@ use Rattle.pg_register.specs.declared.place.Place.{Place}
 use Rattle.pg_store.specs.declared.store.Store.{Store}
 use Rattle.pg_store.specs.Start.{first_flag}
 use Rattle.pg_store.specs.Store.{is_in_time, take_place}
+use Rattle.pg_store.proofs.InTime.{last_in_time}
 use Rattle.pg_cells.specs.Done.{Done, idle}
 use Rattle.pg_calls.specs.Answer.{Answer, answer, answered}
 use Rattle.pg_calls.specs.Bodies.{change, change_file, when_fit}
@@ -23,7 +24,7 @@ use Rattle.pg_calls.specs.Calls.{do_call}
 use Rattle.pg_calls.specs.Checks.{empty_dir_at, file_at, move_of, new_name}
 use Rattle.pg_calls.specs.Making.{drawn, make_flag, make_place, make_version}
 use Rattle.pg_calls.specs.Naming.{create, dead_place, mkdir, moved, next_id, place_in, rename, rmdir, taken_away, unlink, with_first_version, with_id, with_thing}
-use Rattle.pg_server.proofs.Lasting.{flag_up, last_in_time, place_up, raised}
+use Rattle.pg_server.proofs.Lasting.{flag_up, place_up, raised}
 
 -- ---- numbers
 

@@ -13,10 +13,11 @@ use Rattle.pg_msg.specs.declared.work.Work.{Work}
 use Rattle.pg_msg.specs.Numbers.{is_cell_in_range, is_in_range, number_limit}
 use Rattle.pg_store.specs.declared.store.Store.{Store}
 use Rattle.pg_store.specs.Store.{is_in_time}
+use Rattle.pg_store.proofs.InTime.{last_in_time}
 use Rattle.pg_cells.specs.Cells.{cell, cell_if_accepted, fits, taken}
 use Rattle.pg_cells.specs.Done.{Done, idle, is_accepted}
 use Rattle.pg_server.specs.Local.{receive}
-use Rattle.pg_server.proofs.Lasting.{entry_up, flag_up, last_in_time, place_up, version_up}
+use Rattle.pg_server.proofs.Lasting.{entry_up, flag_up, place_up, version_up}
 
 below : (t n : ℕ) → nat_lt t n ≡ true → t ≤ n
 below t n h = let lt = ltb-true t n h in omega (arith, lt)
@@ -72,7 +73,3 @@ early a h = omega (arith, h)
 pub message_last : (s : Store) (m : Message) (work : Work) → is_in_time s ≡ true → is_in_range m ≡ true
     → (receive s m work).store.names.last ≤ 2 ^ 62 + 2 ^ 40
 message_last s m work time range = received_by s m work (early s.names.last (last_in_time s time)) range
-
--- and where nothing comes
-pub tick_last : (s : Store) → is_in_time s ≡ true → s.names.last ≤ 2 ^ 62 + 2 ^ 40
-tick_last s time = early s.names.last (last_in_time s time)

@@ -4,11 +4,10 @@ use Rattle.std.specs.declared.cmp.Ordering.{Ordering}
 use Rattle.std.specs.Ordering.{nat_cmp, match_ordering}
 use Rattle.std.proofs.lemmas.Bool.{eqb-true}
 use Rattle.std.proofs.lemmas.Bool.Decides.{nat_tests}
-use Rattle.pg_base.specs.declared.id.FileId.{FileId}
 use Rattle.pg_edges.specs.declared.edge.Edge.{Edge}
 use Rattle.pg_edges.specs.declared.key.Key.{Key}
 use Rattle.pg_edges.specs.Edges.{edge_to, is_listed, keys_if_born, put_edge}
-use Rattle.pg_edges.proofs.Lookups.{edge_to-put_edge}
+use Rattle.pg_edges.proofs.Lookups.{edge_to-put_edge, turn_test}
 use Rattle.pg_replica.specs.declared.link.Link.{Link}
 use Rattle.pg_replica.specs.declared.untouched.Home.{Home}
 use Rattle.pg_replica.specs.Replica.{has_edge}
@@ -56,9 +55,6 @@ first_edge server zero p = sym (ap (edge_if p) (none_first server p))
 first_edge server (suc k) p =
     first_by server k p (clean_edges server k) (suc k == server) (suc k == p) refl refl (first_edge server k p)
 
-turned : (a b : ℕ) → (a == b) ≡ (b == a)
-turned a b = grind (arith, nat_tests)
-
 born_first : (p b : ℕ) (t s : Bool) → (1 == b) ≡ s → is_some (keys_if_born (edge_if p t) b) ≡ (s && t)
 born_first p b true true h = ap (λ s. is_some {T = List (Key × ℕ)} (cond s (Some []) None)) h
 born_first p b true false h = ap (λ s. is_some {T = List (Key × ℕ)} (cond s (Some []) None)) h
@@ -69,10 +65,10 @@ born_first p b false false h = refl
 pub first_listed : (server n p b : ℕ) → is_listed (clean_edges server n) p b ≡ (b == 1 && is_peer server n p)
 first_listed server n p b =
     ap (λ o. is_some (keys_if_born o b)) (first_edge server n p)
-    ∙ born_first p b (is_peer server n p) (1 == b) refl ∙ ap (λ t. t && is_peer server n p) (turned 1 b)
+    ∙ born_first p b (is_peer server n p) (1 == b) refl ∙ ap (λ t. t && is_peer server n p) (turn_test 1 b)
 
-pub first_link : (home : Home) (file : FileId) (link : Link) → is_first_link home link ≡ has_edge (new_replica home.server home.servers file) link
-first_link home file link = ap (λ b. link.own == 1 && b) (sym (first_listed home.server home.servers link.peer link.birth))
+pub first_link : (home : Home) (link : Link) → is_first_link home link ≡ has_edge (new_replica home.server home.servers) link
+first_link home link = ap (λ b. link.own == 1 && b) (sym (first_listed home.server home.servers link.peer link.birth))
 
 -- ---- how many
 

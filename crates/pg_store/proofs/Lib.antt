@@ -2,3 +2,4 @@ pub mod FirstEdges
 pub mod Stays
 mod Old
 mod Linked
+pub mod InTime

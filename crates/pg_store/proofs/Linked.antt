@@ -27,7 +27,7 @@ replica_put rs file x =
 policy_edge_by : (a : Store) (file : FileId) (policy : Policy) (link : Link) (t : Bool)
     → has_edge (replica_of (cond t (begin_file a file policy) a) file) link ≡ has_edge (replica_of a file) link
 policy_edge_by a file policy link true =
-    ap (λ (o : Option Replica). has_edge (or_new (home_of a) file o) link)
+    ap (λ (o : Option Replica). has_edge (or_new (home_of a) o) link)
     (replica_put a.replicas file (begun (replica_of a file) policy))
 policy_edge_by a file policy link false = refl
 

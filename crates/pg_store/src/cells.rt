@@ -9,7 +9,6 @@ use pg_base::{FileId, NodeId, Shared, Stamp};
 use pg_edges::Key;
 use pg_entries::Cell;
 use pg_names::Own;
-use pg_register::Place;
 use std::alloc::AllocError;
 
 impl Store {
@@ -28,10 +27,7 @@ impl Store {
     fn place_cell(&self, file: FileId) -> Result<Option<Cell>, AllocError>
         ensures { IfOk result (λ cell. cell ≡ cell_at self.now file Key.Place) }
     {
-        let place = match self.names.own(&file) {
-            Some(own) => own.place.copy()?,
-            None => Place::blank(self.allocator(), file)?,
-        };
+        let place = self.names.place_or_blank(file)?;
         Ok(Some(Cell::Place(Shared::new(self.allocator(), place)?)))
     }
 

@@ -109,6 +109,16 @@ impl Store {
         }
     }
 
+    /// The birth of the replica: 1 before it was touched.
+    pub fn birth(&self, file: &FileId) -> u64
+        ensures { result ≡ (replica_of self.now file.now).birth }
+    {
+        match self.replica(file) {
+            Some(replica) => replica.birth,
+            None => 1,
+        }
+    }
+
     /// How many edges the replica has.
     pub fn edge_count(&self, file: &FileId) -> usize
         ensures { result ≡ length (replica_of self.now file.now).edges }

@@ -1,52 +1,14 @@
 //! That events are copied as they are, and that what a run waits for, faults and ends of commands have their texts.
 
-use pg_base::{FileId, Kind, SharedBytes};
-use pg_call::{Call, Change, ChangeKind, Fault};
+use pg_base::SharedBytes;
+use pg_call::{Call, Fault};
 use pg_event::{Event, Status, read_meter_kind, read_quiet, read_void};
 use pg_words::first_words;
 use std::alloc::Global;
 use std::test::Fail;
 
-const FILE: FileId = FileId {
-    kind: Kind::File,
-    server: 1,
-    number: 2,
-};
-
-/// The text of a copy of the event of a change.
-fn copied(alloc: Global, change: Change) -> Result<String, Fail> {
-    let event = Event::Write {
-        server: 1,
-        moment: 5,
-        file: FILE,
-        change,
-    };
-    let text = format!(in alloc; "{}", event.copy()?)?;
-    Ok(text)
-}
-
 #[test]
 fn copies(rt: HostRuntime) -> Result<(), Fail> {
-    let put = Change::Put(SharedBytes::from_slice(rt.alloc(), b"a")?);
-    assert_eq!(rt; put.kind(), ChangeKind::Put);
-    let text = copied(rt.alloc(), put)?;
-    assert_eq!(rt; text.as_str(), "put 1 5 f1.2 61");
-    let patch = Change::Patch {
-        offset: 3,
-        bytes: SharedBytes::from_slice(rt.alloc(), b"ab")?,
-    };
-    assert_eq!(rt; patch.kind(), ChangeKind::Patch);
-    let text = copied(rt.alloc(), patch)?;
-    assert_eq!(rt; text.as_str(), "patch 1 5 f1.2 3 6162");
-    let trim = Change::Trim(7);
-    assert_eq!(rt; trim.kind(), ChangeKind::Trim);
-    let text = copied(rt.alloc(), trim)?;
-    assert_eq!(rt; text.as_str(), "trim 1 5 f1.2 7");
-    Ok(())
-}
-
-#[test]
-fn copies_calls(rt: HostRuntime) -> Result<(), Fail> {
     let event = Event::Call {
         server: 1,
         moment: 5,

@@ -1,7 +1,6 @@
 -- What a world is told to wait for is the first of its causes.
-use Rattle.std.proofs.Common.{ℕ, zero, suc, ◌≡◌, ◌≤◌, List, [], ◌∷◌, ◌++◌, map, Some, refl, sym, ap, subst, ◌∙◌, inl, inr, ◌⊎◌, arith}
+use Rattle.std.proofs.Common.{ℕ, zero, suc, ◌≡◌, List, [], ◌∷◌, ◌++◌, map, Some, refl, sym, ap, subst, ◌∙◌, inl, inr, arith}
 use Rattle.std.specs.Prelude.{slice_get}
-use Rattle.std.proofs.lemmas.Bool.{cases_lt}
 use Rattle.std.proofs.lemmas.Option.{none-some, same_Some}
 use Rattle.pg_event.specs.declared.quiet.Cause.{Cause}
 use Rattle.pg_event.specs.declared.quiet.Cause.TheVariants.{Message, Owed, View}
@@ -9,30 +8,14 @@ use Rattle.pg_event.specs.declared.quiet.Owing.{Owing}
 use Rattle.pg_event.specs.declared.quiet.Quiet.TheVariants.{Quiet, Waits}
 use Rattle.pg_msg.specs.declared.message.Sent.{Sent}
 use Rattle.pg_msg.specs.Sent.{summary}
-use Rattle.pg_store.specs.declared.store.Store.{Store}
 use Rattle.pg_server.specs.Owing.{owed}
 use Rattle.pg_run.specs.Journal.{bag}
 use Rattle.pg_run.specs.Quiet.{first_of, owed_by, quiet_of}
 use Rattle.pg_run.specs.Run.{World}
-use Rattle.pg_run.proofs.QuietAnswers.{both_empty}
+use Rattle.pg_run.proofs.QuietAnswers.{at_or_below, none_owed, owed_below}
 use Rattle.pg_ticks.specs.Laws.{FirstCauseIsTold, IsFirstCause, IsFirstOwed}
 
 -- ---- the first of what all servers owe
-
-at_or_below : (k s : ℕ) → s ≤ suc k → (s ≡ suc k) ⊎ (s ≤ k)
-at_or_below k s h = elim (cases_lt k s) [ inl more ↦ inl (omega arith) | inr less ↦ inr less ]
-
-owed_below : (stores : ℕ → Store) (n s : ℕ) → owed_by stores n ≡ [] → 1 ≤ s → s ≤ n → owed (stores s) ≡ []
-owed_below stores zero s h least most = absurd (omega arith)
-owed_below stores (suc k) s h least most = elim (at_or_below k s most) [
-  | inl last ↦ ap (λ t. owed (stores t)) last ∙ (both_empty (owed_by stores k) (owed (stores (suc k))) h).1
-  | inr less ↦ owed_below stores k s (both_empty (owed_by stores k) (owed (stores (suc k))) h).0 least less
-]
-
-none_owed : (stores : ℕ → Store) (n : ℕ) → ((s : ℕ) → 1 ≤ s → s ≤ n → owed (stores s) ≡ []) → owed_by stores n ≡ []
-none_owed stores zero h = refl
-none_owed stores (suc k) h =
-    ap (λ os. os ++ owed (stores (suc k))) (none_owed stores k (λ s least most. h s least (omega arith))) ∙ h (suc k) (omega arith) (omega arith)
 
 module _ (w : World) where
   abbrev All : ℕ → List Owing

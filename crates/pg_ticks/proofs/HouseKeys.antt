@@ -1,8 +1,6 @@
 -- Each key that the house rules touch has a cell behind them.
-use Rattle.std.proofs.Common.{ℕ, ◌≡◌, Bool, true, false, List, [], ◌∷◌, ◌++◌, drop, length, Option, None, Some, refl, sym, ap, subst, ◌∙◌, inl, inr, ◌⊎◌}
-use Rattle.std.proofs.lemmas.List.{append-nil}
+use Rattle.std.proofs.Common.{ℕ, ◌≡◌, Bool, true, false, List, [], ◌∷◌, drop, length, Option, None, Some, refl, sym, ap, subst, ◌∙◌, inl, inr, ◌⊎◌}
 use Rattle.std.proofs.lemmas.Option.{none-some}
-use Rattle.std.proofs.Math.Seq.{drop-append_seam}
 use Rattle.pg_base.specs.declared.id.FileId.{FileId}
 use Rattle.pg_base.specs.Id.{is_same_file}
 use Rattle.pg_base.proofs.Orders.{is_same_file-refl}
@@ -12,7 +10,6 @@ use Rattle.pg_register.specs.declared.place.Place.{Place}
 use Rattle.pg_register.specs.Flag.{flag_of}
 use Rattle.pg_register.specs.Place.{root, tilde_name}
 use Rattle.pg_entries.specs.declared.entry.Entry.{Entry}
-use Rattle.pg_msg.specs.declared.message.Sent.{Sent}
 use Rattle.pg_msg.specs.declared.work.Touched.{Touched}
 use Rattle.pg_msg.specs.declared.work.Work.{Work}
 use Rattle.pg_names.specs.declared.own.Own.{Own}
@@ -34,9 +31,9 @@ use Rattle.pg_house.proofs.Truths.{or_left, or_right}
 use Rattle.pg_promises.specs.UpTo.{AreFlagsUpTo}
 use Rattle.pg_promises.proofs.Choices.{chosen}
 use Rattle.pg_promises.proofs.Flags.{flags_joined}
-use Rattle.pg_promises.proofs.Front.{house_behind}
 use Rattle.pg_promises.proofs.Growth.{OneOwn}
 use Rattle.pg_promises.proofs.UpTo.{flags_further, flags_themselves}
+use Rattle.pg_promises.proofs.Front.{Alone, ends, new_keys, with_lists}
 use Rattle.pg_order.proofs.Changes.{one_stays as one_held_stays}
 use Rattle.pg_ticks.proofs.Keyed.{AllHeld, NameHas, Touches, Touches-refl, Touches-trans, held_further, in_split, one_stays, spread_touches, took_touches}
 
@@ -180,33 +177,18 @@ house_touches moment st =
 
 -- ---- so each key that the rules touch has a cell
 
-abbrev with_lists : Work → List Sent → List Touched → Work
-with_lists w sent ts = record { now = w.now; from = w.from; made = w.made; sent = sent; touched = ts }
-
-abbrev behind : List Touched → List Sent → State → State
-behind p sent st = state_of st.names (with_lists st.work sent (p ++ st.work.touched))
-
 module _ (moment : ℕ) (names : NamesValue) (work : Work) where
-  abbrev Alone : State
-  Alone = house moment (state_of names (with_lists work work.sent []))
+  abbrev End : State
+  End = Alone moment names work
 
-  starts : state_of names work ≡ behind work.touched work.sent (state_of names (with_lists work work.sent []))
-  starts = ap (λ ts. state_of names (with_lists work work.sent ts)) (sym (append-nil work.touched))
-
-  ends : house moment (state_of names work) ≡ behind work.touched work.sent Alone
-  ends = ap (house moment) starts ∙ house_behind work.touched work.sent moment (state_of names (with_lists work work.sent []))
-
-  new_keys : drop (length work.touched) (house moment (state_of names work)).work.touched ≡ Alone.work.touched
-  new_keys = ap (λ (s : State). drop (length work.touched) s.work.touched) ends ∙ drop-append_seam work.touched Alone.work.touched
-
-  none_before : (x : Touched) → IsIn x Alone.work.touched → NameHas Alone.names x.file x.key
+  none_before : (x : Touched) → IsIn x End.work.touched → NameHas End.names x.file x.key
   none_before x h = elim ((house_touches moment (state_of names (with_lists work work.sent []))).new x h) [ inl none ↦ absurd none | inr has ↦ has ]
 
   pub new_has : (x : Touched) → IsIn x (drop (length work.touched) (house moment (state_of names work)).work.touched) → NameHas (house moment (state_of names work)).names x.file x.key
   new_has x h =
       let P : List Touched → Type 0 = IsIn x in
       let Q : State → Type 0 = λ s. NameHas s.names x.file x.key in
-      subst Q (sym ends) (none_before x (subst P new_keys h))
+      subst Q (sym (ends moment names work)) (none_before x (subst P (new_keys moment names work) h))
 
   -- and what had one keeps one
   pub old_has : (f : FileId) (k : Key) → NameHas names f k → NameHas (house moment (state_of names work)).names f k

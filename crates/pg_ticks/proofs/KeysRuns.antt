@@ -22,7 +22,7 @@ use Rattle.pg_call.specs.declared.refusal.Refusal.TheVariants.{ClockEnd}
 use Rattle.pg_call.specs.declared.reply.Reply.{Reply}
 use Rattle.pg_call.specs.declared.reply.Reply.TheVariants as reply
 use Rattle.pg_event.specs.declared.event.Event.{Event}
-use Rattle.pg_event.specs.declared.event.Event.TheVariants.{Write, Call as Called, Tick, Deliver, Lose, Repeat, Restart, Remove}
+use Rattle.pg_event.specs.declared.event.Event.TheVariants.{Call as Called, Tick, Deliver, Lose, Repeat, Restart, Remove}
 use Rattle.pg_event.specs.declared.entry.VoidCause.TheVariants.{NoServer, Unbuilt}
 use Rattle.pg_house.specs.Work.{state_of}
 use Rattle.pg_store.specs.declared.store.Store.{Store}
@@ -193,7 +193,6 @@ module _ (n : ℕ) (w : World) (holds : HoldsHistory n w) (kept : Keeps n w) (k 
   moved event (Some m) = k
 
   pub next_cells : (e : Event) → EachHasCells (world_after w (next n w e))
-  next_cells (Write s moment file what) = k
   next_cells (Called s moment c) =
       chosen (λ z. EachHasCells (world_after w z)) (is_built c) (server_step n w (Called s moment c) s (input.Call moment c)) (idle_step w (Called s moment c) (Some Unbuilt)) (called s moment c) k
   next_cells (Tick s moment word) = ticked s moment word

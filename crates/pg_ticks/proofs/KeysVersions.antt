@@ -195,7 +195,7 @@ acked_here : (a : Store) (f : FileId) (x : Replica) (peer birth : ℕ) (q : Key)
 acked_here a f x peer birth q g is k =
     let y = with_ack x peer birth q g in
     let b = with_replicas a (insert_entry file_cmp a.replicas f y) in
-    let here : replica_of a f ≡ x = ap (or_new (home_of a) f) is in
+    let here : replica_of a f ≡ x = ap (or_new (home_of a)) is in
     let changes : Changes a b f y = record { server = refl; servers = refl; replicas = refl } in
     let content : (h : FileId) → content_of b h ≡ content_of a h =
     by_file (λ h z. z.content ≡ content_of a h) a b f y changes (ap (λ (z : Replica). z.content) (sym here)) (λ h. refl) in

@@ -1,9 +1,7 @@
 -- Which lines have a spelling.
-use Rattle.std.proofs.Common.{arith, ℕ, ◌≤◌, ◌<◌, ◌^◌, List, [], ◌∷◌, ◌++◌, length, map, take, zero, suc, Option, None, Some}
+use Rattle.std.proofs.Common.{arith, ℕ, ◌≤◌, ◌<◌, ◌^◌, List, [], ◌∷◌, ◌++◌, length, map, take, Option, None, Some}
 use Rattle.std.proofs.lemmas.List.{length-take}
 use Rattle.std.specs.List.{AllByRecursion}
-use Rattle.pg_base.specs.declared.id.FileId.{FileId}
-use Rattle.pg_content.specs.Content.{ContentValue, shown_bytes}
 use Rattle.pg_msg.specs.declared.message.Sent.{Sent}
 use Rattle.pg_msg.specs.declared.update.Update.{Update}
 use Rattle.pg_msg.specs.Sent.{summary}
@@ -12,20 +10,19 @@ use Rattle.pg_call.specs.declared.reply.Reply.{Reply}
 use Rattle.pg_call.specs.declared.reply.Reply.TheVariants as reply
 use Rattle.pg_event.specs.declared.entry.VoidCause.{VoidCause}
 use Rattle.pg_event.specs.declared.event.Event.{Event}
-use Rattle.pg_event.specs.declared.event.Event.TheVariants.{Write, Call, Tick, Deliver, Lose, Repeat, Restart, Remove}
+use Rattle.pg_event.specs.declared.event.Event.TheVariants.{Call, Tick, Deliver, Lose, Repeat, Restart, Remove}
 use Rattle.pg_sched.specs.declared.line.Form.{Form}
 use Rattle.pg_sched.specs.declared.line.Form.TheVariants.{Full, Short}
 use Rattle.pg_sched.specs.declared.line.Line.{Line}
-use Rattle.pg_words.specs.FileWord.{IsFile}
 use Rattle.pg_sched.specs.Line.{IsLine}
 use Rattle.pg_trace.specs.declared.printed.Printed.{Printed}
 use Rattle.pg_trace.specs.declared.printed.Printed.TheVariants as printed
 use Rattle.pg_msg.specs.Text.{IsSummary}
 use Rattle.pg_msg.specs.UpdateText.{IsUpdate}
-use Rattle.pg_trace.specs.Printed.{ArePrinted, IsPrinted}
+use Rattle.pg_trace.specs.Printed.{ArePrinted}
 use Rattle.pg_call.specs.Reply.{IsTickReply}
-use Rattle.pg_trace.specs.Spelled.{IsTold, IsEntry, IsShown}
-use Rattle.pg_trace.specs.Text.{tick_lines, told_lines, done_lines, outcome_lines, head_lines, show_line}
+use Rattle.pg_trace.specs.Spelled.{IsTold, IsEntry}
+use Rattle.pg_trace.specs.Text.{tick_lines, told_lines, done_lines, outcome_lines, head_lines}
 
 pub joined : (xs ys : List Printed) → ArePrinted xs → ArePrinted ys → ArePrinted (xs ++ ys)
 joined [] ys a b = b
@@ -56,8 +53,6 @@ ticked Short server (reply.Status counts) a b = tt
 ticked Short server (reply.Refused refusal) a b = ((a, b), tt)
 
 pub told : (form : Form) (event : Event) (reply : Option Reply) → IsTold event reply → ArePrinted (told_lines form event reply)
-told form (Write server moment file what) None h = tt
-told form (Write server moment file what) (Some reply) h = (h, tt)
 told form (Call server moment call) None h = tt
 told form (Call server moment call) (Some reply) h = (h, tt)
 told form (Tick server moment word) None h = tt
@@ -76,19 +71,5 @@ pub in_front : (line : ℕ) (form : Form) (what : Line) → line < 2 ^ 64 → Is
 in_front line Full what fits h = ((fits, h), tt)
 in_front line Short what fits h = tt
 
-all_taken : (n : ℕ) (bs : List ℕ) → AllByRecursion (λ b. b < 256) bs → AllByRecursion (λ b. b < 256) (take n bs)
-all_taken zero bs h = tt
-all_taken (suc n) [] h = tt
-all_taken (suc n) (b ∷ bs) h = (h.0, all_taken n bs h.1)
-
 pub few_taken : (n : ℕ) (bs : List ℕ) → length (take n bs) ≤ n
 few_taken n bs = omega (arith, length-take n bs)
-
-pub shown : (server : ℕ) (file : FileId) (c : ContentValue) → server < 2 ^ 32 → IsFile file → IsShown c → IsPrinted (show_line server file c)
-shown server file c fits about h = (
-  fits,
-  about,
-  h.stamps,
-  omega arith,
-  record { each = all_taken 16 (shown_bytes c) h.bytes; few = few_taken 16 (shown_bytes c) },
-)

@@ -1,34 +1,22 @@
 -- Lists of what is written, one by one.
-use Rattle.std.proofs.Common.{ℕ, ◌≡◌, ◌+◌, ◌<◌, ◌^◌, List, [], ◌∷◌, ◌++◌, Result, Ok, Err, OnOk, length, get_or, map, take, min, arith, subst, sym, ap, ◌∙◌}
+use Rattle.std.proofs.Common.{ℕ, ◌≡◌, ◌+◌, ◌<◌, List, [], ◌∷◌, ◌++◌, length, get_or, map, take, subst, sym, ap, ◌∙◌}
 use Rattle.std.specs.List.{AllByRecursion, flat_map}
 use Rattle.std.proofs.lemmas.List.{map_more, flat_map_more}
 use Rattle.std.proofs.lemmas.List.Elements.{All-from_recursion, All-more, recursion_from_All}
-use Rattle.pg_base.specs.declared.stamp.Stamp.{Stamp}
-use Rattle.pg_base.specs.declared.id.FileId.{FileId}
-use Rattle.pg_base.specs.Version.{stamp_of}
-use Rattle.pg_content.specs.Content.{ContentValue, shown_bytes}
 use Rattle.pg_msg.specs.declared.message.Sent.{Sent}
 use Rattle.pg_msg.specs.declared.update.Update.{Update}
 use Rattle.pg_msg.specs.Sent.{summary}
 use Rattle.pg_sched.specs.declared.line.Form.{Form}
-use Rattle.pg_words.specs.FileWord.{IsFile}
-use Rattle.pg_words.specs.StampWord.{IsStamp}
 use Rattle.pg_trace.specs.declared.printed.Printed.{Printed}
-use Rattle.pg_trace.specs.Printed.{ArePrinted, IsPrinted}
+use Rattle.pg_trace.specs.Printed.{ArePrinted}
 use Rattle.pg_trace.specs.Suited.{SuitsKind, SuitsUpdate}
-use Rattle.pg_trace.specs.Text.{done_lines, show_line}
-use Rattle.pg_trace.proofs.Lines.{few_taken}
+use Rattle.pg_trace.specs.Text.{done_lines}
 
 -- what each has where it suits, all have where all suit
 pub all_suit : {A : Type 0} (P Q : A → Type 0) (xs : List A) → AllByRecursion (λ x. P x → Q x) xs
     → AllByRecursion P xs → AllByRecursion Q xs
 all_suit P Q [] h k = tt
 all_suit P Q (x ∷ xs) h k = (h.0 k.0, all_suit P Q xs h.1 k.1)
-
--- what holds in any case
-pub on_ok : {T E : Type 0} (P : Type 0) (r : Result T E) → P → OnOk r P
-on_ok P (Ok t) p = p
-on_ok P (Err e) p = tt
 
 -- what holds of the first ones and of the next one
 pub one_fits : {A : Type 0} (P : A → Type 0) (xs : List A) (i : ℕ) (x : A) → i < length xs
@@ -61,18 +49,3 @@ done_there form us made ms sent e f =
     let R : List Sent → Type 0 = (λ ys. P us ms → P us ys) in
     let S : List Update → Type 0 = (λ xs. P us ms → P xs sent) in
     subst S e (subst R f (λ h. h))
-
--- what a server shows, where the stamps and the first bytes were read
-pub shown_first : (server : ℕ) (file : FileId) (c : ContentValue) (heads : List Stamp) (first : List ℕ)
-    → server < 2 ^ 32 → IsFile file → AllByRecursion IsStamp heads → heads ≡ map stamp_of c.heads
-    → AllByRecursion (λ b. b < 256) first → first ≡ take 16 (shown_bytes c)
-    → IsPrinted (show_line server file c)
-shown_first server file c heads first fits about stamps same bytes is =
-    let S : List Stamp → Type 0 = AllByRecursion IsStamp in
-    let B : List ℕ → Type 0 = AllByRecursion (λ b. b < 256) in (
-      fits,
-      about,
-      subst S same stamps,
-      omega arith,
-      record { each = subst B is bytes; few = few_taken 16 (shown_bytes c) },
-    )

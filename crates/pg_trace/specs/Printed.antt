@@ -1,14 +1,11 @@
 -- A line of a journal: what it is spelled as.
 use Rattle.std.specs.Prelude.{ℕ, ◌≡◌, ◌<◌, ◌^◌, List, [], ◌∷◌, ◌++◌, decimal, codes}
 use Rattle.std.specs.List.{join_with_byte, AllByRecursion, flat_map}
-use Rattle.pg_base.specs.declared.stamp.Stamp.{Stamp}
-use Rattle.pg_base.specs.declared.id.FileId.{FileId}
 use Rattle.pg_base.specs.Id as id
 use Rattle.pg_base.specs.declared.id.Kind.{Kind}
 use Rattle.pg_base.specs.declared.id.Kind.TheVariants.{Dir, File}
 use Rattle.pg_call.specs.Call as call
-use Rattle.pg_call.specs.Change.{kind_word}
-use Rattle.pg_call.specs.Reply.{reply_words, IsReply, IsWriteReply, IsTickReply}
+use Rattle.pg_call.specs.Reply.{reply_words, IsReply, IsTickReply}
 use Rattle.pg_event.specs.Entry.{void_word}
 use Rattle.pg_event.specs.Meter.{meter_word}
 use Rattle.pg_event.specs.Quiet.{quiet_words, IsAnswer}
@@ -18,12 +15,11 @@ use Rattle.pg_sched.specs.Line.{line_words, IsLine}
 use Rattle.pg_trace.specs.declared.printed.Word.{Word}
 use Rattle.pg_trace.specs.declared.printed.Word.TheVariants as word
 use Rattle.pg_trace.specs.declared.printed.Printed.{Printed}
-use Rattle.pg_trace.specs.declared.printed.Printed.TheVariants.{Event, Write, Call, Tick, Void, Made, Sent, Asked, Show, Replica, Nowhere, Meter}
+use Rattle.pg_trace.specs.declared.printed.Printed.TheVariants.{Event, Call, Tick, Void, Made, Sent, Asked, Replica, Nowhere, Meter}
 use Rattle.pg_trace.specs.declared.replica.ShownReplica.{ShownReplica}
 use Rattle.pg_trace.specs.declared.replica.Contents.{Contents}
 use Rattle.pg_trace.specs.declared.replica.Contents.TheVariants as contents
 use Rattle.pg_words.specs.ChoiceWord.{full_word, gold_word}
-use Rattle.pg_words.specs.FileWord.{IsFile}
 use Rattle.pg_words.specs.HexWord.{hex_word, AreAtMost}
 use Rattle.pg_words.specs.PlaceWords.{IsPlace, place_words}
 use Rattle.pg_words.specs.StampWord.{IsStamp, stamps_word}
@@ -32,12 +28,6 @@ abbrev pub asked_word : Word → List ℕ
 asked_word word.Settle = codes "settle"
 asked_word word.Quiet = codes "quiet"
 asked_word word.End = codes "end"
-
--- what a server shows of a file: the stamps of its heads, how many bytes are shown, and the first of them
-abbrev pub show_words : ℕ → FileId → List Stamp → ℕ → List ℕ → List (List ℕ)
-show_words server file heads count bytes =
-    codes "at" ∷ decimal server ∷ id.spelling file
-    ∷ codes "heads" ∷ stamps_word heads ∷ codes "shown" ∷ decimal count ∷ hex_word bytes ∷ []
 
 -- what a file shows: the stamps of its heads, how many bytes are shown, and the first of them; what a
 -- directory shows: how many names
@@ -54,8 +44,6 @@ replica_words r =
 
 abbrev pub printed_words : Printed → List (List ℕ)
 printed_words (Event line what) = codes "event" ∷ decimal line ∷ line_words what
-printed_words (Write kind server reply) =
-    kind_word kind ∷ decimal server ∷ codes "->" ∷ reply_words reply
 printed_words (Call kind server reply) =
     codes "call" ∷ decimal server ∷ call.kind_word kind ∷ codes "->" ∷ reply_words reply
 printed_words (Tick server reply) = codes "tick" ∷ decimal server ∷ codes "->" ∷ reply_words reply
@@ -63,7 +51,6 @@ printed_words (Void line cause) = codes "void" ∷ decimal line ∷ void_word ca
 printed_words (Made update) = codes "made" ∷ update_spelling update
 printed_words (Sent summary) = codes "sent" ∷ summary_words summary
 printed_words (Asked word quiet) = asked_word word ∷ quiet_words quiet
-printed_words (Show server file heads count bytes) = show_words server file heads count bytes
 printed_words (Replica r) = replica_words r
 printed_words (Nowhere what) = codes "at" ∷ codes "-" ∷ id.spelling what ∷ []
 printed_words (Meter kind value) = codes "meter" ∷ meter_word kind ∷ decimal value ∷ []
@@ -101,16 +88,12 @@ pub record IsReplica (r : ShownReplica) : Type 0 where
 -- what has a spelling
 abbrev pub IsPrinted : Printed → Type 0
 IsPrinted (Event line what) = (line < 2 ^ 64) × IsLine what
-IsPrinted (Write kind server reply) = (server < 2 ^ 32) × IsWriteReply reply
 IsPrinted (Call kind server reply) = (server < 2 ^ 32) × IsReply reply
 IsPrinted (Tick server reply) = (server < 2 ^ 32) × IsTickReply reply
 IsPrinted (Void line cause) = line < 2 ^ 64
 IsPrinted (Made update) = IsUpdate update
 IsPrinted (Sent summary) = IsSummary summary
 IsPrinted (Asked word quiet) = IsAnswer quiet
-IsPrinted (Show server file heads count bytes) =
-    (server < 2 ^ 32) × IsFile file × AllByRecursion IsStamp heads × (count < 2 ^ 64)
-    × AreFirst bytes
 IsPrinted (Replica r) = IsReplica r
 IsPrinted (Nowhere what) = id.Fits what
 IsPrinted (Meter kind value) = value < 2 ^ 64

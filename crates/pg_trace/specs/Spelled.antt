@@ -1,22 +1,17 @@
--- What an entry and a content may hold, so that all that is written of them has a spelling.
-use Rattle.std.specs.Prelude.{◌<◌, ◌^◌, map, Option, None, Some}
+-- What an entry may hold, so that all that is written of it has a spelling.
+use Rattle.std.specs.Prelude.{◌<◌, ◌^◌, Option, None, Some}
 use Rattle.std.specs.List.{AllByRecursion}
-use Rattle.pg_base.specs.Version.{stamp_of}
-use Rattle.pg_content.specs.Content.{ContentValue, shown_bytes}
 use Rattle.pg_msg.specs.Sent.{summary}
 use Rattle.pg_event.specs.declared.entry.Entry.{Entry}
 use Rattle.pg_call.specs.declared.reply.Reply.{Reply}
 use Rattle.pg_event.specs.declared.event.Event.{Event}
-use Rattle.pg_event.specs.declared.event.Event.TheVariants.{Write, Call, Tick, Deliver, Lose, Repeat, Restart, Remove}
-use Rattle.pg_words.specs.StampWord.{IsStamp}
+use Rattle.pg_event.specs.declared.event.Event.TheVariants.{Call, Tick, Deliver, Lose, Repeat, Restart, Remove}
 use Rattle.pg_msg.specs.Text.{IsSummary}
 use Rattle.pg_msg.specs.UpdateText.{IsUpdate}
-use Rattle.pg_call.specs.Reply.{IsReply, IsWriteReply, IsTickReply}
+use Rattle.pg_call.specs.Reply.{IsReply, IsTickReply}
 
 -- a server that answers, and an answer that fits what was asked
 abbrev pub IsTold : Event → Option Reply → Type 0
-IsTold (Write server moment file what) None = Unit {0}
-IsTold (Write server moment file what) (Some reply) = (server < 2 ^ 32) × IsWriteReply reply
 IsTold (Call server moment call) None = Unit {0}
 IsTold (Call server moment call) (Some reply) = (server < 2 ^ 32) × IsReply reply
 IsTold (Tick server moment word) None = Unit {0}
@@ -31,8 +26,3 @@ pub record IsEntry (entry : Entry) : Type 0 where
   pub told : IsTold entry.event entry.reply
   pub made : AllByRecursion IsUpdate entry.made
   pub sent : AllByRecursion (λ m. IsSummary (summary m)) entry.sent
-
--- the stamps of the heads have their widths, and what is shown is bytes
-pub record IsShown (c : ContentValue) : Type 0 where
-  pub stamps : AllByRecursion IsStamp (map stamp_of c.heads)
-  pub bytes : AllByRecursion (λ b. b < 256) (shown_bytes c)

@@ -7,13 +7,12 @@ use Rattle.pg_base.specs.Id.{Fits}
 use Rattle.pg_base.specs.declared.id.FileId.{FileId}
 use Rattle.pg_base.specs.declared.id.Kind.{Kind}
 use Rattle.pg_base.specs.declared.id.Kind.TheVariants.{Dir, File}
-use Rattle.pg_call.specs.Refusal.{IsRefusal}
 use Rattle.pg_call.specs.Reply.{IsTickReply}
 use Rattle.pg_call.specs.declared.reply.Reply.{Reply}
 use Rattle.pg_call.specs.declared.reply.Reply.TheVariants as reply
 use Rattle.pg_event.specs.declared.entry.Entry.{Entry}
 use Rattle.pg_event.specs.declared.event.Event.{Event}
-use Rattle.pg_event.specs.declared.event.Event.TheVariants.{Write, Call, Tick, Deliver, Lose, Repeat, Restart, Remove}
+use Rattle.pg_event.specs.declared.event.Event.TheVariants.{Call, Tick, Deliver, Lose, Repeat, Restart, Remove}
 use Rattle.pg_event.specs.declared.quiet.Cause.{Cause}
 use Rattle.pg_event.specs.declared.quiet.Cause.TheVariants as cause
 use Rattle.pg_event.specs.declared.quiet.Quiet.{Quiet}
@@ -63,22 +62,8 @@ IsCallAnswer (reply.Leaving server) = Unit {0}
 IsCallAnswer (reply.Status counts) = Unit {0}
 IsCallAnswer (reply.Refused refusal) = Unit {0}
 
--- whoever writes is told a stamp, or why not
-abbrev pub IsWriteAnswer : Reply → Type 0
-IsWriteAnswer reply.Done = ⊥
-IsWriteAnswer (reply.Made id) = ⊥
-IsWriteAnswer (reply.Wrote stamp) = Unit {0}
-IsWriteAnswer (reply.Bytes bytes) = ⊥
-IsWriteAnswer (reply.Names total rows) = ⊥
-IsWriteAnswer (reply.Stat stat) = ⊥
-IsWriteAnswer (reply.Leaving server) = ⊥
-IsWriteAnswer (reply.Status counts) = ⊥
-IsWriteAnswer (reply.Refused refusal) = IsRefusal refusal
-
 -- the answer is one to what was asked
 abbrev pub Answers : Event → Option Reply → Type 0
-Answers (Write server moment file what) None = Unit {0}
-Answers (Write server moment file what) (Some answer) = IsWriteAnswer answer
 Answers (Call server moment call) None = Unit {0}
 Answers (Call server moment call) (Some answer) = IsCallAnswer answer
 Answers (Tick server moment word) None = Unit {0}

@@ -1,20 +1,16 @@
 -- What is written of a run, in the full form and in the short one.
-use Rattle.std.specs.Prelude.{ℕ, ◌-◌, ◌^◌, min, List, [], ◌∷◌, ◌++◌, map, length, take, Option, Some, None}
+use Rattle.std.specs.Prelude.{ℕ, List, [], ◌∷◌, ◌++◌, map, Option, Some, None}
 use Rattle.std.specs.List.{flat_map}
-use Rattle.pg_base.specs.declared.id.FileId.{FileId}
-use Rattle.pg_base.specs.Version.{stamp_of}
-use Rattle.pg_content.specs.Content.{ContentValue, shown_bytes}
 use Rattle.pg_msg.specs.declared.message.Sent.{Sent}
 use Rattle.pg_msg.specs.declared.update.Update.{Update}
 use Rattle.pg_msg.specs.Sent.{summary}
 use Rattle.pg_call.specs.Call.{call_kind}
-use Rattle.pg_call.specs.Change.{kind_of}
 use Rattle.pg_event.specs.declared.entry.Entry.{Entry}
 use Rattle.pg_call.specs.declared.reply.Reply.{Reply}
 use Rattle.pg_call.specs.declared.reply.Reply.TheVariants as reply
 use Rattle.pg_event.specs.declared.entry.VoidCause.{VoidCause}
 use Rattle.pg_event.specs.declared.event.Event.{Event}
-use Rattle.pg_event.specs.declared.event.Event.TheVariants.{Write, Call, Tick, Deliver, Lose, Repeat, Restart, Remove}
+use Rattle.pg_event.specs.declared.event.Event.TheVariants.{Call, Tick, Deliver, Lose, Repeat, Restart, Remove}
 use Rattle.pg_sched.specs.declared.line.Form.{Form}
 use Rattle.pg_sched.specs.declared.line.Form.TheVariants.{Full, Short}
 use Rattle.pg_sched.specs.declared.line.Line.{Line}
@@ -39,9 +35,6 @@ tick_lines Short server (reply.Status counts) = []
 
 -- what the client was told
 abbrev pub told_lines : Form → Event → Option Reply → List Printed
-told_lines form (Write server moment file what) None = []
-told_lines form (Write server moment file what) (Some answer) =
-    printed.Write (kind_of what) server answer ∷ []
 told_lines form (Call server moment call) None = []
 told_lines form (Call server moment call) (Some answer) =
     printed.Call (call_kind call) server answer ∷ []
@@ -77,16 +70,6 @@ head_lines line Short what = []
 
 abbrev pub head_text : ℕ → Form → Line → List ℕ
 head_text line form what = flat_map printed_text (head_lines line form what)
-
--- what a server shows of a file: the stamps of its heads, how many bytes are shown, or the greatest number of 64 bits where
--- they are more, and the first 16 of them
-abbrev pub show_line : ℕ → FileId → ContentValue → Printed
-show_line server file c =
-    printed.Show server file (map stamp_of c.heads) (min (length (shown_bytes c)) (2 ^ 64 - 1))
-    (take 16 (shown_bytes c))
-
-abbrev pub show_text : ℕ → FileId → ContentValue → List ℕ
-show_text server file c = printed_text (show_line server file c)
 
 -- what is said of whether all is done, at a settling, at a question, and at the end
 abbrev pub quiet_text : Word → Quiet → List ℕ

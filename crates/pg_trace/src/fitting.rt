@@ -7,13 +7,13 @@ ghost use Rattle.pg_base.specs.Id.{Fits};
 ghost use Rattle.pg_base.specs.declared.id.Kind.{Kind};
 ghost use Rattle.pg_base.specs.declared.id.Kind.TheVariants.{File};
 ghost use Rattle.pg_call.specs.Refusal.{IsRefusal};
-ghost use Rattle.pg_call.specs.Reply.{IsCounts, IsReply, IsRow, IsStat, IsWriteReply};
+ghost use Rattle.pg_call.specs.Reply.{IsCounts, IsReply, IsRow, IsStat};
 ghost use Rattle.pg_event.specs.Quiet.{IsAnswer, IsCause, IsOwing};
 ghost use Rattle.pg_msg.specs.Text.{IsKey, IsSummary};
 ghost use Rattle.pg_msg.specs.UpdateText.{ArePartBytes, IsFlag, IsMadeVersion, IsUpdate};
 ghost use Rattle.pg_trace.specs.Printed.{IsContents, IsReplica};
 ghost use Rattle.pg_trace.specs.Spelled.{IsTold};
-ghost use Rattle.pg_trace.specs.Suited.{Answers, DetailFits, IsCallAnswer, IsWriteAnswer, SuitsCause, SuitsContents, SuitsKind, SuitsPlace, SuitsQuiet, SuitsReplica, SuitsRow, SuitsUpdate};
+ghost use Rattle.pg_trace.specs.Suited.{Answers, DetailFits, IsCallAnswer, SuitsCause, SuitsContents, SuitsKind, SuitsPlace, SuitsQuiet, SuitsReplica, SuitsRow, SuitsUpdate};
 ghost use Rattle.pg_words.specs.PlaceWords.{IsPlace};
 ghost use Rattle.pg_words.specs.StampWord.{IsStamp};
 
@@ -27,7 +27,7 @@ use pg_patch::Part;
 use pg_path::Row;
 use pg_register::{Flag, Place};
 
-pub fn id_fits(id: FileId)
+fn id_fits(id: FileId)
     ensures { Fits id }
 {}
 
@@ -35,7 +35,7 @@ fn stamp_fits(stamp: Stamp)
     ensures { IsStamp stamp }
 {}
 
-pub fn stamps_fit(stamps: &[Stamp])
+fn stamps_fit(stamps: &[Stamp])
     ensures { AllByRecursion IsStamp stamps.now }
 {
     for stamp in stamps {
@@ -43,7 +43,7 @@ pub fn stamps_fit(stamps: &[Stamp])
     }
 }
 
-pub fn bytes_fit(bytes: &[u8])
+fn bytes_fit(bytes: &[u8])
     ensures { AllByRecursion (λ b. b < 256) bytes.now }
 {}
 
@@ -119,14 +119,6 @@ pub fn update_fits(update: &Update)
     }
 }
 
-fn write_reply_fits(reply: &Reply)
-    ensures { IsWriteAnswer reply.now → IsWriteReply reply.now }
-{
-    if let Reply::Wrote(stamp) = reply {
-        stamp_fits(*stamp);
-    }
-}
-
 fn row_fits(row: &Row)
     ensures { SuitsRow row.now → IsRow row.now }
 {
@@ -198,10 +190,6 @@ pub fn reply_fits(event: &Event, reply: &Option<Reply>)
     ensures { Answers event.now reply.now → IsTold event.now reply.now }
 {
     match (event, reply) {
-        (Event::Write { server, .. }, Some(reply)) => {
-            let _server = *server;
-            write_reply_fits(reply);
-        }
         (Event::Call { server, .. }, Some(reply)) => {
             let _server = *server;
             call_reply_fits(reply);

@@ -5,10 +5,9 @@ mod fitting;
 mod laws;
 mod printed;
 mod replica;
-mod shown;
 mod writing;
 
 pub use laws::what_is_written_is_spelled;
 pub use printed::{Printed, Word};
 pub use replica::{Contents, ShownReplica};
-pub use writing::{write, write_entry, write_head, write_quiet, write_replica, write_show};
+pub use writing::{write, write_entry, write_head, write_quiet, write_replica};

@@ -3,9 +3,8 @@
 ghost use Rattle.std.specs.Prelude.{◌≡◌, IfOk};
 
 use crate::replica::ShownReplica;
-use crate::shown::ShowWords;
-use pg_base::{FileId, Items, NodeId, SharedBytes, Stamp};
-use pg_call::{CallKind, ChangeKind, Reply};
+use pg_base::{FileId, NodeId};
+use pg_call::{CallKind, Reply};
 use pg_event::{MeterKind, Quiet, VoidCause};
 use pg_msg::{Summary, Update};
 use pg_sched::Line;
@@ -46,12 +45,6 @@ pub enum Printed {
         line: u64,
         what: Line,
     },
-    /// What the client of a write was told.
-    Write {
-        kind: ChangeKind,
-        server: NodeId,
-        reply: Reply,
-    },
     /// What the client of a call was told.
     Call {
         kind: CallKind,
@@ -76,15 +69,6 @@ pub enum Printed {
     Asked {
         word: Word,
         quiet: Quiet,
-    },
-    /// What a server shows of a file: the stamps of its heads in their order, how many bytes are shown, or the greatest
-    /// `u64` where they are more, and the first of them, at most 16.
-    Show {
-        server: NodeId,
-        file: FileId,
-        heads: Items<Stamp>,
-        length: u64,
-        first: SharedBytes,
     },
     /// A replica that a server holds.
     Replica(ShownReplica),
@@ -123,15 +107,6 @@ impl Printed {
                 line: *line,
                 what: copy_line(what)?,
             }),
-            Printed::Write {
-                kind,
-                server,
-                reply,
-            } => Ok(Printed::Write {
-                kind: *kind,
-                server: *server,
-                reply: reply.copy(alloc)?,
-            }),
             Printed::Call {
                 kind,
                 server,
@@ -155,19 +130,6 @@ impl Printed {
                 word: *word,
                 quiet: *quiet,
             }),
-            Printed::Show {
-                server,
-                file,
-                heads,
-                length,
-                first,
-            } => Ok(Printed::Show {
-                server: *server,
-                file: *file,
-                heads: heads.copy()?,
-                length: *length,
-                first: first.copy()?,
-            }),
             Printed::Replica(replica) => Ok(Printed::Replica(replica.copy()?)),
             Printed::Nowhere(id) => Ok(Printed::Nowhere(*id)),
             Printed::Meter { kind, value } => Ok(Printed::Meter {
@@ -187,11 +149,6 @@ impl fmt::Display for Printed {
     fn fmt<W: fmt::Write>(&self, f: &mut fmt::Formatter<W>) -> fmt::Result {
         match self {
             Printed::Event { line, what } => write!(f, "event {line} {what}"),
-            Printed::Write {
-                kind,
-                server,
-                reply,
-            } => write!(f, "{kind} {server} -> {reply}"),
             Printed::Call {
                 kind,
                 server,
@@ -202,22 +159,6 @@ impl fmt::Display for Printed {
             Printed::Made(update) => write!(f, "made {update}"),
             Printed::Sent(summary) => write!(f, "sent {summary}"),
             Printed::Asked { word, quiet } => write!(f, "{word} {quiet}"),
-            Printed::Show {
-                server,
-                file,
-                heads,
-                length,
-                first,
-            } => {
-                let words = ShowWords {
-                    server: *server,
-                    file: *file,
-                    heads: heads.as_slice(),
-                    length: *length,
-                    first: first.as_slice(),
-                };
-                write!(f, "{words}")
-            }
             Printed::Replica(replica) => write!(f, "{replica}"),
             Printed::Nowhere(id) => write!(f, "at - {id}"),
             Printed::Meter { kind, value } => write!(f, "meter {kind} {value}"),

@@ -1,12 +1,7 @@
 //! What is written of a run, and a whole journal.
 
-ghost use Rattle.std.specs.Prelude.{◌≡◌, ◌++◌, IfOk, OnOk, None, map};
+ghost use Rattle.std.specs.Prelude.{◌≡◌, ◌++◌, OnOk, map};
 ghost use Rattle.std.specs.List.{AllByRecursion, flat_map};
-ghost use Rattle.std.specs.Option.{option_copied};
-ghost use Rattle.pg_base.specs.declared.id.Kind.TheVariants.{File};
-ghost use Rattle.pg_base.specs.declared.policy.Policy.{Policy};
-ghost use Rattle.pg_base.specs.Version.{stamp_of};
-ghost use Rattle.pg_content.specs.Content.{or_empty};
 ghost use Rattle.pg_msg.specs.Sent.{summary};
 ghost use Rattle.pg_msg.specs.Text.{IsSummary};
 ghost use Rattle.pg_msg.specs.UpdateText.{IsUpdate};
@@ -14,24 +9,17 @@ ghost use Rattle.pg_sched.specs.Line.{IsLine};
 ghost use Rattle.pg_trace.specs.declared.printed.Printed.TheVariants as printed;
 ghost use Rattle.pg_trace.specs.Printed.{printed_text, journal_spelling, ArePrinted, IsPrinted};
 ghost use Rattle.pg_trace.specs.Suited.{Answers, IsSuited, SuitsKind, SuitsQuiet, SuitsReplica, SuitsUpdate};
-ghost use Rattle.pg_trace.specs.Text.{told_lines, tick_lines, done_lines, entry_lines, entry_text, head_lines, head_text, show_line, show_text, quiet_text};
+ghost use Rattle.pg_trace.specs.Text.{told_lines, tick_lines, done_lines, entry_lines, entry_text, head_lines, head_text, quiet_text};
 
-use crate::fitting::{
-    bytes_fit, id_fits, quiet_fits, replica_fits, reply_fits, stamps_fit, summary_fits, update_fits,
-};
+use crate::fitting::{quiet_fits, replica_fits, reply_fits, summary_fits, update_fits};
 use crate::printed::{Printed, Word};
 use crate::replica::ShownReplica;
-use crate::shown::ShowWords;
-use pg_base::{Bytes, FileId, NodeId, Stamp, Version};
+use pg_base::{Bytes, NodeId};
 use pg_call::Reply;
-use pg_content::Content;
 use pg_event::{Entry, Event, Quiet};
 use pg_msg::{Sent, Update};
 use pg_sched::{Form, Line};
-use std::alloc::{AllocError, Global};
-
-/// The most bytes that are shown of a file.
-const SHOWN: u32 = 16;
+use std::alloc::AllocError;
 
 fn write_line(line: &Printed, out: &mut Bytes) -> Result<(), AllocError>
     ensures { OnOk result (out.new ≡ out.old ++ printed_text line.now) }
@@ -90,10 +78,6 @@ fn write_told(
 {
     reply_fits(event, reply);
     match (event, reply) {
-        (Event::Write { server, change, .. }, Some(reply)) => {
-            let kind = change.kind();
-            write!(out, "{kind} {server} -> {reply}\n")
-        }
         (Event::Call { server, call, .. }, Some(reply)) => {
             let kind = call.kind();
             write!(out, "call {server} {kind} -> {reply}\n")
@@ -170,79 +154,6 @@ fn write_sent(sent: &[Sent], out: &mut Bytes) -> Result<(), AllocError>
         write_message(message, out)?;
     }
     Ok(())
-}
-
-/// Writes what a server shows of a file: the stamps of its heads, how many bytes are shown, and the first 16 of them. A
-/// server that has no content of the file yet shows what one with no head does.
-pub fn write_show(
-    server: NodeId,
-    file: &FileId,
-    content: Option<&Content>,
-    out: &mut Bytes,
-) -> Result<(), AllocError>
-    ensures text { OnOk result ((policy : Policy)
-        → out.new ≡ out.old ++ show_text server file.now
-        (or_empty policy (option_copied content.entry))) }
-    ensures spelled { OnOk result (file.now.kind ≡ File → (policy : Policy)
-        → IsPrinted (show_line server file.now
-        (or_empty policy (option_copied content.entry)))) }
-{
-    match content {
-        None => write_nothing(server, file, out),
-        Some(content) => write_content(server, file, content, out),
-    }
-}
-
-fn write_nothing(server: NodeId, file: &FileId, out: &mut Bytes) -> Result<(), AllocError>
-    ensures text { OnOk result ((policy : Policy)
-        → out.new ≡ out.old ++ show_text server file.now (or_empty policy None)) }
-    ensures spelled { file.now.kind ≡ File → (policy : Policy)
-        → IsPrinted (show_line server file.now (or_empty policy None)) }
-{
-    id_fits(*file);
-    let words = ShowWords {
-        server,
-        file: *file,
-        heads: &[],
-        length: 0,
-        first: &[],
-    };
-    write!(out, "{words}\n")
-}
-
-fn write_content(
-    server: NodeId,
-    file: &FileId,
-    content: &Content,
-    out: &mut Bytes,
-) -> Result<(), AllocError>
-    ensures text { OnOk result (out.new ≡ out.old ++ show_text server file.now content.now) }
-    ensures spelled { OnOk result (file.now.kind ≡ File
-        → IsPrinted (show_line server file.now content.now)) }
-{
-    let first = content.view(0, SHOWN)?.into_vec();
-    let heads = stamps_of(*first.allocator(), content.heads())?;
-    id_fits(*file);
-    bytes_fit(first.as_slice());
-    stamps_fit(heads.as_slice());
-    let words = ShowWords {
-        server,
-        file: *file,
-        heads: heads.as_slice(),
-        length: content.length(),
-        first: first.as_slice(),
-    };
-    write!(out, "{words}\n")
-}
-
-/// The stamps of some versions, in their order.
-fn stamps_of(alloc: Global, versions: &[Version]) -> Result<Vec<Stamp>, AllocError>
-    ensures { IfOk result (λ s. s.items ≡ map stamp_of versions.now) }
-{
-    versions
-        .iter()
-        .map(|version| version.head().stamp)
-        .collect(alloc)
 }
 
 /// Writes a replica that a server holds.

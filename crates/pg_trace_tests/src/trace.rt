@@ -5,16 +5,15 @@ ghost use Rattle.std.specs.Prelude.{◌<◌, ◌^◌, length};
 use pg_base::{
     Bytes, FileId, Head, Items, Kind as FileKind, Policy, SharedBytes, Stamp, Vector, Version,
 };
-use pg_call::{Call, CallKind, Change, Refusal, Reply};
-use pg_content::Content;
+use pg_call::{Call, CallKind, Payload, Refusal, Reply};
 use pg_entries::Cell;
 use pg_event::{Entry, Event, MeterKind, Quiet, VoidCause};
 use pg_msg::{Ends, MadeVersion, Message, Packet, Sent, Update};
-use pg_patch::{Part, Ranges, are_in_order};
+use pg_patch::{ALL, Part, Ranges, are_in_order};
 use pg_register::Place;
 use pg_sched::{Form, Line};
 use pg_trace::{
-    Contents, Printed, ShownReplica, Word, write, write_entry, write_head, write_quiet, write_show,
+    Contents, Printed, ShownReplica, Word, write, write_entry, write_head, write_quiet,
 };
 use std::alloc::{AllocError, Global};
 use std::test::Fail;
@@ -45,23 +44,26 @@ fn version(alloc: Global, stamp: Stamp, body: &[u8]) -> Result<Version, AllocErr
 }
 
 /// A write of one byte at server 1.
-fn put(alloc: Global) -> Result<Event, AllocError> {
+fn call_event(alloc: Global) -> Result<Event, Fail> {
     let bytes = SharedBytes::from_slice(alloc, b"a")?;
-    Ok(Event::Write {
+    Ok(Event::Call {
         server: 1,
         moment: 10,
-        file: FILE,
-        change: Change::Put(bytes),
+        call: Call::Write {
+            path: SharedBytes::from_slice(alloc, b"/a")?,
+            offset: 0,
+            bytes: Payload::new(bytes).ok_or("bytes")?,
+        },
     })
 }
 
-/// What a write of the whole body makes, at a server that had no head.
-fn put_update(alloc: Global) -> Result<Update, Fail> {
+/// What the write makes, at a server that had no head.
+fn made_version(alloc: Global) -> Result<Update, Fail> {
     Ok(Update::Version(MadeVersion {
         file: FILE,
         stamp: STAMP,
         bases: Items::new(alloc),
-        ranges: ranges(alloc, 0, 1, &[(0, b"a")])?,
+        ranges: ranges(alloc, ALL, 1, &[(0, b"a")])?,
     }))
 }
 
@@ -97,9 +99,9 @@ fn told(alloc: Global, event: Event, reply: Reply) -> Entry {
 }
 
 /// The entry of the write: one version, sent to server 2.
-fn put_entry(alloc: Global) -> Result<Entry, Fail> {
-    let mut entry = told(alloc, put(alloc)?, Reply::Wrote(STAMP));
-    entry.made.push(put_update(alloc)?)?;
+fn call_entry(alloc: Global) -> Result<Entry, Fail> {
+    let mut entry = told(alloc, call_event(alloc)?, Reply::Wrote(STAMP));
+    entry.made.push(made_version(alloc)?)?;
     let ends = Ends {
         file: FILE,
         sender: 1,
@@ -198,32 +200,32 @@ at 1 d1.2 gold filling place 0@0 d0.0 / live lists 3
 }
 
 /// What is written of the write, which stands on line 3.
-fn put_text(alloc: Global, form: Form) -> Result<Bytes, Fail> {
-    let line = Line::Happens(put(alloc)?);
-    let entry = put_entry(alloc)?;
+fn call_text(alloc: Global, form: Form) -> Result<Bytes, Fail> {
+    let line = Line::Happens(call_event(alloc)?);
+    let entry = call_entry(alloc)?;
     let mut out = Bytes::new(alloc);
     write_head(3, form, &line, &mut out)?;
     write_entry(3, form, &entry, &mut out)?;
     Ok(out)
 }
 
-const IN_FULL: &[u8] = b"event 3 put 1 10 f1.1 61
-put 1 -> wrote 10@1
-made version f1.1 10@1 from - keep 0 least 1 parts 0:61
+const IN_FULL: &[u8] = b"event 3 call 1 10 write /a 0 61
+call 1 write -> wrote 10@1
+made version f1.1 10@1 from - keep all least 1 parts 0:61
 sent 1 2 cell f1.1 version:10@1
 ";
 
-const IN_SHORT: &[u8] = b"put 1 -> wrote 10@1\n";
+const IN_SHORT: &[u8] = b"call 1 write -> wrote 10@1\n";
 
 #[test]
 fn a_write_is_told_in_full(rt: HostRuntime) -> Result<(), Fail> {
-    assert_eq!(rt; put_text(rt.alloc(), Form::Full)?.as_slice(), IN_FULL);
+    assert_eq!(rt; call_text(rt.alloc(), Form::Full)?.as_slice(), IN_FULL);
     Ok(())
 }
 
 #[test]
 fn a_write_is_told_in_short(rt: HostRuntime) -> Result<(), Fail> {
-    assert_eq!(rt; put_text(rt.alloc(), Form::Short)?.as_slice(), IN_SHORT);
+    assert_eq!(rt; call_text(rt.alloc(), Form::Short)?.as_slice(), IN_SHORT);
     Ok(())
 }
 
@@ -255,26 +257,6 @@ fn a_void_event_is_told_by_its_line(rt: HostRuntime) -> Result<(), Fail> {
     Ok(())
 }
 
-/// The kind of a write is that of its change.
-#[test]
-fn a_refused_patch_is_told_as_one(rt: HostRuntime) -> Result<(), Fail> {
-    let bytes = SharedBytes::from_slice(rt.alloc(), b"a")?;
-    let patch = Event::Write {
-        server: 3,
-        moment: 10,
-        file: FILE,
-        change: Change::Patch { offset: 9, bytes },
-    };
-    let entry = told(rt.alloc(), patch, Reply::Refused(Refusal::TooLong));
-    let mut out = Bytes::new(rt.alloc());
-    write_entry(4, Form::Short, &entry, &mut out)?;
-    assert_eq!(rt;
-        out.as_slice(),
-        b"patch 3 -> refused 12 TooLong\n".as_slice()
-    );
-    Ok(())
-}
-
 /// A call is told in both forms, by its kind.
 #[test]
 fn a_call_is_told_by_its_kind(rt: HostRuntime) -> Result<(), Fail> {
@@ -292,46 +274,9 @@ fn a_call_is_told_by_its_kind(rt: HostRuntime) -> Result<(), Fail> {
 }
 
 #[test]
-fn sixteen_bytes_are_shown(rt: HostRuntime) -> Result<(), Fail> {
-    let mut content = Content::new(rt.alloc(), Policy::Last);
-    let long = version(rt.alloc(), STAMP, b"abcdefghijklmnopqr")?;
-    assert!(rt; content.join_version(long)?);
+fn the_end_is_told(rt: HostRuntime) -> Result<(), Fail> {
     let mut out = Bytes::new(rt.alloc());
-    write_show(1, &FILE, Some(&content), &mut out)?;
-    write_show(2, &FILE, None, &mut out)?;
     write_quiet(Word::End, &Quiet::Quiet, &mut out)?;
-    let text = b"at 1 f1.1 heads 10@1 shown 18 6162636465666768696a6b6c6d6e6f70
-at 2 f1.1 heads - shown 0 -
-end quiet
-";
-    assert_eq!(rt; out.as_slice(), text.as_slice());
-    Ok(())
-}
-
-/// Two versions side by side: all heads are told, and what the policy shows of them.
-#[test]
-fn heads_are_told_in_their_order(rt: HostRuntime) -> Result<(), Fail> {
-    let rows = [
-        (
-            Policy::Last,
-            b"at 1 f1.1 heads 10@1,10@2 shown 2 6262\n".as_slice(),
-        ),
-        (
-            Policy::Join,
-            b"at 1 f1.1 heads 10@1,10@2 shown 3 616262\n".as_slice(),
-        ),
-    ];
-    let other = Stamp {
-        time: 10,
-        server: 2,
-    };
-    for (policy, text) in rows {
-        let mut content = Content::new(rt.alloc(), policy);
-        assert!(rt; content.join_version(version(rt.alloc(), other, b"bb")?)?);
-        assert!(rt; content.join_version(version(rt.alloc(), STAMP, b"a")?)?);
-        let mut out = Bytes::new(rt.alloc());
-        write_show(1, &FILE, Some(&content), &mut out)?;
-        assert_eq!(rt; out.as_slice(), text);
-    }
+    assert_eq!(rt; out.as_slice(), b"end quiet\n".as_slice());
     Ok(())
 }

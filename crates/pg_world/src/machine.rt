@@ -8,8 +8,8 @@ ghost use Rattle.pg_run.specs.Quiet.{quiet_of, owed_by, has_some};
 ghost use Rattle.pg_world.specs.Stands.{Stands, EachStandsBehind, BagBehind, IsEntryBy, StandsBehind, IsEntryOf};
 
 use pg_bag::Bag;
-use pg_base::{FileId, Items, NodeId};
-use pg_call::{Call, Change};
+use pg_base::{Items, NodeId};
+use pg_call::Call;
 use pg_calls::is_built;
 use pg_event::{Cause, Entry, Event, Owing, Quiet, VoidCause};
 use pg_msg::Sent;
@@ -121,21 +121,6 @@ impl Machine {
             made,
             sent,
         })
-    }
-
-    /// A change of a file by its id: nothing is done of it.
-    fn write(&mut self, server: NodeId, moment: u64, file: FileId, change: Change) -> Entry
-        ensures state { StandsBehind self.old self.new (Event.Write server moment file change) }
-        ensures entry { IsEntryOf self.old (Event.Write server moment file change) result }
-        ensures count { length self.new.servers.items ≡ length self.old.servers.items }
-    {
-        let event = Event::Write {
-            server,
-            moment,
-            file,
-            change,
-        };
-        self.idle_entry(event, Some(VoidCause::Unbuilt))
     }
 
     /// A client calls a server. What is not built is void, whichever server is called.
@@ -256,12 +241,6 @@ impl Machine {
         ensures count { OnOk result (length self.new.servers.items ≡ length self.old.servers.items) }
     {
         match event {
-            Event::Write {
-                server,
-                moment,
-                file,
-                change,
-            } => Ok(self.write(server, moment, file, change)),
             Event::Call {
                 server,
                 moment,

@@ -29,9 +29,10 @@ use Rattle.pg_calls.specs.Checks.{dir_at, empty_dir_at, file_at, in_time, move_o
 use Rattle.pg_calls.specs.Looks.{counts, fresh, listing, ls, page, stat, stat_of, status, stop}
 use Rattle.pg_calls.specs.Making.{drawn, first_ranges, make_flag, make_place, make_version, version_of}
 use Rattle.pg_calls.specs.Naming.{create, dead_place, mkdir, next_id, place_in, rename, rmdir, taken_away, unlink, with_first_version, with_id, with_thing}
+use Rattle.pg_calls.proofs.Checked.{fit_found}
 use Rattle.pg_trace.specs.Suited.{IsCallAnswer, SuitsUpdate}
 use Rattle.pg_trace.proofs.Lines.{few_taken}
-use Rattle.pg_written.proofs.Found.{file_found, fit_is, moved_name, named}
+use Rattle.pg_written.proofs.Found.{file_found, moved_name, named}
 use Rattle.pg_written.proofs.Places.{IsOwnPlace, blank_suits, own_place, suits_place}
 use Rattle.pg_written.proofs.Rows.{page_suits}
 use Rattle.pg_written.proofs.Stores.{DoneSuits, flag_suits, news_suits, place_suits}
@@ -92,7 +93,7 @@ made_version f stamp ranges done k h = record {
 
 -- what fits is the same file
 fit_kind : (s : Store) (ranges : RangesValue) (f fit : FileId) → f.kind ≡ File → when_fit s ranges f ≡ Ok fit → fit.kind ≡ File
-fit_kind s ranges f fit k e = subst (λ (g : FileId). g.kind ≡ File) (fit_is s ranges f fit e) k
+fit_kind s ranges f fit k e = subst (λ (g : FileId). g.kind ≡ File) (fit_found s ranges f fit e) k
 
 few_bytes : (count : ℕ) → count ≤ 32768 → (bytes : List ℕ) → length (take count bytes) ≤ 32768
 few_bytes count few bytes = let h = few_taken count bytes in omega (arith, few, h)

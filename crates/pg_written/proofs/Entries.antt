@@ -9,7 +9,7 @@ use Rattle.pg_call.specs.declared.reply.Reply.TheVariants as reply
 use Rattle.pg_event.specs.declared.entry.VoidCause.{VoidCause}
 use Rattle.pg_event.specs.declared.entry.VoidCause.TheVariants.{NoServer, Unbuilt}
 use Rattle.pg_event.specs.declared.event.Event.{Event}
-use Rattle.pg_event.specs.declared.event.Event.TheVariants.{Write, Call as Called, Tick, Deliver, Lose, Repeat, Restart, Remove}
+use Rattle.pg_event.specs.declared.event.Event.TheVariants.{Call as Called, Tick, Deliver, Lose, Repeat, Restart, Remove}
 use Rattle.pg_event.specs.Event.{IsEvent}
 use Rattle.pg_msg.specs.declared.message.Packet.{Packet}
 use Rattle.pg_msg.specs.declared.message.Sent.{Sent}
@@ -183,8 +183,6 @@ unbuilt_suits : (w : World) (e : Event) → Answers e None → RunSuits w → Al
 unbuilt_suits w e told h left = idle_suits w e (Some Unbuilt) told h left
 
 pub step_suits : (n : ℕ) (w : World) (e : Event) → RunSuits w → StepSuits e w (next n w e)
-step_suits n w (Write server moment file what) h =
-    unbuilt_suits w (Write server moment file what) tt h (more_sent (bag w.journal) [] h.sent (All-nil Suits))
 step_suits n w (Called server moment c) h =
     let e = Called server moment c in
     let more : (ms : List Sent) → AllSuit ms → AllSuit (bag w.journal ++ ms) = (λ ms p. more_sent (bag w.journal) ms h.sent p) in

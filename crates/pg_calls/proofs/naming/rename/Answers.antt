@@ -1,5 +1,6 @@
 use Rattle.std.proofs.Common.{◌<◌, ◌^◌, arith}
-use Rattle.pg_calls.proofs.InTime.{last_in_time, move_in_time}
+use Rattle.pg_store.proofs.InTime.{last_in_time}
+use Rattle.pg_calls.proofs.InTime.{move_in_time}
 use Rattle.pg_calls.proofs.naming.rename.Goals as goal
 
 pub move_thing-requires : goal.move_thing-requires

@@ -1,4 +1,4 @@
-use Rattle.pg_trace.proofs.Lines.{in_front, shown, written}
+use Rattle.pg_trace.proofs.Lines.{in_front, written}
 use Rattle.pg_trace.proofs.laws.what_is_written_is_spelled.Goals as goal
 
 pub returns-clause-head : goal.returns-clause-head
@@ -6,6 +6,3 @@ returns-clause-head c = in_front
 
 pub returns-clause-entry : goal.returns-clause-entry
 returns-clause-entry c = λ line form entry fits h. written line form entry.void entry fits h
-
-pub returns-clause-show : goal.returns-clause-show
-returns-clause-show c = shown

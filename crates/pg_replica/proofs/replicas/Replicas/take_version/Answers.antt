@@ -100,7 +100,7 @@ invariant_of-self-in-News c =
           (in_order-come c.self.inside.by_file _ c.insert.new.self c.args.file c.take_listed-in-None.new.replica c.get_mut.follows.holds-at-none c.in_ok-insert-in-News.ensures.updates);
       ended =
           index_come (in_order c.self.inside.by_file.entries) c.self.invariant.ended c.take_listed-in-None.ensures.ended file_cmp refl _
-          (new_none _ c.args.home.server c.args.home.servers c.args.file c.in_ok-replica-in-None.ensures)
+          (new_none _ c.args.home.server c.args.home.servers c.in_ok-replica-in-None.ensures)
           (in_order-come c.self.inside.by_file _ c.insert.new.self c.args.file c.take_listed-in-None.new.replica c.get_mut.follows.holds-at-none c.in_ok-insert-in-News.ensures.updates);
     }
 

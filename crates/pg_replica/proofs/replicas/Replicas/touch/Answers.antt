@@ -77,7 +77,7 @@ pub invariant_of-self-in-None : goal.invariant_of-self-in-None
 invariant_of-self-in-None c =
     let come = in_order-come c.self.inside.by_file _ c.insert.new.self c.args.file c.touch_listed-in-None.new.replica c.get_mut.follows.holds-at-none c.in_ok-insert-in-None.ensures.updates in
     let clean = ap (λ (y : Replica). are_clean y.edges) c.in_ok-replica-in-None.ensures ∙ clean_new c.args.home.server c.args.home.servers in
-    let none = new_none _ c.args.home.server c.args.home.servers c.args.file c.in_ok-replica-in-None.ensures in
+    let none = new_none _ c.args.home.server c.args.home.servers c.in_ok-replica-in-None.ensures in
     record {
       unacknowledged = index_come (in_order c.self.inside.by_file.entries) c.self.invariant.unacknowledged c.touch_listed-in-None.ensures.listed file_cmp refl _ clean come;
       ended = index_come (in_order c.self.inside.by_file.entries) c.self.invariant.ended c.touch_listed-in-None.ensures.ended file_cmp refl _ none come;

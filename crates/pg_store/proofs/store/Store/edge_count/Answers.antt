@@ -9,4 +9,4 @@ use Rattle.pg_store.proofs.store.Store.edge_count.Goals as goal
 pub returns-in-None : goal.returns-in-None
 returns-in-None c =
     c.first_edge_count.ensures ∙ ap (λ (h : Home). length (clean_edges h.server h.servers)) c.home.ensures
-    ∙ ap (λ (o : Option Replica). length (or_new (home_of c.args.self.now) c.args.file.now o).edges) c.in-None.ensures
+    ∙ ap (λ (o : Option Replica). length (or_new (home_of c.args.self.now) o).edges) c.in-None.ensures

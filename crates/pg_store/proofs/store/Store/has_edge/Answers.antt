@@ -10,8 +10,7 @@ use Rattle.pg_store.proofs.store.Store.has_edge.Goals as goal
 
 pub returns-in-None : goal.returns-in-None
 returns-in-None c =
-    let file = c.args.file.now in
     let link = c.args.link.now in
     c.is_first_link.ensures ∙ ap (λ (h : Home). is_first_link h link) c.home.ensures
-    ∙ first_link (home_of c.args.self.now) file link
-    ∙ ap (λ (o : Option Replica). has_edge (or_new (home_of c.args.self.now) file o) link) c.in-None.ensures
+    ∙ first_link (home_of c.args.self.now) link
+    ∙ ap (λ (o : Option Replica). has_edge (or_new (home_of c.args.self.now) o) link) c.in-None.ensures
