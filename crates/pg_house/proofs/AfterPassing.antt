@@ -68,9 +68,18 @@ module _ (st : State) (ds : List FileId) (f : FileId) (own top : Own) (back : Bo
         | inr old ↦ dirs.cells q f c old
       ]
 
+-- a directory that is held was held
+module _ (st : State) (ds : List FileId) (f : FileId) (own top : Own) (back : Bool) (held : own_at st.names f ≡ Some own) where
+  held_back_by : (q : FileId) (b : Own) (t : Bool) → is_same_file f q ≡ t → own_at (After st ds f own top back) q ≡ Some b → (c : Own) × (own_at st.names q ≡ Some c)
+  held_back_by q b true same h = (own, ap (own_at st.names) (sym (is_same_file-true f q same)) ∙ held)
+  held_back_by q b false apart h = (b, sym (after_other st ds f own top back q apart) ∙ h)
+
+  pub was_held : (q : FileId) (b : Own) → own_at (After st ds f own top back) q ≡ Some b → (c : Own) × (own_at st.names q ≡ Some c)
+  was_held q b h = held_back_by q b (is_same_file f q) refl h
+
 -- what the thing took, raised by the greatest, is the greatest
 raised_up : (f : FileId) (own top : Own) (t : Bool) → IsByServer top.flags → ((t ≡ true) → is_before own.place.stamp top.place.stamp ≡ true) → joined (own_taken own top t) (cell_for f top) ≡ top
-raised_up f own top false sorted up = joined_same f top sorted
+raised_up f own top false sorted up = joined_same f top (join_same top.flags sorted)
 raised_up f own top true sorted up = own_of_parts (newer_place own.place top.place) top.place (join_flags top.flags top.flags) top.flags (chosen_true (is_before own.place.stamp top.place.stamp) top.place own.place (up refl)) (join_same top.flags sorted)
 
 -- what holding back says
@@ -101,28 +110,20 @@ module _ (st : State) (ds : List FileId) (f : FileId) (own : Own) (dirs : AreDir
 
   -- the greatest is still the greatest
   still_top : (t : Bool) → Back t → greatest (Then t) f (own_taken own Top t) ds ≡ Top
-  still_top false b = greatest_same (Then false) f Top ds top_sorted (after_all st ds f own Top false dirs)
+  still_top false b = greatest_same (Then false) f Top ds (join_same Top.flags top_sorted) (after_all st ds f own Top false dirs)
   still_top true b =
       let parts = back_parts st.names.removed f own Top b in
       elim (greatest_cases st.names f own ds) [
         | inl same ↦ absurd (false≢true (sym (before_itself own.place.stamp) ∙ subst (λ (c : Own). is_before own.place.stamp c.place.stamp ≡ true) same parts.before))
         | inr some ↦
             let b = cell_held st.names some.0 f some.1 some.3 in
-            greatest_meets (Then true) f some.0 (own_taken own Top true) Top ds top_sorted (after_all st ds f own Top true dirs) (raised_up f own Top true top_sorted (λ t. parts.before))
+            greatest_meets (Then true) f some.0 (own_taken own Top true) Top ds (join_same Top.flags top_sorted) (after_all st ds f own Top true dirs) (raised_up f own Top true top_sorted (λ t. parts.before))
             (after_gives st ds f own Top true some.0 b.0 b.1 some.2 (or_left (is_cell (cell_at st.names some.0 f)) _ (ap is_cell some.3))) some.2
       ]
 
-  -- a directory that was held is held, and the other way round
-  held_back_by : (t : Bool) (q : FileId) (b : Own) (s : Bool) → is_same_file f q ≡ s → own_at (Then t) q ≡ Some b → (c : Own) × (own_at st.names q ≡ Some c)
-  held_back_by t q b true same h = (own, ap (own_at st.names) (sym (is_same_file-true f q same)) ∙ held)
-  held_back_by t q b false apart h = (b, sym (after_other st ds f own Top t q apart) ∙ h)
-
-  pub was_held : (t : Bool) (q : FileId) (b : Own) → own_at (Then t) q ≡ Some b → (c : Own) × (own_at st.names q ≡ Some c)
-  was_held t q b h = held_back_by t q b (is_same_file f q) refl h
-
   gets : (t : Bool) (q : FileId) (b : Own) → own_at (Then t) q ≡ Some b → is_dir q ≡ true → wants st.names f own Top t q ≡ true → is_cell (cell_at (Then t) q f) ≡ true
   gets t q b h d w =
-      let was = was_held t q b h in
+      let was = was_held st ds f own Top t held q b h in
       ap is_cell (after_gives st ds f own Top t q was.0 was.1 (dirs.held q was.0 was.1 d) w)
 
   abbrev HasParent : Bool → Own → Type 0

@@ -37,7 +37,7 @@ hold_by : (s : NamesValue) (f : FileId) (o : Option HeldValue) (b : Own) → own
 hold_by s f None b h = absurd (none-some b h)
 hold_by s f (Some x) b h = refl
 
-parent_idle : (s : NamesValue) (ds : List FileId) (f : FileId) (o : Option Own) → own_at s f ≡ o → ((own : Own) → own_at s f ≡ Some own → IsHeld s (takes s ds f own).place.parent) → parent_held s ds f o ≡ s
+pub parent_idle : (s : NamesValue) (ds : List FileId) (f : FileId) (o : Option Own) → own_at s f ≡ o → ((own : Own) → own_at s f ≡ Some own → IsHeld s (takes s ds f own).place.parent) → parent_held s ds f o ≡ s
 parent_idle s ds f None h all = refl
 parent_idle s ds f (Some own) h all = let held = all own h in hold_by s (takes s ds f own).place.parent (known s (takes s ds f own).place.parent) held.0 held.1
 

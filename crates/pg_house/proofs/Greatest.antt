@@ -15,7 +15,7 @@ use Rattle.pg_register.specs.Flag.{IsByServer, flag_of, join_flags}
 use Rattle.pg_register.specs.Place.{newer_place}
 use Rattle.pg_register.proofs.ByServer.{IsByServer-join_flags}
 use Rattle.pg_house.specs.Passing.{cell_for, greatest, is_cell, joined, joined_with}
-use Rattle.pg_house.proofs.Flags.{flags_stay, join_same}
+use Rattle.pg_house.proofs.Flags.{flags_stay}
 use Rattle.pg_house.proofs.Truths.{chosen, or_cases, or_left, or_right}
 use Rattle.pg_house.specs.Facts.{is_among}
 
@@ -49,30 +49,34 @@ greatest_cases s f top (d ∷ ds) = step s f d ds top (cell_at s d f) refl (grea
 abbrev pub AllAre : NamesValue → FileId → Own → Type 0
 AllAre s f top = (d : FileId) (c : Entry) → cell_at s d f ≡ Some c → c ≡ cell_for f top
 
+-- flags that are joined with themselves stay
+abbrev pub StaysItself : Own → Type 0
+StaysItself top = join_flags top.flags top.flags ≡ top.flags
+
 -- what is known, joined with a cell of it
-pub joined_same : (f : FileId) (top : Own) → IsByServer top.flags → joined top (cell_for f top) ≡ top
-joined_same f top sorted =
+pub joined_same : (f : FileId) (top : Own) → StaysItself top → joined top (cell_for f top) ≡ top
+joined_same f top still =
     own_of_parts (newer_place top.place top.place) top.place (join_flags top.flags top.flags) top.flags
-    (chosen (λ p. p ≡ top.place) (is_before top.place.stamp top.place.stamp) top.place top.place refl refl) (join_same top.flags sorted)
+    (chosen (λ p. p ≡ top.place) (is_before top.place.stamp top.place.stamp) top.place top.place refl refl) still
 
-joined_all : (s : NamesValue) (f d : FileId) (top : Own) (o : Option Entry) → IsByServer top.flags → cell_at s d f ≡ o → AllAre s f top → joined_with top o ≡ top
-joined_all s f d top None sorted h all = refl
-joined_all s f d top (Some c) sorted h all = ap (joined top) (all d c h) ∙ joined_same f top sorted
+joined_all : (s : NamesValue) (f d : FileId) (top : Own) (o : Option Entry) → StaysItself top → cell_at s d f ≡ o → AllAre s f top → joined_with top o ≡ top
+joined_all s f d top None still h all = refl
+joined_all s f d top (Some c) still h all = ap (joined top) (all d c h) ∙ joined_same f top still
 
-pub greatest_same : (s : NamesValue) (f : FileId) (top : Own) (ds : List FileId) → IsByServer top.flags → AllAre s f top → greatest s f top ds ≡ top
-greatest_same s f top [] sorted all = refl
-greatest_same s f top (d ∷ ds) sorted all = ap (λ t. greatest s f t ds) (joined_all s f d top (cell_at s d f) sorted refl all) ∙ greatest_same s f top ds sorted all
+pub greatest_same : (s : NamesValue) (f : FileId) (top : Own) (ds : List FileId) → StaysItself top → AllAre s f top → greatest s f top ds ≡ top
+greatest_same s f top [] still all = refl
+greatest_same s f top (d ∷ ds) still all = ap (λ t. greatest s f t ds) (joined_all s f d top (cell_at s d f) still refl all) ∙ greatest_same s f top ds still all
 
 -- and so from a lesser one, where one of the directories has a cell
-met : (s : NamesValue) (f d q : FileId) (own top : Own) (ds : List FileId) (o : Option Entry) → IsByServer top.flags → cell_at s d f ≡ o → AllAre s f top → joined own (cell_for f top) ≡ top → cell_at s q f ≡ Some (cell_for f top) → ((is_same_file d q ≡ true) ⊎ (is_among q ds ≡ true)) → ((is_among q ds ≡ true) → greatest s f own ds ≡ top) → greatest s f (joined_with own o) ds ≡ top
-met s f d q own top ds (Some c) sorted h all up there which rest = ap (λ t. greatest s f t ds) (ap (joined own) (all d c h) ∙ up) ∙ greatest_same s f top ds sorted all
-met s f d q own top ds None sorted h all up there (inr later) rest = rest later
-met s f d q own top ds None sorted h all up there (inl same) rest = absurd (none-some (cell_for f top) (sym h ∙ ap (λ k. cell_at s k f) (is_same_file-true d q same) ∙ there))
+met : (s : NamesValue) (f d q : FileId) (own top : Own) (ds : List FileId) (o : Option Entry) → StaysItself top → cell_at s d f ≡ o → AllAre s f top → joined own (cell_for f top) ≡ top → cell_at s q f ≡ Some (cell_for f top) → ((is_same_file d q ≡ true) ⊎ (is_among q ds ≡ true)) → ((is_among q ds ≡ true) → greatest s f own ds ≡ top) → greatest s f (joined_with own o) ds ≡ top
+met s f d q own top ds (Some c) still h all up there which rest = ap (λ t. greatest s f t ds) (ap (joined own) (all d c h) ∙ up) ∙ greatest_same s f top ds still all
+met s f d q own top ds None still h all up there (inr later) rest = rest later
+met s f d q own top ds None still h all up there (inl same) rest = absurd (none-some (cell_for f top) (sym h ∙ ap (λ k. cell_at s k f) (is_same_file-true d q same) ∙ there))
 
-pub greatest_meets : (s : NamesValue) (f q : FileId) (own top : Own) (ds : List FileId) → IsByServer top.flags → AllAre s f top → joined own (cell_for f top) ≡ top → cell_at s q f ≡ Some (cell_for f top) → is_among q ds ≡ true → greatest s f own ds ≡ top
-greatest_meets s f q own top [] sorted all up there among = absurd (false≢true among)
-greatest_meets s f q own top (d ∷ ds) sorted all up there among =
-    met s f d q own top ds (cell_at s d f) sorted refl all up there (or_cases (is_same_file d q) (is_among q ds) among) (λ later. greatest_meets s f q own top ds sorted all up there later)
+pub greatest_meets : (s : NamesValue) (f q : FileId) (own top : Own) (ds : List FileId) → StaysItself top → AllAre s f top → joined own (cell_for f top) ≡ top → cell_at s q f ≡ Some (cell_for f top) → is_among q ds ≡ true → greatest s f own ds ≡ top
+greatest_meets s f q own top [] still all up there among = absurd (false≢true among)
+greatest_meets s f q own top (d ∷ ds) still all up there among =
+    met s f d q own top ds (cell_at s d f) still refl all up there (or_cases (is_same_file d q) (is_among q ds) among) (λ later. greatest_meets s f q own top ds still all up there later)
 
 -- its flags are by server
 with_sorted : (top : Own) (o : Option Entry) → IsByServer top.flags → IsByServer (joined_with top o).flags

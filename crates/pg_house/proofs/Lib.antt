@@ -30,4 +30,6 @@ pub mod Kept
 pub mod Started
 pub mod Children
 pub mod Made
+pub mod Marking
+pub mod Leaving
 mod HeldBack

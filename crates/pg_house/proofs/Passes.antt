@@ -15,6 +15,25 @@ use Rattle.pg_house.proofs.Truths.{or_cases}
 use Rattle.pg_house.proofs.AfterPassing.{AreDirs, after_own, after_other, after_child, after_frame, after_among, is_passed, own_parent, still_sorted, was_held}
 use Rattle.pg_house.proofs.Touches.{IsHeld, Touches, Touches-refl, passed_of}
 
+-- one pass changes what is known of the thing alone
+module _ (st : State) (ds : List FileId) (f : FileId) where
+  own_touches : (own top : Own) (back : Bool) → own_at st.names f ≡ Some own → Touches f st.names (passed st ds f own top back).names
+  own_touches own top back held = record {
+    own = λ q a. after_other st ds f own top back q a;
+    cells = λ q g a. after_child st ds f own top back q g (apart_back f g a);
+    was = λ q h. was_held st ds f own top back held q h.0 h.1;
+    removed = (after_frame st ds f own top back).removed;
+    server = (after_frame st ds f own top back).server;
+    keys = (after_frame st ds f own top back).keys;
+  }
+
+  touches_by : (o : Option Own) → own_at st.names f ≡ o → Touches f st.names (pass_own st ds f o).names
+  touches_by None h = Touches-refl f st.names
+  touches_by (Some own) h = let top = greatest st.names f own ds in own_touches own top (is_held_back st.names.removed f own top) h
+
+  pub pass_touches : Touches f st.names (pass st ds f).names
+  pass_touches = touches_by (own_at st.names f) refl
+
 -- what one pass gives: a state, and what holds of it
 pub record Pass (ds : List FileId) (f : FileId) (s t : NamesValue) : Type 0 where
   pub touches : Touches f s t
@@ -33,20 +52,10 @@ module _ (st : State) (ds : List FileId) (f : FileId) (dirs : AreDirs st.names d
     abbrev Then : Bool → NamesValue
     Then t = (passed st ds f own Top t).names
 
-    touches : (t : Bool) → Touches f st.names (Then t)
-    touches t = record {
-      own = λ q a. after_other st ds f own Top t q a;
-      cells = λ q g a. after_child st ds f own Top t q g (apart_back f g a);
-      was = λ q h. was_held st ds f own dirs held t q h.0 h.1;
-      removed = (after_frame st ds f own Top t).removed;
-      server = (after_frame st ds f own Top t).server;
-      keys = (after_frame st ds f own Top t).keys;
-    }
-
     are_dirs : (t : Bool) → AreDirs (Then t) ds
     are_dirs t = record {
       cells = λ q g c h. after_among st ds f own Top t dirs q g c (is_same_file g f) refl h;
-      held = λ q b h d. let was = was_held st ds f own dirs held t q b h in dirs.held q was.0 was.1 d;
+      held = λ q b h d. let was = was_held st ds f own Top t held q b h in dirs.held q was.0 was.1 d;
       sorted = still_sorted st ds f own dirs held t;
     }
 
@@ -56,7 +65,7 @@ module _ (st : State) (ds : List FileId) (f : FileId) (dirs : AreDirs st.names d
         subst (λ x. (IsPassed (Then t) ds f x) × (HasOwnParent (Then t) f x)) same (is_passed st ds f own dirs held t b, own_parent st ds f own dirs held t b)
 
     some_passed : (t : Bool) → is_held_back st.names.removed f own Top ≡ t → Pass ds f st.names (Then t)
-    some_passed t b = record { touches = touches t; last = (after_frame st ds f own Top t).last; dirs = are_dirs t; passed = has_passed t b }
+    some_passed t b = record { touches = own_touches st ds f own Top t held; last = (after_frame st ds f own Top t).last; dirs = are_dirs t; passed = has_passed t b }
 
   by_own : (o : Option Own) → own_at st.names f ≡ o → Pass ds f st.names (pass_own st ds f o).names
   by_own None h = none_passed h

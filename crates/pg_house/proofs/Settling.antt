@@ -29,7 +29,7 @@ use Rattle.pg_house.proofs.Repeating.{none_moves, none_returns, repeated_still}
 use Rattle.pg_house.proofs.Idle.{AreHeld, pass_idle}
 use Rattle.pg_house.proofs.Ordered.{rules_ordered}
 use Rattle.pg_house.proofs.Skipping.{pass_some}
-use Rattle.pg_house.proofs.Ends.{first_dirs, no_dead_directory_lists, none_moves_at, own_parent, passing, same_dirs}
+use Rattle.pg_house.proofs.Ends.{no_dead_directory_lists, none_moves_at, own_parent, passing, same_dirs}
 
 -- ---- what is among the keys is held
 
@@ -128,9 +128,9 @@ module _ (moment : ℕ) (st : State) (of_dirs : IsOfDirs st.names) (sorted : Are
 
 -- ---- and only the files that have not passed need to
 
-pub changed_pass : (moment : ℕ) (st : State) (changed : List FileId) → IsOfDirs st.names → AreByServer st.names → ((f : FileId) → is_among f changed ≡ false → HasPassed st.names (directories st.names) f)
+pub changed_pass : (moment : ℕ) (st : State) (changed : List FileId) → ((f : FileId) → is_among f changed ≡ false → HasPassed st.names (directories st.names) f)
     → house_with moment (directories st.names) (filter (λ f. is_among f changed) (movable st.names)) st ≡ rules moment st
-changed_pass moment st changed of_dirs sorted done =
+changed_pass moment st changed done =
     let ds = directories st.names in
     ap (λ (s : State). repeated (length ds) (break_first moment ds) (repeated (length ds) (return_first moment ds) s))
-    (pass_some (λ f. is_among f changed) st ds (movable st.names) (first_dirs moment st of_dirs sorted) (dirs_held st.names) done)
+    (pass_some (λ f. is_among f changed) st ds (movable st.names) (dirs_held st.names) done)

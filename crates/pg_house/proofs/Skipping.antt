@@ -1,5 +1,5 @@
 -- Only the things that have not passed need to pass.
-use Rattle.std.proofs.Common.{◌≡◌, Bool, true, false, cond, List, [], ◌∷◌, Option, None, Some, refl, sym, ap, ◌∙◌, inl, inr}
+use Rattle.std.proofs.Common.{◌≡◌, Bool, true, false, cond, List, [], ◌∷◌, Option, None, Some, refl, sym, ap, ◌∙◌, subst, inl, inr}
 use Rattle.std.specs.List.{filter}
 use Rattle.pg_base.specs.declared.id.FileId.{FileId}
 use Rattle.pg_base.specs.Id.{is_same_file}
@@ -10,9 +10,9 @@ use Rattle.pg_house.specs.Work.{State}
 use Rattle.pg_house.specs.Passing.{greatest, is_held_back, own_taken, pass, pass_own, pass_all, passed}
 use Rattle.pg_house.specs.Facts.{HasPassed}
 use Rattle.pg_house.proofs.Truths.{bool_cases}
-use Rattle.pg_house.proofs.AfterPassing.{AreDirs, after_own, after_other}
-use Rattle.pg_house.proofs.Touches.{IsHeld, passed_of}
-use Rattle.pg_house.proofs.Passes.{one_pass}
+use Rattle.pg_house.proofs.AfterPassing.{after_own, after_other}
+use Rattle.pg_house.proofs.Touches.{IsHeld, kept_by}
+use Rattle.pg_house.proofs.Passes.{pass_touches}
 use Rattle.pg_house.proofs.Idle.{AreHeld, pass_idle}
 
 -- ---- what is held stays held
@@ -37,9 +37,18 @@ left_out : (p : FileId → Bool) (st : State) (ds fs : List FileId) (f : FileId)
 left_out p st ds fs f true h idle rest = rest
 left_out p st ds fs f false h idle rest = ap (λ (s : State). pass_all s ds (filter p fs)) (sym (idle refl)) ∙ rest
 
-pub pass_some : (p : FileId → Bool) (st : State) (ds fs : List FileId) → AreDirs st.names ds → AreHeld st.names ds → ((g : FileId) → p g ≡ false → HasPassed st.names ds g) → pass_all st ds (filter p fs) ≡ pass_all st ds fs
-pass_some p st ds [] dirs held done = refl
-pass_some p st ds (f ∷ fs) dirs held done =
-    let one = one_pass st ds f dirs in
+-- another pass leaves what has passed
+still_passed : (p : FileId → Bool) (st : State) (ds : List FileId) (f : FileId) → AreHeld st.names ds → ((g : FileId) → p g ≡ false → HasPassed st.names ds g) → (g : FileId) → p g ≡ false → HasPassed (pass st ds f).names ds g
+still_passed p st ds f held done g h =
+    elim (bool_cases (is_same_file f g)) [
+      | inl same ↦
+          let idle : pass st ds f ≡ st = pass_idle st ds f held (done f (ap p (is_same_file-true f g same) ∙ h)) in
+          subst (λ (u : State). HasPassed u.names ds g) (sym idle) (done g h)
+      | inr apart ↦ kept_by f st.names (pass st ds f).names (pass_touches st ds f) ds g apart (done g h)
+    ]
+
+pub pass_some : (p : FileId → Bool) (st : State) (ds fs : List FileId) → AreHeld st.names ds → ((g : FileId) → p g ≡ false → HasPassed st.names ds g) → pass_all st ds (filter p fs) ≡ pass_all st ds fs
+pass_some p st ds [] held done = refl
+pass_some p st ds (f ∷ fs) held done =
     left_out p st ds fs f (p f) refl (λ h. pass_idle st ds f held (done f h))
-    (pass_some p (pass st ds f) ds fs one.dirs (pass_held st ds f held) (λ g h. passed_of f st.names (pass st ds f).names one.touches ds one.passed g (inr (done g h))))
+    (pass_some p (pass st ds f) ds fs (pass_held st ds f held) (still_passed p st ds f held done))

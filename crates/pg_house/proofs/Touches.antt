@@ -59,7 +59,7 @@ module _ (f : FileId) (s t : NamesValue) (m : Touches f s t) (g : FileId) (apart
 
 -- ---- all files
 
-kept_by : (f : FileId) (s t : NamesValue) → Touches f s t → (ds : List FileId) (g : FileId) (apart : is_same_file f g ≡ false) → HasPassed s ds g → HasPassed t ds g
+pub kept_by : (f : FileId) (s t : NamesValue) → Touches f s t → (ds : List FileId) (g : FileId) (apart : is_same_file f g ≡ false) → HasPassed s ds g → HasPassed t ds g
 kept_by f s t m ds g apart k own h =
     let old = k own (sym (m.own g apart) ∙ h) in
     (kept_passed f s t m g apart ds own old.0, kept_own_parent f s t m g apart own old.1)

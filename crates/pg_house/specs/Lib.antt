@@ -5,5 +5,6 @@ pub mod Placing
 pub mod Returning
 pub mod Cycles
 pub mod House
+pub mod Busy
 pub mod Facts
 pub mod Holding

@@ -68,8 +68,7 @@ pub fn none_applies()
 
 /// Where all things but these have passed, only these need to pass.
 pub fn passed_things_stay()
-    ensures { (moment : ℕ) (st : State) (changed : List FileId) → IsOfDirs st.names
-        → AreByServer st.names
+    ensures { (moment : ℕ) (st : State) (changed : List FileId)
         → ((file : FileId) → is_among file changed ≡ false
         → HasPassed st.names (directories st.names) file)
         → house_with moment (directories st.names)

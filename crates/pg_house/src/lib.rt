@@ -1,6 +1,7 @@
 //! The house rules of a server: what holds of its names at the end of each event, whatever came.
 #![tactic(auto)]
 
+mod busy;
 mod cycles;
 mod holding;
 mod laws;

@@ -1,6 +1,7 @@
 //! Parents: the parent in the place that a thing is going to take is held.
 
-ghost use Rattle.std.specs.Prelude.{◌≡◌, OnOk, IfOk};
+ghost use Rattle.std.specs.Prelude.{◌≡◌, false, OnOk, IfOk};
+ghost use Rattle.pg_names.specs.Names.{hold};
 ghost use Rattle.pg_house.specs.Parents.{hold_parent, hold_parents, takes};
 
 use crate::passing::{greatest, is_held_back};
@@ -26,28 +27,43 @@ fn parent_taken(
     }
 }
 
-/// It is held from now on.
-fn hold_parent(names: &mut Names, dirs: &[FileId], file: &FileId) -> Result<(), AllocError>
-    ensures { OnOk result (names.new ≡ hold_parent names.old dirs.now file.now) }
+/// A thing is held from now on. Tells whether it was not.
+fn hold(names: &mut Names, file: FileId) -> Result<bool, AllocError>
+    ensures held { OnOk result (names.new ≡ hold names.old file) }
+    ensures none { IfOk result (λ more. more ≡ false → names.new ≡ names.old) }
+{
+    if names.get(&file).is_some() {
+        return Ok(false);
+    }
+    names.hold(file)?;
+    Ok(true)
+}
+
+/// The parent is held from now on. Tells whether it was not.
+fn hold_parent(names: &mut Names, dirs: &[FileId], file: &FileId) -> Result<bool, AllocError>
+    ensures held { OnOk result (names.new ≡ hold_parent names.old dirs.now file.now) }
+    ensures none { IfOk result (λ more. more ≡ false → names.new ≡ names.old) }
 {
     let parent = match names.own(file) {
         Some(own) => parent_taken(names, dirs, file, own)?,
-        None => return Ok(()),
+        None => return Ok(false),
     };
-    names.hold(parent)?;
-    Ok(())
+    Ok(hold(names, parent)?)
 }
 
-/// And so for each of these.
+/// And so for each of these. Tells whether one was not held.
 pub(crate) fn hold_parents(
     names: &mut Names,
     dirs: &[FileId],
     files: &[FileId],
-) -> Result<(), AllocError>
-    ensures { OnOk result (names.new ≡ hold_parents names.old dirs.now files.now) }
+) -> Result<bool, AllocError>
+    ensures held { OnOk result (names.new ≡ hold_parents names.old dirs.now files.now) }
+    ensures none { IfOk result (λ more. more ≡ false → names.new ≡ names.old) }
 {
+    let mut more = false;
     for file in files {
-        hold_parent(names, dirs, file)?;
+        let missing = hold_parent(names, dirs, file)?;
+        more |= missing;
     }
-    Ok(())
+    Ok(more)
 }

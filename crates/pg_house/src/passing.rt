@@ -17,7 +17,7 @@ use pg_register::Place;
 use std::alloc::AllocError;
 
 /// Whether a place is any but the blank one.
-fn is_update(place: &Place) -> bool
+pub(crate) fn is_update(place: &Place) -> bool
     ensures { result ≡ is_update place.now }
 {
     let first = Stamp { time: 0, server: 0 };
@@ -102,7 +102,7 @@ fn cell_for(file: &FileId, own: &Own) -> Result<Entry, AllocError>
 }
 
 /// Whether a cell is another than the greatest.
-fn is_other_cell(held: &Entry, file: &FileId, top: &Own) -> bool
+pub(crate) fn is_other_cell(held: &Entry, file: &FileId, top: &Own) -> bool
     ensures { result ≡ not (is_same_entry held.now (cell_for file.now top.now)) }
 {
     !(held.child.compare(file).is_eq()

@@ -1,17 +1,15 @@
 //! The house rules, run until none applies.
 
-ghost use Rattle.std.specs.Prelude.{◌≡◌, ◌+◌, ◌<◌, ◌≤◌, ◌^◌, not, length, OnOk, IfOk};
-ghost use Rattle.std.specs.List.{filter};
-ghost use Rattle.std.specs.Map.{keys_of};
-ghost use Rattle.pg_names.specs.Names.{directories};
+ghost use Rattle.std.specs.Prelude.{◌≡◌, ◌+◌, ◌<◌, ◌≤◌, ◌^◌, length, IfOk, OnOk};
 ghost use Rattle.pg_house.specs.Work.{state_of};
-ghost use Rattle.pg_house.specs.Returning.{is_root};
-ghost use Rattle.pg_house.specs.House.{house, house_with, movable, rules, with_parents};
+ghost use Rattle.pg_house.specs.Busy.{busy};
+ghost use Rattle.pg_house.specs.House.{house, house_with, rules, with_parents};
 
+use crate::busy::busy;
 use crate::cycles::break_all;
 use crate::parents::hold_parents;
 use crate::passing::pass_all;
-use crate::returning::{is_root, return_all};
+use crate::returning::return_all;
 use pg_base::{FileId, Items};
 use pg_msg::Work;
 use pg_names::Names;
@@ -20,29 +18,18 @@ use std::alloc::AllocError;
 /// More directories than this are not held: memory ends before.
 const MOST: usize = 1 << 40;
 
-/// All that is held but the root.
-fn movable(names: &Names) -> Result<Items<FileId>, AllocError>
-    ensures { IfOk result (λ files. files ≡ movable names.now) }
-{
-    let files = names.files()?;
-    Ok(Items::from_vec(
-        files
-            .as_slice()
-            .iter()
-            .copied()
-            .filter(|file| !is_root(file))
-            .collect(names.allocator())?,
-    ))
-}
-
-/// The parents are held in the places that things are going to take.
-fn with_parents(names: &mut Names) -> Result<(), AllocError>
-    ensures { OnOk result (names.new ≡ with_parents names.old) }
+/// The parents are held in the places that things are going to take. Tells the busy things behind it.
+#[tactic(auto, using(crate::proofs::Leaving::busy_parents))]
+fn with_parents(names: &mut Names) -> Result<Items<FileId>, AllocError>
+    ensures held { OnOk result (names.new ≡ with_parents names.old) }
+    ensures busy { IfOk result (λ files. files ≡ busy names.new) }
 {
     let dirs = names.directories()?;
-    let files = movable(names)?;
-    hold_parents(names, dirs.as_slice(), files.as_slice())?;
-    Ok(())
+    let files = busy(names)?;
+    if hold_parents(names, dirs.as_slice(), files.as_slice())? {
+        return Ok(busy(names)?);
+    }
+    Ok(files)
 }
 
 /// Runs the house rules until none applies: the parents in the places that things take are held,
@@ -53,23 +40,28 @@ pub fn house(names: &mut Names, work: &mut Work, moment: u64) -> Result<(), Allo
     ensures { OnOk result (state_of names.new work.new
         ≡ house moment (state_of names.old work.old)) }
 {
-    with_parents(names)?;
-    rules(names, work, moment)?;
+    let files = with_parents(names)?;
+    rules(names, work, moment, files.as_slice())?;
     Ok(())
 }
 
-/// The same, where the parents are held.
-fn rules(names: &mut Names, work: &mut Work, moment: u64) -> Result<(), AllocError>
-    requires { names.old.last ≤ 2 ^ 62 + 2 ^ 40 }
+/// The same, where the parents are held, and these are the busy things.
+fn rules(
+    names: &mut Names,
+    work: &mut Work,
+    moment: u64,
+    files: &[FileId],
+) -> Result<(), AllocError>
+    requires last { names.old.last ≤ 2 ^ 62 + 2 ^ 40 }
+    requires busy { files.now ≡ busy names.old }
     ensures { OnOk result (state_of names.new work.new
         ≡ rules moment (state_of names.old work.old)) }
 {
     let dirs = names.directories()?;
-    let files = movable(names)?;
     if dirs.len() > MOST {
         return Err(AllocError);
     }
-    run(names, work, moment, dirs.as_slice(), files.as_slice())?;
+    run(names, work, moment, dirs.as_slice(), files)?;
     Ok(())
 }
 

@@ -1,0 +1,168 @@
+-- Things that are not busy may be left out.
+use Rattle.std.proofs.Common.{◌≡◌, ℕ, Bool, true, false, ◌&&◌, ◌||◌, not, cond, List, [], ◌∷◌, length, Option, None, Some, refl, sym, ap, ◌∙◌, subst, inl}
+use Rattle.std.specs.List.{filter}
+use Rattle.std.specs.Map.{keys_of}
+use Rattle.std.proofs.lemmas.Bool.{false≢true, or_parts}
+use Rattle.std.proofs.lemmas.Option.{none-some, same_Some}
+use Rattle.pg_base.specs.declared.id.FileId.{FileId}
+use Rattle.pg_base.specs.Id.{is_same_file}
+use Rattle.pg_base.proofs.Orders.{is_same_file-refl}
+use Rattle.pg_register.specs.declared.flag.Flag.{Flag}
+use Rattle.pg_register.specs.declared.place.Place.{Place}
+use Rattle.pg_register.specs.Flag.{IsByServer, join_flags}
+use Rattle.pg_names.specs.declared.own.Own.{Own}
+use Rattle.pg_names.specs.Names.{HeldValue, NamesValue, cell_at, directories, entry_in, is_dir, known, own_at, own_of}
+use Rattle.pg_names.specs.Same.{is_same_flags}
+use Rattle.pg_names.proofs.Alike.{flags-refl, flags-true}
+use Rattle.pg_house.specs.Work.{State}
+use Rattle.pg_house.specs.Passing.{cell_for, greatest, is_cell, is_held_back, is_update, own_taken, pass_all}
+use Rattle.pg_house.specs.Placing.{repeated}
+use Rattle.pg_house.specs.Returning.{is_root, return_first}
+use Rattle.pg_house.specs.Cycles.{break_first}
+use Rattle.pg_house.specs.Parents.{hold_parent, hold_parents, parent_held, takes}
+use Rattle.pg_house.specs.House.{house_with, movable, rules, with_parents}
+use Rattle.pg_house.specs.Busy.{busy, is_busy, is_lacking, is_marked, is_unsettled, marks_of}
+use Rattle.pg_house.specs.Facts.{HasOwnParent, HasPassed, IsHeld, IsPassed, is_among}
+use Rattle.pg_house.proofs.Truths.{not_back, or_left, or_right}
+use Rattle.pg_house.proofs.Flags.{join_same}
+use Rattle.pg_house.proofs.Greatest.{AllAre, greatest_same}
+use Rattle.pg_house.proofs.Marking.{all_alike}
+use Rattle.pg_house.proofs.HeldBack.{both_tests}
+use Rattle.pg_house.proofs.Skipping.{pass_some}
+use Rattle.pg_house.proofs.Settling.{among_was, dirs_held, key_found}
+use Rattle.pg_house.proofs.Growing.{Grows, Grows-refl, Grows-trans, one_grows}
+use Rattle.pg_house.proofs.Started.{grown_takes}
+use Rattle.pg_house.proofs.Behind.{parent_idle}
+
+-- ---- flags
+
+-- by server they stay
+pub settled : (flags : List Flag) → IsByServer flags → is_unsettled flags ≡ false
+settled flags sorted = ap (λ (fs : List Flag). not (is_same_flags fs flags)) (join_same flags sorted) ∙ ap not (flags-refl flags)
+
+stays_itself : (flags : List Flag) → is_unsettled flags ≡ false → join_flags flags flags ≡ flags
+stays_itself flags h = flags-true (join_flags flags flags) flags (not_back (is_same_flags (join_flags flags flags) flags) h)
+
+-- ---- the parent
+
+-- it is held, and where it is to have a cell for the thing it has one
+record IsThere (f : FileId) (place : Place) (o : Option HeldValue) : Type 0 where
+  own : Own
+  held : own_of o ≡ Some own
+  cell : is_update place ≡ true → is_dir place.parent ≡ true → is_cell (entry_in f o) ≡ true
+
+has_cell : (up dir cell : Bool) → (up && (dir && not cell)) ≡ false → up ≡ true → dir ≡ true → cell ≡ true
+has_cell true true cell h u d = not_back cell h
+has_cell true false cell h u d = absurd (false≢true d)
+has_cell false dir cell h u d = absurd (false≢true u)
+
+is_there : (f : FileId) (place : Place) (o : Option HeldValue) → is_lacking f place o ≡ false → IsThere f place o
+is_there f place None h = absurd (false≢true (sym h))
+is_there f place (Some x) h = record { own = x.own; held = refl; cell = has_cell (is_update place) (is_dir place.parent) (is_cell (entry_in f (Some x))) h }
+
+-- ---- a thing that is not busy
+
+taken_parent : (own top : Own) (t : Bool) → top ≡ own → (own_taken own top t).place.parent ≡ own.place.parent
+taken_parent own top true h = refl
+taken_parent own top false h = ap (λ (x : Own). x.place.parent) h
+
+module _ (s : NamesValue) (f : FileId) (own : Own) (held : own_at s f ≡ Some own) (idle : is_busy s (marks_of s) f (Some own) ≡ false) where
+  abbrev Parts : Type 0
+  Parts = (is_marked (marks_of s) f ≡ false) × ((is_lacking f own.place (known s own.place.parent) ≡ false) × (is_unsettled own.flags ≡ false))
+
+  parts : Parts
+  parts =
+      let a = or_parts (is_marked (marks_of s) f) (is_lacking f own.place (known s own.place.parent) || is_unsettled own.flags) idle in
+      let b = or_parts (is_lacking f own.place (known s own.place.parent)) (is_unsettled own.flags) a.1 in
+      (a.0, (b.0, b.1))
+
+  all : AllAre s f own
+  all = all_alike s f own held parts.0
+
+  same : (ds : List FileId) → greatest s f own ds ≡ own
+  same ds = greatest_same s f own ds (stays_itself own.flags parts.1.1) all
+
+  there : IsThere f own.place (known s own.place.parent)
+  there = is_there f own.place (known s own.place.parent) parts.1.0
+
+  abbrev HasParent : Own → Type 0
+  HasParent top = (c : Own) → is_update top.place ≡ true → own_at s top.place.parent ≡ Some c → is_dir top.place.parent ≡ true → is_cell (cell_at s top.place.parent f) ≡ true
+
+  passed : (ds : List FileId) → IsPassed s ds f own
+  passed ds =
+      let e = sym (same ds) in
+      let parent : HasParent own = λ c up h d. there.cell up d in
+      record {
+        cells = λ q c h. all q c h ∙ ap (cell_for f) e;
+        parent = subst HasParent e parent;
+        flags = ap (λ (x : Own). x.flags) e;
+        place = inl e;
+      }
+
+  own_parent : HasOwnParent s f own
+  own_parent c live h d = there.cell (or_left own.place.live _ live) d
+
+  -- the parent that it takes is held
+  parent_there : (ds : List FileId) → IsHeld s (takes s ds f own).place.parent
+  parent_there ds =
+      let up = taken_parent own (greatest s f own ds) (is_held_back s.removed f own (greatest s f own ds)) (same ds) in
+      subst (IsHeld s) (sym up) (there.own, there.held)
+
+idle_at : (s : NamesValue) (f : FileId) (own : Own) → own_at s f ≡ Some own → is_busy s (marks_of s) f (own_at s f) ≡ false → is_busy s (marks_of s) f (Some own) ≡ false
+idle_at s f own held h = ap (λ (o : Option Own). is_busy s (marks_of s) f o) (sym held) ∙ h
+
+-- it has passed
+idle_passed : (s : NamesValue) (ds : List FileId) (f : FileId) → is_busy s (marks_of s) f (own_at s f) ≡ false → HasPassed s ds f
+idle_passed s ds f h own held = let idle = idle_at s f own held h in (passed s f own held idle ds, own_parent s f own held idle)
+
+-- ---- passing
+
+abbrev Test : NamesValue → FileId → Bool
+Test s f = is_busy s (marks_of s) f (own_at s f)
+
+busy_is : (s : NamesValue) → busy s ≡ filter (Test s) (movable s)
+busy_is s = both_tests (λ f. not (is_root f)) (Test s) (keys_of s.held)
+
+pub busy_pass : (moment : ℕ) (st : State) → house_with moment (directories st.names) (busy st.names) st ≡ rules moment st
+busy_pass moment st =
+    let ds = directories st.names in
+    ap (λ (s : State). repeated (length ds) (break_first moment ds) (repeated (length ds) (return_first moment ds) s))
+    (ap (pass_all st ds) (busy_is st.names) ∙ pass_some (Test st.names) st ds (movable st.names) (dirs_held st.names) (λ g h. idle_passed st.names ds g h))
+
+-- ---- parents
+
+left_out : (p : FileId → Bool) (t u : NamesValue) (ds fs : List FileId) (f : FileId) (b : Bool) → ((b ≡ false) → u ≡ t) → hold_parents u ds (filter p fs) ≡ hold_parents u ds fs → hold_parent t ds f ≡ u
+    → hold_parents t ds (cond b (f ∷ filter p fs) (filter p fs)) ≡ hold_parents u ds fs
+left_out p t u ds fs f true idle rest is = ap (λ (s : NamesValue). hold_parents s ds (filter p fs)) is ∙ rest
+left_out p t u ds fs f false idle rest is = ap (λ (s : NamesValue). hold_parents s ds (filter p fs)) (sym (idle refl)) ∙ rest
+
+-- as more is held, a thing takes what it took
+module _ (s : NamesValue) (ds : List FileId) (t : NamesValue) (m : Grows s t) (f : FileId) (idle : Test s f ≡ false) where
+  idle_by : (own : Own) → own_at s f ≡ Some own → (o : Option Own) → own_at t f ≡ o → parent_held t ds f o ≡ t
+  idle_by own held None h = absurd (none-some own (sym h ∙ m.stays f own held))
+  idle_by own held (Some b) h =
+      let same : b ≡ own = same_Some b own (sym h ∙ m.stays f own held) in
+      let at = subst (λ (x : Own). own_at s f ≡ Some x) (sym same) held in
+      let parent = parent_there s f b at (idle_at s f b at idle) ds in
+      parent_idle t ds f (Some b) h (λ c g.
+      let is : b ≡ c = same_Some b c (sym h ∙ g) in
+      subst (λ (x : Own). IsHeld t (takes t ds f x).place.parent) is
+      (subst (λ (x : Own). IsHeld t x.place.parent) (sym (grown_takes s t m f b ds)) (parent.0, m.stays _ parent.0 parent.1)))
+
+  idle_parent : IsHeld s f → hold_parent t ds f ≡ t
+  idle_parent here = idle_by here.0 here.1 (own_at t f) refl
+
+parents_some : (s : NamesValue) (ds fs : List FileId) (t : NamesValue) → Grows s t → ((g : FileId) → is_among g fs ≡ true → IsHeld s g) → hold_parents t ds (filter (Test s) fs) ≡ hold_parents t ds fs
+parents_some s ds [] t m held = refl
+parents_some s ds (f ∷ fs) t m held =
+    let next = hold_parent t ds f in
+    left_out (Test s) t next ds fs f (Test s f) (λ h. idle_parent s ds t m f h (held f (or_left (is_same_file f f) _ (is_same_file-refl f))))
+    (parents_some s ds fs next (Grows-trans s t next m (one_grows t ds f)) (λ g among. held g (or_right (is_same_file f g) _ among))) refl
+
+movable_held : (s : NamesValue) (g : FileId) → is_among g (movable s) ≡ true → IsHeld s g
+movable_held s g among =
+    let x = key_found g s.held (among_was (λ f. not (is_root f)) (keys_of s.held) g among) in
+    (x.0.own, ap own_of x.1)
+
+pub busy_parents : (s : NamesValue) → hold_parents s (directories s) (busy s) ≡ with_parents s
+busy_parents s = ap (hold_parents s (directories s)) (busy_is s) ∙ parents_some s (directories s) (movable s) s (Grows-refl s) (movable_held s)

@@ -1,0 +1,7 @@
+pub mod SameKey
+pub mod Kept
+pub mod Found
+pub mod Entries
+pub mod Begun
+pub mod Above
+pub mod Orders

@@ -1,0 +1,5 @@
+pub mod Key
+pub mod Intent
+pub mod Intents
+pub mod IntentsInside
+pub mod Target

@@ -1,0 +1,10 @@
+pub mod Somewhere
+pub mod Stays
+pub mod Quiet
+pub mod Promises
+pub mod Admits
+pub mod Worlds
+pub mod Parts
+pub mod Handlers
+pub mod OneChild
+pub mod Rows
