@@ -1,0 +1,50 @@
+//! A run as a picture.
+#![tactic(auto)]
+
+mod command;
+mod ending;
+
+pub use command::{LIMIT, picture, run};
+pub use ending::Ending;
+use pg_io::{Reading, Writing};
+use std::alloc::AllocError;
+use std::io::ErrorKind;
+use std::process::ExitCode;
+use std::{env, io};
+
+fn words(rt: &HostRuntime) -> io::Result<Vec<String>> {
+    let mut words = Vec::new(rt.alloc());
+    for word in env::args(rt)? {
+        words.push(word).map_err(AllocError::from)?;
+    }
+    Ok(words)
+}
+
+/// How the program ends where its words could not be had. Which word is no text is not known, so it is told as word 1.
+fn wordless(error: &io::Error) -> Ending {
+    match error.kind() {
+        ErrorKind::InvalidData => Ending::Usage(1),
+        _ => Ending::OutOfMemory,
+    }
+}
+
+fn main(rt: HostRuntime) -> ExitCode {
+    let ending = match words(&rt) {
+        Ok(words) => {
+            let mut source = Reading::new(rt.stdin());
+            let mut sink = Writing::new(rt.stdout());
+            run(rt.alloc(), &words, &mut source, &mut sink)
+        }
+        Err(error) => wordless(&error),
+    };
+    if ending != Ending::Done {
+        let _ = eprintln!(rt; "pangaea_draw: {ending}");
+    }
+    if let Ending::Usage(_) = ending {
+        let _ = eprintln!(rt; "usage: pangaea_draw < JOURNAL");
+    }
+    ExitCode::from(ending.number())
+}
+
+#[cfg(test)]
+mod tests;

@@ -1,0 +1,73 @@
+-- How much higher a picture gets by one line, and how many more messages are under way.
+use Rattle.std.proofs.Common.{ℕ, Bool, true, false, ◌≡◌, ◌+◌, ◌-◌, ◌≤◌, ◌<◌, List, [], ◌∷◌, ◌++◌, Option, None, Some, length, refl, arith, subst, sym, if◌then◌else◌, slice_set}
+use Rattle.std.specs.List.{slice_get}
+use Rattle.std.proofs.lemmas.List.Edits.{length-remove}
+use Rattle.std.proofs.lemmas.List.{length-append, length-set}
+use Rattle.std.proofs.lemmas.Option.{slice_get_within}
+use Rattle.pg_event.specs.declared.event.Event.{Event}
+use Rattle.pg_event.specs.declared.event.Event.TheVariants as event
+use Rattle.pg_event.specs.declared.quiet.Quiet.{Quiet}
+use Rattle.pg_sched.specs.declared.line.Line.{Line}
+use Rattle.pg_sched.specs.declared.line.Line.TheVariants as line
+use Rattle.pg_trace.specs.declared.printed.Printed.{Printed}
+use Rattle.pg_trace.specs.declared.printed.Printed.TheVariants as printed
+use Rattle.pg_trace.specs.declared.printed.Word.{Word}
+use Rattle.pg_trace.specs.declared.printed.Word.TheVariants as word
+use Rattle.pg_picture.specs.Messages.{message_at, split, with_copy, without}
+use Rattle.pg_picture.specs.Note.{is_void, outcome_of}
+use Rattle.pg_picture.specs.Sketch.{bag_after, drawn, happening_bag, line_bag, rise, word_rise}
+use Rattle.pg_picture.specs.declared.messages.Message.{Message}
+use Rattle.pg_picture.specs.declared.sketch.Sketch.{Sketch}
+
+word_rise_most : (w : Word) → word_rise w ≤ 2
+word_rise_most word.Settle = omega arith
+word_rise_most word.Quiet = omega arith
+word_rise_most word.End = omega arith
+
+-- one line makes the picture at most two lines of text higher
+pub rise_most : (p : Printed) → rise p ≤ 2
+rise_most (printed.Asked word state) = word_rise_most word
+rise_most p = omega arith
+
+there : (test : Bool) (bag : List Message) (n : ℕ) (m : Message) → (if test then None else slice_get bag (n - 1)) ≡ Some m
+    → n - 1 < length bag
+there true bag n m e = absurd (cc)
+there false bag n m found = slice_get_within bag (n - 1) m found
+
+without_most : (bag : List Message) (n : ℕ) (o : Option Message) → message_at bag n ≡ o
+    → length (without bag n o) ≤ length bag + 1
+without_most bag n None found = omega arith
+without_most bag n (Some m) found =
+    let gone = length-remove bag (n - 1) (there _ bag n m found) in omega arith
+
+copy_most : (bag : List Message) (n height : ℕ) (o : Option Message)
+    → length (with_copy bag n height o) ≤ length bag + 1
+copy_most bag n height None = omega arith
+copy_most bag n height (Some m) =
+    let k = split m height in
+    omega (arith, length-append (slice_set bag (n - 1) k) (k ∷ []), length-set bag (n - 1) k)
+
+happening_most : (bag : List Message) (height : ℕ) (e : Event)
+    → length (happening_bag bag height e) ≤ length bag + 1
+happening_most bag height (event.Deliver n) = without_most bag n _ refl
+happening_most bag height (event.Lose n) = without_most bag n _ refl
+happening_most bag height (event.Repeat n) = copy_most bag n height _
+happening_most bag height e = omega arith
+
+line_most : (bag : List Message) (height : ℕ) (l : Line)
+    → length (line_bag bag height l) ≤ length bag + 1
+line_most bag height (line.Happens e) = happening_most bag height e
+line_most bag height l = omega arith
+
+chosen : (test : Bool) (bag : List Message) (height : ℕ) (l : Line)
+    → length (if test then bag else line_bag bag height l) ≤ length bag + 1
+chosen true bag height l = omega arith
+chosen false bag height l = line_most bag height l
+
+-- one line brings at most one message more
+pub bag_most : (s : Sketch) (p : Printed) (next : Option Printed)
+    → length (bag_after s p next) ≤ length s.bag + 1
+bag_most s (printed.Event number what) next = chosen _ s.bag (s.height + 2) what
+bag_most s (printed.Sent summary) next =
+    omega (arith, length-append s.bag (record { summary = summary; since = s.row; split = false } ∷ []))
+bag_most s p next = omega arith

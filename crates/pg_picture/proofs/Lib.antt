@@ -1,0 +1,5 @@
+pub mod Bounds
+pub mod Steps
+pub mod Summaries
+pub mod Counted
+pub mod Numbered

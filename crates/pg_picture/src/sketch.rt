@@ -1,0 +1,281 @@
+//! A picture that is drawn line by line.
+
+ghost use Rattle.std.specs.Prelude.{◌≡◌};
+ghost use Rattle.std.specs.Option.{option_copied};
+ghost use Rattle.pg_picture.specs.Sketch.{column_of, event_note, happening_column, happening_kind, kind_of, line_column, line_kind, mark_of, receiver, rise, word_rise};
+
+use crate::course::{event_server, greatest_server};
+use crate::mark::{Leg, LegEnd, Mark, MarkKind, Note};
+use crate::messages::{Message, Messages};
+use crate::note::{Outcome, event_text, line_text, outcome_of};
+use pg_base::{Items, NodeId};
+use pg_event::Event;
+use pg_msg::Summary;
+use pg_sched::Line;
+use pg_trace::{Printed, Word};
+use std::alloc::{AllocError, Global};
+
+/// A picture so far.
+#[derive(Debug, Drop)]
+pub struct Sketch {
+    /// The greatest server that is drawn.
+    pub servers: NodeId,
+    /// The height of the last event, and of what is lowest.
+    pub row: u32,
+    pub height: u32,
+    /// What is under way.
+    pub bag: Messages,
+    pub marks: Items<Mark>,
+    pub legs: Items<Leg>,
+    pub notes: Items<Note>,
+}
+
+fn happening_kind(event: &Event) -> MarkKind
+    ensures { result ≡ happening_kind event.now }
+{
+    match event {
+        Event::Call { .. } => MarkKind::Call,
+        Event::Tick { .. } => MarkKind::Tick,
+        Event::Deliver(_) => MarkKind::Deliver,
+        Event::Lose(_) => MarkKind::Lose,
+        Event::Repeat(_) => MarkKind::Repeat,
+        Event::Restart(_) => MarkKind::Restart,
+        Event::Remove(_) => MarkKind::Remove,
+    }
+}
+
+fn line_kind(what: &Line) -> MarkKind
+    ensures { result ≡ line_kind what.now }
+{
+    match what {
+        Line::Happens(event) => happening_kind(event),
+        _ => MarkKind::Asked,
+    }
+}
+
+/// What kind of event it is, which went so.
+fn kind_of(what: &Line, outcome: Outcome) -> MarkKind
+    ensures { result ≡ kind_of what.now outcome }
+{
+    match outcome {
+        Outcome::Done => line_kind(what),
+        Outcome::Refused => MarkKind::Refused,
+        Outcome::Void => MarkKind::Void,
+    }
+}
+
+fn receiver(message: Option<Message>) -> NodeId
+    ensures { result ≡ receiver message }
+{
+    match message {
+        Some(message) => message.summary.to,
+        None => 0,
+    }
+}
+
+fn happening_column(bag: &Messages, event: &Event, server: NodeId) -> NodeId
+    ensures { result ≡ happening_column bag.now event.now server }
+{
+    match event {
+        Event::Deliver(number) => receiver(bag.get(*number)),
+        _ => server,
+    }
+}
+
+fn line_column(bag: &Messages, what: &Line, server: NodeId) -> NodeId
+    ensures { result ≡ line_column bag.now what.now server }
+{
+    match what {
+        Line::Happens(event) => happening_column(bag, event, server),
+        _ => server,
+    }
+}
+
+/// The server at which the event happens, which went so: for a delivery the receiver.
+fn column_of(bag: &Messages, what: &Line, outcome: Outcome) -> NodeId
+    ensures { result ≡ column_of bag.now what.now outcome }
+{
+    if outcome.is_void() {
+        return 0;
+    }
+    line_column(bag, what, event_server(what, outcome))
+}
+
+fn word_rise(word: Word) -> u32
+    ensures { result ≡ word_rise word }
+{
+    match word {
+        Word::Settle => 2,
+        Word::Quiet => 0,
+        Word::End => 2,
+    }
+}
+
+/// How much lower the line stands than what was drawn before it: 0 where it has no note of its own.
+fn rise(line: &Printed) -> u32
+    ensures { result ≡ rise line.now }
+{
+    match line {
+        Printed::Event { .. } => 2,
+        Printed::Made(_) => 1,
+        Printed::Replica(_) => 1,
+        Printed::Nowhere(_) => 1,
+        Printed::Meter { .. } => 1,
+        Printed::Asked { word, .. } => word_rise(*word),
+        _ => 0,
+    }
+}
+
+impl Sketch {
+    ghost use Rattle.std.specs.Prelude.{◌+◌, ◌<◌, ◌^◌, OnOk};
+    ghost use Rattle.pg_picture.specs.Picture.{empty};
+    ghost use Rattle.pg_picture.specs.Sketch.{drawn, with_ended, with_event, with_fork, with_gone, with_moved, with_sent, with_told};
+
+    /// Nothing is drawn.
+    pub(crate) fn new(alloc: Global) -> Sketch
+        ensures { result ≡ empty }
+    {
+        Sketch {
+            servers: 1,
+            row: 0,
+            height: 0,
+            bag: Messages::new(alloc),
+            marks: Items::new(alloc),
+            legs: Items::new(alloc),
+            notes: Items::new(alloc),
+        }
+    }
+
+    /// Draws the line that has this one behind it.
+    pub(crate) fn take(
+        &mut self,
+        alloc: Global,
+        line: &Printed,
+        next: Option<&Printed>,
+    ) -> Result<(), AllocError>
+        requires { self.old.height + 2 < 2 ^ 32 }
+        ensures { OnOk result (self.new ≡ drawn self.old line.now (option_copied next.entry)) }
+    {
+        self.servers = self.servers.max(greatest_server(line, next));
+        match line {
+            Printed::Event { line, what } => self.happen(alloc, *line, what, next),
+            Printed::Sent(summary) => self.send(*summary),
+            Printed::Call { .. } => Ok(()),
+            Printed::Tick { .. } => Ok(()),
+            Printed::Void { .. } => Ok(()),
+            Printed::Made(_) => self.tell(alloc, line),
+            Printed::Asked { .. } => self.tell(alloc, line),
+            Printed::Replica(_) => self.tell(alloc, line),
+            Printed::Nowhere(_) => self.tell(alloc, line),
+            Printed::Meter { .. } => self.tell(alloc, line),
+        }
+    }
+
+    fn send(&mut self, summary: Summary) -> Result<(), AllocError>
+        ensures { OnOk result (self.new ≡ with_sent self.old summary) }
+    {
+        self.bag.push(Message {
+            summary,
+            since: self.row,
+            split: false,
+        })
+    }
+
+    /// Writes the line beside the picture, where it has a note of its own.
+    fn tell(&mut self, alloc: Global, line: &Printed) -> Result<(), AllocError>
+        requires { self.old.height + 2 < 2 ^ 32 }
+        ensures { OnOk result (self.new ≡ with_told self.old line.now) }
+    {
+        let rise = rise(line);
+        self.height += rise;
+        if rise > 0 {
+            self.notes.push(Note {
+                height: self.height,
+                refused: false,
+                text: line_text(alloc, line)?,
+            })?;
+        }
+        Ok(())
+    }
+
+    /// The event with this line of the schedule.
+    fn happen(
+        &mut self,
+        alloc: Global,
+        number: u64,
+        what: &Line,
+        next: Option<&Printed>,
+    ) -> Result<(), AllocError>
+        requires { self.old.height + 2 < 2 ^ 32 }
+        ensures { OnOk result (self.new ≡ with_event self.old number what.now (option_copied next.entry)) }
+    {
+        let outcome = outcome_of(next);
+        self.height += 2;
+        self.row = self.height;
+        self.marks.push(Mark {
+            height: self.row,
+            line: number,
+            server: column_of(&self.bag, what, outcome),
+            kind: kind_of(what, outcome),
+        })?;
+        self.notes.push(Note {
+            height: self.row,
+            refused: !outcome.is_done(),
+            text: event_text(alloc, what, next)?,
+        })?;
+        if outcome.is_void() {
+            return Ok(());
+        }
+        let height = self.row;
+        self.go(height, what)
+    }
+
+    /// The message of an event that was done goes where it goes.
+    fn go(&mut self, height: u32, what: &Line) -> Result<(), AllocError>
+        ensures { OnOk result (self.new ≡ with_moved self.old height what.now) }
+    {
+        match what {
+            Line::Happens(event) => self.go_on(height, event),
+            _ => Ok(()),
+        }
+    }
+
+    fn go_on(&mut self, height: u32, event: &Event) -> Result<(), AllocError>
+        ensures { OnOk result (self.new ≡ with_gone self.old height event.now) }
+    {
+        match event {
+            Event::Deliver(number) => self.end(*number, height, LegEnd::Delivered),
+            Event::Lose(number) => self.end(*number, height, LegEnd::Lost),
+            Event::Repeat(number) => self.fork(*number, height),
+            _ => Ok(()),
+        }
+    }
+
+    /// The message with this number ends so.
+    fn end(&mut self, number: u64, height: u32, end: LegEnd) -> Result<(), AllocError>
+        ensures { OnOk result (self.new ≡ with_ended self.old number height end) }
+    {
+        match self.bag.take(number) {
+            Some(message) => self.legs.push(Leg {
+                message,
+                until: height,
+                end,
+            }),
+            None => Ok(()),
+        }
+    }
+
+    /// The message with this number goes on from here, and so does a copy.
+    fn fork(&mut self, number: u64, height: u32) -> Result<(), AllocError>
+        ensures { OnOk result (self.new ≡ with_fork self.old number height) }
+    {
+        match self.bag.copy(number, height)? {
+            Some(message) => self.legs.push(Leg {
+                message,
+                until: height,
+                end: LegEnd::Copied,
+            }),
+            None => Ok(()),
+        }
+    }
+}

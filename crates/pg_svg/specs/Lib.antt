@@ -1,0 +1,5 @@
+pub mod Escaped
+pub mod Label
+pub mod Scale
+pub mod Shapes
+pub mod Svg
