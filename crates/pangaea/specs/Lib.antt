@@ -5,3 +5,4 @@ pub mod Going
 pub mod Ending
 pub mod Laws
 pub mod Written
+pub mod Joined

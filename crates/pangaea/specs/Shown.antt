@@ -1,5 +1,5 @@
 -- What a server shows of a file or directory that it holds.
-use Rattle.std.specs.Prelude.{ℕ, ◌≡◌, ◌-◌, ◌^◌, min, not, List, [], ◌∷◌, length, map, take, Option, None, Some}
+use Rattle.std.specs.Prelude.{ℕ, ◌≡◌, ◌-◌, ◌^◌, min, List, [], ◌∷◌, length, map, take, Option, None, Some}
 use Rattle.pg_base.specs.declared.id.FileId.{FileId}
 use Rattle.pg_base.specs.declared.id.Kind.{Kind}
 use Rattle.pg_base.specs.declared.id.Kind.TheVariants.{Dir, File}
@@ -10,7 +10,6 @@ use Rattle.pg_register.specs.Flag.{is_raised}
 use Rattle.pg_names.specs.Names.{HeldValue, known}
 use Rattle.pg_store.specs.declared.store.Store.{Store}
 use Rattle.pg_store.specs.Store.{content_of, replica_of}
-use Rattle.pg_calls.specs.Checks.{is_filling}
 use Rattle.pg_trace.specs.declared.printed.Printed.{Printed}
 use Rattle.pg_trace.specs.declared.printed.Printed.TheVariants as printed
 use Rattle.pg_trace.specs.declared.replica.Contents.{Contents}
@@ -37,14 +36,13 @@ abbrev pub contents_at : Store → FileId → Kind → HeldValue → Contents
 contents_at store id Dir x = contents.Dir (count_listed x.entries id)
 contents_at store id File x = file_contents store id
 
--- a replica that a server holds is gold where its own flag is raised; and full, but for a file with
--- no version
+-- a replica that a server holds is gold where its own flag is raised; and it is full or filling
 abbrev pub shown_of : ℕ → Store → FileId → HeldValue → ShownReplica
 shown_of server store id x = record {
   server = server;
   id = id;
   gold = is_raised x.own.flags server (replica_of store id).birth;
-  full = not (is_filling store id);
+  full = x.full;
   place = x.own.place;
   contents = contents_at store id id.kind x;
 }

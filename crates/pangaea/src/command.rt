@@ -5,27 +5,23 @@ ghost use Rattle.std.specs.Io.KnownBytes.{IsAtEnd};
 ghost use Rattle.pg_io.specs.Causes.{Rose};
 ghost use Rattle.pg_sched.specs.Schedule.{IsFirstBad};
 ghost use Rattle.pg_call.specs.declared.fault.Fault.{Fault};
+ghost use Rattle.pg_places.specs.Laws.{OnePlaceAStamp};
+ghost use Rattle.pg_run.specs.Acknowledged.{AcknowledgedKeysAreHad};
+ghost use Rattle.pg_run.specs.Births.{BirthsAreAlone, BirthsAreKnown, BirthsAreOfOneThing, GreaterBirthsReplaceEdges, LinksNameTheSender};
 ghost use Rattle.pg_run.specs.Came.{TakesWhatCame};
 ghost use Rattle.pg_run.specs.Histories.{AncestryByVectors, CarriesHistory, ClockEndsFirst, MakesHistories, OneVersionAStamp, StateIsDetermined, StateIsItsHeads};
-ghost use Rattle.pg_run.specs.Laws.{HoldsWhatItTook, HouseIsInOrder, NamesMerge, QuietDirectoriesAreBroughtBack, QuietIsTold, QuietNamesFormATree, QuietServersAgree, QuietThingsAreListedOnlyWhereTheyStand, ReturnsAreJustified};
+ghost use Rattle.pg_run.specs.Intending.{IntentionsAreInOrder};
+ghost use Rattle.pg_run.specs.Laws.{HoldsWhatItTook, HouseIsInOrder, NamesMerge, QuietDirectoriesAreBroughtBack, QuietIsTold, QuietJoinedServersAgree, QuietNamesFormATree, QuietServersAgree, QuietThingsAreListedOnlyWhereTheyStand, ReturnsAreJustified};
 ghost use Rattle.pg_run.specs.Ticks.{TicksSendWhatIsOwed};
-ghost use Rattle.pg_places.specs.Laws.{OnePlaceAStamp};
 ghost use Rattle.pangaea.specs.Ending.{EndsOnly, FirstBadIs};
 ghost use Rattle.pangaea.specs.Laws.{LinesAreEvents};
 ghost use Rattle.pangaea.specs.Written.{AreGoodWords, FirstIsReplay, IsGoodInput, IsTooLong, WritesAll, WritesPrefix, most_input};
 
 use crate::journal::journal_of;
-use crate::laws::lines_are_events;
-use pg_contents::{contents_are_states, runs_make_histories, states_are_heads};
+use crate::laws::{laws_of_runs, lines_are_events};
 use pg_event::Status;
 use pg_io::{ReadAllError, Sink, Source, read_all, write_all};
-use pg_naming::{names_are_what_was_taken, returns_are_justified};
-use pg_order::house_is_in_order;
-use pg_places::one_place_a_stamp;
-use pg_quiet::{quiet_names_form_a_tree, quiet_servers_agree};
-use pg_run::{quiet_is_told, takes_are_what_came};
 use pg_sched::{ReadError, read};
-use pg_ticks::ticks_send_what_is_owed;
 use std::alloc::Global;
 
 /// The most bytes that an input may have.
@@ -111,7 +107,7 @@ pub fn run<S: Source, K: Sink>(
     // on. What it holds is the state of exactly that: contents, and names.
     ensures took { (servers : ℕ) → TakesWhatCame servers }
     ensures merge { (servers : ℕ) → servers < 2 ^ 32 → HoldsWhatItTook servers }
-    ensures names { (servers : ℕ) → NamesMerge servers }
+    ensures names { (servers : ℕ) → servers < 2 ^ 32 → NamesMerge servers }
     ensures heads { (servers : ℕ) → servers < 2 ^ 32 → StateIsItsHeads servers }
     ensures determined { (servers : ℕ) → servers < 2 ^ 32 → StateIsDetermined servers }
 
@@ -119,21 +115,34 @@ pub fn run<S: Source, K: Sink>(
     // one stamp there is one version, and one place of a thing. Clocks end before other numbers do.
     ensures histories { (servers : ℕ) → servers < 2 ^ 32 → MakesHistories servers }
     ensures one { (servers : ℕ) → servers < 2 ^ 32 → OneVersionAStamp servers }
-    ensures one_place { (servers : ℕ) → servers < 2 ^ 32 → OnePlaceAStamp servers }
+    ensures one_place { (servers : ℕ) → OnePlaceAStamp servers }
     ensures ancestry { (servers : ℕ) → servers < 2 ^ 32 → AncestryByVectors servers }
     ensures carried { (servers : ℕ) → servers < 2 ^ 32 → CarriesHistory servers }
     ensures clock { (servers : ℕ) → servers < 2 ^ 32 → ClockEndsFirst servers }
 
-    // Behind every event names are as the house rules ask. Each line is events of the run, those of a
-    // settling among them. A tick sends what is owed, and is refused exactly at the clock's end.
+    // Behind every event names are as the house rules ask, and each server intends what it is to. Each
+    // line is events of the run, those of a settling among them. A tick sends what is owed, and is
+    // refused exactly at the clock's end.
     ensures order { (servers : ℕ) → HouseIsInOrder servers }
     ensures events { (servers : ℕ) → LinesAreEvents servers }
-    ensures owed { (servers : ℕ) → servers < 2 ^ 32 → TicksSendWhatIsOwed servers }
+    ensures intends { (servers : ℕ) → IntentionsAreInOrder servers }
+    ensures owed { (servers : ℕ) → TicksSendWhatIsOwed servers }
 
-    // Quiet is told exactly where no message is under way and no server owes anything. There all
-    // servers agree, and the names form one tree, in which each survivor is listed where it stands and
-    // nowhere else, in no dead directory.
+    // A server has one birth of a thing at a time, which was given out for nothing else, and whoever
+    // names one names one that was given out. The greater has the edge; who accepts a message that
+    // links its sender lists it; and what is acknowledged is had.
+    ensures known { (servers : ℕ) → BirthsAreKnown servers }
+    ensures alone { (servers : ℕ) → BirthsAreAlone servers }
+    ensures of_one { (servers : ℕ) → BirthsAreOfOneThing servers }
+    ensures edges { (servers : ℕ) → GreaterBirthsReplaceEdges servers }
+    ensures linked { (servers : ℕ) → LinksNameTheSender servers }
+    ensures had { (servers : ℕ) → servers < 2 ^ 32 → AcknowledgedKeysAreHad servers }
+
+    // Quiet is told exactly where no message is under way and no server owes anything. There servers
+    // that are joined agree, and where all are, all do, and the names form one tree, in which each
+    // survivor is listed where it stands and nowhere else, in no dead directory.
     ensures quiet { QuietIsTold }
+    ensures joined { (servers : ℕ) → servers < 2 ^ 32 → QuietJoinedServersAgree servers }
     ensures agree { (servers : ℕ) → servers < 2 ^ 32 → QuietServersAgree servers }
     ensures tree { (servers : ℕ) → servers < 2 ^ 32 → QuietNamesFormATree servers }
     ensures listed { (servers : ℕ) → servers < 2 ^ 32
@@ -170,19 +179,8 @@ pub fn run<S: Source, K: Sink>(
         → EndsOnly result Status.Done }
 {
     // The laws of every run: these calls say what holds, and do nothing.
-    takes_are_what_came();
-    contents_are_states();
-    names_are_what_was_taken();
-    states_are_heads();
-    runs_make_histories();
-    one_place_a_stamp();
-    house_is_in_order();
+    laws_of_runs();
     lines_are_events();
-    ticks_send_what_is_owed();
-    quiet_is_told();
-    quiet_servers_agree();
-    quiet_names_form_a_tree();
-    returns_are_justified();
 
     if !is_replay(words) {
         return Status::Usage(1);

@@ -7,7 +7,6 @@ ghost use Rattle.pg_trace.specs.Printed.{ArePrinted, journal_spelling};
 ghost use Rattle.pangaea.specs.Shown.{HoldsSuited, contents_at, contents_of, file_contents, held_lines, no_content, shown_of};
 
 use pg_base::{Bytes, FileId, Items, Kind, NodeId, SharedBytes, Stamp, Version};
-use pg_calls::is_filling;
 use pg_content::Content;
 use pg_names::Held;
 use pg_store::Store;
@@ -51,7 +50,7 @@ fn shown_of(
         server,
         id,
         gold: own.flags.is_raised(server, store.birth(&id)),
-        full: !is_filling(store, &id),
+        full: held.is_full(),
         place: own.place.copy()?,
         contents: contents_at(id, store, held)?,
     })

@@ -60,7 +60,6 @@ fn writes_the_journal_of_the_run(rt: HostRuntime) -> Result<(), Fail> {
             MADE,
             b"call 2 mkdir -> made d2.1\n\
               settle quiet\n\
-              at 1 d2.1 bronze full place 40@2 d0.0 a live lists 0\n\
               at 2 d2.1 gold full place 40@2 d0.0 a live lists 0\n\
               end quiet\n",
         ),
@@ -71,18 +70,21 @@ fn writes_the_journal_of_the_run(rt: HostRuntime) -> Result<(), Fail> {
         ),
         // A settling that has to tick, with its events among the lines; and what nobody holds.
         (
-            b"pangaea 1 2\ncall 1 1 mkdir /a\nlose 1\nlose 1\nlose 1\ntrace full\nsettle 1 5\nshow f1.1\n",
+            b"pangaea 1 2\n\
+              call 1 1 mkdir /a\n\
+              lose 1\n\
+              trace full\n\
+              settle 1 5\n\
+              show f1.1\n",
             b"call 1 mkdir -> made d1.1\n\
-              event 7 settle 1 5\n\
-              event 7 tick 1 5 0\n\
+              event 5 settle 1 5\n\
+              event 5 tick 1 5 0\n\
               tick 1 -> done\n\
               sent 1 2 cell d0.0 entry:d1.1\n\
-              sent 1 2 cell d1.1 place\n\
-              sent 1 2 cell d1.1 flag:1\n\
-              event 7 tick 2 5 0\n\
+              event 5 tick 2 5 0\n\
               tick 2 -> done\n\
               settle waits message 1 2 cell d0.0 entry:d1.1\n\
-              event 8 show f1.1\n\
+              event 6 show f1.1\n\
               at - f1.1\n\
               end waits message 1 2 cell d0.0 entry:d1.1\n",
         ),
@@ -108,6 +110,9 @@ fn writes_the_journal_of_the_run(rt: HostRuntime) -> Result<(), Fail> {
               call 1 11 mkdir /bob\n\
               call 1 12 create /foo last\n\
               settle 9 20\n\
+              call 2 20 ls /bob 0\n\
+              call 2 20 read /foo 0 1\n\
+              settle 9 30\n\
               call 1 40 rename /foo /alice/foo\n\
               call 2 41 rename /foo /bob/foo\n\
               settle 9 50\n\
@@ -118,6 +123,9 @@ fn writes_the_journal_of_the_run(rt: HostRuntime) -> Result<(), Fail> {
               call 1 mkdir -> made d1.2\n\
               call 1 create -> made f1.3\n\
               settle quiet\n\
+              call 2 ls -> refused 3 NotYet d1.2\n\
+              call 2 read -> refused 3 NotYet f1.3\n\
+              settle quiet\n\
               call 1 rename -> done\n\
               call 2 rename -> done\n\
               settle quiet\n\
@@ -126,7 +134,7 @@ fn writes_the_journal_of_the_run(rt: HostRuntime) -> Result<(), Fail> {
               call 2 ls -> names 2 alice=d1.1 bob=d1.2\n\
               end quiet\n",
         ),
-        // What a server holds in numbers, what is not held, and what is not built.
+        // What a server holds in numbers, what is not held, and a restart.
         (
             b"pangaea 1 1\n\
               call 1 10 mkdir /a\n\
@@ -144,7 +152,6 @@ fn writes_the_journal_of_the_run(rt: HostRuntime) -> Result<(), Fail> {
               call 1 ls -> names 1 x=f1.2\n\
               call 1 status -> status view 0 last 13 replicas 3 intents 0 cells 0 held 0\n\
               call 1 stat -> refused 3 NotYet f9.9\n\
-              void 9 unbuilt\n\
               end quiet\n",
         ),
         // The end of a clock.
@@ -173,13 +180,13 @@ fn writes_the_journal_of_the_run(rt: HostRuntime) -> Result<(), Fail> {
               call 2 60 unlink /d\n",
             b"call 1 mkdir -> made d1.1\n\
               settle quiet\n\
-              call 2 ls -> names 0\n\
+              call 2 ls -> refused 3 NotYet d1.1\n\
               settle quiet\n\
               call 1 rmdir -> done\n\
               call 2 create -> made f2.1\n\
               settle quiet\n\
               at 1 d1.1 gold full place 43@2 d0.0 d live lists 1\n\
-              at 2 d1.1 bronze full place 43@2 d0.0 d live lists 1\n\
+              at 2 d1.1 gold full place 43@2 d0.0 d live lists 1\n\
               call 2 rmdir -> refused 10 NotEmpty f2.1\n\
               call 2 unlink -> refused 6 IsDir\n\
               end quiet\n",
@@ -190,20 +197,24 @@ fn writes_the_journal_of_the_run(rt: HostRuntime) -> Result<(), Fail> {
               call 1 10 mkdir /d\n\
               call 1 11 create /d/x last\n\
               settle 9 20\n\
+              call 2 20 ls /d 0\n\
+              settle 9 30\n\
               call 1 40 unlink /d/x\n\
               call 1 41 rmdir /d\n\
-              deliver 3\n\
+              deliver 2\n\
               settle 9 50\n\
               show d1.1\n\
               call 2 60 ls / 0\n",
             b"call 1 mkdir -> made d1.1\n\
               call 1 create -> made f1.2\n\
               settle quiet\n\
+              call 2 ls -> refused 3 NotYet d1.1\n\
+              settle quiet\n\
               call 1 unlink -> done\n\
               call 1 rmdir -> done\n\
               settle quiet\n\
               at 1 d1.1 gold full place 41@1 d0.0 d dead lists 0\n\
-              at 2 d1.1 bronze full place 41@1 d0.0 d dead lists 0\n\
+              at 2 d1.1 gold full place 41@1 d0.0 d dead lists 0\n\
               call 2 ls -> names 0\n\
               end quiet\n",
         ),
@@ -213,14 +224,21 @@ fn writes_the_journal_of_the_run(rt: HostRuntime) -> Result<(), Fail> {
               call 1 10 mkdir /a\n\
               call 1 11 mkdir /b\n\
               settle 9 20\n\
+              call 2 20 ls /a 0\n\
+              call 2 20 ls /b 0\n\
+              settle 9 30\n\
               call 1 40 rename /a /b/a\n\
               call 2 41 rename /b /a/b\n\
               settle 9 50\n\
               call 1 60 ls / 0\n\
               call 1 61 ls /~d1.2 0\n\
-              call 1 62 rename /~d1.2 /~d1.2/a/q\n",
+              call 1 62 rename /~d1.2 /~d1.2/a/q\n\
+              call 1 63 stat d1.2\n",
             b"call 1 mkdir -> made d1.1\n\
               call 1 mkdir -> made d1.2\n\
+              settle quiet\n\
+              call 2 ls -> refused 3 NotYet d1.1\n\
+              call 2 ls -> refused 3 NotYet d1.2\n\
               settle quiet\n\
               call 1 rename -> done\n\
               call 2 rename -> done\n\
@@ -228,6 +246,7 @@ fn writes_the_journal_of_the_run(rt: HostRuntime) -> Result<(), Fail> {
               call 1 ls -> names 1 ~d1.2=d1.2\n\
               call 1 ls -> names 1 a=d1.1\n\
               call 1 rename -> refused 11 Loop\n\
+              call 1 stat -> stat d1.2 42@2 d0.0 ~d1.2 live gold golds 2 heads 0 length 0 edges 1\n\
               end quiet\n",
         ),
     ];

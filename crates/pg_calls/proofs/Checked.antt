@@ -5,25 +5,28 @@ use Rattle.pg_patch.specs.Ranges.{RangesValue}
 use Rattle.pg_replica.specs.Replica.{has_many_actors, is_too_long}
 use Rattle.pg_call.specs.declared.refusal.Refusal.{Refusal}
 use Rattle.pg_call.specs.declared.refusal.Refusal.TheVariants.{ManyActors, TooLong}
+use Rattle.pg_walk.specs.declared.paths.Stop.{Stop}
+use Rattle.pg_walk.specs.declared.paths.Stop.TheVariants as stop
+use Rattle.pg_walk.specs.Walk.{and_then}
 use Rattle.pg_store.specs.declared.store.Store.{Store}
 use Rattle.pg_store.specs.Store.{replica_of}
-use Rattle.pg_calls.specs.Answer.{and_then, unless}
+use Rattle.pg_calls.specs.Answer.{unless}
 use Rattle.pg_calls.specs.Bodies.{when_fit}
 
-pub same_ok : {A : Type 0} (x y : A) → ◌≡◌ {A = Result A Refusal} (Ok x) (Ok y) → x ≡ y
+pub same_ok : {A : Type 0} (x y : A) → ◌≡◌ {A = Result A Stop} (Ok x) (Ok y) → x ≡ y
 same_ok x y h = cc
 
-pub no_ok : {A : Type 0} (why : Refusal) (x : A) → ◌≡◌ {A = Result A Refusal} (Err why) (Ok x) → ⊥
+pub no_ok : {A : Type 0} (why : Stop) (x : A) → ◌≡◌ {A = Result A Stop} (Err why) (Ok x) → ⊥
 no_ok why x h = cc
 
 -- a check behind another
-pub behind : {A B : Type 0} (first : Result A Refusal) (second : A → Result B Refusal) (found : B) → and_then first second ≡ Ok found → (x : A) × (first ≡ Ok x) × (second x ≡ Ok found)
+pub behind : {A B : Type 0} (first : Result A Stop) (second : A → Result B Stop) (found : B) → and_then first second ≡ Ok found → (x : A) × (first ≡ Ok x) × (second x ≡ Ok found)
 behind (Err why) second found h = absurd (no_ok why found h)
 behind (Ok x) second found h = (x, refl, h)
 
 -- a check by a test
 pub unless_ok : {A : Type 0} (bad : Bool) (why : Refusal) (x y : A) → unless bad why x ≡ Ok y → (bad ≡ false) × (x ≡ y)
-unless_ok true why x y h = absurd (no_ok why y h)
+unless_ok true why x y h = absurd (no_ok (stop.Refused why) y h)
 unless_ok false why x y h = (refl, same_ok x y h)
 
 -- what fits is the file itself

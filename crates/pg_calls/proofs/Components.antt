@@ -1,6 +1,6 @@
 -- The tests of components and of client names tell what the relations on paths say, and so does the
 -- check of a whole text.
-use Rattle.std.proofs.Common.{ℕ, suc, ◌≡◌, ◌<◌, ◌≤◌, ◌-◌, ◌==◌, Bool, true, false, List, [], ◌∷◌, Some, None, Ok, Err, length, get_or, All, arith, refl, sym, ap, ◌∙◌, inl, inr}
+use Rattle.std.proofs.Common.{ℕ, suc, ◌≡◌, ◌<◌, ◌≤◌, ◌-◌, ◌==◌, Bool, true, false, List, [], ◌∷◌, Some, None, Ok, length, get_or, All, arith, refl, sym, ap, ◌∙◌, inl, inr}
 use Rattle.std.specs.Prelude.{◌≢◌, ◌||◌, ◌↔◌, IsTrue, not, nat_lt, slice_index}
 use Rattle.std.specs.List.{position, position_or_len, slice_get}
 use Rattle.std.proofs.lemmas.Bool.{false≢true, le-leb, le-ltb}
@@ -12,6 +12,7 @@ use Rattle.pg_path.specs.Path.{HasBadName, IsComponent, IsPath, parts_of, path_t
 use Rattle.pg_path.specs.Tested.{is_client_name, is_component}
 use Rattle.pg_path.proofs.Tested.{client_name, client_name_is, component, component_is}
 use Rattle.pg_call.specs.declared.refusal.Refusal.TheVariants.{BadPath}
+use Rattle.pg_walk.specs.Walk.{refused}
 use Rattle.pg_house.proofs.Truths.{bool_cases, chosen_false}
 use Rattle.pg_calls.specs.Paths.{all_of, checked_parts, is_none, last_of, path_of}
 
@@ -82,13 +83,13 @@ bad_number text number h =
     let inside = h.first.2.inside in
     omega arith
 
-pub bad_component : (text : List ℕ) (number : ℕ) → HasBadName text number → path_of text ≡ Err (BadPath number)
+pub bad_component : (text : List ℕ) (number : ℕ) → HasBadName text number → path_of text ≡ refused (BadPath number)
 bad_component text number h =
     let i = h.first.0 in
     let e = h.first.1 in
     checked text h.slash h.short h.few
     ∙ ap (all_of (parts_of text)) (first_bad (parts_of text) i h.first.2)
-    ∙ ap (λ n. Err (BadPath n)) (sym e)
+    ∙ ap (λ n. refused (BadPath n)) (sym e)
 
 pub whole_path : (text : List ℕ) (parts : List (List ℕ)) → IsPath parts → text ≡ path_text parts → parts ≡ parts_of text → path_of text ≡ Ok parts
 whole_path text parts h spelled e =

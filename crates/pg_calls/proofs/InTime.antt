@@ -9,15 +9,16 @@ use Rattle.pg_replica.proofs.Ends.{room_without_end}
 use Rattle.pg_names.specs.Names.{is_dir, known}
 use Rattle.pg_house.specs.Returning.{is_root}
 use Rattle.pg_house.proofs.Truths.{and_true, not_true}
-use Rattle.pg_call.specs.declared.refusal.Refusal.{Refusal}
 use Rattle.pg_call.specs.declared.refusal.Refusal.TheVariants.{ClockEnd, IsDir, Root}
+use Rattle.pg_walk.specs.declared.paths.Stop.{Stop}
+use Rattle.pg_walk.specs.Walk.{and_then, reach, refused}
 use Rattle.pg_store.specs.declared.store.Store.{Store}
-use Rattle.pg_store.specs.Store.{has_time, home_of, is_in_time, replica_of}
+use Rattle.pg_store.specs.Store.{has_time, is_in_time, replica_of}
 use Rattle.pg_store.proofs.InTime.{files_in_time}
 use Rattle.pg_calls.specs.declared.checks.Move.{Move}
 use Rattle.pg_calls.specs.declared.checks.NewName.{NewName}
-use Rattle.pg_calls.specs.Answer.{and_then, unless}
-use Rattle.pg_calls.specs.Checks.{dir_at, empty_dir_at, file_at, first_child, in_time, move_of, new_name, reach_full, thing_at, unless_child}
+use Rattle.pg_calls.specs.Answer.{unless}
+use Rattle.pg_calls.specs.Checks.{dir_at, empty_dir_at, file_at, first_child, in_time, move_of, new_name, thing_at, unless_child}
 use Rattle.pg_calls.specs.Naming.{next_id}
 use Rattle.pg_calls.specs.Paths.{new_path_of, path_of, paths_of}
 use Rattle.pg_calls.proofs.Checked.{behind}
@@ -28,7 +29,7 @@ time_by : {A : Type 0} (b : Bool) (x y : A) → unless (not b) ClockEnd x ≡ Ok
 time_by true x y h = refl
 time_by false x y h = cc
 
-pub behind_time : {A B : Type 0} (store : Store) (texts : Result A Refusal) (next : A → Result B Refusal) (found : B)
+pub behind_time : {A B : Type 0} (store : Store) (texts : Result A Stop) (next : A → Result B Stop) (found : B)
     → and_then (and_then texts (in_time store)) next ≡ Ok found → is_in_time store ≡ true
 behind_time store (Err why) next found h = cc
 behind_time store (Ok x) next found h =
@@ -37,14 +38,14 @@ behind_time store (Ok x) next found h =
 pub file_in_time : (store : Store) (text : List ℕ) (file : FileId) → file_at store text ≡ Ok file → is_in_time store ≡ true
 file_in_time store text file h =
     let t = behind (thing_at store false text) (λ f. unless (is_dir f) IsDir f) file h in
-    behind_time store (path_of text) (reach_full store false) t.0 t.1
+    behind_time store (path_of text) (reach store.names false) t.0 t.1
 
 pub dir_in_time : (store : Store) (text : List ℕ) (dir : FileId) → empty_dir_at store text ≡ Ok dir → is_in_time store ≡ true
 dir_in_time store text dir h =
     let r = behind (and_then (dir_at store text) (λ d. unless (is_root d) Root d))
     (λ d. unless_child d (first_child d (known store.names d))) dir h in
     let t = behind (dir_at store text) (λ d. unless (is_root d) Root d) r.0 r.1 in
-    behind_time store (path_of text) (reach_full store true) t.0 t.1
+    behind_time store (path_of text) (reach store.names true) t.0 t.1
 
 pub name_in_time : (store : Store) (child : FileId) (text : List ℕ) (new : NewName) → new_name store child text ≡ Ok new
     → is_in_time store ≡ true
@@ -54,12 +55,12 @@ pub move_in_time : (store : Store) (from to : List ℕ) (move : Move) → move_o
 move_in_time store from to move h = behind_time store (paths_of from to) _ move h
 
 -- at the end of the clock what would come then is not looked at
-late : {A B : Type 0} (store : Store) (texts : Result A Refusal) (next other : A → Result B Refusal)
+late : {A B : Type 0} (store : Store) (texts : Result A Stop) (next other : A → Result B Stop)
     → is_in_time store ≡ false
     → and_then (and_then texts (in_time store)) next ≡ and_then (and_then texts (in_time store)) other
 late store (Err why) next other h = refl
 late store (Ok x) next other h =
-    let e : in_time store x ≡ Err ClockEnd = ap (λ b. unless (not b) ClockEnd x) h in
+    let e : in_time store x ≡ refused ClockEnd = ap (λ b. unless (not b) ClockEnd x) h in
     ap (λ r. and_then r next) e ∙ sym (ap (λ r. and_then r other) e)
 
 same_by : (store : Store) (a b : FileId) (text : List ℕ) (t : Bool) → is_in_time store ≡ t
@@ -79,9 +80,9 @@ pub room_in_time : (store : Store) (file : FileId) (server : ℕ) → server ≡
     → has_room (replica_of store file) server ≡ true
 room_in_time store file server own time =
     let none : have_own_end store.replicas store.names.server ≡ false =
-    not_true (have_own_end store.replicas store.names.server) (and_true _ _ (and_true (has_time store.names.last store.tags store.files) _ time).1).0 in
+    not_true (have_own_end store.replicas store.names.server) (and_true _ _ (and_true (has_time store.names.last store.tags store.files store.births) _ time).1).0 in
     let P : ℕ → Type 0 = λ s. has_room (replica_of store file) s ≡ true in
-    subst P (sym own) (room_without_end (home_of store) file store.names.server store.replicas none)
+    subst P (sym own) (room_without_end file store.names.server store.replicas none)
 
 one_more : (f n : ℕ) → f < 2 ^ 62 → n ≡ min (f + 1) 18446744073709551615 → n ≡ f + 1
 one_more f n h e = grind arith

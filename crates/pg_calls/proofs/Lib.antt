@@ -4,5 +4,12 @@ pub mod Checked
 pub mod Walked
 pub mod InTime
 mod First
+pub mod New
 mod Made
 mod Telling
+mod Denials
+pub mod Stopping
+pub mod Missing
+pub mod Refused
+pub mod Late
+pub mod Filled

@@ -7,21 +7,21 @@ use Rattle.pg_patch.specs.Ranges.{RangesValue, applied, cut_to, written}
 use Rattle.pg_content.specs.Content.{body_limit, shown_bytes}
 use Rattle.pg_replica.specs.Replica.{has_many_actors, is_too_long}
 use Rattle.pg_msg.specs.declared.work.Work.{Work}
-use Rattle.pg_call.specs.declared.refusal.Refusal.{Refusal}
 use Rattle.pg_call.specs.declared.refusal.Refusal.TheVariants.{TooLong, ManyActors}
-use Rattle.pg_call.specs.declared.reply.Reply.{Reply}
 use Rattle.pg_call.specs.declared.reply.Reply.TheVariants.{Bytes, Wrote}
+use Rattle.pg_walk.specs.declared.paths.Stop.{Stop}
+use Rattle.pg_walk.specs.Walk.{and_then}
 use Rattle.pg_store.specs.declared.store.Store.{Store}
 use Rattle.pg_store.specs.Store.{content_of, replica_of}
 use Rattle.pg_cells.specs.Done.{idle}
-use Rattle.pg_calls.specs.Answer.{Answer, and_then, answer, answered, replied, unless}
+use Rattle.pg_calls.specs.Answer.{Answer, answer, answered, replied, unless}
 use Rattle.pg_calls.specs.Checks.{file_at}
 use Rattle.pg_calls.specs.Making.{drawn, make_version}
 
 -- ---- writing
 
 -- the new body is not too long, and then the new vector has not too many actors
-abbrev pub when_fit : Store → RangesValue → FileId → Result FileId Refusal
+abbrev pub when_fit : Store → RangesValue → FileId → Result FileId Stop
 when_fit store ranges file =
     and_then (unless (is_too_long (replica_of store file) ranges) TooLong file)
     (λ fit. unless (has_many_actors (replica_of store fit) store.names.server) ManyActors fit)
@@ -64,6 +64,7 @@ Makes (Err ranges_error.OutOfMemory) ranges = Unit {0}
 abbrev pub shown_part : Store → FileId → ℕ → ℕ → List ℕ
 shown_part store file offset count = take count (drop offset (shown_bytes (content_of store file)))
 
-abbrev pub read : Store → List ℕ → ℕ → ℕ → Reply
-read store text offset count =
-    replied (file_at store text) (λ file. Bytes (shown_part store file offset count))
+abbrev pub read : Store → List ℕ → ℕ → ℕ → Work → Answer
+read store text offset count work =
+    replied store work (file_at store text)
+    (λ file. Bytes (shown_part store file offset count))

@@ -4,7 +4,7 @@ use Rattle.pg_msg.specs.declared.work.Work.{Work}
 use Rattle.pg_call.specs.declared.call.Call.{Call}
 use Rattle.pg_call.specs.declared.call.Call.TheVariants as call
 use Rattle.pg_store.specs.declared.store.Store.{Store}
-use Rattle.pg_calls.specs.Answer.{Answer, told}
+use Rattle.pg_calls.specs.Answer.{Answer}
 use Rattle.pg_calls.specs.Naming.{create, mkdir, rename, rmdir, unlink}
 use Rattle.pg_calls.specs.Bodies.{cut, read, write}
 use Rattle.pg_calls.specs.Looks.{fresh, ls, stat, status, stop}
@@ -29,22 +29,22 @@ is_built (call.Giveup view server) = false
 is_built call.Status = true
 is_built call.Stop = true
 
--- those that are not built yet change nothing
+-- those that are not built yet answer as `stop` does
 abbrev pub do_call : Store → Call → Work → Answer
 do_call store (call.Mkdir path) work = mkdir store path work
 do_call store (call.Create path policy) work = create store path policy work
 do_call store (call.Write path offset bytes) work = write store path offset bytes work
 do_call store (call.Cut path length) work = cut store path length work
-do_call store (call.Read path offset count) work = told store work (read store path offset count)
-do_call store (call.Fresh path) work = told store work (fresh store path)
-do_call store (call.Ls path from) work = told store work (ls store path from)
-do_call store (call.Stat target) work = told store work (stat store target)
+do_call store (call.Read path offset count) work = read store path offset count work
+do_call store (call.Fresh path) work = fresh store path work
+do_call store (call.Ls path from) work = ls store path from work
+do_call store (call.Stat target) work = stat store target work
 do_call store (call.Rename from to) work = rename store from to work
 do_call store (call.Unlink path) work = unlink store path work
 do_call store (call.Rmdir path) work = rmdir store path work
-do_call store (call.Forget id) work = told store work (stop store)
-do_call store (call.Demote target) work = told store work (stop store)
-do_call store (call.Drop target) work = told store work (stop store)
-do_call store (call.Giveup view server) work = told store work (stop store)
-do_call store call.Status work = told store work (status store)
-do_call store call.Stop work = told store work (stop store)
+do_call store (call.Forget id) work = stop store work
+do_call store (call.Demote target) work = stop store work
+do_call store (call.Drop target) work = stop store work
+do_call store (call.Giveup view server) work = stop store work
+do_call store call.Status work = status store work
+do_call store call.Stop work = stop store work

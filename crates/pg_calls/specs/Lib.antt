@@ -1,3 +1,4 @@
+pub mod Asking
 pub mod Answer
 pub mod Paths
 pub mod Checks
@@ -6,3 +7,4 @@ pub mod Naming
 pub mod Bodies
 pub mod Looks
 pub mod Calls
+pub mod Refused

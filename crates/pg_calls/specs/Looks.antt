@@ -1,4 +1,4 @@
--- Calls that look and change nothing: what the client is told.
+-- Calls that look: where they go on they change nothing, and the client is told this.
 use Rattle.std.specs.Prelude.{ℕ, ◌-◌, ◌^◌, min, if◌then◌else◌, List, [], length, take, drop, count_by, Option, None, Some}
 use Rattle.pg_base.specs.declared.id.FileId.{FileId}
 use Rattle.pg_content.specs.Content.{shown_bytes}
@@ -8,15 +8,18 @@ use Rattle.pg_register.specs.Flag.{is_live, is_raised}
 use Rattle.pg_names.specs.declared.own.Own.{Own}
 use Rattle.pg_names.specs.Names.{HeldValue, is_dir, known, own_or_blank}
 use Rattle.pg_house.specs.Holding.{held_back}
+use Rattle.pg_msg.specs.declared.work.Work.{Work}
 use Rattle.pg_call.specs.declared.call.Target.{Target}
 use Rattle.pg_call.specs.declared.reply.Reply.{Reply}
 use Rattle.pg_call.specs.declared.reply.Reply.TheVariants as reply
 use Rattle.pg_call.specs.declared.reply.Stat.{Stat}
 use Rattle.pg_call.specs.declared.reply.Counts.{Counts}
 use Rattle.pg_store.specs.declared.store.Store.{Store}
+use Rattle.pg_store.specs.Births.{birth_of}
+use Rattle.pg_store.specs.Servers.{view_of}
 use Rattle.pg_store.specs.Store.{content_of, replica_of}
 use Rattle.pg_cells.specs.Counts.{key_count}
-use Rattle.pg_calls.specs.Answer.{replied}
+use Rattle.pg_calls.specs.Answer.{Answer, replied}
 use Rattle.pg_calls.specs.Checks.{dir_at, file_at, in_time, target_at}
 
 -- ---- names
@@ -36,15 +39,16 @@ rows_from rows from = take most_names (drop from rows)
 abbrev pub page : List Row → ℕ → Reply
 page rows from = reply.Names (length rows) (rows_from rows from)
 
-abbrev pub ls : Store → List ℕ → ℕ → Reply
-ls store text from =
-    replied (dir_at store text) (λ dir. page (listing dir (known store.names dir)) from)
+abbrev pub ls : Store → List ℕ → ℕ → Work → Answer
+ls store text from work =
+    replied store work (dir_at store text)
+    (λ dir. page (listing dir (known store.names dir)) from)
 
 -- ---- one file or directory
 
 -- nothing is announced, so every version that was is here
-abbrev pub fresh : Store → List ℕ → Reply
-fresh store text = replied (file_at store text) (λ file. reply.Done)
+abbrev pub fresh : Store → List ℕ → Work → Answer
+fresh store text work = replied store work (file_at store text) (λ file. reply.Done)
 
 -- the greatest number that a reply has
 abbrev pub at_most : ℕ → ℕ
@@ -61,7 +65,7 @@ abbrev pub stat_with : Store → FileId → Own → Stat
 stat_with store file own = record {
   id = file;
   place = own.place;
-  gold = is_raised own.flags store.names.server (replica_of store file).birth;
+  gold = is_raised own.flags store.names.server (birth_of store file);
   golds = count_by (is_live store.names.removed) own.flags;
   heads = head_count store file;
   length = shown_length store file;
@@ -71,25 +75,26 @@ stat_with store file own = record {
 abbrev pub stat_of : Store → FileId → Stat
 stat_of store file = stat_with store file (own_or_blank store.names file)
 
-abbrev pub stat : Store → Target → Reply
-stat store target =
-    replied (target_at store target) (λ file. reply.Stat (stat_of store file))
+abbrev pub stat : Store → Target → Work → Answer
+stat store target work =
+    replied store work (target_at store target) (λ file. reply.Stat (stat_of store file))
 
 -- ---- the server
 
--- what it holds and waits for: there is no removal and no intention yet
+-- what it holds and waits for
 abbrev pub counts : Store → Counts
 counts store = record {
-  view = 0;
+  view = view_of store;
   last = store.names.last;
   replicas = length store.names.held;
-  intents = 0;
+  intents = length store.intents;
   cells = at_most (key_count store);
   held = length (held_back store.names);
 }
 
-abbrev pub status : Store → Reply
-status store = replied (in_time store (tt {0})) (λ found. reply.Status (counts store))
+abbrev pub status : Store → Work → Answer
+status store work =
+    replied store work (in_time store (tt {0})) (λ found. reply.Status (counts store))
 
-abbrev pub stop : Store → Reply
-stop store = replied (in_time store (tt {0})) (λ found. reply.Done)
+abbrev pub stop : Store → Work → Answer
+stop store work = replied store work (in_time store (tt {0})) (λ found. reply.Done)

@@ -1,21 +1,20 @@
--- What a server makes: places, flags and versions. It takes them as it takes what comes.
-use Rattle.std.specs.Prelude.{ℕ, [], map}
+-- What a server makes: places and versions. It takes them as it takes what comes.
+use Rattle.std.specs.Prelude.{ℕ, ◌≡◌, true, [], map}
 use Rattle.pg_base.specs.declared.id.FileId.{FileId}
 use Rattle.pg_base.specs.declared.stamp.Stamp.{Stamp}
 use Rattle.pg_base.specs.Stamp.{next_stamp}
 use Rattle.pg_base.specs.Version.{stamp_of}
 use Rattle.pg_edges.specs.declared.key.Key.TheVariants as key
 use Rattle.pg_patch.specs.Ranges.{RangesValue, all}
-use Rattle.pg_register.specs.declared.flag.Flag.{Flag}
 use Rattle.pg_register.specs.declared.place.Place.{Place}
 use Rattle.pg_msg.specs.declared.update.MadeVersion.{MadeVersion}
 use Rattle.pg_msg.specs.declared.update.Update.TheVariants as update
 use Rattle.pg_msg.specs.declared.work.Work.{Work}
 use Rattle.pg_msg.specs.Work.{with_made, with_touched}
 use Rattle.pg_store.specs.declared.store.Store.{Store}
-use Rattle.pg_store.specs.Store.{content_of, is_newer_flag, is_newer_place, take_flag, take_place, write}
-use Rattle.pg_cells.specs.Cells.{with_news}
+use Rattle.pg_store.specs.Store.{content_of, has_replica, write}
 use Rattle.pg_cells.specs.Done.{Done}
+use Rattle.pg_cells.specs.Taking.{take_place_noted}
 
 -- the stamp that the server draws next, at this moment
 abbrev pub drawn : Store → ℕ → Stamp
@@ -23,19 +22,13 @@ drawn store moment = next_stamp moment store.names.last store.names.server
 
 -- a place is made, and taken
 abbrev pub make_place : FileId → Place → Done → Done
-make_place file place done = record {
-  store = take_place done.store file place;
-  work = with_news (is_newer_place done.store file place)
-      (with_made done.work (update.Place file place)) file key.Place;
-}
+make_place file place done =
+    take_place_noted done.store file place (with_made done.work (update.Place file place))
 
--- a flag is made, and taken
-abbrev pub make_flag : FileId → Flag → Done → Done
-make_flag file flag done = record {
-  store = take_flag done.store file flag;
-  work = with_news (is_newer_flag done.store file flag)
-      (with_made done.work (update.Flag file flag)) file (key.Flag flag.server);
-}
+-- a replica of the file is here, and it has no version
+abbrev pub HasNoVersion : Store → FileId → Type 0
+HasNoVersion store file =
+    (has_replica store file ≡ true) × ((content_of store file).heads ≡ [])
 
 -- the version that is made with these ranges, on all heads
 abbrev pub version_of : Store → FileId → Stamp → RangesValue → MadeVersion

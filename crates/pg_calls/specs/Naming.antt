@@ -4,19 +4,21 @@ use Rattle.pg_base.specs.declared.id.FileId.{FileId}
 use Rattle.pg_base.specs.declared.id.Kind.{Kind}
 use Rattle.pg_base.specs.declared.id.Kind.TheVariants.{Dir, File}
 use Rattle.pg_base.specs.declared.policy.Policy.{Policy}
+use Rattle.pg_base.specs.declared.policy.Policy.TheVariants.{Last}
 use Rattle.pg_register.specs.declared.place.Place.{Place}
 use Rattle.pg_msg.specs.declared.work.Work.{Work}
-use Rattle.pg_names.specs.Names.{own_or_blank}
+use Rattle.pg_names.specs.Names.{blank_own, own_or_blank}
 use Rattle.pg_call.specs.declared.reply.Reply.TheVariants.{Done as IsDone, Made}
 use Rattle.pg_store.specs.declared.store.Store.{Store}
-use Rattle.pg_store.specs.Start.{first_flag}
-use Rattle.pg_store.specs.Store.{begin_file}
+use Rattle.pg_store.specs.Beginning.{begin}
+use Rattle.pg_store.specs.Births.{draw_birth, with_birth}
 use Rattle.pg_cells.specs.Done.{Done, idle}
+use Rattle.pg_cells.specs.Making.{raise_flag}
 use Rattle.pg_calls.specs.declared.checks.Move.{Move}
 use Rattle.pg_calls.specs.declared.checks.NewName.{NewName}
 use Rattle.pg_calls.specs.Answer.{Answer, answer, answered}
 use Rattle.pg_calls.specs.Checks.{empty_dir_at, file_at, move_of, new_name}
-use Rattle.pg_calls.specs.Making.{drawn, first_ranges, make_flag, make_place, make_version}
+use Rattle.pg_calls.specs.Making.{drawn, first_ranges, make_place, make_version}
 
 -- the id that the server gives out next
 abbrev pub next_id : Store → Kind → FileId
@@ -25,45 +27,45 @@ next_id store kind =
 
 -- it was given out
 abbrev pub with_id : Store → Store
-with_id store = record {
-  servers = store.servers;
-  tags = store.tags;
-  files = store.files + 1;
-  names = store.names;
-  replicas = store.replicas;
-}
+with_id store = record store { files = store.files + 1 }
 
 -- a live place with the next stamp
 abbrev pub place_in : Store → ℕ → NewName → Place
 place_in store moment new =
     record { stamp = drawn store moment; parent = new.dir; name = new.name; live = true }
 
--- a new thing has a place, and the server's raised flag
-abbrev pub with_thing : Store → Work → FileId → NewName → Done
-with_thing store work id new =
-    make_flag id (first_flag store.names.server)
-    (make_place id (place_in store work.now new) (idle store work))
+-- a full replica of a thing begins under a fresh birth: of the thing nothing is known
+abbrev pub begun : Store → FileId → Policy → Store
+begun store id policy =
+    begin (with_birth store) id (draw_birth store) policy (blank_own id) true
+
+-- its server raises its flag
+abbrev pub raised : FileId → Done → Done
+raised id done = raise_flag done.store id done.work
+
+-- a full replica of a new thing begins, which has a place and the server's raised flag
+abbrev pub with_thing : Store → Work → FileId → Policy → NewName → Done
+with_thing store work id policy new =
+    raised id (make_place id (place_in store work.now new) (idle (begun store id policy) work))
 
 -- a new directory
 abbrev pub mkdir : Store → List ℕ → Work → Answer
 mkdir store text work =
     answered store work (new_name store (next_id store Dir) text)
-    (λ new. answer (with_thing (with_id store) work (next_id store Dir) new)
+    (λ new. answer (with_thing (with_id store) work (next_id store Dir) Last new)
     (Made (next_id store Dir)))
 
--- the content begins with the file's policy and an empty version
-abbrev pub with_first_version : FileId → Policy → Done → Done
-with_first_version id policy done =
-    make_version id (drawn done.store done.work.now) first_ranges
-    (record { store = begin_file done.store id policy; work = done.work })
+-- the first version of a file has no byte
+abbrev pub with_first_version : FileId → Done → Done
+with_first_version id done = make_version id (drawn done.store done.work.now) first_ranges done
 
--- a new file
+-- a new file, which has this policy
 abbrev pub create : Store → List ℕ → Policy → Work → Answer
 create store text policy work =
     answered store work (new_name store (next_id store File) text)
     (λ new. answer
-    (with_first_version (next_id store File) policy
-    (with_thing (with_id store) work (next_id store File) new))
+    (with_first_version (next_id store File)
+    (with_thing (with_id store) work (next_id store File) policy new))
     (Made (next_id store File)))
 
 -- a new live place

@@ -2,9 +2,10 @@
 
 ghost use Rattle.std.specs.Prelude.{◌≡◌, IfOk, OnOk, true};
 ghost use Rattle.pg_patch.specs.Ranges.{RangesValue, cut_to, written};
-ghost use Rattle.pg_store.specs.Store.{is_in_time};
+ghost use Rattle.pg_store.specs.Store.{has_replica, is_in_time};
 ghost use Rattle.pg_calls.specs.Bodies.{Makes, change, change_file, cut, read, shown_part, write};
 
+use crate::asking::deny;
 use crate::checks::file_at;
 use crate::making::{make_version, next_stamp};
 use pg_base::{FileId, SharedBytes};
@@ -53,18 +54,25 @@ pub(crate) fn cut(
     Ok(reply)
 }
 
-/// What is shown from the offset on, at most so many bytes. Nothing changes.
+/// What is shown from the offset on, at most so many bytes. Where it is told nothing changes.
+#[tactic(auto, using(crate::proofs::Denials::store_is, crate::proofs::Denials::work_is, crate::proofs::Denials::reply_is))]
 pub(crate) fn read(
-    store: &Store,
+    store: &mut Store,
     text: &[u8],
     offset: u32,
     count: ReadCount,
+    work: &mut Work,
 ) -> Result<Reply, AllocError>
-    ensures { IfOk result (λ r. r ≡ read store.now text.now offset count) }
+    ensures store { OnOk result
+        (store.new ≡ (read store.old text.now offset count work.old).store) }
+    ensures work { OnOk result
+        (work.new ≡ (read store.old text.now offset count work.old).work) }
+    ensures reply { IfOk result
+        (λ r. r ≡ (read store.old text.now offset count work.old).reply) }
 {
     match file_at(store, text) {
         Ok(file) => Ok(Reply::Bytes(shown_part(store, &file, offset, count)?)),
-        Err(denied) => Ok(denied.reply()?),
+        Err(denied) => Ok(deny(store, denied, work)?),
     }
 }
 
@@ -101,6 +109,7 @@ fn cut_ranges(alloc: Global, length: u32) -> Result<Ranges, RangeError>
 
 /// A version of the file that the path leads to is made with these ranges. What refuses the path comes before what refuses
 /// the ranges.
+#[tactic(auto, using(crate::proofs::Denials::store_is, crate::proofs::Denials::work_is, crate::proofs::Denials::reply_is))]
 fn change(
     store: &mut Store,
     text: &[u8],
@@ -116,7 +125,7 @@ fn change(
 {
     match file_at(store, text) {
         Ok(file) => Ok(change_file(store, file, ranges, work)?),
-        Err(denied) => Ok(denied.reply()?),
+        Err(denied) => Ok(deny(store, denied, work)?),
     }
 }
 
@@ -142,7 +151,8 @@ fn change_file(
     }
 }
 
-/// The same of ranges that are made: the new body is not too long, and then the new vector has not too many actors.
+/// The same of ranges that are made: the new body is not too long, and then the new vector has not too many actors. What is
+/// held has a replica: where it had none it is as if memory ran out.
 fn change_where_fit(
     store: &mut Store,
     file: FileId,
@@ -157,6 +167,9 @@ fn change_where_fit(
     ensures reply { IfOk result
         (λ reply. reply ≡ (change_file store.old ranges work.old file).reply) }
 {
+    if !has_replica(store, &file) {
+        return Err(AllocError);
+    }
     let stamp = next_stamp(store, work.now);
     match make_version(store, file, stamp, ranges, work) {
         Ok(()) => Ok(Reply::Wrote(stamp)),
@@ -164,4 +177,10 @@ fn change_where_fit(
         Err(WriteError::ManyActors) => Ok(Reply::Refused(Refusal::ManyActors)),
         Err(WriteError::OutOfMemory) => Err(AllocError),
     }
+}
+
+fn has_replica(store: &Store, file: &FileId) -> bool
+    ensures { result ≡ has_replica store.now file.now }
+{
+    store.replica(file).is_some()
 }

@@ -35,8 +35,8 @@ pub fn is_built(call: &Call) -> bool
     }
 }
 
-/// A client calls the server. A call that is refused changes nothing, nor does one that is not built. Where memory ran
-/// out a part may be done.
+/// A client calls the server. A call that is refused changes nothing, but that what is not here yet is asked for; nor does
+/// one that is not built. Where memory ran out a part may be done.
 pub fn do_call(store: &mut Store, call: &Call, work: &mut Work) -> Result<Reply, AllocError>
     ensures store { OnOk result (store.new ≡ (do_call store.old call.now work.old).store) }
     ensures work { OnOk result (work.new ≡ (do_call store.old call.now work.old).work) }
@@ -55,18 +55,18 @@ pub fn do_call(store: &mut Store, call: &Call, work: &mut Work) -> Result<Reply,
             path,
             offset,
             count,
-        } => read(store, path.as_slice(), *offset, *count)?,
-        Call::Fresh { path } => fresh(store, path.as_slice())?,
-        Call::Ls { path, from } => ls(store, path.as_slice(), *from)?,
-        Call::Stat { target } => stat(store, target)?,
+        } => read(store, path.as_slice(), *offset, *count, work)?,
+        Call::Fresh { path } => fresh(store, path.as_slice(), work)?,
+        Call::Ls { path, from } => ls(store, path.as_slice(), *from, work)?,
+        Call::Stat { target } => stat(store, target, work)?,
         Call::Rename { from, to } => rename(store, from.as_slice(), to.as_slice(), work)?,
         Call::Unlink { path } => unlink(store, path.as_slice(), work)?,
         Call::Rmdir { path } => rmdir(store, path.as_slice(), work)?,
-        Call::Status => status(store)?,
+        Call::Status => status(store, work)?,
         Call::Forget { .. }
         | Call::Demote { .. }
         | Call::Drop { .. }
         | Call::Giveup { .. }
-        | Call::Stop => stop(store)?,
+        | Call::Stop => stop(store, work)?,
     })
 }

@@ -4,7 +4,7 @@ ghost use Rattle.std.specs.Prelude.{◌≡◌, IfOk};
 ghost use Rattle.pg_house.specs.Returning.{is_root};
 ghost use Rattle.pg_names.specs.Names.{known};
 ghost use Rattle.pg_calls.specs.Answer.{Tells};
-ghost use Rattle.pg_calls.specs.Checks.{dir_at, empty_dir_at, file_at, first_child, first_row, id_at, in_time, is_filling, move_along, move_of, move_to, new_name, new_name_in, reach_full, target_at, thing_at, when_free, when_full};
+ghost use Rattle.pg_calls.specs.Checks.{dir_at, empty_dir_at, file_at, first_child, first_row, id_at, in_time, move_along, move_of, move_to, new_name, new_name_in, target_at, thing_at, when_free};
 
 use crate::denied::Denied;
 use crate::paths::{Paths, last_of, new_path_of, path_of, paths_of};
@@ -13,7 +13,7 @@ use pg_call::{Refusal, Target};
 use pg_names::{Names, is_dir};
 use pg_path::{Path, Row};
 use pg_store::Store;
-use pg_walk::{ROOT, is_above, is_full, reach, reach_parent, reached, shown_by};
+use pg_walk::{Found, ROOT, Way, has_no_room, is_above, reach, reach_parent, reached, shown_by};
 use std::alloc::AllocError;
 
 /// The directory in which a new name is to be, and the name.
@@ -35,34 +35,9 @@ pub(crate) fn in_time(store: &Store) -> Result<(), Denied>
     ensures { Tells result (in_time store.now tt) }
 {
     if !store.is_in_time() {
-        return Err(Denied::Refused(Refusal::ClockEnd));
+        return Err(Denied::refused(Refusal::ClockEnd));
     }
     Ok(())
-}
-
-/// The thing, if it is a directory or a file that has a version.
-pub(crate) fn when_full(store: &Store, file: FileId) -> Result<FileId, Denied>
-    ensures { Tells result (when_full store.now file) }
-{
-    if is_filling(store, &file) {
-        return Err(Denied::Refused(Refusal::NotYet(file)));
-    }
-    Ok(file)
-}
-
-/// Whether it is a file with no version.
-pub fn is_filling(store: &Store, file: &FileId) -> bool
-    ensures { result ≡ is_filling store.now file.now }
-{
-    !is_dir(file) && store.has_no_head(file)
-}
-
-/// What the path leads to, held and full.
-pub(crate) fn reach_full(store: &Store, needs_dir: bool, path: &Path) -> Result<FileId, Denied>
-    ensures { Tells result (reach_full store.now needs_dir path.now) }
-{
-    let file = reach(&store.names, path, needs_dir)?;
-    when_full(store, file)
 }
 
 /// What the text of a path leads to, held and full.
@@ -71,7 +46,7 @@ pub(crate) fn thing_at(store: &Store, needs_dir: bool, text: &[u8]) -> Result<Fi
 {
     let path = path_of(store.allocator(), text)?;
     in_time(store)?;
-    reach_full(store, needs_dir, &path)
+    Ok(reach(&store.names, &path, needs_dir)?)
 }
 
 /// The same, which has to be a file.
@@ -80,7 +55,7 @@ pub(crate) fn file_at(store: &Store, text: &[u8]) -> Result<FileId, Denied>
 {
     let file = thing_at(store, false, text)?;
     if is_dir(&file) {
-        return Err(Denied::Refused(Refusal::IsDir));
+        return Err(Denied::refused(Refusal::IsDir));
     }
     Ok(file)
 }
@@ -107,8 +82,11 @@ fn id_at(store: &Store, id: FileId) -> Result<FileId, Denied>
     ensures { Tells result (id_at store.now id) }
 {
     in_time(store)?;
-    let file = reached(&store.names, id)?;
-    when_full(store, file)
+    let found = Found {
+        file: id,
+        way: Way::Id,
+    };
+    Ok(reached(&store.names, found)?)
 }
 
 /// Where the last component of the path is to be a new name, for this child.
@@ -126,7 +104,7 @@ fn new_name_in(names: &Names, child: FileId, path: &Path, dir: FileId) -> Result
     ensures { Tells result (new_name_in names.now child path.now dir) }
 {
     if path.is_empty() {
-        return Err(Denied::Refused(Refusal::Exists(ROOT)));
+        return Err(Denied::refused(Refusal::Exists(ROOT)));
     }
     when_free(names, child, dir, last_of(path))
 }
@@ -137,10 +115,10 @@ fn when_free(names: &Names, child: FileId, dir: FileId, name: &[u8]) -> Result<N
         (when_free names.now child (record { dir = dir; name = name.now })) }
 {
     if let Some(other) = shown_by(names, dir, name) {
-        return Err(Denied::Refused(Refusal::Exists(other)));
+        return Err(Denied::refused(Refusal::Exists(other)));
     }
-    if is_full(names, dir, child) {
-        return Err(Denied::Refused(Refusal::DirFull));
+    if has_no_room(names, dir, child) {
+        return Err(Denied::refused(Refusal::DirFull));
     }
     let name = SharedBytes::from_slice(names.allocator(), name)?;
     Ok(NewName { dir, name })
@@ -159,7 +137,7 @@ pub(crate) fn move_of(store: &Store, from: &[u8], to: &[u8]) -> Result<Move, Den
 fn move_along(store: &Store, paths: &Paths) -> Result<Move, Denied>
     ensures { Tells result (move_along store.now paths.now) }
 {
-    let thing = reach_full(store, false, &paths.from)?;
+    let thing = reach(&store.names, &paths.from, false)?;
     let dir = reach_parent(&store.names, &paths.to)?;
     move_to(&store.names, thing, &paths.to, dir)
 }
@@ -169,11 +147,11 @@ fn move_to(names: &Names, thing: FileId, path: &Path, dir: FileId) -> Result<Mov
     ensures { Tells result (move_to names.now thing path.now dir) }
 {
     if is_root(&thing) {
-        return Err(Denied::Refused(Refusal::Root));
+        return Err(Denied::refused(Refusal::Root));
     }
     let to = new_name_in(names, thing, path, dir)?;
     if is_dir(&thing) && is_above(names, thing, to.dir) {
-        return Err(Denied::Refused(Refusal::Loop));
+        return Err(Denied::refused(Refusal::Loop));
     }
     Ok(Move { thing, to })
 }
@@ -190,10 +168,10 @@ pub(crate) fn empty_dir_at(store: &Store, text: &[u8]) -> Result<FileId, Denied>
 {
     let dir = dir_at(store, text)?;
     if is_root(&dir) {
-        return Err(Denied::Refused(Refusal::Root));
+        return Err(Denied::refused(Refusal::Root));
     }
     match first_child(&store.names, dir)? {
-        Some(child) => Err(Denied::Refused(Refusal::NotEmpty(child))),
+        Some(child) => Err(Denied::refused(Refusal::NotEmpty(child))),
         None => Ok(dir),
     }
 }

@@ -1,20 +1,32 @@
 //! Why a call does not go on.
 
-ghost use Rattle.std.specs.Prelude.{◌≡◌, IfOk};
-ghost use Rattle.pg_calls.specs.Answer.{IsToldOf};
+ghost use Rattle.std.specs.Prelude.{◌≡◌};
 ghost use Rattle.pg_calls.specs.declared.denied.Denied.TheVariants as denied;
+ghost use Rattle.pg_walk.specs.declared.paths.Stop.TheVariants as stop;
 
-use pg_call::{Refusal, Reply};
+use pg_call::Refusal;
+use pg_walk::Stop;
 use std::alloc::AllocError;
 
-/// Why a call does not go on: it is refused, or memory ran out.
+/// Why a call does not go on: it is refused or came to what is not here yet, or memory ran out.
 #[derive(Clone, Copy, Debug, PartialEq, Eq)]
 pub(crate) enum Denied {
-    Refused(Refusal),
+    Stopped(Stop),
     OutOfMemory,
 }
 
+impl Denied {
+    pub(crate) fn refused(why: Refusal) -> Denied
+        ensures { result ≡ denied.Stopped (stop.Refused why) }
+    {
+        Denied::Stopped(Stop::Refused(why))
+    }
+}
+
 impl From<AllocError> for Denied {
+    ghost use Rattle.std.specs.Prelude.{◌≡◌};
+    ghost use Rattle.pg_calls.specs.declared.denied.Denied.TheVariants as denied;
+
     ghost from_gives = { λ _ e. e ≡ denied.OutOfMemory };
 
     fn from(_: AllocError) -> Self {
@@ -22,22 +34,13 @@ impl From<AllocError> for Denied {
     }
 }
 
-impl From<Refusal> for Denied {
-    ghost from_gives = { λ why e. e ≡ denied.Refused why };
+impl From<Stop> for Denied {
+    ghost use Rattle.std.specs.Prelude.{◌≡◌};
+    ghost use Rattle.pg_calls.specs.declared.denied.Denied.TheVariants as denied;
 
-    fn from(why: Refusal) -> Self {
-        Denied::Refused(why)
-    }
-}
+    ghost from_gives = { λ why e. e ≡ denied.Stopped why };
 
-impl Denied {
-    /// What the client is told.
-    pub(crate) fn reply(self) -> Result<Reply, AllocError>
-        ensures { IfOk result (λ r. IsToldOf self r) }
-    {
-        match self {
-            Denied::Refused(why) => Ok(Reply::Refused(why)),
-            Denied::OutOfMemory => Err(AllocError),
-        }
+    fn from(why: Stop) -> Self {
+        Denied::Stopped(why)
     }
 }

@@ -1,15 +1,17 @@
-//! Calls that look and change nothing.
+//! Calls that look. Where they go on they change nothing.
 
-ghost use Rattle.std.specs.Prelude.{◌≡◌, IfOk, count_by};
+ghost use Rattle.std.specs.Prelude.{◌≡◌, IfOk, OnOk, count_by};
 ghost use Rattle.pg_names.specs.Names.{known};
 ghost use Rattle.pg_register.specs.Flag.{is_live};
 ghost use Rattle.pg_calls.specs.Looks.{counts, fresh, head_count, listing, ls, page, rows_from, shown_length, stat, stat_of, status, stop};
 
+use crate::asking::deny;
 use crate::checks::{dir_at, file_at, in_time, target_at};
 use pg_base::{FileId, Items, Shared};
 use pg_call::{Counts, Reply, Stat, Target};
 use pg_cells::key_count;
 use pg_house::count_held_back;
+use pg_msg::Work;
 use pg_names::{Names, is_dir};
 use pg_path::Row;
 use pg_register::GoldFlags;
@@ -20,12 +22,20 @@ use std::alloc::AllocError;
 const MOST_NAMES: usize = 100;
 
 /// The names in a directory from this position on, at most 100 of them, and how many there are in all.
-pub(crate) fn ls(store: &Store, text: &[u8], from: u32) -> Result<Reply, AllocError>
-    ensures { IfOk result (λ r. r ≡ ls store.now text.now from) }
+#[tactic(auto, using(crate::proofs::Denials::store_is, crate::proofs::Denials::work_is, crate::proofs::Denials::reply_is))]
+pub(crate) fn ls(
+    store: &mut Store,
+    text: &[u8],
+    from: u32,
+    work: &mut Work,
+) -> Result<Reply, AllocError>
+    ensures store { OnOk result (store.new ≡ (ls store.old text.now from work.old).store) }
+    ensures work { OnOk result (work.new ≡ (ls store.old text.now from work.old).work) }
+    ensures reply { IfOk result (λ r. r ≡ (ls store.old text.now from work.old).reply) }
 {
     match dir_at(store, text) {
-        Ok(dir) => page(listing(store, dir)?, from),
-        Err(denied) => denied.reply(),
+        Ok(dir) => Ok(page(listing(store, dir)?, from)?),
+        Err(denied) => Ok(deny(store, denied, work)?),
     }
 }
 
@@ -61,25 +71,31 @@ fn rows_from(rows: Items<Row>, from: u32) -> Result<Items<Row>, AllocError>
 }
 
 /// Whether every version of a file that was announced is here: none is announced before it comes.
-pub(crate) fn fresh(store: &Store, text: &[u8]) -> Result<Reply, AllocError>
-    ensures { IfOk result (λ r. r ≡ fresh store.now text.now) }
+#[tactic(auto, using(crate::proofs::Denials::store_is, crate::proofs::Denials::work_is, crate::proofs::Denials::reply_is))]
+pub(crate) fn fresh(store: &mut Store, text: &[u8], work: &mut Work) -> Result<Reply, AllocError>
+    ensures store { OnOk result (store.new ≡ (fresh store.old text.now work.old).store) }
+    ensures work { OnOk result (work.new ≡ (fresh store.old text.now work.old).work) }
+    ensures reply { IfOk result (λ r. r ≡ (fresh store.old text.now work.old).reply) }
 {
     match file_at(store, text) {
         Ok(_) => Ok(Reply::Done),
-        Err(denied) => denied.reply(),
+        Err(denied) => Ok(deny(store, denied, work)?),
     }
 }
 
 /// The replica at this server.
-pub(crate) fn stat(store: &Store, target: &Target) -> Result<Reply, AllocError>
-    ensures { IfOk result (λ r. r ≡ stat store.now target.now) }
+#[tactic(auto, using(crate::proofs::Denials::store_is, crate::proofs::Denials::work_is, crate::proofs::Denials::reply_is))]
+pub(crate) fn stat(store: &mut Store, target: &Target, work: &mut Work) -> Result<Reply, AllocError>
+    ensures store { OnOk result (store.new ≡ (stat store.old target.now work.old).store) }
+    ensures work { OnOk result (work.new ≡ (stat store.old target.now work.old).work) }
+    ensures reply { IfOk result (λ r. r ≡ (stat store.old target.now work.old).reply) }
 {
     match target_at(store, target) {
         Ok(file) => {
             let stat = stat_of(store, file)?;
             Ok(Reply::Stat(Shared::new(store.allocator(), stat)?))
         }
-        Err(denied) => denied.reply(),
+        Err(denied) => Ok(deny(store, denied, work)?),
     }
 }
 
@@ -128,12 +144,15 @@ fn shown_length(store: &Store, file: FileId) -> u64
 }
 
 /// What the server holds and waits for, in numbers.
-pub(crate) fn status(store: &Store) -> Result<Reply, AllocError>
-    ensures { IfOk result (λ r. r ≡ status store.now) }
+#[tactic(auto, using(crate::proofs::Denials::store_is, crate::proofs::Denials::work_is, crate::proofs::Denials::reply_is))]
+pub(crate) fn status(store: &mut Store, work: &mut Work) -> Result<Reply, AllocError>
+    ensures store { OnOk result (store.new ≡ (status store.old work.old).store) }
+    ensures work { OnOk result (work.new ≡ (status store.old work.old).work) }
+    ensures reply { IfOk result (λ r. r ≡ (status store.old work.old).reply) }
 {
     match in_time(store) {
         Ok(()) => Ok(Reply::Status(Shared::new(store.allocator(), counts(store))?)),
-        Err(denied) => denied.reply(),
+        Err(denied) => Ok(deny(store, denied, work)?),
     }
 }
 
@@ -141,21 +160,24 @@ fn counts(store: &Store) -> Counts
     ensures { result ≡ counts store.now }
 {
     Counts {
-        view: 0,
+        view: store.view(),
         last: store.names.last(),
         replicas: store.names.as_map().len() as u64,
-        intents: 0,
+        intents: store.intents.len() as u64,
         cells: key_count(store),
         held: count_held_back(&store.names) as u64,
     }
 }
 
 /// The server is to end: what it holds stays as it is.
-pub(crate) fn stop(store: &Store) -> Result<Reply, AllocError>
-    ensures { IfOk result (λ r. r ≡ stop store.now) }
+#[tactic(auto, using(crate::proofs::Denials::store_is, crate::proofs::Denials::work_is, crate::proofs::Denials::reply_is))]
+pub(crate) fn stop(store: &mut Store, work: &mut Work) -> Result<Reply, AllocError>
+    ensures store { OnOk result (store.new ≡ (stop store.old work.old).store) }
+    ensures work { OnOk result (work.new ≡ (stop store.old work.old).work) }
+    ensures reply { IfOk result (λ r. r ≡ (stop store.old work.old).reply) }
 {
     match in_time(store) {
         Ok(()) => Ok(Reply::Done),
-        Err(denied) => denied.reply(),
+        Err(denied) => Ok(deny(store, denied, work)?),
     }
 }

@@ -1,18 +1,18 @@
-//! Places, flags and versions that a server makes. It takes them as it takes what comes.
+//! Places and versions that a server makes. It takes them as it takes what comes.
 
 ghost use Rattle.std.specs.Prelude.{◌≡◌, ◌≢◌, ◌<◌, ◌≤◌, ◌^◌, IfErr, IfOk, None, OnOk, Some, true};
 ghost use Rattle.pg_replica.specs.Replica.{has_room, refusal_of};
-ghost use Rattle.pg_store.specs.Store.{replica_of};
+ghost use Rattle.pg_store.specs.Store.{has_replica, replica_of};
 ghost use Rattle.pg_cells.specs.Done.{idle};
-ghost use Rattle.pg_calls.specs.Making.{drawn, first_ranges, make_flag, make_place, make_version, with_version};
+ghost use Rattle.pg_calls.specs.Making.{drawn, first_ranges, make_place, make_version, with_version};
 
 use pg_base::{FileId, Items, Stamp};
-use pg_cells::touch_news;
+use pg_cells::take_place;
 use pg_content::WriteError;
 use pg_edges::Key;
 use pg_msg::{MadeVersion, Touched, Update, Work};
 use pg_patch::{ALL, Ranges};
-use pg_register::{Flag, Place};
+use pg_register::Place;
 use pg_store::Store;
 use std::alloc::{AllocError, Global};
 
@@ -48,26 +48,7 @@ pub(crate) fn make_place(
         place: place.copy()?,
     };
     work.made.push(made)?;
-    let news = store.take_place(file, place)?;
-    touch_news(news, work, file, Key::Place)?;
-    Ok(())
-}
-
-/// A flag is made, and taken. After out of memory a part may be done.
-pub(crate) fn make_flag(
-    store: &mut Store,
-    file: FileId,
-    flag: Flag,
-    work: &mut Work,
-) -> Result<(), AllocError>
-    ensures store { OnOk result
-        (store.new ≡ (make_flag file flag (idle store.old work.old)).store) }
-    ensures work { OnOk result
-        (work.new ≡ (make_flag file flag (idle store.old work.old)).work) }
-{
-    work.made.push(Update::Flag { id: file, flag })?;
-    let news = store.take_flag(file, flag)?;
-    touch_news(news, work, file, Key::Flag(flag.server))?;
+    take_place(store, file, place, work)?;
     Ok(())
 }
 
@@ -80,6 +61,7 @@ pub(crate) fn make_version(
     ranges: Ranges,
     work: &mut Work,
 ) -> Result<(), WriteError>
+    requires held { has_replica store.old file ≡ true }
     requires tags { store.old.tags ≤ 2 ^ 63 }
     requires room { has_room (replica_of store.old file) stamp.server ≡ true }
     ensures store { OnOk result

@@ -1,23 +1,29 @@
 //! Calls that make names, move them and take them away.
 
-ghost use Rattle.std.specs.Prelude.{◌≡◌, ◌<◌, ◌≤◌, ◌^◌, IfOk, OnOk};
+ghost use Rattle.std.specs.Prelude.{◌≡◌, ◌<◌, ◌^◌, IfOk, OnOk};
 ghost use Rattle.pg_cells.specs.Done.{idle};
 ghost use Rattle.pg_calls.specs.Answer.{Tells};
 ghost use Rattle.pg_calls.specs.Checks.{new_name};
-ghost use Rattle.pg_calls.specs.Naming.{create, dead_place, mkdir, moved, next_id, place_in, rename, rmdir, taken_away, unlink, with_first_version, with_id, with_thing};
+ghost use Rattle.pg_calls.specs.Making.{HasNoVersion};
+ghost use Rattle.pg_calls.specs.Naming.{begun, create, dead_place, mkdir, moved, next_id, place_in, rename, rmdir, taken_away, unlink, with_first_version, with_id, with_thing};
 
+use crate::asking::deny;
 use crate::checks::{Move, NewName, empty_dir_at, file_at, move_of, new_name};
 use crate::denied::Denied;
-use crate::making::{first_ranges, make_flag, make_place, make_version, next_stamp};
+use crate::making::{first_ranges, make_place, make_version, next_stamp};
 use pg_base::{FileId, Kind, Policy};
 use pg_call::Reply;
+use pg_cells::raise_flag;
 use pg_content::WriteError;
 use pg_msg::Work;
+use pg_names::Own;
 use pg_register::Place;
-use pg_store::{MOST_TAGS, Store, first_flag};
+use pg_store::{MOST_TAGS, Store};
 use std::alloc::AllocError;
 
-/// A new directory. Where it is refused nothing changes. After out of memory a part may be done.
+/// A new directory. Where it is refused nothing changes, but that what is not here yet is asked for. After out of memory
+/// a part may be done.
+#[tactic(auto, using(crate::proofs::Denials::store_is, crate::proofs::Denials::work_is, crate::proofs::Denials::reply_is))]
 pub(crate) fn mkdir(store: &mut Store, text: &[u8], work: &mut Work) -> Result<Reply, AllocError>
     ensures store { OnOk result (store.new ≡ (mkdir store.old text.now work.old).store) }
     ensures work { OnOk result (work.new ≡ (mkdir store.old text.now work.old).work) }
@@ -26,15 +32,16 @@ pub(crate) fn mkdir(store: &mut Store, text: &[u8], work: &mut Work) -> Result<R
     match name_for_new(store, Kind::Dir, text) {
         Ok(new) => {
             let id = give_id(store, Kind::Dir);
-            make_thing(store, id, new, work)?;
+            make_thing(store, id, Policy::Last, new, work)?;
             Ok(Reply::Made(id))
         }
-        Err(denied) => Ok(denied.reply()?),
+        Err(denied) => Ok(deny(store, denied, work)?),
     }
 }
 
-/// A new file with this policy and an empty version. Where it is refused nothing changes. After out of memory a part may be
-/// done.
+/// A new file with this policy and an empty version. Where it is refused nothing changes, but that what is not here yet is
+/// asked for. After out of memory a part may be done.
+#[tactic(auto, using(crate::proofs::Denials::store_is, crate::proofs::Denials::work_is, crate::proofs::Denials::reply_is))]
 pub(crate) fn create(
     store: &mut Store,
     text: &[u8],
@@ -49,15 +56,17 @@ pub(crate) fn create(
     match name_for_new(store, Kind::File, text) {
         Ok(new) => {
             let id = give_id(store, Kind::File);
-            make_thing(store, id, new, work)?;
-            make_first_version(store, id, policy, work)?;
+            make_thing(store, id, policy, new, work)?;
+            make_first_version(store, id, work)?;
             Ok(Reply::Made(id))
         }
-        Err(denied) => Ok(denied.reply()?),
+        Err(denied) => Ok(deny(store, denied, work)?),
     }
 }
 
-/// A thing gets a new place. Where that is refused nothing changes. After out of memory a part may be done.
+/// A thing gets a new place. Where that is refused nothing changes, but that what is not here yet is asked for. After out
+/// of memory a part may be done.
+#[tactic(auto, using(crate::proofs::Denials::store_is, crate::proofs::Denials::work_is, crate::proofs::Denials::reply_is))]
 pub(crate) fn rename(
     store: &mut Store,
     from: &[u8],
@@ -73,11 +82,13 @@ pub(crate) fn rename(
             move_thing(store, found, work)?;
             Ok(Reply::Done)
         }
-        Err(denied) => Ok(denied.reply()?),
+        Err(denied) => Ok(deny(store, denied, work)?),
     }
 }
 
-/// A file is taken away. Where that is refused nothing changes. After out of memory a part may be done.
+/// A file is taken away. Where that is refused nothing changes, but that what is not here yet is asked for. After out of
+/// memory a part may be done.
+#[tactic(auto, using(crate::proofs::Denials::store_is, crate::proofs::Denials::work_is, crate::proofs::Denials::reply_is))]
 pub(crate) fn unlink(store: &mut Store, text: &[u8], work: &mut Work) -> Result<Reply, AllocError>
     ensures store { OnOk result (store.new ≡ (unlink store.old text.now work.old).store) }
     ensures work { OnOk result (work.new ≡ (unlink store.old text.now work.old).work) }
@@ -88,12 +99,13 @@ pub(crate) fn unlink(store: &mut Store, text: &[u8], work: &mut Work) -> Result<
             take_away(store, file, work)?;
             Ok(Reply::Done)
         }
-        Err(denied) => Ok(denied.reply()?),
+        Err(denied) => Ok(deny(store, denied, work)?),
     }
 }
 
-/// A directory that shows no name is taken away. Where that is refused nothing changes. After out of memory a part may be
-/// done.
+/// A directory that shows no name is taken away. Where it is refused nothing changes, but that what is not here yet is
+/// asked for. After out of memory a part may be done.
+#[tactic(auto, using(crate::proofs::Denials::store_is, crate::proofs::Denials::work_is, crate::proofs::Denials::reply_is))]
 pub(crate) fn rmdir(store: &mut Store, text: &[u8], work: &mut Work) -> Result<Reply, AllocError>
     ensures store { OnOk result (store.new ≡ (rmdir store.old text.now work.old).store) }
     ensures work { OnOk result (work.new ≡ (rmdir store.old text.now work.old).work) }
@@ -104,7 +116,7 @@ pub(crate) fn rmdir(store: &mut Store, text: &[u8], work: &mut Work) -> Result<R
             take_away(store, dir, work)?;
             Ok(Reply::Done)
         }
-        Err(denied) => Ok(denied.reply()?),
+        Err(denied) => Ok(deny(store, denied, work)?),
     }
 }
 
@@ -148,44 +160,51 @@ fn place_in(store: &Store, moment: u64, new: NewName) -> Place
     }
 }
 
-/// A new thing with this id has a place, and the server's raised flag.
+/// A full replica of a new thing with this id begins, under a fresh birth. It has a place, and the server's raised flag.
 fn make_thing(
     store: &mut Store,
     id: FileId,
+    policy: Policy,
     new: NewName,
     work: &mut Work,
 ) -> Result<(), AllocError>
     requires { store.old.names.last < 2 ^ 62 }
-    ensures store { OnOk result (store.new ≡ (with_thing store.old work.old id new).store) }
-    ensures work { OnOk result (work.new ≡ (with_thing store.old work.old id new).work) }
-    ensures last { OnOk result (store.new.names.last ≤ 2 ^ 62) }
+    ensures store { OnOk result
+        (store.new ≡ (with_thing store.old work.old id policy new).store) }
+    ensures work { OnOk result
+        (work.new ≡ (with_thing store.old work.old id policy new).work) }
+    ensures empty { OnOk result (HasNoVersion store.new id) }
 {
-    let flag = first_flag(store.server());
     let place = place_in(store, work.now, new);
+    begin_thing(store, id, policy)?;
     make_place(store, id, place, work)?;
-    make_flag(store, id, flag, work)?;
+    raise_flag(store, id, work)?;
     Ok(())
 }
 
-/// The content of a file begins with its policy and an empty version, which is never refused: it has no byte, and its
-/// vector one actor.
-fn make_first_version(
-    store: &mut Store,
-    id: FileId,
-    policy: Policy,
-    work: &mut Work,
-) -> Result<(), AllocError>
-    requires { store.old.names.last < 2 ^ 63 }
-    ensures store { OnOk result
-        (store.new ≡ (with_first_version id policy (idle store.old work.old)).store) }
-    ensures work { OnOk result
-        (work.new ≡ (with_first_version id policy (idle store.old work.old)).work) }
+/// A full replica of a thing begins under a fresh birth. Of the thing nothing is known.
+fn begin_thing(store: &mut Store, id: FileId, policy: Policy) -> Result<(), AllocError>
+    ensures { OnOk result (store.new ≡ begun store.old id policy) }
 {
-    if store.tags > MOST_TAGS {
+    let birth = store.draw_birth()?;
+    let blank = Own::blank(store.allocator(), id)?;
+    store.begin(id, birth, policy, blank, true)?;
+    Ok(())
+}
+
+/// The content of a file begins with an empty version, which is never refused: it has no byte, and its vector one actor.
+/// Where more tags were given out than memory has room for, or a stamp that late was taken, it is as if memory ran out.
+fn make_first_version(store: &mut Store, id: FileId, work: &mut Work) -> Result<(), AllocError>
+    requires { HasNoVersion store.old id }
+    ensures store { OnOk result
+        (store.new ≡ (with_first_version id (idle store.old work.old)).store) }
+    ensures work { OnOk result
+        (work.new ≡ (with_first_version id (idle store.old work.old)).work) }
+{
+    if store.tags > MOST_TAGS || store.names.last() >= MOST_TAGS {
         return Err(AllocError);
     }
     let stamp = next_stamp(store, work.now);
-    store.begin_file(id, policy)?;
     let ranges = first_ranges(store.allocator());
     match make_version(store, id, stamp, ranges, work) {
         Ok(()) => Ok(()),

@@ -23,10 +23,10 @@ pub(crate) fn path_of(alloc: Global, text: &[u8]) -> Result<Path, Denied>
 {
     match Path::read(alloc, text) {
         Ok(path) => Ok(path),
-        Err(BadPath::NoSlash) => Err(Denied::Refused(Refusal::BadPath(0))),
-        Err(BadPath::Long) => Err(Denied::Refused(Refusal::BadPath(66))),
-        Err(BadPath::TooDeep) => Err(Denied::Refused(Refusal::BadPath(65))),
-        Err(BadPath::BadName(component)) => Err(Denied::Refused(Refusal::BadPath(component as u8))),
+        Err(BadPath::NoSlash) => Err(Denied::refused(Refusal::BadPath(0))),
+        Err(BadPath::Long) => Err(Denied::refused(Refusal::BadPath(66))),
+        Err(BadPath::TooDeep) => Err(Denied::refused(Refusal::BadPath(65))),
+        Err(BadPath::BadName(component)) => Err(Denied::refused(Refusal::BadPath(component as u8))),
         Err(BadPath::OutOfMemory) => Err(Denied::OutOfMemory),
     }
 }
@@ -37,7 +37,7 @@ pub(crate) fn new_path_of(alloc: Global, text: &[u8]) -> Result<Path, Denied>
 {
     let path = path_of(alloc, text)?;
     if !ends_in_name(&path) {
-        return Err(Denied::Refused(Refusal::BadPath(path.len() as u8)));
+        return Err(Denied::refused(Refusal::BadPath(path.len() as u8)));
     }
     Ok(path)
 }

@@ -1,3 +1,4 @@
 mod Counted
 mod Listed
 pub mod News
+mod Flagged

@@ -7,8 +7,7 @@ use Rattle.pg_store.specs.declared.store.Store.{Store}
 use Rattle.pg_store.specs.Store.{acknowledge}
 use Rattle.pg_cells.specs.Done.{Done, link_of}
 
--- the key goes off the sender's edge where the message is accepted, and the tag is the present one
--- there
+-- the key goes off the sender's edge where there is that edge, and the tag is the present one there
 abbrev pub ack : Store → Ends → Key → ℕ → Work → Done
 ack store ends k tag work = record {
   store = acknowledge store ends.file (link_of work.from ends) k tag;

@@ -1,4 +1,8 @@
 pub mod Done
+pub mod Posting
+pub mod Accepting
+pub mod Taking
+pub mod Making
 pub mod Sending
 pub mod Cells
 pub mod Acks

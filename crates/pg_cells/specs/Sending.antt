@@ -1,5 +1,5 @@
 -- Cells as they are sent, along edges on which their keys are unacknowledged.
-use Rattle.std.specs.Prelude.{ℕ, Bool, true, false, ◌&&◌, not, if◌then◌else◌, List, [], ◌∷◌, Option, None, Some}
+use Rattle.std.specs.Prelude.{ℕ, ◌==◌, Bool, true, false, ◌&&◌, ◌||◌, not, if◌then◌else◌, List, [], ◌∷◌, Option, None, Some}
 use Rattle.std.specs.List.{filter, flat_map, list_any}
 use Rattle.pg_base.specs.declared.id.FileId.{FileId}
 use Rattle.pg_base.specs.Id.{is_same_file}
@@ -11,29 +11,25 @@ use Rattle.pg_edges.specs.Keys.{has_entry}
 use Rattle.pg_entries.specs.declared.cell.Cell.{Cell}
 use Rattle.pg_msg.specs.declared.message.Message.TheVariants as message
 use Rattle.pg_msg.specs.declared.message.Sent.{Sent}
+use Rattle.pg_msg.specs.declared.work.Linked.{Linked}
 use Rattle.pg_msg.specs.declared.work.Touched.{Touched}
 use Rattle.pg_names.specs.Names.{is_dir, own_or_blank}
 use Rattle.pg_replica.specs.declared.replica.Replica.{Replica}
 use Rattle.pg_store.specs.declared.store.Store.{Store}
 use Rattle.pg_store.specs.Cells.{cell_at}
+use Rattle.pg_cells.specs.Posting.{sent_to}
 
 -- ---- one cell
 
 -- a cell under a tag, to the peer of an edge; from a replica of this birth
-abbrev pub cell_to : ℕ → FileId → ℕ → Edge → Cell → ℕ → Sent
-cell_to server file birth e c tag = record {
-  to = e.peer;
-  packet = record {
-    from = server;
-    view = 0;
-    message = message.Cell (record { file = file; sender = birth; receiver = e.birth }) tag c;
-  };
-}
+abbrev pub cell_to : Store → FileId → ℕ → Edge → Cell → ℕ → Sent
+cell_to store file birth e c tag = sent_to store e.peer
+    (message.Cell (record { file = file; sender = birth; receiver = e.birth }) tag c)
 
 -- the same, where the key has a cell
-abbrev pub cell_under : ℕ → FileId → ℕ → Edge → ℕ → Option Cell → List Sent
-cell_under server file birth e tag None = []
-cell_under server file birth e tag (Some c) = cell_to server file birth e c tag ∷ []
+abbrev pub cell_under : Store → FileId → ℕ → Edge → ℕ → Option Cell → List Sent
+cell_under store file birth e tag None = []
+cell_under store file birth e tag (Some c) = cell_to store file birth e c tag ∷ []
 
 abbrev pub is_place : Key → Bool
 is_place key.Place = true
@@ -50,25 +46,38 @@ waits store file e k = is_place k && (is_dir file
 abbrev pub key_cell : Store → FileId → ℕ → Edge → Key × ℕ → List Sent
 key_cell store file birth e k =
     if waits store file e k.0 then []
-    else cell_under store.names.server file birth e k.1 (cell_at store file k.0)
+    else cell_under store file birth e k.1 (cell_at store file k.0)
 
 -- ---- all cells of keys that are wanted, by file, peer and key
 
-abbrev pub edge_cells : Store → (FileId → Key → Bool) → FileId → ℕ → Edge → List Sent
+-- whether a key of a file is wanted on its edge to a peer
+abbrev pub Wanted : Type 0
+Wanted = FileId → ℕ → Key → Bool
+
+abbrev pub edge_cells : Store → Wanted → FileId → ℕ → Edge → List Sent
 edge_cells store wanted file birth e =
-    flat_map (key_cell store file birth e) (filter (λ k. wanted file k.0) e.keys)
+    flat_map (key_cell store file birth e) (filter (λ k. wanted file e.peer k.0) e.keys)
 
-abbrev pub replica_cells : Store → (FileId → Key → Bool) → FileId × Replica → List Sent
-replica_cells store wanted r =
-    flat_map (edge_cells store wanted r.0 r.1.birth) r.1.edges
+abbrev pub replica_cells : Store → Wanted → FileId × Replica → List Sent
+replica_cells store wanted r = flat_map (edge_cells store wanted r.0 r.1.birth) r.1.edges
 
-abbrev pub cells_where : Store → (FileId → Key → Bool) → List Sent
+abbrev pub cells_where : Store → Wanted → List Sent
 cells_where store wanted = flat_map (replica_cells store wanted) store.replicas
 
--- every key is wanted
-abbrev pub is_any : FileId → Key → Bool
-is_any file k = true
+-- ---- which are
 
--- the key of the file is among those that were touched
+-- every key
+abbrev pub is_any : Wanted
+is_any file peer k = true
+
+-- the key of the file is among those that were touched, on every edge
 abbrev pub is_touched : List Touched → FileId → Key → Bool
 is_touched ts file k = list_any (λ t. is_same_file t.file file && is_same_key t.key k) ts
+
+-- the edge of the file to the peer is among those that were made, with every key on it
+abbrev pub is_linked : List Linked → FileId → ℕ → Bool
+is_linked ls file peer = list_any (λ l. is_same_file l.file file && l.peer == peer) ls
+
+-- the key has a new tag on the edge
+abbrev pub is_chosen : List Touched → List Linked → Wanted
+is_chosen touched linked file peer k = is_touched touched file k || is_linked linked file peer

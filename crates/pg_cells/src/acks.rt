@@ -3,7 +3,7 @@
 ghost use Rattle.std.specs.Prelude.{◌≡◌};
 ghost use Rattle.pg_cells.specs.Acks.{ack};
 
-use crate::cells::link_of;
+use crate::accepting::link_of;
 use pg_edges::Key;
 use pg_msg::{Ends, Work};
 use pg_store::Store;

@@ -1,19 +1,23 @@
 //! The end of an event.
 
-ghost use Rattle.std.specs.Prelude.{◌≡◌, IfOk, OnOk};
-ghost use Rattle.pg_cells.specs.Choice.{ListsTouched};
+ghost use Rattle.std.specs.Prelude.{◌≡◌, List, IfOk, OnOk};
+ghost use Rattle.pg_msg.specs.declared.work.Touched.{Touched};
+ghost use Rattle.pg_cells.specs.Choice.{ListsLinked, ListsTouched};
 ghost use Rattle.pg_cells.specs.Finish.{finish};
 
 use crate::choice::Choice;
 use crate::sending::send_cells;
 use pg_base::FileId;
-use pg_msg::{Touched, Work};
+use pg_msg::{Linked, Touched, Work};
 use pg_store::Store;
 use std::alloc::{AllocError, Global};
 use std::collections::BTreeMap;
 
-/// The files of these keys, in order.
-fn touched_files(alloc: Global, touched: &[Touched]) -> Result<BTreeMap<FileId, ()>, AllocError>
+/// Files in order.
+type Files = BTreeMap<FileId, ()>;
+
+/// The files of these keys.
+fn touched_files(alloc: Global, touched: &[Touched]) -> Result<Files, AllocError>
     ensures { IfOk result (λ files. ListsTouched files.entries touched.now) }
 {
     let mut files = BTreeMap::new(alloc);
@@ -23,13 +27,28 @@ fn touched_files(alloc: Global, touched: &[Touched]) -> Result<BTreeMap<FileId, 
     Ok(files)
 }
 
-/// Sends the present cell of each key that was touched, once to each peer that has not acknowledged it, under its
-/// present tag, but for those that wait: by file, peer and key.
+/// The files of these edges come to them.
+fn add_linked(files: &mut Files, linked: &[Linked]) -> Result<(), AllocError>
+    ensures linked { OnOk result (ListsLinked files.new.entries linked.now) }
+    ensures touched { OnOk result ((ts : List Touched) → ListsTouched files.old.entries ts
+        → ListsTouched files.new.entries ts) }
+{
+    for edge in linked {
+        files.insert(edge.file, ())?;
+    }
+    Ok(())
+}
+
+/// Sends the present cell of each key that was touched, once to each peer that has not acknowledged it, and of each key
+/// on an edge that was made, under its present tag, but for those that wait: by file, peer and key.
 pub fn finish(store: &Store, work: &mut Work) -> Result<(), AllocError>
     ensures { OnOk result (work.new ≡ finish store.now work.old) }
 {
     let touched = work.touched.as_slice();
-    let files = touched_files(store.allocator(), touched)?;
-    send_cells(store, &Choice::Touched(touched), &files, &mut work.sent)?;
+    let linked = work.linked.as_slice();
+    let mut files = touched_files(store.allocator(), touched)?;
+    add_linked(&mut files, linked)?;
+    let choice = Choice::Changed { touched, linked };
+    send_cells(store, &choice, &files, &mut work.sent)?;
     Ok(())
 }

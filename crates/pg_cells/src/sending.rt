@@ -1,39 +1,43 @@
 //! Cells as they are sent, along edges on which their keys are unacknowledged.
 
-ghost use Rattle.std.specs.Prelude.{◌≡◌, ◌++◌, ◌&&◌, IfOk, OnOk, not};
+ghost use Rattle.std.specs.Prelude.{◌≡◌, ◌++◌, ◌∷◌, [], OnOk, not};
 ghost use Rattle.pg_names.specs.Names.{is_dir, own_or_blank};
 ghost use Rattle.pg_store.specs.Store.{replica_at};
-ghost use Rattle.pg_cells.specs.Choice.{ListsChosen, chosen_cells, file_cells, is_chosen};
+ghost use Rattle.pg_cells.specs.Choice.{ListsChosen, chosen_cells, file_cells, wanted_by};
 ghost use Rattle.pg_cells.specs.Sending.{cell_to, cells_where, edge_cells, is_place, key_cell, replica_cells, waits};
 
 use crate::choice::Choice;
-use pg_base::{FileId, Items, NodeId};
+use crate::posting::send;
+use pg_base::{FileId, Items};
 use pg_edges::{Edge, Key};
 use pg_entries::Cell;
-use pg_msg::{Ends, Message, Packet, Sent};
+use pg_msg::{Ends, Message, Sent};
 use pg_names::is_dir;
 use pg_replica::Replica;
 use pg_store::Store;
 use std::alloc::AllocError;
 use std::collections::BTreeMap;
 
-/// A cell under a tag, to the peer of an edge, from a replica of this birth.
-fn cell_to(server: NodeId, file: FileId, birth: u64, edge: &Edge, cell: Cell, tag: u64) -> Sent
-    ensures { result ≡ cell_to server file birth edge.now cell tag }
+/// Sends a cell under a tag to the peer of an edge, from a replica of this birth.
+fn send_cell(
+    store: &Store,
+    file: FileId,
+    birth: u64,
+    edge: &Edge,
+    cell: Cell,
+    tag: u64,
+    sent: &mut Items<Sent>,
+) -> Result<(), AllocError>
+    ensures { OnOk result
+        (sent.new ≡ sent.old ++ cell_to store.now file birth edge.now cell tag ∷ []) }
 {
     let ends = Ends {
         file,
         sender: birth,
         receiver: edge.birth,
     };
-    Sent {
-        to: edge.peer,
-        packet: Packet {
-            from: server,
-            view: 0,
-            message: Message::Cell { ends, tag, cell },
-        },
-    }
+    send(store, edge.peer, Message::Cell { ends, tag, cell }, sent)?;
+    Ok(())
 }
 
 fn is_place(key: &Key) -> bool
@@ -76,7 +80,7 @@ fn send_key(
         return Ok(());
     }
     if let Some(cell) = store.cell(file, key)? {
-        sent.push(cell_to(store.server(), file, birth, edge, cell, tag))?;
+        send_cell(store, file, birth, edge, cell, tag, sent)?;
     }
     Ok(())
 }
@@ -96,7 +100,7 @@ fn send_chosen(
         ≡ sent.old
         ++ chosen_cells store.now choice.now file birth edge.now (key.now, tag)) }
 {
-    if choice.has(&file, key) {
+    if choice.has(&file, edge.peer, key) {
         send_key(store, file, birth, edge, key, tag, sent)?;
     }
     Ok(())
@@ -112,7 +116,7 @@ fn send_edge(
     sent: &mut Items<Sent>,
 ) -> Result<(), AllocError>
     ensures { OnOk result (sent.new
-        ≡ sent.old ++ edge_cells store.now (is_chosen choice.now) file birth edge.now) }
+        ≡ sent.old ++ edge_cells store.now (wanted_by choice.now) file birth edge.now) }
 {
     for entry in edge.keys.as_slice() {
         send_chosen(store, choice, file, birth, edge, &entry.0, entry.1, sent)?;
@@ -129,7 +133,7 @@ fn send_replica(
     sent: &mut Items<Sent>,
 ) -> Result<(), AllocError>
     ensures { OnOk result (sent.new
-        ≡ sent.old ++ replica_cells store.now (is_chosen choice.now) (file, replica.now)) }
+        ≡ sent.old ++ replica_cells store.now (wanted_by choice.now) (file, replica.now)) }
 {
     for edge in replica.edges.as_slice() {
         send_edge(store, choice, file, replica.birth, edge, sent)?;
@@ -146,7 +150,7 @@ fn send_file(
 ) -> Result<(), AllocError>
     ensures { OnOk result (sent.new
         ≡ sent.old
-        ++ file_cells store.now (is_chosen choice.now) file.now (replica_at store.now file.now)) }
+        ++ file_cells store.now (wanted_by choice.now) file.now (replica_at store.now file.now)) }
 {
     if let Some(replica) = store.replica(file) {
         send_replica(store, choice, *file, replica, sent)?;
@@ -162,7 +166,7 @@ pub(crate) fn send_cells(
     sent: &mut Items<Sent>,
 ) -> Result<(), AllocError>
     requires { ListsChosen store.now choice.now files.now.entries }
-    ensures { OnOk result (sent.new ≡ sent.old ++ cells_where store.now (is_chosen choice.now)) }
+    ensures { OnOk result (sent.new ≡ sent.old ++ cells_where store.now (wanted_by choice.now)) }
 {
     // It says that the replicas are in order.
     let _index = store.replicas.unacknowledged();

@@ -1,11 +1,13 @@
 //! What comes of messages and ticks at a server that has one peer.
 
-use pg_base::{FileId, Kind, Shared, SharedBytes, Stamp};
+use pg_base::{FileId, Kind, Policy, Shared, SharedBytes, Stamp};
 use pg_cells::{ack, cell, finish, key_count, settle, tick};
 use pg_edges::Key;
 use pg_entries::Cell;
 use pg_msg::{Ends, Work};
+use pg_names::Own;
 use pg_register::Place;
+use pg_replica::Link;
 use pg_store::Store;
 use std::alloc::{AllocError, Global};
 use std::test::Fail;
@@ -20,6 +22,13 @@ const DIR: FileId = FileId {
     kind: Kind::Dir,
     server: 2,
     number: 1,
+};
+
+/// The edge of the directory.
+const LINK: Link = Link {
+    own: 1,
+    peer: 2,
+    birth: 1,
 };
 
 /// What comes to the server.
@@ -55,9 +64,6 @@ fn place(alloc: Global, time: u64) -> Result<Cell, AllocError> {
 
 /// The place comes, and the house rules run.
 fn take(store: &mut Store, alloc: Global, time: u64, work: &mut Work) -> Result<(), AllocError> {
-    if store.tags > Stamp::LATEST {
-        return Err(AllocError);
-    }
     cell(store, ends(DIR), 7, place(alloc, time)?, work)?;
     if store.names.last() > Stamp::LATEST {
         return Err(AllocError);
@@ -82,17 +88,20 @@ fn happen(store: &mut Store, alloc: Global, given: Given) -> Result<Counts, Allo
 fn cells_are_answered_and_sent_on(rt: HostRuntime) -> Result<(), Fail> {
     let alloc = rt.alloc();
     let mut store = Store::new(alloc, 1, 2)?;
+    store.begin(DIR, 1, Policy::Last, Own::blank(alloc, DIR)?, true)?;
+    store.link(DIR, 2, 1)?;
+    store.acknowledge(DIR, &LINK, Key::Place, 1);
     let events = [
         // The place is answered, and goes back with the entry that the root gets.
         (Given::Place(40), (3, 2, 2)),
         (Given::Place(40), (1, 0, 2)),
         (Given::Tick, (2, 0, 2)),
-        (Given::Ack(DIR, Key::Place, 1), (0, 0, 1)),
+        (Given::Ack(DIR, Key::Place, 2), (0, 0, 1)),
         // A later place is touched anew, and so is the entry: the answers to the earlier cells are late.
         (Given::Place(41), (3, 2, 2)),
-        (Given::Ack(ROOT, Key::Entry(DIR), 2), (0, 0, 2)),
-        (Given::Ack(DIR, Key::Place, 3), (0, 0, 1)),
-        (Given::Ack(ROOT, Key::Entry(DIR), 4), (0, 0, 0)),
+        (Given::Ack(ROOT, Key::Entry(DIR), 3), (0, 0, 2)),
+        (Given::Ack(DIR, Key::Place, 4), (0, 0, 1)),
+        (Given::Ack(ROOT, Key::Entry(DIR), 5), (0, 0, 0)),
         (Given::Tick, (0, 0, 0)),
     ];
     for (given, counts) in events {

@@ -1,302 +1,169 @@
 -- What comes to a server: it makes no version, and stands for what came.
-use Rattle.std.proofs.Common.{ℕ, ◌≡◌, ◌≤◌, ◌&&◌, Bool, true, false, cond, List, [], ◌∷◌, ◌++◌, drop, length, None, refl, sym, ap, subst, ◌∙◌, arith, All}
-use Rattle.std.proofs.lemmas.Bool.{and_parts}
-use Rattle.std.proofs.lemmas.List.{append-nil}
-use Rattle.std.proofs.lemmas.List.Elements.{All-cons, All-nil}
-use mathlib.Core.Path.{fun_ext}
+use Rattle.std.proofs.Common.{ℕ, ◌≡◌, ◌≤◌, cond, List, [], ◌∷◌, ◌++◌, map, Some, option_map, refl, sym, ap, subst, ◌∙◌, inl}
 use Rattle.pg_base.specs.declared.id.FileId.{FileId}
 use Rattle.pg_base.specs.declared.policy.Policy.{Policy}
 use Rattle.pg_base.specs.declared.stamp.Stamp.{Stamp}
 use Rattle.pg_base.specs.Id.{is_same_file}
 use Rattle.pg_base.specs.Version.{VersionValue}
-use Rattle.pg_content.specs.Content.{Among, ContentValue, joined_content}
+use Rattle.pg_content.specs.Content.{joined_content}
 use Rattle.pg_content.specs.History.{IsMember}
 use Rattle.pg_content.proofs.Numbers.{member_of}
-use Rattle.pg_entries.specs.declared.cell.Cell.{Cell}
-use Rattle.pg_entries.specs.declared.cell.Cell.TheVariants as cell
-use Rattle.pg_msg.specs.declared.message.Ends.{Ends}
-use Rattle.pg_msg.specs.declared.message.Message.{Message}
-use Rattle.pg_msg.specs.declared.message.Message.TheVariants as message
-use Rattle.pg_msg.specs.declared.message.Packet.{Packet}
-use Rattle.pg_msg.specs.declared.message.Sent.{Sent}
-use Rattle.pg_run.specs.Histories.{OfCell}
-use Rattle.pg_msg.specs.declared.update.MadeVersion.{MadeVersion}
-use Rattle.pg_msg.specs.declared.update.Update.{Update}
-use Rattle.pg_msg.specs.Numbers.{is_in_range}
-use Rattle.pg_msg.specs.Sent.{cell_key}
+use Rattle.pg_entries.specs.declared.entry.Entry.{Entry}
+use Rattle.pg_house.specs.Passing.{is_update}
+use Rattle.pg_house.specs.Returning.{is_root}
+use Rattle.pg_intent.specs.declared.intent.Intent.{Intent}
+use Rattle.pg_intent.specs.declared.intent.Intent.TheVariants as intent
+use Rattle.pg_msg.specs.declared.message.Granted.{Granted}
 use Rattle.pg_msg.specs.Work.{new_work}
-use Rattle.pg_names.specs.Names.{hold}
-use Rattle.pg_run.specs.Journal.{made_for, versions_in}
-use Rattle.pg_run.specs.Run.{carried, took_after}
-use Rattle.pg_run.specs.Passed.{passed, passed_with}
-use Rattle.pg_run.specs.Took.{Take, stamps_taken, takes_in}
-use Rattle.pg_run.specs.Took.Taker.{InDir}
+use Rattle.pg_register.specs.declared.place.Place.{Place}
+use Rattle.pg_replica.specs.declared.replica.Replica.{Replica}
+use Rattle.pg_run.specs.Carried.{granted_takes, patch_taken, patches_taken}
+use Rattle.pg_run.specs.Histories.{IsVersionOf}
+use Rattle.pg_run.specs.Journal.{Born, made_for, versions_in}
+use Rattle.pg_run.specs.Took.{Take, entry_takes, flags_of, places_of, stamps_taken, take_of}
+use Rattle.pg_run.specs.Took.Take.{TookPlace}
+use Rattle.pg_run.specs.Took.Taker.{InDir, Itself}
 use Rattle.pg_store.specs.declared.store.Store.{Store}
-use Rattle.pg_store.specs.Store.{acknowledge, content_of, is_in_time, take_version, with_names, with_policy}
-use Rattle.pg_cells.specs.Cells.{ack_to, cell as take_cell, fits, is_news, taken, with_answer}
-use Rattle.pg_cells.specs.Done.{Done, idle, is_accepted, link_of}
-use Rattle.pg_cells.proofs.News.{news_made, news_sent}
-use Rattle.pg_server.specs.declared.input.Input.TheVariants as input
-use Rattle.pg_server.specs.Local.{Effect, arrival_effect, closed, finished, receive}
-use Rattle.pg_promises.specs.Whole.{IsWhole}
-use Rattle.pg_promises.proofs.Whole.{whole_acknowledge, whole_entry, whole_flag, whole_place, whole_taken}
-use Rattle.pg_contents.proofs.Carrying.{Carries, CarriesCell}
-use Rattle.pg_contents.proofs.Ends.{Ends as IsEnd, closed_ends, finished_ends}
-use Rattle.pg_contents.proofs.Files.{IsReady, begun_with, covered_upto, file_came, ready}
-use Rattle.pg_contents.proofs.Pieces.{acked_keeps, entry_keeps, flag_keeps, held_keeps, place_keeps, policy_puts, version_last, version_puts}
-use Rattle.pg_contents.proofs.Rules.{ArePlaces}
-use Rattle.pg_contents.proofs.Sending.{AllCarry, CarriesSent, none_carry}
-use Rattle.pg_contents.proofs.Changes.{Keeps, Keeps-refl, Puts, keeps_puts, puts_puts}
-use Rattle.pg_contents.proofs.Servers.{Came, IsServer, Stands, came_of, head_upto, stands_came, stands_kept, with_came}
-use Rattle.pg_contents.proofs.Takes.{flags_none, stamps_after}
+use Rattle.pg_store.specs.Store.{is_held, replica_at, take_version}
+use Rattle.pg_cells.specs.Done.{Done}
+use Rattle.pg_promises.proofs.Choices.{chosen}
+use Rattle.pg_contents.proofs.Changes.{Core, IsOrdered, Keeps, StaysFull, by_altered, core_at, core_of}
+use Rattle.pg_contents.proofs.Files.{HoldsFile, covered_upto, file_came}
+use Rattle.pg_contents.proofs.Quiet.{Quiet}
+use Rattle.pg_contents.proofs.Sending.{AllCarry, none_carry}
+use Rattle.pg_contents.proofs.Servers.{Came, IsNamedBy, IsServer, Stands, file_held, head_upto, stands_came, stands_kept, stands_same, with_came}
+use Rattle.pg_contents.proofs.Takes.{HasNone, both_none, each_none, flags_none}
+use Rattle.pg_contents.proofs.Versions.{version_alters, version_last}
 
 -- what came, and before that what else did
 abbrev pub more_came : List Take → Came → Came
 more_came more came q = stamps_taken q more ++ came q
 
-pub stands_same : {s : ℕ} {a : Store} {us : List MadeVersion} {p : FileId → Policy}
-    {came : Came} → Stands s a us p came → (other : Came) → ((q : FileId) → other q ≡ came q)
-    → Stands s a us p other
-stands_same {s = s} {a = a} {us = us} {p = p} k other same =
-    let P : Came → Type 0 = (λ c. Stands s a us p c) in
-    subst P (sym (fun_ext same)) k
+-- server s holds this behind the first effect of an event that makes no version, and stands for what
+-- was brought
+pub record Arrives (s : ℕ) (a : Store) (us : List Born) (p : FileId → Policy)
+    (N : FileId → Type 0) (came : Came) (d : Done) (more : List Take) : Type 0 where
+  pub server : d.store.names.server ≡ a.names.server
+  pub last : a.names.last ≤ d.store.names.last
+  pub files : a.files ≤ d.store.files
+  pub order : IsOrdered a.replicas → IsOrdered d.store.replicas
+  pub full : StaysFull a d.store
+  pub held : (file : FileId) (k : Core) → core_at d.store file ≡ Some k
+      → IsNamedBy s d.store N file
+  pub stands : Stands s d.store us p (more_came more came)
+  pub none : versions_in d.work.made ≡ []
+  pub sent : AllCarry us p N d.work.sent
 
--- ---- a version
+-- ---- no version is among what comes
 
-module _ {n s : ℕ} {a : Store} {us : List MadeVersion} {p : FileId → Policy} {came : Came}
-    (k : IsServer n s a us p came) (file : FileId) (v : VersionValue) (policy : Policy)
-    (h : CarriesCell us p file (cell.Version v policy)) where
-  abbrev held : Store
-  held = with_names a (hold a.names file)
+module _ (q : FileId) where
+  pub entry_none : (dir : FileId) (e : Entry) → HasNone q (entry_takes dir e)
+  entry_none dir e = flags_none q (InDir dir) e.child e.flags
 
-  abbrev begun : Store
-  begun = with_policy held file policy
+  patch_none : (dir : FileId) (i : Intent) → HasNone q (patch_taken dir i)
+  patch_none dir (intent.Bye file birth peer peer_birth) = refl
+  patch_none dir (intent.Seek file target) = refl
+  patch_none dir (intent.Fill file birth target) = refl
+  patch_none dir (intent.Patch to entry target) =
+      chosen (HasNone q) (is_same_file to dir) (entry_takes dir entry) [] (entry_none dir entry) refl
+  patch_none dir (intent.Confirm to child target) = refl
+  patch_none dir (intent.Leave file peer peer_birth) = refl
 
-  abbrev end : Store
-  end = take_version a file policy v
+  place_none : (thing : FileId) (place : Place) → HasNone q (places_of Itself thing place)
+  place_none thing place =
+      chosen (HasNone q) (is_update place) (TookPlace Itself thing place ∷ []) [] refl refl
 
-  abbrev c : ContentValue
-  c = content_of begun file
+  pub granted_none : (store : Store) (file : FileId) (g : Granted)
+      → HasNone q (granted_takes store file g)
+  granted_none store file g =
+      both_none q (places_of Itself file g.place)
+      (flags_of Itself file g.flags ++ patches_taken store file) (place_none file g.place)
+      (both_none q (flags_of Itself file g.flags) (patches_taken store file)
+      (flags_none q Itself file g.flags)
+      (each_none q (patch_taken file) (patch_none file) store.intents))
 
-  begun_puts_it : Puts a begun file (begun_with policy (content_of held file))
-  begun_puts_it = keeps_puts (held_keeps a file) (policy_puts held file policy)
+  pub told_none : (store : Store) (dir : FileId) (e : Entry)
+      → HasNone q (cond (is_held store dir) (entry_takes dir e) [])
+  told_none store dir e =
+      chosen (HasNone q) (is_held store dir) (entry_takes dir e) [] (entry_none dir e) refl
 
-  pub came_puts : Puts a end file (joined_content c v)
-  came_puts = puts_puts begun_puts_it (version_puts begun file v)
+  pub confirmed_none : (store : Store) (e : Entry) → HasNone q
+      (cond (is_held store e.child)
+      (cond (is_root e.child) [] (places_of Itself e.child e.place)
+      ++ flags_of Itself e.child e.flags) [])
+  confirmed_none store e =
+      let places = cond (is_root e.child) [] (places_of Itself e.child e.place) in
+      chosen (HasNone q) (is_held store e.child) (places ++ flags_of Itself e.child e.flags) []
+      (both_none q places (flags_of Itself e.child e.flags)
+      (chosen (HasNone q) (is_root e.child) [] (places_of Itself e.child e.place) refl
+      (place_none e.child e.place))
+      (flags_none q Itself e.child e.flags))
+      refl
 
-  is_ready : IsReady s (p file) c (made_for file us) (came file)
-  is_ready =
-      let before = (stands_kept k.stands held (held_keeps a file)).files file in
-      subst (λ d. IsReady s (p file) d (made_for file us) (came file)) (sym begun_puts_it.here)
-      (ready before policy h.named)
+module _ {s : ℕ} {a : Store} {us : List Born} {p : FileId → Policy} {N : FileId → Type 0}
+    {came : Came} (k : IsServer s a us p N came) where
+  abbrev Comes : Done → List Take → Type 0
+  Comes d more = Arrives s a us p N came d more
 
-  came_upto : (t : Stamp) → Among t (came file) → t.time ≤ begun.names.last
-  came_upto t l = let up = begun_puts_it.last in let old = k.stands.upto file t l in omega arith
+  -- ---- no content changes
 
-  came_time : v.head.stamp.time ≤ end.names.last
-  came_time = version_last begun file v (λ covered.
-      covered_upto is_ready.policy is_ready.stood (k.stands.known file) (k.made.histories file)
-      h.made h.among begun.names.last (k.made.order file)
-      (head_upto us k.made begun.names.last file (came file) came_upto is_ready.stood) v h.whole
-      covered)
-
-  came_member : IsMember (made_for file us) v.head.stamp
-  came_member =
-      subst (IsMember (made_for file us)) (sym (ap (λ (x : VersionValue). x.head.stamp) h.whole))
-      (member_of (made_for file us) h.made h.among)
-
-  -- A VERSION OF THE HISTORY COMES, with the file's policy
-  pub version_stands : Stands s end us p (with_came file v.head.stamp came)
-  version_stands =
-      stands_came k.stands end file (joined_content c v) came_puts v.head.stamp came_time
-      (file_came is_ready.policy is_ready.stood (k.stands.known file) (k.made.histories file)
-      h.made h.among v h.whole) came_member
-
--- ---- a cell
-
--- a server holds this now, and stands for what came more
-pub record Holds (n s : ℕ) (a : Store) (us : List MadeVersion) (p : FileId → Policy)
-    (came : Came) (b : Store) (more : List Take) : Type 0 where
-  pub last : a.names.last ≤ b.names.last
-  pub files : a.files ≤ b.files
-  pub whole : IsWhole n s b
-  pub stands : Stands s b us p (more_came more came)
-
--- and it made nothing
-pub record Arrives (n s : ℕ) (a : Store) (us : List MadeVersion) (p : FileId → Policy)
-    (came : Came) (done : Done) (more : List Take) : Type 0 where
-  pub holds : Holds n s a us p came done.store more
-  pub none : done.work.made ≡ []
-  pub sent : AllCarry us p done.work.sent
-
-module _ {n s : ℕ} {a : Store} {us : List MadeVersion} {p : FileId → Policy} {came : Came}
-    (k : IsServer n s a us p came) where
-  -- no content changes, and no version is among what came
-  pub kept_holds : (b : Store) (more : List Take) → Keeps a b → IsWhole n s b
-      → ((q : FileId) → stamps_taken q more ≡ []) → Holds n s a us p came b more
-  kept_holds b more e whole none = record {
-    last = e.last;
-    files = e.files;
-    whole = whole;
-    stands = stands_same (stands_kept k.stands b e) (more_came more came)
-        (λ q. ap (λ (ts : List Stamp). ts ++ came q) (none q));
+  pub quiet_arrives : (now from : ℕ) (d : Done) → Quiet us p N a (new_work now from) d
+      → (more : List Take) → ((q : FileId) → HasNone q more)
+      → Comes d (map take_of d.work.made ++ more)
+  quiet_arrives now from d h more none = record {
+    server = h.keeps.server;
+    last = h.keeps.last;
+    files = h.keeps.files;
+    order = h.keeps.order;
+    full = h.keeps.full;
+    held = λ f c e. inl (k.held f c (sym (h.keeps.each f) ∙ e));
+    stands = stands_same (stands_kept k.stands d.store h.keeps)
+        (more_came (map take_of d.work.made ++ more) came)
+        (λ q. ap (λ (ts : List Stamp). ts ++ came q)
+        (both_none q (map take_of d.work.made) more (h.takes q) (none q)));
+    none = h.none;
+    sent = h.sent (none_carry us p N);
   }
 
-  one_more : (file : FileId) (stamp : Stamp) (q : FileId)
-      → (cond (is_same_file file q) (stamp ∷ []) [] ++ []) ++ came q
-      ≡ with_came file stamp came q
-  one_more file stamp q =
-      ap (λ (ts : List Stamp). ts ++ came q)
-      (append-nil (cond (is_same_file file q) (stamp ∷ []) []))
+  -- ---- a version
 
-  cell_holds : (file : FileId) (c : Cell) → fits file c ≡ true → CarriesCell us p file c
-      → Holds n s a us p came (taken a file c) (takes_in file c)
-  cell_holds file (cell.Place place) fit h =
-      kept_holds (taken a file (cell.Place place)) (takes_in file (cell.Place place))
-      (place_keeps a file place) (whole_place n s a k.whole file place) (λ q. refl)
-  cell_holds file (cell.Flag flag) fit h =
-      kept_holds (taken a file (cell.Flag flag)) (takes_in file (cell.Flag flag))
-      (flag_keeps a file flag) (whole_flag n s a k.whole file flag) (λ q. refl)
-  cell_holds file (cell.Entry entry sure) fit h =
-      kept_holds (taken a file (cell.Entry entry sure)) (takes_in file (cell.Entry entry sure))
-      (entry_keeps a k.whole.names.children file entry) (whole_entry n s a k.whole file entry fit)
-      (λ q. flags_none q (InDir file) entry.child entry.flags)
-  cell_holds file (cell.Version v policy) fit h =
-      let puts = came_puts k file v policy h in
-      record {
-        last = puts.last;
-        files = puts.files;
-        whole = whole_taken n s a k.whole file policy v;
-        stands = stands_same (version_stands k file v policy h)
-            (more_came (takes_in file (cell.Version v policy)) came)
-            (one_more file v.head.stamp);
-      }
+  module _ (file : FileId) (v : VersionValue) (h : IsVersionOf (p file) (made_for file us) v)
+      (b : Store) (before : Keeps a b) (x : Replica) (is : replica_at b file ≡ Some x) where
+    then_stands : Stands s b us p came
+    then_stands = stands_kept k.stands b before
 
-  -- nothing is done
-  nothing_done : (from : ℕ) → Arrives n s a us p came (idle a (new_work 0 from)) []
-  nothing_done from = record {
-    holds = kept_holds a [] (Keeps-refl a) k.whole (λ q. refl);
-    none = refl;
-    sent = none_carry us p;
-  }
+    held_there : HoldsFile s (p file) x.content (made_for file us) (came file)
+    held_there = file_held then_stands file (core_of x) (ap (option_map core_of) is)
 
-  module _ (from : ℕ) where
-    cell_by : (ends : Ends) (tag : ℕ) (c : Cell) (t : Bool)
-        → (is_accepted a from ends && fits ends.file c) ≡ t → CarriesCell us p ends.file c
-        → Arrives n s a us p came
-        (cond t (take_cell a ends tag c (new_work 0 from)) (idle a (new_work 0 from)))
-        (cond t (takes_in ends.file c) [])
-    cell_by ends tag c false e h = nothing_done from
-    cell_by ends tag c true e h =
-        let work = with_answer a ends tag c (new_work 0 from) in
-        let news = is_news a ends.file c in
-        let answer = ack_to a.names.server from ends (cell_key c) tag in
-        record {
-          holds = cell_holds ends.file c
-              (and_parts (is_accepted a from ends) (fits ends.file c) e).1 h;
-          none = news_made news work ends.file (cell_key c);
-          sent = subst (AllCarry us p) (sym (news_sent news work ends.file (cell_key c)))
-              (All-cons (CarriesSent us p) answer [] tt (none_carry us p));
-        }
+    abbrev end : Store
+    end = take_version b file v
 
-    -- A MESSAGE COMES
-    pub receive_arrives : (m : Message) → Carries us p m
-        → Arrives n s a us p came (receive a m (new_work 0 from)) (carried a from m)
-    receive_arrives (message.Cell ends tag c) h =
-        cell_by ends tag c (is_accepted a from ends && fits ends.file c) refl h
-    receive_arrives (message.Ack ends q tag) h = record {
-      holds = kept_holds (acknowledge a ends.file (link_of from ends) q tag) []
-          (acked_keeps a ends.file (link_of from ends) q tag)
-          (whole_acknowledge n s a k.whole ends.file (link_of from ends) q tag) (λ f. refl);
-      none = refl;
-      sent = none_carry us p;
-    }
-    receive_arrives m h = nothing_done from
+    abbrev JoinedCore : Core
+    JoinedCore = record { birth = x.birth; content = joined_content x.content v }
 
--- ---- what is sent at once
+    came_time : v.head.stamp.time ≤ end.names.last
+    came_time = version_last b file x is v (λ covered.
+        covered_upto held_there (then_stands.known file) (k.made.histories file) h.made h.among
+        b.names.last (k.made.order file)
+        (head_upto us k.made b.names.last file (came file) (then_stands.upto file) held_there.stood)
+        v h.whole covered)
 
-sent_by : (P : FileId → Cell → Type 0) (a : Store) (from : ℕ) (ends : Ends) (tag : ℕ) (c : Cell)
-    (t : Bool) → All (λ (m : Sent). OfCell P m.packet.message)
-    (cond t (take_cell a ends tag c (new_work 0 from)) (idle a (new_work 0 from))).work.sent
-sent_by P a from ends tag c false = All-nil (λ (m : Sent). OfCell P m.packet.message)
-sent_by P a from ends tag c true =
-    let Q : Sent → Type 0 = (λ m. OfCell P m.packet.message) in
-    let answer = ack_to a.names.server from ends (cell_key c) tag in
-    subst (All Q)
-    (sym (news_sent (is_news a ends.file c) (with_answer a ends tag c (new_work 0 from)) ends.file
-    (cell_key c))) (All-cons Q answer [] tt (All-nil Q))
+    came_member : IsMember (made_for file us) v.head.stamp
+    came_member =
+        subst (IsMember (made_for file us)) (sym (ap (λ (y : VersionValue). y.head.stamp) h.whole))
+        (member_of (made_for file us) h.made h.among)
 
--- answers only, which are no cells
-pub receive_sent : (P : FileId → Cell → Type 0) (a : Store) (from : ℕ) (m : Message)
-    → All (λ (x : Sent). OfCell P x.packet.message) (receive a m (new_work 0 from)).work.sent
-receive_sent P a from (message.Cell ends tag c) =
-    sent_by P a from ends tag c (is_accepted a from ends && fits ends.file c)
-receive_sent P a from (message.Ack ends q tag) =
-    All-nil (λ (x : Sent). OfCell P x.packet.message)
-receive_sent P a from m = All-nil (λ (x : Sent). OfCell P x.packet.message)
+    pub version_stands : Stands s end us p (with_came file v.head.stamp came)
+    version_stands =
+        stands_came then_stands end file JoinedCore (version_alters b file x is v) v.head.stamp
+        came_time
+        (file_came held_there (then_stands.known file) (k.made.histories file) h.made h.among v
+        h.whole)
+        came_member
 
--- ---- an event at which a server makes no version
-
-pub record IsPassive (n s : ℕ) (a : Store) (us : List MadeVersion) (p : FileId → Policy)
-    (done : Effect) (takes : List Take) : Type 0 where
-  pub none : versions_in done.out.made ≡ []
-  pub last : a.names.last ≤ done.store.names.last
-  pub files : a.files ≤ done.store.files
-  pub whole : IsWhole n s done.store
-  pub stands : Stands s done.store us p (came_of takes)
-  pub sent : AllCarry us p done.out.sent
-
-module _ {n s : ℕ} {a : Store} {us : List MadeVersion} {p : FileId → Policy}
-    (before : List Take) (k : IsServer n s a us p (came_of before)) where
-  pub ends_passive : (d : Done) (more : List Take) → Arrives n s a us p (came_of before) d more
-      → (done : Effect) → IsEnd n s d.store d.work done → (takes : List Take)
-      → ((q : FileId) → stamps_taken q takes ≡ stamps_taken q more ++ stamps_taken q before)
-      → IsPassive n s a us p done takes
-  ends_passive d more h done e takes same =
-      let low = h.holds.last in
-      let high = e.keeps.last in
-      let few = h.holds.files in
-      let many = e.keeps.files in
-      let stands = stands_same (stands_kept h.holds.stands done.store e.keeps) (came_of takes) same
-      in
-      record {
-        none = e.made ∙ ap versions_in h.none;
-        last = omega arith;
-        files = omega arith;
-        whole = e.whole;
-        stands = stands;
-        sent = e.sends us p (came_of takes) stands h.sent;
-      }
-
-  module _ (packet : Packet) (h : Carries us p packet.message) where
-    abbrev first : Done
-    first = receive a packet.message (new_work 0 packet.from)
-
-    abbrev more : List Take
-    more = carried a packet.from packet.message
-
-    abbrev done_by : Bool → Effect
-    done_by t = cond t (closed None first) (finished None (idle a (new_work 0 packet.from)))
-
-    abbrev takes_by : Bool → List Take
-    takes_by t =
-        cond t (passed_with a.names.removed (passed a.names.removed (more ++ before))
-        (drop 0 (done_by t).out.made)) before
-
-    arrived_by : (t : Bool) → IsPassive n s a us p (done_by t) (takes_by t)
-    arrived_by true =
-        let r = receive_arrives k packet.from packet.message h in
-        let e = closed_ends n s first.store first.work r.holds.whole None in
-        let made = (closed None first).out.made in
-        let P : List Update → Type 0 = (λ us. ArePlaces (drop (length us) made)) in
-        ends_passive first more r (closed None first) e (takes_by true)
-        (λ q. stamps_after q a.names.removed more before (drop 0 made) (subst P r.none e.behind))
-    arrived_by false =
-        ends_passive (idle a (new_work 0 packet.from)) [] (nothing_done k packet.from)
-        (finished None (idle a (new_work 0 packet.from)))
-        (finished_ends n s a (new_work 0 packet.from) k.whole None) before (λ q. refl)
-
-    -- A MESSAGE COMES, and the event ends
-    pub arrived_passive : IsPassive n s a us p (arrival_effect a packet)
-        (took_after a before (input.Arrival packet))
-    arrived_passive = arrived_by (is_in_time a && is_in_range packet.message)
+    pub version_named : (f : FileId) (c : Core) → core_at end f ≡ Some c → N f
+    version_named =
+        by_altered (λ f o. (c : Core) → o ≡ Some c → N f) b end file (Some JoinedCore)
+        (version_alters b file x is v)
+        (λ c e. k.held file (core_of x) (sym (before.each file) ∙ ap (option_map core_of) is))
+        (λ f apart c e. k.held f c (sym (before.each f) ∙ e))

@@ -1,148 +1,268 @@
--- A client makes a file: its id was not given out before, and its content begins with a version.
-use Rattle.std.proofs.Common.{ℕ, ◌≡◌, ◌<◌, ◌≤◌, ◌^◌, Bool, true, false, cond, List, [], ◌∷◌, ◌++◌, map, refl, sym, ap, subst, ◌∙◌, inl, inr, ◌⊎◌, arith}
+-- A client makes a thing: its id was not given out before, a replica begins, and a file begins with a
+-- version.
+use Rattle.std.proofs.Common.{ℕ, ◌≡◌, ◌<◌, ◌≤◌, ◌+◌, ◌^◌, Bool, true, false, cond, List, [], ◌∷◌, ◌++◌, map, Option, None, Some, refl, sym, ap, subst, ◌∙◌, inl, inr, ◌⊎◌, arith}
+use Rattle.std.proofs.lemmas.List.{map-append}
 use Rattle.pg_base.specs.declared.id.FileId.{FileId}
-use Rattle.pg_base.specs.declared.id.Kind.TheVariants.{File}
+use Rattle.pg_base.specs.declared.id.Kind.{Kind}
 use Rattle.pg_base.specs.declared.policy.Policy.{Policy}
 use Rattle.pg_base.specs.declared.stamp.Stamp.{Stamp}
 use Rattle.pg_base.specs.Id.{is_same_file}
+use Rattle.pg_base.specs.Version.{VersionValue}
 use Rattle.pg_base.proofs.Orders.{is_same_file-refl, is_same_file-true}
-use Rattle.pg_content.specs.Content.{Among, ContentValue}
-use Rattle.pg_content.specs.History.{Made}
+use Rattle.pg_content.specs.Content.{Among}
 use Rattle.pg_call.specs.declared.reply.Reply.TheVariants as reply
 use Rattle.pg_msg.specs.declared.update.MadeVersion.{MadeVersion}
 use Rattle.pg_msg.specs.declared.update.Update.{Update}
 use Rattle.pg_msg.specs.declared.update.Update.TheVariants as update
-use Rattle.pg_run.specs.Journal.{made_for, made_of, versions_in}
-use Rattle.pg_register.specs.declared.place.Place.{Place}
+use Rattle.pg_msg.specs.declared.work.Work.{Work}
+use Rattle.pg_msg.specs.Work.{new_work}
+use Rattle.pg_names.specs.Names.{blank_own}
+use Rattle.pg_replica.specs.declared.replica.Replica.{Replica}
+use Rattle.pg_run.specs.Journal.{Born, versions_in}
 use Rattle.pg_run.specs.Took.{stamps_taken, take_of}
+use Rattle.pg_run.specs.Took.Take.{Began}
 use Rattle.pg_store.specs.declared.store.Store.{Store}
-use Rattle.pg_store.specs.Start.{first_flag}
-use Rattle.pg_store.specs.Store.{begin_file, is_in_time, take_place}
-use Rattle.pg_store.proofs.InTime.{last_in_time}
-use Rattle.pg_cells.specs.Done.{Done}
+use Rattle.pg_store.specs.Births.{draw_birth, with_birth}
+use Rattle.pg_store.specs.Store.{is_in_time, replica_at, write}
+use Rattle.pg_store.proofs.InTime.{births_in_time}
+use Rattle.pg_cells.specs.Done.{Done, idle}
+use Rattle.pg_calls.specs.declared.checks.NewName.{NewName}
 use Rattle.pg_calls.specs.Answer.{Answer, answer}
-use Rattle.pg_calls.specs.Making.{drawn, first_ranges, version_of}
-use Rattle.pg_calls.specs.Naming.{next_id, with_first_version, with_id}
-use Rattle.pg_promises.proofs.Whole.{whole_begin}
-use Rattle.pg_contents.proofs.Calls.{Did, did_thing, thing_at, thing_updates}
-use Rattle.pg_contents.proofs.Files.{IsReady, no_version, stood_begun}
-use Rattle.pg_contents.proofs.Pieces.{begun_puts, flag_upto, id_keeps, place_upto}
-use Rattle.pg_contents.proofs.Sending.{SamePolicies}
-use Rattle.pg_contents.proofs.Changes.{Keeps-trans}
-use Rattle.pg_contents.proofs.Servers.{Came, IsServer, server_kept, server_policy}
-use Rattle.pg_contents.proofs.Making.{Makes, drawn_later, drawn_upto, made_next, made_stands, made_whole, one_take}
+use Rattle.pg_calls.specs.Making.{drawn, first_ranges, make_place, version_of}
+use Rattle.pg_calls.specs.Naming.{begun, next_id, place_in, with_first_version, with_id, with_thing}
+use Rattle.pg_contents.proofs.Arrivals.{Arrives, more_came}
+use Rattle.pg_contents.proofs.Changes.{Alters, Core, alters_keeps, by_altered, core_at, core_of, keeps_alters, replica_of_core}
+use Rattle.pg_contents.proofs.Making.{Makes, New, drawn_later, made_next, made_stands, one_take, stamp_fresh}
+use Rattle.pg_contents.proofs.Pieces.{begin_alters, birth_keeps, id_keeps}
+use Rattle.pg_contents.proofs.Quiet.{Quiet, make_place_quiet, quiet_then, raise_quiet}
+use Rattle.pg_contents.proofs.Sending.{none_carry}
+use Rattle.pg_contents.proofs.Servers.{Came, IsNamedBy, IsServer, Stands, none_full, stands_begun, stands_policy, stands_same}
+use Rattle.pg_contents.proofs.Takes.{HasNone, both_none, stamps_joined}
+use Rattle.pg_contents.proofs.Versions.{WrittenCore, write_alters, write_last}
 
--- ---- a file is made
+one_more : (n f g : ℕ) → f ≤ n → f ≡ g → g ≡ n + 1 → ⊥
+one_more n f g low same e = absurd (omega arith)
 
-none_by : (file : FileId) (u : MadeVersion) (h : List Made) (t : Bool)
-    → is_same_file file u.file ≡ t → (u.file ≡ file → ⊥) → h ≡ [] → cond t (made_of u ∷ h) h ≡ []
-none_by file u h true e other none = absurd (other (sym (is_same_file-true file u.file e)))
-none_by file u h false e other none = none
+-- a version behind what was made
+versions_more : (us : List Update) (u : MadeVersion)
+    → versions_in (us ++ update.Version u ∷ []) ≡ versions_in us ++ u ∷ []
+versions_more [] u = refl
+versions_more (update.Version v ∷ us) u =
+    ap (λ (vs : List MadeVersion). v ∷ vs) (versions_more us u)
+versions_more (update.Place file place ∷ us) u = versions_more us u
+versions_more (update.Flag file flag ∷ us) u = versions_more us u
 
-none_for : (file : FileId) (us : List MadeVersion)
-    → ((v : MadeVersion) → Among v us → v.file ≡ file → ⊥) → made_for file us ≡ []
-none_for file [] none = refl
-none_for file (u ∷ us) none =
-    none_by file u (made_for file us) (is_same_file file u.file) refl (none u (inl refl))
-    (none_for file us (λ v l. none v (inr l)))
+stamps_more : (f : FileId) (us : List Update) (u : MadeVersion)
+    → stamps_taken f (map take_of (us ++ update.Version u ∷ []))
+    ≡ stamps_taken f (map take_of us) ++ stamps_taken f (map take_of (update.Version u ∷ []))
+stamps_more f us u =
+    ap (stamps_taken f) (map-append take_of us (update.Version u ∷ []))
+    ∙ stamps_joined f (map take_of us) (map take_of (update.Version u ∷ []))
 
-module _ {n s : ℕ} {a : Store} {us : List MadeVersion} {p : FileId → Policy} {came : Came}
-    (k : IsServer n s a us p came) (moment : ℕ) (policy : Policy) (place : Place)
-    (drawn_now : place.stamp ≡ drawn a moment) (in_time : is_in_time a ≡ true) where
+module _ {s : ℕ} {a : Store} {us : List Born} {p : FileId → Policy} {N : FileId → Type 0}
+    {came : Came} (k : IsServer s a us p N came) (moment : ℕ) (kind : Kind) (policy : Policy)
+    (new : NewName) where
   abbrev id : FileId
-  id = next_id a File
+  id = next_id a kind
 
-  -- the file's policy is that of the call
+  abbrev work : Work
+  work = new_work moment 0
+
+  abbrev Thing : Done
+  Thing = with_thing (with_id a) work id policy new
+
+  abbrev FreshCore : Core
+  FreshCore = record {
+    birth = a.births + 1;
+    content = record { policy = policy; heads = [] };
+  }
+
+  -- it was not given out before
+  pub unnamed : N id → ⊥
+  unnamed named = one_more a.files id.number id.number (k.own id named k.server) refl refl
+
+  none_by : (o : Option Core) → core_at a id ≡ o → o ≡ None
+  none_by None e = refl
+  none_by (Some c) e = absurd (unnamed (k.held id c e))
+
+  not_held : core_at a id ≡ None
+  not_held = none_by (core_at a id) refl
+
+  abbrev begun_store : Store
+  begun_store = begun (with_id a) id policy
+
+  -- the replica begins
+  begins : Alters (with_id a) begun_store id (Some FreshCore)
+  begins =
+      keeps_alters (birth_keeps (with_id a))
+      (begin_alters (with_birth (with_id a)) id (draw_birth (with_id a)) policy (blank_own id) true
+      (none_full k.paired id not_held))
+
+  -- and has a place and a flag
+  pub thing_quiet : (vs : List Born) (q : FileId → Policy) (M : FileId → Type 0)
+      → Quiet vs q M begun_store work Thing
+  thing_quiet vs q M =
+      let place = place_in (with_id a) moment new in
+      let d = make_place id place (idle begun_store work) in
+      quiet_then vs q M (make_place_quiet vs q M begun_store id place work)
+      (raise_quiet vs q M d.store id d.work)
+
+  pub thing_alters : Alters (with_id a) Thing.store id (Some FreshCore)
+  thing_alters = alters_keeps begins (thing_quiet us p N).keeps
+
+  pub all_alters : Alters a Thing.store id (Some FreshCore)
+  all_alters = keeps_alters (id_keeps a) thing_alters
+
+  given : id.number ≤ Thing.store.files
+  given = thing_alters.files
+
+  -- it is given out now
+  pub thing_held : (b : Store) → Thing.store.files ≤ b.files → (f : FileId) (c : Core)
+      → core_at Thing.store f ≡ Some c → IsNamedBy s b N f
+  thing_held b up =
+      let few = given in
+      by_altered (λ f o. (c : Core) → o ≡ Some c → IsNamedBy s b N f) a Thing.store id
+      (Some FreshCore) all_alters (λ c e. inr (k.server, omega arith))
+      (λ f apart c e. inl (k.held f c e))
+
+  -- ---- a directory
+
+  pub dir_none : (f : FileId) → HasNone f (map take_of Thing.work.made ++ Began id ∷ [])
+  dir_none f =
+      both_none f (map take_of Thing.work.made) (Began id ∷ []) ((thing_quiet us p N).takes f) refl
+
+  pub dir_arrives : policy ≡ p id
+      → Arrives s a us p N came Thing (map take_of Thing.work.made ++ Began id ∷ [])
+  dir_arrives same =
+      let q = thing_quiet us p N in
+      record {
+        server = all_alters.server;
+        last = all_alters.last;
+        files = all_alters.files;
+        order = all_alters.order;
+        full = all_alters.full;
+        held = thing_held Thing.store (omega arith);
+        stands = stands_same
+            (stands_begun k.stands Thing.store id (a.births + 1) policy all_alters not_held same)
+            (more_came (map take_of Thing.work.made ++ Began id ∷ []) came)
+            (λ f. ap (λ (ts : List Stamp). ts ++ came f)
+            (dir_none f));
+        none = q.none;
+        sent = q.sent (none_carry us p N);
+      }
+
+  -- ---- a file
+
+  -- its policy is that of the call
   abbrev pub policies_with : FileId → Policy
   policies_with f = cond (is_same_file id f) policy (p f)
 
-  abbrev thing : Done
-  thing = thing_at a moment id place
+  same_by : (f : FileId) (t : Bool) → is_same_file id f ≡ t → N f → cond t policy (p f) ≡ p f
+  same_by f true e named = absurd (unnamed (subst N (sym (is_same_file-true id f e)) named))
+  same_by f false e named = refl
 
-  abbrev first : Answer
-  first = answer (with_first_version id policy thing) (reply.Made id)
+  same_named : (f : FileId) → N f → policies_with f ≡ p f
+  same_named f named = same_by f (is_same_file id f) refl named
 
-  did : Did n s (with_id a) moment (thing_updates a id place) thing
-  did = did_thing n s a moment k.whole id place
+  module _ (in_time : is_in_time a ≡ true) where
+    abbrev First : Answer
+    First = answer (with_first_version id Thing) (reply.Made id)
 
-  unused : (v : MadeVersion) → Among v us → v.file ≡ id → ⊥
-  unused v l same =
-      let own = ap (λ (f : FileId). f.server) same ∙ k.whole.server in
-      let number = ap (λ (f : FileId). f.number) same in
-      let old = k.named v l own in
-      omega arith
+    thing_stands : Stands s Thing.store us policies_with came
+    thing_stands =
+        stands_begun (stands_policy k.stands policies_with (λ f c e. same_named f (k.held f c e)))
+        Thing.store id (a.births + 1) policy all_alters not_held
+        (sym (ap (λ t. cond t policy (p id)) (is_same_file-refl id)))
 
-  no_versions : made_for id us ≡ []
-  no_versions = none_for id us unused
+    there : (x : Replica) × (replica_at Thing.store id ≡ Some x) × (core_of x ≡ FreshCore)
+    there = replica_of_core Thing.store id FreshCore all_alters.here
 
-  same_by : (f : FileId) (t : Bool) → is_same_file id f ≡ t
-      → (cond t policy (p f) ≡ p f) ⊎ (made_for f us ≡ [])
-  same_by f true e = inr (subst (λ g. made_for g us ≡ []) (is_same_file-true id f e) no_versions)
-  same_by f false e = inl refl
+    abbrev stamp : Stamp
+    stamp = drawn Thing.store Thing.work.now
 
-  same : SamePolicies us p policies_with
-  same f = same_by f (is_same_file id f) refl
+    later : Thing.store.names.last < stamp.time
+    later = drawn_later Thing.work.now Thing.store.names.last
 
-  server : IsServer n s thing.store us policies_with came
-  server =
-      server_policy
-      (server_kept k thing.store (Keeps-trans (id_keeps a) did.keeps) did.whole) policies_with same
+    own : stamp.server ≡ s
+    own = all_alters.server ∙ k.server
 
-  abbrev empty : ContentValue
-  empty = record { policy = policy; heads = [] }
+    fresh : (v : Born) → Among v us → v.made.stamp ≡ stamp → ⊥
+    fresh = stamp_fresh k stamp own (let up = all_alters.last in let up_to = later in omega arith)
 
-  abbrev begun : Store
-  begun = begin_file thing.store id policy
+    few_births : there.0.birth < 2 ^ 64
+    few_births =
+        let most = births_in_time a in_time in
+        let same = ap (λ (c : Core). c.birth) there.2 in
+        omega arith
 
-  begun_ready : IsReady s (policies_with id) empty (made_for id us) (came id)
-  begun_ready =
-      let held = server.stands.files id in
-      record {
-        policy = sym (ap (λ t. cond t policy (p id)) (is_same_file-refl id));
-        stood = stood_begun held.stood (no_version held no_versions) policy;
-      }
+    -- it has no version yet
+    no_head : (v : VersionValue) → Among v there.0.content.heads → Thing.store.names.last < 2 ^ 63
+    no_head v l =
+        absurd (subst (λ (c : Core). Among v c.content.heads) there.2 l)
 
-  thing_early : thing.store.names.last ≤ 2 ^ 62
-  thing_early =
-      let low = last_in_time a in_time in
-      let time = ap (λ (t : Stamp). t.time) drawn_now in
-      let at = drawn_upto moment a.names.last place.stamp.time low time in
-      flag_upto (take_place (with_id a) id place) (2 ^ 62)
-      (place_upto (with_id a) (2 ^ 62) (omega arith) id place at) id
-      (first_flag a.names.server)
+    abbrev Wrote : Store
+    Wrote = write Thing.store id stamp first_ranges
 
-  abbrev stamp_then : Stamp
-  stamp_then = drawn thing.store thing.work.now
+    wrote_held : (f : FileId) (c : Core) → core_at Wrote f ≡ Some c → IsNamedBy s Wrote N f
+    wrote_held =
+        let alters = write_alters Thing.store id there.0 there.1 stamp first_ranges in
+        let up = alters.files in
+        let low = given in
+        by_altered (λ f o. (c : Core) → o ≡ Some c → IsNamedBy s Wrote N f) Thing.store Wrote id
+        (Some (WrittenCore Thing.store id there.0 there.1 stamp first_ranges)) alters
+        (λ c e. inr (k.server, omega arith))
+        (λ f apart c e. thing_held Wrote up f c e)
 
-  -- A CLIENT MAKES A FILE
-  pub first_makes : Makes n s a us p policies_with came first
-  first_makes =
-      let puts = begun_puts thing.store id policy in
-      let whole = whole_begin n s thing.store did.whole id policy in
-      let later = drawn_later thing.work.now thing.store.names.last in
-      let own = did.whole.server in
-      let low = thing_early in
-      let early : begun.names.last < 2 ^ 63 = omega arith in
-      let u = version_of begun id stamp_then first_ranges in
-      let up = did.keeps.last in
-      let more = did.keeps.files in
-      let made = ap (λ (vs : List Update). vs ++ update.Version u ∷ []) did.made in
-      record {
-        version = u;
-        time = in_time;
-        made = ap versions_in made;
-        takes = λ f. ap (λ vs. stamps_taken f (map take_of vs)) made ∙ one_take f u;
-        next = made_next server begun id empty puts whole begun_ready early stamp_then own later
-            first_ranges;
-        server = own;
-        last = omega arith;
-        files = omega arith;
-        dated = omega arith;
-        named = inl (k.whole.server, omega arith);
-        whole = made_whole server begun id empty puts whole begun_ready early stamp_then own later
-            first_ranges;
-        stands = made_stands server begun id empty puts whole begun_ready early stamp_then own
-            later first_ranges;
-        sent = did.sent;
-        same = same;
-      }
+    rest_by : (f : FileId) (t : Bool) → is_same_file id f ≡ t
+        → IsNamedBy s Wrote N f ⊎ (cond t policy (p f) ≡ p f)
+    rest_by f true e =
+        let P : FileId → Type 0 = (λ g. IsNamedBy s Wrote N g) in
+        let up = (write_alters Thing.store id there.0 there.1 stamp first_ranges).files in
+        let low = given in
+        inl (subst P (is_same_file-true id f e) (inr (k.server, omega arith)))
+    rest_by f false e = inr refl
+
+    -- A CLIENT MAKES A FILE
+    pub first_makes : Makes s a us p policies_with N came First
+    first_makes =
+        let x = there.0 in
+        let is = there.1 in
+        let u = version_of Thing.store id stamp first_ranges in
+        let q = thing_quiet us p N in
+        let alters = write_alters Thing.store id x is stamp first_ranges in
+        let low = all_alters.last in
+        let high = alters.last in
+        let few = all_alters.files in
+        let many = alters.files in
+        let version =
+        New thing_stands k.made k.few id x is few_births no_head stamp own later fresh first_ranges
+        in
+        let made : versions_in (Thing.work.made ++ update.Version u ∷ []) ≡ u ∷ [] =
+        versions_more Thing.work.made u ∙ ap (λ (vs : List MadeVersion). vs ++ u ∷ []) q.none in
+        record {
+          version = version;
+          core = WrittenCore Thing.store id x is stamp first_ranges;
+          time = in_time;
+          here = alters.here;
+          born = refl;
+          made = made;
+          takes = λ f. stamps_more f Thing.work.made u
+              ∙ ap (λ (ts : List Stamp). ts ++ stamps_taken f (map take_of (update.Version u ∷ [])))
+              (q.takes f) ∙ one_take f u;
+          next = made_next thing_stands k.made k.few id x is few_births no_head stamp own later
+              fresh first_ranges;
+          maker = own;
+          server = all_alters.server;
+          last = omega arith;
+          files = omega arith;
+          order = λ z. alters.order (all_alters.order z);
+          full = λ f z. alters.full f (all_alters.full f z);
+          dated = write_last Thing.store id x is stamp first_ranges;
+          held = wrote_held;
+          stands = made_stands thing_stands k.made k.few id x is few_births no_head stamp own later
+              fresh first_ranges;
+          sent = (thing_quiet (version ∷ us) policies_with N).sent
+              (none_carry (version ∷ us) policies_with N);
+          same = same_named;
+          rest = λ f. rest_by f (is_same_file id f) refl;
+        }

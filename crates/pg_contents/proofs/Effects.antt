@@ -1,217 +1,255 @@
 -- What a server's input comes to, to the end of the event.
-use Rattle.std.proofs.Common.{ℕ, ◌≡◌, ◌≤◌, Bool, true, false, cond, List, [], ◌∷◌, ◌++◌, drop, length, map, Some, refl, sym, ap, subst, ◌∙◌, inl, inr, ◌⊎◌, arith}
+use Rattle.std.proofs.Common.{ℕ, ◌≡◌, ◌≤◌, Bool, true, false, cond, List, [], ◌∷◌, ◌++◌, drop, length, map, Option, Some, refl, sym, ap, subst, ◌∙◌, inl, inr, ◌⊎◌, arith}
+use Rattle.std.proofs.lemmas.List.{append-nil}
 use Rattle.pg_base.specs.declared.id.FileId.{FileId}
 use Rattle.pg_base.specs.declared.policy.Policy.{Policy}
 use Rattle.pg_base.specs.declared.stamp.Stamp.{Stamp}
 use Rattle.pg_call.specs.declared.call.Call.{Call}
-use Rattle.pg_call.specs.declared.refusal.Refusal.TheVariants.{ClockEnd}
-use Rattle.pg_call.specs.declared.reply.Reply.TheVariants as reply
+use Rattle.pg_call.specs.declared.reply.Reply.{Reply}
 use Rattle.pg_msg.specs.declared.update.MadeVersion.{MadeVersion}
-use Rattle.pg_msg.specs.declared.work.Work.{Work}
+use Rattle.pg_msg.specs.declared.update.Update.{Update}
 use Rattle.pg_msg.specs.Work.{new_work}
-use Rattle.pg_run.specs.Journal.{versions_in}
+use Rattle.pg_run.specs.Carried.{begun_by}
+use Rattle.pg_run.specs.Journal.{Born, born_at, born_in, versions_in}
 use Rattle.pg_run.specs.Passed.{passed, passed_with}
 use Rattle.pg_run.specs.Run.{took_after}
 use Rattle.pg_run.specs.Took.{Take, stamps_taken, take_of}
 use Rattle.pg_store.specs.declared.store.Store.{Store}
+use Rattle.pg_store.specs.Births.{birth_of}
 use Rattle.pg_store.specs.Store.{is_in_time}
-use Rattle.pg_cells.specs.Done.{idle}
-use Rattle.pg_cells.specs.Sending.{is_any}
-use Rattle.pg_cells.specs.Ticks.{tick}
+use Rattle.pg_cells.specs.Done.{Done}
 use Rattle.pg_calls.specs.Answer.{Answer}
 use Rattle.pg_calls.specs.Calls.{do_call}
 use Rattle.pg_server.specs.declared.input.Input.TheVariants as input
-use Rattle.pg_server.specs.Local.{Effect, call_effect, closed, finished, tick_effect}
-use Rattle.pg_promises.specs.Whole.{IsWhole}
-use Rattle.pg_contents.proofs.Arrivals.{Arrives, IsPassive, ends_passive, kept_holds, stands_same}
-use Rattle.pg_contents.proofs.Calls.{Still}
+use Rattle.pg_server.specs.Local.{Effect, closed, done_of, effect, finished}
+use Rattle.pg_contents.proofs.Arrivals.{Arrives, more_came, quiet_arrives}
+use Rattle.pg_contents.proofs.Changes.{Core, IsOrdered, StaysFull, birth_in, birth_is, core_at}
 use Rattle.pg_contents.proofs.Ends.{Ends, closed_ends, finished_ends}
 use Rattle.pg_contents.proofs.Histories.{IsNextUpdate}
-use Rattle.pg_contents.proofs.Making.{IsNamed, Makes}
-use Rattle.pg_contents.proofs.Outcomes.{call_comes, policies_then}
+use Rattle.pg_contents.proofs.Making.{Makes}
+use Rattle.pg_contents.proofs.Outcomes.{begun_none, brought_by, call_comes, policies_then}
+use Rattle.pg_contents.proofs.Quiet.{Quiet}
 use Rattle.pg_contents.proofs.Rules.{ArePlaces}
-use Rattle.pg_contents.proofs.Sending.{AllCarry, SamePolicies, more_carry, none_carry}
-use Rattle.pg_contents.proofs.Changes.{Keeps-refl}
-use Rattle.pg_contents.proofs.Servers.{IsServer, Stands, came_of, stands_kept}
-use Rattle.pg_contents.proofs.Takes.{stamps_after}
+use Rattle.pg_contents.proofs.Sending.{AllCarry}
+use Rattle.pg_contents.proofs.Servers.{IsNamedBy, IsServer, Stands, came_of, stands_kept, stands_same}
+use Rattle.pg_contents.proofs.Takes.{HasNone, both_none, stamps_after, stamps_joined}
 
--- ---- an event at which a server makes a version
+-- ---- an event at which a server makes no version, or one
 
-pub record IsMaking (n s : ℕ) (a : Store) (us : List MadeVersion) (p q : FileId → Policy)
-    (done : Effect) (takes : List Take) : Type 0 where
-  pub version : MadeVersion
-  pub made : versions_in done.out.made ≡ version ∷ []
-  pub next : IsNextUpdate us version
-  pub server : version.stamp.server ≡ s
+pub record IsPassive (s : ℕ) (a : Store) (us : List Born) (p : FileId → Policy)
+    (N : FileId → Type 0) (done : Effect) (takes : List Take) : Type 0 where
+  pub none : versions_in done.out.made ≡ []
+  pub server : done.store.names.server ≡ a.names.server
   pub last : a.names.last ≤ done.store.names.last
   pub files : a.files ≤ done.store.files
-  pub dated : version.stamp.time ≤ done.store.names.last
-  pub named : IsNamed s us done.store version
-  pub whole : IsWhole n s done.store
-  pub stands : Stands s done.store (version ∷ us) q (came_of takes)
-  pub sent : AllCarry (version ∷ us) q done.out.sent
-  pub same : SamePolicies us p q
+  pub order : IsOrdered a.replicas → IsOrdered done.store.replicas
+  pub full : StaysFull a done.store
+  pub held : (f : FileId) (k : Core) → core_at done.store f ≡ Some k → IsNamedBy s done.store N f
+  pub stands : Stands s done.store us p (came_of takes)
+  pub sent : AllCarry us p N done.out.sent
 
--- ---- a call
+pub record IsMaking (s : ℕ) (a : Store) (us : List Born) (p q : FileId → Policy)
+    (N : FileId → Type 0) (done : Effect) (takes : List Take) : Type 0 where
+  pub version : Born
+  pub made : born_in done.store done.out.made ≡ version ∷ []
+  pub next : IsNextUpdate us version
+  pub maker : version.made.stamp.server ≡ s
+  pub server : done.store.names.server ≡ a.names.server
+  pub last : a.names.last ≤ done.store.names.last
+  pub files : a.files ≤ done.store.files
+  pub order : IsOrdered a.replicas → IsOrdered done.store.replicas
+  pub full : StaysFull a done.store
+  pub dated : version.made.stamp.time ≤ done.store.names.last
+  pub named : IsNamedBy s done.store N version.made.file
+  pub held : (f : FileId) (k : Core) → core_at done.store f ≡ Some k → IsNamedBy s done.store N f
+  pub stands : Stands s done.store (version ∷ us) q (came_of takes)
+  pub sent : AllCarry (version ∷ us) q N done.out.sent
+  pub same : (f : FileId) → N f → q f ≡ p f
+  pub rest : (f : FileId) → IsNamedBy s done.store N f ⊎ (q f ≡ p f)
+
+-- no version is among what begins
+brought_made : (f : FileId) (us : List Update) (o : Option Reply)
+    → stamps_taken f (map take_of us ++ begun_by o) ≡ stamps_taken f (map take_of us)
+brought_made f us o =
+    stamps_joined f (map take_of us) (begun_by o)
+    ∙ ap (λ (ts : List Stamp). stamps_taken f (map take_of us) ++ ts) (begun_none f o)
+    ∙ append-nil (stamps_taken f (map take_of us))
 
 -- more ids are given out since
-named_later : (s : ℕ) (us : List MadeVersion) (b c : Store) (u : MadeVersion)
-    → b.files ≤ c.files → IsNamed s us b u → IsNamed s us c u
-named_later s us b c u up (inl r) = let low = r.1 in inl (r.0, omega arith)
-named_later s us b c u up (inr r) = inr r
+named_later : (s : ℕ) (b c : Store) (N : FileId → Type 0) (f : FileId) → b.files ≤ c.files
+    → IsNamedBy s b N f → IsNamedBy s c N f
+named_later s b c N f up (inl named) = inl named
+named_later s b c N f up (inr own) = let low = own.1 in inr (own.0, omega arith)
 
-module _ {n s : ℕ} {a : Store} {us : List MadeVersion} {p : FileId → Policy}
-    (before : List Take) (k : IsServer n s a us p (came_of before)) where
-  -- ---- how a call ends
+-- and other policies stay or are of what is named
+rest_later : (s : ℕ) (b c : Store) (N : FileId → Type 0) (f : FileId) (P : Type 0)
+    → b.files ≤ c.files → IsNamedBy s b N f ⊎ P → IsNamedBy s c N f ⊎ P
+rest_later s b c N f P up (inl named) = inl (named_later s b c N f up named)
+rest_later s b c N f P up (inr same) = inr same
 
-  module _ (r : Answer) where
-    abbrev pub call_done : Bool → Effect
-    call_done t =
-        cond t (closed (Some r.reply) (idle r.store r.work))
-        (finished (Some r.reply) (idle r.store r.work))
+module _ {s : ℕ} {a : Store} {us : List Born} {p : FileId → Policy} {N : FileId → Type 0}
+    (before : List Take) (k : IsServer s a us p N (came_of before)) where
+  abbrev Comes : Done → List Take → Type 0
+  Comes d more = Arrives s a us p N (came_of before) d more
 
-    abbrev pub call_takes : Bool → List Take
-    call_takes t =
-        cond t (passed_with a.names.removed (passed a.names.removed
-        (map take_of r.work.made ++ before)) (drop (length r.work.made) (call_done t).out.made))
-        before
+  -- ---- the end of an event at which none is made
 
-    call_ends : IsWhole n s r.store → (t : Bool) → Ends n s r.store r.work (call_done t)
-    call_ends whole true = closed_ends n s r.store r.work whole (Some r.reply)
-    call_ends whole false = finished_ends n s r.store r.work whole (Some r.reply)
+  ends_passive : (d : Done) (more : List Take) → Comes d more → (done : Effect)
+      → Ends d.store d.work done → (takes : List Take)
+      → ((q : FileId) → stamps_taken q takes ≡ stamps_taken q more ++ stamps_taken q before)
+      → IsPassive s a us p N done takes
+  ends_passive d more h done e takes same =
+      let low = h.last in
+      let high = e.keeps.last in
+      let few = h.files in
+      let many = e.keeps.files in
+      let stands = stands_same (stands_kept h.stands done.store e.keeps) (came_of takes) same in
+      record {
+        none = e.made ∙ h.none;
+        server = e.keeps.server ∙ h.server;
+        last = omega arith;
+        files = omega arith;
+        order = λ z. e.keeps.order (h.order z);
+        full = λ f z. e.keeps.full f (h.full f z);
+        held = λ f c is. named_later s d.store done.store N f many
+            (h.held f c (sym (e.keeps.each f) ∙ is));
+        stands = stands;
+        sent = e.sends s us p N (came_of takes) stands h.sent;
+      }
 
-    -- what came then
-    call_came : ArePlaces (drop (length r.work.made) (call_done true).out.made) → (q : FileId)
-        → stamps_taken q (call_takes true)
-        ≡ stamps_taken q (map take_of r.work.made) ++ stamps_taken q before
-    call_came are q =
-        stamps_after q a.names.removed (map take_of r.work.made) before
-        (drop (length r.work.made) (call_done true).out.made) are
+  came_then : (reply : Option Reply) (d : Done) (more : List Take)
+      → ArePlaces (drop (length d.work.made) (closed reply d).out.made) → (q : FileId)
+      → stamps_taken q (passed_with a.names.removed (passed a.names.removed (more ++ before))
+      (drop (length d.work.made) (closed reply d).out.made))
+      ≡ stamps_taken q more ++ stamps_taken q before
+  came_then reply d more are q =
+      stamps_after q a.names.removed more before
+      (drop (length d.work.made) (closed reply d).out.made) are
 
-    same_came : Still n s a r → (t : Bool) → Ends n s r.store r.work (call_done t) → (q : FileId)
-        → stamps_taken q (call_takes t) ≡ stamps_taken q before
-    same_came still true e q =
-        call_came e.behind q
-        ∙ ap (λ (ts : List Stamp). ts ++ stamps_taken q before) (still.takes q)
-    same_came still false e q = refl
+  -- where the first effect and what it brings go by whether the input takes effect
+  module _ (reply : Option Reply) (first : Bool → Done) (more : Bool → List Take) where
+    abbrev pub done_by : Bool → Effect
+    done_by t = cond t (closed reply (first t)) (finished reply (first t))
 
-    -- where all contents stay as they are
-    still_passive : Still n s a r → (t : Bool) → IsPassive n s a us p (call_done t) (call_takes t)
-    still_passive still t =
-        let e = call_ends still.whole t in
-        let low = still.keeps.last in
-        let high = e.keeps.last in
-        let few = still.keeps.files in
-        let many = e.keeps.files in
-        let stands = stands_same (stands_kept (stands_kept k.stands r.store still.keeps)
-        (call_done t).store e.keeps) (came_of (call_takes t)) (same_came still t e) in
-        record {
-          none = e.made ∙ still.none;
-          last = omega arith;
-          files = omega arith;
-          whole = e.whole;
-          stands = stands;
-          sent = e.sends us p (came_of (call_takes t)) stands
-              (subst (AllCarry us p) (sym still.sent) (none_carry us p));
-        }
+    abbrev pub takes_by : Bool → List Take
+    takes_by t =
+        cond t (passed_with a.names.removed (passed a.names.removed (more t ++ before))
+        (drop (length (first t).work.made) (done_by t).out.made)) before
 
-    -- where a version is made
-    makes_making : (q : FileId → Policy) (m : Makes n s a us p q (came_of before) r)
-        → IsMaking n s a us p q (call_done true) (call_takes true)
+    pub passive_by : (t : Bool) → Comes (first true) (more true) → Comes (first false) []
+        → IsPassive s a us p N (done_by t) (takes_by t)
+    passive_by true comes none =
+        let d = first true in
+        let e = closed_ends d.store d.work reply in
+        ends_passive d (more true) comes (closed reply d) e (takes_by true)
+        (came_then reply d (more true) e.behind)
+    passive_by false comes none =
+        let d = first false in
+        ends_passive d [] none (finished reply d) (finished_ends d.store d.work reply) before
+        (λ q. refl)
+
+  -- nothing came
+  pub comes_none : (d : Done) (more : List Take) → Comes d more → ((q : FileId) → HasNone q more)
+      → Comes d []
+  comes_none d more h none = record {
+    server = h.server;
+    last = h.last;
+    files = h.files;
+    order = h.order;
+    full = h.full;
+    held = h.held;
+    stands = stands_same h.stands (more_came [] (came_of before))
+        (λ q. sym (ap (λ (ts : List Stamp). ts ++ stamps_taken q before) (none q)));
+    none = h.none;
+    sent = h.sent;
+  }
+
+  pub quiet_both : (now from : ℕ) (d : Done) → Quiet us p N a (new_work now from) d
+      → Comes d (map take_of d.work.made ++ []) × Comes d []
+  quiet_both now from d h =
+      let comes = quiet_arrives k now from d h [] (λ q. refl) in (
+        comes,
+        comes_none d (map take_of d.work.made ++ []) comes
+            (λ q. both_none q (map take_of d.work.made) [] (h.takes q) refl),
+      )
+
+  -- ---- a call
+
+  module _ (moment : ℕ) (asked : Call) where
+    abbrev r : Answer
+    r = do_call a asked (new_work moment 0)
+
+    abbrev CallDone : Bool → Effect
+    CallDone t = done_by (Some r.reply) (λ b. done_of r) (λ b. brought_by k moment r) t
+
+    abbrev CallTakes : Bool → List Take
+    CallTakes t = takes_by (Some r.reply) (λ b. done_of r) (λ b. brought_by k moment r) t
+
+    born_same : (done : Store) (u : Born) (us_made : List MadeVersion) → us_made ≡ u.made ∷ []
+        → birth_of done u.made.file ≡ u.birth → map (born_at done) us_made ≡ u ∷ []
+    born_same done u made is birth =
+        ap (map (born_at done)) is
+        ∙ ap (λ n. record { birth = n; made = u.made } ∷ []) birth
+
+    makes_making : (q : FileId → Policy) → Makes s a us p q N (came_of before) r
+        → IsMaking s a us p q N (CallDone true) (CallTakes true)
     makes_making q m =
-        let e = call_ends m.whole true in
+        let d = done_of r in
+        let done = closed (Some r.reply) d in
+        let e = closed_ends d.store d.work (Some r.reply) in
         let low = m.last in
         let high = e.keeps.last in
         let few = m.files in
         let many = e.keeps.files in
         let early = m.dated in
         let u = m.version in
-        let stands = stands_same (stands_kept m.stands (call_done true).store e.keeps)
-        (came_of (call_takes true))
-        (λ f. call_came e.behind f
-        ∙ ap (λ (ts : List Stamp). ts ++ stamps_taken f before) (m.takes f)) in
+        let here = e.keeps.each u.made.file ∙ m.here in
+        let stands = stands_same (stands_kept m.stands done.store e.keeps)
+        (came_of (CallTakes true))
+        (λ f. came_then (Some r.reply) d (brought_by k moment r) e.behind f
+        ∙ ap (λ (ts : List Stamp). ts ++ stamps_taken f before)
+        (brought_made f r.work.made (Some r.reply) ∙ m.takes f)) in
         record {
           version = u;
-          made = e.made ∙ m.made;
+          made = born_same done.store u (versions_in done.out.made) (e.made ∙ m.made)
+              (birth_is done.store u.made.file ∙ ap birth_in here ∙ m.born);
           next = m.next;
-          server = m.server;
+          maker = m.maker;
+          server = e.keeps.server ∙ m.server;
           last = omega arith;
           files = omega arith;
+          order = λ z. e.keeps.order (m.order z);
+          full = λ f z. e.keeps.full f (m.full f z);
           dated = omega arith;
-          named = named_later s us r.store (call_done true).store u many m.named;
-          whole = e.whole;
+          named = named_later s d.store done.store N u.made.file many
+              (m.held u.made.file m.core m.here);
+          held = λ f c is. named_later s d.store done.store N f many
+              (m.held f c (sym (e.keeps.each f) ∙ is));
           stands = stands;
-          sent = e.sends (u ∷ us) q (came_of (call_takes true)) stands
-              (subst (AllCarry (u ∷ us) q) (sym m.sent) (none_carry (u ∷ us) q));
+          sent = e.sends s (u ∷ us) q N (came_of (CallTakes true)) stands m.sent;
           same = m.same;
+          rest = λ f. rest_later s d.store done.store N f (q f ≡ p f) many (m.rest f);
         }
 
     abbrev MakesBy : (FileId → Policy) → Bool → Type 0
-    MakesBy q t = IsMaking n s a us p q (call_done t) (call_takes t)
+    MakesBy q t = IsMaking s a us p q N (CallDone t) (CallTakes t)
 
-    pub makes_then : (q : FileId → Policy) → Makes n s a us p q (came_of before) r
-        → MakesBy q (is_in_time a)
-    makes_then q m = subst (MakesBy q) (sym m.time) (makes_making q m)
+    -- A CALL COMES, and the event ends
+    abbrev pub CallOutcome : Type 0
+    CallOutcome =
+        (IsPassive s a us p N (effect a (input.Call moment asked))
+        (took_after a before (input.Call moment asked))
+        × ((f : FileId) → policies_then p asked r.reply f ≡ p f))
+        ⊎ IsMaking s a us p (policies_then p asked r.reply) N
+        (effect a (input.Call moment asked)) (took_after a before (input.Call moment asked))
 
-  -- A CALL COMES, and the event ends
-  abbrev pub CallOutcome : ℕ → Call → Type 0
-  CallOutcome moment asked =
-      let r = do_call a asked (new_work moment 0) in
-      (IsPassive n s a us p (call_effect a moment asked)
-      (took_after a before (input.Call moment asked))
-      × ((f : FileId) → policies_then p asked r.reply f ≡ p f))
-      ⊎ IsMaking n s a us p (policies_then p asked r.reply) (call_effect a moment asked)
-      (took_after a before (input.Call moment asked))
-
-  pub call_ended : (moment : ℕ) (asked : Call) → CallOutcome moment asked
-  call_ended moment asked =
-      let r = do_call a asked (new_work moment 0) in
-      elim (call_comes k moment asked) [
-        | inl still ↦ inl (still_passive r still.0 (is_in_time a), still.1)
-        | inr makes ↦ inr (makes_then r (policies_then p asked r.reply) makes)
-      ]
-
-  -- ---- a tick
-
-  module _ (moment word : ℕ) where
-    abbrev told : Work
-    told = tick a (new_work moment 0)
-
-    tick_arrives : Arrives n s a us p (came_of before) (idle a told) []
-    tick_arrives = record {
-      holds = kept_holds k a [] (Keeps-refl a) k.whole (λ q. refl);
-      none = refl;
-      sent = more_carry k.stands is_any [] (none_carry us p);
-    }
-
-    idle_arrives : Arrives n s a us p (came_of before) (idle a (new_work moment 0)) []
-    idle_arrives = record {
-      holds = kept_holds k a [] (Keeps-refl a) k.whole (λ q. refl);
-      none = refl;
-      sent = none_carry us p;
-    }
-
-    abbrev tick_done : Bool → Effect
-    tick_done t =
-        cond t (closed (Some reply.Done) (idle a told))
-        (finished (Some (reply.Refused ClockEnd)) (idle a (new_work moment 0)))
-
-    abbrev tick_takes : Bool → List Take
-    tick_takes t =
-        cond t (passed_with a.names.removed (passed a.names.removed before)
-        (drop 0 (tick_done t).out.made)) before
-
-    tick_by : (t : Bool) → IsPassive n s a us p (tick_done t) (tick_takes t)
-    tick_by true =
-        let e = closed_ends n s a told k.whole (Some reply.Done) in
-        ends_passive before k (idle a told) [] tick_arrives (tick_done true) e (tick_takes true)
-        (λ q. stamps_after q a.names.removed [] before (drop 0 (tick_done true).out.made) e.behind)
-    tick_by false =
-        ends_passive before k (idle a (new_work moment 0)) [] idle_arrives (tick_done false)
-        (finished_ends n s a (new_work moment 0) k.whole (Some (reply.Refused ClockEnd))) before
-        (λ q. refl)
-
-    -- A TICK
-    pub tick_passive : IsPassive n s a us p (tick_effect a moment)
-        (took_after a before (input.Tick moment word))
-    tick_passive = tick_by (is_in_time a)
+    pub call_ended : CallOutcome
+    call_ended = elim (call_comes k moment asked) [
+      | inl still ↦ inl (
+        passive_by (Some r.reply) (λ b. done_of r) (λ b. brought_by k moment r) (is_in_time a)
+            still.0.0 (comes_none (done_of r) (brought_by k moment r) still.0.0 still.0.1),
+        still.1,
+      )
+      | inr makes ↦ inr (subst (MakesBy (policies_then p asked r.reply)) (sym makes.time)
+          (makes_making (policies_then p asked r.reply) makes))
+    ]

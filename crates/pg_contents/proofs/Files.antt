@@ -1,9 +1,7 @@
 -- What a server holds of one file's content: the state of the versions that it took. A write, a
 -- version that comes, and another server's write keep it so.
-use Rattle.std.proofs.Common.{[], ℕ, ◌≡◌, ◌≢◌, ◌≤◌, Bool, true, false, cond, List, ◌∷◌, map, refl, sym, ap, subst, ◌∙◌, inl, inr, ◌↔◌, ◌⊎◌, arith}
-use Rattle.std.proofs.lemmas.Bool.{false≢true}
+use Rattle.std.proofs.Common.{[], ℕ, ◌≡◌, ◌≢◌, ◌≤◌, true, cond, List, ◌∷◌, map, refl, sym, ap, subst, ◌∙◌, inl, inr, ◌↔◌, arith}
 use Rattle.pg_base.specs.declared.policy.Policy.{Policy}
-use Rattle.pg_base.specs.declared.policy.Policy.TheVariants.{Last}
 use Rattle.pg_base.specs.declared.stamp.Stamp.{Stamp}
 use Rattle.pg_base.specs.Version.{VersionValue, actor_of, stamp_of}
 use Rattle.pg_content.specs.Content.{Among, ContentValue, is_covered, joined_content, put_version, written}
@@ -13,26 +11,7 @@ use Rattle.pg_content.proofs.Standing.{stands_same}
 use Rattle.pg_content.proofs.StandsJoined.{stands_joined}
 use Rattle.pg_content.proofs.StandsWritten.{stands_later, stands_written}
 use Rattle.pg_run.specs.Journal.{with_ancestors}
-use Rattle.pg_store.specs.Store.{is_empty}
 use Rattle.pg_contents.proofs.Sets.{AreMembers, itself_taken, taken_is, taken_with, with_member, within_later}
-
--- ---- policies
-
--- the policy of a file's content: that of the file, and until a version comes, what an untouched
--- replica has
-abbrev pub policy_in : Policy → List VersionValue → Policy
-policy_in p [] = Last
-policy_in p (v ∷ vs) = p
-
-pub policy_headed : (p : Policy) (vs : List VersionValue) (v : VersionValue) → Among v vs
-    → policy_in p vs ≡ p
-policy_headed p [] v l = absurd l
-policy_headed p (w ∷ vs) v l = refl
-
-policy_none : (p q : Policy) (vs : List VersionValue)
-    → ((v : VersionValue) → Among v vs → ⊥) → policy_in p vs ≡ policy_in q vs
-policy_none p q [] none = refl
-policy_none p q (v ∷ vs) none = absurd (none v (inl refl))
 
 -- ---- what stands for what was taken
 
@@ -40,12 +19,6 @@ policy_none p q (v ∷ vs) none = absurd (none v (inl refl))
 pub record Stood (s : ℕ) (c : ContentValue) (h : List Made) (set : List Stamp) : Type 0 where
   pub stands : StandsFor c h (with_ancestors h set)
   pub own : (m : Made) → Among m h → m.stamp.server ≡ s → Among m.stamp (with_ancestors h set)
-
--- and they have the file's policy
-pub record HoldsFile (s : ℕ) (p : Policy) (c : ContentValue) (h : List Made) (set : List Stamp)
-    : Type 0 where
-  pub policy : c.policy ≡ policy_in p c.heads
-  pub stood : Stood s c h set
 
 module _ {s : ℕ} {c : ContentValue} {h : List Made} {set : List Stamp} (f : Stood s c h set)
     (are : AreMembers h set) where
@@ -116,47 +89,27 @@ module _ {s : ℕ} {c : ContentValue} {h : List Made} {set : List Stamp} (f : St
 abbrev pub IsMadeOf : Policy → List Made → VersionValue → Type 0
 IsMadeOf p h v = (m : Made) × Among m h × (v ≡ version_of p h m)
 
--- ---- one file
+-- ---- the content of a replica
 
-module _ {s : ℕ} {p : Policy} {c : ContentValue} {h : List Made} {set : List Stamp} where
-  module _ (f : HoldsFile s p c h set) where
-    -- whoever has a head has the policy of the file
-    pub headed : (v : VersionValue) → Among v c.heads → c.policy ≡ p
-    headed v l = f.policy ∙ policy_headed p c.heads v l
+-- it has the policy of its file, and stands for what was taken
+pub record HoldsFile (s : ℕ) (p : Policy) (c : ContentValue) (h : List Made) (set : List Stamp)
+    : Type 0 where
+  pub policy : c.policy ≡ p
+  pub stood : Stood s c h set
 
-    -- each head is a version of the history of the file, whole
-    pub held_version : (v : VersionValue) → Among v c.heads → IsMadeOf p h v
-    held_version v l =
-        let r = f.stood.stands.heads v l in
-        (r.made, r.member, r.version ∙ ap (λ q. version_of q h r.made) (headed v l))
+-- each head is a version of the history of the file, whole
+pub held_version : {s : ℕ} {p : Policy} {c : ContentValue} {h : List Made} {set : List Stamp}
+    → HoldsFile s p c h set → (v : VersionValue) → Among v c.heads → IsMadeOf p h v
+held_version {h = h} f v l =
+    let r = f.stood.stands.heads v l in
+    (r.made, r.member, r.version ∙ ap (λ q. version_of q h r.made) f.policy)
 
-    -- another policy, where the file has no version yet
-    pub no_version : h ≡ [] → (v : VersionValue) → Among v c.heads → ⊥
-    no_version none v l =
-        let r = f.stood.stands.heads v l in subst (λ x. Among r.made x) none r.member
-
-    pub file_policy : (q : Policy) → (q ≡ p) ⊎ (h ≡ []) → HoldsFile s q c h set
-    file_policy q (inl same) = record {
-      policy = f.policy ∙ ap (λ x. policy_in x c.heads) (sym same);
-      stood = f.stood;
-    }
-    file_policy q (inr none) = record {
-      policy = f.policy ∙ policy_none p q c.heads (no_version none);
-      stood = f.stood;
-    }
-
-    pub file_later : AreMembers h set → (m : Made) → IsHistory (m ∷ h) → m.stamp.server ≢ s
-        → HoldsFile s p c (m ∷ h) set
-    file_later are m k other =
-        record { policy = f.policy; stood = stood_later f.stood are m k other }
-
--- a content with the policy of its file, as a write or a version finds it
 module _ {s : ℕ} {p : Policy} {c : ContentValue} {h : List Made} {set : List Stamp}
-    (policy : c.policy ≡ p) (f : Stood s c h set) (are : AreMembers h set) where
+    (f : HoldsFile s p c h set) (are : AreMembers h set) where
   pub file_wrote : (m : Made) → IsHistory (m ∷ h)
       → m.bases ≡ map stamp_of c.heads
       → HoldsFile s p (written c (maker m) m.stamp m.ranges) (m ∷ h) (m.stamp ∷ set)
-  file_wrote m k based = record { policy = policy; stood = stood_wrote f are m k based }
+  file_wrote m k based = record { policy = f.policy; stood = stood_wrote f.stood are m k based }
 
   module _ (k : IsHistory h) (m : Made) (is : Among m h) where
     came_by : (v : VersionValue) → v ≡ version_of c.policy h m
@@ -164,10 +117,10 @@ module _ {s : ℕ} {p : Policy} {c : ContentValue} {h : List Made} {set : List S
     came_by v e =
         let P : VersionValue → Type 0 =
         (λ x. Stood s (joined_content c x) h (x.head.stamp ∷ set)) in
-        subst P (sym e) (stood_came f are k m is)
+        subst P (sym e) (stood_came f.stood are k m is)
 
     same_version : (v : VersionValue) → v ≡ version_of p h m → v ≡ version_of c.policy h m
-    same_version v e = e ∙ ap (λ q. version_of q h m) (sym policy)
+    same_version v e = e ∙ ap (λ q. version_of q h m) (sym f.policy)
 
     came_members : (v : VersionValue) → v ≡ version_of p h m
         → AreMembers h (v.head.stamp ∷ set)
@@ -184,12 +137,7 @@ module _ {s : ℕ} {p : Policy} {c : ContentValue} {h : List Made} {set : List S
     pub file_came : (v : VersionValue) → v ≡ version_of p h m
         → HoldsFile s p (joined_content c v) h (v.head.stamp ∷ set)
     file_came v e =
-        let g = came_by v (same_version v e) in
-        let a = g.stands.all v.head.stamp (came_taken v e) in
-        record {
-          policy = policy ∙ sym (policy_headed p (joined_content c v).heads a.0 a.1);
-          stood = g;
-        }
+        record { policy = f.policy; stood = came_by v (same_version v e) }
 
     -- a version that some head covers was taken before, so its time is no news
     pub covered_upto : (last : ℕ) → ((t u : Stamp) → IsAncestor h t u → t.time ≤ u.time)
@@ -211,49 +159,18 @@ module _ {s : ℕ} {p : Policy} {c : ContentValue} {h : List Made} {set : List S
               omega arith)
         ]
 
--- ---- a policy comes with the first version
-
-abbrev pub begun_with : Policy → ContentValue → ContentValue
-begun_with policy c = cond (is_empty c.heads) (record { policy = policy; heads = [] }) c
-
-no_heads : (vs : List VersionValue) → is_empty vs ≡ true → (v : VersionValue) → Among v vs → ⊥
-no_heads [] e v l = l
-no_heads (w ∷ vs) e v l = absurd (false≢true e)
-
-pub a_head : (vs : List VersionValue) → is_empty vs ≡ false → (v : VersionValue) × Among v vs
-a_head [] e = absurd (let f : true ≡ false = e in cc)
-a_head (v ∷ vs) e = (v, inl refl)
+-- ---- a file begins
 
 -- a content without heads stands for nothing, whatever its policy
 pub stood_begun : {s : ℕ} {c : ContentValue} {h : List Made} {set : List Stamp}
-    → Stood s c h set → ((v : VersionValue) → Among v c.heads → ⊥) → (policy : Policy)
+    → Stood s c h set → c.heads ≡ [] → (policy : Policy)
     → Stood s (record { policy = policy; heads = [] }) h set
-stood_begun f none policy = record {
+stood_begun {c = c} f none policy = record {
   stands = record {
     closed = f.stands.closed;
     order = tt;
     heads = λ v l. absurd l;
-    all = λ t l. let a = f.stands.all t l in absurd (none a.0 a.1);
+    all = λ t l. let a = f.stands.all t l in absurd (subst (Among a.0) none a.1);
   };
   own = f.own;
 }
-
-pub record IsReady (s : ℕ) (p : Policy) (c : ContentValue) (h : List Made) (set : List Stamp)
-    : Type 0 where
-  pub policy : c.policy ≡ p
-  pub stood : Stood s c h set
-
-ready_by : {s : ℕ} {p : Policy} {c : ContentValue} {h : List Made} {set : List Stamp}
-    → HoldsFile s p c h set → (policy : Policy) → policy ≡ p → (t : Bool)
-    → is_empty c.heads ≡ t
-    → IsReady s p (cond t (record { policy = policy; heads = [] }) c) h set
-ready_by {c = c} f policy same true e =
-    record { policy = same; stood = stood_begun f.stood (no_heads c.heads e) policy }
-ready_by {c = c} f policy same false e =
-    let a = a_head c.heads e in record { policy = headed f a.0 a.1; stood = f.stood }
-
--- so a version may come then
-pub ready : {s : ℕ} {p : Policy} {c : ContentValue} {h : List Made} {set : List Stamp}
-    → HoldsFile s p c h set → (policy : Policy) → policy ≡ p
-    → IsReady s p (begun_with policy c) h set
-ready {c = c} f policy same = ready_by f policy same (is_empty c.heads) refl

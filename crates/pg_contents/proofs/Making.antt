@@ -1,5 +1,5 @@
 -- A version is made of what is held of a file, as a client writes it.
-use Rattle.std.proofs.Common.{ℕ, ◌≡◌, ◌<◌, ◌≤◌, ◌+◌, ◌^◌, true, cond, max, min, List, [], ◌∷◌, ◌++◌, map, Ok, refl, sym, ap, subst, ◌∙◌, inl, inr, ◌⊎◌, arith}
+use Rattle.std.proofs.Common.{ℕ, ◌≡◌, ◌<◌, ◌≤◌, ◌+◌, ◌^◌, true, cond, max, min, List, [], ◌∷◌, ◌++◌, map, Option, Some, Ok, option_map, refl, ap, ◌∙◌, inl, inr, ◌⊎◌, arith}
 use Rattle.std.proofs.lemmas.List.{append-nil}
 use Rattle.pg_base.specs.declared.id.FileId.{FileId}
 use Rattle.pg_base.specs.declared.policy.Policy.{Policy}
@@ -7,130 +7,101 @@ use Rattle.pg_base.specs.declared.stamp.Stamp.{Stamp}
 use Rattle.pg_base.specs.Id.{is_same_file}
 use Rattle.pg_base.specs.Version.{VersionValue, stamp_of}
 use Rattle.pg_patch.specs.Ranges.{RangesValue}
-use Rattle.pg_content.specs.Content.{Among, ContentValue, written}
+use Rattle.pg_content.specs.Content.{Among}
 use Rattle.pg_call.specs.declared.reply.Reply.TheVariants as reply
 use Rattle.pg_msg.specs.declared.update.MadeVersion.{MadeVersion}
 use Rattle.pg_msg.specs.Work.{new_work}
-use Rattle.pg_run.specs.Journal.{made_for, made_of, versions_in}
-use Rattle.pg_replica.specs.Replica.{own_actor}
+use Rattle.pg_replica.specs.declared.replica.Replica.{Replica}
+use Rattle.pg_replica.specs.Replicas.{or_nothing}
+use Rattle.pg_run.specs.Journal.{Born, made_for, versions_in}
 use Rattle.pg_run.specs.Took.{stamps_taken, take_of}
 use Rattle.pg_store.specs.declared.store.Store.{Store}
-use Rattle.pg_store.specs.Store.{content_of, is_in_time, replica_of, write}
-use Rattle.pg_store.proofs.InTime.{last_in_time}
+use Rattle.pg_store.specs.Store.{is_in_time, replica_at, write}
+use Rattle.pg_store.proofs.InTime.{births_in_time, last_in_time}
 use Rattle.pg_cells.specs.Done.{idle}
 use Rattle.pg_calls.specs.Answer.{Answer, answer}
 use Rattle.pg_calls.specs.Checks.{file_at}
 use Rattle.pg_calls.specs.Making.{drawn, make_version, version_of}
 use Rattle.pg_calls.proofs.InTime.{file_in_time}
-use Rattle.pg_promises.specs.Whole.{IsWhole}
-use Rattle.pg_promises.proofs.Whole.{full_of, whole_write}
-use Rattle.pg_contents.proofs.Checks.{file_found}
-use Rattle.pg_contents.proofs.Files.{HoldsFile, IsReady, a_head, headed, held_version}
-use Rattle.pg_contents.proofs.Histories.{IsNextUpdate, update_of}
-use Rattle.pg_contents.proofs.Pieces.{write_puts}
-use Rattle.pg_contents.proofs.Sending.{SamePolicies}
-use Rattle.pg_contents.proofs.Changes.{Puts, puts_itself}
-use Rattle.pg_contents.proofs.Servers.{Came, IsServer, Stands, stands_but, stands_wrote, with_came}
+use Rattle.pg_calls.proofs.Walked.{file_found, full_held}
+use Rattle.pg_contents.proofs.Changes.{Core, IsOrdered, StaysFull, by_altered, core_at, core_of, replica_of_core}
+use Rattle.pg_contents.proofs.Files.{HoldsFile}
+use Rattle.pg_contents.proofs.Histories.{AreMade, IsNextUpdate}
+use Rattle.pg_contents.proofs.Sending.{AllCarry, none_carry}
+use Rattle.pg_contents.proofs.Servers.{Came, IsNamedBy, IsServer, Stands, file_held, stands_wrote, with_came}
+use Rattle.pg_contents.proofs.Versions.{WrittenCore, write_alters, write_last}
 use Rattle.pg_contents.proofs.Writing.{IsWrite, next_file, next_update}
 
--- its number was given out, or the file has a version already
-abbrev pub IsNamed : ℕ → List MadeVersion → Store → MadeVersion → Type 0
-IsNamed s us b u = ((u.file.server ≡ s) × (u.file.number ≤ b.files))
-    ⊎ ((v : MadeVersion) × Among v us × (v.file ≡ u.file))
-
--- an answer in which one version was made
-pub record Makes (n s : ℕ) (a : Store) (us : List MadeVersion) (p q : FileId → Policy)
-    (came : Came) (r : Answer) : Type 0 where
-  pub version : MadeVersion
+-- an answer in which one version was made: with these policies then
+pub record Makes (s : ℕ) (a : Store) (us : List Born) (p q : FileId → Policy)
+    (N : FileId → Type 0) (came : Came) (r : Answer) : Type 0 where
+  pub version : Born
+  pub core : Core
   pub time : is_in_time a ≡ true
-  pub made : versions_in r.work.made ≡ version ∷ []
+  pub here : core_at r.store version.made.file ≡ Some core
+  pub born : core.birth ≡ version.birth
+  pub made : versions_in r.work.made ≡ version.made ∷ []
   pub takes : (f : FileId) → stamps_taken f (map take_of r.work.made)
-      ≡ cond (is_same_file version.file f) (version.stamp ∷ []) []
+      ≡ cond (is_same_file version.made.file f) (version.made.stamp ∷ []) []
   pub next : IsNextUpdate us version
-  pub server : version.stamp.server ≡ s
+  pub maker : version.made.stamp.server ≡ s
+  pub server : r.store.names.server ≡ a.names.server
   pub last : a.names.last ≤ r.store.names.last
   pub files : a.files ≤ r.store.files
-  pub dated : version.stamp.time ≤ r.store.names.last
-  pub named : IsNamed s us r.store version
-  pub whole : IsWhole n s r.store
-  pub stands : Stands s r.store (version ∷ us) q (with_came version.file version.stamp came)
-  pub sent : r.work.sent ≡ []
-  pub same : SamePolicies us p q
+  pub order : IsOrdered a.replicas → IsOrdered r.store.replicas
+  pub full : StaysFull a r.store
+  pub dated : version.made.stamp.time ≤ r.store.names.last
+  pub held : (f : FileId) (k : Core) → core_at r.store f ≡ Some k → IsNamedBy s r.store N f
+  pub stands : Stands s r.store (version ∷ us) q
+      (with_came version.made.file version.made.stamp came)
+  pub sent : AllCarry (version ∷ us) q N r.work.sent
+  pub same : (f : FileId) → N f → q f ≡ p f
+  pub rest : (f : FileId) → IsNamedBy s r.store N f ⊎ (q f ≡ p f)
 
 -- ---- a version is made of what is held of a file
 
-module _ {n s : ℕ} {a : Store} {us : List MadeVersion} {q : FileId → Policy} {came : Came}
-    (k : IsServer n s a us q came) (b : Store) (file : FileId) (c : ContentValue)
-    (puts : Puts a b file c) (whole : IsWhole n s b)
-    (ready : IsReady s (q file) c (made_for file us) (came file)) (time : b.names.last < 2 ^ 63)
+module _ {s : ℕ} {b : Store} {us : List Born} {q : FileId → Policy} {came : Came}
+    (k : Stands s b us q came) (made : AreMade us) (few : s < 2 ^ 32) (file : FileId)
+    (x : Replica) (is : replica_at b file ≡ Some x) (birth : x.birth < 2 ^ 64)
+    (room : (v : VersionValue) → Among v x.content.heads → b.names.last < 2 ^ 63)
     (stamp : Stamp) (own : stamp.server ≡ s) (later : b.names.last < stamp.time)
-    (ranges : RangesValue) where
-  abbrev new : MadeVersion
-  new = version_of b file stamp ranges
+    (fresh : (v : Born) → Among v us → v.made.stamp ≡ stamp → ⊥) (ranges : RangesValue) where
+  abbrev pub New : Born
+  New = record { birth = x.birth; made = version_of b file stamp ranges }
 
-  abbrev end : Store
-  end = write b file stamp ranges
+  held_there : HoldsFile s (q file) x.content (made_for file us) (came file)
+  held_there = file_held k file (core_of x) (ap (option_map core_of) is)
 
-  new_fresh : (v : MadeVersion) → Among v us → v.stamp ≡ stamp → ⊥
-  new_fresh v l same =
-      let old = k.dated v l (ap (λ (t : Stamp). t.server) same ∙ own) in
-      let at = ap (λ (t : Stamp). t.time) same in
-      let up = puts.last in
-      omega arith
-
-  came_upto : (t : Stamp) → Among t (came file) → t.time ≤ b.names.last
-  came_upto t l = let up = puts.last in let old = k.stands.upto file t l in omega arith
-
-  is_write : IsWrite s b.names.last (q file) c us (came file) new
+  is_write : IsWrite s b.names.last (q file) x.content us (came file) New
   is_write = record {
-    made = k.made;
-    ready = ready;
-    known = k.stands.known file;
-    upto = came_upto;
-    based = ap (λ (d : ContentValue). map stamp_of d.heads) puts.here;
+    made = made;
+    ready = held_there;
+    known = k.known file;
+    upto = k.upto file;
+    based = ap (λ (o : Option Replica). map stamp_of (or_nothing o).content.heads) is;
     server = own;
     later = later;
-    few = k.few;
-    time = time;
-    fresh = new_fresh;
+    few = few;
+    birth = birth;
+    room = room;
+    fresh = fresh;
   }
 
-  pub made_next : IsNextUpdate us new
+  pub made_next : IsNextUpdate us New
   made_next = next_update is_write
 
-  abbrev now : ContentValue
-  now = written (content_of b file) (own_actor (replica_of b file) stamp.server) stamp ranges
+  abbrev pub WroteStore : Store
+  WroteStore = write b file stamp ranges
 
-  made_file : HoldsFile s (q file) now (made_of new ∷ made_for file us) (stamp ∷ came file)
-  made_file =
-      let P : ContentValue → Type 0 =
-      (λ d. HoldsFile s (q file)
-      (written d (own_actor (replica_of b file) stamp.server) stamp ranges)
-      (made_of new ∷ made_for file us) (stamp ∷ came file)) in
-      let Q : ℕ → Type 0 =
-      (λ z. HoldsFile s (q file)
-      (written c (record { server = stamp.server; birth = z }) stamp ranges)
-      (made_of new ∷ made_for file us) (stamp ∷ came file)) in
-      subst P (sym puts.here) (subst Q (sym (full_of n s b whole file).born) (next_file is_write))
-
-  pub made_dated : stamp.time ≤ end.names.last
-  made_dated = omega arith
-
-  pub made_stands : Stands s end (new ∷ us) q (with_came file stamp came)
+  pub made_stands : Stands s WroteStore (New ∷ us) q (with_came file stamp came)
   made_stands =
-      stands_wrote new (stands_but k.stands b file c puts) end now (write_puts b file stamp ranges)
-      made_dated made_file
-
-  pub made_whole : IsWhole n s end
-  made_whole = whole_write n s b whole file stamp ranges
+      stands_wrote New k WroteStore (WrittenCore b file x is stamp ranges)
+      (write_alters b file x is stamp ranges) (write_last b file x is stamp ranges)
+      (next_file is_write)
 
 -- the next stamp is later than the clock
 pub drawn_later : (now last : ℕ) → last < max (min now (2 ^ 62)) (last + 1)
 drawn_later now last = grind arith
-
-pub drawn_upto : (now last time : ℕ) → last < 2 ^ 62 → time ≡ max (min now (2 ^ 62)) (last + 1)
-    → time ≤ 2 ^ 62
-drawn_upto now last time low e = grind arith
 
 -- ---- a file is written
 
@@ -140,58 +111,82 @@ pub one_take : (f : FileId) (u : MadeVersion)
     ≡ cond (is_same_file u.file f) (u.stamp ∷ []) []
 one_take f u = append-nil (cond (is_same_file u.file f) (u.stamp ∷ []) [])
 
-module _ {n s : ℕ} {a : Store} {us : List MadeVersion} {p : FileId → Policy} {came : Came}
-    (k : IsServer n s a us p came) (moment : ℕ) (ranges : RangesValue) (text : List ℕ)
-    (file : FileId) (found : file_at a text ≡ Ok file) where
-  abbrev stamp : Stamp
-  stamp = drawn a moment
+module _ {s : ℕ} {a : Store} {us : List Born} {p : FileId → Policy} {N : FileId → Type 0}
+    {came : Came} (k : IsServer s a us p N came) where
+  -- a stamp that is later than the clock
+  pub stamp_fresh : (stamp : Stamp) → stamp.server ≡ s → a.names.last < stamp.time → (v : Born)
+      → Among v us → v.made.stamp ≡ stamp → ⊥
+  stamp_fresh stamp own later v l same =
+      let old = k.dated v l (ap (λ (t : Stamp). t.server) same ∙ own) in
+      let at = ap (λ (t : Stamp). t.time) same in
+      omega arith
 
-  abbrev wrote : Answer
-  wrote = answer (make_version file stamp ranges (idle a (new_work moment 0))) (reply.Wrote stamp)
+  module _ (moment : ℕ) (ranges : RangesValue) (text : List ℕ) (file : FileId)
+      (found : file_at a text ≡ Ok file) where
+    abbrev stamp : Stamp
+    stamp = drawn a moment
 
-  head : (v : VersionValue) × Among v (content_of a file).heads
-  head = a_head (content_of a file).heads (file_found a text file found)
+    abbrev Wrote : Answer
+    Wrote = answer (make_version file stamp ranges (idle a (new_work moment 0)))
+        (reply.Wrote stamp)
 
-  written_ready : IsReady s (p file) (content_of a file) (made_for file us) (came file)
-  written_ready = record {
-    policy = headed (k.stands.files file) head.0 head.1;
-    stood = (k.stands.files file).stood;
-  }
+    core : (c : Core) × (core_at a file ≡ Some c)
+    core = k.paired.both file (full_held a.names file (file_found a text file found).0)
 
-  before : (v : MadeVersion) × Among v us × (v.file ≡ file)
-  before =
-      let m = held_version (k.stands.files file) head.0 head.1 in
-      let v = update_of file m.0 us m.1 in
-      (v.0, v.1, sym v.2)
+    there : (x : Replica) × (replica_at a file ≡ Some x) × (core_of x ≡ core.0)
+    there = replica_of_core a file core.0 core.1
 
-  in_time : is_in_time a ≡ true
-  in_time = file_in_time a text file found
+    in_time : is_in_time a ≡ true
+    in_time = file_in_time a text file found
 
-  early : a.names.last < 2 ^ 63
-  early = let low = last_in_time a in_time in omega arith
+    given : there.0.birth < 2 ^ 64
+    given =
+        let most = births_in_time a in_time in
+        let at = k.paired.births file (core_of there.0) (ap (option_map core_of) there.1) in
+        omega arith
 
-  -- A CLIENT WRITES A FILE
-  pub written_makes : Makes n s a us p p came wrote
-  written_makes =
-      let puts = puts_itself a file in
-      let later = drawn_later moment a.names.last in
-      let own = k.whole.server in
-      record {
-        version = version_of a file stamp ranges;
-        time = in_time;
-        made = refl;
-        takes = λ f. one_take f (version_of a file stamp ranges);
-        next = made_next k a file (content_of a file) puts k.whole written_ready early stamp own
-            later ranges;
-        server = own;
-        last = omega arith;
-        files = omega arith;
-        dated = omega arith;
-        named = inr before;
-        whole = made_whole k a file (content_of a file) puts k.whole written_ready early stamp own
-            later ranges;
-        stands = made_stands k a file (content_of a file) puts k.whole written_ready early stamp
-            own later ranges;
-        sent = refl;
-        same = λ f. inl refl;
-      }
+    early : a.names.last < 2 ^ 63
+    early = let low = last_in_time a in_time in omega arith
+
+    later : a.names.last < stamp.time
+    later = drawn_later moment a.names.last
+
+    -- A CLIENT WRITES A FILE
+    pub written_makes : Makes s a us p p N came Wrote
+    written_makes =
+        let x = there.0 in
+        let is = there.1 in
+        let own = k.server in
+        let fresh = stamp_fresh stamp own later in
+        let room = λ (v : VersionValue) (l : Among v x.content.heads). early in
+        let alters = write_alters a file x is stamp ranges in
+        let u = version_of a file stamp ranges in
+        let version =
+        New k.stands k.made k.few file x is given room stamp own later fresh ranges in
+        record {
+          version = version;
+          core = WrittenCore a file x is stamp ranges;
+          time = in_time;
+          here = alters.here;
+          born = refl;
+          made = refl;
+          takes = λ f. one_take f u;
+          next =
+              made_next k.stands k.made k.few file x is given room stamp own later fresh ranges;
+          maker = own;
+          server = refl;
+          last = alters.last;
+          files = omega arith;
+          order = alters.order;
+          full = alters.full;
+          dated = write_last a file x is stamp ranges;
+          held = λ f c e. inl (by_altered (λ g o. (y : Core) → o ≡ Some y → N g) a
+              (write a file stamp ranges) file (Some (WrittenCore a file x is stamp ranges)) alters
+              (λ y same. k.held file (core_of x) (ap (option_map core_of) is))
+              (λ g apart y same. k.held g y same) f c e);
+          stands =
+              made_stands k.stands k.made k.few file x is given room stamp own later fresh ranges;
+          sent = none_carry (version ∷ us) p N;
+          same = λ f h. refl;
+          rest = λ f. inr refl;
+        }

@@ -1,110 +1,205 @@
--- What each call comes to: all contents stay as they are, or one version is made.
-use Rattle.std.proofs.Common.{ℕ, ◌≡◌, List, Some, Ok, refl, subst, inl, inr, ◌⊎◌}
+-- What each call comes to: no version is made, be it that a directory begins, or one is.
+use Rattle.std.proofs.Common.{ℕ, ◌≡◌, ◌==◌, List, ◌++◌, map, Option, None, Some, Result, Ok, Err, refl, sym, subst, inl, inr, ◌⊎◌}
 use Rattle.pg_base.specs.declared.id.FileId.{FileId}
 use Rattle.pg_base.specs.declared.id.Kind.TheVariants.{Dir, File}
 use Rattle.pg_base.specs.declared.policy.Policy.{Policy}
+use Rattle.pg_base.specs.declared.policy.Policy.TheVariants.{Last}
 use Rattle.pg_patch.specs.Ranges.{RangesValue, cut_to, written}
 use Rattle.pg_call.specs.declared.call.Call.{Call}
 use Rattle.pg_call.specs.declared.call.Call.TheVariants as call
 use Rattle.pg_call.specs.declared.reply.Reply.{Reply}
 use Rattle.pg_call.specs.declared.reply.Reply.TheVariants as reply
-use Rattle.pg_msg.specs.declared.update.MadeVersion.{MadeVersion}
+use Rattle.pg_call.specs.declared.refusal.Refusal.{Refusal}
+use Rattle.pg_call.specs.declared.refusal.Refusal.TheVariants.{NotYet}
+use Rattle.pg_msg.specs.declared.message.Message.TheVariants as message
 use Rattle.pg_msg.specs.declared.work.Work.{Work}
 use Rattle.pg_msg.specs.Work.{new_work}
 use Rattle.pg_register.specs.declared.place.Place.{Place}
+use Rattle.pg_run.specs.Carried.{begun_by}
+use Rattle.pg_run.specs.Journal.{Born}
 use Rattle.pg_run.specs.State.{is_made, policy_by, policy_named}
+use Rattle.pg_run.specs.Took.{Take, take_of}
 use Rattle.pg_store.specs.declared.store.Store.{Store}
-use Rattle.pg_calls.specs.Answer.{Answer, answer, told}
+use Rattle.pg_store.specs.declared.wishes.Wish.{Wish}
+use Rattle.pg_store.specs.Births.{with_birth, with_wish}
+use Rattle.pg_cells.specs.Done.{Done, idle}
+use Rattle.pg_cells.specs.Posting.{post}
+use Rattle.pg_server.specs.Local.{done_of}
+use Rattle.pg_walk.specs.declared.paths.Found.{Found}
+use Rattle.pg_walk.specs.declared.paths.Stop.{Stop}
+use Rattle.pg_walk.specs.declared.paths.Stop.TheVariants as stop
+use Rattle.pg_calls.specs.Answer.{Answer, answer, answered, deny, replied, told}
+use Rattle.pg_calls.specs.Asking.{ask_by, ask_first, ask_for, fetch, fresh_wish, holder, standing}
 use Rattle.pg_calls.specs.Bodies.{change, change_file, when_fit}
 use Rattle.pg_calls.specs.Calls.{do_call}
+use Rattle.pg_calls.specs.Checks.{dir_at, empty_dir_at, file_at, in_time, move_of, new_name, target_at}
 use Rattle.pg_calls.specs.Making.{make_place}
-use Rattle.pg_cells.specs.Done.{idle}
-use Rattle.pg_calls.specs.Checks.{empty_dir_at, file_at, move_of, new_name}
-use Rattle.pg_calls.specs.Paths.{new_path_of}
-use Rattle.pg_calls.specs.Naming.{dead_place, next_id, place_in, with_id}
+use Rattle.pg_calls.specs.Naming.{dead_place, next_id, place_in}
 use Rattle.pg_calls.proofs.Checked.{fit_found}
-use Rattle.pg_calls.proofs.InTime.{behind_time}
-use Rattle.pg_contents.proofs.Calls.{Still, did_move, did_still, did_thing, still_from, thing_at, told_still}
-use Rattle.pg_contents.proofs.Checks.{answered_by}
-use Rattle.pg_contents.proofs.Beginning.{first_makes}
+use Rattle.pg_calls.proofs.InTime.{name_in_time}
+use Rattle.pg_promises.proofs.Choices.{chosen}
+use Rattle.pg_contents.proofs.Arrivals.{Arrives, quiet_arrives}
+use Rattle.pg_contents.proofs.Beginning.{dir_arrives, dir_none, first_makes, unnamed}
 use Rattle.pg_contents.proofs.Making.{Makes, written_makes}
-use Rattle.pg_contents.proofs.Pieces.{id_keeps}
+use Rattle.pg_contents.proofs.Pieces.{wish_keeps}
+use Rattle.pg_contents.proofs.Quiet.{Quiet, make_place_quiet, quiet_idle, quiet_posted, quiet_store, quiet_then}
 use Rattle.pg_contents.proofs.Servers.{Came, IsServer}
+use Rattle.pg_contents.proofs.Takes.{HasNone, both_none}
+
+-- a call goes on with what a check found, or does not
+pub answered_by : {A : Type 0} (P : Answer → Type 0) (store : Store) (work : Work)
+    (r : Result A Stop) (next : A → Answer) → ((why : Stop) → P (deny store why work))
+    → ((found : A) → r ≡ Ok found → P (next found)) → P (answered store work r next)
+answered_by P store work (Err why) next denied goes_on = denied why
+answered_by P store work (Ok found) next denied goes_on = goes_on found refl
 
 -- the policies of the files after a call with this reply
 abbrev pub policies_then : (FileId → Policy) → Call → Reply → FileId → Policy
 policies_then p asked told_then f = policy_by (is_made f (Some told_then)) (policy_named asked) (p f)
 
-module _ {n s : ℕ} {a : Store} {us : List MadeVersion} {p : FileId → Policy} {came : Came}
-    (k : IsServer n s a us p came) (moment : ℕ) where
-  -- what comes of a call
-  abbrev Outcome : Call → Answer → Type 0
-  Outcome asked r = (Still n s a r × ((f : FileId) → policies_then p asked r.reply f ≡ p f))
-      ⊎ Makes n s a us p (policies_then p asked r.reply) came r
+-- no version is among what begins
+pub begun_none : (q : FileId) (o : Option Reply) → HasNone q (begun_by o)
+begun_none q None = refl
+begun_none q (Some reply.Done) = refl
+begun_none q (Some (reply.Made id)) = refl
+begun_none q (Some (reply.Wrote stamp)) = refl
+begun_none q (Some (reply.Bytes bytes)) = refl
+begun_none q (Some (reply.Names total rows)) = refl
+begun_none q (Some (reply.Stat stat)) = refl
+begun_none q (Some (reply.Leaving server)) = refl
+begun_none q (Some (reply.Status counts)) = refl
+begun_none q (Some (reply.Refused why)) = refl
 
+-- ---- what is not here is asked for
+
+module _ (us : List Born) (p : FileId → Policy) (N : FileId → Type 0) (a : Store) (work : Work) where
+  fetch_quiet : (b : Store) (file : FileId) (wish : Wish)
+      → Quiet us p N b work (idle b (fetch a file wish work))
+  fetch_quiet b file wish =
+      chosen (λ (w : Work). Quiet us p N b work (idle b w)) (wish.target == 0) work
+      (post a wish.target (message.Fetch file wish.birth) work) (quiet_idle us p N b work)
+      (quiet_posted us p N a b wish.target (message.Fetch file wish.birth) work tt)
+
+  first_quiet : (file : FileId) (target : ℕ) → Quiet us p N a work (ask_first a file target work)
+  first_quiet file target =
+      let wish = fresh_wish a target in
+      let b = with_wish (with_birth a) file wish in
+      chosen (λ d. Quiet us p N a work d) (target == 0) (idle a work)
+      (idle b (fetch a file wish work)) (quiet_idle us p N a work)
+      (quiet_then us p N (quiet_store us p N a b work (wish_keeps a file wish))
+      (fetch_quiet b file wish))
+
+  asked_quiet : (found : Found) (o : Option Wish) → Quiet us p N a work (ask_by a found o work)
+  asked_quiet found None = first_quiet found.file (holder a found)
+  asked_quiet found (Some wish) = fetch_quiet a found.file wish
+
+  -- a call that does not go on
+  pub denied_quiet : (why : Stop) → Quiet us p N a work (done_of (deny a why work))
+  denied_quiet (stop.Refused why) = quiet_idle us p N a work
+  denied_quiet (stop.NotYet found) = asked_quiet found (standing a found.file)
+
+-- ---- calls
+
+module _ {s : ℕ} {a : Store} {us : List Born} {p : FileId → Policy} {N : FileId → Type 0}
+    {came : Came} (k : IsServer s a us p N came) (moment : ℕ) where
   abbrev work : Work
   work = new_work moment 0
 
-  told_so : (r : Reply) → Still n s a (told a work r)
-  told_so r = told_still n s a moment k.whole r
+  -- what a call brings
+  abbrev pub brought_by : Answer → List Take
+  brought_by r = map take_of r.work.made ++ begun_by (Some r.reply)
 
-  moved_so : (thing : FileId) (place : Place)
-      → Still n s a (answer (make_place thing place (idle a work)) reply.Done)
-  moved_so thing place = did_still (did_move n s a moment k.whole thing place) refl (λ f. refl) reply.Done
+  -- no version is made
+  abbrev pub Arrived : Answer → Type 0
+  Arrived r = Arrives s a us p N came (done_of r) (brought_by r)
+      × ((q : FileId) → HasNone q (brought_by r))
 
-  made_so : (id : FileId) (place : Place)
-      → Still n s a (answer (thing_at a moment id place) (reply.Made id))
-  made_so id place =
-      still_from (id_keeps a)
-      (did_still (did_thing n s a moment k.whole id place) refl (λ f. refl) (reply.Made id))
+  -- what comes of a call
+  abbrev pub Outcome : Call → Answer → Type 0
+  Outcome asked r = (Arrived r × ((f : FileId) → policies_then p asked r.reply f ≡ p f))
+      ⊎ Makes s a us p (policies_then p asked r.reply) N came r
+
+  quiet_comes : (d : Done) (r : Reply) → Quiet us p N a work d → Arrived (answer d r)
+  quiet_comes d r h = (
+    quiet_arrives k moment 0 d h (begun_by (Some r)) (λ q. begun_none q (Some r)),
+    λ q. both_none q (map take_of d.work.made) (begun_by (Some r)) (h.takes q)
+        (begun_none q (Some r)),
+  )
+
+  told_comes : (r : Reply) → Arrived (told a work r)
+  told_comes r = quiet_comes (idle a work) r (quiet_idle us p N a work)
+
+  denied_comes : (why : Stop) → Arrived (deny a why work)
+  denied_comes (stop.Refused why) = told_comes (reply.Refused why)
+  denied_comes (stop.NotYet found) =
+      quiet_comes (ask_for a found work) (reply.Refused (NotYet found.file))
+      (denied_quiet us p N a work (stop.NotYet found))
+
+  -- the policies stay where a call is denied
+  abbrev Stays : Call → Type 0
+  Stays asked = (why : Refusal) (f : FileId)
+      → policies_then p asked (reply.Refused why) f ≡ p f
+
+  denied_so : (asked : Call) → Stays asked → (why : Stop) → Outcome asked (deny a why work)
+  denied_so asked stays (stop.Refused why) =
+      inl (denied_comes (stop.Refused why), stays why)
+  denied_so asked stays (stop.NotYet found) =
+      inl (denied_comes (stop.NotYet found), stays (NotYet found.file))
+
+  -- a call that looks
+  looked : {A : Type 0} (asked : Call) → ((r : Reply) (f : FileId)
+      → policies_then p asked r f ≡ p f) → (check : Result A Stop) (tell : A → Reply)
+      → Outcome asked (replied a work check tell)
+  looked asked stays check tell =
+      answered_by (Outcome asked) a work check (λ found. told a work (tell found))
+      (denied_so asked (λ why. stays (reply.Refused why)))
+      (λ found is. inl (told_comes (tell found), stays (tell found)))
+
+  -- a place is made
+  moved_comes : (asked : Call) → ((r : Reply) (f : FileId) → policies_then p asked r f ≡ p f)
+      → (thing : FileId) (place : Place)
+      → Outcome asked (answer (make_place thing place (idle a work)) reply.Done)
+  moved_comes asked stays thing place =
+      inl (
+        quiet_comes (make_place thing place (idle a work)) reply.Done
+            (make_place_quiet us p N a thing place work),
+        stays reply.Done,
+      )
 
   mkdir_comes : (text : List ℕ) → Outcome (call.Mkdir text) (do_call a (call.Mkdir text) work)
   mkdir_comes text =
       answered_by (Outcome (call.Mkdir text)) a work (new_name a (next_id a Dir) text) _
-      (λ why. inl (told_so (reply.Refused why), λ f. refl))
-      (λ new found. inl (made_so (next_id a Dir) (place_in (with_id a) moment new), λ f. refl))
+      (denied_so (call.Mkdir text) (λ why f. refl))
+      (λ new found. inl (
+        (
+          dir_arrives k moment Dir Last new
+              (sym (k.bare (next_id a Dir) (unnamed k moment Dir Last new))),
+          dir_none k moment Dir Last new,
+        ),
+        λ f. refl,
+      ))
 
   create_comes : (text : List ℕ) (policy : Policy)
       → Outcome (call.Create text policy) (do_call a (call.Create text policy) work)
   create_comes text policy =
       answered_by (Outcome (call.Create text policy)) a work (new_name a (next_id a File) text) _
-      (λ why. inl (told_so (reply.Refused why), λ f. refl))
-      (λ new found. inr (first_makes k moment policy (place_in (with_id a) moment new) refl
-      (behind_time a (new_path_of text) _ new found)))
+      (denied_so (call.Create text policy) (λ why f. refl))
+      (λ new found. inr (first_makes k moment File policy new
+      (name_in_time a (next_id a File) text new found)))
 
-  -- a call that names no policy
-  change_comes : (asked : Call) → ((told_then : Reply) (f : FileId)
-      → policies_then p asked told_then f ≡ p f)
-      → ((r : Answer) → Makes n s a us p p came r
-      → Makes n s a us p (policies_then p asked r.reply) came r)
+  -- a file is written
+  change_comes : (asked : Call) → ((r : Reply) (f : FileId) → policies_then p asked r f ≡ p f)
+      → ((r : Answer) → Makes s a us p p N came r
+      → Makes s a us p (policies_then p asked r.reply) N came r)
       → (text : List ℕ) (ranges : RangesValue)
       → Outcome asked (change a text ranges work)
-  change_comes asked same makes text ranges =
+  change_comes asked stays makes text ranges =
       answered_by (Outcome asked) a work (file_at a text) (change_file a ranges work)
-      (λ why. inl (told_so (reply.Refused why), same (reply.Refused why)))
+      (denied_so asked (λ why. stays (reply.Refused why)))
       (λ file found. answered_by (Outcome asked) a work (when_fit a ranges file) _
-      (λ why. inl (told_so (reply.Refused why), same (reply.Refused why)))
+      (denied_so asked (λ why. stays (reply.Refused why)))
       (λ fit fits. inr (makes _ (written_makes k moment ranges text fit
       (subst (λ g. file_at a text ≡ Ok g) (fit_found a ranges file fit fits) found)))))
-
-  rename_comes : (from to : List ℕ)
-      → Outcome (call.Rename from to) (do_call a (call.Rename from to) work)
-  rename_comes from to =
-      answered_by (Outcome (call.Rename from to)) a work (move_of a from to) _
-      (λ why. inl (told_so (reply.Refused why), λ f. refl))
-      (λ move found. inl (moved_so move.thing (place_in a moment move.to), λ f. refl))
-
-  unlink_comes : (text : List ℕ) → Outcome (call.Unlink text) (do_call a (call.Unlink text) work)
-  unlink_comes text =
-      answered_by (Outcome (call.Unlink text)) a work (file_at a text) _
-      (λ why. inl (told_so (reply.Refused why), λ f. refl))
-      (λ file found. inl (moved_so file (dead_place a moment file), λ f. refl))
-
-  rmdir_comes : (text : List ℕ) → Outcome (call.Rmdir text) (do_call a (call.Rmdir text) work)
-  rmdir_comes text =
-      answered_by (Outcome (call.Rmdir text)) a work (empty_dir_at a text) _
-      (λ why. inl (told_so (reply.Refused why), λ f. refl))
-      (λ dir found. inl (moved_so dir (dead_place a moment dir), λ f. refl))
 
   -- WHATEVER A CLIENT CALLS
   pub call_comes : (asked : Call) → Outcome asked (do_call a asked work)
@@ -115,16 +210,33 @@ module _ {n s : ℕ} {a : Store} {us : List MadeVersion} {p : FileId → Policy}
       (written offset bytes)
   call_comes (call.Cut text length) =
       change_comes (call.Cut text length) (λ r f. refl) (λ r m. m) text (cut_to length)
-  call_comes (call.Read text offset count) = inl (told_so _, λ f. refl)
-  call_comes (call.Fresh text) = inl (told_so _, λ f. refl)
-  call_comes (call.Ls text from) = inl (told_so _, λ f. refl)
-  call_comes (call.Stat target) = inl (told_so _, λ f. refl)
-  call_comes (call.Rename from to) = rename_comes from to
-  call_comes (call.Unlink text) = unlink_comes text
-  call_comes (call.Rmdir text) = rmdir_comes text
-  call_comes (call.Forget id) = inl (told_so _, λ f. refl)
-  call_comes (call.Demote target) = inl (told_so _, λ f. refl)
-  call_comes (call.Drop target) = inl (told_so _, λ f. refl)
-  call_comes (call.Giveup view server) = inl (told_so _, λ f. refl)
-  call_comes call.Status = inl (told_so _, λ f. refl)
-  call_comes call.Stop = inl (told_so _, λ f. refl)
+  call_comes (call.Read text offset count) =
+      looked (call.Read text offset count) (λ r f. refl) (file_at a text) _
+  call_comes (call.Fresh text) = looked (call.Fresh text) (λ r f. refl) (file_at a text) _
+  call_comes (call.Ls text from) = looked (call.Ls text from) (λ r f. refl) (dir_at a text) _
+  call_comes (call.Stat target) =
+      looked (call.Stat target) (λ r f. refl) (target_at a target) _
+  call_comes (call.Rename from to) =
+      answered_by (Outcome (call.Rename from to)) a work (move_of a from to) _
+      (denied_so (call.Rename from to) (λ why f. refl))
+      (λ move found. moved_comes (call.Rename from to) (λ r f. refl) move.thing
+      (place_in a moment move.to))
+  call_comes (call.Unlink text) =
+      answered_by (Outcome (call.Unlink text)) a work (file_at a text) _
+      (denied_so (call.Unlink text) (λ why f. refl))
+      (λ file found. moved_comes (call.Unlink text) (λ r f. refl) file
+      (dead_place a moment file))
+  call_comes (call.Rmdir text) =
+      answered_by (Outcome (call.Rmdir text)) a work (empty_dir_at a text) _
+      (denied_so (call.Rmdir text) (λ why f. refl))
+      (λ dir found. moved_comes (call.Rmdir text) (λ r f. refl) dir (dead_place a moment dir))
+  call_comes (call.Forget id) =
+      looked (call.Forget id) (λ r f. refl) (in_time a (tt {0})) _
+  call_comes (call.Demote target) =
+      looked (call.Demote target) (λ r f. refl) (in_time a (tt {0})) _
+  call_comes (call.Drop target) =
+      looked (call.Drop target) (λ r f. refl) (in_time a (tt {0})) _
+  call_comes (call.Giveup view server) =
+      looked (call.Giveup view server) (λ r f. refl) (in_time a (tt {0})) _
+  call_comes call.Status = looked call.Status (λ r f. refl) (in_time a (tt {0})) _
+  call_comes call.Stop = looked call.Stop (λ r f. refl) (in_time a (tt {0})) _

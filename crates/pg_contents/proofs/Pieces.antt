@@ -1,260 +1,284 @@
--- What each piece of an event leaves of the contents of files: all of them, or all but one.
-use Rattle.std.proofs.Common.{ℕ, ◌≡◌, ◌≤◌, Bool, true, false, cond, max, List, [], ◌∷◌, drop, length, Option, None, Some, refl, sym, ap, subst, arith}
-use Rattle.std.specs.BTreeMap.{insert_entry}
+-- What each piece of an event leaves of replicas' births and contents: all of them, but where one
+-- begins.
+use Rattle.std.proofs.Common.{ℕ, ◌≡◌, ◌≤◌, Bool, true, false, List, [], ◌∷◌, Option, None, Some, refl, ap, subst, ◌∙◌, arith}
 use Rattle.pg_base.specs.declared.id.FileId.{FileId}
 use Rattle.pg_base.specs.declared.policy.Policy.{Policy}
-use Rattle.pg_base.specs.declared.stamp.Stamp.{Stamp}
-use Rattle.pg_base.specs.Id.{file_cmp}
-use Rattle.pg_base.specs.Version.{VersionValue, actor_of}
-use Rattle.pg_patch.specs.Ranges.{RangesValue}
+use Rattle.pg_base.specs.Id.{is_same_file}
+use Rattle.pg_base.proofs.Orders.{is_same_file-true}
 use Rattle.pg_edges.specs.declared.key.Key.{Key}
-use Rattle.pg_content.specs.Content.{is_covered, joined_content, put_version as put_head, written}
+use Rattle.pg_edges.specs.declared.key.Key.TheVariants as key
 use Rattle.pg_entries.specs.declared.entry.Entry.{Entry}
+use Rattle.pg_intent.specs.declared.intent.Intent.{Intent}
+use Rattle.pg_intent.specs.declared.intent.Intent.TheVariants as intent
+use Rattle.pg_intent.specs.declared.key.IntentKey.{IntentKey}
+use Rattle.pg_intent.specs.Intents.{ended, intent_at}
 use Rattle.pg_msg.specs.declared.work.Touched.{Touched}
-use Rattle.pg_msg.specs.declared.work.Work.{Work}
-use Rattle.pg_names.specs.Names.{NamesValue, hold, join_place, with_flag, with_joined, with_place}
-use Rattle.pg_names.proofs.Holding.{hold_last}
+use Rattle.pg_names.specs.declared.own.Own.{Own}
+use Rattle.pg_names.specs.Names.{HeldValue, NamesValue, fill, filled, is_full_of, join_entry, join_flag, join_place, known, raise, update, with_flag, with_joined, with_place}
+use Rattle.pg_names.proofs.Holding.{begun_other, fill_other, fill_same, full_kept}
 use Rattle.pg_names.proofs.Lookups.{update_frame}
 use Rattle.pg_register.specs.declared.flag.Flag.{Flag}
 use Rattle.pg_register.specs.declared.place.Place.{Place}
-use Rattle.pg_house.specs.House.{house}
-use Rattle.pg_house.specs.Work.{state_of}
 use Rattle.pg_replica.specs.declared.link.Link.{Link}
-use Rattle.pg_replica.specs.declared.replica.Replica.{Replica}
-use Rattle.pg_replica.specs.Replica.{begun, covers, has_edge, own_actor, with_ack, with_head, with_write}
-use Rattle.pg_replica.specs.Replicas.{ByFile, or_new, replicas_acked}
+use Rattle.pg_replica.specs.Replica.{new_replica}
+use Rattle.pg_replica.specs.Replicas.{replicas_unlinked}
 use Rattle.pg_store.specs.declared.store.Store.{Store}
-use Rattle.pg_store.specs.Store.{acknowledge, begin_file, content_of, has_no_head, holding_both, home_of, is_newer_entry, is_newer_flag, is_newer_place, put_version, replica_at, replica_of, take_entry, take_flag, take_place, touch, with_names, with_news, with_policy, write}
-use Rattle.pg_cells.specs.Settling.{settle, touch_all}
+use Rattle.pg_store.specs.declared.wishes.Wish.{Wish}
+use Rattle.pg_store.specs.Beginning.{begin, patches_of, put_new, take_patch, take_patches, take_told, take_told_in, with_intents}
+use Rattle.pg_store.specs.Births.{with_birth, with_wish, with_wishes}
+use Rattle.pg_store.specs.Links.{is_linked, is_new_link, keys, link, put_link, unlink}
+use Rattle.pg_store.specs.Store.{acknowledge, is_full, is_newer_entry, is_newer_flag, is_newer_place, put_entry, put_flag, put_place, replica_at, take_entry, take_flag, take_place, touch, with_names}
+use Rattle.pg_store.specs.Wishes.{WishesValue}
+use Rattle.pg_cells.specs.Settling.{touch_all}
 use Rattle.pg_calls.specs.Naming.{with_id}
-use Rattle.pg_promises.specs.Whole.{AreByChild, IsWhole}
-use Rattle.pg_promises.proofs.Choices.{chosen, decided}
-use Rattle.pg_promises.proofs.Rules.{house_keeps}
-use Rattle.pg_promises.proofs.Stores.{by_file, replica_same}
-use Rattle.pg_promises.proofs.Taking.{entry_taken, flag_taken, grew_held, place_taken, took_none}
-use Rattle.pg_promises.proofs.Touching.{all_touched, same_names}
-use Rattle.pg_contents.proofs.Files.{begun_with}
-use Rattle.pg_contents.proofs.Rules.{house_makes}
-use Rattle.pg_contents.proofs.Changes.{Keeps, Keeps-trans, Puts, puts_changed, puts_itself}
+use Rattle.pg_promises.proofs.Choices.{chosen}
+use Rattle.pg_contents.proofs.Changes.{Alters, Keeps, Keeps-refl, Keeps-trans, StaysFull, alters_keeps, core_of}
+use Rattle.pg_contents.proofs.Cores.{acked_order, acked_same, linked_order, linked_same, put_elsewhere, put_here, put_order, raised_up, touched_order, touched_same, unlinked_order, unlinked_same}
 
 module _ (a : Store) where
-  -- ---- names
+  -- ---- what stands beside
 
-  pub held_keeps : (file : FileId) → Keeps a (with_names a (hold a.names file))
-  held_keeps file =
-      let same = hold_last a.names file in
+  pub intents_keep : (is : List Intent) → Keeps a (with_intents a is)
+  intents_keep is =
       record {
+        server = refl;
         last = omega arith;
         files = omega arith;
-        each = (took_none a (hold a.names file) (grew_held [] a.names file)).touched.content;
+        order = λ h. h;
+        full = λ f h. h;
+        each = λ f. refl;
       }
 
-  abbrev IsLater : Store → Type 0
-  IsLater b = a.names.last ≤ b.names.last
-
-  abbrev HasMoreFiles : Store → Type 0
-  HasMoreFiles b = a.files ≤ b.files
-
-  -- a place
-  pub place_keeps : (file : FileId) (place : Place) → Keeps a (take_place a file place)
-  place_keeps file place =
-      let held = hold a.names file in
-      let same = hold_last a.names file in
-      let frame = (update_frame held file (with_place place)).last in
+  pub wishes_keep : (ws : WishesValue) → Keeps a (with_wishes a ws)
+  wishes_keep ws =
       record {
-        last = chosen IsLater (is_newer_place a file place) _ _ (omega arith) (omega arith);
-        files = chosen HasMoreFiles (is_newer_place a file place) _ _ (omega arith) (omega arith);
-        each = (place_taken a file place).took.touched.content;
+        server = refl;
+        last = omega arith;
+        files = omega arith;
+        order = λ h. h;
+        full = λ f h. h;
+        each = λ f. refl;
       }
 
-  -- a flag
-  pub flag_keeps : (file : FileId) (flag : Flag) → Keeps a (take_flag a file flag)
-  flag_keeps file flag =
-      let held = hold a.names file in
-      let same = hold_last a.names file in
-      let frame = (update_frame held file (with_flag flag)).last in
+  pub birth_keeps : Keeps a (with_birth a)
+  birth_keeps =
       record {
-        last = chosen IsLater (is_newer_flag a file flag) _ _ (omega arith) (omega arith);
-        files = chosen HasMoreFiles (is_newer_flag a file flag) _ _ (omega arith) (omega arith);
-        each = (flag_taken a file flag).took.touched.content;
+        server = refl;
+        last = omega arith;
+        files = omega arith;
+        order = λ h. h;
+        full = λ f h. h;
+        each = λ f. refl;
       }
 
-  -- an entry of a directory
-  pub entry_keeps : AreByChild a.names → (dir : FileId) (e : Entry) → Keeps a (take_entry a dir e)
-  entry_keeps children dir e =
-      let both = holding_both a.names dir e.child in
-      let first = hold_last a.names dir in
-      let second = hold_last (hold a.names dir) e.child in
-      let frame = (update_frame both dir (with_joined e)).last in
+  pub wish_keeps : (file : FileId) (wish : Wish) → Keeps a (with_wish (with_birth a) file wish)
+  wish_keeps file wish =
       record {
-        last = chosen IsLater (is_newer_entry a dir e) _ _ (omega arith) (omega arith);
-        files = chosen HasMoreFiles (is_newer_entry a dir e) _ _ (omega arith) (omega arith);
-        each = (entry_taken a dir e true children).took.touched.content;
+        server = refl;
+        last = omega arith;
+        files = omega arith;
+        order = λ h. h;
+        full = λ f h. h;
+        each = λ f. refl;
       }
 
   -- an id
   pub id_keeps : Keeps a (with_id a)
-  id_keeps = record { last = omega arith; files = omega arith; each = λ file. refl }
-
-  -- keys are touched
-  touched_files : (ts : List Touched) → a.files ≤ (touch_all a ts).files
-  touched_files ts = files_by ts a (omega arith)
-    where
-      files_by : (us : List Touched) (b : Store) → a.files ≤ b.files
-          → a.files ≤ (touch_all b us).files
-      files_by [] b h = h
-      files_by (t ∷ us) b h = files_by us (touch b t.file t.key) h
-
-  pub touched_keeps : (ts : List Touched) → Keeps a (touch_all a ts)
-  touched_keeps ts =
-      let same = ap (λ (s : NamesValue). s.last) (same_names a ts) in
+  id_keeps =
       record {
+        server = refl;
         last = omega arith;
-        files = touched_files ts;
-        each = (all_touched a ts).content;
+        files = omega arith;
+        order = λ h. h;
+        full = λ f h. h;
+        each = λ f. refl;
       }
+
+  -- ---- names
 
   -- other names of the same server
   pub names_keep : (names : NamesValue) → names.server ≡ a.names.server
-      → a.names.last ≤ names.last → Keeps a (with_names a names)
-  names_keep names server last = record {
-    last = last;
-    files = omega arith;
-    each = λ file. ap (λ (x : Replica). x.content)
-        (replica_same a (with_names a names) file server refl refl);
-  }
+      → a.names.last ≤ names.last → StaysFull a (with_names a names)
+      → Keeps a (with_names a names)
+  names_keep names server last full =
+      record {
+        server = server;
+        last = last;
+        files = omega arith;
+        order = λ h. h;
+        full = full;
+        each = λ f. refl;
+      }
 
-  -- ---- an answer
+  full_there : (file : FileId) (o : Option HeldValue) → known a.names file ≡ o
+      → is_full_of o ≡ true → is_full (with_names a (fill a.names file)) file ≡ true
+  full_there file None e h = absurd (let z : false ≡ true = h in cc)
+  full_there file (Some x) e h = fill_same a.names file x e
 
-  abbrev with_replicas : ByFile → Store
-  with_replicas rs = record {
-    servers = a.servers;
-    tags = a.tags;
-    files = a.files;
-    names = a.names;
-    replicas = rs;
-  }
+  filled_full : (file f : FileId) (t : Bool) → is_same_file file f ≡ t
+      → is_full a f ≡ true → is_full (with_names a (fill a.names file)) f ≡ true
+  filled_full file f true e h =
+      let P : FileId → Type 0 =
+      (λ g. is_full a g ≡ true → is_full (with_names a (fill a.names file)) g ≡ true) in
+      subst P (is_same_file-true file f e) (λ there. full_there file (known a.names file) refl there) h
+  filled_full file f false e h = fill_other a.names file f e ∙ h
 
-  abbrev HasSame : ByFile → Type 0
-  HasSame rs = (q : FileId) → content_of (with_replicas rs) q ≡ content_of a q
+  -- a change of names that leaves what is full
+  changed_full : (file : FileId) (change : HeldValue → HeldValue)
+      → ((x : HeldValue) → (change x).full ≡ x.full)
+      → StaysFull a (with_names a (update a.names file change))
+  changed_full file change same f h = full_kept a.names file change same f ∙ h
 
-  acked_by : (file : FileId) (link : Link) (k : Key) (tag : ℕ) (o : Option Replica)
-      → replica_at a file ≡ o → HasSame (replicas_acked a.replicas file link k tag o)
-  acked_by file link k tag None there = λ q. refl
-  acked_by file link k tag (Some x) there =
-      let y = with_ack x link.peer link.birth k tag in
-      let rs = insert_entry file_cmp a.replicas file y in
-      let here : content_of a file ≡ x.content =
-      ap (λ o. (or_new (home_of a) o).content) there in
-      chosen HasSame (has_edge x link) rs a.replicas
-      (by_file (λ q z. z.content ≡ content_of a q) a (with_replicas rs) file y
-      (record { server = refl; servers = refl; replicas = refl }) (sym here) (λ q. refl))
-      (λ q. refl)
+  pub fill_keeps : (file : FileId) → Keeps a (with_names a (fill a.names file))
+  fill_keeps file =
+      let frame = update_frame a.names file filled in
+      let same = frame.last in
+      names_keep (fill a.names file) frame.server (omega arith)
+      (λ f h. filled_full file f (is_same_file file f) refl h)
 
-  pub acked_keeps : (file : FileId) (link : Link) (k : Key) (tag : ℕ)
-      → Keeps a (acknowledge a file link k tag)
-  acked_keeps file link k tag = record {
+  -- keys are touched
+  pub touch_keeps : (file : FileId) (k : Key) → Keeps a (touch a file k)
+  touch_keeps file k = record {
+    server = refl;
     last = omega arith;
     files = omega arith;
-    each = acked_by file link k tag (replica_at a file) refl;
+    order = λ h. touched_order a.replicas file h k a.tags (replica_at a file);
+    full = λ f h. h;
+    each = touched_same a.replicas file k a.tags (replica_at a file) refl;
   }
 
-  -- ---- one content
+pub touches_keep : (a : Store) (ts : List Touched) → Keeps a (touch_all a ts)
+touches_keep a [] = Keeps-refl a
+touches_keep a (t ∷ ts) =
+    Keeps-trans (touch_keeps a t.file t.key) (touches_keep (touch a t.file t.key) ts)
 
-  pub news_puts : (file : FileId) (x : Replica) (stamp : Stamp)
-      → Puts a (with_news a file x stamp) file x.content
-  news_puts file x stamp =
-      puts_changed a (with_news a file x stamp) file x
-      (record { server = refl; servers = refl; replicas = refl }) (omega arith) (omega arith)
+module _ (a : Store) where
+  -- a place
+  pub place_keeps : (file : FileId) (place : Place) → Keeps a (take_place a file place)
+  place_keeps file place =
+      let joined = join_place a.names file place in
+      let frame = update_frame a.names file (with_place place) in
+      let names = raise joined place.stamp.time in
+      chosen (Keeps a) (is_newer_place a file place) (put_place a file place) a
+      (Keeps-trans (names_keep a names frame.server
+      (raised_up a.names.last joined.last place.stamp.time frame.last)
+      (changed_full a file (with_place place) (λ x. refl)))
+      (touch_keeps (with_names a names) file key.Place))
+      (Keeps-refl a)
 
-  -- a file begins
-  pub begun_puts : (file : FileId) (policy : Policy)
-      → Puts a (begin_file a file policy) file (record { policy = policy; heads = [] })
-  begun_puts file policy =
-      puts_changed a (begin_file a file policy) file (begun (replica_of a file) policy)
-      (record { server = refl; servers = refl; replicas = refl }) (omega arith) (omega arith)
+  -- a flag
+  pub flag_keeps : (file : FileId) (flag : Flag) → Keeps a (take_flag a file flag)
+  flag_keeps file flag =
+      let joined = join_flag a.names file flag in
+      let frame = update_frame a.names file (with_flag flag) in
+      let same = frame.last in
+      chosen (Keeps a) (is_newer_flag a file flag) (put_flag a file flag) a
+      (Keeps-trans (names_keep a joined frame.server (omega arith)
+      (changed_full a file (with_flag flag) (λ x. refl)))
+      (touch_keeps (with_names a joined) file (key.Flag flag.server)))
+      (Keeps-refl a)
 
-  policy_by : (file : FileId) (policy : Policy) (t : Bool)
-      → Puts a (cond t (begin_file a file policy) a) file
-      (cond t (record { policy = policy; heads = [] }) (content_of a file))
-  policy_by file policy true = begun_puts file policy
-  policy_by file policy false = puts_itself a file
+  -- an entry of a directory
+  pub entry_keeps : (dir : FileId) (e : Entry) → Keeps a (take_entry a dir e)
+  entry_keeps dir e =
+      let joined = join_entry a.names dir e in
+      let frame = update_frame a.names dir (with_joined e) in
+      let names = raise joined e.place.stamp.time in
+      chosen (Keeps a) (is_newer_entry a dir e) (put_entry a dir e) a
+      (Keeps-trans (names_keep a names frame.server
+      (raised_up a.names.last joined.last e.place.stamp.time frame.last)
+      (changed_full a dir (with_joined e) (λ x. refl)))
+      (touch_keeps (with_names a names) dir (key.Entry e.child)))
+      (Keeps-refl a)
 
-  -- a policy comes with the first version
-  pub policy_puts : (file : FileId) (policy : Policy)
-      → Puts a (with_policy a file policy) file (begun_with policy (content_of a file))
-  policy_puts file policy = policy_by file policy (has_no_head (replica_of a file))
+  -- ---- edges
 
-  -- a version that comes
-  pub version_puts : (file : FileId) (v : VersionValue)
-      → Puts a (put_version a file v) file (joined_content (content_of a file) v)
-  version_puts file v =
-      let c = content_of a file in
-      decided (λ b. Puts a b file (joined_content c v)) (covers (replica_of a file) v) a _
-      (λ e. subst (λ d. Puts a a file d)
-      (sym (ap (λ t. record {
-        policy = c.policy;
-        heads = cond t c.heads (put_head c.heads v);
-      }) e)) (puts_itself a file))
-      (λ e. news_puts file (with_head (replica_of a file) v a.tags) v.head.stamp)
+  pub link_keeps : (file : FileId) (peer birth : ℕ) → Keeps a (link a file peer birth)
+  link_keeps file peer birth =
+      chosen (Keeps a) (is_new_link a file peer birth) (put_link a file peer birth) a
+      (record {
+        server = refl;
+        last = omega arith;
+        files = omega arith;
+        order = λ h. linked_order a.replicas file h peer birth (keys a file) a.tags
+            (replica_at a file);
+        full = λ f h. h;
+        each = linked_same a.replicas file peer birth (keys a file) a.tags (replica_at a file) refl;
+      })
+      (Keeps-refl a)
 
-  -- its time is no later than the clock, where that holds of what a head covers
-  pub version_last : (file : FileId) (v : VersionValue)
-      → (is_covered (content_of a file).heads (actor_of v.head) v.head.number ≡ true
-      → v.head.stamp.time ≤ a.names.last)
-      → v.head.stamp.time ≤ (put_version a file v).names.last
-  version_last file v covered =
-      decided (λ (b : Store). v.head.stamp.time ≤ b.names.last) (covers (replica_of a file) v) a _
-      covered (λ e. omega arith)
+  pub unlink_keeps : (file : FileId) (peer birth : ℕ) → Keeps a (unlink a file peer birth)
+  unlink_keeps file peer birth =
+      chosen (Keeps a) (is_linked a file peer birth)
+      (record a { replicas = replicas_unlinked a.replicas file peer birth (replica_at a file) }) a
+      (record {
+        server = refl;
+        last = omega arith;
+        files = omega arith;
+        order = λ h. unlinked_order a.replicas file h peer birth (replica_at a file);
+        full = λ f h. h;
+        each = unlinked_same a.replicas file peer birth (replica_at a file) refl;
+      })
+      (Keeps-refl a)
 
-  -- a version that is made, on all heads
-  pub write_puts : (file : FileId) (stamp : Stamp) (ranges : RangesValue)
-      → Puts a (write a file stamp ranges) file
-      (written (content_of a file) (own_actor (replica_of a file) stamp.server) stamp ranges)
-  write_puts file stamp ranges =
-      news_puts file
-      (with_write (replica_of a file) (own_actor (replica_of a file) stamp.server) stamp ranges
-      a.tags) stamp
+  pub acked_keeps : (file : FileId) (l : Link) (k : Key) (tag : ℕ)
+      → Keeps a (acknowledge a file l k tag)
+  acked_keeps file l k tag = record {
+    server = refl;
+    last = omega arith;
+    files = omega arith;
+    order = λ h. acked_order a.replicas file h l k tag (replica_at a file);
+    full = λ f h. h;
+    each = acked_same a.replicas file l k tag (replica_at a file) refl;
+  }
 
--- ---- how late the clock becomes
+-- ---- a replica begins
 
-upto_by : (low last time n : ℕ) → last ≡ low → low ≤ n → time ≤ n → max last time ≤ n
-upto_by low last time n same up at = grind arith
+module _ (dir : FileId) where
+  told_keeps : (a : Store) (i : Intent) → Keeps a (take_told a dir i)
+  told_keeps a (intent.Bye file birth peer peer_birth) = Keeps-refl a
+  told_keeps a (intent.Seek file target) = Keeps-refl a
+  told_keeps a (intent.Fill file birth target) = Keeps-refl a
+  told_keeps a (intent.Patch to entry target) = entry_keeps a dir entry
+  told_keeps a (intent.Confirm to child target) = Keeps-refl a
+  told_keeps a (intent.Leave file peer peer_birth) = Keeps-refl a
 
-module _ (a : Store) (n : ℕ) (up : a.names.last ≤ n) where
-  held_upto : (file : FileId) → (hold a.names file).last ≤ n
-  held_upto file = let same = hold_last a.names file in omega arith
+  told_in_keeps : (a : Store) (o : Option Intent) → Keeps a (take_told_in a dir o)
+  told_in_keeps a None = Keeps-refl a
+  told_in_keeps a (Some i) = told_keeps a i
 
-  pub place_upto : (file : FileId) (place : Place) → place.stamp.time ≤ n
-      → (take_place a file place).names.last ≤ n
-  place_upto file place time =
-      let held = hold a.names file in
-      chosen (λ (b : Store). b.names.last ≤ n) (is_newer_place a file place) _ _
-      (upto_by held.last (join_place held file place).last place.stamp.time n
-      (update_frame held file (with_place place)).last (held_upto file) time) (held_upto file)
+  patch_keeps : (a : Store) (k : IntentKey) → Keeps a (take_patch a dir k)
+  patch_keeps a k =
+      let rest = ended a.intents k in
+      Keeps-trans (intents_keep a rest) (told_in_keeps (with_intents a rest) (intent_at a.intents k))
 
-  pub flag_upto : (file : FileId) (flag : Flag) → (take_flag a file flag).names.last ≤ n
-  flag_upto file flag =
-      let held = hold a.names file in
-      let same = (update_frame held file (with_flag flag)).last in
-      let low = held_upto file in
-      chosen (λ (b : Store). b.names.last ≤ n) (is_newer_flag a file flag) _ _
-      (omega arith) low
+  pub patches_keep : (a : Store) (ks : List IntentKey) → Keeps a (take_patches a dir ks)
+  patches_keep a [] = Keeps-refl a
+  patches_keep a (k ∷ ks) = Keeps-trans (patch_keeps a k) (patches_keep (take_patch a dir k) ks)
 
--- ---- the house rules
+module _ (a : Store) (file : FileId) where
+  begun_full : (birth : ℕ) (policy : Policy) (own : Own) (full : Bool)
+      → (is_full a file ≡ true → ⊥) → (f : FileId) (t : Bool) → is_same_file f file ≡ t
+      → is_full a f ≡ true → is_full (put_new a file birth policy own full) f ≡ true
+  begun_full birth policy own full away f true e h =
+      absurd (away (subst (λ g. is_full a g ≡ true) (is_same_file-true f file e) h))
+  begun_full birth policy own full away f false e h =
+      ap is_full_of (begun_other a.names file own full f e) ∙ h
 
-module _ (n s : ℕ) (a : Store) (work : Work) (k : IsWhole n s a) where
-  -- what the rules leave of names
-  abbrev behind : NamesValue
-  behind = (house work.now (state_of a.names work)).names
-
-  abbrev behind_keys : List Touched
-  behind_keys =
-      drop (length work.touched) (house work.now (state_of a.names work)).work.touched
-
-  pub settle_keeps : Keeps a (settle a work).store
-  settle_keeps =
-      let same = house_keeps work.now (state_of a.names work) k.names.dirs k.names.sorted
-      k.names.last k.names.children in
-      Keeps-trans (names_keep a behind same.server (house_makes work.now (state_of a.names work)).up)
-      (touched_keeps (with_names a behind) behind_keys)
+  -- with no version, of what was not here
+  pub begin_alters : (birth : ℕ) (policy : Policy) (own : Own) (full : Bool)
+      → (is_full a file ≡ true → ⊥) → Alters a (begin a file birth policy own full) file
+      (Some (record { birth = birth; content = record { policy = policy; heads = [] } }))
+  begin_alters birth policy own full away =
+      let x = new_replica birth policy in
+      let fresh = put_new a file birth policy own full in
+      let first : Alters a fresh file (Some (core_of x)) = record {
+        server = refl;
+        last = raised_up a.names.last a.names.last own.place.stamp.time refl;
+        files = omega arith;
+        order = put_order a.replicas file x;
+        full = λ f h. begun_full birth policy own full away f (is_same_file f file) refl h;
+        here = put_here a.replicas file x;
+        others = λ f apart. put_elsewhere a.replicas file f x apart;
+      } in
+      alters_keeps first (patches_keep file fresh (patches_of file a.intents))

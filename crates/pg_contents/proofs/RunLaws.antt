@@ -1,133 +1,114 @@
 -- What holds of contents after any events.
-use Rattle.std.proofs.Common.{ℕ, ◌≡◌, ◌<◌, ◌^◌, List, [], ◌∷◌, refl, ap, subst, ◌∙◌, inl, ◌↔◌}
+use Rattle.std.proofs.Common.{ℕ, ◌<◌, ◌^◌, List, option_map, refl, ap, ◌∙◌}
 use Rattle.std.proofs.lemmas.List.Elements.{All-contains}
 use Rattle.pg_base.specs.declared.id.FileId.{FileId}
 use Rattle.pg_base.specs.declared.policy.Policy.{Policy}
-use Rattle.pg_base.specs.declared.policy.Policy.TheVariants.{Last}
-use Rattle.pg_base.specs.declared.stamp.Stamp.{Stamp}
-use Rattle.pg_base.specs.Version.{VersionValue}
-use Rattle.pg_content.specs.Content.{Among, ContentValue}
-use Rattle.pg_content.specs.History.{IsHistory, Made}
-use Rattle.pg_content.specs.StandsFor.{IsClosed, StandsFor}
-use Rattle.pg_content.specs.StandsFor as heads
+use Rattle.pg_content.specs.History.{IsHistory}
+use Rattle.pg_content.specs.StandsFor.{IsClosed, StandsFor, content_of}
 use Rattle.pg_content.proofs.Ancestry.{ancestry}
 use Rattle.pg_content.proofs.HeadsOf.{content_is, content_stands}
-use Rattle.pg_content.proofs.Standing.{content_of_parts, same_content}
-use Rattle.pg_event.specs.declared.entry.Entry.{Entry}
+use Rattle.pg_content.proofs.Standing.{same_content}
 use Rattle.pg_event.specs.declared.event.Event.{Event}
-use Rattle.pg_run.specs.Histories.{AncestryByVectors, CarriesHistory, MakesHistories, OneVersionAStamp, StateIsDetermined, StateIsItsHeads}
-use Rattle.pg_run.specs.Journal.{bag, history, versions, with_ancestors}
+use Rattle.pg_msg.specs.declared.message.Message.{Message}
+use Rattle.pg_msg.specs.declared.message.Message.TheVariants as message
+use Rattle.pg_entries.specs.declared.cell.Cell.{Cell}
+use Rattle.pg_entries.specs.declared.cell.Cell.TheVariants as cell
+use Rattle.pg_run.specs.Histories.{AncestryByVectors, BringsVersion, CarriesHistory, MakesHistories, OneVersionAStamp, StateIsDetermined, StateIsItsHeads, TellsOfHistory}
+use Rattle.pg_run.specs.Journal.{mail, versions}
 use Rattle.pg_run.specs.Laws.{HoldsWhatItTook}
 use Rattle.pg_run.specs.Run.{World, run}
-use Rattle.pg_run.specs.State.{content_with, policy_made, versions_taken}
+use Rattle.pg_run.specs.State.{policy_made, versions_taken}
 use Rattle.pg_run.proofs.Lists.{contained_among}
-use Rattle.pg_store.specs.Store.{content_of}
-use Rattle.pg_contents.proofs.Carrying.{policies}
-use Rattle.pg_contents.proofs.Files.{HoldsFile, headed, policy_in}
+use Rattle.pg_contents.specs.Together.{HoldBoth}
+use Rattle.pg_contents.proofs.Carrying.{Carries, CarriesCell, policies}
+use Rattle.pg_contents.proofs.Changes.{core_of}
 use Rattle.pg_contents.proofs.Runs.{IsSound, run_sound}
 use Rattle.pg_contents.proofs.Sending.{CarriesSent}
+use Rattle.pg_contents.proofs.Servers.{file_held}
 use Rattle.pg_contents.proofs.Sets.{taken_closed}
+use Rattle.pg_contents.proofs.Worlds.{IsNamed}
 
--- ---- the state of a set of versions
+-- a message carries what it tells of
+cell_tells : (w : World) (file : FileId) (c : Cell)
+    → CarriesCell w.history (policies w.journal) file c → BringsVersion w file c
+cell_tells w file (cell.Place place) h = tt
+cell_tells w file (cell.Flag flag) h = tt
+cell_tells w file (cell.Entry entry sure) h = tt
+cell_tells w file (cell.Version v) h = h
 
-no_heads : (vs : List VersionValue) → ((v : VersionValue) → Among v vs → ⊥) → vs ≡ []
-no_heads [] none = refl
-no_heads (v ∷ vs) none = absurd (none v (inl refl))
-
-module _ (journal : List Entry) (file : FileId) (k : IsHistory (versions file journal)) where
-  abbrev h : List Made
-  h = versions file journal
-
-  -- of a set that holds the ancestors of its members
-  pub state_stands : (policy : Policy) (set : List Stamp) → IsClosed h set
-      → StandsFor (content_with policy journal file set) h set
-  state_stands policy [] closed = record {
-    closed = closed;
-    order = tt;
-    heads = λ v l. absurd l;
-    all = λ t l. absurd l;
-  }
-  state_stands policy (t ∷ ts) closed = content_stands policy h k (t ∷ ts) closed
-
-  pub state_determined : (policy : Policy) (first second : List Stamp) → IsClosed h first
-      → IsClosed h second → ((x : Stamp) → Among x first ↔ Among x second)
-      → content_with policy journal file first ≡ content_with policy journal file second
-  state_determined policy [] [] one two same = refl
-  state_determined policy [] (y ∷ ys) one two same = absurd ((same y).1 (inl refl))
-  state_determined policy (x ∷ xs) [] one two same = absurd ((same x).0 (inl refl))
-  state_determined policy (x ∷ xs) (y ∷ ys) one two same =
-      same_content h (heads.content_of policy h (x ∷ xs)) (heads.content_of policy h (y ∷ ys))
-      (x ∷ xs) (y ∷ ys) k (content_stands policy h k (x ∷ xs) one)
-      (content_stands policy h k (y ∷ ys) two) refl same
-
-  -- what a server holds of a file is that state
-  pub held_is : (s : ℕ) (policy : Policy) (c : ContentValue) (stamps set : List Stamp)
-      → with_ancestors h stamps ≡ set → HoldsFile s policy c h stamps
-      → c ≡ content_with policy journal file set
-  held_is s policy c stamps [] e f =
-      let none = no_heads c.heads
-      (λ v l. subst (λ x. Among (f.stood.stands.heads v l).made.stamp x) e
-      (f.stood.stands.heads v l).head.0) in
-      content_of_parts c.policy Last c.heads []
-      (f.policy ∙ ap (policy_in policy) none) none
-  held_is s policy c stamps (t ∷ ts) e f =
-      let stands : StandsFor c h (t ∷ ts) = subst (StandsFor c h) e f.stood.stands in
-      let a = stands.all t (inl refl) in
-      content_is h k c (t ∷ ts) stands
-      ∙ ap (λ x. heads.content_of x h (t ∷ ts)) (headed f a.0 a.1)
+message_tells : (w : World) (m : Message)
+    → Carries w.history (policies w.journal) (IsNamed w.stores) m → TellsOfHistory w m
+message_tells w (message.Cell ends tag c) h = cell_tells w ends.file c h
+message_tells w (message.Grant ends granted) h = h.0
+message_tells w m h = tt
 
 -- ---- after any events
 
-module _ (n : ℕ) (small : n < 2 ^ 32) (events : List Event) where
+module _ (n : ℕ) (small : n < 2 ^ 32) (both : HoldBoth n) (events : List Event) where
   abbrev end : World
   end = run n events
 
-  sound : IsSound n end
-  sound = run_sound n small events
+  sound : IsSound end
+  sound = run_sound n small both events
 
-  histories : (file : FileId) → IsHistory (versions file end.journal)
+  histories : (file : FileId) → IsHistory (versions file end.history)
   histories file = sound.made.histories file
 
   closed : (s : ℕ) (file : FileId)
-      → IsClosed (versions file end.journal) (versions_taken file end.journal (end.took s))
+      → IsClosed (versions file end.history) (versions_taken file end.history (end.took s))
   closed s file =
-      taken_closed (versions file end.journal) (histories file) _ ((sound.stands s).known file)
+      taken_closed (versions file end.history) (histories file) _ ((sound.stands s).known file)
+
+  abbrev policy : FileId → Policy
+  policy file = policy_made file end.journal
+
+  stands_for : (s : ℕ) (file : FileId)
+      → StandsFor (content_of (policy file) (versions file end.history)
+      (versions_taken file end.history (end.took s))) (versions file end.history)
+      (versions_taken file end.history (end.took s))
+  stands_for s file =
+      content_stands (policy file) (versions file end.history) (histories file)
+      (versions_taken file end.history (end.took s)) (closed s file)
 
 -- MERGE
-pub holds_what_it_took : (n : ℕ) → n < 2 ^ 32 → HoldsWhatItTook n
-holds_what_it_took n small events file s least most =
+pub holds_what_it_took : (n : ℕ) → n < 2 ^ 32 → HoldBoth n → HoldsWhatItTook n
+holds_what_it_took n small both events file s least most x is =
     let w = run n events in
-    held_is w.journal file (histories n small events file) s (policy_made file w.journal)
-    (content_of (w.stores s) file) _ (versions_taken file w.journal (w.took s)) refl
-    (((sound n small events).stands s).files file)
+    let h = versions file w.history in
+    let set = versions_taken file w.history (w.took s) in
+    let f = file_held ((sound n small both events).stands s) file (core_of x)
+    (ap (option_map core_of) is) in
+    content_is h (histories n small both events file) x.content set f.stood.stands
+    ∙ ap (λ q. content_of q h set) f.policy
 
-pub state_is_its_heads : (n : ℕ) → n < 2 ^ 32 → StateIsItsHeads n
-state_is_its_heads n small events s file =
+pub state_is_its_heads : (n : ℕ) → n < 2 ^ 32 → HoldBoth n → StateIsItsHeads n
+state_is_its_heads n small both events s file = stands_for n small both events s file
+
+pub state_is_determined : (n : ℕ) → n < 2 ^ 32 → HoldBoth n → StateIsDetermined n
+state_is_determined n small both events file s t same =
     let w = run n events in
-    state_stands w.journal file (histories n small events file) (policy_made file w.journal)
-    (versions_taken file w.journal (w.took s)) (closed n small events s file)
+    let h = versions file w.history in
+    let one = versions_taken file w.history (w.took s) in
+    let two = versions_taken file w.history (w.took t) in
+    same_content h (content_of (policy_made file w.journal) h one)
+    (content_of (policy_made file w.journal) h two) one two (histories n small both events file)
+    (stands_for n small both events s file) (stands_for n small both events t file) refl same
 
-pub state_is_determined : (n : ℕ) → n < 2 ^ 32 → StateIsDetermined n
-state_is_determined n small events file s t same =
+pub makes_histories : (n : ℕ) → n < 2 ^ 32 → HoldBoth n → MakesHistories n
+makes_histories n small both events file = histories n small both events file
+
+pub ancestry_by_vectors : (n : ℕ) → n < 2 ^ 32 → HoldBoth n → AncestryByVectors n
+ancestry_by_vectors n small both events file u v p q =
+    ancestry (versions file (run n events).history) (histories n small both events file) u v p q
+
+pub carries_the_history : (n : ℕ) → n < 2 ^ 32 → HoldBoth n → CarriesHistory n
+carries_the_history n small both events m under =
     let w = run n events in
-    state_determined w.journal file (histories n small events file) (policy_made file w.journal)
-    (versions_taken file w.journal (w.took s)) (versions_taken file w.journal (w.took t))
-    (closed n small events s file) (closed n small events t file) same
+    message_tells w m.packet.message
+    (All-contains (CarriesSent w.history (policies w.journal) (IsNamed w.stores)) (mail w.journal) m
+    (sound n small both events).carried under)
 
-pub makes_histories : (n : ℕ) → n < 2 ^ 32 → MakesHistories n
-makes_histories n small events file = histories n small events file
-
-pub ancestry_by_vectors : (n : ℕ) → n < 2 ^ 32 → AncestryByVectors n
-ancestry_by_vectors n small events file u v p q =
-    ancestry (versions file (run n events).journal) (histories n small events file) u v p q
-
-pub carries_the_history : (n : ℕ) → n < 2 ^ 32 → CarriesHistory n
-carries_the_history n small events m under =
-    let w = run n events in
-    All-contains (CarriesSent (history w.journal) (policies w.journal)) (bag w.journal) m
-    (sound n small events).carried under
-
-pub one_version_a_stamp : (n : ℕ) → n < 2 ^ 32 → OneVersionAStamp n
-one_version_a_stamp n small events u v p q same =
-    let us = history (run n events).journal in
-    (sound n small events).made.one u v (contained_among us u p) (contained_among us v q) same
+pub one_version_a_stamp : (n : ℕ) → n < 2 ^ 32 → HoldBoth n → OneVersionAStamp n
+one_version_a_stamp n small both events u v p q same =
+    let us = (run n events).history in
+    (sound n small both events).made.one u v (contained_among us u p) (contained_among us v q) same

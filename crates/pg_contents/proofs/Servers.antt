@@ -1,5 +1,7 @@
 -- What a server holds of the contents of all files. It changes at one file at a time.
-use Rattle.std.proofs.Common.{[], ℕ, ◌≡◌, ◌≢◌, ◌<◌, ◌≤◌, ◌^◌, Bool, true, false, cond, List, ◌∷◌, ◌++◌, refl, sym, subst, inl, inr, ◌⊎◌, arith}
+use Rattle.std.proofs.Common.{[], ℕ, ◌≡◌, ◌≢◌, ◌<◌, ◌≤◌, ◌^◌, Bool, true, false, cond, List, ◌∷◌, ◌++◌, Option, None, Some, refl, sym, subst, ◌∙◌, inl, inr, ◌⊎◌, arith}
+use Rattle.std.proofs.lemmas.Option.{same_Some}
+use mathlib.Core.Path.{fun_ext}
 use Rattle.pg_base.specs.declared.id.FileId.{FileId}
 use Rattle.pg_base.specs.declared.policy.Policy.{Policy}
 use Rattle.pg_base.specs.declared.policy.Policy.TheVariants.{Last}
@@ -11,16 +13,16 @@ use Rattle.pg_base.specs.Version.{VersionValue}
 use Rattle.pg_base.proofs.Orders.{is_same_file-true}
 use Rattle.pg_content.specs.Content.{Among, ContentValue}
 use Rattle.pg_content.specs.History.{IsHistory, IsMember, Made}
-use Rattle.pg_content.proofs.HeadsOf.{content_stands}
-use Rattle.pg_msg.specs.declared.update.MadeVersion.{MadeVersion}
+use Rattle.pg_content.specs.StandsFor.{InStrictOrder}
 use Rattle.pg_names.proofs.Lookups.{apart_back}
-use Rattle.pg_run.specs.Journal.{made_for, made_of, with_ancestors}
+use Rattle.pg_run.specs.Journal.{Born, made_for, made_of, with_ancestors}
 use Rattle.pg_run.specs.Took.{Take, stamps_taken}
 use Rattle.pg_store.specs.declared.store.Store.{Store}
-use Rattle.pg_store.specs.Store.{content_of, new_store}
-use Rattle.pg_promises.specs.Whole.{IsWhole}
-use Rattle.pg_contents.proofs.Changes.{Keeps, Puts}
-use Rattle.pg_contents.proofs.Files.{HoldsFile, Stood, file_later, file_policy}
+use Rattle.pg_store.specs.Births.{is_pending}
+use Rattle.pg_store.specs.Store.{is_full, is_held}
+use Rattle.pg_calls.proofs.Walked.{full_held}
+use Rattle.pg_contents.proofs.Changes.{Alters, Core, Keeps, by_altered, content_in, core_at}
+use Rattle.pg_contents.proofs.Files.{HoldsFile, Stood, stood_begun, stood_later}
 use Rattle.pg_contents.proofs.Histories.{AreMade, by_file, own_file}
 use Rattle.pg_contents.proofs.Sets.{AreMembers, taken_in_time}
 
@@ -37,81 +39,149 @@ came_of takes file = stamps_taken file takes
 abbrev pub with_came : FileId → Stamp → Came → Came
 with_came file stamp came q = cond (is_same_file file q) (stamp ∷ []) [] ++ came q
 
--- server s holds, of the versions that were made, what those come to that came to it; and it has
--- come to their times
-pub record Stands (s : ℕ) (a : Store) (us : List MadeVersion) (p : FileId → Policy) (came : Came)
+-- what is held of a thing has this policy
+abbrev Policied : (FileId → Policy) → FileId → Option Core → Type 0
+Policied p file o = (k : Core) → o ≡ Some k → k.content.policy ≡ p file
+
+policied_here : (p : FileId → Policy) (file : FileId) (c : Core) → c.content.policy ≡ p file
+    → Policied p file (Some c)
+policied_here p file c same d e =
+    let P : Core → Type 0 = (λ x. x.content.policy ≡ p file) in subst P (same_Some c d e) same
+
+none_stood : (s : ℕ) (c : ContentValue) → c.heads ≡ [] → Stood s c [] []
+none_stood s c none = record {
+  stands = record {
+    closed = record { members = λ t l. l; ancestors = λ t u l a. absurd l };
+    order = subst InStrictOrder (sym none) tt;
+    heads = λ v l. absurd (subst (Among v) none l);
+    all = λ t l. absurd l;
+  };
+  own = λ m l same. absurd l;
+}
+
+-- server s has, of the versions that were made, what those come to that came to it: of what it does
+-- not hold none came. What it holds has the policy of its file; and it has come to the times of
+-- what came
+pub record Stands (s : ℕ) (a : Store) (us : List Born) (p : FileId → Policy) (came : Came)
     : Type 0 where
   pub files : (file : FileId)
-      → HoldsFile s (p file) (content_of a file) (made_for file us) (came file)
+      → Stood s (content_in (core_at a file)) (made_for file us) (came file)
+  pub policies : (file : FileId) (k : Core) → core_at a file ≡ Some k
+      → k.content.policy ≡ p file
   pub known : (file : FileId) → AreMembers (made_for file us) (came file)
   pub upto : (file : FileId) (t : Stamp) → Among t (came file) → t.time ≤ a.names.last
 
-module _ {s : ℕ} {a : Store} {us : List MadeVersion} {p : FileId → Policy} {came : Came}
+module _ {s : ℕ} {a : Store} {us : List Born} {p : FileId → Policy} {came : Came}
     (k : Stands s a us p came) where
+  -- a file that is held
+  pub file_held : (file : FileId) (c : Core) → core_at a file ≡ Some c
+      → HoldsFile s (p file) c.content (made_for file us) (came file)
+  file_held file c e =
+      let P : Option Core → Type 0 =
+      (λ o. Stood s (content_in o) (made_for file us) (came file)) in
+      record { policy = k.policies file c e; stood = subst P e (k.files file) }
+
   raised : (b : Store) → a.names.last ≤ b.names.last → (file : FileId) (t : Stamp)
       → Among t (came file) → t.time ≤ b.names.last
   raised b last file t l = let upto = k.upto file t l in omega arith
 
   pub stands_kept : (b : Store) → Keeps a b → Stands s b us p came
   stands_kept b e = record {
-    files = λ file. subst (λ c. HoldsFile s (p file) c (made_for file us) (came file))
-        (sym (e.each file)) (k.files file);
+    files = λ file. (let P : Option Core → Type 0 =
+        (λ o. Stood s (content_in o) (made_for file us) (came file)) in
+        subst P (sym (e.each file)) (k.files file));
+    policies = λ file c h. k.policies file c (sym (e.each file) ∙ h);
     known = k.known;
     upto = raised b e.last;
   }
 
-  -- files without a version get other policies
+  -- files that are not held get other policies
   pub stands_policy : (q : FileId → Policy)
-      → ((file : FileId) → (q file ≡ p file) ⊎ (made_for file us ≡ [])) → Stands s a us q came
+      → ((file : FileId) (c : Core) → core_at a file ≡ Some c → q file ≡ p file)
+      → Stands s a us q came
   stands_policy q same = record {
-    files = λ file. file_policy (k.files file) (q file) (same file);
+    files = k.files;
+    policies = λ file c e. k.policies file c e ∙ sym (same file c e);
     known = k.known;
     upto = k.upto;
   }
 
+  -- the same came, in other words
+  pub stands_same : (other : Came) → ((q : FileId) → other q ≡ came q) → Stands s a us p other
+  stands_same other same =
+      let P : Came → Type 0 = (λ c. Stands s a us p c) in
+      subst P (sym (fun_ext same)) k
+
   -- another server's write
-  pub stands_later : (u : MadeVersion) → IsHistory (made_of u ∷ made_for u.file us)
-      → u.stamp.server ≢ s → Stands s a (u ∷ us) p came
+  pub stands_later : (u : Born) → IsHistory (made_of u ∷ made_for u.made.file us)
+      → u.made.stamp.server ≢ s → Stands s a (u ∷ us) p came
   stands_later u history other = record {
-    files = by_file (λ file h. HoldsFile s (p file) (content_of a file) h (came file)) u us
-        (file_later (k.files u.file) (k.known u.file) (made_of u) history other) k.files;
+    files = by_file (λ file h. Stood s (content_in (core_at a file)) h (came file)) u us
+        (stood_later (k.files u.made.file) (k.known u.made.file) (made_of u) history other) k.files;
+    policies = k.policies;
     known = by_file (λ file h. AreMembers h (came file)) u us
-        (λ t l. inr (k.known u.file t l)) k.known;
+        (λ t l. inr (k.known u.made.file t l)) k.known;
     upto = k.upto;
   }
+
+  -- a replica begins, of what is not held
+  module _ (b : Store) (file : FileId) (birth : ℕ) (policy : Policy)
+      (begins : Alters a b file
+      (Some (record { birth = birth; content = record { policy = policy; heads = [] } })))
+      (none : core_at a file ≡ None) where
+    abbrev NewCore : Core
+    NewCore = record { birth = birth; content = record { policy = policy; heads = [] } }
+
+    new_stood : Stood s NewCore.content (made_for file us) (came file)
+    new_stood =
+        let P : Option Core → Type 0 =
+        (λ o. Stood s (content_in o) (made_for file us) (came file)) in
+        stood_begun (subst P none (k.files file)) refl policy
+
+    pub stands_begun : policy ≡ p file → Stands s b us p came
+    stands_begun same =
+        let up = begins.last in
+        record {
+          files = by_altered (λ f o. Stood s (content_in o) (made_for f us) (came f)) a b file
+              (Some NewCore) begins new_stood (λ f apart. k.files f);
+          policies = by_altered (Policied p) a b file (Some NewCore) begins
+              (policied_here p file NewCore same) (λ f apart. k.policies f);
+          known = k.known;
+          upto = λ f t l. let old = k.upto f t l in omega arith;
+        }
 
 -- ---- a version at one file
 
 -- a fact on files, by the one at which a version came
-by_came : (P : FileId → ContentValue → List Stamp → Type 0) (a b : Store) (file : FileId)
-    (stamp : Stamp) (c : ContentValue) (came : Came) → Puts a b file c
-    → P file c (stamp ∷ came file)
-    → ((q : FileId) → is_same_file q file ≡ false → P q (content_of a q) (came q))
-    → (q : FileId) → P q (content_of b q) (with_came file stamp came q)
-by_came P a b file stamp c came puts here there q = at (is_same_file file q) refl
+by_came : (P : FileId → Option Core → List Stamp → Type 0) (a b : Store) (file : FileId)
+    (stamp : Stamp) (o : Option Core) (came : Came) → Alters a b file o
+    → P file o (stamp ∷ came file)
+    → ((q : FileId) → is_same_file q file ≡ false → P q (core_at a q) (came q))
+    → (q : FileId) → P q (core_at b q) (with_came file stamp came q)
+by_came P a b file stamp o came alters here there q = at (is_same_file file q) refl
   where
     at : (t : Bool) → is_same_file file q ≡ t
-        → P q (content_of b q) (cond t (stamp ∷ []) [] ++ came q)
+        → P q (core_at b q) (cond t (stamp ∷ []) [] ++ came q)
     at true e =
-        let Q : FileId → Type 0 = (λ f. P f (content_of b f) (stamp ∷ came f)) in
-        let R : ContentValue → Type 0 = (λ d. P file d (stamp ∷ came file)) in
-        subst Q (is_same_file-true file q e) (subst R (sym puts.here) here)
+        let Q : FileId → Type 0 = (λ f. P f (core_at b f) (stamp ∷ came f)) in
+        let R : Option Core → Type 0 = (λ d. P file d (stamp ∷ came file)) in
+        subst Q (is_same_file-true file q e) (subst R (sym alters.here) here)
     at false e =
         let apart = apart_back file q e in
-        let R : ContentValue → Type 0 = (λ d. P q d (came q)) in
-        subst R (sym (puts.others q apart)) (there q apart)
+        let R : Option Core → Type 0 = (λ d. P q d (came q)) in
+        subst R (sym (alters.others q apart)) (there q apart)
 
 -- the clock has come to the times of all that came
 abbrev HasComeTo : Store → Came → Type 0
 HasComeTo a came = (q : FileId) (t : Stamp) → Among t (came q) → t.time ≤ a.names.last
 
-upto_then : (a b : Store) (file : FileId) (c : ContentValue) (came : Came) (stamp : Stamp)
-    → Puts a b file c → stamp.time ≤ b.names.last → HasComeTo a came
+upto_then : (a b : Store) (file : FileId) (o : Option Core) (came : Came) (stamp : Stamp)
+    → Alters a b file o → stamp.time ≤ b.names.last → HasComeTo a came
     → HasComeTo b (with_came file stamp came)
-upto_then a b file c came stamp puts time old =
-    let up = puts.last in
-    by_came (λ q d set. (t : Stamp) → Among t set → t.time ≤ b.names.last) a b file stamp c came
-    puts
+upto_then a b file o came stamp alters time old =
+    let up = alters.last in
+    by_came (λ q d set. (t : Stamp) → Among t set → t.time ≤ b.names.last) a b file stamp o came
+    alters
     (λ t l. elim l [
       | inl last ↦ (let P : Stamp → Type 0 = (λ x. x.time ≤ b.names.last) in
           subst P (sym last) time)
@@ -119,138 +189,121 @@ upto_then a b file c came stamp puts time old =
     ])
     (λ q apart t l. let upto = old q t l in omega arith)
 
-module _ {s : ℕ} {a : Store} {us : List MadeVersion} {p : FileId → Policy} {came : Came}
-    (k : Stands s a us p came) (b : Store) (file : FileId) (c : ContentValue)
-    (puts : Puts a b file c) (stamp : Stamp) (time : stamp.time ≤ b.names.last) where
+module _ {s : ℕ} {a : Store} {us : List Born} {p : FileId → Policy} {came : Came}
+    (k : Stands s a us p came) (b : Store) (file : FileId) (c : Core)
+    (alters : Alters a b file (Some c)) (stamp : Stamp) (time : stamp.time ≤ b.names.last) where
+  policied : c.content.policy ≡ p file → (f : FileId) → Policied p f (core_at b f)
+  policied same =
+      by_altered (Policied p) a b file (Some c) alters (policied_here p file c same)
+      (λ f apart. k.policies f)
+
   -- a version that comes
-  pub stands_came : HoldsFile s (p file) c (made_for file us) (stamp ∷ came file)
+  pub stands_came : HoldsFile s (p file) c.content (made_for file us) (stamp ∷ came file)
       → IsMember (made_for file us) stamp → Stands s b us p (with_came file stamp came)
   stands_came here is = record {
-    files = by_came (λ q d set. HoldsFile s (p q) d (made_for q us) set) a b file stamp c came puts
-        here (λ q apart. k.files q);
-    known = by_came (λ q d set. AreMembers (made_for q us) set) a b file stamp c came puts
+    files = by_came (λ q o set. Stood s (content_in o) (made_for q us) set) a b file stamp (Some c)
+        came alters here.stood (λ q apart. k.files q);
+    policies = policied here.policy;
+    known = by_came (λ q o set. AreMembers (made_for q us) set) a b file stamp (Some c) came alters
         (λ t l. elim l [
           | inl last ↦ subst (IsMember (made_for file us)) (sym last) is
           | inr earlier ↦ k.known file t earlier
         ])
         (λ q apart. k.known q);
-    upto = upto_then a b file c came stamp puts time k.upto;
+    upto = upto_then a b file (Some c) came stamp alters time k.upto;
   }
 
--- its own write: the content of a file with no other version may have been another before
-pub record StandsBut (s : ℕ) (a : Store) (us : List MadeVersion) (p : FileId → Policy)
-    (came : Came) (file : FileId) : Type 0 where
-  pub others : (q : FileId) → is_same_file q file ≡ false
-      → HoldsFile s (p q) (content_of a q) (made_for q us) (came q)
-  pub known : (q : FileId) → AreMembers (made_for q us) (came q)
-  pub upto : (q : FileId) (t : Stamp) → Among t (came q) → t.time ≤ a.names.last
-
--- one file's content is left out
-pub stands_but : {s : ℕ} {a : Store} {us : List MadeVersion} {p : FileId → Policy} {came : Came}
-    → Stands s a us p came → (b : Store) (file : FileId) (c : ContentValue) → Puts a b file c
-    → StandsBut s b us p came file
-stands_but {s = s} {us = us} {p = p} {came = came} k b file c puts =
-    let up = puts.last in
-    record {
-      others = λ q apart. subst (λ d. HoldsFile s (p q) d (made_for q us) (came q))
-          (sym (puts.others q apart)) (k.files q);
-      known = k.known;
-      upto = λ q t l. let upto = k.upto q t l in omega arith;
-    }
-
-module _ {s : ℕ} {a : Store} {us : List MadeVersion} {p : FileId → Policy} {came : Came}
-    (u : MadeVersion) (k : StandsBut s a us p came u.file) (b : Store) (c : ContentValue)
-    (puts : Puts a b u.file c) (time : u.stamp.time ≤ b.names.last) where
+-- its own write
+module _ {s : ℕ} {a : Store} {us : List Born} {p : FileId → Policy} {came : Came} (u : Born)
+    (k : Stands s a us p came) (b : Store) (c : Core)
+    (alters : Alters a b u.made.file (Some c)) (time : u.made.stamp.time ≤ b.names.last) where
   abbrev after_write : Came
-  after_write = with_came u.file u.stamp came
+  after_write = with_came u.made.file u.made.stamp came
 
   -- of another file there is no version more
-  same_made : (P : List Made → Type 0) (q : FileId) → is_same_file q u.file ≡ false
+  same_made : (P : List Made → Type 0) (q : FileId) → is_same_file q u.made.file ≡ false
       → P (made_for q us) → P (made_for q (u ∷ us))
   same_made P q apart h =
       subst (λ t. P (cond t (made_of u ∷ made_for q us) (made_for q us))) (sym apart) h
 
   pub stands_wrote
-      : HoldsFile s (p u.file) c (made_of u ∷ made_for u.file us) (u.stamp ∷ came u.file)
+      : HoldsFile s (p u.made.file) c.content (made_of u ∷ made_for u.made.file us)
+      (u.made.stamp ∷ came u.made.file)
       → Stands s b (u ∷ us) p after_write
   stands_wrote here = record {
     files =
-        by_came (λ q d set. HoldsFile s (p q) d (made_for q (u ∷ us)) set) a b u.file u.stamp c
-        came puts
-        (subst (λ h. HoldsFile s (p u.file) c h (u.stamp ∷ came u.file))
-        (sym (own_file u us)) here)
-        (λ q apart. same_made (λ h. HoldsFile s (p q) (content_of a q) h (came q)) q apart
-        (k.others q apart));
+        by_came (λ q o set. Stood s (content_in o) (made_for q (u ∷ us)) set) a b u.made.file
+        u.made.stamp (Some c) came alters
+        (subst (λ h. Stood s c.content h (u.made.stamp ∷ came u.made.file))
+        (sym (own_file u us)) here.stood)
+        (λ q apart. same_made (λ h. Stood s (content_in (core_at a q)) h (came q)) q apart
+        (k.files q));
+    policies = policied k b u.made.file c alters u.made.stamp time here.policy;
     known =
-        by_came (λ q d set. AreMembers (made_for q (u ∷ us)) set) a b u.file u.stamp c came puts
-        (subst (λ h. AreMembers h (u.stamp ∷ came u.file)) (sym (own_file u us))
+        by_came (λ q o set. AreMembers (made_for q (u ∷ us)) set) a b u.made.file u.made.stamp
+        (Some c) came alters
+        (subst (λ h. AreMembers h (u.made.stamp ∷ came u.made.file)) (sym (own_file u us))
         (λ t l. elim l [
           | inl last ↦ inl last
-          | inr earlier ↦ inr (k.known u.file t earlier)
+          | inr earlier ↦ inr (k.known u.made.file t earlier)
         ]))
         (λ q apart. same_made (λ h. AreMembers h (came q)) q apart (k.known q));
-    upto = upto_then a b u.file c came u.stamp puts time k.upto;
+    upto = upto_then a b u.made.file (Some c) came u.made.stamp alters time k.upto;
   }
 
--- a server that has taken nothing
-pub new_stands : (n s : ℕ) (p : FileId → Policy) → Stands s (new_store n s) [] p (λ file. [])
-new_stands n s p = record {
-  files = λ file. record {
-    policy = refl;
-    stood = record {
-      stands = content_stands Last [] tt [] (record {
-        members = λ t l. l;
-        ancestors = λ t u l a. absurd l;
-      });
-      own = λ m l same. absurd l;
-    };
-  };
+-- a server that has taken nothing: what it holds has no version
+pub new_stands : (s : ℕ) (a : Store) (p : FileId → Policy)
+    → ((file : FileId) → (content_in (core_at a file)).heads ≡ [])
+    → ((file : FileId) (k : Core) → core_at a file ≡ Some k → k.content.policy ≡ p file)
+    → Stands s a [] p (λ file. [])
+new_stands s a p none policies = record {
+  files = λ file. none_stood s (content_in (core_at a file)) (none file);
+  policies = policies;
   known = λ file t l. absurd l;
   upto = λ file t l. absurd l;
 }
 
 -- ---- a server of a run
 
--- server s of n: it stands for what came to it; it has come to the times of its own versions, and
--- to the numbers of its own files
-pub record IsServer (n s : ℕ) (a : Store) (us : List MadeVersion) (p : FileId → Policy)
-    (came : Came) : Type 0 where
+-- what else holds of a server before an event: a birth that is to come is of what is not here; what
+-- is held has a replica, and its birth was given out
+pub record IsPaired (a : Store) : Type 0 where
+  pub pending : (file : FileId) (birth : ℕ) → is_pending a file birth ≡ true
+      → core_at a file ≡ None
+  pub both : (file : FileId) → is_held a file ≡ true → (k : Core) × (core_at a file ≡ Some k)
+  pub births : (file : FileId) (k : Core) → core_at a file ≡ Some k → k.birth ≤ a.births
+
+-- what has no replica is not full
+pub none_full : {a : Store} → IsPaired a → (file : FileId) → core_at a file ≡ None
+    → is_full a file ≡ true → ⊥
+none_full {a} k file none full =
+    let c = k.both file (full_held a.names file full) in
+    absurd (let z : None ≡ Some c.0 = sym none ∙ c.1 in cc)
+
+-- the id was given out, or the server gives it out in this event
+abbrev pub IsNamedBy : ℕ → Store → (FileId → Type 0) → FileId → Type 0
+IsNamedBy s b N file = N file ⊎ ((file.server ≡ s) × (file.number ≤ b.files))
+
+-- Server s: it stands for what came to it; it has come to the times of its own versions.
+-- N holds of the ids that were given out: of all that has a version or is held; and the server has
+-- come to the numbers of its own. What was not given out has no policy yet
+pub record IsServer (s : ℕ) (a : Store) (us : List Born) (p : FileId → Policy)
+    (N : FileId → Type 0) (came : Came) : Type 0 where
   pub few : s < 2 ^ 32
-  pub whole : IsWhole n s a
+  pub server : a.names.server ≡ s
+  pub paired : IsPaired a
   pub stands : Stands s a us p came
   pub made : AreMade us
-  pub dated : (v : MadeVersion) → Among v us → v.stamp.server ≡ s → v.stamp.time ≤ a.names.last
-  pub named : (v : MadeVersion) → Among v us → v.file.server ≡ s → v.file.number ≤ a.files
-
-module _ {n s : ℕ} {a : Store} {us : List MadeVersion} {p : FileId → Policy} {came : Came}
-    (k : IsServer n s a us p came) where
-  pub server_kept : (b : Store) → Keeps a b → IsWhole n s b → IsServer n s b us p came
-  server_kept b e whole =
-      let last = e.last in
-      let files = e.files in
-      record {
-        few = k.few;
-        whole = whole;
-        stands = stands_kept k.stands b e;
-        made = k.made;
-        dated = λ v l own. let old = k.dated v l own in omega arith;
-        named = λ v l own. let old = k.named v l own in omega arith;
-      }
-
-  pub server_policy : (q : FileId → Policy)
-      → ((file : FileId) → (q file ≡ p file) ⊎ (made_for file us ≡ [])) → IsServer n s a us q came
-  server_policy q same = record {
-    few = k.few;
-    whole = k.whole;
-    stands = stands_policy k.stands q same;
-    made = k.made;
-    dated = k.dated;
-    named = k.named;
-  }
+  pub dated : (v : Born) → Among v us → v.made.stamp.server ≡ s
+      → v.made.stamp.time ≤ a.names.last
+  pub own : (file : FileId) → N file → file.server ≡ s → file.number ≤ a.files
+  pub held : (file : FileId) (k : Core) → core_at a file ≡ Some k → N file
+  pub named : (v : Born) → Among v us → N v.made.file
+  pub bare : (file : FileId) → (N file → ⊥) → p file ≡ Last
 
 -- no version that was taken has a time after the clock's, nor has a head, and no number in its
 -- vector is above that
-module _ (us : List MadeVersion) (made : AreMade us) (last : ℕ) (file : FileId)
+module _ (us : List Born) (made : AreMade us) (last : ℕ) (file : FileId)
     (set : List Stamp) (upto : (t : Stamp) → Among t set → t.time ≤ last) where
   pub taken_upto : (t : Stamp) → Among t (with_ancestors (made_for file us) set) → t.time ≤ last
   taken_upto t l = taken_in_time (made_for file us) set last (made.order file) upto t l

@@ -13,15 +13,15 @@ use Rattle.pg_msg.specs.declared.update.Update.{Update}
 use Rattle.pg_msg.specs.declared.update.Update.TheVariants as update
 use Rattle.pg_run.specs.Journal.{versions_in}
 use Rattle.pg_run.specs.Took.{Take, Taker, first_takes, held, stamp_taken_by, stamps_taken, take_of}
-use Rattle.pg_run.specs.Took.Take.{Began, TookFlag, TookPlace}
+use Rattle.pg_run.specs.Took.Take.{TookFlag, TookPlace}
 use Rattle.pg_run.specs.Took.Taker.{InDir, Itself}
-use Rattle.pg_run.specs.Passed.{all_to, all_to_dir, coming_place, flags_known, flags_to, is_back, own_takes, parent_of, parties, passed, passed_with, passes, places_known, places_to, with_parents}
+use Rattle.pg_run.specs.Passed.{all_to, all_to_dir, flags_known, flags_to, is_back, own_takes, parties, passed, passed_with, passes, places_known, places_to}
 use Rattle.pg_promises.proofs.Choices.{chosen}
 use Rattle.pg_contents.proofs.Rules.{ArePlaces}
 
 module _ (q : FileId) where
   -- no version of the file
-  abbrev HasNone : List Take → Type 0
+  abbrev pub HasNone : List Take → Type 0
   HasNone takes = stamps_taken q takes ≡ []
 
   pub stamps_joined : (xs ys : List Take)
@@ -32,10 +32,10 @@ module _ (q : FileId) where
       → stamps_taken q (xs ++ ys) ≡ stamps_taken q ys
   none_joined xs ys none = stamps_joined xs ys ∙ ap (λ ts. ts ++ stamps_taken q ys) none
 
-  both_none : (xs ys : List Take) → HasNone xs → HasNone ys → HasNone (xs ++ ys)
+  pub both_none : (xs ys : List Take) → HasNone xs → HasNone ys → HasNone (xs ++ ys)
   both_none xs ys none other = none_joined xs ys none ∙ other
 
-  places_none : (by : Taker) (thing : FileId) (ps : List Place)
+  pub places_none : (by : Taker) (thing : FileId) (ps : List Place)
       → HasNone (map (TookPlace by thing) ps)
   places_none by thing [] = refl
   places_none by thing (p ∷ ps) = places_none by thing ps
@@ -52,13 +52,7 @@ module _ (q : FileId) where
       (places_none by thing (places_known thing takes))
       (flags_none by thing (flags_known thing takes))
 
-  parent_none : (removed : List ℕ) (takes : List Take) (thing : FileId)
-      → HasNone (parent_of removed takes thing)
-  parent_none removed takes thing =
-      chosen HasNone (is_root thing) [] (Began (coming_place removed thing takes).parent ∷ []) refl
-      refl
-
-  each_none : {A : Type 0} (f : A → List Take) → ((x : A) → HasNone (f x)) → (xs : List A)
+  pub each_none : {A : Type 0} (f : A → List Take) → ((x : A) → HasNone (f x)) → (xs : List A)
       → HasNone (flat_map f xs)
   each_none f none [] = refl
   each_none f none (x ∷ xs) = both_none (f x) (flat_map f xs) (none x) (each_none f none xs)
@@ -83,11 +77,8 @@ module _ (q : FileId) where
   pub stamps_passed : (removed : List ℕ) (takes : List Take)
       → stamps_taken q (passed removed takes) ≡ stamps_taken q takes
   stamps_passed removed takes =
-      let begun = with_parents removed takes in
-      none_joined (flat_map (passes removed begun) (held begun)) begun
-      (each_none (passes removed begun) (passes_none removed begun) (held begun))
-      ∙ none_joined (flat_map (parent_of removed takes) (held takes)) takes
-      (each_none (parent_of removed takes) (parent_none removed takes) (held takes))
+      none_joined (flat_map (passes removed takes) (held takes)) takes
+      (each_none (passes removed takes) (passes_none removed takes) (held takes))
 
   -- nor do the places that the rules make
   pub stamps_behind : (removed : List ℕ) (us : List Update) (takes : List Take) → ArePlaces us

@@ -1,68 +1,54 @@
--- What every event keeps: each server stands for what came to it, and what is under way is of the
--- histories of the files.
-use Rattle.std.proofs.Common.{ℕ, ◌≡◌, ◌≢◌, ◌<◌, ◌≤◌, ◌^◌, Bool, cond, List, [], ◌∷◌, ◌++◌, sym, subst, ◌∙◌, inl, inr, arith}
+-- What every event keeps: each server stands for what came to it, and all messages ever sent are of
+-- the histories of the files.
+use Rattle.std.proofs.Common.{ℕ, ◌≡◌, ◌≢◌, ◌<◌, ◌≤◌, ◌^◌, Bool, cond, List, ◌∷◌, ◌++◌, Some, refl, sym, subst, ◌∙◌, inl, inr, arith}
 use Rattle.std.proofs.lemmas.Bool.Decides.{eqb_tells}
 use Rattle.std.proofs.lemmas.List.Elements.{All-append}
 use Rattle.pg_base.specs.declared.id.FileId.{FileId}
 use Rattle.pg_base.specs.declared.policy.Policy.{Policy}
+use Rattle.pg_base.specs.declared.policy.Policy.TheVariants.{Last}
 use Rattle.pg_content.specs.Content.{Among}
 use Rattle.pg_content.specs.History.{IsHistory}
 use Rattle.pg_flood.specs.World.{after}
 use Rattle.pg_msg.specs.declared.message.Sent.{Sent}
-use Rattle.pg_msg.specs.declared.update.MadeVersion.{MadeVersion}
-use Rattle.pg_run.specs.Journal.{made_for, made_of}
-use Rattle.pg_run.specs.Took.{Take, first_takes}
+use Rattle.pg_run.specs.Journal.{Born, made_for, made_of}
+use Rattle.pg_run.specs.Took.{Take}
 use Rattle.pg_server.specs.Local.{Effect}
 use Rattle.pg_store.specs.declared.store.Store.{Store}
-use Rattle.pg_store.specs.Start.{first_flags}
-use Rattle.pg_store.specs.Store.{new_store}
-use Rattle.pg_promises.specs.Whole.{IsWhole}
-use Rattle.pg_promises.proofs.Start.{start_whole}
-use Rattle.pg_contents.proofs.Arrivals.{IsPassive, stands_same}
-use Rattle.pg_contents.proofs.Effects.{IsMaking}
-use Rattle.pg_contents.proofs.Histories.{AreMade, last_history, none_made, one_more_made}
-use Rattle.pg_contents.proofs.Sending.{AllCarry, CarriesSent, all_carry_more, all_carry_policy, none_carry}
-use Rattle.pg_contents.proofs.Servers.{IsServer, Stands, came_of, new_stands, stands_later, stands_policy}
-use Rattle.pg_contents.proofs.Takes.{first_none}
+use Rattle.pg_contents.proofs.Changes.{Core, IsOrdered, core_at}
+use Rattle.pg_contents.proofs.Effects.{IsMaking, IsPassive}
+use Rattle.pg_contents.proofs.Histories.{AreMade, last_history, one_more_made}
+use Rattle.pg_contents.proofs.Sending.{AllCarry, CarriesSent, all_carry_more, all_carry_names, all_carry_other}
+use Rattle.pg_contents.proofs.Servers.{IsNamedBy, IsPaired, IsServer, Stands, came_of, stands_later, stands_policy}
 
--- each version has a time that its server's clock has come to, and its file a number that the
--- server of the file has given out
-abbrev pub AreDated : (ℕ → Store) → List MadeVersion → Type 0
-AreDated stores us =
-    (u : MadeVersion) → Among u us → u.stamp.time ≤ (stores u.stamp.server).names.last
+-- each version has a time that its server's clock has come to
+abbrev pub AreDated : (ℕ → Store) → List Born → Type 0
+AreDated stores us = (u : Born) → Among u us
+    → u.made.stamp.time ≤ (stores u.made.stamp.server).names.last
 
-abbrev pub AreNamed : (ℕ → Store) → List MadeVersion → Type 0
-AreNamed stores us =
-    (u : MadeVersion) → Among u us → u.file.number ≤ (stores u.file.server).files
+-- the id has a number that its server gave out
+abbrev pub IsNamed : (ℕ → Store) → FileId → Type 0
+IsNamed stores file = file.number ≤ (stores file.server).files
 
 -- THE INVARIANT: the versions that were made are histories; each server stands for what came to it;
--- and messages under way carry versions of the histories, whole
-pub record Sound (n : ℕ) (stores : ℕ → Store) (us : List MadeVersion) (p : FileId → Policy)
-    (took : ℕ → List Take) (bag : List Sent) : Type 0 where
-  pub whole : (s : ℕ) → IsWhole n s (stores s)
+-- messages carry versions of the histories, whole, and policies; and whatever has a version, is held
+-- or is granted has an id that was given out. What has none has no policy yet
+pub record Sound (stores : ℕ → Store) (us : List Born) (p : FileId → Policy)
+    (took : ℕ → List Take) (mail : List Sent) : Type 0 where
+  pub server : (s : ℕ) → (stores s).names.server ≡ s
+  pub order : (s : ℕ) → IsOrdered (stores s).replicas
   pub made : AreMade us
   pub stands : (s : ℕ) → Stands s (stores s) us p (came_of (took s))
   pub dated : AreDated stores us
-  pub named : AreNamed stores us
-  pub carried : AllCarry us p bag
-
--- at the start
-pub sound_start : (n : ℕ) (p : FileId → Policy)
-    → Sound n (new_store n) [] p (λ s. first_takes (first_flags n)) []
-sound_start n p = record {
-  whole = start_whole n;
-  made = none_made;
-  stands = λ s. stands_same (new_stands n s p) (came_of (first_takes (first_flags n)))
-      (λ q. first_none q (first_flags n));
-  dated = λ u l. absurd l;
-  named = λ u l. absurd l;
-  carried = none_carry [] p;
-}
+  pub named : (u : Born) → Among u us → IsNamed stores u.made.file
+  pub held : (s : ℕ) (file : FileId) (k : Core) → core_at (stores s) file ≡ Some k
+      → IsNamed stores file
+  pub bare : (file : FileId) → (IsNamed stores file → ⊥) → p file ≡ Last
+  pub carried : AllCarry us p (IsNamed stores) mail
 
 -- ---- servers
 
 -- what holds of the server that acted, and of each other one as it was, holds of each one now
-by_server : (P : ℕ → Store → List Take → Type 0) (stores : ℕ → Store) (took : ℕ → List Take)
+pub by_server : (P : ℕ → Store → List Take → Type 0) (stores : ℕ → Store) (took : ℕ → List Take)
     (s : ℕ) (b : Store) (takes : List Take) → P s b takes
     → ((t : ℕ) → t ≢ s → P t (stores t) (took t))
     → (t : ℕ) → P t (after stores s b t) (after took s takes t)
@@ -76,141 +62,191 @@ by_server P stores took s b takes own others t = elim (eqb_tells t s) [
       subst Q (sym at.0) (others t at.1)
 ]
 
-module _ (n : ℕ) (stores : ℕ → Store) (us : List MadeVersion) (p : FileId → Policy)
-    (took : ℕ → List Take) (bag : List Sent) (k : Sound n stores us p took bag) where
-  -- other messages are under way
-  pub still_sound : (rest : List Sent) → AllCarry us p rest → Sound n stores us p took rest
+module _ {stores : ℕ → Store} {us : List Born} {p : FileId → Policy} {took : ℕ → List Take}
+    {mail : List Sent} (k : Sound stores us p took mail) where
+  abbrev N : FileId → Type 0
+  N file = IsNamed stores file
+
+  -- another list of the same messages
+  pub still_sound : (rest : List Sent) → AllCarry us p N rest → Sound stores us p took rest
   still_sound rest carried = record {
-    whole = k.whole;
+    server = k.server;
+    order = k.order;
     made = k.made;
     stands = k.stands;
     dated = k.dated;
     named = k.named;
+    held = k.held;
+    bare = k.bare;
     carried = carried;
   }
 
-  pub none_more : (rest : List Sent) → AllCarry us p rest → AllCarry us p (rest ++ [])
-  none_more rest carried = All-append (CarriesSent us p) rest [] carried (none_carry us p)
-
   module _ (s : ℕ) where
-    pub server_of : s < 2 ^ 32 → IsServer n s (stores s) us p (came_of (took s))
-    server_of few = record {
+    pub server_of : s < 2 ^ 32 → IsPaired (stores s)
+        → IsServer s (stores s) us p N (came_of (took s))
+    server_of few paired = record {
       few = few;
-      whole = k.whole s;
+      server = k.server s;
+      paired = paired;
       stands = k.stands s;
       made = k.made;
-      dated = λ v l own. let P : ℕ → Type 0 = (λ j. v.stamp.time ≤ (stores j).names.last) in
+      dated = λ v l own. let P : ℕ → Type 0 = (λ j. v.made.stamp.time ≤ (stores j).names.last) in
           subst P own (k.dated v l);
-      named = λ v l own. let P : ℕ → Type 0 = (λ j. v.file.number ≤ (stores j).files) in
-          subst P own (k.named v l);
+      own = λ file named own. let P : ℕ → Type 0 = (λ j. file.number ≤ (stores j).files) in
+          subst P own named;
+      held = k.held s;
+      named = k.named;
+      bare = k.bare;
     }
 
-    module _ (done : Effect) (takes : List Take) where
+    -- ---- what the server that acted leaves
+
+    module _ (b : Store) (takes : List Take) (server : b.names.server ≡ (stores s).names.server)
+        (last : (stores s).names.last ≤ b.names.last) (files : (stores s).files ≤ b.files) where
       abbrev behind : ℕ → Store
-      behind = after stores s done.store
+      behind = after stores s b
 
-      later_last : (stores s).names.last ≤ done.store.names.last → (t : ℕ)
-          → (stores t).names.last ≤ (behind t).names.last
-      later_last up =
-          by_server (λ t b ts. (stores t).names.last ≤ b.names.last) stores took s done.store takes
-          up (λ t other. omega arith)
+      later_server : (t : ℕ) → (behind t).names.server ≡ t
+      later_server =
+          by_server (λ t c ts. c.names.server ≡ t) stores took s b takes (server ∙ k.server s)
+          (λ t other. k.server t)
 
-      later_files : (stores s).files ≤ done.store.files → (t : ℕ)
-          → (stores t).files ≤ (behind t).files
-      later_files up =
-          by_server (λ t b ts. (stores t).files ≤ b.files) stores took s done.store takes
-          up (λ t other. omega arith)
+      later_last : (t : ℕ) → (stores t).names.last ≤ (behind t).names.last
+      later_last =
+          by_server (λ t c ts. (stores t).names.last ≤ c.names.last) stores took s b takes last
+          (λ t other. omega arith)
 
-      later_whole : IsWhole n s done.store → (t : ℕ) → IsWhole n t (behind t)
-      later_whole whole =
-          by_server (λ t b ts. IsWhole n t b) stores took s done.store takes whole
-          (λ t other. k.whole t)
+      later_files : (t : ℕ) → (stores t).files ≤ (behind t).files
+      later_files =
+          by_server (λ t c ts. (stores t).files ≤ c.files) stores took s b takes files
+          (λ t other. omega arith)
 
-      later_dated : (stores s).names.last ≤ done.store.names.last → AreDated behind us
-      later_dated up u l =
-          let old = k.dated u l in let rise = later_last up u.stamp.server in omega arith
+      later_dated : AreDated behind us
+      later_dated u l =
+          let old = k.dated u l in let rise = later_last u.made.stamp.server in omega arith
 
-      later_named : (stores s).files ≤ done.store.files → AreNamed behind us
-      later_named up u l =
-          let old = k.named u l in let rise = later_files up u.file.server in omega arith
+      later_named : (file : FileId) → N file → IsNamed behind file
+      later_named file old = let rise = later_files file.server in omega arith
 
+      at_server : (P : Store → Type 0) (j : ℕ) → j ≡ s → P b → P (behind j)
+      at_server P j own h =
+          by_server (λ t c ts. t ≡ s → P c) stores took s b takes (λ e. h)
+          (λ t other e. absurd (other e)) j own
+
+      -- and what it gave out
+      named_now : (file : FileId) → IsNamedBy s b N file → IsNamed behind file
+      named_now file (inl old) = later_named file old
+      named_now file (inr own) = at_server (λ c. file.number ≤ c.files) file.server own.0 own.1
+
+      later_held : ((f : FileId) (c : Core) → core_at b f ≡ Some c → IsNamedBy s b N f)
+          → (t : ℕ) (f : FileId) (c : Core) → core_at (behind t) f ≡ Some c → IsNamed behind f
+      later_held held =
+          by_server (λ t store ts. (f : FileId) (c : Core) → core_at store f ≡ Some c
+          → IsNamed behind f) stores took s b takes
+          (λ f c e. named_now f (held f c e))
+          (λ t other f c e. later_named f (k.held t f c e))
+
+    later_order : (b : Store) (takes : List Take) → IsOrdered b.replicas → (t : ℕ)
+        → IsOrdered (after stores s b t).replicas
+    later_order b takes order =
+        by_server (λ t c ts. IsOrdered c.replicas) stores took s b takes order
+        (λ t other. k.order t)
+
+    module _ (done : Effect) (takes : List Take) where
       -- AN EVENT AT WHICH NO VERSION IS MADE
-      pub passive_sound : IsPassive n s (stores s) us p done takes → (rest : List Sent)
-          → AllCarry us p rest
-          → Sound n behind us p (after took s takes) (rest ++ done.out.sent)
-      passive_sound act rest carried = record {
-        whole = later_whole act.whole;
-        made = k.made;
-        stands =
-            by_server (λ t b ts. Stands t b us p (came_of ts)) stores took s done.store takes
-            act.stands (λ t other. k.stands t);
-        dated = later_dated act.last;
-        named = later_named act.files;
-        carried = All-append (CarriesSent us p) rest done.out.sent carried act.sent;
-      }
+      pub passive_sound : IsPassive s (stores s) us p N done takes
+          → Sound (after stores s done.store) us p (after took s takes) (done.out.sent ++ mail)
+      passive_sound act =
+          let b = done.store in
+          let M = IsNamed (after stores s b) in
+          let more = later_named b takes act.server act.last act.files in
+          record {
+            server = later_server b takes act.server act.last act.files;
+            order = later_order b takes (act.order (k.order s));
+            made = k.made;
+            stands =
+                by_server (λ t c ts. Stands t c us p (came_of ts)) stores took s b takes act.stands
+                (λ t other. k.stands t);
+            dated = later_dated b takes act.server act.last act.files;
+            named = λ u l. more u.made.file (k.named u l);
+            held = later_held b takes act.server act.last act.files act.held;
+            bare = λ file none. k.bare file (λ old. none (more file old));
+            carried = All-append (CarriesSent us p M) done.out.sent mail
+                (all_carry_other us p p N M k.named (λ f h. refl) more done.out.sent act.sent)
+                (all_carry_other us p p N M k.named (λ f h. refl) more mail k.carried);
+          }
 
-      module _ (q : FileId → Policy) (act : IsMaking n s (stores s) us p q done takes) where
-        abbrev u : MadeVersion
+      module _ (q : FileId → Policy) (act : IsMaking s (stores s) us p q N done takes) where
+        abbrev u : Born
         u = act.version
 
-        abbrev pub more : List MadeVersion
-        more = u ∷ us
+        abbrev pub more_made : List Born
+        more_made = u ∷ us
 
-        made_well : AreMade more
+        made_well : AreMade more_made
         made_well = one_more_made u us k.made act.next
 
-        history : IsHistory (made_of u ∷ made_for u.file us)
+        history : IsHistory (made_of u ∷ made_for u.made.file us)
         history = last_history u us k.made act.next
 
-        other_stands : (t : ℕ) → t ≢ s → Stands t (stores t) more q (came_of (took t))
+        other_stands : (t : ℕ) → t ≢ s → Stands t (stores t) more_made q (came_of (took t))
         other_stands t other =
-            stands_later (stands_policy (k.stands t) q act.same) u history
-            (λ e. other (sym e ∙ act.server))
+            stands_later (stands_policy (k.stands t) q (λ f c e. act.same f (k.held t f c e))) u
+            history (λ e. other (sym e ∙ act.maker))
 
-        at_server : (P : Store → Type 0) (j : ℕ) → j ≡ s → P done.store → P (behind j)
-        at_server P j own h =
-            by_server (λ t b ts. t ≡ s → P b) stores took s done.store takes (λ e. h)
-            (λ t other e. absurd (other e)) j own
+        abbrev b : Store
+        b = done.store
 
-        dated_then : AreDated behind more
+        abbrev M : FileId → Type 0
+        M = IsNamed (after stores s b)
+
+        dated_then : AreDated (after stores s b) more_made
         dated_then v l = elim l [
           | inl itself ↦
-              let P : MadeVersion → Type 0 =
-              (λ x. x.stamp.time ≤ (behind x.stamp.server).names.last) in
+              let P : Born → Type 0 =
+              (λ x. x.made.stamp.time ≤ (after stores s b x.made.stamp.server).names.last) in
               subst P (sym itself)
-              (at_server (λ b. u.stamp.time ≤ b.names.last) u.stamp.server act.server act.dated)
-          | inr old ↦ later_dated act.last v old
+              (at_server b takes act.server act.last act.files
+              (λ c. u.made.stamp.time ≤ c.names.last) u.made.stamp.server act.maker act.dated)
+          | inr old ↦ later_dated b takes act.server act.last act.files v old
         ]
 
-        named_now : u.file.number ≤ (behind u.file.server).files
-        named_now = elim act.named [
-          | inl own ↦ at_server (λ b. u.file.number ≤ b.files) u.file.server own.0 own.1
-          | inr old ↦
-              let P : FileId → Type 0 = (λ f. f.number ≤ (behind f.server).files) in
-              subst P old.2 (later_named act.files old.0 old.1)
-        ]
+        more_named : (file : FileId) → N file → M file
+        more_named = later_named b takes act.server act.last act.files
 
-        named_then : AreNamed behind more
+        named_then : (v : Born) → Among v more_made → M v.made.file
         named_then v l = elim l [
-          | inl itself ↦
-              let P : MadeVersion → Type 0 = (λ x. x.file.number ≤ (behind x.file.server).files) in
-              subst P (sym itself) named_now
-          | inr old ↦ later_named act.files v old
+          | inl itself ↦ subst (λ (x : Born). M x.made.file) (sym itself)
+              (named_now b takes act.server act.last act.files u.made.file act.named)
+          | inr old ↦ more_named v.made.file (k.named v old)
         ]
+
+        bare_then : (file : FileId) → (M file → ⊥) → q file ≡ Last
+        bare_then file none = elim (act.rest file) [
+          | inl new ↦
+              absurd (none (named_now b takes act.server act.last act.files file new))
+          | inr same ↦ same ∙ k.bare file (λ old. none (more_named file old))
+        ]
+
+        sent_then : AllCarry more_made q M done.out.sent
+        sent_then =
+            all_carry_names more_made q N M more_named done.out.sent act.sent
 
         -- AN EVENT AT WHICH ONE IS MADE
-        pub making_sound : (rest : List Sent) → AllCarry us p rest
-            → Sound n behind more q (after took s takes) (rest ++ done.out.sent)
-        making_sound rest carried = record {
-          whole = later_whole act.whole;
+        pub making_sound
+            : Sound (after stores s b) more_made q (after took s takes) (done.out.sent ++ mail)
+        making_sound = record {
+          server = later_server b takes act.server act.last act.files;
+          order = later_order b takes (act.order (k.order s));
           made = made_well;
           stands =
-              by_server (λ t b ts. Stands t b more q (came_of ts)) stores took s done.store takes
+              by_server (λ t c ts. Stands t c more_made q (came_of ts)) stores took s b takes
               act.stands other_stands;
           dated = dated_then;
           named = named_then;
-          carried =
-              All-append (CarriesSent more q) rest done.out.sent
-              (all_carry_more u us q rest made_well.histories
-              (all_carry_policy us p q rest act.same carried)) act.sent;
+          held = later_held b takes act.server act.last act.files act.held;
+          bare = bare_then;
+          carried = All-append (CarriesSent more_made q M) done.out.sent mail sent_then
+              (all_carry_more u us q M made_well.histories mail
+              (all_carry_other us p q N M k.named act.same more_named mail k.carried));
         }

@@ -4,4 +4,4 @@
 
 mod laws;
 
-pub use laws::{contents_are_states, runs_make_histories, states_are_heads};
+pub use laws::{clocks_end_first, contents_are_states, runs_make_histories, states_are_heads};

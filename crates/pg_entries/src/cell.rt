@@ -3,7 +3,7 @@
 ghost use Rattle.std.specs.Prelude.{◌≡◌, IfOk};
 
 use crate::entry::Entry;
-use pg_base::{Policy, Shared, Version};
+use pg_base::{Shared, Version};
 use pg_register::{Flag, Place};
 use std::alloc::AllocError;
 
@@ -15,8 +15,8 @@ pub enum Cell {
     /// An entry of a directory, and whether its sender is sure of it, and does not owe to have it
     /// confirmed.
     Entry(Shared<Entry>, bool),
-    /// A version of a file, and the file's policy.
-    Version(Version, Policy),
+    /// A version of a file.
+    Version(Version),
 }
 
 impl Cell {
@@ -28,7 +28,7 @@ impl Cell {
             Cell::Place(place) => Cell::Place(place.copy()?),
             Cell::Flag(flag) => Cell::Flag(flag.copy()?),
             Cell::Entry(entry, sure) => Cell::Entry(entry.copy()?, *sure),
-            Cell::Version(version, policy) => Cell::Version(version.copy()?, *policy),
+            Cell::Version(version) => Cell::Version(version.copy()?),
         })
     }
 }

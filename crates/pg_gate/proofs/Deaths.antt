@@ -1,103 +1,218 @@
 -- Which event gives a directory a dead place: a message that brings it, or a call at its maker.
-use Rattle.std.proofs.Common.{◌≡◌, Bool, true, false, [], Option, Some, refl, sym, ap, subst, ◌∙◌}
+use Rattle.std.proofs.Common.{ℕ, ◌≡◌, ◌≤◌, not, Bool, true, false, [], Option, None, Some, refl, sym, ap, subst, ◌∙◌, inl, inr, ◌⊎◌, arith}
+use Rattle.std.proofs.lemmas.Bool.{and_parts, false≢true}
 use Rattle.pg_base.specs.declared.id.FileId.{FileId}
-use Rattle.pg_base.specs.declared.policy.Policy.{Policy}
+use Rattle.pg_base.specs.declared.stamp.Stamp.{Stamp}
 use Rattle.pg_base.specs.Id.{is_same_file}
 use Rattle.pg_base.specs.Stamp.{is_before}
-use Rattle.pg_base.specs.Version.{VersionValue}
 use Rattle.pg_base.proofs.Orders.{is_same_file-true}
-use Rattle.pg_edges.specs.declared.key.Key.TheVariants as key
-use Rattle.pg_entries.specs.declared.cell.Cell.{Cell}
-use Rattle.pg_entries.specs.declared.cell.Cell.TheVariants as cell
-use Rattle.pg_entries.specs.declared.entry.Entry.{Entry}
-use Rattle.pg_names.specs.declared.own.Own.{Own}
-use Rattle.pg_names.specs.Names.{NamesValue, hold, join_entry, join_flag, join_place, or_blank, own_at, own_or_blank, raise, with_flag, with_joined, with_place}
-use Rattle.pg_names.proofs.Holding.{hold_held, hold_removed}
-use Rattle.pg_names.proofs.Lookups.{flag_other, flag_same, joined_own, own_with_flag, own_with_place, place_other, place_same, update_frame}
 use Rattle.pg_register.specs.declared.flag.Flag.{Flag}
 use Rattle.pg_register.specs.declared.place.Place.{Place}
-use Rattle.pg_replica.specs.Replica.{covers, with_head}
+use Rattle.pg_register.specs.Flag.{is_removed}
+use Rattle.pg_register.specs.Place.{blank_place}
+use Rattle.pg_entries.specs.declared.cell.Cell.TheVariants as cell
+use Rattle.pg_msg.specs.declared.message.Message.TheVariants as message
+use Rattle.pg_msg.specs.declared.message.Packet.{Packet}
+use Rattle.pg_msg.specs.declared.update.Update.{Update}
+use Rattle.pg_msg.specs.declared.work.Work.{Work}
+use Rattle.pg_msg.specs.Work.{new_work}
+use Rattle.pg_names.specs.declared.own.Own.{Own}
+use Rattle.pg_names.specs.Names.{HeldValue, NamesValue, begin, blank_own, filled, is_dir, join_flag, join_place, known, or_blank, own_at, own_of, with_flag, with_joined, with_place}
+use Rattle.pg_names.proofs.Holding.{begun_other, begun_same, fill_own}
+use Rattle.pg_names.proofs.Lookups.{flag_other, flag_same, joined_own, known_absent, own_with_flag, own_with_place, place_other, place_same, update_frame}
+use Rattle.pg_house.specs.House.{house}
+use Rattle.pg_house.specs.Passing.{is_held_back, own_taken}
+use Rattle.pg_house.specs.Work.{state_of}
+use Rattle.pg_house.proofs.Truths.{both_true, not_false}
 use Rattle.pg_store.specs.declared.store.Store.{Store}
-use Rattle.pg_store.specs.Store.{begin_file, has_no_head, holding_both, is_newer_entry, is_newer_flag, is_newer_place, replica_of, take_entry, take_flag, take_place, take_version, touch, with_names, with_news, with_policy}
-use Rattle.pg_cells.specs.Cells.{taken}
+use Rattle.pg_store.specs.Births.{draw_birth, with_birth}
+use Rattle.pg_store.specs.Store.{take_place}
+use Rattle.pg_cells.specs.Making.{own_next}
+use Rattle.pg_call.specs.declared.call.Call.{Call}
+use Rattle.pg_calls.specs.Naming.{begun, next_id, place_in, with_id}
+use Rattle.pg_server.specs.declared.input.Input.{Input}
+use Rattle.pg_server.specs.declared.input.Input.TheVariants as input
+use Rattle.pg_server.specs.Local.{effect, first_effect}
 use Rattle.pg_promises.proofs.Choices.{chosen}
-use Rattle.pg_promises.proofs.Growth.{hold_same}
+use Rattle.pg_filled.proofs.Calling.{CallsKeep, call_kept}
+use Rattle.pg_filled.proofs.Coming.{MayCome, receive_kept}
+use Rattle.pg_filled.proofs.Effects.{arrival_kept, effect_kept}
+use Rattle.pg_filled.proofs.HousePlaces.{IsUp, StaysSo, house_stays}
+use Rattle.pg_filled.proofs.Pieces.{AreKept, begin_kept, flag_kept, place_kept}
+use Rattle.pg_gate.specs.Gate.{Brings, IsMindful, place_at}
 
--- ---- the place of one thing, behind each piece of an event
+-- a dead place is the one that the directory had, or its maker is this server, or the message brings it
+abbrev pub IsCaused : Store → Input → FileId → Place → Type 0
+IsCaused a (input.Call moment c) d p = (p ≡ place_at a.names d) ⊎ (p.stamp.server ≡ a.names.server)
+IsCaused a (input.Tick moment word) d p = p ≡ place_at a.names d
+IsCaused a (input.Arrival packet) d p = (p ≡ place_at a.names d) ⊎ Brings d p packet.message
+IsCaused a input.Restart d p = p ≡ place_at a.names d
 
-module _ (d : FileId) (Q : Place → Type 0) where
-  -- no server is removed, and its place has this
-  pub record Has (a : Store) : Type 0 where
-    pub removed : a.names.removed ≡ []
-    pub place : Q (own_or_blank a.names d).place
+-- what a server hears is mindful
+abbrev pub HearsMindful : Input → Type 0
+HearsMindful (input.Call moment c) = Unit {0}
+HearsMindful (input.Tick moment word) = Unit {0}
+HearsMindful (input.Arrival packet) = IsMindful packet.message
+HearsMindful input.Restart = Unit {0}
+
+-- ---- one directory, and one of its dead places: where it has that, something holds
+
+module _ (dir : FileId) (is : is_dir dir ≡ true) (removal : Place) (dead : removal.live ≡ false) (late : 1 ≤ removal.stamp.time) (Cause : Type 0) where
+  -- no server is removed, and the place is caused
+  abbrev pub At : NamesValue → Type 0
+  At s = (s.removed ≡ []) × (place_at s dir ≡ removal → Cause)
+
+  abbrev If : Place → Type 0
+  If p = p ≡ removal → Cause
 
   abbrev OfOwn : Option Own → Type 0
-  OfOwn o = Q (or_blank d o).place
+  OfOwn o = If (or_blank dir o).place
 
-  held_place : (s : NamesValue) (f : FileId) → Q (own_or_blank s d).place → Q (own_or_blank (hold s f) d).place
-  held_place s f k = subst (λ (o : Own). Q o.place) (sym ((hold_same s f).own d)) k
+  abbrev pub MayPlace : FileId → Place → Type 0
+  MayPlace f p = f ≡ dir → If p
 
-  joined_place : (s : NamesValue) (f : FileId) (place : Place) → (f ≡ d → Q place) → Q (own_or_blank s d).place → (b : Own) → own_at s f ≡ Some b → Q (own_or_blank (join_place s f place) d).place
-  joined_place s f place here k b held = at (is_same_file f d) refl
-    where
-      at : (t : Bool) → is_same_file f d ≡ t → Q (own_or_blank (join_place s f place) d).place
-      at false e = subst OfOwn (sym (place_other s f place d e)) k
-      at true e =
-          let one : f ≡ d = is_same_file-true f d e in
-          let now : own_at (join_place s f place) d ≡ Some (own_with_place place b) = ap (own_at (join_place s f place)) (sym one) ∙ place_same s f place b held in
-          let old : Q b.place = subst OfOwn (ap (own_at s) (sym one) ∙ held) k in
-          subst OfOwn (sym now) (chosen Q (is_before b.place.stamp place.stamp) place b.place (here one) old)
+  abbrev pub MayBegin : FileId → Own → Bool → Type 0
+  MayBegin f own full = f ≡ dir → If own.place
 
-  flagged_place : (s : NamesValue) (f : FileId) (flag : Flag) → Q (own_or_blank s d).place → (b : Own) → own_at s f ≡ Some b → Q (own_or_blank (join_flag s f flag) d).place
-  flagged_place s f flag k b held = at (is_same_file f d) refl
-    where
-      at : (t : Bool) → is_same_file f d ≡ t → Q (own_or_blank (join_flag s f flag) d).place
-      at false e = subst OfOwn (sym (flag_other s f flag d e)) k
-      at true e =
-          let one : f ≡ d = is_same_file-true f d e in
-          let now : own_at (join_flag s f flag) d ≡ Some (own_with_flag flag b) = ap (own_at (join_flag s f flag)) (sym one) ∙ flag_same s f flag b held in
-          subst OfOwn (sym now) (subst OfOwn (ap (own_at s) (sym one) ∙ held) k)
+  abbrev pub MayFill : FileId → Type 0
+  MayFill f = Unit {0}
 
-  held_has : (a : Store) (f : FileId) → Has a → Has (with_names a (hold a.names f))
-  held_has a f k = record { removed = hold_removed a.names f ∙ k.removed; place = held_place a.names f k.place }
+  pub live_not : (p : Place) → p.live ≡ true → If p
+  live_not p live same = absurd (false≢true (sym dead ∙ ap (λ (q : Place). q.live) (sym same) ∙ live))
 
-  pub place_has : (a : Store) (f : FileId) (place : Place) → (f ≡ d → Q place) → Has a → Has (take_place a f place)
-  place_has a f place here k =
-      let held = hold a.names f in
-      let own = hold_held a.names f in
-      let more = held_has a f k in
-      let names = raise (join_place held f place) place.stamp.time in
-      chosen Has (is_newer_place a f place) (touch (with_names a names) f key.Place) (with_names a held)
-      (record { removed = (update_frame held f (with_place place)).removed ∙ more.removed; place = joined_place held f place here more.place own.0 own.1 }) more
+  pub blank_not : (f : FileId) → If (blank_place f)
+  blank_not f same = absurd (let e : 0 ≡ removal.stamp.time = ap (λ (q : Place). q.stamp.time) same in omega (arith, e, late))
 
-  pub flag_has : (a : Store) (f : FileId) (flag : Flag) → Has a → Has (take_flag a f flag)
-  flag_has a f flag k =
-      let held = hold a.names f in
-      let own = hold_held a.names f in
-      let more = held_has a f k in
-      chosen Has (is_newer_flag a f flag) (touch (with_names a (join_flag held f flag)) f (key.Flag flag.server)) (with_names a held)
-      (record { removed = (update_frame held f (with_flag flag)).removed ∙ more.removed; place = flagged_place held f flag more.place own.0 own.1 }) more
+  placed_by : (s : NamesValue) (f : FileId) (p : Place) (o : Option Own) → own_at s f ≡ o → MayPlace f p → If (place_at s dir) → (t : Bool) → is_same_file f dir ≡ t → If (place_at (join_place s f p) dir)
+  placed_by s f p None none may h t e = subst (λ (x : NamesValue). If (place_at x dir)) (sym (known_absent s f (with_place p) none)) h
+  placed_by s f p (Some b) held may h false e = subst OfOwn (sym (place_other s f p dir e)) h
+  placed_by s f p (Some b) held may h true e =
+      let one : f ≡ dir = is_same_file-true f dir e in
+      let now : own_at (join_place s f p) dir ≡ Some (own_with_place p b) = ap (own_at (join_place s f p)) (sym one) ∙ place_same s f p b held in
+      let old : If b.place = subst OfOwn (ap (own_at s) (sym one) ∙ held) h in
+      subst OfOwn (sym now) (chosen If (is_before b.place.stamp p.stamp) p b.place (may one) old)
 
-  entry_has : (a : Store) (q : FileId) (e : Entry) → Has a → Has (take_entry a q e)
-  entry_has a q e k =
-      let both = holding_both a.names q e.child in
-      let more = held_has (with_names a (hold a.names q)) e.child (held_has a q k) in
-      let names = raise (join_entry both q e) e.place.stamp.time in
-      chosen Has (is_newer_entry a q e) (touch (with_names a names) q (key.Entry e.child)) (with_names a both)
-      (record { removed = (update_frame both q (with_joined e)).removed ∙ more.removed; place = subst OfOwn (sym (joined_own both q e d)) more.place }) more
+  flagged_by : (s : NamesValue) (f : FileId) (g : Flag) (o : Option Own) → own_at s f ≡ o → If (place_at s dir) → (t : Bool) → is_same_file f dir ≡ t → If (place_at (join_flag s f g) dir)
+  flagged_by s f g None none h t e = subst (λ (x : NamesValue). If (place_at x dir)) (sym (known_absent s f (with_flag g) none)) h
+  flagged_by s f g (Some b) held h false e = subst OfOwn (sym (flag_other s f g dir e)) h
+  flagged_by s f g (Some b) held h true e =
+      let one : f ≡ dir = is_same_file-true f dir e in
+      let now : own_at (join_flag s f g) dir ≡ Some (own_with_flag g b) = ap (own_at (join_flag s f g)) (sym one) ∙ flag_same s f g b held in
+      subst OfOwn (sym now) (subst OfOwn (ap (own_at s) (sym one) ∙ held) h)
 
-  version_has : (a : Store) (f : FileId) (policy : Policy) (v : VersionValue) → Has a → Has (take_version a f policy v)
-  version_has a f policy v k =
-      let held = with_names a (hold a.names f) in
-      let more = held_has a f k in
-      let ready = with_policy held f policy in
-      let begins : Has ready = chosen Has (has_no_head (replica_of held f)) (begin_file held f policy) held (record { removed = more.removed; place = more.place }) more in
-      let x = replica_of ready f in
-      chosen Has (covers x v) ready (with_news ready f (with_head x v ready.tags) v.head.stamp) begins (record { removed = begins.removed; place = begins.place })
+  begun_by : (s : NamesValue) (f : FileId) (own : Own) (full t : Bool) → is_same_file dir f ≡ t → MayBegin f own full → If (place_at s dir) → If (place_at (begin s f own full) dir)
+  begun_by s f own full false e may h = subst (λ (o : Option HeldValue). OfOwn (own_of o)) (sym (begun_other s f own full dir e)) h
+  begun_by s f own full true e may h =
+      let one : dir ≡ f = is_same_file-true dir f e in
+      subst (λ (o : Option HeldValue). OfOwn (own_of o)) (sym (ap (known (begin s f own full)) one ∙ begun_same s f own full)) (may (sym one))
 
-  -- A CELL IS TAKEN
-  pub taken_has : (a : Store) (f : FileId) (c : Cell) → ((place : Place) → c ≡ cell.Place place → f ≡ d → Q place) → Has a → Has (taken a f c)
-  taken_has a f (cell.Place place) here k = place_has a f place (here place refl) k
-  taken_has a f (cell.Flag flag) here k = flag_has a f flag k
-  taken_has a f (cell.Entry e sure) here k = entry_has a f e k
-  taken_has a f (cell.Version v policy) here k = version_has a f policy v k
+  pub dead_kept : AreKept At MayPlace MayBegin MayFill
+  dead_kept = record {
+    place = λ s f p may h. ((update_frame s f (with_place p)).removed ∙ h.0, placed_by s f p (own_at s f) refl may h.1 (is_same_file f dir) refl);
+    flag = λ s f g h. ((update_frame s f (with_flag g)).removed ∙ h.0, flagged_by s f g (own_at s f) refl h.1 (is_same_file f dir) refl);
+    entry = λ s d e h. ((update_frame s d (with_joined e)).removed ∙ h.0, subst OfOwn (sym (joined_own s d e dir)) h.1);
+    raised = λ s time h. h;
+    begun = λ s f own full may h. (h.0, begun_by s f own full (is_same_file dir f) refl may h.1);
+    filled = λ s f may h. ((update_frame s f filled).removed ∙ h.0, subst OfOwn (sym (fill_own s f dir)) h.1);
+  }
+
+  -- ---- the house rules
+
+  taken_by : (own top : Own) (t : Bool) → is_held_back [] dir own top ≡ t → IsUp own.place top.place → If own.place → If (own_taken own top t).place
+  taken_by own top true back up h = h
+  taken_by own top false back (inl same) h = λ e. h (sym same ∙ e)
+  taken_by own top false back (inr later) h = λ e.
+      let gone : top.place.live ≡ false = ap (λ (p : Place). p.live) e ∙ dead in
+      absurd (false≢true (sym back ∙ both_true (is_dir dir) _ is
+      (both_true (not top.place.live) _ (not_false top.place.live gone)
+      (both_true (is_before own.place.stamp top.place.stamp) _ later (not_false (is_removed [] top.place.stamp.server) refl)))))
+
+  pub dead_so : StaysSo dir [] If (λ (u : Update). Unit {0})
+  dead_so = record {
+    taken = λ own top up h. taken_by own top (is_held_back [] dir own top) refl up h;
+    live = λ p live some. live_not p live;
+    made = λ f p live. tt;
+  }
+
+  pub house_dead : (moment : ℕ) (s : NamesValue) (work : Work) → At s → At (house moment (state_of s work)).names
+  house_dead moment s work h =
+      let k = house_stays dir [] If (λ (u : Update). Unit {0}) dead_so moment (state_of s work) (record { removed = h.0; place = h.1; made = λ i d lt. tt }) in
+      (k.removed, k.place)
+
+-- ---- an event
+
+module _ (dir : FileId) (is : is_dir dir ≡ true) (removal : Place) (dead : removal.live ≡ false) (late : 1 ≤ removal.stamp.time) (a : Store) (none : a.names.removed ≡ []) where
+  abbrev pub Caused : Input → NamesValue → Type 0
+  Caused asked s = At dir is removal dead late (IsCaused a asked dir removal) s
+
+  -- ---- a call
+
+  module _ (moment : ℕ) (c : Call) where
+    abbrev Cause : Type 0
+    Cause = IsCaused a (input.Call moment c) dir removal
+
+    abbrev Places : FileId → Place → Type 0
+    Places = MayPlace dir is removal dead late Cause
+
+    abbrev Begins : FileId → Own → Bool → Type 0
+    Begins = MayBegin dir is removal dead late Cause
+
+    abbrev Fills : FileId → Type 0
+    Fills = MayFill dir is removal dead late Cause
+
+    abbrev Kept : AreKept (Caused (input.Call moment c)) Places Begins Fills
+    Kept = dead_kept dir is removal dead late Cause
+
+    pub calls_dead : CallsKeep (Caused (input.Call moment c)) a (new_work moment 0)
+    calls_dead = record {
+      thing = λ kind policy new h.
+          (let id = next_id a kind in
+          let b = begun (with_id a) id policy in
+          let p = place_in (with_id a) moment new in
+          let d = take_place b id p in
+          flag_kept (Caused (input.Call moment c)) Places Begins Fills Kept d id (own_next d id true)
+          (place_kept (Caused (input.Call moment c)) Places Begins Fills Kept b id p (λ same. live_not dir is removal dead late Cause p refl)
+          (begin_kept (Caused (input.Call moment c)) Places Begins Fills Kept (with_birth (with_id a)) id (draw_birth (with_id a)) policy (blank_own id) true (λ same. blank_not dir is removal dead late Cause id) h)));
+      place = λ f p now h.
+          place_kept (Caused (input.Call moment c)) Places Begins Fills Kept a f p
+          (λ same e. inr (ap (λ (x : Stamp). x.server) (ap (λ (q : Place). q.stamp) (sym e) ∙ now))) h;
+      raised = λ s time h. h;
+    }
+
+  start_at : (asked : Input) → (place_at a.names dir ≡ removal → IsCaused a asked dir removal) → Caused asked a.names
+  start_at asked h = (none, h)
+
+  -- ---- a message
+
+  comes_dead : (packet : Packet) → IsMindful packet.message
+      → MayCome (MayPlace dir is removal dead late (IsCaused a (input.Arrival packet) dir removal)) (MayBegin dir is removal dead late (IsCaused a (input.Arrival packet) dir removal))
+      (MayFill dir is removal dead late (IsCaused a (input.Arrival packet) dir removal)) a packet.from packet.message
+  comes_dead packet mindful =
+      let Cause : Type 0 = IsCaused a (input.Arrival packet) dir removal in record {
+        cell = λ ends tag p same here e. inr (record { ends = ends; tag = tag; is = same ∙ ap (λ (q : Place). message.Cell ends tag (cell.Place q)) e; here = here });
+        confirm = λ d e same here. live_not dir is removal dead late Cause e.place (and_parts e.place.live (is_same_file e.place.parent d) (mindful.confirm d e same)).0;
+        grant = λ ends g same here. elim (mindful.grant ends g same (ap is_dir here ∙ is)) [
+          | inl live ↦ live_not dir is removal dead late (IsCaused a (input.Arrival packet) dir removal) g.place live
+          | inr blank ↦ λ e. blank_not dir is removal dead late (IsCaused a (input.Arrival packet) dir removal) ends.file (sym blank ∙ e)
+        ];
+        full = λ ends same. tt;
+      }
+
+  -- ---- the first effect, and the event
+
+  pub first_dead : (asked : Input) → HearsMindful asked → Caused asked (first_effect a asked).store.names
+  first_dead (input.Call moment c) hears =
+      call_kept (Caused (input.Call moment c)) a (new_work moment 0) (calls_dead moment c) (start_at (input.Call moment c) (λ e. inl (sym e))) c
+  first_dead (input.Tick moment word) hears = start_at (input.Tick moment word) (λ e. sym e)
+  first_dead (input.Arrival packet) hears =
+      let asked = input.Arrival packet in
+      let Cause : Type 0 = IsCaused a asked dir removal in
+      let begins = start_at asked (λ e. inl (sym e)) in
+      arrival_kept (Caused asked) a packet begins
+      (receive_kept (Caused asked) (MayPlace dir is removal dead late Cause) (MayBegin dir is removal dead late Cause) (MayFill dir is removal dead late Cause)
+      (dead_kept dir is removal dead late Cause) a begins packet.message (new_work 0 packet.from) (comes_dead packet hears))
+  first_dead input.Restart hears = start_at input.Restart (λ e. sym e)
+
+  pub effect_dead : (asked : Input) → HearsMindful asked → Caused asked (effect a asked).store.names
+  effect_dead asked hears =
+      effect_kept (Caused asked) a asked (λ moment s work h. house_dead dir is removal dead late (IsCaused a asked dir removal) moment s work h) (first_dead asked hears)

@@ -1,5 +1,5 @@
 -- The house rules make places of directories alone.
-use Rattle.std.proofs.Common.{[], ℕ, drop, length, ◌≡◌, ◌++◌, ◌&&◌, true, List, ◌∷◌, Option, None, Some, All, refl, sym, ap, subst, ◌∙◌, inl, inr}
+use Rattle.std.proofs.Common.{[], ℕ, drop, length, ◌≡◌, ◌++◌, true, List, ◌∷◌, Option, None, Some, All, refl, sym, ap, subst, ◌∙◌, inl, inr}
 use Rattle.std.specs.Map.{keys_of}
 use Rattle.std.proofs.Math.Seq.{drop-append_seam}
 use Rattle.std.proofs.lemmas.List.{append-nil, append_assoc}
@@ -8,18 +8,15 @@ use Rattle.std.proofs.lemmas.Option.{none-some}
 use Rattle.pg_base.specs.declared.id.FileId.{FileId}
 use Rattle.pg_register.specs.declared.place.Place.{Place}
 use Rattle.pg_register.specs.Place.{root, tilde_name}
+use Rattle.pg_edges.specs.declared.key.Key.TheVariants as key
+use Rattle.pg_call.specs.declared.reply.Reply.{Reply}
 use Rattle.pg_msg.specs.declared.update.Update.{Update}
 use Rattle.pg_msg.specs.declared.update.Update.TheVariants as update
-use Rattle.pg_msg.specs.Numbers.{is_in_range}
-use Rattle.pg_msg.specs.Sent.{cell_key}
-use Rattle.pg_msg.specs.Work.{new_work}
-use Rattle.pg_call.specs.declared.refusal.Refusal.TheVariants.{ClockEnd}
-use Rattle.pg_call.specs.declared.reply.Reply.{Reply}
-use Rattle.pg_call.specs.declared.reply.Reply.TheVariants as reply
+use Rattle.pg_msg.specs.Work.{with_made, with_touched}
 use Rattle.pg_names.specs.Names.{directories, is_dir}
 use Rattle.pg_house.specs.Cycles.{break_first, first_moving, moved}
 use Rattle.pg_house.specs.Facts.{is_among}
-use Rattle.pg_house.specs.House.{house, movable, with_parents}
+use Rattle.pg_house.specs.House.{house, movable}
 use Rattle.pg_house.specs.Passing.{pass, pass_all}
 use Rattle.pg_house.specs.Placing.{drawn, live_place, made_at, place_at, placed}
 use Rattle.pg_house.specs.Returning.{first_returning, is_returning, return_first, returned}
@@ -28,20 +25,14 @@ use Rattle.pg_house.proofs.AllClimb.{IsDeep, member_deep, moving_member}
 use Rattle.pg_house.proofs.Counting.{find_found, kept_dir}
 use Rattle.pg_house.proofs.NoCycles.{inner_parts, some_dirs}
 use Rattle.pg_house.proofs.Repeating.{repeated_keeps}
-use Rattle.pg_house.proofs.Made.{pass_made}
+use Rattle.pg_house.proofs.Made.{left_made, pass_made}
 use Rattle.pg_store.specs.declared.store.Store.{Store}
-use Rattle.pg_store.specs.Store.{is_in_time}
-use Rattle.pg_cells.specs.Cells.{is_news, with_answer}
-use Rattle.pg_cells.specs.Done.{Done, idle}
-use Rattle.pg_cells.specs.Ticks.{tick}
-use Rattle.pg_cells.proofs.News.{news_made}
-use Rattle.pg_calls.specs.Calls.{do_call}
+use Rattle.pg_cells.specs.Done.{Done}
+use Rattle.pg_repair.proofs.Steady.{begin_end_stays}
 use Rattle.pg_server.specs.declared.input.Input.{Input}
-use Rattle.pg_server.specs.declared.input.Input.TheVariants as input
-use Rattle.pg_server.specs.Local.{Effect, closed, finished, receive}
+use Rattle.pg_server.specs.Local.{Effect, closed, finished, first_effect, reply_to, settled, takes_effect}
 use Rattle.pg_promises.proofs.Choices.{chosen}
 use Rattle.pg_run.specs.Run.{first_made, made_behind}
-use Rattle.pg_order.proofs.Received.{received}
 
 -- where an update is a place, it is one of a directory
 abbrev pub IsOfDir : Update → Type 0
@@ -70,7 +61,7 @@ module _ (base : List Update) where
       let u = update.Place f new in
       pass_makes (made_at st f new) ds f (record {
         news = k.news ++ u ∷ [];
-        is = ap (λ us. us ++ u ∷ []) k.is ∙ append_assoc base k.news (u ∷ []);
+        is = left_made (with_touched (with_made st.work u) f key.Place) f (place_at st.names f) ∙ ap (λ us. us ++ u ∷ []) k.is ∙ append_assoc base k.news (u ∷ []);
         dirs = All-append IsOfDir k.news (u ∷ []) k.dirs (All-cons IsOfDir u [] (λ g p same. ap is_dir (sym (same_file_of f g new p same)) ∙ dir) (All-nil IsOfDir));
       })
 
@@ -92,45 +83,34 @@ module _ (base : List Update) where
 
   house_makes : (moment : ℕ) (st : State) → st.work.made ≡ base → Makes base (house moment st)
   house_makes moment st is =
-      let full = state_of (with_parents st.names) st.work in
-      let ds = directories full.names in
-      let dirs = kept_dir is_dir (keys_of full.names.held) in
-      let begins : Makes base full = record { news = []; is = is ∙ sym (append-nil base); dirs = All-nil IsOfDir } in
+      let ds = directories st.names in
+      let dirs = kept_dir is_dir (keys_of st.names.held) in
+      let begins : Makes base st = record { news = []; is = is ∙ sym (append-nil base); dirs = All-nil IsOfDir } in
       repeated_keeps (Makes base) (break_first moment ds) (λ t q. moved_makes ds dirs moment t (first_moving t.names (length ds) None ds) refl q) (length ds) _
-      (repeated_keeps (Makes base) (return_first moment ds) (λ t q. returned_makes ds dirs moment t (first_returning t.names ds) refl q) (length ds) _ (all_make full ds (movable full.names) begins))
+      (repeated_keeps (Makes base) (return_first moment ds) (λ t q. returned_makes ds dirs moment t (first_returning t.names ds) refl q) (length ds) _ (all_make st ds (movable st.names) begins))
 
 -- ---- in an event
 
-module _ (a : Store) where
-  abbrev DirsBehind : Input → Effect → Type 0
-  DirsBehind asked done = All IsOfDir (drop (length (first_made a asked)) done.out.made)
+module _ (a : Store) (asked : Input) where
+  abbrev Base : List Update
+  Base = first_made a asked
 
-  closed_dirs : (asked : Input) (answer : Option Reply) (d : Done) → d.work.made ≡ first_made a asked → DirsBehind asked (closed answer d)
-  closed_dirs asked answer d is =
-      let m = house_makes (first_made a asked) d.work.now (state_of d.store.names d.work) is in
-      subst (All IsOfDir) (sym (ap (drop (length (first_made a asked))) m.is ∙ drop-append_seam (first_made a asked) m.news)) m.dirs
+  abbrev DirsBehind : Effect → Type 0
+  DirsBehind done = All IsOfDir (drop (length Base) done.out.made)
 
-  finished_dirs : (asked : Input) (answer : Option Reply) (d : Done) → d.work.made ≡ first_made a asked → DirsBehind asked (finished answer d)
-  finished_dirs asked answer d is =
-      let base = first_made a asked in
-      let none : drop (length base) d.work.made ≡ [] = ap (drop (length base)) (is ∙ sym (append-nil base)) ∙ drop-append_seam base [] in
+  closed_dirs : (answer : Option Reply) (d : Done) → d.work.made ≡ Base → DirsBehind (closed answer d)
+  closed_dirs answer d is =
+      let m = house_makes Base d.work.now (state_of d.store.names d.work) is in
+      subst (All IsOfDir) (sym (ap (drop (length Base)) ((begin_end_stays (settled d).store (settled d).work).made ∙ m.is) ∙ drop-append_seam Base m.news)) m.dirs
+
+  finished_dirs : (answer : Option Reply) (d : Done) → d.work.made ≡ Base → DirsBehind (finished answer d)
+  finished_dirs answer d is =
+      let none : drop (length Base) d.work.made ≡ [] = ap (drop (length Base)) (is ∙ sym (append-nil Base)) ∙ drop-append_seam Base [] in
       subst (All IsOfDir) (sym none) (All-nil IsOfDir)
 
   -- WHAT THE HOUSE RULES MADE in an event
-  pub made_dirs : (asked : Input) → All IsOfDir (made_behind a asked)
-  made_dirs (input.Call moment c) =
-      let asked = input.Call moment c in
-      let b = do_call a c (new_work moment 0) in
-      chosen (DirsBehind asked) (is_in_time a) (closed (Some b.reply) (idle b.store b.work)) (finished (Some b.reply) (idle b.store b.work))
-      (closed_dirs asked (Some b.reply) (idle b.store b.work) refl) (finished_dirs asked (Some b.reply) (idle b.store b.work) refl)
-  made_dirs (input.Tick moment word) =
-      let asked = input.Tick moment word in
-      let work = tick a (new_work moment 0) in
-      chosen (DirsBehind asked) (is_in_time a) (closed (Some reply.Done) (idle a work)) (finished (Some (reply.Refused ClockEnd)) (idle a (new_work moment 0)))
-      (closed_dirs asked (Some reply.Done) (idle a work) refl) (finished_dirs asked (Some (reply.Refused ClockEnd)) (idle a (new_work moment 0)) refl)
-  made_dirs (input.Arrival packet) =
-      let asked = input.Arrival packet in
-      let work = new_work 0 packet.from in
-      let d = receive a packet.message work in
-      let none = received a work (λ (x : Done). x.work.made ≡ []) packet.message (λ ends tag c is fit. news_made (is_news a ends.file c) (with_answer a ends tag c work) ends.file (cell_key c)) (λ ends q tag. refl) refl in
-      chosen (DirsBehind asked) (is_in_time a && is_in_range packet.message) (closed None d) (finished None (idle a work)) (closed_dirs asked None d none) (finished_dirs asked None (idle a work) refl)
+  pub made_dirs : All IsOfDir (made_behind a asked)
+  made_dirs =
+      let d = first_effect a asked in
+      let r = reply_to a asked in
+      chosen DirsBehind (takes_effect a asked) (closed r d) (finished r d) (closed_dirs r d refl) (finished_dirs r d refl)

@@ -1,5 +1,5 @@
 -- Justified return, of what servers took.
-use Rattle.std.proofs.Common.{[], ℕ, ◌≡◌, ◌++◌, ◌&&◌, Bool, true, false, cond, List, ◌∷◌, take, Contains, Option, None, Some, refl, sym, ap, subst, ◌∙◌, inl, inr, ◌⊎◌}
+use Rattle.std.proofs.Common.{[], ℕ, ◌≡◌, ◌≤◌, ◌++◌, ◌&&◌, Bool, true, false, cond, List, ◌∷◌, take, Contains, Option, None, Some, refl, sym, ap, subst, ◌∙◌, inl, inr, ◌⊎◌}
 use Rattle.std.specs.List.{flat_map}
 use Rattle.std.proofs.lemmas.Bool.{false≢true}
 use Rattle.std.proofs.lemmas.Grind.{flat_map-append}
@@ -12,37 +12,35 @@ use Rattle.pg_content.specs.Content.{Among}
 use Rattle.pg_entries.specs.declared.entry.Entry.{Entry}
 use Rattle.pg_msg.specs.declared.update.Update.{Update}
 use Rattle.pg_msg.specs.declared.update.Update.TheVariants as update
-use Rattle.pg_names.specs.Names.{cell_at, is_dir}
+use Rattle.pg_names.specs.Names.{cell_at, directories, is_dir}
 use Rattle.pg_register.specs.declared.place.Place.{Place}
 use Rattle.pg_register.specs.Place.{newer_place}
+use Rattle.pg_house.specs.House.{movable}
 use Rattle.pg_house.specs.Work.{state_of}
 use Rattle.pg_house.proofs.Truths.{both_true, or_left, or_right}
 use Rattle.pg_store.specs.declared.store.Store.{Store}
 use Rattle.pg_server.specs.declared.input.Input.{Input}
-use Rattle.pg_server.specs.declared.input.Input.TheVariants as input
+use Rattle.pg_server.specs.Local.{first_effect}
+use Rattle.pg_filled.proofs.HousePlaces.{midst_stays}
 use Rattle.pg_promises.specs.Names.{IsEntryKnownBy}
 use Rattle.pg_promises.specs.UpTo.{IsPlaceUpTo}
 use Rattle.pg_promises.proofs.Flags.{newer_of_both}
 use Rattle.pg_run.specs.Laws.{NamesMerge, ReturnsAreJustified, took_behind}
-use Rattle.pg_run.specs.Passed.{has_cell, has_taken, parent_of, passed, passed_with, passes, with_parents}
+use Rattle.pg_run.specs.Passed.{has_cell, has_taken, passed, passed_with, passes}
 use Rattle.pg_run.specs.Run.{brought, made_behind, run}
 use Rattle.pg_run.specs.State.{entry_state}
 use Rattle.pg_run.specs.Took.{Take, Taker, first_place, flags_in, held, is_same_taker, latest_place, place_in, place_taken_by, places_taken, take_of}
 use Rattle.pg_run.specs.Took.Take.{Began, TookFlag, TookPlace, TookVersion}
 use Rattle.pg_run.specs.Took.Taker.{InDir}
 use Rattle.pg_run.proofs.Bags.{found}
+use Rattle.pg_run.proofs.Frame.{acts_is}
 use Rattle.pg_run.proofs.Lists.{among_contained, among_parts, contained_among}
 use Rattle.pg_gate.specs.Gate.{EdgesAreKept, KnowsChildren, Removes, place_at}
-use Rattle.pg_gate.specs.Returns.{OwnPlacesAreTaken, TakesHaveOwnStamps, first_done, midst}
-use Rattle.pg_gate.proofs.Begun.{begins, gated_behind, removed_are_empty}
-use Rattle.pg_gate.proofs.Causes.{IsCaused, first_call, first_message}
-use Rattle.pg_gate.proofs.Deaths.{Has}
-use Rattle.pg_gate.proofs.Gated.{first_known}
-use Rattle.pg_gate.proofs.HouseDeaths.{Stays, midst_stays}
+use Rattle.pg_gate.specs.Returns.{OwnPlacesAreTaken, TakesHaveOwnStamps, midst}
+use Rattle.pg_gate.proofs.Begun.{begins, gated_behind, is_late, removed_are_empty, stands_all}
+use Rattle.pg_gate.proofs.Deaths.{HearsMindful, IsCaused, dead_so, first_dead}
+use Rattle.pg_gate.proofs.Gated.{first_known, hears}
 use Rattle.pg_gate.proofs.HouseDirs.{IsOfDir, made_dirs}
-use Rattle.pg_gate.proofs.Returned.{reached}
-use Rattle.pg_order.proofs.Settled.{settled_run}
-use Rattle.pg_gate.proofs.Wholes.{plain_run}
 
 -- ---- the latest of some places
 
@@ -92,8 +90,7 @@ grown_further : (a b c : List Take) → IsGrown a b → IsGrown b c → IsGrown 
 grown_further a b c h k by thing = UpTo-trans (place_in by thing a).stamp (place_in by thing b).stamp (place_in by thing c).stamp (h by thing) (k by thing)
 
 passed_grown : (removed : List ℕ) (takes : List Take) → IsGrown takes (passed removed takes)
-passed_grown removed takes = grown_further takes (with_parents removed takes) (passed removed takes) (grown_front (flat_map (parent_of removed takes) (held takes)) takes)
-    (grown_front (flat_map (passes removed (with_parents removed takes)) (held (with_parents removed takes))) (with_parents removed takes))
+passed_grown removed takes = grown_front (flat_map (passes removed takes) (held takes)) takes
 
 passed_with_grown : (removed : List ℕ) (takes : List Take) (us : List Update) → IsGrown takes (passed_with removed takes us)
 passed_with_grown removed takes [] = λ by thing. UpTo-refl (place_in by thing takes).stamp
@@ -141,27 +138,17 @@ state_some dir child takes has = ap (λ t. cond t (Some (state_of_cell dir child
 
 -- ---- in the midst of an event
 
-first_has : (a : Store) (asked : Input) (d : FileId) → is_dir d ≡ true → a.names.removed ≡ [] → Has d (IsCaused a asked d) (first_done a asked).store
-first_has a (input.Call moment c) d dir none = (first_call a d dir moment c none).store
-first_has a (input.Tick moment word) d dir none = record { removed = none; place = refl }
-first_has a (input.Arrival packet) d dir none = (first_message a d dir packet none).store
-
-abbrev Anything : FileId → Place → Type 0
-Anything f p = Unit {0}
-
 -- a dead place that a directory has then was there behind the first effect
-midst_caused : (a : Store) (asked : Input) (d : FileId) → is_dir d ≡ true → a.names.removed ≡ [] → (removal : Place) → removal.live ≡ false → (returns breaks : ℕ)
-    → place_at (midst (first_done a asked) returns breaks).names d ≡ removal → IsCaused a asked d removal
-midst_caused a asked d dir none removal dead returns breaks at =
-    let x = first_done a asked in
-    let has = first_has a asked d dir none in
-    let was = place_at x.store.names d in
-    let s : Stays d dir was Anything (midst x returns breaks) =
-    midst_stays d dir was Anything (state_of x.store.names x.work) x.work.now returns breaks (record { removed = has.removed; place = inl refl; made = λ i e lt f p same gone. tt }) in
-    elim s.place [
-      | inl same ↦ subst (IsCaused a asked d) (sym same ∙ at) has.place
-      | inr live ↦ absurd (false≢true (sym dead ∙ ap (λ (p : Place). p.live) (sym at) ∙ live))
-    ]
+midst_caused : (a : Store) (asked : Input) (dir : FileId) (is : is_dir dir ≡ true) → a.names.removed ≡ [] → (removal : Place) (dead : removal.live ≡ false) (late : 1 ≤ removal.stamp.time) → HearsMindful asked → (returns breaks : ℕ)
+    → place_at (midst (first_effect a asked) returns breaks).names dir ≡ removal → IsCaused a asked dir removal
+midst_caused a asked dir is none removal dead late hears returns breaks at =
+    let x = first_effect a asked in
+    let Cause : Type 0 = IsCaused a asked dir removal in
+    let h = first_dead dir is removal dead late a none asked hears in
+    let st = state_of x.store.names x.work in
+    let k = midst_stays dir [] (λ (p : Place). p ≡ removal → Cause) (λ (u : Update). Unit {0}) (dead_so dir is removal dead late Cause) x.work.now returns breaks (directories st.names) (movable st.names) st
+    (record { removed = h.0; place = h.1; made = λ i e lt. tt }) in
+    k.place at
 
 -- ---- what an entry that is known tells
 
@@ -176,19 +163,21 @@ justified n edges merge stamps owns before removing between last s m asked dir c
     let w = run n events in
     let a = w.stores s in
     let took = w.took s in
-    let plain = plain_run n events in
-    let reach = reached n w s asked last takes in
+    let k = stands_all n edges events in
+    let reach = acts_is n w last (record { server = s; asked = asked }) takes in
     let directory : is_dir dir ≡ true = found IsOfDir (made_behind a asked) r.k (update.Place dir r.place) (made_dirs a asked) r.made dir r.place refl in
     let removes : Removes n before removing dir removal = record { directory = directory; dead = r.dead; made = made } in
+    let late = is_late n edges before removing dir removal removes in
+    let hear = hears n dir directory removal r.dead late w k last s asked reach.least reach.most takes reach.came in
     let own = owns events last s asked takes r.k (update.Place dir r.place) r.made in
-    let caused : IsCaused a asked dir removal = midst_caused a asked dir directory (plain.removed s) removal r.dead own.0 own.1 (own.2 dir ∙ r.was) in
+    let caused : IsCaused a asked dir removal = midst_caused a asked dir directory (k.mindful.removed s) removal r.dead late hear own.0 own.1 (own.2 dir ∙ r.was) in
     let begun = begins n edges before removing dir removal removes in
     let maker_is = removal.stamp.server in
     let old = (run n before).stores maker_is in
     let old_took = (run n before).took maker_is in
     let gated = gated_behind n edges before removing dir removal removes between in
     let knows : KnowsChildren dir old.names a.names =
-    first_known n dir directory removal r.dead old.names w (settled_run n events) plain (edges events) gated s asked reach.least reach.most reach.asks caused in
+    first_known n dir directory removal r.dead late old.names w k gated s asked reach.least reach.most reach.came caused in
     let ps = places_taken (InDir dir) child old_took in
     let among : Among listed ps = contained_among ps listed (subst (λ (i : ℕ). Contains (places_taken (InDir dir) child ((run n before).took i)) listed) (sym maker) knew) in
     let e = state_of_cell dir child old_took in

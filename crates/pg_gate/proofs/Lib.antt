@@ -1,10 +1,8 @@
-pub mod HouseDeaths
 pub mod Deaths
-pub mod Causes
-pub mod Gating
-pub mod Wholes
 pub mod Lasting
-pub mod Sends
+pub mod Letters
+pub mod MadeDeaths
+pub mod Gating
 pub mod Gated
 pub mod Begun
 pub mod Returned

@@ -1,37 +1,57 @@
 -- The gate: a server that knows the removal of a directory knows all that its remover knew of its
 -- children. Statements and invariants.
-use Rattle.std.specs.Prelude.{ℕ, ◌≡◌, ◌≢◌, ◌<◌, ◌≤◌, ◌++◌, ◌∷◌, true, false, All, Contains, List, Some}
+use Rattle.std.specs.Prelude.{ℕ, ◌≡◌, ◌≢◌, ◌<◌, ◌≤◌, ◌⊎◌, ◌++◌, ◌∷◌, true, false, All, Contains, List, Some}
 use Rattle.pg_base.specs.declared.id.FileId.{FileId}
-use Rattle.pg_flood.specs.Protocol.{KeepsEdges}
 use Rattle.pg_register.specs.declared.place.Place.{Place}
+use Rattle.pg_register.specs.Place.{blank_place}
 use Rattle.pg_entries.specs.declared.cell.Cell.TheVariants as cell
 use Rattle.pg_entries.specs.declared.entry.Entry.{Entry}
 use Rattle.pg_entries.specs.Entry.{is_listed}
 use Rattle.pg_event.specs.declared.event.Event.{Event}
 use Rattle.pg_msg.specs.declared.message.Ends.{Ends}
+use Rattle.pg_msg.specs.declared.message.Granted.{Granted}
 use Rattle.pg_msg.specs.declared.message.Message.{Message}
 use Rattle.pg_msg.specs.declared.message.Message.TheVariants as message
 use Rattle.pg_msg.specs.declared.update.Update.TheVariants as update
 use Rattle.pg_names.specs.Names.{NamesValue, cell_at, is_dir, own_or_blank}
-use Rattle.pg_msg.specs.Work.{new_work}
-use Rattle.pg_calls.specs.Calls.{do_call}
-use Rattle.pg_store.specs.declared.store.Store.{Store}
 use Rattle.pg_server.specs.declared.input.Input.{Input}
-use Rattle.pg_server.specs.declared.input.Input.TheVariants as input
-use Rattle.pg_server.specs.Local.{receive}
+use Rattle.pg_server.specs.Local.{first_effect}
 use Rattle.pg_promises.specs.Names.{AreNamesUpTo, IsEntryKnownBy}
-use Rattle.pg_promises.specs.Seen.{cells}
 use Rattle.pg_promises.specs.UpTo.{IsPlaceUpTo}
-use Rattle.pg_run.specs.Journal.{bag}
+use Rattle.pg_promises.specs.Whole.{IsWhole}
+use Rattle.pg_run.specs.Acknowledged.{AcknowledgedKeysAreHad}
+use Rattle.pg_run.specs.Grown.{EventsGrow}
+use Rattle.pg_run.specs.Intending.{IntentionsAreInOrder}
+use Rattle.pg_run.specs.Journal.{mail}
 use Rattle.pg_run.specs.Laws.{AtEach, TakesIn, names_after}
 use Rattle.pg_run.specs.Run.{World, next, run}
 
 -- ---- what it stands on
 
--- in every world that a run reaches the edges keep what they promise
-abbrev pub EdgesAreKept : ℕ → Type 0
-EdgesAreKept servers = (events : List Event)
-    → KeepsEdges cells (run servers events).stores (bag (run servers events).journal)
+-- peers have what they acknowledged, servers lose nothing that they hold, each server is as it
+-- should be, and Confirms stand only where the child is listed
+pub record EdgesAreKept (servers : ℕ) : Type 0 where
+  pub acknowledged : AcknowledgedKeysAreHad servers
+  pub grow : EventsGrow servers
+  pub whole : (events : List Event) (s : ℕ) → IsWhole servers s ((run servers events).stores s)
+  pub intentions : IntentionsAreInOrder servers
+
+-- ---- messages
+
+-- what messages say of directories that are dead
+-- grant: a directory is granted with a live place, or with the blank one: its removal comes as a
+--   cell, behind its entries
+-- confirm: only a place that the directory lists is to be confirmed
+pub record IsMindful (m : Message) : Type 0 where
+  pub grant : (ends : Ends) (granted : Granted) → m ≡ message.Grant ends granted
+      → is_dir ends.file ≡ true
+      → (granted.place.live ≡ true) ⊎ (granted.place ≡ blank_place ends.file)
+  pub confirm : (dir : FileId) (e : Entry) → m ≡ message.Confirm dir e → is_listed dir e ≡ true
+
+-- so are all messages that are ever sent
+abbrev pub MessagesAreMindful : ℕ → Type 0
+MessagesAreMindful servers = (events : List Event)
+    → All (λ m. IsMindful m.packet.message) (mail (run servers events).journal)
 
 -- ---- what is said
 
@@ -70,13 +90,6 @@ RemovedAreEmpty servers = (before : List Event) (removing : Event) (dir : FileId
 
 -- ---- return
 
--- what a server holds behind the first effect of an input, where the house rules begin
-abbrev pub first_store : Store → Input → Store
-first_store store (input.Call moment call) = (do_call store call (new_work moment 0)).store
-first_store store (input.Tick moment word) = store
-first_store store (input.Arrival packet) =
-    (receive store packet.message (new_work 0 packet.from)).store
-
 -- JUSTIFIED RETURN: where the house rules find a directory removed, each child that it lists, in
 -- whatever its entries have grown to by then, has another place than the remover knew, and no
 -- earlier one
@@ -85,8 +98,9 @@ ReturnsFindNewPlaces servers = (before : List Event) (removing : Event) (between
     (last : Event) (dir : FileId) (removal : Place) → Removes servers before removing dir removal
     → let w = run servers (before ++ removing ∷ between) in
     (s : ℕ) (asked : Input) → TakesIn servers w last s asked
-    → place_at (first_store (w.stores s) asked).names dir ≡ removal
-    → (found : NamesValue) → AreNamesUpTo (first_store (w.stores s) asked).names found
+    → place_at (first_effect (w.stores s) asked).store.names dir ≡ removal
+    → (found : NamesValue)
+    → AreNamesUpTo (first_effect (w.stores s) asked).store.names found
     → (child : FileId) (e c : Entry)
     → cell_at (names_after servers before removal.stamp.server) dir child ≡ Some e
     → cell_at found dir child ≡ Some c → is_listed dir c ≡ true
@@ -109,12 +123,12 @@ pub record IsGated (servers : ℕ) (known : NamesValue) (dir : FileId) (removal 
   pub there : AtEach servers (λ s. place_at (w.stores s).names dir ≡ removal
       → KnowsChildren dir known (w.stores s).names)
   pub brought : All (λ m. Brings dir removal m.packet.message → 1 ≤ m.to → m.to ≤ servers
-      → KnowsChildren dir known (w.stores m.to).names) (bag w.journal)
+      → KnowsChildren dir known (w.stores m.to).names) (mail w.journal)
 
--- no server knows this place of the directory, and no message brings it
+-- no server knows this place of the directory, and no message ever brought it
 pub record IsUnknown (servers : ℕ) (dir : FileId) (place : Place) (w : World) : Type 0 where
   pub there : AtEach servers (λ s. place_at (w.stores s).names dir ≢ place)
-  pub brought : All (λ m. ¬ (Brings dir place m.packet.message)) (bag w.journal)
+  pub brought : All (λ m. ¬ (Brings dir place m.packet.message)) (mail w.journal)
 
 -- and so it is until its maker has come to its time
 abbrev pub IsUnknownAtFirst : ℕ → FileId → Place → World → Type 0

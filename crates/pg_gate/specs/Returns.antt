@@ -4,21 +4,16 @@ use Rattle.pg_base.specs.declared.id.FileId.{FileId}
 use Rattle.pg_register.specs.declared.place.Place.{Place}
 use Rattle.pg_event.specs.declared.event.Event.{Event}
 use Rattle.pg_msg.specs.declared.update.Update.{Update}
-use Rattle.pg_msg.specs.Work.{new_work}
 use Rattle.pg_names.specs.Names.{directories}
 use Rattle.pg_house.specs.Cycles.{break_first}
-use Rattle.pg_house.specs.House.{movable, with_parents}
+use Rattle.pg_house.specs.House.{movable}
 use Rattle.pg_house.specs.Passing.{pass_all}
 use Rattle.pg_house.specs.Placing.{repeated}
 use Rattle.pg_house.specs.Returning.{return_first}
 use Rattle.pg_house.specs.Work.{State, state_of}
-use Rattle.pg_store.specs.declared.store.Store.{Store}
-use Rattle.pg_cells.specs.Done.{Done, idle}
-use Rattle.pg_cells.specs.Ticks.{tick}
-use Rattle.pg_calls.specs.Calls.{do_call}
+use Rattle.pg_cells.specs.Done.{Done}
 use Rattle.pg_server.specs.declared.input.Input.{Input}
-use Rattle.pg_server.specs.declared.input.Input.TheVariants as input
-use Rattle.pg_server.specs.Local.{receive}
+use Rattle.pg_server.specs.Local.{first_effect}
 use Rattle.pg_run.specs.Laws.{AtEach, TakesIn, took_behind}
 use Rattle.pg_run.specs.Run.{made_behind, run}
 use Rattle.pg_run.specs.Took.{Take, Taker, first_place, own_place, places_taken}
@@ -38,15 +33,6 @@ TakesHaveOwnStamps servers = (events : List Event) → AtEach servers (λ s.
 
 -- ---- in the midst of an event
 
--- what the first effect of an input leaves to the house rules
-abbrev pub first_done : Store → Input → Done
-first_done store (input.Call moment call) =
-    idle (do_call store call (new_work moment 0)).store
-    (do_call store call (new_work moment 0)).work
-first_done store (input.Tick moment word) = idle store (tick store (new_work moment 0))
-first_done store (input.Arrival packet) =
-    receive store packet.message (new_work 0 packet.from)
-
 -- behind passing, so many returns, and then so many cycles broken
 abbrev pub midst_of : State → ℕ → ℕ → ℕ → State
 midst_of st moment returns breaks =
@@ -56,7 +42,7 @@ midst_of st moment returns breaks =
 
 abbrev pub midst : Done → ℕ → ℕ → State
 midst done returns breaks =
-    midst_of (state_of (with_parents done.store.names) done.work) done.work.now returns breaks
+    midst_of (state_of done.store.names done.work) done.work.now returns breaks
 
 -- where the house rules make an update, the own places are then those that what was taken by then
 -- comes to
@@ -65,5 +51,5 @@ OwnPlacesAreTaken servers = (events : List Event) (last : Event) (s : ℕ) (aske
     → let w = run servers events in TakesIn servers w last s asked
     → (k : ℕ) (u : Update) → slice_get (made_behind (w.stores s) asked) k ≡ Some u
     → (returns : ℕ) × (breaks : ℕ) × ((file : FileId)
-    → place_at (midst (first_done (w.stores s) asked) returns breaks).names file
+    → place_at (midst (first_effect (w.stores s) asked) returns breaks).names file
     ≡ own_place file (took_behind (w.stores s) (w.took s) asked k))

@@ -2,15 +2,17 @@
 //! nothing.
 
 ghost use Rattle.std.specs.Prelude.{ℕ};
-ghost use Rattle.pg_gate.specs.Gate.{EdgesAreKept, GateStands, RemovedAreEmpty, ReturnsFindNewPlaces};
+ghost use Rattle.pg_gate.specs.Gate.{EdgesAreKept, GateStands, MessagesAreMindful, RemovedAreEmpty, ReturnsFindNewPlaces};
 ghost use Rattle.pg_gate.specs.Returns.{OwnPlacesAreTaken, TakesHaveOwnStamps};
 ghost use Rattle.pg_run.specs.Laws.{NamesMerge, ReturnsAreJustified};
 
-/// Where the edges of a run keep what they promise: the remover of a directory listed no child of it;
-/// its removal comes to a server only with all that the remover knew of the children; and so, where a
-/// directory comes back, each child that it lists has a place that the remover did not know. The last
-/// says it of what servers took, where that is what they know, in the midst of events too.
+/// Where the edges of a run keep what they promise: no message grants a directory with a dead place, but the blank one, or
+/// asks to confirm what is not listed; the remover of a directory listed no child of it; its removal comes to a server only
+/// with all that the remover knew of the children; and so, where a directory comes back, each child that it lists has a
+/// place that the remover did not know. The last says it of what servers took, where that is what they know, in the midst
+/// of events too.
 pub fn returns_are_justified()
+    ensures messages { (servers : ℕ) → EdgesAreKept servers → MessagesAreMindful servers }
     ensures empty { (servers : ℕ) → EdgesAreKept servers → RemovedAreEmpty servers }
     ensures gate { (servers : ℕ) → EdgesAreKept servers → GateStands servers }
     ensures places { (servers : ℕ) → EdgesAreKept servers → ReturnsFindNewPlaces servers }

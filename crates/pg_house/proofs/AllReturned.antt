@@ -41,6 +41,11 @@ returning_by s d (Some x) h r =
     let own : own_at s d ≡ Some x.own = ap own_of h in
     record { held = (x.own, own); dead_one = ap (is_dead_own d) own ∙ (and_true (is_dead d x.own.place) _ r).0 }
 
+-- it is not the root
+pub not_root : (d : FileId) (o : Option Own) → is_dead_own d o ≡ true → is_root d ≡ false
+not_root d None h = absurd (false≢true h)
+not_root d (Some c) h = not_true (is_root d) (and_true _ _ h).0
+
 -- ---- a live place is not dead
 
 live_not_dead : (d : FileId) (p : Place) → p.live ≡ true → (t : Bool) → is_dead d p ≡ t → t ≡ false

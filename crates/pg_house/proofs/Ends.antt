@@ -15,7 +15,7 @@ use Rattle.pg_house.specs.Passing.{pass_all}
 use Rattle.pg_house.specs.Placing.{place_at, repeated}
 use Rattle.pg_house.specs.Returning.{first_returning, is_root, return_first, returned}
 use Rattle.pg_house.specs.Cycles.{break_first, first_moving, moved}
-use Rattle.pg_house.specs.House.{movable, rules}
+use Rattle.pg_house.specs.House.{house, movable}
 use Rattle.pg_house.specs.Facts.{IsLast, IsOfDirs, IsPassed, AreByServer, NoCycle, NoDeadLists, OwnParent, Passing, HasPassed, is_among}
 use Rattle.pg_house.proofs.Truths.{or_left, or_right, not_false}
 use Rattle.pg_house.proofs.Counting.{among_kept, kept_dir}
@@ -95,41 +95,41 @@ module _ (moment : ℕ) (st : State) (of_dirs : IsOfDirs st.names) (sorted : Are
     two_all = let two = all_returned moment Ds One (one_settled, one_last) in (two.0.0, two.0.1, no_dead_lists Ds Two.names two.0.0 two.1)
 
     -- no dead directory lists a child, no live ones stand in a cycle, and no stamp is later than the greatest time
-    pub end_all : KeepsAll moment Ds (rules moment st)
+    pub end_all : KeepsAll moment Ds (house moment st)
     end_all = (all_broken moment Ds Two two_all).0
 
-    pub no_dead_directory_lists : NoDeadLists (rules moment st).names
+    pub no_dead_directory_lists : NoDeadLists (house moment st).names
     no_dead_directory_lists = end_all.2
 
-    pub no_cycle : NoCycle (rules moment st).names
-    no_cycle = let three = all_broken moment Ds Two two_all in no_cycles Ds (rules moment st).names three.0.0 three.1
+    pub no_cycle : NoCycle (house moment st).names
+    no_cycle = let three = all_broken moment Ds Two two_all in no_cycles Ds (house moment st).names three.0.0 three.1
 
     -- and no directory is to move
-    pub none_moves_at : first_moving (rules moment st).names (length Ds) None Ds ≡ None
+    pub none_moves_at : first_moving (house moment st).names (length Ds) None Ds ≡ None
     none_moves_at = (all_broken moment Ds Two two_all).1
 
-    pub is_last : IsLast (rules moment st).names
+    pub is_last : IsLast (house moment st).names
     is_last = end_all.1
 
   -- every file has passed
-  end_settled : Settled Ds (rules moment st).names
+  end_settled : Settled Ds (house moment st).names
   end_settled =
       repeated_keeps (λ (t : State). Settled Ds t.names) (break_first moment Ds) (λ t k. moved_settled moment Ds t (first_moving t.names (length Ds) None Ds) k) (length Ds) _
       (repeated_keeps (λ (t : State). Settled Ds t.names) (return_first moment Ds) (λ t k. returned_settled moment Ds t (first_returning t.names Ds) k) (length Ds) One one_settled)
 
-  pub same_dirs : directories (rules moment st).names ≡ Ds
+  pub same_dirs : directories (house moment st).names ≡ Ds
   same_dirs = ap (filter is_dir) (rules_keys moment st)
 
-  pub passing : Passing (rules moment st).names
-  passing f own h apart = subst (λ ds. IsPassed (rules moment st).names ds f own) (sym same_dirs) (end_settled.passed f apart own h).0
+  pub passing : Passing (house moment st).names
+  passing f own h apart = subst (λ ds. IsPassed (house moment st).names ds f own) (sym same_dirs) (end_settled.passed f apart own h).0
 
-  pub own_parent : OwnParent (rules moment st).names
+  pub own_parent : OwnParent (house moment st).names
   own_parent f own h apart = (end_settled.passed f apart own h).1
 
   -- and only directories have entries
-  pub is_of_dirs : IsOfDirs (rules moment st).names
+  pub is_of_dirs : IsOfDirs (house moment st).names
   is_of_dirs q g c h = kept_dir is_dir (keys_of st.names.held) q (end_settled.dirs.cells q g c h)
 
   -- and the flags are by server
-  pub by_server : AreByServer (rules moment st).names
+  pub by_server : AreByServer (house moment st).names
   by_server q b h = end_settled.dirs.sorted q b h

@@ -11,6 +11,7 @@ use Rattle.pg_names.specs.Names.{HeldValue, NamesValue, own_of, own_at, cell_at,
 use Rattle.pg_names.proofs.Alike.{own_of_parts}
 use Rattle.pg_base.specs.Stamp.{is_before}
 use Rattle.pg_register.specs.declared.flag.Flag.{Flag}
+use Rattle.pg_register.specs.declared.place.Place.{Place}
 use Rattle.pg_register.specs.Flag.{IsByServer, flag_of, join_flags}
 use Rattle.pg_register.specs.Place.{newer_place}
 use Rattle.pg_register.proofs.ByServer.{IsByServer-join_flags}
@@ -95,3 +96,12 @@ with_flag top (Some c) server g e = flags_stay top.flags c.flags server g e
 pub greatest_flag : (s : NamesValue) (f : FileId) (top : Own) (ds : List FileId) (server : ℕ) (g : Flag) → flag_of top.flags server ≡ Some g → (h : Flag) × (flag_of (greatest s f top ds).flags server ≡ Some h)
 greatest_flag s f top [] server g e = (g, e)
 greatest_flag s f top (d ∷ ds) server g e = let next = with_flag top (cell_at s d f) server g e in greatest_flag s f (joined_with top (cell_at s d f)) ds server next.0 next.1
+
+-- its place is the first one, or that of a cell
+with_place : (P : Place → Type 0) (top : Own) (o : Option Entry) → P top.place → ((c : Entry) → o ≡ Some c → P c.place) → P (joined_with top o).place
+with_place P top None first all = first
+with_place P top (Some c) first all = chosen P (is_before top.place.stamp c.place.stamp) c.place top.place (all c refl) first
+
+pub greatest_place : (P : Place → Type 0) (s : NamesValue) (f : FileId) → ((d : FileId) (c : Entry) → cell_at s d f ≡ Some c → P c.place) → (top : Own) (ds : List FileId) → P top.place → P (greatest s f top ds).place
+greatest_place P s f all top [] first = first
+greatest_place P s f all top (d ∷ ds) first = greatest_place P s f all (joined_with top (cell_at s d f)) ds (with_place P top (cell_at s d f) first (all d))

@@ -10,7 +10,7 @@ use Rattle.pg_house.specs.Passing.{greatest, is_held_back, pass, pass_own, pass_
 use Rattle.pg_house.specs.Placing.{drawn, live_place, made_at, own_with, placed}
 use Rattle.pg_house.specs.Returning.{return_first, returned, first_returning}
 use Rattle.pg_house.specs.Cycles.{break_first, moved, first_moving}
-use Rattle.pg_house.specs.House.{movable, rules}
+use Rattle.pg_house.specs.House.{house, movable}
 use Rattle.pg_house.proofs.AfterPassing.{after_frame}
 use Rattle.pg_house.proofs.Repeating.{repeated_keeps}
 
@@ -39,7 +39,7 @@ moved_keys : (moment : ℕ) (ds : List FileId) (st : State) (o : Option FileId) 
 moved_keys moment ds st None = refl
 moved_keys moment ds st (Some d) = placed_keys moment ds st d _ _
 
-pub rules_keys : (moment : ℕ) (st : State) → keys_of (rules moment st).names.held ≡ keys_of st.names.held
+pub rules_keys : (moment : ℕ) (st : State) → keys_of (house moment st).names.held ≡ keys_of st.names.held
 rules_keys moment st =
     let ds = directories st.names in
     repeated_keeps (λ (t : State). keys t ≡ keys st) (break_first moment ds) (λ t h. moved_keys moment ds t (first_moving t.names (length ds) None ds) ∙ h) (length ds) _

@@ -3,10 +3,8 @@ use Rattle.std.proofs.Common.{◌≡◌, ℕ, Bool, true, false, ◌&&◌, ◌||
 use Rattle.std.specs.List.{filter}
 use Rattle.std.specs.Map.{keys_of}
 use Rattle.std.proofs.lemmas.Bool.{false≢true, or_parts}
-use Rattle.std.proofs.lemmas.Option.{none-some, same_Some}
+use Rattle.std.proofs.lemmas.Option.{none-some}
 use Rattle.pg_base.specs.declared.id.FileId.{FileId}
-use Rattle.pg_base.specs.Id.{is_same_file}
-use Rattle.pg_base.proofs.Orders.{is_same_file-refl}
 use Rattle.pg_register.specs.declared.flag.Flag.{Flag}
 use Rattle.pg_register.specs.declared.place.Place.{Place}
 use Rattle.pg_register.specs.Flag.{IsByServer, join_flags}
@@ -15,24 +13,20 @@ use Rattle.pg_names.specs.Names.{HeldValue, NamesValue, cell_at, directories, en
 use Rattle.pg_names.specs.Same.{is_same_flags}
 use Rattle.pg_names.proofs.Alike.{flags-refl, flags-true}
 use Rattle.pg_house.specs.Work.{State}
-use Rattle.pg_house.specs.Passing.{cell_for, greatest, is_cell, is_held_back, is_update, own_taken, pass_all}
+use Rattle.pg_house.specs.Passing.{cell_for, greatest, is_cell, is_update, pass_all}
 use Rattle.pg_house.specs.Placing.{repeated}
 use Rattle.pg_house.specs.Returning.{is_root, return_first}
 use Rattle.pg_house.specs.Cycles.{break_first}
-use Rattle.pg_house.specs.Parents.{hold_parent, hold_parents, parent_held, takes}
-use Rattle.pg_house.specs.House.{house_with, movable, rules, with_parents}
+use Rattle.pg_house.specs.House.{house, house_with, movable}
 use Rattle.pg_house.specs.Busy.{busy, is_busy, is_lacking, is_marked, is_unsettled, marks_of}
-use Rattle.pg_house.specs.Facts.{HasOwnParent, HasPassed, IsHeld, IsPassed, is_among}
-use Rattle.pg_house.proofs.Truths.{not_back, or_left, or_right}
+use Rattle.pg_house.specs.Facts.{HasOwnParent, HasPassed, IsPassed}
+use Rattle.pg_house.proofs.Truths.{not_back, or_left}
 use Rattle.pg_house.proofs.Flags.{join_same}
 use Rattle.pg_house.proofs.Greatest.{AllAre, greatest_same}
 use Rattle.pg_house.proofs.Marking.{all_alike}
 use Rattle.pg_house.proofs.HeldBack.{both_tests}
 use Rattle.pg_house.proofs.Skipping.{pass_some}
-use Rattle.pg_house.proofs.Settling.{among_was, dirs_held, key_found}
-use Rattle.pg_house.proofs.Growing.{Grows, Grows-refl, Grows-trans, one_grows}
-use Rattle.pg_house.proofs.Started.{grown_takes}
-use Rattle.pg_house.proofs.Behind.{parent_idle}
+use Rattle.pg_house.proofs.Settling.{dirs_held}
 
 -- ---- flags
 
@@ -45,11 +39,9 @@ stays_itself flags h = flags-true (join_flags flags flags) flags (not_back (is_s
 
 -- ---- the parent
 
--- it is held, and where it is to have a cell for the thing it has one
-record IsThere (f : FileId) (place : Place) (o : Option HeldValue) : Type 0 where
-  own : Own
-  held : own_of o ≡ Some own
-  cell : is_update place ≡ true → is_dir place.parent ≡ true → is_cell (entry_in f o) ≡ true
+-- where it is held, and is to have a cell for the thing, it has one
+abbrev IsThere : FileId → Place → Option HeldValue → Type 0
+IsThere f place o = (c : Own) → own_of o ≡ Some c → is_update place ≡ true → is_dir place.parent ≡ true → is_cell (entry_in f o) ≡ true
 
 has_cell : (up dir cell : Bool) → (up && (dir && not cell)) ≡ false → up ≡ true → dir ≡ true → cell ≡ true
 has_cell true true cell h u d = not_back cell h
@@ -57,14 +49,10 @@ has_cell true false cell h u d = absurd (false≢true d)
 has_cell false dir cell h u d = absurd (false≢true u)
 
 is_there : (f : FileId) (place : Place) (o : Option HeldValue) → is_lacking f place o ≡ false → IsThere f place o
-is_there f place None h = absurd (false≢true (sym h))
-is_there f place (Some x) h = record { own = x.own; held = refl; cell = has_cell (is_update place) (is_dir place.parent) (is_cell (entry_in f (Some x))) h }
+is_there f place None h = λ c e up dir. absurd (none-some c e)
+is_there f place (Some x) h = λ c e up dir. has_cell (is_update place) (is_dir place.parent) (is_cell (entry_in f (Some x))) h up dir
 
 -- ---- a thing that is not busy
-
-taken_parent : (own top : Own) (t : Bool) → top ≡ own → (own_taken own top t).place.parent ≡ own.place.parent
-taken_parent own top true h = refl
-taken_parent own top false h = ap (λ (x : Own). x.place.parent) h
 
 module _ (s : NamesValue) (f : FileId) (own : Own) (held : own_at s f ≡ Some own) (idle : is_busy s (marks_of s) f (Some own) ≡ false) where
   abbrev Parts : Type 0
@@ -91,7 +79,7 @@ module _ (s : NamesValue) (f : FileId) (own : Own) (held : own_at s f ≡ Some o
   passed : (ds : List FileId) → IsPassed s ds f own
   passed ds =
       let e = sym (same ds) in
-      let parent : HasParent own = λ c up h d. there.cell up d in
+      let parent : HasParent own = λ c up h d. there c h up d in
       record {
         cells = λ q c h. all q c h ∙ ap (cell_for f) e;
         parent = subst HasParent e parent;
@@ -100,13 +88,7 @@ module _ (s : NamesValue) (f : FileId) (own : Own) (held : own_at s f ≡ Some o
       }
 
   own_parent : HasOwnParent s f own
-  own_parent c live h d = there.cell (or_left own.place.live _ live) d
-
-  -- the parent that it takes is held
-  parent_there : (ds : List FileId) → IsHeld s (takes s ds f own).place.parent
-  parent_there ds =
-      let up = taken_parent own (greatest s f own ds) (is_held_back s.removed f own (greatest s f own ds)) (same ds) in
-      subst (IsHeld s) (sym up) (there.own, there.held)
+  own_parent c live h d = there c h (or_left own.place.live _ live) d
 
 idle_at : (s : NamesValue) (f : FileId) (own : Own) → own_at s f ≡ Some own → is_busy s (marks_of s) f (own_at s f) ≡ false → is_busy s (marks_of s) f (Some own) ≡ false
 idle_at s f own held h = ap (λ (o : Option Own). is_busy s (marks_of s) f o) (sym held) ∙ h
@@ -123,46 +105,8 @@ Test s f = is_busy s (marks_of s) f (own_at s f)
 busy_is : (s : NamesValue) → busy s ≡ filter (Test s) (movable s)
 busy_is s = both_tests (λ f. not (is_root f)) (Test s) (keys_of s.held)
 
-pub busy_pass : (moment : ℕ) (st : State) → house_with moment (directories st.names) (busy st.names) st ≡ rules moment st
+pub busy_pass : (moment : ℕ) (st : State) → house_with moment (directories st.names) (busy st.names) st ≡ house moment st
 busy_pass moment st =
     let ds = directories st.names in
     ap (λ (s : State). repeated (length ds) (break_first moment ds) (repeated (length ds) (return_first moment ds) s))
     (ap (pass_all st ds) (busy_is st.names) ∙ pass_some (Test st.names) st ds (movable st.names) (dirs_held st.names) (λ g h. idle_passed st.names ds g h))
-
--- ---- parents
-
-left_out : (p : FileId → Bool) (t u : NamesValue) (ds fs : List FileId) (f : FileId) (b : Bool) → ((b ≡ false) → u ≡ t) → hold_parents u ds (filter p fs) ≡ hold_parents u ds fs → hold_parent t ds f ≡ u
-    → hold_parents t ds (cond b (f ∷ filter p fs) (filter p fs)) ≡ hold_parents u ds fs
-left_out p t u ds fs f true idle rest is = ap (λ (s : NamesValue). hold_parents s ds (filter p fs)) is ∙ rest
-left_out p t u ds fs f false idle rest is = ap (λ (s : NamesValue). hold_parents s ds (filter p fs)) (sym (idle refl)) ∙ rest
-
--- as more is held, a thing takes what it took
-module _ (s : NamesValue) (ds : List FileId) (t : NamesValue) (m : Grows s t) (f : FileId) (idle : Test s f ≡ false) where
-  idle_by : (own : Own) → own_at s f ≡ Some own → (o : Option Own) → own_at t f ≡ o → parent_held t ds f o ≡ t
-  idle_by own held None h = absurd (none-some own (sym h ∙ m.stays f own held))
-  idle_by own held (Some b) h =
-      let same : b ≡ own = same_Some b own (sym h ∙ m.stays f own held) in
-      let at = subst (λ (x : Own). own_at s f ≡ Some x) (sym same) held in
-      let parent = parent_there s f b at (idle_at s f b at idle) ds in
-      parent_idle t ds f (Some b) h (λ c g.
-      let is : b ≡ c = same_Some b c (sym h ∙ g) in
-      subst (λ (x : Own). IsHeld t (takes t ds f x).place.parent) is
-      (subst (λ (x : Own). IsHeld t x.place.parent) (sym (grown_takes s t m f b ds)) (parent.0, m.stays _ parent.0 parent.1)))
-
-  idle_parent : IsHeld s f → hold_parent t ds f ≡ t
-  idle_parent here = idle_by here.0 here.1 (own_at t f) refl
-
-parents_some : (s : NamesValue) (ds fs : List FileId) (t : NamesValue) → Grows s t → ((g : FileId) → is_among g fs ≡ true → IsHeld s g) → hold_parents t ds (filter (Test s) fs) ≡ hold_parents t ds fs
-parents_some s ds [] t m held = refl
-parents_some s ds (f ∷ fs) t m held =
-    let next = hold_parent t ds f in
-    left_out (Test s) t next ds fs f (Test s f) (λ h. idle_parent s ds t m f h (held f (or_left (is_same_file f f) _ (is_same_file-refl f))))
-    (parents_some s ds fs next (Grows-trans s t next m (one_grows t ds f)) (λ g among. held g (or_right (is_same_file f g) _ among))) refl
-
-movable_held : (s : NamesValue) (g : FileId) → is_among g (movable s) ≡ true → IsHeld s g
-movable_held s g among =
-    let x = key_found g s.held (among_was (λ f. not (is_root f)) (keys_of s.held) g among) in
-    (x.0.own, ap own_of x.1)
-
-pub busy_parents : (s : NamesValue) → hold_parents s (directories s) (busy s) ≡ with_parents s
-busy_parents s = ap (hold_parents s (directories s)) (busy_is s) ∙ parents_some s (directories s) (movable s) s (Grows-refl s) (movable_held s)

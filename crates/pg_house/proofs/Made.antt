@@ -1,24 +1,26 @@
 -- How many places the rules make.
-use Rattle.std.proofs.Common.{◌≡◌, ℕ, zero, suc, ◌≤◌, ◌+◌, Bool, not, List, [], ◌∷◌, ◌++◌, length, Option, None, Some, refl, sym, ap, ◌∙◌, subst, arith}
+use Rattle.std.proofs.Common.{◌≡◌, ℕ, zero, suc, ◌≤◌, ◌+◌, Bool, ◌&&◌, not, List, [], ◌∷◌, ◌++◌, length, Option, None, Some, refl, sym, ap, ◌∙◌, subst, arith}
 use Rattle.std.specs.List.{filter}
 use Rattle.pg_base.specs.declared.id.FileId.{FileId}
 use Rattle.pg_register.specs.declared.flag.Flag.{Flag}
+use Rattle.pg_register.specs.declared.place.Place.{Place}
 use Rattle.pg_register.specs.Flag.{flag_of}
 use Rattle.pg_register.specs.Place.{root, tilde_name}
 use Rattle.pg_edges.specs.declared.key.Key.{Key}
 use Rattle.pg_edges.specs.declared.key.Key.TheVariants as key
 use Rattle.pg_msg.specs.declared.update.Update.{Update}
 use Rattle.pg_msg.specs.declared.work.Work.{Work}
-use Rattle.pg_msg.specs.Work.{with_touched}
+use Rattle.pg_msg.specs.declared.update.Update.TheVariants as update
+use Rattle.pg_msg.specs.Work.{with_left, with_made, with_touched}
 use Rattle.pg_names.specs.declared.own.Own.{Own}
 use Rattle.pg_names.specs.Names.{directories, is_dir, own_at}
 use Rattle.pg_names.specs.Same.{is_same_own, is_same_place}
-use Rattle.pg_house.specs.Work.{State, state_of, touched}
+use Rattle.pg_house.specs.Work.{State, note_left, place_touched, touched}
 use Rattle.pg_house.specs.Passing.{flags_touched, gets, given, greatest, is_held_back, is_other_flag, offered, own_taken, pass, pass_own, pass_all, spread, taking, took}
 use Rattle.pg_house.specs.Placing.{drawn, live_place, made_at, place_at, placed, repeated}
-use Rattle.pg_house.specs.Returning.{first_returning, return_first, returned}
+use Rattle.pg_house.specs.Returning.{first_returning, is_root, return_first, returned}
 use Rattle.pg_house.specs.Cycles.{break_first, first_moving, moved}
-use Rattle.pg_house.specs.House.{house, movable, rules, with_parents}
+use Rattle.pg_house.specs.House.{house, movable}
 use Rattle.pg_house.proofs.Truths.{chosen}
 use Rattle.pg_house.proofs.Keys.{rules_keys}
 
@@ -26,6 +28,12 @@ use Rattle.pg_house.proofs.Keys.{rules_keys}
 
 touched_made : (work : Work) (f : FileId) (k : Key) (t : Bool) → (touched work f k t).made ≡ work.made
 touched_made work f k t = chosen (λ (w : Work). w.made ≡ work.made) t (with_touched work f k) work refl refl
+
+pub left_made : (work : Work) (f : FileId) (old : Place) → (note_left work f old).made ≡ work.made
+left_made work f old = chosen (λ (w : Work). w.made ≡ work.made) (old.live && not (is_root f)) (with_left work old.parent f) work refl refl
+
+pub place_made : (work : Work) (f : FileId) (old : Place) (t : Bool) → (place_touched work f old t).made ≡ work.made
+place_made work f old t = chosen (λ (w : Work). w.made ≡ work.made) t (note_left (with_touched work f key.Place) f old) work (left_made (with_touched work f key.Place) f old) refl
 
 flags_made : (work : Work) (f : FileId) (held flags : List Flag) → (flags_touched work f held flags).made ≡ work.made
 flags_made work f held [] = refl
@@ -43,7 +51,7 @@ pub taking_made : (st : State) (f : FileId) (own taken : Own) → (taking st f o
 taking_made st f own taken =
     let moved = not (is_same_place own.place taken.place) in
     chosen (λ (s : State). s.work.made ≡ st.work.made) (is_same_own own taken) st (took st f own taken) refl
-    (flags_made (touched st.work f key.Place moved) f own.flags taken.flags ∙ touched_made st.work f key.Place moved)
+    (flags_made (place_touched st.work f own.place moved) f own.flags taken.flags ∙ place_made st.work f own.place moved)
 
 pass_own_made : (st : State) (ds : List FileId) (f : FileId) (o : Option Own) → (pass_own st ds f o).work.made ≡ st.work.made
 pass_own_made st ds f None = refl
@@ -70,8 +78,10 @@ one_longer (y ∷ xs) x = let h = one_longer xs x in omega arith
 
 placed_made : (moment : ℕ) (ds : List FileId) (st : State) (f p : FileId) (name : List ℕ) → count (placed moment ds st f p name) ≤ count st + 1
 placed_made moment ds st f p name =
-    let made = made_at st f (live_place (drawn moment st.names) p name) in
-    subst (λ (us : List Update). length us ≤ count st + 1) (sym (pass_made made ds f)) (one_longer st.work.made _)
+    let place = live_place (drawn moment st.names) p name in
+    let made = made_at st f place in
+    let noted = left_made (with_touched (with_made st.work (update.Place f place)) f key.Place) f (place_at st.names f) in
+    subst (λ (us : List Update). length us ≤ count st + 1) (sym (pass_made made ds f ∙ noted)) (one_longer st.work.made (update.Place f place))
 
 none_longer : (n : ℕ) → n ≤ n + 1
 none_longer n = omega arith
@@ -91,18 +101,17 @@ repeated_made step each (suc n) st = let h = each st in let g = repeated_made st
 both : (a b c n : ℕ) → c ≤ b + n → b ≤ a + n → c ≤ a + (n + n)
 both a b c n h g = omega arith
 
-rules_made : (moment : ℕ) (st : State) → count (rules moment st) ≤ count st + (length (directories st.names) + length (directories st.names))
+rules_made : (moment : ℕ) (st : State) → count (house moment st) ≤ count st + (length (directories st.names) + length (directories st.names))
 rules_made moment st =
     let ds = directories st.names in
     let one = pass_all st ds (movable st.names) in
     let two = repeated (length ds) (return_first moment ds) one in
     let a = repeated_made (return_first moment ds) (λ t. returned_made moment ds t (first_returning t.names ds)) (length ds) one in
     let b = repeated_made (break_first moment ds) (λ t. moved_made moment ds t (first_moving t.names (length ds) None ds)) (length ds) two in
-    subst (λ (us : List Update). count (rules moment st) ≤ length us + (length ds + length ds)) (all_made st ds (movable st.names)) (both (count one) (count two) (count (rules moment st)) (length ds) b a)
+    subst (λ (us : List Update). count (house moment st) ≤ length us + (length ds + length ds)) (all_made st ds (movable st.names)) (both (count one) (count two) (count (house moment st)) (length ds) b a)
 
 -- so no more than two for each directory that is held
 pub few_made : (moment : ℕ) (st : State) → length (house moment st).work.made ≤ length st.work.made + (length (directories (house moment st).names) + length (directories (house moment st).names))
 few_made moment st =
-    let begun = state_of (with_parents st.names) st.work in
-    let same : directories (house moment st).names ≡ directories begun.names = ap (filter is_dir) (rules_keys moment begun) in
-    subst (λ (ds : List FileId). length (house moment st).work.made ≤ length st.work.made + (length ds + length ds)) (sym same) (rules_made moment begun)
+    let same : directories (house moment st).names ≡ directories st.names = ap (filter is_dir) (rules_keys moment st) in
+    subst (λ (ds : List FileId). length (house moment st).work.made ≤ length st.work.made + (length ds + length ds)) (sym same) (rules_made moment st)

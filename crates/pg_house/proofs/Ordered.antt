@@ -18,7 +18,7 @@ use Rattle.pg_house.specs.Passing.{cell_for, gets, given, greatest, is_held_back
 use Rattle.pg_house.specs.Placing.{drawn, live_place, made_at, own_with, place_at, placed}
 use Rattle.pg_house.specs.Returning.{first_returning, return_first, returned}
 use Rattle.pg_house.specs.Cycles.{break_first, first_moving, moved}
-use Rattle.pg_house.specs.House.{movable, rules}
+use Rattle.pg_house.specs.House.{house, movable}
 use Rattle.pg_house.specs.Facts.{AreOrdered}
 use Rattle.pg_house.proofs.Truths.{chosen}
 use Rattle.pg_house.proofs.Repeating.{repeated_keeps}
@@ -74,7 +74,7 @@ moved_ordered : (moment : ℕ) (ds : List FileId) (st : State) (o : Option FileI
 moved_ordered moment ds st None ordered = ordered
 moved_ordered moment ds st (Some d) ordered = placed_ordered moment ds st d root (tilde_name d) ordered
 
-pub rules_ordered : (moment : ℕ) (st : State) → AreOrdered st.names → AreOrdered (rules moment st).names
+pub rules_ordered : (moment : ℕ) (st : State) → AreOrdered st.names → AreOrdered (house moment st).names
 rules_ordered moment st ordered =
     let ds = directories st.names in
     repeated_keeps (λ (t : State). AreOrdered t.names) (break_first moment ds) (λ t h. moved_ordered moment ds t (first_moving t.names (length ds) None ds) h) (length ds) _

@@ -21,7 +21,7 @@ use Rattle.pg_house.specs.Passing.{pass_all}
 use Rattle.pg_house.specs.Placing.{repeated}
 use Rattle.pg_house.specs.Returning.{first_returning, is_dead, is_returning, is_returning_held, is_root, return_first}
 use Rattle.pg_house.specs.Cycles.{break_first, first_moving}
-use Rattle.pg_house.specs.House.{house_with, movable, rules}
+use Rattle.pg_house.specs.House.{house, house_with, movable}
 use Rattle.pg_house.specs.Facts.{IsLast, IsOfDirs, AreByServer, NoDeadLists, AreOrdered, HasPassed, is_among}
 use Rattle.pg_house.proofs.Truths.{not_true, or_cases, or_left, or_right}
 use Rattle.pg_house.proofs.Counting.{kept_dir}
@@ -101,7 +101,7 @@ all_idle st ds (f ∷ fs) dirs done =
 
 module _ (moment : ℕ) (st : State) (of_dirs : IsOfDirs st.names) (sorted : AreByServer st.names) (last : IsLast st.names) (ordered : AreOrdered st.names) where
   abbrev End : State
-  End = rules moment st
+  End = house moment st
 
   abbrev Ds : List FileId
   Ds = directories End.names
@@ -120,7 +120,7 @@ module _ (moment : ℕ) (st : State) (of_dirs : IsOfDirs st.names) (sorted : Are
   no_break : break_first moment Ds End ≡ End
   no_break = none_moves moment Ds End (subst (λ ds. first_moving End.names (length ds) None ds ≡ None) (sym (same_dirs moment st of_dirs sorted)) (none_moves_at moment st of_dirs sorted last))
 
-  pub none_applies : rules moment End ≡ End
+  pub none_applies : house moment End ≡ End
   none_applies =
       ap (λ (s : State). repeated (length Ds) (break_first moment Ds) (repeated (length Ds) (return_first moment Ds) s)) no_pass
       ∙ ap (repeated (length Ds) (break_first moment Ds)) (repeated_still (return_first moment Ds) (length Ds) End no_return)
@@ -129,7 +129,7 @@ module _ (moment : ℕ) (st : State) (of_dirs : IsOfDirs st.names) (sorted : Are
 -- ---- and only the files that have not passed need to
 
 pub changed_pass : (moment : ℕ) (st : State) (changed : List FileId) → ((f : FileId) → is_among f changed ≡ false → HasPassed st.names (directories st.names) f)
-    → house_with moment (directories st.names) (filter (λ f. is_among f changed) (movable st.names)) st ≡ rules moment st
+    → house_with moment (directories st.names) (filter (λ f. is_among f changed) (movable st.names)) st ≡ house moment st
 changed_pass moment st changed done =
     let ds = directories st.names in
     ap (λ (s : State). repeated (length ds) (break_first moment ds) (repeated (length ds) (return_first moment ds) s))

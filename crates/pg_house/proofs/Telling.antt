@@ -1,24 +1,26 @@
 -- Every cell that a rule changes is among the keys touched.
-use Rattle.std.proofs.Common.{◌≡◌, ℕ, Bool, true, false, ◌==◌, cond, not, List, [], ◌∷◌, ◌++◌, Option, None, Some, refl, sym, ap, ◌∙◌, subst, inl, inr, ◌⊎◌}
+use Rattle.std.proofs.Common.{◌≡◌, ℕ, Bool, true, false, ◌==◌, ◌&&◌, cond, not, List, [], ◌∷◌, ◌++◌, Option, None, Some, refl, sym, ap, ◌∙◌, subst, inl, inr, ◌⊎◌}
 use Rattle.std.proofs.lemmas.Bool.{false≢true}
 use Rattle.std.proofs.lemmas.Bool.Decides.{Decides-eqb}
 use Rattle.pg_base.specs.declared.id.FileId.{FileId}
 use Rattle.pg_base.specs.Id.{is_same_file}
 use Rattle.pg_base.proofs.Orders.{is_same_file-true}
 use Rattle.pg_register.specs.declared.flag.Flag.{Flag}
+use Rattle.pg_register.specs.declared.place.Place.{Place}
 use Rattle.pg_register.specs.Flag.{flag_of}
 use Rattle.pg_edges.specs.declared.key.Key.{Key}
 use Rattle.pg_edges.specs.declared.key.Key.TheVariants as key
 use Rattle.pg_msg.specs.declared.work.Touched.{Touched}
 use Rattle.pg_msg.specs.declared.work.Work.{Work}
-use Rattle.pg_msg.specs.Work.{with_touched}
+use Rattle.pg_msg.specs.Work.{with_left, with_touched}
 use Rattle.pg_names.specs.declared.own.Own.{Own}
 use Rattle.pg_names.specs.Names.{cell_at, own_at, or_blank, own_or_blank}
 use Rattle.pg_names.specs.Same.{is_same_flag, is_same_own, is_same_place}
 use Rattle.pg_names.proofs.Alike.{flag-true, place-true}
 use Rattle.pg_names.proofs.Lookups.{apart_back, entry_other_child, entry_other_dir, entry_own, own_cell, own_other, own_same}
-use Rattle.pg_house.specs.Work.{State, touched}
+use Rattle.pg_house.specs.Work.{State, note_left, place_touched, touched}
 use Rattle.pg_house.specs.Passing.{cell_for, flags_touched, gets, given, greatest, is_held_back, is_other_flag, offered, own_taken, pass, pass_own, pass_all, spread, taking, took}
+use Rattle.pg_house.specs.Returning.{is_root}
 use Rattle.pg_house.specs.Facts.{IsIn, IsTold, IsTouched}
 use Rattle.pg_house.proofs.Truths.{bool_cases, chosen, not_back}
 use Rattle.pg_house.proofs.Greatest.{greatest_flag}
@@ -35,10 +37,19 @@ pub in_last : (t : Touched) (xs : List Touched) → IsIn t (xs ++ t ∷ [])
 in_last t [] = inl refl
 in_last t (x ∷ xs) = inr (in_last t xs)
 
+-- what is noted of a place touches nothing
+pub left_stays : (work : Work) (f : FileId) (old : Place) (x : Touched) → IsIn x work.touched → IsIn x (note_left work f old).touched
+left_stays work f old x h = chosen (λ (w : Work). IsIn x w.touched) (old.live && not (is_root f)) (with_left work old.parent f) work h h
+
+pub place_stays : (work : Work) (f : FileId) (old : Place) (t : Bool) (x : Touched) → IsIn x work.touched → IsIn x (place_touched work f old t).touched
+place_stays work f old t x h =
+    chosen (λ (w : Work). IsIn x w.touched) t (note_left (with_touched work f key.Place) f old) work
+    (left_stays (with_touched work f key.Place) f old x (in_front x work.touched _ h)) h
+
 touched_stays : (work : Work) (f : FileId) (k : Key) (t : Bool) (x : Touched) → IsIn x work.touched → IsIn x (touched work f k t).touched
 touched_stays work f k t x h = chosen (λ (w : Work). IsIn x w.touched) t (with_touched work f k) work (in_front x work.touched _ h) h
 
-flags_stay : (work : Work) (f : FileId) (held flags : List Flag) (x : Touched) → IsIn x work.touched → IsIn x (flags_touched work f held flags).touched
+pub flags_stay : (work : Work) (f : FileId) (held flags : List Flag) (x : Touched) → IsIn x work.touched → IsIn x (flags_touched work f held flags).touched
 flags_stay work f held [] x h = h
 flags_stay work f held (g ∷ gs) x h =
     let other = is_other_flag (flag_of held g.server) g in
@@ -95,7 +106,7 @@ module _ (st : State) (f : FileId) (top : Own) (d : FileId) where
 offered_tells : (st : State) (f : FileId) (own top : Own) (back : Bool) (d : FileId) → Tells st (offered st f own top back d)
 offered_tells st f own top back d = chosen (Tells st) (gets st.names f own top back d) (given st f top d) st (given_tells st f top d) (Tells-refl st)
 
-spread_tells : (st : State) (f : FileId) (own top : Own) (back : Bool) (ds : List FileId) → Tells st (spread st f own top back ds)
+pub spread_tells : (st : State) (f : FileId) (own top : Own) (back : Bool) (ds : List FileId) → Tells st (spread st f own top back ds)
 spread_tells st f own top back [] = Tells-refl st
 spread_tells st f own top back (d ∷ ds) =
     let next = offered st f own top back d in
@@ -145,7 +156,7 @@ module _ (st : State) (f : FileId) (own taken : Own) (h : own_at st.names f ≡ 
   Took = took st f own taken
 
   abbrev Moved : Work
-  Moved = touched st.work f key.Place (not (is_same_place own.place taken.place))
+  Moved = place_touched st.work f own.place (not (is_same_place own.place taken.place))
 
   before : own_or_blank st.names f ≡ own
   before = ap (or_blank f) h
@@ -153,9 +164,9 @@ module _ (st : State) (f : FileId) (own taken : Own) (h : own_at st.names f ≡ 
   after : own_or_blank Took.names f ≡ taken
   after = ap (or_blank f) (own_same st.names f own taken h)
 
-  place_here : (t : Bool) → is_same_place own.place taken.place ≡ t → (taken.place ≡ own.place) ⊎ IsTouched (touched st.work f key.Place (not t)) f key.Place
+  place_here : (t : Bool) → is_same_place own.place taken.place ≡ t → (taken.place ≡ own.place) ⊎ IsTouched (place_touched st.work f own.place (not t)) f key.Place
   place_here true e = inl (sym (place-true own.place taken.place e))
-  place_here false e = inr (in_last (record { file = f; key = key.Place }) st.work.touched)
+  place_here false e = inr (left_stays (with_touched st.work f key.Place) f own.place _ (in_last (record { file = f; key = key.Place }) st.work.touched))
 
   place_at : (q : FileId) → (is_same_file f q ≡ true) ⊎ (is_same_file f q ≡ false) → ((own_or_blank Took.names q).place ≡ (own_or_blank st.names q).place) ⊎ IsTouched Took.work q key.Place
   place_at q (inr apart) = inl (ap (λ (o : Option Own). (or_blank q o).place) (own_other st.names f taken q apart))
@@ -189,7 +200,7 @@ module _ (st : State) (f : FileId) (own taken : Own) (h : own_at st.names f ≡ 
       places = λ q. place_at q (bool_cases (is_same_file f q));
       flags = λ q n. flags_at q n (bool_cases (is_same_file f q));
     };
-    stays = λ x i. flags_stay Moved f own.flags taken.flags x (touched_stays st.work f key.Place (not (is_same_place own.place taken.place)) x i);
+    stays = λ x i. flags_stay Moved f own.flags taken.flags x (place_stays st.work f own.place (not (is_same_place own.place taken.place)) x i);
   }
 
   taking_tells : Tells st (taking st f own taken)

@@ -3,7 +3,6 @@ use Rattle.std.proofs.Common.{◌≡◌, ℕ, ◌≤◌, Bool, true, false, List
 use Rattle.std.proofs.lemmas.Option.{same_Some}
 use Rattle.pg_base.specs.declared.id.FileId.{FileId}
 use Rattle.pg_base.specs.Id.{is_same_file}
-use Rattle.pg_base.specs.Stamp.{is_before}
 use Rattle.pg_base.proofs.Orders.{is_same_file-true}
 use Rattle.pg_register.specs.declared.place.Place.{Place}
 use Rattle.pg_entries.specs.declared.entry.Entry.{Entry}
@@ -11,23 +10,16 @@ use Rattle.pg_names.specs.declared.own.Own.{Own}
 use Rattle.pg_names.specs.Names.{NamesValue, own_at, cell_at}
 use Rattle.pg_names.proofs.Lookups.{apart_back}
 use Rattle.pg_house.specs.Work.{State}
-use Rattle.pg_house.specs.Passing.{greatest, is_held_back, joined_with, own_taken, pass, pass_own, pass_all, passed}
+use Rattle.pg_house.specs.Passing.{greatest, is_held_back, own_taken, pass, pass_own, pass_all, passed}
 use Rattle.pg_house.specs.Facts.{IsLast}
-use Rattle.pg_house.proofs.Truths.{bool_cases, chosen}
+use Rattle.pg_house.proofs.Truths.{bool_cases}
 use Rattle.pg_house.proofs.AfterPassing.{AreDirs, after_all, after_child, after_frame, after_other, after_own}
+use Rattle.pg_house.proofs.Greatest.{greatest_place}
 use Rattle.pg_house.proofs.Passes.{one_pass}
 
 -- no later than this
 abbrev IsUpTo : ℕ → Place → Type 0
 IsUpTo n p = p.stamp.time ≤ n
-
-with_up : (n : ℕ) (top : Own) (o : Option Entry) → IsUpTo n top.place → ((c : Entry) → o ≡ Some c → IsUpTo n c.place) → IsUpTo n (joined_with top o).place
-with_up n top None up all = up
-with_up n top (Some c) up all = chosen (λ (p : Place). p.stamp.time ≤ n) (is_before top.place.stamp c.place.stamp) c.place top.place (all c refl) up
-
-greatest_up : (n : ℕ) (s : NamesValue) (f : FileId) → ((d : FileId) (c : Entry) → cell_at s d f ≡ Some c → IsUpTo n c.place) → (top : Own) (ds : List FileId) → IsUpTo n top.place → IsUpTo n (greatest s f top ds).place
-greatest_up n s f all top [] up = up
-greatest_up n s f all top (d ∷ ds) up = greatest_up n s f all (joined_with top (cell_at s d f)) ds (with_up n top (cell_at s d f) up (all d))
 
 taken_up : (n : ℕ) (own top : Own) (t : Bool) → IsUpTo n own.place → IsUpTo n top.place → IsUpTo n (own_taken own top t).place
 taken_up n own top true a b = a
@@ -45,7 +37,7 @@ module _ (st : State) (ds : List FileId) (f : FileId) (dirs : AreDirs st.names d
     same_last = sym (after_frame st ds f own Top t).last
 
     top_up : IsUpTo Then.last Top.place
-    top_up = subst (λ n. IsUpTo n Top.place) same_last (greatest_up st.names.last st.names f (λ d c h. last.cells d f c h) own ds (last.own f own held))
+    top_up = subst (λ n. IsUpTo n Top.place) same_last (greatest_place (IsUpTo st.names.last) st.names f (λ d c h. last.cells d f c h) own ds (last.own f own held))
 
     own_up : IsUpTo Then.last (own_taken own Top t).place
     own_up = taken_up Then.last own Top t (subst (λ n. IsUpTo n own.place) same_last (last.own f own held)) top_up

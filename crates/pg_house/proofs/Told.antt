@@ -7,19 +7,21 @@ use Rattle.pg_register.specs.declared.place.Place.{Place}
 use Rattle.pg_register.specs.Flag.{flag_of}
 use Rattle.pg_register.specs.Place.{root, tilde_name}
 use Rattle.pg_edges.specs.declared.key.Key.TheVariants as key
+use Rattle.pg_msg.specs.declared.update.Update.TheVariants as update
+use Rattle.pg_msg.specs.declared.work.Work.{Work}
+use Rattle.pg_msg.specs.Work.{with_made, with_touched}
 use Rattle.pg_names.specs.declared.own.Own.{Own}
 use Rattle.pg_names.specs.Names.{NamesValue, directories, own_at, with_last, with_own, or_blank, own_or_blank}
 use Rattle.pg_names.proofs.Lookups.{known_absent, own_cell, own_other, own_same}
-use Rattle.pg_house.specs.Work.{State, state_of}
+use Rattle.pg_house.specs.Work.{State}
 use Rattle.pg_house.specs.Passing.{pass, pass_all}
 use Rattle.pg_house.specs.Placing.{drawn, flags_of, live_place, made_at, own_with, place_at, placed, repeated}
 use Rattle.pg_house.specs.Returning.{first_returning, return_first, returned}
 use Rattle.pg_house.specs.Cycles.{break_first, first_moving, moved}
-use Rattle.pg_house.specs.House.{house, movable, rules, with_parents}
+use Rattle.pg_house.specs.House.{house, movable}
 use Rattle.pg_house.specs.Facts.{IsTold, IsTouched}
 use Rattle.pg_house.proofs.Truths.{bool_cases}
-use Rattle.pg_house.proofs.Telling.{Tells, Tells-refl, Tells-trans, all_tells, in_front, in_last, pass_tells}
-use Rattle.pg_house.proofs.Growing.{grows, grows_tells}
+use Rattle.pg_house.proofs.Telling.{Tells, Tells-refl, Tells-trans, all_tells, in_front, in_last, left_stays, pass_tells}
 
 -- ---- a place is made
 
@@ -29,6 +31,10 @@ module _ (st : State) (f : FileId) (place : Place) where
 
   abbrev Late : NamesValue
   Late = with_last st.names place.stamp.time
+
+  -- what was made, before the old place is noted
+  abbrev Noted : Work
+  Noted = with_touched (with_made st.work (update.Place f place)) f key.Place
 
   abbrev Mine : Own
   Mine = own_with st.names f place
@@ -40,7 +46,7 @@ module _ (st : State) (f : FileId) (place : Place) where
 
   place_at_one : (q : FileId) → (is_same_file f q ≡ true) ⊎ (is_same_file f q ≡ false) → ((own_or_blank Made.names q).place ≡ (own_or_blank st.names q).place) ⊎ IsTouched Made.work q key.Place
   place_at_one q (inr apart) = inl (ap (λ (o : Option Own). (or_blank q o).place) (own_other Late f Mine q apart))
-  place_at_one q (inl same) = inr (subst (λ (x : FileId). IsTouched Made.work x key.Place) (is_same_file-true f q same) (in_last (record { file = f; key = key.Place }) st.work.touched))
+  place_at_one q (inl same) = inr (subst (λ (x : FileId). IsTouched Made.work x key.Place) (is_same_file-true f q same) (left_stays Noted f (place_at st.names f) _ (in_last (record { file = f; key = key.Place }) st.work.touched)))
 
   flags_at_one : (q : FileId) (n : ℕ) → (is_same_file f q ≡ true) ⊎ (is_same_file f q ≡ false) → flag_of (own_or_blank Made.names q).flags n ≡ flag_of (own_or_blank st.names q).flags n
   flags_at_one q n (inr apart) = ap (λ (o : Option Own). flag_of (or_blank q o).flags n) (own_other Late f Mine q apart)
@@ -54,7 +60,7 @@ module _ (st : State) (f : FileId) (place : Place) where
       places = λ q. place_at_one q (bool_cases (is_same_file f q));
       flags = λ q n. inl (flags_at_one q n (bool_cases (is_same_file f q)));
     };
-    stays = λ x h. in_front x st.work.touched _ h;
+    stays = λ x h. left_stays Noted f (place_at st.names f) x (in_front x st.work.touched _ h);
   }
 
 placed_tells : (moment : ℕ) (ds : List FileId) (st : State) (f p : FileId) (name : List ℕ) → Tells st (placed moment ds st f p name)
@@ -74,20 +80,15 @@ repeated_tells : (step : State → State) → ((st : State) → Tells st (step s
 repeated_tells step each zero st = Tells-refl st
 repeated_tells step each (suc n) st = Tells-trans st (step st) (repeated n step (step st)) (each st) (repeated_tells step each n (step st))
 
-rules_tell : (moment : ℕ) (st : State) → Tells st (rules moment st)
-rules_tell moment st =
+pub house_tells : (moment : ℕ) (st : State) → Tells st (house moment st)
+house_tells moment st =
     let ds = directories st.names in
     let one = pass_all st ds (movable st.names) in
     let two = repeated (length ds) (return_first moment ds) one in
-    Tells-trans st one (rules moment st) (all_tells st ds (movable st.names))
-    (Tells-trans one two (rules moment st)
+    Tells-trans st one (house moment st) (all_tells st ds (movable st.names))
+    (Tells-trans one two (house moment st)
     (repeated_tells (return_first moment ds) (λ t. returned_tells moment ds t (first_returning t.names ds)) (length ds) one)
     (repeated_tells (break_first moment ds) (λ t. moved_tells moment ds t (first_moving t.names (length ds) None ds)) (length ds) two))
-
-pub house_tells : (moment : ℕ) (st : State) → Tells st (house moment st)
-house_tells moment st =
-    let begun = state_of (with_parents st.names) st.work in
-    Tells-trans st begun (house moment st) (grows_tells st.names (with_parents st.names) st.work (grows st.names)) (rules_tell moment begun)
 
 -- every cell is as it was before the rules, or it is touched
 pub told : (moment : ℕ) (st : State) → IsTold st.names (house moment st).names (house moment st).work

@@ -1,4 +1,4 @@
--- Busy things: those for which the rules of parents and of passing may change something.
+-- Busy things: those for which passing may change something.
 use Rattle.std.specs.Prelude.{Bool, true, false, ◌&&◌, ◌||◌, not, if◌then◌else◌, List, [], ◌∷◌, Option, None, Some, is_some}
 use Rattle.std.specs.List.{filter}
 use Rattle.std.specs.BTreeMap.{insert_entry, is_at}
@@ -53,9 +53,9 @@ is_marked marks file = is_some (lookup (is_at (file_cmp file)) marks)
 
 -- ---- busy things
 
--- the parent in the place is not held, or it lacks a cell that it is to have
+-- the held parent in the place lacks a cell that it is to have
 abbrev pub is_lacking : FileId → Place → Option HeldValue → Bool
-is_lacking file place None = true
+is_lacking file place None = false
 is_lacking file place (Some x) =
     is_update place && (is_dir place.parent && not (is_cell (entry_of x.entries file)))
 

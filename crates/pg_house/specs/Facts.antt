@@ -4,16 +4,21 @@ use Rattle.std.specs.List.Sorted.{IsStrictlySortedBy}
 use Rattle.std.specs.Map.{keys_of}
 use Rattle.pg_base.specs.declared.id.FileId.{FileId}
 use Rattle.pg_base.specs.Id.{file_cmp, is_same_file}
+use Rattle.pg_register.specs.declared.place.Place.{Place}
 use Rattle.pg_register.specs.Flag.{IsByServer, flag_of}
 use Rattle.pg_register.specs.Place.{root}
 use Rattle.pg_edges.specs.declared.key.Key.{Key}
 use Rattle.pg_edges.specs.declared.key.Key.TheVariants as key
 use Rattle.pg_entries.specs.declared.entry.Entry.{Entry}
 use Rattle.pg_entries.specs.Entry.{is_listed}
+use Rattle.pg_msg.specs.declared.update.Update.{Update}
+use Rattle.pg_msg.specs.declared.update.Update.TheVariants as update
+use Rattle.pg_msg.specs.declared.work.Slot.{Slot}
 use Rattle.pg_msg.specs.declared.work.Touched.{Touched}
 use Rattle.pg_msg.specs.declared.work.Work.{Work}
 use Rattle.pg_names.specs.declared.own.Own.{Own}
 use Rattle.pg_names.specs.Names.{HeldValue, NamesValue, cell_at, directories, is_dir, known, own_at, own_or_blank}
+use Rattle.pg_house.specs.Work.{State, is_root}
 use Rattle.pg_house.specs.Passing.{cell_for, greatest, is_cell, is_held_back, is_update}
 use Rattle.pg_house.specs.Returning.{is_dead}
 use Rattle.pg_house.specs.Cycles.{climb, is_inner}
@@ -94,20 +99,10 @@ abbrev pub is_among : FileId → List FileId → Bool
 is_among file [] = false
 is_among file (f ∷ fs) = is_same_file f file || is_among file fs
 
--- ---- parents
+-- ---- what is held
 
 abbrev pub IsHeld : NamesValue → FileId → Type 0
 IsHeld names file = (own : Own) × (own_at names file ≡ Some own)
-
--- what directories have a cell for is held
-abbrev pub ChildrenHeld : NamesValue → Type 0
-ChildrenHeld names = (dir child : FileId) (cell : Entry)
-    → cell_at names dir child ≡ Some cell → IsHeld names child
-
--- the parents of all that is held are held
-abbrev pub ParentsHeld : NamesValue → Type 0
-ParentsHeld names = (file : FileId) (own : Own) → own_at names file ≡ Some own
-    → is_same_file file root ≡ false → IsHeld names own.place.parent
 
 -- ---- what is told of a change
 
@@ -131,3 +126,51 @@ pub record IsTold (before after : NamesValue) (work : Work) : Type 0 where
       → (flag_of (own_or_blank after file).flags server
       ≡ flag_of (own_or_blank before file).flags server)
       ⊎ IsTouched work file (key.Flag server)
+
+-- ---- what is noted of places that were replaced
+
+abbrev pub IsOneOf : {A : Type 0} → A → List A → Type 0
+IsOneOf a [] = ⊥
+IsOneOf a (x ∷ xs) = (x ≡ a) ⊎ IsOneOf a xs
+
+-- it is noted that a live place of the child in the directory was replaced
+abbrev pub IsLeft : Work → FileId → FileId → Type 0
+IsLeft work dir child = IsOneOf {A = Slot} (record { dir = dir; child = child }) work.left
+
+-- what was held with this place is held in the end, with the same place, or, where it was a live one
+-- and the thing is not the root, it is noted that it was replaced
+abbrev pub IsKeptOrLeft : State → FileId → Own → Type 0
+IsKeptOrLeft after file own =
+    (new : Own) × (own_at after.names file ≡ Some new)
+    × (is_root file ≡ false → own.place.live ≡ true
+    → (new.place ≡ own.place) ⊎ IsLeft after.work own.place.parent file)
+
+-- the thing or a cell for it had this place at the start, or it was made
+abbrev pub IsKnownPlace : NamesValue → List Update → FileId → Place → Type 0
+IsKnownPlace before made file place =
+    ((own : Own) × (own_at before file ≡ Some own) × (own.place ≡ place))
+    ⊎ (((dir : FileId) × (cell : Entry)
+    × (cell_at before dir file ≡ Some cell) × (cell.place ≡ place))
+    ⊎ IsOneOf {A = Update} (update.Place file place) made)
+
+-- a held thing other than the root had a live place in this directory, which was known at the start
+-- or made since, and its place is among the keys touched
+pub record IsReplaced (before after : State) (s : Slot) : Type 0 where
+  pub place : Place
+  pub known : IsKnownPlace before.names after.work.made s.child place
+  pub live : place.live ≡ true
+  pub parent : place.parent ≡ s.dir
+  pub other : is_root s.child ≡ false
+  pub held : IsHeld after.names s.child
+  pub touched : IsTouched after.work s.child key.Place
+
+-- just the live places that were replaced are noted
+-- all: each that was there before
+-- only: what is noted was noted before, or it was such a place
+-- stays: what was noted before
+pub record IsNoted (before after : State) : Type 0 where
+  pub all : (file : FileId) (own : Own)
+      → own_at before.names file ≡ Some own → IsKeptOrLeft after file own
+  pub only : (s : Slot)
+      → IsOneOf s after.work.left → IsOneOf s before.work.left ⊎ IsReplaced before after s
+  pub stays : (s : Slot) → IsOneOf s before.work.left → IsOneOf s after.work.left

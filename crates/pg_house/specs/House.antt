@@ -4,20 +4,15 @@ use Rattle.std.specs.List.{filter}
 use Rattle.std.specs.Map.{keys_of}
 use Rattle.pg_base.specs.declared.id.FileId.{FileId}
 use Rattle.pg_names.specs.Names.{NamesValue, directories}
-use Rattle.pg_house.specs.Work.{State, state_of}
+use Rattle.pg_house.specs.Work.{State, is_root}
 use Rattle.pg_house.specs.Passing.{pass_all}
-use Rattle.pg_house.specs.Parents.{hold_parents}
 use Rattle.pg_house.specs.Placing.{repeated}
-use Rattle.pg_house.specs.Returning.{is_root, return_first}
+use Rattle.pg_house.specs.Returning.{return_first}
 use Rattle.pg_house.specs.Cycles.{break_first}
 
 -- all that is held but the root
 abbrev pub movable : NamesValue → List FileId
 movable names = filter (λ file. not (is_root file)) (keys_of names.held)
-
--- the parents are held in the places that things are going to take
-abbrev pub with_parents : NamesValue → NamesValue
-with_parents names = hold_parents names (directories names) (movable names)
 
 -- these things pass, then directories come back, and then cycles break: each at most once for each
 -- directory. A new place passes at once
@@ -26,9 +21,6 @@ house_with moment dirs files st =
     repeated (length dirs) (break_first moment dirs)
     (repeated (length dirs) (return_first moment dirs) (pass_all st dirs files))
 
--- where the parents are held
-abbrev pub rules : ℕ → State → State
-rules moment st = house_with moment (directories st.names) (movable st.names) st
-
+-- all that is held passes
 abbrev pub house : ℕ → State → State
-house moment st = rules moment (state_of (with_parents st.names) st.work)
+house moment st = house_with moment (directories st.names) (movable st.names) st

@@ -1,6 +1,5 @@
 pub mod Work
 pub mod Passing
-pub mod Parents
 pub mod Placing
 pub mod Returning
 pub mod Cycles

@@ -14,7 +14,7 @@ use Rattle.pg_msg.specs.Work.{with_touched}
 use Rattle.pg_names.specs.declared.own.Own.{Own}
 use Rattle.pg_names.specs.Names.{NamesValue, cell_at, is_dir, own_at, set_entry, set_own}
 use Rattle.pg_names.specs.Same.{is_same_entry, is_same_flag, is_same_own, is_same_place}
-use Rattle.pg_house.specs.Work.{State, touched}
+use Rattle.pg_house.specs.Work.{State, place_touched, touched}
 
 -- ---- the greatest of what is known of a thing
 
@@ -108,10 +108,11 @@ flags_touched work file held (flag ∷ flags) =
     (touched work file (key.Flag flag.server) (is_other_flag (flag_of held flag.server) flag))
     file held flags
 
--- the place is touched where it changes, and each flag that does
+-- the place is touched, and the old one noted, where it changes; and so is each flag that does
 abbrev pub own_touched : Work → FileId → Own → Own → Work
 own_touched work file own taken =
-    flags_touched (touched work file key.Place (not (is_same_place own.place taken.place)))
+    flags_touched
+    (place_touched work file own.place (not (is_same_place own.place taken.place)))
     file own.flags taken.flags
 
 abbrev pub took : State → FileId → Own → Own → State

@@ -11,7 +11,7 @@ use Rattle.pg_msg.specs.declared.update.Update.TheVariants as update
 use Rattle.pg_msg.specs.Work.{with_made, with_touched}
 use Rattle.pg_names.specs.declared.own.Own.{Own}
 use Rattle.pg_names.specs.Names.{NamesValue, own_at, set_own, with_last}
-use Rattle.pg_house.specs.Work.{State}
+use Rattle.pg_house.specs.Work.{State, note_left}
 use Rattle.pg_house.specs.Passing.{pass}
 
 abbrev pub place_of : Option Own → Place
@@ -39,11 +39,13 @@ live_place stamp parent name =
 abbrev pub own_with : NamesValue → FileId → Place → Own
 own_with names file place = record { place = place; flags = flags_of (own_at names file) }
 
--- the thing has this place from now on, which was made
+-- the thing has this place from now on, which was made; the old one is noted
 abbrev pub made_at : State → FileId → Place → State
 made_at st file place = record {
   names = set_own (with_last st.names place.stamp.time) file (own_with st.names file place);
-  work = with_touched (with_made st.work (update.Place file place)) file key.Place;
+  work = note_left
+      (with_touched (with_made st.work (update.Place file place)) file key.Place)
+      file (place_at st.names file);
 }
 
 -- the thing gets a new live place in this directory, with this name, which passes at once

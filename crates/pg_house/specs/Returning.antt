@@ -2,17 +2,14 @@
 use Rattle.std.specs.Prelude.{ℕ, Bool, false, ◌&&◌, not, List, Option, None, Some}
 use Rattle.std.specs.List.{find}
 use Rattle.pg_base.specs.declared.id.FileId.{FileId}
-use Rattle.pg_base.specs.Id.{is_same_file}
 use Rattle.pg_base.specs.Stamp.{is_before}
 use Rattle.pg_register.specs.declared.place.Place.{Place}
-use Rattle.pg_register.specs.Place.{root, first_stamp}
+use Rattle.pg_register.specs.Place.{first_stamp}
 use Rattle.pg_entries.specs.Entry.{lists_any}
 use Rattle.pg_names.specs.Names.{HeldValue, NamesValue, known}
+pub use Rattle.pg_house.specs.Work.{is_root}
 use Rattle.pg_house.specs.Work.{State}
 use Rattle.pg_house.specs.Placing.{place_at, placed}
-
-abbrev pub is_root : FileId → Bool
-is_root file = is_same_file file root
 
 -- a dead place of a directory, other than the blank one
 abbrev pub is_dead : FileId → Place → Bool

@@ -1,4 +1,4 @@
-//! Busy things: those for which holding parents or passing may change something.
+//! Busy things: those for which passing may change something.
 
 ghost use Rattle.std.specs.Prelude.{◌≡◌, OnOk, IfOk, not};
 ghost use Rattle.pg_names.specs.Names.{known, own_at};
@@ -60,7 +60,7 @@ fn marks(names: &Names) -> Result<Marks, AllocError>
     Ok(marks)
 }
 
-/// Whether the parent in a thing's place is not held, or lacks a cell for the thing.
+/// Whether the held parent in a thing's place lacks a cell for the thing.
 fn is_lacking(names: &Names, file: &FileId, own: &Own) -> bool
     ensures { result ≡ is_lacking file.now own.now.place (known names.now own.now.place.parent) }
 {
@@ -70,7 +70,7 @@ fn is_lacking(names: &Names, file: &FileId, own: &Own) -> bool
                 && is_dir(&own.place.parent)
                 && held.entries().get(*file).is_none()
         }
-        None => true,
+        None => false,
     }
 }
 

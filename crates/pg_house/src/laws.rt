@@ -4,11 +4,11 @@
 ghost use Rattle.std.specs.Prelude.{ℕ, ◌≡◌, ◌≤◌, ◌+◌, false, List, length};
 ghost use Rattle.std.specs.List.{filter};
 ghost use Rattle.pg_base.specs.declared.id.FileId.{FileId};
-ghost use Rattle.pg_names.specs.Names.{directories};
-ghost use Rattle.pg_register.specs.Place.{root};
+ghost use Rattle.std.specs.Map.{keys_of};
+ghost use Rattle.pg_names.specs.Names.{directories, is_full};
 ghost use Rattle.pg_house.specs.Work.{State};
-ghost use Rattle.pg_house.specs.House.{house, house_with, movable, rules};
-ghost use Rattle.pg_house.specs.Facts.{AreByServer, AreOrdered, ChildrenHeld, HasPassed, IsHeld, IsLast, IsOfDirs, IsTold, NoCycle, NoDeadLists, OwnParent, ParentsHeld, Passing, is_among};
+ghost use Rattle.pg_house.specs.House.{house, house_with, movable};
+ghost use Rattle.pg_house.specs.Facts.{AreByServer, AreOrdered, HasPassed, IsLast, IsNoted, IsOfDirs, IsTold, NoCycle, NoDeadLists, OwnParent, Passing, is_among};
 
 /// Every cell for a thing is the greatest of what is known of it, the held parent in the greatest
 /// place has a cell, and the thing has the greatest itself, but for a place that is held back.
@@ -43,27 +43,22 @@ pub fn stays_sound()
         → AreByServer (house moment st).names }
     ensures last { (moment : ℕ) (st : State) → IsOfDirs st.names → AreByServer st.names
         → IsLast st.names → IsLast (house moment st).names }
-    ensures children { (moment : ℕ) (st : State) → IsOfDirs st.names → AreByServer st.names
-        → IsLast st.names → ChildrenHeld st.names → IsHeld st.names root
-        → ChildrenHeld (house moment st).names }
-    ensures top { (moment : ℕ) (st : State) → IsOfDirs st.names → AreByServer st.names
-        → IsLast st.names → ChildrenHeld st.names → IsHeld st.names root
-        → IsHeld (house moment st).names root }
     ensures ordered { (moment : ℕ) (st : State) → AreOrdered st.names
         → AreOrdered (house moment st).names }
 {}
 
-/// The parents of all that is held are held, where what has a cell and the root were held before.
-pub fn parents_are_held()
-    ensures { (moment : ℕ) (st : State) → IsOfDirs st.names → AreByServer st.names → IsLast st.names
-        → ChildrenHeld st.names → IsHeld st.names root → ParentsHeld (house moment st).names }
+/// Just the same things are held, and the same of them are full.
+pub fn the_same_is_held()
+    ensures held { (moment : ℕ) (st : State)
+        → keys_of (house moment st).names.held ≡ keys_of st.names.held }
+    ensures full { (moment : ℕ) (st : State) (file : FileId)
+        → is_full (house moment st).names file ≡ is_full st.names file }
 {}
 
 /// Run again the rules change nothing, touch nothing and make nothing: none applies any more.
 pub fn none_applies()
     ensures { (moment : ℕ) (st : State) → IsOfDirs st.names → AreByServer st.names → IsLast st.names
-        → ChildrenHeld st.names → IsHeld st.names root → AreOrdered st.names
-        → house moment (house moment st) ≡ house moment st }
+        → AreOrdered st.names → house moment (house moment st) ≡ house moment st }
 {}
 
 /// Where all things but these have passed, only these need to pass.
@@ -72,7 +67,7 @@ pub fn passed_things_stay()
         → ((file : FileId) → is_among file changed ≡ false
         → HasPassed st.names (directories st.names) file)
         → house_with moment (directories st.names)
-        (filter (λ file. is_among file changed) (movable st.names)) st ≡ rules moment st }
+        (filter (λ file. is_among file changed) (movable st.names)) st ≡ house moment st }
 {}
 
 /// No more than two places are made for each directory that is held.
@@ -87,4 +82,11 @@ pub fn few_places_are_made()
 pub fn all_is_told()
     ensures { (moment : ℕ) (st : State)
         → IsTold st.names (house moment st).names (house moment st).work }
+{}
+
+/// What is held stays held. Of each live place of a held thing, other than the root, that is another
+/// in the end it is noted that it was replaced. Nothing else is noted but such a place, or a live one
+/// that a thing had in between: it came by a cell, or the rules made it.
+pub fn replaced_places_are_noted()
+    ensures { (moment : ℕ) (st : State) → IsNoted st (house moment st) }
 {}

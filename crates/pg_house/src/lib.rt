@@ -5,7 +5,6 @@ mod busy;
 mod cycles;
 mod holding;
 mod laws;
-mod parents;
 mod passing;
 mod placing;
 mod returning;
@@ -15,6 +14,8 @@ mod touching;
 pub use holding::{count_held_back, first_held_back};
 pub use laws::{
     all_have_passed, all_is_told, few_places_are_made, no_cycle, no_dead_directory_lists,
-    none_applies, own_parent, parents_are_held, passed_things_stay, stays_sound,
+    none_applies, own_parent, passed_things_stay, replaced_places_are_noted, stays_sound,
+    the_same_is_held,
 };
 pub use rules::house;
+pub use touching::note_left;

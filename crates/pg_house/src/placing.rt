@@ -8,7 +8,7 @@ ghost use Rattle.pg_house.specs.Work.{state_of};
 ghost use Rattle.pg_house.specs.Placing.{drawn, flags_of, live_place, made_at, own_with, place_at, placed};
 
 use crate::passing::pass;
-use crate::touching::touch;
+use crate::touching::{note_left, touch};
 use pg_base::{FileId, SharedBytes};
 use pg_edges::Key;
 use pg_msg::{Update, Work};
@@ -53,6 +53,7 @@ fn make(names: &mut Names, work: &mut Work, file: &FileId, place: Place) -> Resu
 {
     note(work, *file, &place)?;
     touch(work, *file, Key::Place)?;
+    note_left(work, *file, &place_at(names, file)?)?;
     let flags = flags_at(names, file)?;
     names.set_own(file, Own { place, flags });
     Ok(())

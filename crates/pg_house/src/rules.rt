@@ -2,15 +2,13 @@
 
 ghost use Rattle.std.specs.Prelude.{◌≡◌, ◌+◌, ◌<◌, ◌≤◌, ◌^◌, length, IfOk, OnOk};
 ghost use Rattle.pg_house.specs.Work.{state_of};
-ghost use Rattle.pg_house.specs.Busy.{busy};
-ghost use Rattle.pg_house.specs.House.{house, house_with, rules, with_parents};
+ghost use Rattle.pg_house.specs.House.{house, house_with};
 
 use crate::busy::busy;
 use crate::cycles::break_all;
-use crate::parents::hold_parents;
 use crate::passing::pass_all;
 use crate::returning::return_all;
-use pg_base::{FileId, Items};
+use pg_base::FileId;
 use pg_msg::Work;
 use pg_names::Names;
 use std::alloc::AllocError;
@@ -18,50 +16,20 @@ use std::alloc::AllocError;
 /// More directories than this are not held: memory ends before.
 const MOST: usize = 1 << 40;
 
-/// The parents are held in the places that things are going to take. Tells the busy things behind it.
-#[tactic(auto, using(crate::proofs::Leaving::busy_parents))]
-fn with_parents(names: &mut Names) -> Result<Items<FileId>, AllocError>
-    ensures held { OnOk result (names.new ≡ with_parents names.old) }
-    ensures busy { IfOk result (λ files. files ≡ busy names.new) }
-{
-    let dirs = names.directories()?;
-    let files = busy(names)?;
-    if hold_parents(names, dirs.as_slice(), files.as_slice())? {
-        return Ok(busy(names)?);
-    }
-    Ok(files)
-}
-
-/// Runs the house rules until none applies: the parents in the places that things take are held,
-/// all things pass, dead directories that list a child come back, and cycles break. `moment` is the
-/// clock at this event. After out of memory a part may be done.
+/// Runs the house rules until none applies: all things pass, dead directories that list a child come
+/// back, and cycles break. `moment` is the clock at this event. After out of memory a part may be
+/// done.
 pub fn house(names: &mut Names, work: &mut Work, moment: u64) -> Result<(), AllocError>
     requires { names.old.last ≤ 2 ^ 62 + 2 ^ 40 }
     ensures { OnOk result (state_of names.new work.new
         ≡ house moment (state_of names.old work.old)) }
 {
-    let files = with_parents(names)?;
-    rules(names, work, moment, files.as_slice())?;
-    Ok(())
-}
-
-/// The same, where the parents are held, and these are the busy things.
-fn rules(
-    names: &mut Names,
-    work: &mut Work,
-    moment: u64,
-    files: &[FileId],
-) -> Result<(), AllocError>
-    requires last { names.old.last ≤ 2 ^ 62 + 2 ^ 40 }
-    requires busy { files.now ≡ busy names.old }
-    ensures { OnOk result (state_of names.new work.new
-        ≡ rules moment (state_of names.old work.old)) }
-{
     let dirs = names.directories()?;
+    let files = busy(names)?;
     if dirs.len() > MOST {
         return Err(AllocError);
     }
-    run(names, work, moment, dirs.as_slice(), files)?;
+    run(names, work, moment, dirs.as_slice(), files.as_slice())?;
     Ok(())
 }
 

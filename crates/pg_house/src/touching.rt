@@ -4,14 +4,16 @@ ghost use Rattle.std.specs.Prelude.{◌≡◌, not, OnOk};
 ghost use Rattle.pg_edges.specs.declared.key.Key.TheVariants as key;
 ghost use Rattle.pg_msg.specs.Work.{with_touched};
 ghost use Rattle.pg_register.specs.Flag.{flag_of};
-ghost use Rattle.pg_house.specs.Work.{touched};
+ghost use Rattle.pg_house.specs.Work.{note_left, place_touched, touched};
 ghost use Rattle.pg_house.specs.Passing.{flags_touched, is_other_flag, own_touched};
+ghost use Rattle.pg_names.specs.Same.{is_same_place};
 
+use crate::returning::is_root;
 use pg_base::FileId;
 use pg_edges::Key;
-use pg_msg::{Touched, Work};
+use pg_msg::{Slot, Touched, Work};
 use pg_names::{Own, is_same_flag, is_same_place};
-use pg_register::{Flag, GoldFlags};
+use pg_register::{Flag, GoldFlags, Place};
 use std::alloc::AllocError;
 
 /// Notes a key that changed.
@@ -19,6 +21,20 @@ pub(crate) fn touch(work: &mut Work, file: FileId, key: Key) -> Result<(), Alloc
     ensures { OnOk result (work.new ≡ with_touched work.old file key) }
 {
     work.touched.push(Touched { file, key })?;
+    Ok(())
+}
+
+/// Notes that a thing other than the root gets a newer place than this, if it is a live one: the
+/// directory may not be held here, and has to hear of it.
+pub fn note_left(work: &mut Work, file: FileId, place: &Place) -> Result<(), AllocError>
+    ensures { OnOk result (work.new ≡ note_left work.old file place.now) }
+{
+    if place.live && !is_root(&file) {
+        work.left.push(Slot {
+            dir: place.parent,
+            child: file,
+        })?;
+    }
     Ok(())
 }
 
@@ -72,6 +88,18 @@ fn touch_flags(
     Ok(())
 }
 
+/// Notes the place, and that the old one was replaced, if it changed.
+fn touch_place(work: &mut Work, file: FileId, own: &Place, taken: &Place) -> Result<(), AllocError>
+    ensures { OnOk result (work.new ≡ place_touched work.old file own.now
+        (not (is_same_place own.now taken.now))) }
+{
+    if !is_same_place(own, taken) {
+        touch(work, file, Key::Place)?;
+        note_left(work, file, own)?;
+    }
+    Ok(())
+}
+
 /// Notes what changes where a thing takes another place and other flags.
 pub(crate) fn touch_own(
     work: &mut Work,
@@ -81,8 +109,7 @@ pub(crate) fn touch_own(
 ) -> Result<(), AllocError>
     ensures { OnOk result (work.new ≡ own_touched work.old file own.now taken.now) }
 {
-    let moved = !is_same_place(&own.place, &taken.place);
-    touch_if(work, file, Key::Place, moved)?;
+    touch_place(work, file, &own.place, &taken.place)?;
     touch_flags(work, file, &own.flags, taken.flags.as_slice())?;
     Ok(())
 }

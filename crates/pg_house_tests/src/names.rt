@@ -3,7 +3,7 @@
 use crate::servers::{ROOT, dir, server, stand, stands, tell, tells};
 use pg_base::{SharedBytes, Stamp};
 use pg_entries::Entry;
-use pg_names::Names;
+use pg_names::{Names, Own};
 use pg_register::{Flag, GoldFlags, Place};
 use std::alloc::{AllocError, Global};
 use std::test::Fail;
@@ -50,5 +50,19 @@ fn cells_come(rt: HostRuntime) -> Result<(), Fail> {
     assert!(rt; !cell_comes(&mut names, alloc, 1)?);
     assert!(rt; tells(&names, dir(1), dir(2), 7));
     assert_eq!(rt; names.directories()?.as_slice(), [ROOT, dir(1)].as_slice());
+    Ok(())
+}
+
+/// A thing is held, but not full, until it is filled; what was not begun is neither.
+#[test]
+fn a_thing_is_filled(rt: HostRuntime) -> Result<(), Fail> {
+    let alloc = rt.alloc();
+    let mut names = server(alloc, 9)?;
+    names.begin(dir(1), Own::blank(alloc, dir(1))?, false)?;
+    assert!(rt; names.is_held(&dir(1)) && !names.is_full(&dir(1)));
+    names.fill(&dir(1));
+    assert!(rt; names.is_full(&dir(1)) && names.is_full(&ROOT));
+    names.fill(&dir(2));
+    assert!(rt; !names.is_held(&dir(2)) && !names.is_full(&dir(2)));
     Ok(())
 }

@@ -38,12 +38,11 @@ fn place(alloc: Global, time: i64, parent: FileId) -> Result<Place, AllocError> 
 pub(crate) fn server(alloc: Global, last: u64) -> Result<Names, AllocError> {
     let mut names = Names::new(alloc, 2);
     names.raise(last);
-    names.hold(ROOT)?;
     let own = Own {
         place: Place::root(alloc)?,
         flags: GoldFlags::new(alloc),
     };
-    names.set_own(&ROOT, own);
+    names.begin(ROOT, own, true)?;
     Ok(names)
 }
 
@@ -55,12 +54,11 @@ pub(crate) fn stand(
     time: i64,
     parent: FileId,
 ) -> Result<(), AllocError> {
-    names.hold(file)?;
     let own = Own {
         place: place(alloc, time, parent)?,
         flags: GoldFlags::new(alloc),
     };
-    names.set_own(&file, own);
+    names.begin(file, own, true)?;
     Ok(())
 }
 

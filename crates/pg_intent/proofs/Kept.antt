@@ -76,7 +76,7 @@ own-begun is i h = by (stands is (key_of i)) refl
 
 -- ---- some end
 
-differs_filter : (p : Intent → Bool) (q : IntentKey) (is : List Intent) → AllByRecursion (λ y. is_same_key q y ≡ false) (map key_of is)
+pub differs_filter : (p : Intent → Bool) (q : IntentKey) (is : List Intent) → AllByRecursion (λ y. is_same_key q y ≡ false) (map key_of is)
     → AllByRecursion (λ y. is_same_key q y ≡ false) (map key_of (filter p is))
 differs_filter p q [] h = tt
 differs_filter p q (i ∷ is) h = by (p i) (differs_filter p q is h.1)

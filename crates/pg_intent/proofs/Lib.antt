@@ -1,5 +1,6 @@
 pub mod SameKey
 pub mod Kept
+pub mod Ending
 pub mod Found
 pub mod Entries
 pub mod Begun

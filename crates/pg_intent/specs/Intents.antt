@@ -38,6 +38,11 @@ begun is i =
 abbrev pub ended : List Intent → IntentKey → List Intent
 ended is k = filter (λ i. not (has_key k i)) is
 
+-- those with these keys end, one behind another
+abbrev pub ended_each : List Intent → List IntentKey → List Intent
+ended_each is [] = is
+ended_each is (k ∷ ks) = ended_each (ended is k) ks
+
 -- the one with this key asks another server
 abbrev pub aimed : List Intent → IntentKey → ℕ → List Intent
 aimed is k target = changed (aimed_at target) is k

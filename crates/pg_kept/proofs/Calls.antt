@@ -1,175 +1,212 @@
--- Calls keep the rule of the edges, where contents are of the history.
-use Rattle.std.proofs.Common.{ℕ, ◌≡◌, ◌+◌, true, List, [], Result, Ok, Err, sym, ap, subst, ◌∙◌}
+-- Calls keep the rule of the edges, where contents are of histories and what begins is not held.
+use Rattle.std.proofs.Common.{ℕ, ◌≡◌, ◌==◌, true, false, List, [], Option, None, Some, Result, Ok, Err, is_some, refl, sym, subst}
+use Rattle.std.specs.List.Sorted.{IsStrictlySortedBy}
 use Rattle.pg_base.specs.declared.id.FileId.{FileId}
 use Rattle.pg_base.specs.declared.id.Kind.TheVariants.{Dir, File}
 use Rattle.pg_base.specs.declared.policy.Policy.{Policy}
+use Rattle.pg_base.specs.declared.policy.Policy.TheVariants.{Last}
 use Rattle.pg_base.specs.declared.stamp.Stamp.{Stamp}
-use Rattle.pg_patch.specs.Ranges.{RangesValue}
-use Rattle.pg_content.specs.Content.{ContentValue}
+use Rattle.pg_patch.specs.Ranges.{RangesValue, cut_to, written}
 use Rattle.pg_content.specs.History.{Made}
-use Rattle.pg_edges.specs.declared.key.Key.TheVariants as key
 use Rattle.pg_flood.specs.Promises.{Saying}
 use Rattle.pg_flood.specs.Server.{Slot}
 use Rattle.pg_entries.specs.declared.cell.Cell.{Cell}
-use Rattle.pg_msg.specs.declared.message.Sent.{Sent}
+use Rattle.pg_msg.specs.declared.message.Message.TheVariants as message
 use Rattle.pg_msg.specs.declared.update.Update.TheVariants as update
 use Rattle.pg_msg.specs.declared.work.Work.{Work}
 use Rattle.pg_msg.specs.Work.{new_work, with_made}
 use Rattle.pg_call.specs.declared.call.Call.{Call}
 use Rattle.pg_call.specs.declared.call.Call.TheVariants as call
-use Rattle.pg_call.specs.declared.refusal.Refusal.{Refusal}
-use Rattle.pg_register.specs.declared.flag.Flag.{Flag}
 use Rattle.pg_register.specs.declared.place.Place.{Place}
+use Rattle.pg_names.specs.Names.{blank_own}
+use Rattle.pg_register.specs.Flag.{IsByServer}
+use Rattle.pg_replica.specs.declared.replica.Replica.{Replica}
 use Rattle.pg_store.specs.declared.store.Store.{Store}
-use Rattle.pg_store.specs.Start.{first_flag}
-use Rattle.pg_store.specs.Store.{begin_file, content_of, has_no_head, is_empty, is_newer_flag, is_newer_place, replica_of, take_flag, take_place}
+use Rattle.pg_store.specs.declared.wishes.Wish.{Wish}
+use Rattle.pg_store.specs.Births.{draw_birth, with_birth, with_wish}
+use Rattle.pg_store.specs.Store.{content_of, is_held, replica_at, write}
 use Rattle.pg_cells.specs.Done.{Done, idle}
-use Rattle.pg_cells.proofs.News.{news_sent}
-use Rattle.pg_calls.specs.Answer.{Answer, answered}
-use Rattle.pg_calls.specs.Bodies.{change_file}
+use Rattle.pg_cells.specs.Posting.{post}
+use Rattle.pg_walk.specs.declared.paths.Found.{Found}
+use Rattle.pg_walk.specs.declared.paths.Stop.{Stop}
+use Rattle.pg_walk.specs.declared.paths.Stop.TheVariants as stop
+use Rattle.pg_calls.specs.declared.checks.NewName.{NewName}
+use Rattle.pg_calls.specs.Answer.{Answer, answered, deny, replied}
+use Rattle.pg_calls.specs.Asking.{ask_by, fetch, fresh_wish, holder, standing}
+use Rattle.pg_calls.specs.Bodies.{change, change_file, when_fit}
 use Rattle.pg_calls.specs.Calls.{do_call}
-use Rattle.pg_calls.specs.Making.{drawn, first_ranges, make_flag, make_place, make_version}
-use Rattle.pg_calls.specs.Naming.{dead_place, next_id, place_in, with_first_version, with_id}
+use Rattle.pg_calls.specs.Checks.{dir_at, empty_dir_at, file_at, in_time, move_of, new_name, target_at}
+use Rattle.pg_calls.specs.Making.{drawn, first_ranges, make_place, make_version}
+use Rattle.pg_calls.specs.Naming.{begun, dead_place, next_id, place_in, with_first_version, with_id, with_thing}
+use Rattle.pg_calls.proofs.Checked.{fit_found}
+use Rattle.pg_calls.proofs.New.{thing_new}
+use Rattle.pg_calls.proofs.Walked.{file_found, full_held}
+use Rattle.pg_call.specs.declared.reply.Reply.{Reply}
 use Rattle.pg_promises.specs.Histories.{IsOfHistory}
 use Rattle.pg_promises.specs.Whole.{IsWhole}
-use Rattle.pg_promises.proofs.Events.{IsUnderWay, begin_on, begun, flag_on, id_on, place_on, write_on}
-use Rattle.pg_promises.proofs.Taking.{flag_taken, place_taken}
-use Rattle.pg_promises.proofs.Policies.{begun_history}
+use Rattle.pg_promises.proofs.Choices.{chosen}
+use Rattle.pg_promises.proofs.LawsOf.{write_of_held}
+use Rattle.pg_promises.proofs.Together.{replica_of_held}
+use Rattle.pg_promises.proofs.Whole.{whole_write}
+use Rattle.pg_run.specs.Away.{BeginsWhatIsAway}
+use Rattle.pg_kept.proofs.Contents.{AreOfHistory, content_held, none_of_history}
+use Rattle.pg_kept.proofs.Pieces.{IsDone, Stands, begun_done, beside_done, nothing_done, on_done, place_done, posted, raised_done}
 
--- what is asked of a server's contents: they are of a history, and of the file whose id it gives out
--- next it has no version
-pub record AreOfHistory (a : Store) : Type 0 where
-  pub each : (file : FileId) → (h : List Made) × IsOfHistory h (content_of a file)
-  pub fresh : (content_of a (next_id a File)).heads ≡ []
+replica_by : (b : Store) (f : FileId) (o : Option Replica) → replica_at b f ≡ o → is_some o ≡ true
+    → (x : Replica) × (replica_at b f ≡ Some x)
+replica_by b f None is h = absurd (let z : false ≡ true = h in cc)
+replica_by b f (Some x) is h = (x, is)
 
-module _ (n s : ℕ) (a : Store) (k : IsWhole n s a) (heard : Saying Slot Cell) where
-  -- what came of the event so far keeps the rule
-  abbrev pub Stands : Store → Work → Type 0
-  Stands b work = IsUnderWay n s a heard b work.sent
+none_sorted : IsByServer []
+unfolding IsStrictlySortedBy
+none_sorted = tt
 
-  abbrev pub IsDone : Done → Type 0
-  IsDone d = Stands d.store d.work
+-- Server s of n has a, and is called
+module _ (n s : ℕ) (a : Store) (k : IsWhole n s a) (heard : Saying Slot Cell) (of : AreOfHistory a)
+    (away : BeginsWhatIsAway a) (moment : ℕ) where
+  abbrev W : Work
+  W = new_work moment 0
+
+  abbrev Is : Done → Type 0
+  Is d = IsDone n s a heard d
+
+  abbrev At : Store → Work → Type 0
+  At b work = Stands n s a heard b work
 
   abbrev pub IsAnswer : Answer → Type 0
-  IsAnswer x = Stands x.store x.work
+  IsAnswer x = At x.store x.work
 
-  -- A PLACE IS MADE
-  made_place : (f : FileId) (place : Place) (d : Done) → IsDone d → IsDone (make_place f place d)
-  made_place f place d u =
-      let P : List Sent → Type 0 = λ ms. IsUnderWay n s a heard (take_place d.store f place) ms in
-      subst P
-      (sym (news_sent (is_newer_place d.store f place) (with_made d.work (update.Place f place)) f
-      key.Place)) (place_on n s a heard d.store d.work.sent u f place)
+  nothing : At a W
+  nothing = nothing_done n s a heard moment 0 k
 
-  -- A FLAG
-  made_flag : (f : FileId) (flag : Flag) (d : Done) → IsDone d → IsDone (make_flag f flag d)
-  made_flag f flag d u =
-      let P : List Sent → Type 0 = λ ms. IsUnderWay n s a heard (take_flag d.store f flag) ms in
-      subst P
-      (sym (news_sent (is_newer_flag d.store f flag) (with_made d.work (update.Flag f flag)) f
-      (key.Flag flag.server))) (flag_on n s a heard d.store d.work.sent u f flag)
+  -- ---- a call that does not go on
 
-  -- A VERSION
-  made_version : (f : FileId) (h : List Made) (stamp : Stamp) (ranges : RangesValue) (d : Done)
-      → IsOfHistory h (content_of d.store f) → IsDone d → IsDone (make_version f stamp ranges d)
-  made_version f h stamp ranges d of u =
-      write_on n s a heard d.store d.work.sent u f h of stamp ranges
+  fetched : (b : Store) → At b W → (file : FileId) (wish : Wish) → At b (fetch b file wish W)
+  fetched b u file wish =
+      let m = message.Fetch file wish.birth in
+      chosen (At b) (wish.target == 0) W (post b wish.target m W) u
+      (posted n s a heard b W u wish.target m (λ from. refl) tt)
 
-  module _ (moment : ℕ) where
-    abbrev W : Work
-    W = new_work moment 0
+  -- the wish is kept, and what is sent names it: from the store as it was
+  asked_first : (file : FileId) (target : ℕ)
+      → At (with_wish (with_birth a) file (fresh_wish a target)) (fetch a file (fresh_wish a target) W)
+  asked_first file target =
+      let wishing = with_wish (with_birth a) file (fresh_wish a target) in
+      beside_done n s a heard a (fetch a file (fresh_wish a target) W) (fetched a nothing file (fresh_wish a target))
+      wishing (record { servers = refl; tags = refl; names = refl; replicas = refl }) k.patches
 
-    nothing : Stands a W
-    nothing = begun n s a heard k
+  asked_by : (found : Found) (o : Option Wish) → Is (ask_by a found o W)
+  asked_by found None =
+      let target = holder a found in
+      chosen Is (target == 0) (idle a W)
+      (idle (with_wish (with_birth a) found.file (fresh_wish a target))
+      (fetch a found.file (fresh_wish a target) W)) nothing (asked_first found.file target)
+  asked_by found (Some wish) = fetched a nothing found.file wish
 
-    -- a refused call changes nothing
-    answered_on : {A : Type 0} (r : Result A Refusal) (next : A → Answer)
-        → ((x : A) → IsAnswer (next x)) → IsAnswer (answered a W r next)
-    answered_on (Err why) next h = nothing
-    answered_on (Ok x) next h = h x
+  denied_on : (why : Stop) → IsAnswer (deny a why W)
+  denied_on (stop.Refused why) = nothing
+  denied_on (stop.NotYet found) = asked_by found (standing a found.file)
 
-    -- ---- new things
+  answered_on : {A : Type 0} (r : Result A Stop) (next : A → Answer)
+      → ((x : A) → r ≡ Ok x → IsAnswer (next x)) → IsAnswer (answered a W r next)
+  answered_on (Err why) next h = denied_on why
+  answered_on (Ok x) next h = h x refl
 
-    module _ (id : FileId) (place : Place) where
-      abbrev Given : Store
-      Given = with_id a
+  replied_on : {A : Type 0} (r : Result A Stop) (tell : A → Reply) → IsAnswer (replied a W r tell)
+  replied_on (Err why) tell = denied_on why
+  replied_on (Ok x) tell = nothing
 
-      abbrev First : Flag
-      First = first_flag a.names.server
+  -- ---- what is made
 
-      abbrev Placed : Done
-      Placed = make_place id place (idle Given W)
+  made_place : (d : Done) → Is d → (f : FileId) (place : Place) → Is (make_place f place d)
+  made_place d u f place =
+      place_done n s a heard d.store (with_made d.work (update.Place f place)) u f place
 
-      abbrev Thing : Done
-      Thing = make_flag id First Placed
+  made_version : (d : Done) → Is d → (f : FileId) (x : Replica) → replica_at d.store f ≡ Some x
+      → (h : List Made) → IsOfHistory h (content_of d.store f) → (stamp : Stamp) (ranges : RangesValue)
+      → Is (make_version f stamp ranges d)
+  made_version d u f x here h of_h stamp ranges =
+      on_done n s a heard d.store d.work u (write d.store f stamp ranges)
+      (write_of_held d.store f (x, here) h stamp ranges of_h) (whole_write n s d.store u.way.whole f stamp ranges)
 
-      thing_on : IsDone Thing
-      thing_on =
-          made_flag id First Placed
-          (made_place id place (idle Given W)
-          (id_on n s a heard a [] nothing (a.files + 1)))
+  -- ---- new things
 
-      -- it has the content that was held
-      thing_content : content_of Thing.store id ≡ content_of a id
-      thing_content =
-          (flag_taken Placed.store id First).took.touched.content id
-          ∙ (place_taken Given id place).took.touched.content id
+  module _ (id : FileId) (fresh : is_held a id ≡ false) (policy : Policy) where
+    abbrev Counted : Store
+    Counted = with_birth (with_id a)
 
-      module _ (policy : Policy) (of : AreOfHistory a) (fresh : (content_of a id).heads ≡ []) where
-        abbrev Begun : Done
-        Begun = record { store = begin_file Thing.store id policy; work = Thing.work }
+    counted_on : At Counted W
+    counted_on =
+        beside_done n s a heard a W nothing Counted
+        (record { servers = refl; tags = refl; names = refl; replicas = refl }) k.patches
 
-        -- it has no version yet
-        pub thing_is_empty : has_no_head (replica_of Thing.store id) ≡ true
-        thing_is_empty = ap (λ (c : ContentValue). is_empty c.heads) thing_content ∙ ap is_empty fresh
+    begun_on : At (begun (with_id a) id policy) W
+    begun_on =
+        begun_done n s a heard Counted W counted_on id (draw_birth (with_id a)) policy (blank_own id) true fresh
+        none_sorted
 
-        begun_on : IsDone Begun
-        begun_on = begin_on n s a heard Thing.store Thing.work.sent thing_on id policy thing_is_empty
+  module _ (id : FileId) (fresh : is_held a id ≡ false) (policy : Policy) (new : NewName) where
+    abbrev Thing : Done
+    Thing = with_thing (with_id a) W id policy new
 
-        old : List Made
-        old = (of.each id).0
+    thing_on : Is Thing
+    thing_on =
+        let place = place_in (with_id a) moment new in
+        let first = idle (begun (with_id a) id policy) W in
+        let placed = make_place id place first in
+        raised_done n s a heard placed.store placed.work id (made_place first (begun_on id fresh policy) id place)
 
-        begun_of : IsOfHistory (of.each id).0 (content_of Begun.store id)
-        begun_of =
-            let P : ContentValue → Type 0 = λ c. IsOfHistory (of.each id).0 c in
-            begun_history Thing.store id policy (of.each id).0
-            (subst P (sym thing_content) (of.each id).1)
+    first_on : Is (with_first_version id Thing)
+    first_on =
+        let none = thing_new (with_id a) W id policy new in
+        let x = replica_by Thing.store id (replica_at Thing.store id) refl none.0 in
+        made_version Thing thing_on id x.0 x.1 (of.histories id)
+        (none_of_history (of.histories id) (content_of Thing.store id) (of.are id) none.1)
+        (drawn Thing.store Thing.work.now) first_ranges
 
-        file_on : IsDone (with_first_version id policy Thing)
-        file_on = made_version id (of.each id).0 (drawn Thing.store Thing.work.now) first_ranges Begun
-            begun_of begun_on
+  -- ---- contents
 
-    -- ---- places
+  changed_on : (ranges : RangesValue) (f : FileId) → is_held a f ≡ true → IsAnswer (change_file a ranges W f)
+  changed_on ranges f held =
+      answered_on (when_fit a ranges f) _ (λ fit same.
+      let there : is_held a fit ≡ true = subst (λ g. is_held a g ≡ true) (fit_found a ranges f fit same) held in
+      let x = replica_of_held a k.together fit there in
+      made_version (idle a W) nothing fit x.0 x.1 (of.histories fit)
+      (subst (IsOfHistory (of.histories fit)) (sym (content_held a fit x.0 x.1)) (of.held fit x.0 x.1)) (drawn a moment) ranges)
 
-    placed_on : (f : FileId) (place : Place) → IsDone (make_place f place (idle a W))
-    placed_on f place = made_place f place (idle a W) nothing
+  change_on : (text : List ℕ) (ranges : RangesValue) → IsAnswer (change a text ranges W)
+  change_on text ranges =
+      answered_on (file_at a text) (change_file a ranges W)
+      (λ f found. changed_on ranges f (full_held a.names f (file_found a text f found).0))
 
-    -- ---- contents
+  -- ---- places
 
-    module _ (of : AreOfHistory a) where
-      changed_on : (ranges : RangesValue) (f : FileId) → IsAnswer (change_file a ranges W f)
-      changed_on ranges f =
-          answered_on _ _ (λ fit. made_version fit (of.each fit).0 (drawn a moment) ranges (idle a W)
-          (of.each fit).1 nothing)
+  placed_on : (f : FileId) (place : Place) → Is (make_place f place (idle a W))
+  placed_on f place = made_place (idle a W) nothing f place
 
-      -- EVERY CALL
-      pub call_on : (c : Call) → IsAnswer (do_call a c W)
-      call_on (call.Mkdir path) = answered_on _ _ (λ new. thing_on (next_id a Dir) (place_in (with_id a) moment new))
-      call_on (call.Create path policy) =
-          answered_on _ _ (λ new. file_on (next_id a File) (place_in (with_id a) moment new) policy of of.fresh)
-      call_on (call.Write path offset bytes) = answered_on _ _ (λ f. changed_on _ f)
-      call_on (call.Cut path length) = answered_on _ _ (λ f. changed_on _ f)
-      call_on (call.Read path offset count) = nothing
-      call_on (call.Fresh path) = nothing
-      call_on (call.Ls path from) = nothing
-      call_on (call.Stat target) = nothing
-      call_on (call.Rename from to) =
-          answered_on _ _ (λ move. placed_on move.thing (place_in a moment move.to))
-      call_on (call.Unlink path) = answered_on _ _ (λ f. placed_on f (dead_place a moment f))
-      call_on (call.Rmdir path) = answered_on _ _ (λ f. placed_on f (dead_place a moment f))
-      call_on (call.Forget id) = nothing
-      call_on (call.Demote target) = nothing
-      call_on (call.Drop target) = nothing
-      call_on (call.Giveup view server) = nothing
-      call_on call.Status = nothing
-      call_on call.Stop = nothing
+  -- EVERY CALL
+  pub call_on : (c : Call) → IsAnswer (do_call a c W)
+  call_on (call.Mkdir path) =
+      answered_on (new_name a (next_id a Dir) path) _
+      (λ new found. thing_on (next_id a Dir) (away.fresh Dir) Last new)
+  call_on (call.Create path policy) =
+      answered_on (new_name a (next_id a File) path) _
+      (λ new found. first_on (next_id a File) (away.fresh File) policy new)
+  call_on (call.Write path offset bytes) = change_on path (written offset bytes)
+  call_on (call.Cut path length) = change_on path (cut_to length)
+  call_on (call.Read path offset count) = replied_on (file_at a path) _
+  call_on (call.Fresh path) = replied_on (file_at a path) _
+  call_on (call.Ls path from) = replied_on (dir_at a path) _
+  call_on (call.Stat target) = replied_on (target_at a target) _
+  call_on (call.Rename from to) =
+      answered_on (move_of a from to) _ (λ move found. placed_on move.thing (place_in a moment move.to))
+  call_on (call.Unlink path) =
+      answered_on (file_at a path) _ (λ f found. placed_on f (dead_place a moment f))
+  call_on (call.Rmdir path) =
+      answered_on (empty_dir_at a path) _ (λ f found. placed_on f (dead_place a moment f))
+  call_on (call.Forget id) = replied_on (in_time a (tt {0})) _
+  call_on (call.Demote target) = replied_on (in_time a (tt {0})) _
+  call_on (call.Drop target) = replied_on (in_time a (tt {0})) _
+  call_on (call.Giveup view server) = replied_on (in_time a (tt {0})) _
+  call_on call.Status = replied_on (in_time a (tt {0})) _
+  call_on call.Stop = replied_on (in_time a (tt {0})) _

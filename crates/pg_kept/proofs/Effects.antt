@@ -1,124 +1,254 @@
--- What a server does with each input keeps the rule of the edges.
-use Rattle.std.proofs.Common.{ℕ, ◌&&◌, Bool, cond, [], Option, None, Some}
+-- What a server does with any input keeps the rule of the edges.
+use Rattle.std.proofs.Common.{ℕ, ◌≡◌, ◌≤◌, ◌==◌, Bool, true, false, cond, not, refl, sym, subst, ◌∙◌}
+use Rattle.std.specs.Prelude.{nat_le}
+use Rattle.std.specs.List.{flat_map}
+use Rattle.std.proofs.lemmas.Bool.{and_parts, eq-eqb, leb-true}
+use Rattle.std.proofs.lemmas.List.Elements.{All-append}
+use Rattle.pg_edges.specs.declared.key.Key.{Key}
+use Rattle.pg_entries.specs.declared.cell.Cell.{Cell}
 use Rattle.pg_flood.specs.Promises.{Saying}
 use Rattle.pg_flood.specs.Promises.Saying.{Other}
 use Rattle.pg_flood.specs.Server.{Slot}
+use Rattle.pg_flood.proofs.Later.{all_may_later}
 use Rattle.pg_flood.proofs.Sends.{none_sent}
-use Rattle.pg_flood.proofs.Steps.{HasSoundTags, Steps-refl}
-use Rattle.pg_entries.specs.declared.cell.Cell.{Cell}
+use Rattle.pg_flood.proofs.Steps.{HasSoundTags, May, Steps-refl, then_steps}
+use Rattle.pg_msg.specs.declared.message.Ends.{Ends}
 use Rattle.pg_msg.specs.declared.message.Message.{Message}
 use Rattle.pg_msg.specs.declared.message.Message.TheVariants as message
 use Rattle.pg_msg.specs.declared.message.Packet.{Packet}
 use Rattle.pg_msg.specs.declared.work.Work.{Work}
-use Rattle.pg_msg.specs.Numbers.{is_in_range}
 use Rattle.pg_msg.specs.Work.{new_work}
-use Rattle.pg_call.specs.declared.call.Call.{Call}
-use Rattle.pg_call.specs.declared.refusal.Refusal.TheVariants.{ClockEnd}
-use Rattle.pg_call.specs.declared.reply.Reply.{Reply}
-use Rattle.pg_call.specs.declared.reply.Reply.TheVariants as reply
+use Rattle.pg_names.specs.Names.{is_dir}
+use Rattle.pg_register.specs.Flag.{IsByServer}
 use Rattle.pg_store.specs.declared.store.Store.{Store}
-use Rattle.pg_store.specs.Store.{is_in_time}
-use Rattle.pg_cells.specs.Cells.{cell_if_accepted}
-use Rattle.pg_cells.specs.Done.{Done, idle}
-use Rattle.pg_cells.specs.Settling.{settle}
+use Rattle.pg_store.specs.Servers.{is_live_other, view_of}
+use Rattle.pg_store.specs.Store.{acknowledge, is_in_time}
+use Rattle.pg_cells.specs.Acks.{ack}
+use Rattle.pg_cells.specs.Cells.{cell}
+use Rattle.pg_cells.specs.Done.{Done, idle, link_of}
+use Rattle.pg_cells.specs.Sending.{is_any}
 use Rattle.pg_cells.specs.Ticks.{tick}
+use Rattle.pg_repair.specs.Confirming.{confirm, place_is}
+use Rattle.pg_repair.specs.Fetching.{fetch}
+use Rattle.pg_repair.specs.Filling.{full}
+use Rattle.pg_repair.specs.Granting.{gone, grant, no_grant}
+use Rattle.pg_repair.specs.NoneHere.{none_here}
+use Rattle.pg_repair.specs.Requests.{asks}
+use Rattle.pg_repair.specs.Telling.{tell, tell_ok}
 use Rattle.pg_calls.specs.Calls.{do_call}
-use Rattle.pg_server.specs.Local.{Effect, arrival_effect, call_effect, closed, finished, receive, tick_effect}
-use Rattle.pg_promises.specs.Seen.{cells, saying}
-use Rattle.pg_promises.specs.Whole.{IsWhole}
-use Rattle.pg_promises.proofs.Choices.{chosen}
-use Rattle.pg_promises.proofs.Events.{IsComing, IsGood, IsUnderWay, ack_good, begun, cell_on, finish_good, settle_on}
-use Rattle.pg_promises.proofs.Sending.{tick_may}
-use Rattle.pg_kept.proofs.Calls.{AreOfHistory, IsDone, call_on}
-use Rattle.pg_flood.proofs.Later.{all_may_later}
+use Rattle.pg_server.specs.declared.input.Input.{Input}
+use Rattle.pg_server.specs.declared.input.Input.TheVariants as input
+use Rattle.pg_server.specs.Local.{Effect, done_of, effect, first_effect, is_heard, receive, sent_again, takes_effect, without_wishes}
+use Rattle.pg_promises.specs.Seen.{cells, says, saying}
+use Rattle.pg_promises.specs.Whole.{IsOther, IsWhole, PatchesAreForDirs}
+use Rattle.pg_promises.proofs.Acks.{acknowledged, none_noted}
+use Rattle.pg_promises.proofs.Choices.{decided}
+use Rattle.pg_promises.proofs.Sending.{others_may, tick_may}
+use Rattle.pg_promises.proofs.Whole.{whole_acknowledge}
+use Rattle.pg_run.specs.Away.{BeginsWhatIsAway}
+use Rattle.pg_run.proofs.Event.{asks_have, effect_is, end_of, store_is}
+use Rattle.pg_kept.proofs.Calls.{call_on}
+use Rattle.pg_kept.proofs.Cells.{Suits, cell_is_done}
+use Rattle.pg_kept.proofs.Contents.{AreOfHistory}
+use Rattle.pg_kept.proofs.Handlers.{confirm_done, fetch_done, full_done, gone_done, grant_done, no_grant_done, none_here_done, place_is_done, tell_done, tell_ok_done}
+use Rattle.pg_kept.proofs.Pieces.{Goes, IsDone, Stands, beside_done, nothing_done}
+use Rattle.pg_kept.proofs.Asked.{IsOrdered, IsUnread, all_ordered, all_unread, cells_ordered}
+use Rattle.pg_kept.proofs.Ends.{IsFirst, IsKind, begins_here, end_first, ended_good}
 
--- what is asked of a message: a version that it brings is one of the history
-abbrev pub Comes : Store → Message → Type 0
-Comes a (message.Cell ends tag c) = IsComing a ends.file c
-Comes a _ = Unit {0}
+-- ---- the first effect
 
-module _ (n s : ℕ) (a : Store) (k : IsWhole n s a) (tags : HasSoundTags cells a) where
-  abbrev pub Good : Saying Slot Cell → Effect → Type 0
-  Good heard e = IsGood n s a heard e.store e.out.sent
+-- what is asked of a message
+abbrev pub SuitsMessage : Store → Message → Type 0
+SuitsMessage a (message.Cell ends tag c) = Suits a ends.file c
+SuitsMessage a (message.Grant ends granted) = IsByServer granted.flags
+SuitsMessage a (message.PlaceIs dir e) = is_dir dir ≡ true
+SuitsMessage a (message.Tell dir e) = is_dir dir ≡ true
+SuitsMessage a _ = Unit {0}
 
-  module _ (heard : Saying Slot Cell) where
-    -- where the house rules run behind it
-    closed_good : (answer : Option Reply) (d : Done) → IsDone n s a k heard d
-        → Good heard (closed answer d)
-    closed_good answer d u =
-        finish_good n s a heard (settle d.store d.work).store (settle d.store d.work).work
-        (settle_on n s a heard d.store d.work u) tags
+abbrev pub SuitsInput : Store → Input → Type 0
+SuitsInput a (input.Call moment call) = Unit {0}
+SuitsInput a (input.Tick moment word) = Unit {0}
+SuitsInput a (input.Arrival packet) = SuitsMessage a packet.message
+SuitsInput a input.Restart = Unit {0}
 
-    -- and where they do not
-    finished_good : (answer : Option Reply) (d : Done) → IsDone n s a k heard d
-        → Good heard (finished answer d)
-    finished_good answer d u = finish_good n s a heard d.store d.work u tags
+-- what the edges hear in an input
+abbrev pub heard_in : ℕ → Input → Saying Slot Cell
+heard_in s (input.Call moment call) = Other
+heard_in s (input.Tick moment word) = Other
+heard_in s (input.Arrival packet) = saying packet.from s packet.message
+heard_in s input.Restart = Other
 
-    still : (work : Work) → IsUnderWay n s a heard a []
-    still work = begun n s a heard k
+module _ (n s : ℕ) (a : Store) (k : IsWhole n s a) (of : AreOfHistory a) (away : BeginsWhatIsAway a) where
+  -- a chain that begins where the server was
+  first_here : (heard : Saying Slot Cell) (d : Done) → Goes n s a heard d.store d.work.sent
+      → IsFirst n s a heard d
+  first_here heard d u = record { start = a; begins = begins_here n s a heard k; goes = u }
 
-  -- A CALL
-  pub call_good : AreOfHistory a → (moment : ℕ) (c : Call) → Good Other (call_effect a moment c)
-  call_good of moment c =
-      let x = do_call a c (new_work moment 0) in
-      let u = call_on n s a k Other moment of c in
-      chosen (Good Other) (is_in_time a) (closed (Some x.reply) (idle x.store x.work))
-      (finished (Some x.reply) (idle x.store x.work))
-      (closed_good Other (Some x.reply) (idle x.store x.work) u)
-      (finished_good Other (Some x.reply) (idle x.store x.work) u)
+  nothing_first : (heard : Saying Slot Cell) (moment from : ℕ)
+      → IsFirst n s a heard (idle a (new_work moment from))
+  nothing_first heard moment from = first_here heard (idle a (new_work moment from)) (nothing_done n s a heard moment from k)
 
-  -- A TICK: what it sends may be sent whatever the house rules do behind it
-  tick_on : (moment : ℕ) → IsUnderWay n s a Other a (tick a (new_work moment 0)).sent
-  tick_on moment =
-      let work = new_work moment 0 in
+  -- an answer is heard
+  acked_first : (from : ℕ) (ends : Ends) (q : Key) (tag : ℕ)
+      → IsFirst n s a (saying from s (message.Ack ends q tag)) (ack a ends q tag (new_work 0 from))
+  acked_first from ends q tag =
+      let heard = saying from s (message.Ack ends q tag) in
+      let b = acknowledge a ends.file (link_of from ends) q tag in
+      let acked = acknowledged s a from ends q tag in
+      let whole = whole_acknowledge n s a k ends.file (link_of from ends) q tag in
       record {
-        steps = Steps-refl cells a;
-        whole = k;
-        sends = λ c f. all_may_later cells s a a c Other (tick a work).sent f
-            (tick_may n s a a Other tags k work (none_sent cells s a a Other));
+        start = b;
+        begins = record {
+          rule = λ c sent f may. then_steps cells s a b c heard sent acked.rule f (none_noted a c heard) may;
+          on = acked.rule.onward.covers;
+          tags = acked.tags;
+          whole = whole;
+        };
+        goes = nothing_done n s b heard 0 from whole;
       }
 
-  pub tick_good : (moment : ℕ) → Good Other (tick_effect a moment)
-  tick_good moment =
-      let work = new_work moment 0 in
-      let sends = idle a (tick a work) in
-      let refused = idle a work in
-      chosen (Good Other) (is_in_time a) (closed (Some reply.Done) sends)
-      (finished (Some (reply.Refused ClockEnd)) refused)
-      (closed_good Other (Some reply.Done) sends (tick_on moment))
-      (finished_good Other (Some (reply.Refused ClockEnd)) refused (still Other work))
+  module _ (from : ℕ) (other : IsOther n s from) where
+    abbrev W : Work
+    W = new_work 0 from
 
-  -- A MESSAGE
+    abbrev First : Message → Done → Type 0
+    First m d = IsFirst n s a (saying from s m) d
 
-  abbrev Arrived : ℕ → Message → Bool → Effect
-  Arrived from m going =
-      cond going (closed None (receive a m (new_work 0 from))) (finished None (idle a (new_work 0 from)))
+    here : (m : Message) (d : Done) → IsDone n s a (saying from s m) d → First m d
+    here m d u = first_here (saying from s m) d u
 
-  ignored_good : (from : ℕ) (m : Message) → Good (saying from s m) (finished None (idle a (new_work 0 from)))
-  ignored_good from m =
-      finished_good (saying from s m) None (idle a (new_work 0 from))
-      (still (saying from s m) (new_work 0 from))
+    none : (m : Message) → First m (idle a W)
+    none m = nothing_first (saying from s m) 0 from
 
-  idle_good : (from : ℕ) (heard : Saying Slot Cell)
-      → Good heard (closed None (idle a (new_work 0 from)))
-  idle_good from heard = closed_good heard None (idle a (new_work 0 from)) (still heard (new_work 0 from))
+    start : (m : Message) → Stands n s a (saying from s m) a W
+    start m = nothing_done n s a (saying from s m) 0 from k
 
-  received_good : (from : ℕ) (m : Message) → Comes a m
-      → Good (saying from s m) (closed None (receive a m (new_work 0 from)))
-  received_good from (message.Cell ends tag c) of =
-      let heard = saying from s (message.Cell ends tag c) in
-      closed_good heard None (cell_if_accepted a ends tag c (new_work 0 from))
-      (cell_on n s a k from 0 ends tag c of)
-  received_good from (message.Ack ends q g) of = ack_good n s a k tags from ends q g 0
-  received_good from m of = idle_good from Other
+    -- EVERY MESSAGE
+    received_first : (m : Message) → SuitsMessage a m → First m (receive a m W)
+    received_first (message.Cell ends tag c) suits =
+        let m = message.Cell ends tag c in
+        here m (cell a ends tag c W) (cell_is_done n s a ends tag c W other (start m) suits)
+    received_first (message.Ack ends q tag) suits = acked_first from ends q tag
+    received_first (message.Fetch file birth) suits =
+        let m = message.Fetch file birth in
+        here m (fetch a file birth W) (fetch_done n s a (saying from s m) a W (start m) file birth other)
+    received_first (message.Grant ends g) suits =
+        let m = message.Grant ends g in
+        here m (grant a ends g W)
+        (grant_done n s a (saying from s m) a W (start m) ends g other (away.wished ends.file) suits)
+    received_first (message.NoGrant file birth) suits =
+        let m = message.NoGrant file birth in
+        here m (no_grant a file birth W) (no_grant_done n s a (saying from s m) a W (start m) file birth)
+    received_first (message.Full ends) suits =
+        let m = message.Full ends in
+        here m (full a ends W) (full_done n s a (saying from s m) a W (start m) ends)
+    received_first (message.NoneHere what file child) suits =
+        let m = message.NoneHere what file child in
+        here m (none_here a what file child W)
+        (none_here_done n s a (saying from s m) a W (start m) what file child)
+    received_first (message.Gone file birth) suits =
+        let m = message.Gone file birth in
+        here m (gone a file birth W) (gone_done n s a (saying from s m) a W (start m) file birth)
+    received_first (message.Confirm dir e) suits =
+        let m = message.Confirm dir e in
+        here m (confirm a dir e W) (confirm_done n s a (saying from s m) a W (start m) dir e)
+    received_first (message.PlaceIs dir e) suits =
+        let m = message.PlaceIs dir e in
+        here m (place_is a dir e W) (place_is_done n s a (saying from s m) a W (start m) dir e suits)
+    received_first (message.Tell dir e) suits =
+        let m = message.Tell dir e in
+        here m (tell a dir e W) (tell_done n s a (saying from s m) a W (start m) dir e suits)
+    received_first (message.TellOk dir child stamp) suits =
+        let m = message.TellOk dir child stamp in
+        here m (tell_ok a dir child stamp W)
+        (tell_ok_done n s a (saying from s m) a W (start m) dir child stamp)
+    received_first (message.Harbinger ends tag head) suits = none (message.Harbinger ends tag head)
+    received_first (message.Want ends wanted) suits = none (message.Want ends wanted)
+    received_first (message.Delta ends delta) suits = none (message.Delta ends delta)
+    received_first (message.Piece ends piece) suits = none (message.Piece ends piece)
+    received_first (message.Later ends stamp) suits = none (message.Later ends stamp)
+    received_first (message.Seek file birth) suits = none (message.Seek file birth)
+    received_first (message.Here ends) suits = none (message.Here ends)
+    received_first (message.Bye ends) suits = none (message.Bye ends)
+    received_first (message.ByeOk file birth) suits = none (message.ByeOk file birth)
+    received_first (message.Leave ends stamp) suits = none (message.Leave ends stamp)
+    received_first (message.LeaveOk ends stamp) suits = none (message.LeaveOk ends stamp)
+    received_first (message.Invite ends) suits = none (message.Invite ends)
+    received_first (message.Walk ends origin birth hops word) suits = none (message.Walk ends origin birth hops word)
+    received_first (message.Meet ends) suits = none (message.Meet ends)
 
-  arrived_good : (from : ℕ) (m : Message) (going : Bool) → Comes a m
-      → Good (saying from s m) (Arrived from m going)
-  arrived_good from m going of =
-      chosen (Good (saying from s m)) going (closed None (receive a m (new_work 0 from)))
-      (finished None (idle a (new_work 0 from))) (received_good from m of) (ignored_good from m)
+  -- ---- who is heard is another server of the run
 
-  pub arrival_good : (packet : Packet) → Comes a packet.message
-      → Good (saying packet.from s packet.message) (arrival_effect a packet)
-  arrival_good packet of =
-      arrived_good packet.from packet.message (is_in_time a && is_in_range packet.message) of
+  other_by : (from : ℕ) → is_live_other a from ≡ true → IsOther n s from
+  other_by from h =
+      let one = and_parts (nat_le 1 from) _ h in
+      let two = and_parts (nat_le from a.servers) _ one.1 in
+      let three = and_parts (not (from == a.names.server)) _ two.1 in
+      record {
+        least = leb-true 1 from one.0;
+        most = subst (λ m. from ≤ m) k.servers (leb-true from a.servers two.0);
+        apart = λ same. apart_by (from == a.names.server) (eq-eqb from a.names.server (same ∙ sym k.server)) three.0;
+      }
+    where
+      apart_by : (t : Bool) → t ≡ true → not t ≡ true → ⊥
+      apart_by true same h = let z : false ≡ true = h in cc
+      apart_by false same h = let z : false ≡ true = same in cc
+
+  other_heard : (packet : Packet) → is_heard a packet ≡ true → IsOther n s packet.from
+  other_heard packet h =
+      let one = and_parts (is_in_time a) _ h in
+      let two = and_parts (packet.view == view_of a) _ one.1 in
+      other_by packet.from (and_parts (is_live_other a packet.from) _ two.1).0
+
+  -- ---- ticks
+
+  tick_first : (moment : ℕ) → HasSoundTags cells a → IsFirst n s a Other (idle a (sent_again a (new_work moment 0)))
+  tick_first moment sound =
+      let w = new_work moment 0 in
+      let cells_may = tick_may n s a a Other sound k w (none_sent cells s a a Other) in
+      let asks_may = others_may s a a Other (flat_map (asks a) a.intents) (asks_have IsUnread a a.intents (all_unread a)) in
+      let may = All-append (λ m. May cells s a a Other (says m)) (tick a w).sent (flat_map (asks a) a.intents) cells_may asks_may in
+      first_here Other (idle a (sent_again a w)) (record {
+        way = record {
+          steps = Steps-refl cells a;
+          whole = k;
+          sends = λ c f. all_may_later cells s a a c Other (sent_again a w).sent f may;
+        };
+        grants = All-append IsOrdered (tick a w).sent (flat_map (asks a) a.intents) (cells_ordered a is_any)
+            (asks_have IsOrdered a a.intents (all_ordered a));
+      })
+
+  ticked : (moment : ℕ) (t : Bool) → HasSoundTags cells a
+      → IsFirst n s a Other (idle a (cond t (sent_again a (new_work moment 0)) (new_work moment 0)))
+  ticked moment true sound = tick_first moment sound
+  ticked moment false sound = nothing_first Other moment 0
+
+  -- EVERY INPUT
+  pub first_done : (asked : Input) → SuitsInput a asked → HasSoundTags cells a
+      → IsFirst n s a (heard_in s asked) (first_effect a asked)
+  first_done (input.Call moment c) suits sound =
+      first_here Other (done_of (do_call a c (new_work moment 0))) (call_on n s a k Other of away moment c)
+  first_done (input.Tick moment word) suits sound = ticked moment (is_in_time a) sound
+  first_done (input.Arrival packet) suits sound =
+      let heard = saying packet.from s packet.message in
+      decided (IsFirst n s a heard) (is_heard a packet) (receive a packet.message (new_work 0 packet.from))
+      (idle a (new_work 0 packet.from))
+      (λ t. received_first packet.from (other_heard packet t) packet.message suits)
+      (λ f. nothing_first heard 0 packet.from)
+  first_done input.Restart suits sound =
+      let lost = without_wishes a in
+      let w = new_work 0 0 in
+      first_here Other (idle lost w)
+      (beside_done n s a Other a w (nothing_done n s a Other 0 0 k) lost
+      (record { servers = refl; tags = refl; names = refl; replicas = refl }) k.patches)
+
+  -- AN EFFECT
+  pub effect_good : (asked : Input) → SuitsInput a asked → HasSoundTags cells a
+      → PatchesAreForDirs (effect a asked).store
+      → IsKind n s a (heard_in s asked) (effect a asked).store (effect a asked).out.sent
+  effect_good asked suits sound patches =
+      let heard = heard_in s asked in
+      let for_dirs : PatchesAreForDirs (end_of a asked).store = subst PatchesAreForDirs (store_is a asked) patches in
+      subst (λ (e : Effect). IsKind n s a heard e.store e.out.sent) (sym (effect_is a asked))
+      (ended_good n s a heard (end_of a asked)
+      (end_first n s a heard (first_effect a asked) (takes_effect a asked) for_dirs (first_done asked suits sound)) sound)

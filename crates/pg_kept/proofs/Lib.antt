@@ -1,5 +1,13 @@
+pub mod Pieces
+pub mod Intents
+pub mod Contents
+pub mod Handlers
+pub mod Cells
 pub mod Calls
+pub mod Asked
+pub mod Ends
 pub mod Effects
-pub mod Coming
 pub mod Histories
 pub mod Runs
+pub mod Acknowledged
+pub mod Growing

@@ -4,15 +4,26 @@ use Rattle.pg_event.specs.declared.event.Event.{Event}
 use Rattle.pg_flood.specs.Protocol.{KeepsEdges}
 use Rattle.pg_promises.specs.Seen.{cells}
 use Rattle.pg_promises.specs.Whole.{IsWhole}
-use Rattle.pg_run.specs.Journal.{bag}
+use Rattle.pg_run.specs.Away.{DirectoriesAreTold, WhatBeginsIsAway}
+use Rattle.pg_run.specs.Journal.{mail}
 use Rattle.pg_run.specs.Run.{run}
+use Rattle.pg_kept.specs.Histories.{HaveHistories}
 
--- where a key is acknowledged the peer covers its cell, and messages under way keep their promises
+-- contents: what servers hold of contents, and messages bring of them, is of histories
+-- away: what begins at a server was not held there
+-- directories: what is told of children is told of directories
+pub record StandOn (servers : ℕ) : Type 0 where
+  pub contents : HaveHistories servers
+  pub away : WhatBeginsIsAway servers
+  pub directories : DirectoriesAreTold servers
+
+-- where a key is acknowledged the peer covers its cell, and each message that was ever sent keeps its
+-- promise
 abbrev pub RunsKeepEdges : ℕ → Type 0
 RunsKeepEdges servers = (events : List Event)
-    → KeepsEdges cells (run servers events).stores (bag (run servers events).journal)
+    → KeepsEdges cells (run servers events).stores (mail (run servers events).journal)
 
--- every replica has birth 1 and an edge to each other server, and names are as the house rules ask
+-- edges are to other servers, just what is held has a replica, and names are as the house rules ask
 abbrev pub RunsStayWhole : ℕ → Type 0
 RunsStayWhole servers =
     (events : List Event) (s : ℕ) → IsWhole servers s ((run servers events).stores s)

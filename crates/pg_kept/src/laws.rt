@@ -1,18 +1,27 @@
 //! What holds of all runs. Each law is a clause of a function that does nothing.
 
-ghost use Rattle.std.specs.Prelude.{ℕ, ◌<◌, ◌^◌};
-ghost use Rattle.pg_kept.specs.Histories.{HoldHistories};
-ghost use Rattle.pg_kept.specs.Laws.{RunsKeepEdges, RunsStayWhole};
+ghost use Rattle.std.specs.Prelude.{ℕ};
+ghost use Rattle.pg_kept.specs.Histories.{HaveHistories, HoldHistories};
+ghost use Rattle.pg_kept.specs.Laws.{RunsKeepEdges, RunsStayWhole, StandOn};
+ghost use Rattle.pg_run.specs.Acknowledged.{AcknowledgedKeysAreHad};
+ghost use Rattle.pg_run.specs.Grown.{EventsGrow, RunsGrow};
 
-/// What servers hold of contents, and what messages carry of them, is of the histories of the files,
-/// with the policies of the files; and the file whose id a server gives out next has no version.
+/// The heads of each replica are versions of its file's history, and it has the policy of the file.
 pub fn contents_are_of_histories()
-    ensures { (servers : ℕ) → servers < 2 ^ 32 → HoldHistories servers }
+    ensures { (servers : ℕ) → HaveHistories servers → HoldHistories servers }
 {}
 
-/// Where a key is acknowledged the peer covers its cell, each message under way keeps its promise,
-/// and every replica has an edge to each other server.
+/// Where a key is acknowledged the peer's replica has its cell, and each message ever sent keeps its
+/// promise; and every edge is to another server.
 pub fn runs_keep_edges()
-    ensures edges { (servers : ℕ) → servers < 2 ^ 32 → RunsKeepEdges servers }
-    ensures whole { (servers : ℕ) → servers < 2 ^ 32 → RunsStayWhole servers }
+    ensures edges { (servers : ℕ) → StandOn servers → RunsKeepEdges servers }
+    ensures whole { (servers : ℕ) → StandOn servers → RunsStayWhole servers }
+    ensures had { (servers : ℕ) → StandOn servers → AcknowledgedKeysAreHad servers }
+{}
+
+/// What a server holds it holds for good: replicas with their births, and of all that is known as
+/// much or more, within an event and after any more events.
+pub fn runs_grow()
+    ensures runs { (servers : ℕ) → StandOn servers → RunsGrow servers }
+    ensures events { (servers : ℕ) → StandOn servers → EventsGrow servers }
 {}

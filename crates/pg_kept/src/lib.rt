@@ -3,4 +3,4 @@
 
 mod laws;
 
-pub use laws::{contents_are_of_histories, runs_keep_edges};
+pub use laws::{contents_are_of_histories, runs_grow, runs_keep_edges};

@@ -26,6 +26,9 @@ fn a_link_needs_a_greater_birth(rt: HostRuntime) -> Result<(), Fail> {
     assert!(rt; !edges.link(2, 4, &keys, &mut tags)?);
     assert!(rt; !edges.link(2, 5, &keys, &mut tags)?);
     assert_eq!(rt; tags, 3);
+    assert!(rt; edges.makes_edge(3, 1));
+    assert!(rt; !edges.makes_edge(2, 5));
+    assert!(rt; edges.makes_edge(2, 6));
     assert!(rt; edges.link(2, 6, &keys, &mut tags)?);
     assert_eq!(rt; tags, 5);
     assert_eq!(rt; edges.tag(2, 5, Key::Flag(1)), None);

@@ -51,7 +51,7 @@ abbrev pub is_cell_in_range : Cell → Bool
 is_cell_in_range (cell.Place place) = has_time_in_range place.stamp
 is_cell_in_range (cell.Flag flag) = is_number flag.number
 is_cell_in_range (cell.Entry entry sure) = is_entry_in_range entry
-is_cell_in_range (cell.Version version policy) = is_head_in_range version.head
+is_cell_in_range (cell.Version version) = is_head_in_range version.head
 
 -- ---- a message
 

@@ -18,7 +18,7 @@ abbrev pub cell_key : Cell → Key
 cell_key (cell.Place place) = key.Place
 cell_key (cell.Flag flag) = key.Flag flag.server
 cell_key (cell.Entry entry sure) = key.Entry entry.child
-cell_key (cell.Version version policy) = key.Version version.head.stamp
+cell_key (cell.Version version) = key.Version version.head.stamp
 
 abbrev pub kind_of : Message → MessageKind
 kind_of (message.Cell ends tag c) = kind.Cell

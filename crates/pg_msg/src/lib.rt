@@ -13,4 +13,4 @@ pub use key_word::{KeyWord, one_key_spelling, read_key};
 pub use message::{Ask, Delta, Ends, Granted, Message, Packet, Piece, Sent, Wanted, key_of};
 pub use summary::{Detail, MessageKind, Summary, one_summary_spelling, read_summary};
 pub use update::{MadeVersion, Update, one_update_spelling, read_update};
-pub use work::{Touched, Work};
+pub use work::{Linked, Slot, Touched, Work};

@@ -1,6 +1,7 @@
 //! Messages between servers.
 
 ghost use Rattle.std.specs.Prelude.{◌≡◌, IfOk};
+ghost use Rattle.pg_msg.specs.Ends.{back};
 ghost use Rattle.pg_msg.specs.Sent.{cell_key, detail_of, file_of, kind_of, summary_of, summary};
 
 use crate::summary::{Detail, MessageKind, Summary};
@@ -19,6 +20,19 @@ pub struct Ends {
     pub sender: u64,
     /// The birth of the receiver's replica.
     pub receiver: u64,
+}
+
+impl Ends {
+    /// The same edge, the other way: for an answer.
+    pub fn back(&self) -> Ends
+        ensures { result ≡ back self.now }
+    {
+        Ends {
+            file: self.file,
+            sender: self.receiver,
+            receiver: self.sender,
+        }
+    }
 }
 
 /// Which version a server asks for, from which byte on, and which heads it has.
@@ -437,7 +451,7 @@ pub fn key_of(cell: &Cell) -> Key
         Cell::Place(_) => Key::Place,
         Cell::Flag(flag) => Key::Flag(flag.get().server),
         Cell::Entry(entry, _) => Key::Entry(entry.get().child),
-        Cell::Version(version, _) => Key::Version(version.head().stamp),
+        Cell::Version(version) => Key::Version(version.head().stamp),
     }
 }
 

@@ -120,6 +120,6 @@ fn is_cell_in_range(cell: &Cell) -> bool
         Cell::Place(place) => has_time_in_range(&place.get().stamp),
         Cell::Flag(flag) => is_number(flag.get().number),
         Cell::Entry(entry, _) => is_entry_in_range(entry.get()),
-        Cell::Version(version, _) => is_head_in_range(version.head()),
+        Cell::Version(version) => is_head_in_range(version.head()),
     }
 }

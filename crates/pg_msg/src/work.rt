@@ -7,6 +7,7 @@ use crate::message::Sent;
 use crate::update::Update;
 use pg_base::{FileId, Items, NodeId};
 use pg_edges::Key;
+use pg_intent::IntentKey;
 use std::alloc::Global;
 
 /// A key of a server's replica that has a new tag, and so is to be sent.
@@ -16,10 +17,21 @@ pub struct Touched {
     pub key: Key,
 }
 
+/// An edge that a link made or replaced. Each key of the replica has a new tag on it.
+#[derive(Clone, Copy, Debug, PartialEq, Eq)]
+pub struct Linked {
+    pub file: FileId,
+    pub peer: NodeId,
+}
+
+/// A directory and a child, which it may have a cell for or not. Slots go by directory and then by child.
+#[derive(Clone, Copy, Debug, PartialEq, Eq, PartialOrd, Ord)]
+pub struct Slot {
+    pub dir: FileId,
+    pub child: FileId,
+}
+
 /// What comes of an event at a server. Each handler adds to it, and what is touched is sent at the end.
-///
-/// Intentions will add three more lists: the files for which a peer was linked (`linked`), the intentions that began
-/// (`begun`), and what is sent last of all (`tail`).
 #[derive(Debug, Drop)]
 pub struct Work {
     /// The moment of the server's clock: 0 where a message came.
@@ -30,8 +42,16 @@ pub struct Work {
     pub made: Items<Update>,
     /// The messages that are sent.
     pub sent: Items<Sent>,
-    /// The keys that were touched: at least one item for each tag that the event drew.
+    /// The keys that were touched on every edge of their replicas.
     pub touched: Items<Touched>,
+    /// The edges that were made or replaced: of each tag that the event drew there is an item here or in `touched`.
+    pub linked: Items<Linked>,
+    /// Of each live place of a held thing that was replaced by a newer one: its directory, and the thing.
+    pub left: Items<Slot>,
+    /// The cells whose places came from a server that is not sure of them.
+    pub unsure: Items<Slot>,
+    /// The intentions that began, in their order.
+    pub begun: Items<IntentKey>,
 }
 
 impl Work {
@@ -45,6 +65,10 @@ impl Work {
             made: Items::new(alloc),
             sent: Items::new(alloc),
             touched: Items::new(alloc),
+            linked: Items::new(alloc),
+            left: Items::new(alloc),
+            unsure: Items::new(alloc),
+            begun: Items::new(alloc),
         }
     }
 }

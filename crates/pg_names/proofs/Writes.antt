@@ -1,11 +1,12 @@
 -- What the writes of the program are in the definitions. R is the derived order of ids, which is theirs.
-use Rattle.std.proofs.Common.{◌≡◌, ℕ, List, Some, None, sym, ap, ◌∙◌, subst}
+use Rattle.std.proofs.Common.{◌≡◌, ℕ, Bool, List, Some, None, sym, ap, ◌∙◌, subst}
 use Rattle.std.specs.declared.cmp.Ordering.{Ordering}
 use Rattle.std.specs.Map.{lookup, set_value}
 use Rattle.std.specs.BTreeMap.{is_at, insert_entry}
 use Rattle.pg_base.specs.declared.id.FileId.{FileId}
 use Rattle.pg_base.specs.Id.{file_cmp}
-use Rattle.pg_names.specs.Names.{HeldValue, NamesValue, blank, changed, known, own_at, own_of, update, with_held, with_new}
+use Rattle.pg_names.specs.declared.own.Own.{Own}
+use Rattle.pg_names.specs.Names.{HeldValue, NamesValue, begin, changed, known, new_held, own_at, own_of, update, with_held}
 
 abbrev pub Order : Type 0
 Order = FileId → FileId → Ordering
@@ -30,8 +31,8 @@ pub update_absent : (R : Order) → R ≡ file_cmp → (s : NamesValue) (file : 
 update_absent R same s file change h = sym (ap (changed s file change) (subst (λ (r : Order). lookup (is_at (r file)) s.held ≡ None) same h))
 
 -- one thing more is held
-pub new_put : (R : Order) → R ≡ file_cmp → (server last : ℕ) (removed : List ℕ) (es fs : List (FileId × HeldValue)) (file : FileId) (x : HeldValue) → x ≡ blank file → fs ≡ insert_entry R es file x → names_of server last removed fs ≡ with_new (names_of server last removed es) file
-new_put R same server last removed es fs file x is h =
+pub new_put : (R : Order) → R ≡ file_cmp → (server last : ℕ) (removed : List ℕ) (es fs : List (FileId × HeldValue)) (file : FileId) (own : Own) (full : Bool) (x : HeldValue) → x ≡ new_held own full → fs ≡ insert_entry R es file x → names_of server last removed fs ≡ begin (names_of server last removed es) file own full
+new_put R same server last removed es fs file own full x is h =
     ap (names_of server last removed) (subst (λ (r : Order). fs ≡ insert_entry r es file x) same h ∙ ap (insert_entry file_cmp es file) is)
 
 -- what was found there

@@ -1,6 +1,6 @@
 -- What one server knows of names: where files and directories stand, their flags, and the entries
 -- of directories.
-use Rattle.std.specs.Prelude.{ℕ, Bool, true, false, max, List, [], Option, None, Some}
+use Rattle.std.specs.Prelude.{ℕ, Bool, true, false, max, List, [], Option, None, Some, is_some}
 use Rattle.std.specs.List.{filter}
 use Rattle.std.specs.BTreeMap.{is_at, insert_entry}
 use Rattle.std.specs.Map.{keys_of, lookup, set_value}
@@ -19,9 +19,11 @@ use Rattle.pg_entries.specs.Entry.{brings, entry_of, put_entry}
 use Rattle.pg_entries.specs.Entry as entries
 use Rattle.pg_names.specs.declared.own.Own.{Own}
 
+-- full: it has all that the replica had from which it was filled; else it is filling
 -- own: the thing's own place and flags
 -- entries: of a directory, by child
 pub record HeldValue : Type 0 where
+  pub full : Bool
   pub own : Own
   pub entries : List (FileId × Entry)
 
@@ -54,6 +56,18 @@ abbrev pub entry_in : FileId → Option HeldValue → Option Entry
 entry_in child None = None
 entry_in child (Some x) = entry_of x.entries child
 
+-- the thing is held, full or filling
+abbrev pub is_held : NamesValue → FileId → Bool
+is_held names file = is_some (known names file)
+
+abbrev pub is_full_of : Option HeldValue → Bool
+is_full_of None = false
+is_full_of (Some x) = x.full
+
+-- the thing is held and full
+abbrev pub is_full : NamesValue → FileId → Bool
+is_full names file = is_full_of (known names file)
+
 -- the own place and flags of a thing, where it is held
 abbrev pub own_at : NamesValue → FileId → Option Own
 own_at names file = own_of (known names file)
@@ -80,9 +94,6 @@ or_blank file (Some own) = own
 abbrev pub own_or_blank : NamesValue → FileId → Own
 own_or_blank names file = or_blank file (own_at names file)
 
-abbrev pub blank : FileId → HeldValue
-blank file = record { own = blank_own file; entries = [] }
-
 -- a server that holds nothing
 abbrev pub new_names : ℕ → NamesValue
 new_names server = record { server = server; last = 0; removed = []; held = [] }
@@ -104,28 +115,31 @@ changed names file change (Some x) = with_held names file (change x)
 abbrev pub update : NamesValue → FileId → (HeldValue → HeldValue) → NamesValue
 update names file change = changed names file change (known names file)
 
+-- with this place and these flags, and no entry
+abbrev pub new_held : Own → Bool → HeldValue
+new_held own full = record { full = full; own = own; entries = [] }
+
 -- one thing more is held
-abbrev pub with_new : NamesValue → FileId → NamesValue
-with_new names file = record {
+abbrev pub begin : NamesValue → FileId → Own → Bool → NamesValue
+begin names file own full = record {
   server = names.server;
   last = names.last;
   removed = names.removed;
-  held = insert_entry file_cmp names.held file (blank file);
+  held = insert_entry file_cmp names.held file (new_held own full);
 }
 
-abbrev pub held_with : NamesValue → FileId → Option HeldValue → NamesValue
-held_with names file None = with_new names file
-held_with names file (Some x) = names
+abbrev pub filled : HeldValue → HeldValue
+filled x = record { full = true; own = x.own; entries = x.entries }
 
--- the thing is held: if it was not, it has the blank place, no flag and no entry
-abbrev pub hold : NamesValue → FileId → NamesValue
-hold names file = held_with names file (known names file)
+-- a held thing is full
+abbrev pub fill : NamesValue → FileId → NamesValue
+fill names file = update names file filled
 
 abbrev pub with_own : Own → HeldValue → HeldValue
-with_own own x = record { own = own; entries = x.entries }
+with_own own x = record { full = x.full; own = own; entries = x.entries }
 
 abbrev pub with_entries : HeldValue → List (FileId × Entry) → HeldValue
-with_entries x entries = record { own = x.own; entries = entries }
+with_entries x entries = record { full = x.full; own = x.own; entries = entries }
 
 abbrev pub with_entry : Entry → HeldValue → HeldValue
 with_entry entry x = with_entries x (put_entry x.entries entry)

@@ -6,10 +6,9 @@ ghost use Rattle.pg_register.specs.Flag as flags;
 ghost use Rattle.pg_register.specs.Flag.{flag_of};
 ghost use Rattle.pg_base.specs.Stamp.{is_before};
 ghost use Rattle.pg_entries.specs.Entry.{brings, entry_of, lists_any};
-ghost use Rattle.pg_names.specs.Names.{blank, with_entry, with_flag, with_joined, with_own, with_place};
+ghost use Rattle.pg_names.specs.Names.{filled, new_held, with_entry, with_flag, with_joined, with_own, with_place};
 
 use crate::own::Own;
-use pg_base::FileId;
 use pg_entries::{Entries, Entry};
 use pg_register::{Flag, Place};
 use std::alloc::{AllocError, Global};
@@ -18,6 +17,9 @@ use std::marker::Model;
 /// The own place and flags of a thing, and the entries of a directory.
 #[derive(Debug, Drop)]
 pub struct Held {
+    /// Whether it is full: it has all that the replica had from which it was filled. Else it is filling, and no call is
+    /// answered from it.
+    full: bool,
     own: Own,
     entries: Entries,
 }
@@ -27,18 +29,33 @@ impl Model for Held {
 
     ghost Value = { HeldValue };
 
-    ghost view = { λ s. record { own = s.own; entries = s.entries } };
+    ghost view = { λ s. record { full = s.full; own = s.own; entries = s.entries } };
 }
 
 impl Held {
-    /// A thing of which nothing is known yet.
-    pub(crate) fn blank(alloc: Global, file: FileId) -> Result<Held, AllocError>
-        ensures { IfOk result (λ x. x ≡ blank file) }
+    /// A thing with this place and these flags, and no entry. It takes no memory.
+    pub(crate) fn new(alloc: Global, own: Own, full: bool) -> Held
+        ensures { result ≡ new_held own full }
     {
-        Ok(Held {
-            own: Own::blank(alloc, file)?,
+        Held {
+            full,
+            own,
             entries: Entries::new(alloc),
-        })
+        }
+    }
+
+    /// Whether it is full, and not filling.
+    pub fn is_full(&self) -> bool
+        ensures { result ≡ self.now.full }
+    {
+        self.full
+    }
+
+    /// It is full from now on.
+    pub(crate) fn fill(&mut self)
+        ensures { self.new ≡ filled self.old }
+    {
+        self.full = true;
     }
 
     pub fn own(&self) -> &Own

@@ -4,9 +4,8 @@ ghost use Rattle.std.specs.Prelude.{◌≡◌, ◌<◌, ◌^◌, max, IfOk, OnOk
 ghost use Rattle.std.specs.Option.{option_copied};
 ghost use Rattle.std.specs.List.{filter};
 ghost use Rattle.pg_register.specs.Flag.{is_removed};
-ghost use Rattle.std.specs.Map.{keys_of};
 ghost use Rattle.pg_base.specs.Stamp.{next_stamp};
-ghost use Rattle.pg_names.specs.Names.{cell_at, directories, hold, is_dir, is_entry_new, is_flag_new, is_place_new, join_entry, join_flag, join_place, known, new_names, own_at, own_or_blank, raise, set_entry, set_own, with_last, with_new};
+ghost use Rattle.pg_names.specs.Names.{begin, cell_at, directories, fill, is_dir, is_entry_new, is_flag_new, is_full, is_held, is_place_new, join_entry, join_flag, join_place, known, new_names, own_at, own_or_blank, raise, set_entry, set_own, with_last};
 
 use crate::held::Held;
 use crate::own::Own;
@@ -83,6 +82,13 @@ impl Names {
         self.last
     }
 
+    /// The servers that were removed in this view.
+    pub fn removed(&self) -> &[NodeId]
+        ensures { result.now ≡ self.now.removed }
+    {
+        self.removed.as_slice()
+    }
+
     /// Whether a server was removed in this view.
     pub fn is_removed(&self, server: NodeId) -> bool
         ensures { result ≡ is_removed self.now.removed server }
@@ -95,13 +101,6 @@ impl Names {
         ensures { result.now.entries ≡ self.now.held }
     {
         &self.held
-    }
-
-    /// The ids of all that is held, in order.
-    pub fn files(&self) -> Result<Items<FileId>, AllocError>
-        ensures { IfOk result (λ files. files ≡ keys_of self.now.held) }
-    {
-        Ok(Items::from_vec(self.held.keys().copied().collect(self.alloc)?))
     }
 
     /// The ids of the directories that are held, in order.
@@ -163,26 +162,40 @@ impl Names {
         }
     }
 
-    /// The thing is held from now on: if it was not, it has the blank place, no flag and no entry.
-    pub fn hold(&mut self, file: FileId) -> Result<(), AllocError>
-        ensures { OnOk result (self.new ≡ hold self.old file) }
+    /// Whether the thing is held, full or filling.
+    pub fn is_held(&self, file: &FileId) -> bool
+        ensures { result ≡ is_held self.now file.now }
     {
-        match self.get(&file) {
-            Some(_) => Ok(()),
-            None => {
-                self.add(file)?;
-                Ok(())
-            }
+        self.get(file).is_some()
+    }
+
+    /// Whether the thing is held and full.
+    pub fn is_full(&self, file: &FileId) -> bool
+        ensures { result ≡ is_full self.now file.now }
+    {
+        match self.get(file) {
+            Some(held) => held.is_full(),
+            None => false,
         }
     }
 
-    /// One thing more is held.
-    fn add(&mut self, file: FileId) -> Result<(), AllocError>
-        ensures { OnOk result (self.new ≡ with_new self.old file) }
+    /// One thing more is held, full or filling, with this place and these flags, and no entry.
+    pub fn begin(&mut self, file: FileId, own: Own, full: bool) -> Result<(), AllocError>
+        ensures { OnOk result (self.new ≡ begin self.old file own full) }
     {
-        let blank = Held::blank(self.alloc, file)?;
-        self.held.insert(file, blank)?;
+        let held = Held::new(self.alloc, own, full);
+        self.held.insert(file, held)?;
         Ok(())
+    }
+
+    /// A held thing is full from now on.
+    pub fn fill(&mut self, file: &FileId)
+        ensures { self.new ≡ fill self.old file.now }
+    {
+        let Some(held) = self.held.get_mut(file) else {
+            return;
+        };
+        held.fill();
     }
 
     /// The own place and flags of a held thing are these from now on.

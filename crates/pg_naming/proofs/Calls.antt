@@ -1,44 +1,71 @@
--- What a client's call makes is what it brings.
-use Rattle.std.proofs.Common.{ℕ, ◌≡◌, ◌<◌, ◌+◌, List, [], ◌∷◌, ◌++◌, map, Result, Ok, Err, refl, sym, ap, subst, inl, inr, ◌⊎◌}
+-- A call: what it makes, and what begins, is what the server knows more then.
+use Rattle.std.proofs.Common.{ℕ, ◌≡◌, ◌==◌, Bool, true, false, cond, List, [], ◌∷◌, ◌++◌, map, Option, None, Some, Result, Ok, Err, refl, sym, subst, ◌∙◌, inl, inr, ◌⊎◌}
+use Rattle.std.specs.List.{flat_map}
 use Rattle.pg_base.specs.declared.id.FileId.{FileId}
+use Rattle.pg_base.specs.declared.id.Kind.{Kind}
 use Rattle.pg_base.specs.declared.id.Kind.TheVariants.{Dir, File}
 use Rattle.pg_base.specs.declared.policy.Policy.{Policy}
+use Rattle.pg_base.specs.declared.policy.Policy.TheVariants.{Last}
 use Rattle.pg_base.specs.declared.stamp.Stamp.{Stamp}
+use Rattle.pg_base.specs.Id.{is_same_file}
 use Rattle.pg_content.specs.Content.{Among}
-use Rattle.pg_patch.specs.Ranges.{RangesValue}
-use Rattle.pg_patch.specs.Ranges as ranges
-use Rattle.pg_edges.specs.declared.key.Key.TheVariants as key
-use Rattle.pg_register.specs.declared.flag.Flag.{Flag}
 use Rattle.pg_register.specs.declared.place.Place.{Place}
-use Rattle.pg_names.specs.Names.{NamesValue}
-use Rattle.pg_house.specs.Facts.{IsHeld}
-use Rattle.pg_house.proofs.Lasting.{drawn_late}
+use Rattle.pg_register.specs.Place.{root}
+use Rattle.pg_register.proofs.ByServer.{IsByServer-nil}
+use Rattle.pg_patch.specs.Ranges as ranges
+use Rattle.pg_patch.specs.Ranges.{RangesValue}
+use Rattle.pg_intent.specs.declared.intent.Intent.{Intent}
+use Rattle.pg_intent.specs.declared.intent.Intent.TheVariants as intent
+use Rattle.pg_intent.specs.declared.key.IntentKey.TheVariants as intent_key
+use Rattle.pg_msg.specs.declared.message.Message.TheVariants as message
 use Rattle.pg_msg.specs.declared.update.Update.{Update}
 use Rattle.pg_msg.specs.declared.update.Update.TheVariants as update
 use Rattle.pg_msg.specs.declared.work.Work.{Work}
-use Rattle.pg_msg.specs.Work.{new_work}
+use Rattle.pg_msg.specs.Work.{new_work, with_made}
 use Rattle.pg_call.specs.declared.call.Call.{Call}
 use Rattle.pg_call.specs.declared.call.Call.TheVariants as call
-use Rattle.pg_call.specs.declared.refusal.Refusal.{Refusal}
+use Rattle.pg_call.specs.declared.refusal.Refusal.TheVariants.{Loop, NotEmpty, Root}
+use Rattle.pg_names.specs.Names.{NamesValue, blank_own, is_dir, known}
+use Rattle.pg_house.specs.Facts.{IsHeld}
+use Rattle.pg_house.specs.Returning.{is_root}
+use Rattle.pg_promises.proofs.Choices.{chosen}
+use Rattle.pg_walk.specs.declared.paths.Found.{Found}
+use Rattle.pg_walk.specs.declared.paths.Stop.{Stop}
+use Rattle.pg_walk.specs.declared.paths.Stop.TheVariants as stop
+use Rattle.pg_walk.specs.Chain.{is_above}
+use Rattle.pg_walk.specs.Walk.{and_then, reach, reach_parent}
 use Rattle.pg_store.specs.declared.store.Store.{Store}
-use Rattle.pg_store.specs.Start.{first_flag}
-use Rattle.pg_store.specs.Store.{begin_file, is_newer_flag, is_newer_place, take_flag, take_place}
+use Rattle.pg_store.specs.declared.wishes.Wish.{Wish}
+use Rattle.pg_store.specs.Beginning.{patches_of}
+use Rattle.pg_store.specs.Births.{draw_birth, with_birth, with_wish}
+use Rattle.pg_store.specs.Store.{is_held, take_flag, take_place}
 use Rattle.pg_cells.specs.Done.{Done, idle}
-use Rattle.pg_cells.proofs.News.{news_made}
-use Rattle.pg_calls.specs.Answer.{Answer, answered}
+use Rattle.pg_cells.specs.Making.{own_next, raise_flag}
+use Rattle.pg_cells.specs.Posting.{post}
+use Rattle.pg_calls.specs.declared.checks.Move.{Move}
+use Rattle.pg_calls.specs.declared.checks.NewName.{NewName}
+use Rattle.pg_calls.specs.Answer.{Answer, answered, deny, unless}
+use Rattle.pg_calls.specs.Asking.{ask_by, ask_first, fetch, fresh_wish, holder, standing}
 use Rattle.pg_calls.specs.Bodies.{change, change_file, when_fit}
 use Rattle.pg_calls.specs.Calls.{do_call}
-use Rattle.pg_calls.specs.Checks.{empty_dir_at, file_at, move_of, new_name}
-use Rattle.pg_calls.specs.Making.{drawn, first_ranges, make_flag, make_place, make_version}
-use Rattle.pg_calls.specs.Naming.{create, dead_place, mkdir, next_id, place_in, with_id}
-use Rattle.pg_calls.proofs.Checked.{fit_found}
-use Rattle.pg_calls.proofs.Walked.{file_found}
-use Rattle.pg_run.specs.Took.{Take, take_of}
-use Rattle.pg_run.specs.Took.Take.{TookFlag}
-use Rattle.pg_run.specs.Took.Taker.{Itself}
-use Rattle.pg_naming.specs.Goes.{Goes, IsFirst}
-use Rattle.pg_naming.proofs.Going.{goes_flag, goes_place, goes_reordered, goes_version}
-use Rattle.pg_naming.proofs.Takes.{told_held}
+use Rattle.pg_calls.specs.Checks.{dir_at, empty_dir_at, file_at, first_child, in_time, move_along, move_of, move_to, new_name, new_name_in, target_at, unless_child}
+use Rattle.pg_calls.specs.Making.{drawn, first_ranges, make_place, make_version, version_of}
+use Rattle.pg_calls.specs.Naming.{begun, dead_place, next_id, place_in, with_id, with_thing}
+use Rattle.pg_calls.specs.Paths.{paths_of}
+use Rattle.pg_calls.proofs.Checked.{behind, no_ok, same_ok, unless_ok}
+use Rattle.pg_calls.proofs.Walked.{file_found, full_own, reach_ok, thing_found}
+use Rattle.pg_run.specs.Carried.{begun_by, patch_taken}
+use Rattle.pg_run.specs.Took.{Take, entry_takes, take_of}
+use Rattle.pg_run.specs.Took.Take.{Began}
+use Rattle.pg_run.proofs.Lists.{among_back}
+use Rattle.pg_naming.specs.Goes.{Goes}
+use Rattle.pg_naming.specs.Merged.{IsNewId}
+use Rattle.pg_run.specs.Known.{Told}
+use Rattle.pg_naming.proofs.Going.{goes_flag, goes_noted, goes_place, goes_raised, goes_reordered}
+use Rattle.pg_naming.proofs.Messages.{IsReady, away_inner, none_of}
+use Rattle.pg_naming.proofs.Notes.{flag_noted_made, place_noted_made}
+use Rattle.pg_naming.proofs.Patched.{goes_with_patches}
+use Rattle.pg_passing.proofs.Takes.{began_held}
 
 -- ---- one update more
 
@@ -57,115 +84,197 @@ last_back [] u takes x h = h
 last_back (v ∷ us) u takes x (inl e) = inr (inl e)
 last_back (v ∷ us) u takes x (inr more) = behind_first v (take_of u) (map take_of us ++ takes) x (last_back us u takes x more)
 
--- ---- what is made
+-- ---- no Patch, no entry
 
-module _ (Old : FileId → Place → Type 0) (n base : ℕ) (gone : List ℕ) (takes : List Take) where
-  abbrev Now : List Update → List Take
-  Now made = map take_of made ++ takes
+none_taken : (f : FileId) (is : List Intent) → patches_of f is ≡ [] → flat_map (patch_taken f) is ≡ []
+none_taken f [] h = refl
+none_taken f (intent.Bye file birth peer peer_birth ∷ is) h = none_taken f is h
+none_taken f (intent.Seek file target ∷ is) h = none_taken f is h
+none_taken f (intent.Fill file birth target ∷ is) h = none_taken f is h
+none_taken f (intent.Confirm dir child target ∷ is) h = none_taken f is h
+none_taken f (intent.Leave file peer peer_birth ∷ is) h = none_taken f is h
+none_taken f (intent.Patch to e target ∷ is) h = by (is_same_file to f) h (none_taken f is)
+  where
+    by : (t : Bool) → cond t (intent_key.Patch f e.child ∷ []) [] ++ patches_of f is ≡ [] → (patches_of f is ≡ [] → flat_map (patch_taken f) is ≡ [])
+        → cond t (entry_takes f e) [] ++ flat_map (patch_taken f) is ≡ []
+    by true g rest = cc
+    by false g rest = rest g
 
-  abbrev Is : NamesValue → List Update → Type 0
-  Is s made = Goes Old n base gone s (Now made)
+-- ---- what a check found is held
 
-  abbrev DoneIs : Done → Type 0
-  DoneIs d = Is d.store.names d.work.made
+same_thing : (a : Store) (f : FileId) (new : NewName) (m : Move) (loops : Bool) → unless loops Loop (record { thing = f; to = new }) ≡ Ok m → IsHeld a.names f → IsHeld a.names m.thing
+same_thing a f new m loops h held =
+    let P : Move → Type 0 = λ x. IsHeld a.names x.thing in
+    subst P (unless_ok loops Loop (record { thing = f; to = new }) m h).1 held
 
-  abbrev AnswerIs : Answer → Type 0
-  AnswerIs x = Is x.store.names x.work.made
+moved_held : (a : Store) (from to : List ℕ) (m : Move) → move_of a from to ≡ Ok m → IsHeld a.names m.thing
+moved_held a from to m h =
+    let paths = behind (and_then (paths_of from to) (in_time a)) (move_along a) m h in
+    let thing = behind (reach a.names false paths.0.from) (λ f. and_then (reach_parent a.names paths.0.to) (move_to a.names f paths.0.to)) m paths.2 in
+    let dir = behind (reach_parent a.names paths.0.to) (move_to a.names thing.0 paths.0.to) m thing.2 in
+    let parent = behind (unless (is_root thing.0) Root dir.0) (λ d. and_then (new_name_in a.names thing.0 paths.0.to d) (λ new.
+    unless (cond (is_dir thing.0) (is_above a.names thing.0 new.dir) false) Loop (record { thing = thing.0; to = new }))) m dir.2 in
+    let new = behind (new_name_in a.names thing.0 paths.0.to parent.0) (λ n.
+    unless (cond (is_dir thing.0) (is_above a.names thing.0 n.dir) false) Loop (record { thing = thing.0; to = n })) m parent.2 in
+    same_thing a thing.0 new.0 m (cond (is_dir thing.0) (is_above a.names thing.0 new.0.dir) false) new.2
+    (full_own a.names thing.0 (reach_ok a.names false paths.0.from thing.0 thing.1).0)
 
-  put_last : (s : NamesValue) (made : List Update) (u : Update) → Goes Old n base gone s (take_of u ∷ Now made) → Is s (made ++ u ∷ [])
-  put_last s made u k = goes_reordered Old n base gone s (take_of u ∷ Now made) (Now (made ++ u ∷ [])) k (last_to made u takes) (last_back made u takes)
+child_same : (dir : FileId) (o : Option FileId) (d : FileId) → unless_child dir o ≡ Ok d → dir ≡ d
+child_same dir None d h = same_ok dir d h
+child_same dir (Some c) d h = absurd (no_ok (stop.Refused (NotEmpty c)) d h)
 
-  place_made : (d : Done) → DoneIs d → (f : FileId) (p : Place) → d.store.names.last < p.stamp.time → p.stamp.server ≡ d.store.names.server → DoneIs (make_place f p d)
-  place_made d k f p late mine =
-      let u = update.Place f p in
-      let s = (take_place d.store f p).names in
-      subst (Is s) (sym (news_made (is_newer_place d.store f p) (record d.work { made = d.work.made ++ u ∷ [] }) f key.Place))
-      (put_last s d.work.made u (goes_place Old n base gone d.store (Now d.work.made) k f p late mine))
+emptied_held : (a : Store) (text : List ℕ) (d : FileId) → empty_dir_at a text ≡ Ok d → IsHeld a.names d
+emptied_held a text d h =
+    let b = behind (and_then (dir_at a text) (λ f. unless (is_root f) Root f)) (λ f. unless_child f (first_child f (known a.names f))) d h in
+    let c = behind (dir_at a text) (λ f. unless (is_root f) Root f) b.0 b.1 in
+    let same = (unless_ok (is_root c.0) Root c.0 b.0 c.2).1 ∙ child_same b.0 (first_child b.0 (known a.names b.0)) d b.2 in
+    let P : FileId → Type 0 = IsHeld a.names in
+    subst P same (full_own a.names c.0 (thing_found a true text c.0 c.1))
 
-  flag_made : (d : Done) → DoneIs d → (f : FileId) (g : Flag) → IsFirst g → DoneIs (make_flag f g d)
-  flag_made d k f g first =
+module _ (removed : List ℕ) (p : Told) (a : Store) (now : List Take) (k : Goes removed a.names now) (ready : IsReady p a) (ids : (kind : Kind) → IsNewId a (next_id a kind)) (moment : ℕ) where
+  abbrev Is : NamesValue → List Take → Type 0
+  Is = Goes removed
+
+  abbrev W : Work
+  W = new_work moment 0
+
+  -- behind what began the updates that were made are taken
+  abbrev DoneIs : List Take → Done → Type 0
+  DoneIs base d = Is d.store.names (map take_of d.work.made ++ base)
+
+  abbrev pub AnswerIs : Answer → Type 0
+  AnswerIs x = Is x.store.names (map take_of x.work.made ++ (begun_by (Some x.reply) ++ now))
+
+  put_last : (base : List Take) (s : NamesValue) (made : List Update) (u : Update) → Is s (take_of u ∷ (map take_of made ++ base)) → Is s (map take_of (made ++ u ∷ []) ++ base)
+  put_last base s made u h =
+      goes_reordered removed s (take_of u ∷ (map take_of made ++ base)) (map take_of (made ++ u ∷ []) ++ base) h (last_to made u base) (last_back made u base)
+
+  place_made : (base : List Take) (d : Done) → DoneIs base d → (f : FileId) → IsHeld d.store.names f → (q : Place) → DoneIs base (make_place f q d)
+  place_made base d h f held q =
+      let u = update.Place f q in
+      let s = (take_place d.store f q).names in
+      let P : List Update → Type 0 = λ us. Is s (map take_of us ++ base) in
+      subst P (sym (place_noted_made d.store f q (with_made d.work u)))
+      (put_last base s d.work.made u (goes_place removed d.store (map take_of d.work.made ++ base) h f held q))
+
+  flag_made : (base : List Take) (d : Done) → DoneIs base d → (f : FileId) → IsHeld d.store.names f → DoneIs base (raise_flag d.store f d.work)
+  flag_made base d h f held =
+      let g = own_next d.store f true in
       let u = update.Flag f g in
       let s = (take_flag d.store f g).names in
-      subst (Is s) (sym (news_made (is_newer_flag d.store f g) (record d.work { made = d.work.made ++ u ∷ [] }) f (key.Flag g.server)))
-      (put_last s d.work.made u (goes_flag Old n base gone d.store (Now d.work.made) k f g first))
+      let P : List Update → Type 0 = λ us. Is s (map take_of us ++ base) in
+      subst P (sym (flag_noted_made d.store f g (with_made d.work u)))
+      (put_last base s d.work.made u (goes_flag removed d.store (map take_of d.work.made ++ base) h f held g))
 
-  flag_held : (d : Done) → DoneIs d → (f : FileId) (g : Flag) → IsFirst g → IsHeld (make_flag f g d).store.names f
-  flag_held d k f g first =
-      let more = goes_flag Old n base gone d.store (Now d.work.made) k f g first in
-      more.tells.held f (told_held (TookFlag Itself f g ∷ Now d.work.made) f (TookFlag Itself f g, inl refl, inl refl))
+  version_made : (base : List Take) (d : Done) → DoneIs base d → (f : FileId) (stamp : Stamp) (r : RangesValue) → DoneIs base (make_version f stamp r d)
+  version_made base d h f stamp r =
+      let u = update.Version (version_of d.store f stamp r) in
+      put_last base (make_version f stamp r d).store.names d.work.made u
+      (goes_raised removed d.store.names stamp.time (take_of u ∷ (map take_of d.work.made ++ base))
+      (goes_noted removed d.store.names (map take_of d.work.made ++ base) h f stamp))
 
-  version_made : (d : Done) → DoneIs d → (f : FileId) (stamp : Stamp) (r : RangesValue) → IsHeld d.store.names f → DoneIs (make_version f stamp r d)
-  version_made d k f stamp r held =
-      put_last (make_version f stamp r d).store.names d.work.made (update.Version (record { file = f; stamp = stamp; bases = _; ranges = r })) (goes_version Old n base gone d.store.names (Now d.work.made) k f stamp held)
+  -- ---- a call that does not go on
 
-  -- ---- a call
+  sent_made : (f : FileId) (wish : Wish) → (fetch a f wish W).made ≡ []
+  sent_made f wish = chosen (λ (w : Work). w.made ≡ []) (wish.target == 0) W (post a wish.target (message.Fetch f wish.birth) W) refl refl
 
-  module _ (a : Store) (moment : ℕ) (k : Goes Old n base gone a.names takes) where
-    abbrev W : Work
-    W = new_work moment 0
+  abbrev IsIdle : Done → Type 0
+  IsIdle d = (d.store.names ≡ a.names) × (d.work.made ≡ [])
 
-    start : DoneIs (idle a W)
-    start = k
+  asked_first : (f : FileId) (target : ℕ) → IsIdle (ask_first a f target W)
+  asked_first f target =
+      chosen IsIdle (target == 0) (idle a W) (idle (with_wish (with_birth a) f (fresh_wish a target)) (fetch a f (fresh_wish a target) W)) (refl, refl)
+      (refl, sent_made f (fresh_wish a target))
 
-    late : a.names.last < (drawn a moment).time
-    late = drawn_late moment a.names.last (drawn a moment).time refl
+  asked_by : (found : Found) (o : Option Wish) → IsIdle (ask_by a found o W)
+  asked_by found None = asked_first found.file (holder a found)
+  asked_by found (Some wish) = (refl, sent_made found.file wish)
 
-    -- a new thing with this place, and its first flag
-    abbrev Thing : FileId → Place → Done
-    Thing id p = make_flag id (first_flag a.names.server) (make_place id p (idle (with_id a) W))
+  from_idle : (d : Done) → IsIdle d → Is d.store.names (map take_of d.work.made ++ now)
+  from_idle d i =
+      let P : List Update → Type 0 = λ us. Is d.store.names (map take_of us ++ now) in
+      subst P (sym i.1) (subst (λ (s : NamesValue). Is s now) (sym i.0) k)
 
-    begun_is : (id : FileId) (p : Place) → p.stamp ≡ drawn a moment → DoneIs (make_place id p (idle (with_id a) W))
-    begun_is id p e =
-        place_made (idle (with_id a) W) k id p (let P : Stamp → Type 0 = λ s. a.names.last < s.time in subst P (sym e) late) (ap (λ (s : Stamp). s.server) e)
+  denied : (why : Stop) → AnswerIs (deny a why W)
+  denied (stop.Refused why) = k
+  denied (stop.NotYet found) = from_idle (ask_by a found (standing a found.file) W) (asked_by found (standing a found.file))
 
-    thing_is : (id : FileId) (p : Place) → p.stamp ≡ drawn a moment → DoneIs (Thing id p)
-    thing_is id p e = flag_made (make_place id p (idle (with_id a) W)) (begun_is id p e) id (first_flag a.names.server) refl
+  goes_by : {A : Type 0} (check : Result A Stop) (next : A → Answer) → ((x : A) → check ≡ Ok x → AnswerIs (next x)) → AnswerIs (answered a W check next)
+  goes_by (Err why) next h = denied why
+  goes_by (Ok x) next h = h x refl
 
-    thing_held : (id : FileId) (p : Place) → p.stamp ≡ drawn a moment → IsHeld (Thing id p).store.names id
-    thing_held id p e = flag_held (make_place id p (idle (with_id a) W)) (begun_is id p e) id (first_flag a.names.server) refl
+  -- ---- a thing is made
 
-    answer_is : {A : Type 0} (r : Result A Refusal) (next : A → Answer) → ((x : A) → r ≡ Ok x → AnswerIs (next x)) → AnswerIs (answered a W r next)
-    answer_is (Err why) next h = k
-    answer_is (Ok x) next h = h x refl
+  module _ (kind : Kind) (policy : Policy) (new : NewName) where
+    abbrev Id : FileId
+    Id = next_id a kind
 
-    place_is : (f : FileId) (p : Place) → p.stamp ≡ drawn a moment → DoneIs (make_place f p (idle a W))
-    place_is f p e =
-        place_made (idle a W) k f p (let P : Stamp → Type 0 = λ s. a.names.last < s.time in subst P (sym e) late) (ap (λ (s : Stamp). s.server) e)
+    abbrev First : Store
+    First = with_birth (with_id a)
 
-    mkdir_is : (path : List ℕ) → AnswerIs (mkdir a path W)
-    mkdir_is path = answer_is (new_name a (next_id a Dir) path) _ (λ new h. thing_is (next_id a Dir) (place_in (with_id a) moment new) refl)
+    abbrev Base : List Take
+    Base = Began Id ∷ now
 
-    create_is : (path : List ℕ) (policy : Policy) → AnswerIs (create a path policy W)
-    create_is path policy =
-        answer_is (new_name a (next_id a File) path) _ (λ new h.
-        let id = next_id a File in
-        let p = place_in (with_id a) moment new in
-        let d = Thing id p in
-        version_made (record { store = begin_file d.store id policy; work = d.work }) (thing_is id p refl) id (drawn d.store d.work.now) first_ranges (thing_held id p refl))
+    abbrev Begun : Store
+    Begun = begun (with_id a) Id policy
 
-    change_is : (path : List ℕ) (r : RangesValue) → AnswerIs (change a path r W)
-    change_is path r =
-        answer_is (file_at a path) (change_file a r W) (λ file h.
-        answer_is (when_fit a r file) _ (λ fit g.
-        let same : file ≡ fit = fit_found a r file fit g in
-        version_made (idle a W) k fit (drawn a moment) r (let P : FileId → Type 0 = IsHeld a.names in subst P same (file_found a path file h).0)))
+    away : is_held a Id ≡ false
+    away = (ids kind).away
 
-    -- A CALL
-    pub call_is : (c : Call) → AnswerIs (do_call a c W)
-    call_is (call.Mkdir path) = mkdir_is path
-    call_is (call.Create path policy) = create_is path policy
-    call_is (call.Write path offset bytes) = change_is path (ranges.written offset bytes)
-    call_is (call.Cut path length) = change_is path (ranges.cut_to length)
-    call_is (call.Read path offset count) = k
-    call_is (call.Fresh path) = k
-    call_is (call.Ls path from) = k
-    call_is (call.Stat target) = k
-    call_is (call.Rename from to) = answer_is (move_of a from to) _ (λ move h. place_is move.thing (place_in a moment move.to) refl)
-    call_is (call.Unlink path) = answer_is (file_at a path) _ (λ file h. place_is file (dead_place a moment file) refl)
-    call_is (call.Rmdir path) = answer_is (empty_dir_at a path) _ (λ dir h. place_is dir (dead_place a moment dir) refl)
-    call_is (call.Forget id) = k
-    call_is (call.Demote target) = k
-    call_is (call.Drop target) = k
-    call_is (call.Giveup view server) = k
-    call_is call.Status = k
-    call_is call.Stop = k
+    began : Is Begun.names Base
+    began =
+        let all = goes_with_patches removed First now k Id (none_of (known a.names Id) away) (away_inner a Id ready.intends.held.root away (is_same_file Id root) refl)
+        (draw_birth (with_id a)) policy (blank_own Id) true IsByServer-nil (λ h. refl) ready.intends.keys (λ e target h. ready.patches Id e target h) in
+        let P : List Take → Type 0 = λ xs. Is Begun.names ((Began Id ∷ xs) ++ now) in
+        subst P (none_taken Id a.intents (ids kind).untold) all
+
+    began_there : (s : NamesValue) (more : List Take) → Is s (more ++ Base) → IsHeld s Id
+    began_there s more h = h.tells.held Id (began_held (more ++ Base) Id (among_back (Began Id) more Base (inl refl)))
+
+    abbrev Placed : Done
+    Placed = make_place Id (place_in (with_id a) W.now new) (idle Begun W)
+
+    placed : DoneIs Base Placed
+    placed = place_made Base (idle Begun W) began Id (began_there Begun.names [] began) (place_in (with_id a) W.now new)
+
+    thing : DoneIs Base (with_thing (with_id a) W Id policy new)
+    thing = flag_made Base Placed placed Id (began_there Placed.store.names (map take_of Placed.work.made) placed)
+
+  mkdir_is : (path : List ℕ) → AnswerIs (do_call a (call.Mkdir path) W)
+  mkdir_is path = goes_by (new_name a (next_id a Dir) path) _ (λ new h. thing Dir Last new)
+
+  create_is : (path : List ℕ) (policy : Policy) → AnswerIs (do_call a (call.Create path policy) W)
+  create_is path policy =
+      goes_by (new_name a (next_id a File) path) _ (λ new h.
+      let d = with_thing (with_id a) W (next_id a File) policy new in
+      version_made (Began (next_id a File) ∷ now) d (thing File policy new) (next_id a File) (drawn d.store d.work.now) first_ranges)
+
+  -- ---- all calls
+
+  change_is : (path : List ℕ) (r : RangesValue) → AnswerIs (change a path r W)
+  change_is path r =
+      goes_by (file_at a path) (change_file a r W) (λ file h.
+      goes_by (when_fit a r file) _ (λ fit g. version_made now (idle a W) k fit (drawn a moment) r))
+
+  place_is : (f : FileId) → IsHeld a.names f → (q : Place) → DoneIs now (make_place f q (idle a W))
+  place_is f held q = place_made now (idle a W) k f held q
+
+  -- A CALL
+  pub call_goes : (c : Call) → AnswerIs (do_call a c W)
+  call_goes (call.Mkdir path) = mkdir_is path
+  call_goes (call.Create path policy) = create_is path policy
+  call_goes (call.Write path offset bytes) = change_is path (ranges.written offset bytes)
+  call_goes (call.Cut path length) = change_is path (ranges.cut_to length)
+  call_goes (call.Read path offset count) = goes_by (file_at a path) _ (λ f h. k)
+  call_goes (call.Fresh path) = goes_by (file_at a path) _ (λ f h. k)
+  call_goes (call.Ls path from) = goes_by (dir_at a path) _ (λ f h. k)
+  call_goes (call.Stat t) = goes_by (target_at a t) _ (λ f h. k)
+  call_goes (call.Rename from to) = goes_by (move_of a from to) _ (λ m h. place_is m.thing (moved_held a from to m h) (place_in a moment m.to))
+  call_goes (call.Unlink path) = goes_by (file_at a path) _ (λ f h. place_is f (full_own a.names f (file_found a path f h).0) (dead_place a moment f))
+  call_goes (call.Rmdir path) = goes_by (empty_dir_at a path) _ (λ d h. place_is d (emptied_held a path d h) (dead_place a moment d))
+  call_goes (call.Forget id) = goes_by (in_time a (tt {0})) _ (λ f h. k)
+  call_goes (call.Demote t) = goes_by (in_time a (tt {0})) _ (λ f h. k)
+  call_goes (call.Drop t) = goes_by (in_time a (tt {0})) _ (λ f h. k)
+  call_goes (call.Giveup view server) = goes_by (in_time a (tt {0})) _ (λ f h. k)
+  call_goes call.Status = goes_by (in_time a (tt {0})) _ (λ f h. k)
+  call_goes call.Stop = goes_by (in_time a (tt {0})) _ (λ f h. k)

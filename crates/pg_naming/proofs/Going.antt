@@ -1,236 +1,120 @@
 -- What each piece of an event leaves of a server in the midst of it.
-use Rattle.std.proofs.Common.{ℕ, ◌≡◌, ◌≤◌, ◌<◌, max, true, List, [], ◌∷◌, refl, sym, ap, subst, ◌∙◌, inl, inr, ◌⊎◌, arith}
+use Rattle.std.proofs.Common.{ℕ, ◌≡◌, ◌≤◌, true, List, ◌∷◌, ◌++◌, Some, sym, subst, ◌∙◌}
 use Rattle.pg_base.specs.declared.id.FileId.{FileId}
 use Rattle.pg_base.specs.declared.stamp.Stamp.{Stamp}
+use Rattle.pg_base.specs.Version.{VersionValue}
 use Rattle.pg_content.specs.Content.{Among}
-use Rattle.pg_edges.specs.declared.key.Key.TheVariants as key
 use Rattle.pg_register.specs.declared.flag.Flag.{Flag}
 use Rattle.pg_register.specs.declared.place.Place.{Place}
-use Rattle.pg_register.specs.Place.{root}
+use Rattle.pg_register.specs.Flag.{IsByServer}
 use Rattle.pg_entries.specs.declared.entry.Entry.{Entry}
-use Rattle.pg_names.specs.Names.{NamesValue, hold, is_dir, join_entry, join_flag, join_place, raise, with_flag, with_joined, with_place}
-use Rattle.pg_names.proofs.Holding.{hold_held, hold_last, hold_removed, hold_stays}
+use Rattle.pg_names.specs.declared.own.Own.{Own}
+use Rattle.pg_names.specs.Names.{NamesValue, cell_at, is_dir, own_at, raise, with_flag, with_joined, with_place}
 use Rattle.pg_names.proofs.Lookups.{update_frame}
 use Rattle.pg_house.specs.Facts.{IsHeld}
 use Rattle.pg_promises.specs.Whole.{AreOrderly}
 use Rattle.pg_promises.proofs.Choices.{chosen}
-use Rattle.pg_promises.proofs.Orderly.{orderly_entry, orderly_flag, orderly_held, orderly_place, orderly_raised}
+use Rattle.pg_promises.proofs.Orderly.{orderly_entry, orderly_flag, orderly_place, orderly_raised}
 use Rattle.pg_store.specs.declared.store.Store.{Store}
-use Rattle.pg_store.specs.Start.{first_flag}
-use Rattle.pg_store.specs.Store.{holding_both, is_newer_entry, is_newer_flag, is_newer_place, take_entry, take_flag, take_place, touch, with_names}
-use Rattle.pg_store.proofs.Stays.{hold_server}
-use Rattle.pg_run.specs.Took.{Take, is_held}
-use Rattle.pg_run.specs.Took.Take.{TookFlag, TookPlace, TookVersion}
+use Rattle.pg_store.specs.Store.{is_new_version, is_newer_entry, is_newer_flag, is_newer_place, put_entry, put_flag, put_place, put_version, take_entry, take_flag, take_place, take_version}
+use Rattle.pg_run.specs.Took.{Take, entry_takes}
+use Rattle.pg_run.specs.Took.Take.{Began, TookFlag, TookPlace, TookVersion}
 use Rattle.pg_run.specs.Took.Taker.{Itself}
-use Rattle.pg_naming.specs.Fresh.{IsFresh}
-use Rattle.pg_naming.specs.Goes.{Goes, IsFirst}
-use Rattle.pg_naming.specs.Newest.{HaveOwnNumbers}
-use Rattle.pg_naming.specs.Tells.{AreApart, KnowsFlag, KnowsPlace, Tells}
+use Rattle.pg_naming.specs.Goes.{Goes}
+use Rattle.pg_passing.specs.Tells.{Tells}
 use Rattle.pg_naming.proofs.Comes.{taken_flag, taken_place}
-use Rattle.pg_naming.proofs.Entries.{version_same, version_tells}
-use Rattle.pg_naming.proofs.Latest.{any_of}
-use Rattle.pg_naming.proofs.Parents.{SameTakes, same_tells}
-use Rattle.pg_naming.proofs.Pieces.{held_old}
-use Rattle.pg_naming.proofs.Singles.{not_flag, not_place, same_flag, same_place}
-use Rattle.pg_naming.proofs.Takes.{held_told, told_held}
-use Rattle.pg_naming.proofs.Times.{late_apart}
+use Rattle.pg_naming.proofs.Entries.{taken_entry}
+use Rattle.pg_naming.proofs.Same.{AreSameNames, names_tell, reordered_tells, version_tells}
+use Rattle.pg_passing.proofs.States.{tells_sorted}
+use Rattle.pg_passing.proofs.Takes.{began_held, held_began}
 
--- first flags have their own numbers
-pub first_numbers : (P : Flag → Type 0) → ((g : Flag) → P g → IsFirst g) → HaveOwnNumbers P
-first_numbers P first a b h k server birth number = first a h ∙ ap first_flag server ∙ sym (first b k)
+pub orderly_of : (removed : List ℕ) (s : NamesValue) (takes : List Take) → Goes removed s takes → AreOrderly s
+orderly_of removed s takes k = record {
+  dirs = k.dirs;
+  sorted = tells_sorted s takes k.tells;
+  last = k.last;
+  children = λ d c e h. (k.tells.some d c e h).child_is;
+}
 
--- ---- names that a piece leaves
+-- ---- one piece
 
--- the server, the removed ones, and a time that is no earlier
-pub record IsOn (s t : NamesValue) : Type 0 where
-  pub server : t.server ≡ s.server
-  pub removed : t.removed ≡ s.removed
-  pub later : s.last ≤ t.last
-
-pub through : (a b c : ℕ) → a ≤ b → b ≤ c → a ≤ c
-through a b c h k = omega arith
-
-same_on : (a b : ℕ) → b ≡ a → a ≤ b
-same_on a b e = omega arith
-
-first_most : (a b : ℕ) → a ≤ max a b
-first_most a b = grind arith
-
-pub IsOn-trans : (s t u : NamesValue) → IsOn s t → IsOn t u → IsOn s u
-IsOn-trans s t u a b = record { server = b.server ∙ a.server; removed = b.removed ∙ a.removed; later = through s.last t.last u.last a.later b.later }
-
-pub IsOn-refl : (s : NamesValue) → IsOn s s
-IsOn-refl s = record { server = refl; removed = refl; later = same_on s.last s.last refl }
-
-pub hold_on : (s : NamesValue) (f : FileId) → IsOn s (hold s f)
-hold_on s f = record { server = hold_server s f; removed = hold_removed s f; later = same_on s.last (hold s f).last (hold_last s f) }
-
-pub raise_on : (s : NamesValue) (time : ℕ) → IsOn s (raise s time)
-raise_on s time = record { server = refl; removed = refl; later = first_most s.last time }
-
-frame_on : (s t : NamesValue) → t.server ≡ s.server → t.removed ≡ s.removed → t.last ≡ s.last → IsOn s t
-frame_on s t a b c = record { server = a; removed = b; later = same_on s.last t.last c }
-
-pub place_on : (a : Store) (f : FileId) (p : Place) → IsOn a.names (take_place a f p).names
-place_on a f p =
-    let held = hold a.names f in
-    let placed = join_place held f p in
-    let m = update_frame held f (with_place p) in
-    chosen (λ (b : Store). IsOn a.names b.names) (is_newer_place a f p) (touch (with_names a (raise placed p.stamp.time)) f key.Place) (with_names a held)
-    (IsOn-trans a.names held (raise placed p.stamp.time) (hold_on a.names f)
-    (IsOn-trans held placed (raise placed p.stamp.time) (frame_on held placed m.server m.removed m.last) (raise_on placed p.stamp.time)))
-    (hold_on a.names f)
-
-pub flag_on : (a : Store) (f : FileId) (g : Flag) → IsOn a.names (take_flag a f g).names
-flag_on a f g =
-    let held = hold a.names f in
-    let flagged = join_flag held f g in
-    let m = update_frame held f (with_flag g) in
-    chosen (λ (b : Store). IsOn a.names b.names) (is_newer_flag a f g) (touch (with_names a flagged) f (key.Flag g.server)) (with_names a held)
-    (IsOn-trans a.names held flagged (hold_on a.names f) (frame_on held flagged m.server m.removed m.last))
-    (hold_on a.names f)
-
-pub entry_on : (a : Store) (d : FileId) (e : Entry) → IsOn a.names (take_entry a d e).names
-entry_on a d e =
-    let first = hold a.names d in
-    let both = holding_both a.names d e.child in
-    let joined = join_entry both d e in
-    let m = update_frame both d (with_joined e) in
-    let on : IsOn a.names both = IsOn-trans a.names first both (hold_on a.names d) (hold_on first e.child) in
-    chosen (λ (b : Store). IsOn a.names b.names) (is_newer_entry a d e) (touch (with_names a (raise joined e.place.stamp.time)) d (key.Entry e.child)) (with_names a both)
-    (IsOn-trans a.names both (raise joined e.place.stamp.time) on
-    (IsOn-trans both joined (raise joined e.place.stamp.time) (frame_on both joined m.server m.removed m.last) (raise_on joined e.place.stamp.time)))
-    on
-
--- ---- order
-
-pub place_orderly : (a : Store) (f : FileId) (p : Place) → AreOrderly a.names → AreOrderly (take_place a f p).names
-place_orderly a f p k =
-    let held = hold a.names f in
-    let own = hold_held a.names f in
-    let still = orderly_held a.names f k in
-    chosen (λ (b : Store). AreOrderly b.names) (is_newer_place a f p) (touch (with_names a (raise (join_place held f p) p.stamp.time)) f key.Place) (with_names a held)
-    (orderly_place held f own.0 own.1 still p) still
-
-pub flag_orderly : (a : Store) (f : FileId) (g : Flag) → AreOrderly a.names → AreOrderly (take_flag a f g).names
-flag_orderly a f g k =
-    let held = hold a.names f in
-    let own = hold_held a.names f in
-    let still = orderly_held a.names f k in
-    chosen (λ (b : Store). AreOrderly b.names) (is_newer_flag a f g) (touch (with_names a (join_flag held f g)) f (key.Flag g.server)) (with_names a held)
-    (orderly_flag held f own.0 own.1 still g) still
-
-pub entry_orderly : (a : Store) (d : FileId) (e : Entry) → is_dir d ≡ true → AreOrderly a.names → AreOrderly (take_entry a d e).names
-entry_orderly a d e dir k =
-    let first = hold a.names d in
-    let both = holding_both a.names d e.child in
-    let there = hold_held a.names d in
-    let still = orderly_held first e.child (orderly_held a.names d k) in
-    chosen (λ (b : Store). AreOrderly b.names) (is_newer_entry a d e) (touch (with_names a (raise (join_entry both d e) e.place.stamp.time)) d (key.Entry e.child)) (with_names a both)
-    (orderly_entry both d there.0 (hold_stays first e.child d there.0 there.1) dir still e) still
-
--- ---- a server goes on
-
-module _ (Old : FileId → Place → Type 0) (n base : ℕ) (gone : List ℕ) where
+module _ (removed : List ℕ) where
   abbrev Is : NamesValue → List Take → Type 0
-  Is = Goes Old n base gone
+  Is = Goes removed
 
-  pub goes_apart : (s : NamesValue) (now : List Take) → Is s now → AreApart now
-  goes_apart s now k = record { places = k.stamps; flags = λ f. first_numbers (KnowsFlag now f) (k.first f) }
+  from_orderly : (s : NamesValue) (takes : List Take) → Tells s takes → AreOrderly s → s.removed ≡ removed → Is s takes
+  from_orderly s takes tells o e = record { tells = tells; dirs = o.dirs; last = o.last; same_removed = e }
 
-  pub old_root : (s t : NamesValue) (now rest : List Take) → Is s now → Tells t rest → ((q : FileId) → is_held q now ≡ true → is_held q rest ≡ true) → IsHeld t root
-  old_root s t now rest k tells stays = tells.held root (stays root (k.tells.told root k.top))
+  pub goes_place : (a : Store) (now : List Take) → Is a.names now → (f : FileId) → IsHeld a.names f → (p : Place)
+      → Is (take_place a f p).names (TookPlace Itself f p ∷ now)
+  goes_place a now k f held p =
+      let o = orderly_of removed a.names now k in
+      let frame = update_frame a.names f (with_place p) in
+      from_orderly (take_place a f p).names (TookPlace Itself f p ∷ now) (taken_place a f held.0 held.1 p now k.tells)
+      (chosen (λ (b : Store). AreOrderly b.names) (is_newer_place a f p) (put_place a f p) a (orderly_place a.names f held.0 held.1 o p) o)
+      (chosen (λ (b : Store). b.names.removed ≡ removed) (is_newer_place a f p) (put_place a f p) a (frame.removed ∙ k.same_removed) k.same_removed)
 
-  far : (a b c : ℕ) → a ≤ b → b < c → a < c
-  far a b c h k = omega arith
+  pub goes_flag : (a : Store) (now : List Take) → Is a.names now → (f : FileId) → IsHeld a.names f → (g : Flag)
+      → Is (take_flag a f g).names (TookFlag Itself f g ∷ now)
+  goes_flag a now k f held g =
+      let o = orderly_of removed a.names now k in
+      let frame = update_frame a.names f (with_flag g) in
+      from_orderly (take_flag a f g).names (TookFlag Itself f g ∷ now) (taken_flag a f held.0 held.1 g now k.tells)
+      (chosen (λ (b : Store). AreOrderly b.names) (is_newer_flag a f g) (put_flag a f g) a (orderly_flag a.names f held.0 held.1 o g) o)
+      (chosen (λ (b : Store). b.names.removed ≡ removed) (is_newer_flag a f g) (put_flag a f g) a (frame.removed ∙ k.same_removed) k.same_removed)
 
-  -- a place that the server makes
-  module _ (a : Store) (now : List Take) (k : Is a.names now) (f : FileId) (p : Place) (late : a.names.last < p.stamp.time) (mine : p.stamp.server ≡ a.names.server) where
-    abbrev More : List Take
-    More = TookPlace Itself f p ∷ now
+  pub goes_entry : (a : Store) (now : List Take) → Is a.names now → (d : FileId) → IsHeld a.names d → is_dir d ≡ true → (e : Entry) → IsByServer e.flags
+      → Is (take_entry a d e).names (entry_takes d e ++ now)
+  goes_entry a now k d held dir e sorted =
+      let o = orderly_of removed a.names now k in
+      let frame = update_frame a.names d (with_joined e) in
+      from_orderly (take_entry a d e).names (entry_takes d e ++ now) (taken_entry a d held.0 held.1 e sorted now k.tells)
+      (chosen (λ (b : Store). AreOrderly b.names) (is_newer_entry a d e) (put_entry a d e) a (orderly_entry a.names d held.0 held.1 dir o e) o)
+      (chosen (λ (b : Store). b.names.removed ≡ removed) (is_newer_entry a d e) (put_entry a d e) a (frame.removed ∙ k.same_removed) k.same_removed)
 
-    more_place : (g : FileId) (q : Place) → KnowsPlace More g q → Old g q ⊎ IsFresh n base q
-    more_place g q h = elim h.1 [
-      | inl e ↦ (
-          let P : Place → Type 0 = IsFresh n base in
-          inr (subst P (sym (same_place h.0 Itself g f q p e)) (mine ∙ k.same_server, far base a.names.last p.stamp.time k.later late)))
-      | inr old ↦ k.places g q (h.0, old)
-    ]
+  -- a stamp is taken
+  pub goes_raised : (s : NamesValue) (time : ℕ) (now : List Take) → Is s now → Is (raise s time) now
+  goes_raised s time now k =
+      from_orderly (raise s time) now
+      (record { held = k.tells.held; told = k.tells.told; place = k.tells.place; flags = k.tells.flags; none = k.tells.none; some = k.tells.some })
+      (orderly_raised s time (orderly_of removed s now k)) k.same_removed
 
-    pub goes_place : Is (take_place a f p).names (TookPlace Itself f p ∷ now)
-    goes_place =
-        let on = place_on a f p in
-        let tells = taken_place a f p now k.tells in
-        record {
-          tells = tells;
-          stamps = (late_apart a.names now k.tells k.orderly.last f p late (goes_apart a.names now k)).places;
-          first = λ g q h. elim h.1 [ inl e ↦ absurd (not_flag h.0 Itself g f p q e) | inr old ↦ k.first g q (h.0, old) ];
-          orderly = place_orderly a f p k.orderly;
-          top = old_root a.names (take_place a f p).names now More k tells (held_old (TookPlace Itself f p ∷ []) now);
-          same_server = on.server ∙ k.same_server;
-          later = through base a.names.last (take_place a f p).names.last k.later on.later;
-          same_removed = on.removed ∙ k.same_removed;
-          places = more_place;
-        }
+  -- a version of a file is taken, or made
+  pub goes_noted : (s : NamesValue) (now : List Take) → Is s now → (f : FileId) (stamp : Stamp) → Is s (TookVersion f stamp ∷ now)
+  goes_noted s now k f stamp = record { tells = version_tells f stamp now s k.tells; dirs = k.dirs; last = k.last; same_removed = k.same_removed }
 
-  -- a flag
-  module _ (a : Store) (now : List Take) (k : Is a.names now) (f : FileId) (g : Flag) (first : IsFirst g) where
-    flag_place : (e : FileId) (q : Place) → KnowsPlace (TookFlag Itself f g ∷ now) e q → KnowsPlace now e q
-    flag_place e q h = elim h.1 [ inl i ↦ absurd (not_place h.0 Itself e f q g i) | inr old ↦ (h.0, old) ]
+  pub goes_version : (a : Store) (now : List Take) → Is a.names now → (f : FileId) (v : VersionValue)
+      → Is (take_version a f v).names (TookVersion f v.head.stamp ∷ now)
+  goes_version a now k f v =
+      let noted = goes_noted a.names now k f v.head.stamp in
+      chosen (λ (b : Store). Is b.names (TookVersion f v.head.stamp ∷ now)) (is_new_version a f v) (put_version a f v) a
+      (goes_raised a.names v.head.stamp.time (TookVersion f v.head.stamp ∷ now) noted) noted
 
-    more_flag : (e : FileId) (q : Flag) → KnowsFlag (TookFlag Itself f g ∷ now) e q → IsFirst q
-    more_flag e q h = elim h.1 [ inl i ↦ subst IsFirst (sym (same_flag h.0 Itself e f q g i)) first | inr old ↦ k.first e q (h.0, old) ]
+  -- nothing is taken, and names stay as they are but for what is full
+  pub goes_same : (s t : NamesValue) (now : List Take) → Is s now → AreSameNames s t → t.last ≡ s.last → t.removed ≡ s.removed → Is t now
+  goes_same s t now k m last gone =
+      let P : ℕ → Type 0 = λ n. (f : FileId) (own : Own) → own_at t f ≡ Some own → own.place.stamp.time ≤ n in
+      let Q : ℕ → Type 0 = λ n. (d c : FileId) (e : Entry) → cell_at t d c ≡ Some e → e.place.stamp.time ≤ n in
+      record {
+        tells = names_tell s t now m k.tells;
+        dirs = λ d c e h. k.dirs d c e (sym (m.cells d c) ∙ h);
+        last = record {
+          own = subst P (sym last) (λ f own h. k.last.own f own (sym (m.own f) ∙ h));
+          cells = subst Q (sym last) (λ d c e h. k.last.cells d c e (sym (m.cells d c) ∙ h));
+        };
+        same_removed = gone ∙ k.same_removed;
+      }
 
-    pub goes_flag : Is (take_flag a f g).names (TookFlag Itself f g ∷ now)
-    goes_flag =
-        let on = flag_on a f g in
-        let tells = taken_flag a f g now k.tells in
-        record {
-          tells = tells;
-          stamps = λ e x y h i. k.stamps e x y (any_of e (KnowsPlace (TookFlag Itself f g ∷ now) e) (KnowsPlace now e) (flag_place e) x h)
-              (any_of e (KnowsPlace (TookFlag Itself f g ∷ now) e) (KnowsPlace now e) (flag_place e) y i);
-          first = more_flag;
-          orderly = flag_orderly a f g k.orderly;
-          top = old_root a.names (take_flag a f g).names now (TookFlag Itself f g ∷ now) k tells (held_old (TookFlag Itself f g ∷ []) now);
-          same_server = on.server ∙ k.same_server;
-          later = through base a.names.last (take_flag a f g).names.last k.later on.later;
-          same_removed = on.removed ∙ k.same_removed;
-          places = λ e q h. k.places e q (flag_place e q h);
-        }
-
-  -- names that differ in nothing but a time and what is held, and takes that tell of no other place or flag
-  pub goes_same : (s t : NamesValue) (now rest : List Take) → Is s now → Tells t rest → SameTakes now rest → AreOrderly t → IsOn s t → IsHeld t root → Is t rest
-  goes_same s t now rest k tells m orderly on top = record {
-    tells = tells;
-    stamps = λ e x y h i. k.stamps e x y (any_of e (KnowsPlace rest e) (KnowsPlace now e) (λ z j. (j.0, m.place_back j.0 e z j.1)) x h)
-        (any_of e (KnowsPlace rest e) (KnowsPlace now e) (λ z j. (j.0, m.place_back j.0 e z j.1)) y i);
-    first = λ e q h. k.first e q (h.0, m.flag_back h.0 e q h.1);
-    orderly = orderly;
-    top = top;
-    same_server = on.server ∙ k.same_server;
-    later = through base s.last t.last k.later on.later;
-    same_removed = on.removed ∙ k.same_removed;
-    places = λ e q h. k.places e q (h.0, m.place_back h.0 e q h.1);
-  }
-
-  -- a version that the server makes of a file that it holds
-  pub goes_version : (s : NamesValue) (now : List Take) → Is s now → (f : FileId) (stamp : Stamp) → IsHeld s f → Is (raise s stamp.time) (TookVersion f stamp ∷ now)
-  goes_version s now k f stamp held =
-      goes_same s (raise s stamp.time) now (TookVersion f stamp ∷ now) k
-      (version_tells f stamp now s (raise s stamp.time) k.tells (λ q. refl) (λ d g. refl) (λ q h. h) held (λ q h. inl h))
-      (version_same f stamp now) (orderly_raised s stamp.time k.orderly) (raise_on s stamp.time) k.top
+  pub goes_on : (s t : NamesValue) (now : List Take) → t ≡ s → Is s now → Is t now
+  goes_on s t now e k = subst (λ (x : NamesValue). Is x now) (sym e) k
 
   -- takes in another order
-  pub goes_reordered : (s : NamesValue) (now rest : List Take) → Is s now → ((x : Take) → Among x now → Among x rest) → ((x : Take) → Among x rest → Among x now) → Is s rest
+  pub goes_reordered : (s : NamesValue) (now rest : List Take) → Is s now → ((x : Take) → Among x now → Among x rest) → ((x : Take) → Among x rest → Among x now)
+      → Is s rest
   goes_reordered s now rest k to back =
-      let m : SameTakes now rest = record {
-        place = λ b f p. to (TookPlace b f p);
-        flag = λ b f g. to (TookFlag b f g);
-        place_back = λ b f p. back (TookPlace b f p);
-        flag_back = λ b f g. back (TookFlag b f g);
-      } in
-      let tells : Tells s rest =
-      same_tells now rest m s s k.tells (λ q. refl) (λ d g. refl)
-      (λ q h. let r = held_told rest q h in k.tells.held q (told_held now q (r.0, back r.0 r.1, r.2)))
-      (λ q h. let r = held_told now q (k.tells.told q h) in told_held rest q (r.0, to r.0 r.1, r.2)) in
-      goes_same s s now rest k tells m k.orderly (IsOn-refl s) k.top
+      record { tells = reordered_tells now rest to back s k.tells; dirs = k.dirs; last = k.last; same_removed = k.same_removed }
+
+  -- what was held is held
+  pub still_held : (s t : NamesValue) (now rest : List Take) → Is s now → Is t rest → ((x : Take) → Among x now → Among x rest) → (q : FileId) → IsHeld s q → IsHeld t q
+  still_held s t now rest k l more q h =
+      l.tells.held q (began_held rest q (more (Began q) (held_began now q (k.tells.told q h))))

@@ -1,152 +1,184 @@
 -- After any events each server knows of names what its replicas took.
-use Rattle.std.proofs.Common.{ℕ, ◌≡◌, ◌≤◌, List, [], ◌∷◌, All, Option, None, Some, refl, sym, ap, ◌∙◌, inl, inr, arith}
-use Rattle.std.proofs.lemmas.List.Elements.{All-append, All-nil, All-weaker}
-use Rattle.pg_base.specs.declared.id.FileId.{FileId}
-use Rattle.pg_base.specs.declared.stamp.Stamp.{Stamp}
-use Rattle.pg_register.specs.declared.place.Place.{Place}
-use Rattle.pg_entries.specs.declared.cell.Cell.{Cell}
-use Rattle.pg_entries.specs.declared.cell.Cell.TheVariants as cell
-use Rattle.pg_msg.specs.declared.message.Message.{Message}
-use Rattle.pg_msg.specs.declared.message.Message.TheVariants as message
-use Rattle.pg_msg.specs.declared.message.Sent.{Sent}
+use Rattle.std.proofs.Common.{ℕ, ◌≡◌, ◌≤◌, Bool, true, false, cond, List, [], ◌∷◌, ◌++◌, map, Option, Some, refl, sym, ap, subst, ◌∙◌}
+use Rattle.pg_content.specs.Content.{Among}
+use Rattle.pg_msg.specs.declared.update.Update.{Update}
 use Rattle.pg_event.specs.declared.event.Event.{Event}
-use Rattle.pg_event.specs.declared.event.Event.TheVariants.{Call as Called, Tick, Deliver, Lose, Repeat, Restart, Remove}
 use Rattle.pg_event.specs.declared.entry.VoidCause.{VoidCause}
-use Rattle.pg_event.specs.declared.entry.VoidCause.TheVariants.{NoMessage, NoServer, Unbuilt}
-use Rattle.pg_promises.proofs.Choices.{chosen}
-use Rattle.pg_store.specs.Start.{first_flags}
-use Rattle.pg_store.specs.Store.{new_store}
-use Rattle.pg_calls.specs.Calls.{is_built}
+use Rattle.pg_store.specs.declared.store.Store.{Store}
 use Rattle.pg_server.specs.declared.input.Input.{Input}
 use Rattle.pg_server.specs.declared.input.Input.TheVariants as input
-use Rattle.pg_run.specs.Journal.{bag, bag_after, message_at}
+use Rattle.pg_server.specs.Local.{effect, takes_effect}
+use Rattle.pg_run.specs.Carried.{came}
+use Rattle.pg_run.specs.Known.{Told, of_run}
 use Rattle.pg_run.specs.Laws.{NamesMerge}
-use Rattle.pg_run.specs.Run.{Step, World, bag_step, delivery_step, effect_step, idle_step, is_server, next, run, run_from, server_step, start, world_after}
-use Rattle.pg_run.specs.Took.{Take, first_place, first_takes}
-use Rattle.pg_run.proofs.Bags.{at_message, left_copied, left_without}
-use Rattle.pg_naming.specs.Good.{IsGoodCell, IsGoodMessage}
-use Rattle.pg_naming.specs.Newest.{IsAnyOf}
-use Rattle.pg_naming.specs.Sound.{IsOld, IsSound, Known}
-use Rattle.pg_naming.specs.Tells.{AreApart, KnowsFlag, KnowsPlace}
-use Rattle.pg_naming.proofs.Begins.{start_first, start_orderly, start_place, start_tells, start_top}
-use Rattle.pg_naming.proofs.Effects.{IsGoodInput}
-use Rattle.pg_naming.proofs.Going.{first_numbers}
-use Rattle.pg_naming.proofs.Latest.{any_of, first_stamp_is}
-use Rattle.pg_naming.proofs.States.{entry_is, own_is}
-use Rattle.pg_naming.proofs.Worlds.{old_kept, sent_then, sound_then}
+use Rattle.pg_run.specs.Passed.{passed, passed_with}
+use Rattle.pg_run.specs.Run.{Taking, World, brought, effect_step, first_made, idle_step, made_behind, run, start, taking_in, took_after, world_after}
+use Rattle.pg_run.specs.Took.{Take, take_of}
+use Rattle.pg_run.proofs.Frame.{Acts, HasCome, holds_in_runs, next_is, pair_after, run_more}
+use Rattle.pg_run.proofs.Knowing.{Within, made_within, passed_within, told_itself, within_back, within_parts, within_then}
+use Rattle.pg_run.proofs.Lists.{among_back, among_front}
+use Rattle.pg_run.proofs.Makes.{is_made_in_parts}
+use Rattle.pg_naming.specs.Goes.{Goes}
+use Rattle.pg_naming.specs.Merged.{AreMerged, AreTakesTold, IsMerged, NamesStandOn, StandsOn}
+use Rattle.pg_passing.specs.Tells.{AreApart}
+use Rattle.pg_naming.proofs.Effects.{input_goes}
+use Rattle.pg_naming.proofs.Messages.{IsReady}
+use Rattle.pg_naming.proofs.Sources.{IsInputGood, both_told, came_told, later_told, made_told, only_first, takes_apart, within_told}
+use Rattle.pg_naming.proofs.Start.{start_merged}
+use Rattle.pg_passing.proofs.States.{entry_is, own_is}
 
--- ---- what is known later is no less
+-- ---- what was taken in an event tells no more than what was made, came, and was taken before
 
-later_entry : (P Q : FileId → Place → Type 0) → ((f : FileId) (p : Place) → P f p → Q f p) → (f : FileId) (c : Cell) → IsGoodCell P f c → IsGoodCell Q f c
-later_entry P Q to f (cell.Place p) good = to f p good
-later_entry P Q to f (cell.Flag g) good = good
-later_entry P Q to f (cell.Entry e sure) good = record { old = to e.child e.place good.old; sorted = good.sorted; first = good.first }
-later_entry P Q to f (cell.Version v policy) good = good
+module _ (gone : List ℕ) (made : List Update) (first : List Take) where
+  took_within : Within (passed_with gone (passed gone first) made) (map take_of made ++ first)
+  took_within =
+      within_then (passed_with gone (passed gone first) made) (map take_of made ++ passed gone first) (map take_of made ++ first)
+      (made_within gone made (passed gone first))
+      (within_parts (map take_of made) (passed gone first) (map take_of made ++ first)
+      (λ u k. told_itself u (map take_of made ++ first) (among_front u (map take_of made) first k))
+      (within_then (passed gone first) first (map take_of made ++ first) (passed_within gone first) (within_back (map take_of made) first)))
 
-later_message : (P Q : FileId → Place → Type 0) → ((f : FileId) (p : Place) → P f p → Q f p) → (m : Message) → IsGoodMessage P m → IsGoodMessage Q m
-later_message P Q to (message.Cell ends tag c) good = later_entry P Q to ends.file c good
-later_message P Q to m good = good
+-- ---- what a server has, as messages need it
 
--- ---- the messages under way
+-- it is one of the run
+abbrev pub AtServer : ℕ → ℕ → Type 0
+AtServer n s = (1 ≤ s) × (s ≤ n)
 
-bag_good : (P : Sent → Type 0) (ms sent : List Sent) (event : Event) → All P ms → All P sent → All P (bag_after ms event sent)
-bag_good P ms sent (Called server moment call) h k = All-append P ms sent h k
-bag_good P ms sent (Tick server moment word) h k = All-append P ms sent h k
-bag_good P ms sent (Deliver number) h k = All-append P _ sent (left_without P ms number (message_at ms number) h) k
-bag_good P ms sent (Lose number) h k = left_without P ms number (message_at ms number) h
-bag_good P ms sent (Repeat number) h k = left_copied P ms (message_at ms number) h (λ m e. at_message P ms number m h e)
-bag_good P ms sent (Restart server) h k = h
-bag_good P ms sent (Remove server) h k = h
+pub ready_of : (n : ℕ) (w : World) (on : StandsOn n w) (s : ℕ) → AtServer n s → IsReady (of_run n w) (w.stores s)
+ready_of n w on s at = record {
+  first = only_first n w on;
+  intends = on.intends s at.0 at.1;
+  patches = λ dir e target h. (let t = (on.known.stores s at.0 at.1).patches dir e target h in (t.0, t.1.sorted));
+}
 
--- ---- one event
+-- a message that came is one of the run
+pub input_of : (n : ℕ) (w : World) (on : StandsOn n w) (s : ℕ) (asked : Input) → HasCome w s asked → IsInputGood (of_run n w) asked
+input_of n w on s (input.Call moment c) h = tt
+input_of n w on s (input.Tick moment word) h = tt
+input_of n w on s (input.Arrival packet) h = on.known.messages _ h
+input_of n w on s input.Restart h = tt
 
-module _ (w : World) (k : IsSound w) where
-  abbrev Good : Sent → Type 0
-  Good m = IsGoodMessage (IsOld w.took) m.packet.message
+-- ---- one server takes an input
 
-  abbrev Behind : Step → Type 0
-  Behind step = IsSound (world_after w step)
+module _ (n : ℕ) (w : World) (event : Event) (s : ℕ) (asked : Input) (at : AtServer n s) (come : HasCome w s asked)
+    (on : StandsOn n w) (k : IsMerged n w s) where
+  abbrev A : Store
+  A = w.stores s
 
-  idle_sound : (event : Event) (cause : Option VoidCause) → Behind (idle_step w event cause)
-  idle_sound event cause = record { servers = k.servers; messages = bag_good Good (bag w.journal) [] event k.messages (All-nil Good) }
+  abbrev T : List Take
+  T = w.took s
 
-  effect_sound : (event : Event) (s : ℕ) (asked : Input) → IsGoodInput (IsOld w.took) asked → Behind (effect_step w event s asked)
-  effect_sound event s asked good =
-      let step = effect_step w event s asked in
-      let Later : Sent → Type 0 = λ m. IsGoodMessage (IsOld step.took) m.packet.message in
-      let old : All Later (bag w.journal) =
-      All-weaker Good Later (λ m h. later_message (IsOld w.took) (IsOld step.took) (old_kept w.stores w.took k.servers s asked good) m.packet.message h) (bag w.journal) k.messages in
-      record {
-        servers = sound_then w.stores w.took k.servers s asked good;
-        messages = bag_good Later (bag w.journal) step.entry.sent event old (sent_then w.stores w.took k.servers s asked good);
-      }
+  abbrev After : World
+  After = world_after w (effect_step w event s asked)
 
-  server_sound : (n : ℕ) (event : Event) (s : ℕ) (asked : Input) → IsGoodInput (IsOld w.took) asked → Behind (server_step n w event s asked)
-  server_sound n event s asked good = chosen Behind (is_server n s) (effect_step w event s asked) (idle_step w event (Some NoServer)) (effect_sound event s asked good) (idle_sound event (Some NoServer))
+  abbrev Then : Told
+  Then = of_run n After
 
-  message_sound : (n : ℕ) (event : Event) (o : Option Sent) → ((m : Sent) → o ≡ Some m → Good m) → Behind (delivery_step n w event o)
-  message_sound n event None good = idle_sound event (Some NoMessage)
-  message_sound n event (Some m) good =
-      chosen Behind (is_server n m.to) (effect_step w event m.to (input.Arrival m.packet)) (idle_step w event None) (effect_sound event m.to (input.Arrival m.packet) (good m refl)) (idle_sound event None)
+  good : IsInputGood (of_run n w) asked
+  good = input_of n w on s asked come
 
-  bag_sound : (event : Event) (o : Option Sent) → Behind (bag_step w event o)
-  bag_sound event None = idle_sound event (Some NoMessage)
-  bag_sound event (Some m) = idle_sound event None
+  -- all of it was made by then
+  made_in : (u : Update) → Among u (first_made A asked) → Among u (effect A asked).out.made
+  made_in u h =
+      let P : List Update → Type 0 = λ us. Among u us in
+      subst P (sym (is_made_in_parts A asked)) (among_front u (first_made A asked) (made_behind A asked) h)
 
-  next_sound : (n : ℕ) (event : Event) → Behind (next n w event)
-  next_sound n (Called server moment call) =
-      chosen Behind (is_built call) (server_step n w (Called server moment call) server (input.Call moment call)) (idle_step w (Called server moment call) (Some Unbuilt))
-      (server_sound n (Called server moment call) server (input.Call moment call) (tt {0})) (idle_sound (Called server moment call) (Some Unbuilt))
-  next_sound n (Tick server moment word) = server_sound n (Tick server moment word) server (input.Tick moment word) (tt {0})
-  next_sound n (Deliver number) = message_sound n (Deliver number) (message_at (bag w.journal) number) (λ m e. at_message Good (bag w.journal) number m k.messages e)
-  next_sound n (Lose number) = bag_sound (Lose number) (message_at (bag w.journal) number)
-  next_sound n (Repeat number) = bag_sound (Repeat number) (message_at (bag w.journal) number)
-  next_sound n (Restart server) = idle_sound (Restart server) (Some Unbuilt)
-  next_sound n (Remove server) = idle_sound (Remove server) (Some Unbuilt)
+  behind_in : (u : Update) → Among u (made_behind A asked) → Among u (effect A asked).out.made
+  behind_in u h =
+      let P : List Update → Type 0 = λ us. Among u us in
+      subst P (sym (is_made_in_parts A asked)) (among_back u (first_made A asked) (made_behind A asked) h)
+
+  old_told : AreTakesTold Then T
+  old_told = later_told n w After (effect_step w event s asked).entry refl T k.told
+
+  new_told : AreTakesTold Then (came A asked)
+  new_told =
+      later_told n w After (effect_step w event s asked).entry refl (came A asked)
+      (came_told (of_run n w) A (λ dir e target h. ((on.known.stores s at.0 at.1).patches dir e target h).1) asked good)
+
+  pub first_told : AreTakesTold Then (brought A asked ++ T)
+  first_told =
+      both_told Then (brought A asked) T
+      (both_told Then (map take_of (first_made A asked)) (came A asked)
+      (made_told n After (effect_step w event s asked).entry w.journal refl (first_made A asked) made_in) new_told) old_told
+
+  end_told : AreTakesTold Then (took_after A T asked)
+  end_told = by (takes_effect A asked)
+    where
+      by : (t : Bool) → AreTakesTold Then (cond t (passed_with A.names.removed (passed A.names.removed (brought A asked ++ T)) (made_behind A asked)) T)
+      by true =
+          within_told Then (passed_with A.names.removed (passed A.names.removed (brought A asked ++ T)) (made_behind A asked)) (map take_of (made_behind A asked) ++ (brought A asked ++ T))
+          (took_within A.names.removed (made_behind A asked) (brought A asked ++ T))
+          (both_told Then (map take_of (made_behind A asked)) (brought A asked ++ T)
+          (made_told n After (effect_step w event s asked).entry w.journal refl (made_behind A asked) behind_in) first_told)
+      by false = old_told
+
+  module _ (later : StandsOn n After) where
+    pub apart : AreApart (brought A asked ++ T)
+    apart = takes_apart n After later (brought A asked ++ T) first_told
+
+    end_goes : Goes A.names.removed (effect A asked).store.names (took_after A T asked)
+    end_goes = input_goes (of_run n w) A T k.goes (ready_of n w on s at) (on.ids s at.0 at.1) asked good (λ going. apart)
+
+    -- the server behind it
+    acted : Goes (effect A asked).store.names.removed (effect A asked).store.names (took_after A T asked)
+    acted = record { tells = end_goes.tells; dirs = end_goes.dirs; last = end_goes.last; same_removed = refl }
+
+    pub merged_then : ((t : ℕ) → 1 ≤ t → t ≤ n → IsMerged n w t) → (t : ℕ) → 1 ≤ t → t ≤ n → IsMerged n After t
+    merged_then all t least most =
+        let P : ℕ → Store → List Take → Type 0 = λ i b taken. 1 ≤ i → i ≤ n → Goes b.names.removed b.names taken × AreTakesTold Then taken in
+        let step = effect_step w event s asked in
+        let r = pair_after P w.stores w.took s (effect A asked).store (took_after A T asked)
+        (λ i l m. let x = all i l m in (x.goes, later_told n w After step.entry refl (w.took i) x.told)) (λ l m. (acted, end_told)) t least most in
+        record { goes = r.0; told = r.1 }
 
 -- ---- any events
 
-run_sound : (n : ℕ) (w : World) (events : List Event) → IsSound w → IsSound (run_from n w events)
-run_sound n w [] k = k
-run_sound n w (event ∷ events) k = run_sound n (world_after w (next n w event)) events (next_sound w k n event)
+module _ (n : ℕ) (all : (events : List Event) → StandsOn n (run n events)) where
+  idle_merged : (w : World) (event : Event) (cause : Option VoidCause) → AreMerged n w → AreMerged n (world_after w (idle_step w event cause))
+  idle_merged w event cause k t least most =
+      let m = k t least most in
+      record { goes = m.goes; told = later_told n w (world_after w (idle_step w event cause)) (idle_step w event cause).entry refl (w.took t) m.told }
 
-low : (a b n : ℕ) → a ≡ b → b ≡ 0 → a ≤ n
-low a b n h k = omega arith
+  -- the next world of a run is one of a run
+  pub next_stands : (events : List Event) (event : Event) (t : Taking) → taking_in n (run n events) event ≡ Some t
+      → StandsOn n (world_after (run n events) (effect_step (run n events) event t.server t.asked))
+  next_stands events event t h =
+      let w = run n events in
+      let P : World → Type 0 = StandsOn n in
+      subst P (run_more n (start n) events event ∙ ap (world_after w) (next_is n w event t h)) (all (events ++ event ∷ []))
 
-module _ (n : ℕ) where
-  abbrev First : ℕ → List Take
-  First s = first_takes (first_flags n)
+  acts_merged : (events : List Event) (event : Event) (t : Taking) → taking_in n (run n events) event ≡ Some t → Acts n (run n events) t
+      → AreMerged n (run n events) → AreMerged n (world_after (run n events) (effect_step (run n events) event t.server t.asked))
+  acts_merged events event t h acts k u least most =
+      merged_then n (run n events) event t.server t.asked (acts.least, acts.most) acts.came (all events) (k t.server acts.least acts.most)
+      (next_stands events event t h) k u least most
 
-  start_old : (f : FileId) (p : Place) → IsAnyOf f (Known First f) p → p ≡ first_place f
-  start_old f p (inl e) = e
-  start_old f p (inr h) = start_place n h.0 f p h.1
+  pub merged_run : (events : List Event) → AreMerged n (run n events)
+  merged_run events =
+      holds_in_runs n (AreMerged n)
+      (record { first = λ s least most. start_merged n s; idle = idle_merged; acts = acts_merged })
+      events
 
-  start_sound : IsSound (start n)
-  start_sound = record {
-    servers = record {
-      each = λ s. record { tells = start_tells n s; first = start_first n s; orderly = start_orderly n s; top = (_, start_top n s); is = refl };
-      stamps = λ f a b h i e. start_old f a h ∙ sym (start_old f b i);
-      times = λ f p h. low p.stamp.time (first_place f).stamp.time (new_store n p.stamp.server).names.last
-          (ap (λ (x : Place). x.stamp.time) (start_place n h.0 f p h.1)) (ap (λ (x : Stamp). x.time) (first_stamp_is f));
-    };
-    messages = All-nil (λ (m : Sent). IsGoodMessage (IsOld First) m.packet.message);
-  }
+  -- THE MERGE OF NAMES
+  pub names_merge : NamesMerge n
+  names_merge events s least most =
+      let w = run n events in
+      let k = merged_run events s least most in
+      let apart = takes_apart n w (all events) (w.took s) k.told in
+      record {
+        held = λ f. (λ h. k.goes.tells.held f h, λ h. k.goes.tells.told f h);
+        own = own_is (w.stores s).names (w.took s) apart k.goes.tells;
+        entries = entry_is (w.stores s).names (w.took s) apart k.goes.tells;
+      }
 
--- THE MERGE OF NAMES, and that all servers are sound
-pub sound_run : (n : ℕ) (events : List Event) → IsSound (run n events)
-sound_run n events = run_sound n (start n) events (start_sound n)
+-- ---- from the laws of runs
 
-pub names_merge : (n : ℕ) → NamesMerge n
-names_merge n events s least most =
-    let w = run n events in
-    let k = sound_run n events in
-    let mine = k.servers.each s in
-    let apart : AreApart (w.took s) = record {
-      places = λ f a b h i. k.servers.stamps f a b (any_of f (KnowsPlace (w.took s) f) (Known w.took f) (λ p x. (s, x)) a h) (any_of f (KnowsPlace (w.took s) f) (Known w.took f) (λ p x. (s, x)) b i);
-      flags = λ f. first_numbers (KnowsFlag (w.took s) f) (mine.first f);
-    } in
-    record {
-      held = λ f. (λ h. mine.tells.held f h, λ h. mine.tells.told f h);
-      own = own_is (w.stores s).names (w.took s) apart mine.tells;
-      entries = entry_is (w.stores s).names (w.took s) apart mine.tells;
-    }
+pub stand_on : (n : ℕ) → NamesStandOn n → (events : List Event) → StandsOn n (run n events)
+stand_on n on events = record {
+  known = on.known events;
+  stamps = on.stamps events;
+  flags = on.flags events;
+  intends = on.intends events;
+  ids = on.ids events;
+}

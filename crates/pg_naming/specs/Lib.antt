@@ -1,7 +1,2 @@
-pub mod Newest
-pub mod Tells
-pub mod Gets
-pub mod Fresh
 pub mod Goes
-pub mod Good
-pub mod Sound
+pub mod Merged

@@ -3,4 +3,4 @@
 
 mod laws;
 
-pub use laws::{names_are_what_was_taken, returns_are_justified, servers_are_sound};
+pub use laws::names_are_what_was_taken;

@@ -1,208 +1,309 @@
--- What a call does, piece by piece: what each piece keeps, a call keeps.
-use Rattle.std.proofs.Common.{ℕ, None, ◌≡◌, ◌≤◌, Bool, true, false, Some, Result, Ok, Err, refl, sym, ap, subst, ◌∙◌, inl, inr, ◌⊎◌, arith, List}
+-- A call leaves a server sound, and what it asks for is said.
+use Rattle.std.proofs.Common.{ℕ, ◌≡◌, ◌≤◌, ◌+◌, ◌==◌, Bool, true, false, cond, Option, None, Some, is_some, Result, Ok, Err, List, [], ◌∷◌, refl, sym, ap, subst, ◌∙◌, inl, arith}
+use Rattle.std.specs.Option.{option_or}
 use Rattle.std.proofs.lemmas.Bool.{false≢true}
+use Rattle.std.proofs.lemmas.List.Elements.{All-nil}
+use Rattle.std.proofs.lemmas.Option.{none-some, same_Some}
 use Rattle.pg_base.specs.declared.id.FileId.{FileId}
 use Rattle.pg_base.specs.declared.id.Kind.{Kind}
 use Rattle.pg_base.specs.declared.id.Kind.TheVariants.{Dir, File}
 use Rattle.pg_base.specs.declared.policy.Policy.{Policy}
+use Rattle.pg_base.specs.declared.policy.Policy.TheVariants.{Last}
 use Rattle.pg_base.specs.declared.stamp.Stamp.{Stamp}
 use Rattle.pg_base.specs.Id.{is_same_file}
 use Rattle.pg_base.proofs.Orders.{is_same_file-true}
 use Rattle.pg_patch.specs.Ranges.{RangesValue, cut_to, written}
+use Rattle.pg_intent.specs.declared.intent.Intent.{Intent}
+use Rattle.pg_intent.specs.declared.intent.Intent.TheVariants as intent
+use Rattle.pg_intent.specs.declared.key.IntentKey.{IntentKey}
+use Rattle.pg_intent.specs.declared.key.IntentKey.TheVariants as intent_key
+use Rattle.pg_intent.specs.Intents.{has_key, intent_at}
+use Rattle.pg_msg.specs.declared.message.Message.TheVariants as message
+use Rattle.pg_msg.specs.declared.update.Update.TheVariants as update
 use Rattle.pg_msg.specs.declared.work.Work.{Work}
+use Rattle.pg_msg.specs.Work.{with_made}
 use Rattle.pg_call.specs.declared.call.Call.{Call}
 use Rattle.pg_call.specs.declared.call.Call.TheVariants as call
-use Rattle.pg_call.specs.declared.refusal.Refusal.{Refusal}
+use Rattle.pg_call.specs.declared.refusal.Refusal.TheVariants.{ManyActors, TooLong}
+use Rattle.pg_call.specs.declared.reply.Reply.{Reply}
 use Rattle.pg_call.specs.declared.reply.Reply.TheVariants as reply
 use Rattle.pg_register.specs.declared.flag.Flag.{Flag}
 use Rattle.pg_register.specs.declared.place.Place.{Place}
 use Rattle.pg_register.specs.Place.{root}
+use Rattle.pg_register.proofs.ByServer.{IsByServer-nil}
 use Rattle.pg_names.specs.declared.own.Own.{Own}
-use Rattle.pg_names.specs.Names.{is_dir, known, or_blank, own_at, own_or_blank}
+use Rattle.pg_replica.specs.Replica.{has_many_actors, is_too_long}
+use Rattle.pg_names.specs.Names.{HeldValue, blank_own, is_dir, is_full_of, known, or_blank, own_or_blank}
 use Rattle.pg_house.specs.Facts.{IsHeld}
+use Rattle.pg_walk.specs.declared.paths.Found.{Found}
+use Rattle.pg_walk.specs.declared.paths.Stop.{Stop}
+use Rattle.pg_walk.specs.declared.paths.Stop.TheVariants as stop
 use Rattle.pg_store.specs.declared.store.Store.{Store}
-use Rattle.pg_store.specs.Start.{first_flag}
-use Rattle.pg_store.specs.Store.{begin_file, is_in_time}
+use Rattle.pg_store.specs.declared.wishes.Wish.{Wish}
+use Rattle.pg_store.specs.Births.{draw_birth, fill_at, wish_at, with_birth, with_wish}
+use Rattle.pg_store.specs.Store.{is_full, is_held, is_in_time, replica_of}
+use Rattle.pg_store.specs.Together.{HoldsAsBefore, MayBegin}
+use Rattle.pg_store.proofs.Given.{births_as_before}
+use Rattle.pg_store.proofs.Pairs.{birth_as_before}
+use Rattle.pg_store.proofs.Wishing.{wish_births}
 use Rattle.pg_cells.specs.Done.{Done, idle}
+use Rattle.pg_repair.proofs.Needs.{needed_comes}
 use Rattle.pg_calls.specs.declared.checks.NewName.{NewName}
-use Rattle.pg_calls.specs.Answer.{Answer, answer, answered}
-use Rattle.pg_calls.specs.Bodies.{change_file, when_fit}
+use Rattle.pg_calls.specs.Answer.{Answer, answer, answered, replied, told, unless}
+use Rattle.pg_calls.specs.Asking.{ask_by, ask_first, fetch, fresh_wish, holder, standing, wish_by}
+use Rattle.pg_calls.specs.Bodies.{change, change_file, when_fit}
 use Rattle.pg_calls.specs.Calls.{do_call}
-use Rattle.pg_calls.specs.Checks.{empty_dir_at, file_at, first_child, move_of, new_name}
-use Rattle.pg_calls.specs.Making.{drawn, first_ranges, make_flag, make_place, make_version}
-use Rattle.pg_calls.specs.Naming.{dead_place, moved, next_id, place_in, taken_away, with_first_version, with_id, with_thing}
-use Rattle.pg_calls.proofs.Checked.{fit_found}
-use Rattle.pg_calls.proofs.InTime.{dir_in_time, file_in_time, move_in_time, name_in_time}
-use Rattle.pg_calls.proofs.Walked.{file_found}
-use Rattle.pg_order.proofs.Found.{HasNoTilde, empty_found, move_found, name_found}
-use Rattle.pg_order.proofs.Older.{Ages, ages_itself, drawn_time, flag_ages, place_time, time_at, write_ages}
+use Rattle.pg_calls.specs.Checks.{dir_at, empty_dir_at, file_at, in_time, move_of, new_name, target_at}
+use Rattle.pg_calls.specs.Making.{drawn, first_ranges, make_place, make_version, version_of, with_version}
+use Rattle.pg_calls.specs.Naming.{begun, dead_place, next_id, place_in, taken_away, with_first_version, with_id, with_thing}
+use Rattle.pg_calls.proofs.InTime.{name_in_time}
+use Rattle.pg_calls.proofs.Missing.{IsMissing, dir_missing, empty_missing, file_missing, move_missing, name_missing, target_missing}
+use Rattle.pg_calls.proofs.Stopping.{StopsAt, stops_then, stops_time, stops_unless}
+use Rattle.pg_calls.proofs.Walked.{file_found, full_own}
+use Rattle.pg_server.specs.Local.{done_of}
+use Rattle.pg_promises.proofs.Choices.{chosen}
+use Rattle.pg_order.specs.Saying.{IsClosed, IsSaidOwn, Saying}
+use Rattle.pg_order.proofs.BirthsStay.{fresh_given}
+use Rattle.pg_order.proofs.Ended.{IsAtRest}
+use Rattle.pg_order.proofs.Files.{thing_files}
+use Rattle.pg_order.proofs.Found.{IsFree, empty_found, move_found, name_found}
+use Rattle.pg_order.proofs.Sounding.{Sound, sound_alike, sound_begun, sound_write}
+use Rattle.pg_order.proofs.Taking.{SoFar, so_place, so_raised, so_sent, so_with}
 
--- ---- what a call makes
+-- an id that nobody knows yet
+pub record IsNewId (p : Saying) (a : Store) (id : FileId) : Type 0 where
+  pub away : is_held a id ≡ false
+  pub gap : fill_at a id ≡ None
+  pub thing : p.IsThing id
+  pub other : is_same_file id root ≡ false
 
--- a thing whose id the server gave out in the call, and that has a place in the end
-pub record IsNew (a e : Store) (f : FileId) : Type 0 where
-  pub going : is_in_time a ≡ true
-  pub server : f.server ≡ a.names.server
-  pub number : f.number ≡ (with_id a).files
-  pub time : 1 ≤ time_at e.names f
+-- ---- what is found with a key has it
 
--- a new thing, or one that was held
-abbrev pub IsThere : Store → Store → FileId → Type 0
-IsThere a e f = IsNew a e f ⊎ IsHeld a.names f
+found_passes : (k : IntentKey) (i : Intent) (is : List Intent) → intent_at is k ≡ Some i → has_key k i ≡ true
+found_passes k i [] h = absurd (none-some i h)
+found_passes k i (j ∷ js) h = at (has_key k j) refl (found_passes k i js) h
+  where
+    at : (t : Bool) → has_key k j ≡ t → (intent_at js k ≡ Some i → has_key k i ≡ true) → cond t (Some j) (intent_at js k) ≡ Some i → has_key k i ≡ true
+    at true has rest same = ap (has_key k) (sym (same_Some j i same)) ∙ has
+    at false has rest later = rest later
 
--- a place where a client wants it
-pub record IsGiven (a : Store) (place : Place) : Type 0 where
-  pub held : IsHeld a.names place.parent
-  pub dir : is_dir place.parent ≡ true
-  pub name : HasNoTilde place.name
-  pub live : place.live ≡ true
+-- where neither a Fill nor a wish stands
+no_fill : (f : FileId) (o : Option Intent) (w : Option Wish) → ((i : Intent) → o ≡ Some i → has_key (intent_key.Fill f) i ≡ true) → option_or (wish_by o) w ≡ None → o ≡ None
+no_fill f None w has none = refl
+no_fill f (Some (intent.Bye file birth peer peer_birth)) w has none = absurd (false≢true (has (intent.Bye file birth peer peer_birth) refl))
+no_fill f (Some (intent.Seek file target)) w has none = absurd (false≢true (has (intent.Seek file target) refl))
+no_fill f (Some (intent.Fill file birth target)) w has none = absurd (none-some _ (sym none))
+no_fill f (Some (intent.Patch dir entry target)) w has none = absurd (false≢true (has (intent.Patch dir entry target) refl))
+no_fill f (Some (intent.Confirm dir child target)) w has none = absurd (false≢true (has (intent.Confirm dir child target) refl))
+no_fill f (Some (intent.Leave file peer peer_birth)) w has none = absurd (false≢true (has (intent.Leave file peer peer_birth) refl))
 
--- or where the thing stood, which goes: a directory that shows no child
-pub record IsAsBefore (a : Store) (f : FileId) (place : Place) : Type 0 where
-  pub own : Own
-  pub held : own_at a.names f ≡ Some own
-  pub parent : place.parent ≡ own.place.parent
-  pub name : place.name ≡ own.place.name
-  pub dead : place.live ≡ false
-  pub empty : is_dir f ≡ true → first_child f (known a.names f) ≡ None
+-- what is held and not full is filling
+filling_by : (o : Option HeldValue) → is_some o ≡ true → is_full_of o ≡ false → (x : HeldValue) × (o ≡ Some x) × (x.full ≡ false)
+filling_by None held full = absurd (false≢true held)
+filling_by (Some x) held full = (x, refl, full)
 
--- what each piece of a call keeps, where this is what the server holds in the end
-pub record AreKept (a e : Store) (work : Work) (Q : Done → Type 0) : Type 0 where
-  pub id : Q (idle (with_id a) work)
-  pub place : (d : Done) (f : FileId) (place : Place) → (1 ≤ a.names.server → is_same_file f root ≡ false) → IsThere a e f → place.stamp ≡ drawn a work.now → IsGiven a place ⊎ IsAsBefore a f place → Q d → Q (make_place f place d)
-  pub flag : (d : Done) (f : FileId) (flag : Flag) → IsThere a e f → Q d → Q (make_flag f flag d)
-  pub begin : (d : Done) (f : FileId) (policy : Policy) → IsThere a e f → Q d → Q (idle (begin_file d.store f policy) d.work)
-  pub version : (d : Done) (f : FileId) (stamp : Stamp) (ranges : RangesValue) → IsThere a e f → Q d → Q (make_version f stamp ranges d)
+id_as_before : (a : Store) → HoldsAsBefore a (with_id a)
+id_as_before a = record {
+  held = λ q. refl;
+  births = λ q. refl;
+  given = (let h : a.births ≤ a.births = omega arith in h);
+  wishes = λ q wish there. there;
+  fills = λ q i there. there;
+}
 
--- ---- ids are not the root's
+file_apart : (f : FileId) (t : Bool) → is_same_file f root ≡ t → is_dir f ≡ false → t ≡ false
+file_apart f false e file = refl
+file_apart f true e file = absurd (false≢true (sym file ∙ ap is_dir (is_same_file-true f root e)))
 
-server_apart : (f : FileId) (t : Bool) → is_same_file f root ≡ t → 1 ≤ f.server → t ≡ false
-server_apart f false e some = refl
-server_apart f true e some =
-    let zero_is : f.server ≡ 0 = ap (λ (x : FileId). x.server) (is_same_file-true f root e) in
-    absurd (omega (arith, zero_is, some))
+-- where a call gives an id out, nobody knows it yet
+abbrev pub GivesNewIds : Saying → Store → Call → Work → Type 0
+GivesNewIds p a x work = is_in_time a ≡ true → (kind : Kind) → (do_call a x work).store.files ≡ a.files + 1 → IsNewId p a (next_id a kind)
 
-dir_apart : (f : FileId) (t : Bool) → is_same_file f root ≡ t → is_dir f ≡ false → t ≡ false
-dir_apart f false e file = refl
-dir_apart f true e file = absurd (false≢true (sym file ∙ ap is_dir (is_same_file-true f root e)))
+module _ (p : Saying) (c : IsClosed p) (n s : ℕ) (mine : (flag : Flag) → flag.server ≡ s → p.IsFlag flag) (a : Store) (k : IsAtRest p n s a) where
+  abbrev Far : Done → Type 0
+  Far d = SoFar p c n s d
 
-module _ (a : Store) (work : Work) (Q : Done → Type 0) where
+  abbrev FarAnswer : Answer → Type 0
+  FarAnswer b = Far (done_of b)
+
+  -- ---- places
+
+  thing_of : (f : FileId) → IsHeld a.names f → p.IsThing f
+  thing_of f held = (k.sound.named.said.own f held.0 held.1).thing
+
+  so_made : (d : Done) (f : FileId) (place : Place) → p.IsPlace f place → Far d → Far (make_place f place d)
+  so_made d f place here h =
+      let w = with_made d.work (update.Place f place) in
+      so_place p c n s (idle d.store w) f place here (so_with p c n s d d.store w h h.store (record { left = refl; sent = refl }))
+
+  -- a place where a client wants it
+  given_place : (b : Store) (f : FileId) (now : ℕ) (new : NewName) → is_same_file f root ≡ false → IsFree a new → p.IsPlace f (place_in b now new)
+  given_place b f now new other free = c.given f (place_in b now new) other (thing_of new.dir free.held) free.dir free.name
+
+  so_version : (d : Done) (f : FileId) (stamp : Stamp) (ranges : RangesValue) → Far d → Far (make_version f stamp ranges d)
+  so_version d f stamp ranges h =
+      so_with p c n s d _ (with_version d.work (version_of d.store f stamp ranges)) h (sound_write p n s d.store h.store f stamp ranges)
+      (record { left = refl; sent = refl })
+
   -- ---- a new thing
 
-  module _ (kind : Kind) (text : List ℕ) (new : NewName) (found : new_name a (next_id a kind) text ≡ Ok new) where
+  module _ (kind : Kind) (text : List ℕ) (new : NewName) (found : new_name a (next_id a kind) text ≡ Ok new) (policy : Policy) (work : Work) (first : Far (idle a work)) (fresh : IsNewId p a (next_id a kind)) where
     abbrev Id : FileId
     Id = next_id a kind
 
-    abbrev Placed : Done
-    Placed = make_place Id (place_in (with_id a) work.now new) (idle (with_id a) work)
+    abbrev Ready : Store
+    Ready = with_birth (with_id a)
 
-    abbrev Thing : Done
-    Thing = with_thing (with_id a) work Id new
+    ready : Sound p n s Ready
+    ready =
+        sound_alike p n s a k.sound Ready (record { servers = refl; tags = refl; names = refl; replicas = refl })
+        (births_as_before (with_id a) Ready (birth_as_before (with_id a)) (births_as_before a (with_id a) (id_as_before a) k.sound.births))
+        k.sound.keys k.sound.named.intents
 
-    thing_time : 1 ≤ time_at Thing.store.names Id
-    thing_time =
-        let first = drawn_time work.now a.names.last in
-        let then = place_time (with_id a) Id (place_in (with_id a) work.now new) in
-        let more = ((flag_ages Placed.store Id (first_flag a.names.server)).places Id).time in
-        omega (arith, first, then, more)
+    may : MayBegin Ready Id (draw_birth (with_id a))
+    may = record {
+      away = fresh.away;
+      given = fresh_given a.births;
+      fill = λ f b t there. absurd (none-some (intent.Fill f b t) (sym fresh.gap ∙ there));
+    }
 
-    is_new : (e : Store) → Ages Thing.store e → IsNew a e Id
-    is_new e ages =
-        let here = thing_time in
-        let more = (ages.places Id).time in
-        record { going = name_in_time a Id text new found; server = refl; number = refl; time = omega (arith, here, more) }
+    blank : IsSaidOwn p Id (blank_own Id)
+    blank = record { thing = fresh.thing; place = c.blank Id fresh.other fresh.thing; flags = All-nil p.IsFlag; order = IsByServer-nil }
 
-    thing_kept : (e : Store) → AreKept a e work Q → Ages Thing.store e → Q Thing
-    thing_kept e k ages =
-        let free = name_found a Id text new found in
-        let there = inl (is_new e ages) in
-        k.flag Placed Id (first_flag a.names.server) there
-        (k.place (idle (with_id a) work) Id (place_in (with_id a) work.now new) (λ some. server_apart Id (is_same_file Id root) refl some) there refl
-        (inl (record { held = free.held; dir = free.dir; name = free.name; live = refl })) k.id)
+    so_begun : Far (idle (begun (with_id a) Id policy) work)
+    so_begun =
+        so_with p c n s (idle a work) (begun (with_id a) Id policy) work first
+        (sound_begun p n s Ready ready Id (draw_birth (with_id a)) policy (blank_own Id) true may IsByServer-nil blank)
+        (record { left = refl; sent = refl })
 
-  -- ---- answers
+    so_thing : Far (with_thing (with_id a) work Id policy new)
+    so_thing =
+        let d = idle (begun (with_id a) Id policy) work in
+        let place = place_in (with_id a) work.now new in
+        let placed = so_made d Id place (given_place (with_id a) Id work.now new fresh.other (name_found a Id text new found)) so_begun in
+        so_raised p c n s (make_place Id place d) Id mine placed
 
-  abbrev Kept : Answer → Type 0
-  Kept b = AreKept a b.store work Q → Q (idle a work) → Q (idle b.store b.work)
+  -- ---- what is asked for
 
-  answered_kept : {A : Type 0} (r : Result A Refusal) (next : A → Answer) → ((x : A) → r ≡ Ok x → Kept (next x)) → Kept (answered a work r next)
-  answered_kept (Err why) next each k q = q
-  answered_kept (Ok x) next each k q = each x refl k q
+  module _ (work : Work) (first : Far (idle a work)) where
+    so_fetched : (d : Done) (f : FileId) (wish : Wish) → Far d → Far (idle d.store (fetch d.store f wish d.work))
+    so_fetched d f wish h =
+        chosen (λ (w : Work). Far (idle d.store w)) (wish.target == 0) d.work _ h (so_sent p c n s d wish.target (message.Fetch f wish.birth) h tt)
 
-  mkdir_kept : (text : List ℕ) → Kept (do_call a (call.Mkdir text) work)
-  mkdir_kept text =
-      answered_kept (new_name a (next_id a Dir) text) (λ new. answer (with_thing (with_id a) work (next_id a Dir) new) (reply.Made (next_id a Dir)))
-      (λ new found k q. thing_kept Dir text new found (Thing Dir text new found).store k (ages_itself (Thing Dir text new found).store))
+    module _ (f : FileId) (missing : is_full a f ≡ false) (none : standing a f ≡ None) where
+      gap : fill_at a f ≡ None
+      gap = no_fill f (fill_at a f) (wish_at a f) (λ i at. found_passes (intent_key.Fill f) i a.intents at) none
 
-  create_kept : (text : List ℕ) (policy : Policy) → Kept (do_call a (call.Create text policy) work)
-  create_kept text policy =
-      answered_kept (new_name a (next_id a File) text)
-      (λ new. answer (with_first_version (next_id a File) policy (with_thing (with_id a) work (next_id a File) new)) (reply.Made (next_id a File)))
-      (λ new found k q.
-      let id = next_id a File in
-      let thing = Thing File text new found in
-      let begun = idle (begin_file thing.store id policy) thing.work in
-      let end = with_first_version id policy thing in
-      let ages : Ages thing.store end.store = write_ages begun.store id (drawn thing.store thing.work.now) first_ranges in
-      let there = inl (is_new File text new found end.store ages) in
-      k.version begun id (drawn thing.store thing.work.now) first_ranges there
-      (k.begin thing id policy there (thing_kept File text new found end.store k ages)))
+      away_by : (t : Bool) → is_held a f ≡ t → is_held a f ≡ false
+      away_by false there = there
+      away_by true there =
+          let x = filling_by (known a.names f) there missing in
+          let stands = k.fills f ∙ needed_comes a.names f (inl (x.0, x.1, x.2)) in
+          absurd (false≢true (sym (ap is_some gap) ∙ stands))
 
-  rename_kept : (from to : List ℕ) → Kept (do_call a (call.Rename from to) work)
-  rename_kept from to =
-      answered_kept (move_of a from to) (λ move. answer (moved a work move) reply.Done)
-      (λ move found k q.
-      let m = move_found a from to move found in
-      k.place (idle a work) move.thing (place_in a work.now move.to) (λ some. m.other) (inr m.held) refl
-      (inl (record { held = m.free.held; dir = m.free.dir; name = m.free.name; live = refl })) q)
+      so_wished : (target : ℕ) → Far (idle (with_wish (with_birth a) f (fresh_wish a target)) work)
+      so_wished target =
+          let b = with_birth a in
+          let given = births_as_before a b (birth_as_before a) k.sound.births in
+          let e = with_wish b f (fresh_wish a target) in
+          so_with p c n s (idle a work) e work first
+          (sound_alike p n s a k.sound e (record { servers = refl; tags = refl; names = refl; replicas = refl })
+          (wish_births b f (fresh_wish a target) given (away_by (is_held a f) refl) gap (fresh_given a.births)) k.sound.keys k.sound.named.intents)
+          (record { left = refl; sent = refl })
 
-  away_kept : (f : FileId) (e : Store) → IsHeld a.names f → is_same_file f root ≡ false → (is_dir f ≡ true → first_child f (known a.names f) ≡ None) → AreKept a e work Q → Q (idle a work) → Q (taken_away a work f)
-  away_kept f e held other empty k q =
-      let is : own_or_blank a.names f ≡ held.0 = ap (or_blank f) held.1 in
-      k.place (idle a work) f (dead_place a work.now f) (λ some. other) (inr held) refl
-      (inr (record { own = held.0; held = held.1; parent = ap (λ (o : Own). o.place.parent) is; name = ap (λ (o : Own). o.place.name) is; dead = refl; empty = empty })) q
+      so_first : (target : ℕ) → Far (ask_first a f target work)
+      so_first target =
+          let e = with_wish (with_birth a) f (fresh_wish a target) in
+          chosen Far (target == 0) (idle a work) (idle e (fetch a f (fresh_wish a target) work)) first
+          (so_fetched (idle e work) f (fresh_wish a target) (so_wished target))
 
-  unlink_kept : (text : List ℕ) → Kept (do_call a (call.Unlink text) work)
-  unlink_kept text =
-      answered_kept (file_at a text) (λ f. answer (taken_away a work f) reply.Done)
-      (λ f found k q. let m = file_found a text f found in away_kept f (taken_away a work f).store m.0 (dir_apart f (is_same_file f root) refl m.1) (λ dir. absurd (false≢true (sym m.1 ∙ dir))) k q)
+    so_asked : (found : Found) (o : Option Wish) → is_full a found.file ≡ false → standing a found.file ≡ o → Far (ask_by a found o work)
+    so_asked found None missing none = so_first found.file missing none (holder a found)
+    so_asked found (Some wish) missing there = so_fetched (idle a work) found.file wish first
 
-  rmdir_kept : (text : List ℕ) → Kept (do_call a (call.Rmdir text) work)
-  rmdir_kept text =
-      answered_kept (empty_dir_at a text) (λ d. answer (taken_away a work d) reply.Done)
-      (λ d found k q. let m = empty_found a text d found in away_kept d (taken_away a work d).store m.0 m.1 (λ dir. m.2) k q)
+    so_answered : {A : Type 0} (check : Result A Stop) (next : A → Answer) → StopsAt (IsMissing a.names) check → ((x : A) → check ≡ Ok x → FarAnswer (next x)) → FarAnswer (answered a work check next)
+    so_answered (Err (stop.Refused why)) next stops each = first
+    so_answered (Err (stop.NotYet found)) next missing each = so_asked found (standing a found.file) missing refl
+    so_answered (Ok x) next stops each = each x refl
 
-  change_kept : (text : List ℕ) (ranges : RangesValue) → Kept (answered a work (file_at a text) (change_file a ranges work))
-  change_kept text ranges =
-      answered_kept (file_at a text) (change_file a ranges work)
-      (λ f found. answered_kept (when_fit a ranges f) (λ fit. answer (make_version fit (drawn a work.now) ranges (idle a work)) (reply.Wrote (drawn a work.now)))
-      (λ fit fits k q. k.version (idle a work) fit (drawn a work.now) ranges (inr (subst (IsHeld a.names) (fit_found a ranges f fit fits) (file_found a text f found).0)) q))
+    so_looked : {A : Type 0} (check : Result A Stop) (tell : A → Reply) → StopsAt (IsMissing a.names) check → FarAnswer (replied a work check tell)
+    so_looked check tell stops = so_answered check (λ x. told a work (tell x)) stops (λ x found. first)
 
-  -- A CALL KEEPS what its pieces keep
-  pub called : (c : Call) → Kept (do_call a c work)
-  called (call.Mkdir path) = mkdir_kept path
-  called (call.Create path policy) = create_kept path policy
-  called (call.Write path offset bytes) = change_kept path (written offset bytes)
-  called (call.Cut path length) = change_kept path (cut_to length)
-  called (call.Rename from to) = rename_kept from to
-  called (call.Unlink path) = unlink_kept path
-  called (call.Rmdir path) = rmdir_kept path
-  called c = λ k q. q
+    -- ---- each call
 
--- ---- at the end of the clock
+    so_mkdir : (text : List ℕ) → GivesNewIds p a (call.Mkdir text) work → FarAnswer (do_call a (call.Mkdir text) work)
+    so_mkdir text ids =
+        let id = next_id a Dir in
+        let next = λ (new : NewName). answer (with_thing (with_id a) work id Last new) (reply.Made id) in
+        so_answered (new_name a id text) next (name_missing a id text)
+        (λ new found. so_thing Dir text new found Last work first
+        (ids (name_in_time a id text new found) Dir
+        (ap (λ (r : Result NewName Stop). (answered a work r next).store.files) found ∙ thing_files (with_id a) work id Last new)))
 
-module _ (a : Store) (work : Work) (late : is_in_time a ≡ false) where
-  late_answered : {A : Type 0} (r : Result A Refusal) (next : A → Answer) → ((x : A) → r ≡ Ok x → is_in_time a ≡ true) → idle (answered a work r next).store (answered a work r next).work ≡ idle a work
-  late_answered (Err why) next going = refl
-  late_answered (Ok x) next going = absurd (false≢true (sym late ∙ going x refl))
+    so_create : (text : List ℕ) (policy : Policy) → GivesNewIds p a (call.Create text policy) work → FarAnswer (do_call a (call.Create text policy) work)
+    so_create text policy ids =
+        let id = next_id a File in
+        let next = λ (new : NewName). answer (with_first_version id (with_thing (with_id a) work id policy new)) (reply.Made id) in
+        so_answered (new_name a id text) next (name_missing a id text)
+        (λ new found. (let d = with_thing (with_id a) work id policy new in
+        let fresh = ids (name_in_time a id text new found) File
+        (ap (λ (r : Result NewName Stop). (answered a work r next).store.files) found ∙ thing_files (with_id a) work id policy new) in
+        so_version d id (drawn d.store d.work.now) first_ranges (so_thing File text new found policy work first fresh)))
 
-  -- a call changes nothing then
-  pub called_late : (c : Call) → idle (do_call a c work).store (do_call a c work).work ≡ idle a work
-  called_late (call.Mkdir path) = late_answered (new_name a (next_id a Dir) path) _ (λ x h. name_in_time a (next_id a Dir) path x h)
-  called_late (call.Create path policy) = late_answered (new_name a (next_id a File) path) _ (λ x h. name_in_time a (next_id a File) path x h)
-  called_late (call.Write path offset bytes) = late_answered (file_at a path) (change_file a (written offset bytes) work) (λ x h. file_in_time a path x h)
-  called_late (call.Cut path length) = late_answered (file_at a path) (change_file a (cut_to length) work) (λ x h. file_in_time a path x h)
-  called_late (call.Rename from to) = late_answered (move_of a from to) _ (λ x h. move_in_time a from to x h)
-  called_late (call.Unlink path) = late_answered (file_at a path) _ (λ x h. file_in_time a path x h)
-  called_late (call.Rmdir path) = late_answered (empty_dir_at a path) _ (λ x h. dir_in_time a path x h)
-  called_late c = refl
+    so_rename : (from to : List ℕ) → FarAnswer (do_call a (call.Rename from to) work)
+    so_rename from to =
+        so_answered (move_of a from to) _ (move_missing a from to)
+        (λ move found. (let m = move_found a from to move found in
+        so_made (idle a work) move.thing (place_in a work.now move.to) (given_place a move.thing work.now move.to m.other m.free) first))
+
+    so_away : (f : FileId) → IsHeld a.names f → is_same_file f root ≡ false → Far (taken_away a work f)
+    so_away f held other =
+        let was = k.sound.named.said.own f held.0 held.1 in
+        let here = subst (λ (o : Own). p.IsPlace f o.place) (sym (ap (or_blank f) held.1)) was.place in
+        so_made (idle a work) f (dead_place a work.now f)
+        (c.again f (own_or_blank a.names f).place (dead_place a work.now f) other here refl refl) first
+
+    so_unlink : (text : List ℕ) → FarAnswer (do_call a (call.Unlink text) work)
+    so_unlink text =
+        so_answered (file_at a text) _ (file_missing a text)
+        (λ f found. (let m = file_found a text f found in so_away f (full_own a.names f m.0) (file_apart f (is_same_file f root) refl m.1)))
+
+    so_rmdir : (text : List ℕ) → FarAnswer (do_call a (call.Rmdir text) work)
+    so_rmdir text =
+        so_answered (empty_dir_at a text) _ (empty_missing a text)
+        (λ d found. (let m = empty_found a text d found in so_away d m.0 m.1))
+
+    fits_missing : (ranges : RangesValue) (f : FileId) → StopsAt (IsMissing a.names) (when_fit a ranges f)
+    fits_missing ranges f =
+        stops_then (IsMissing a.names) (unless (is_too_long (replica_of a f) ranges) TooLong f) _
+        (stops_unless (IsMissing a.names) (is_too_long (replica_of a f) ranges) TooLong f refl)
+        (λ fit. stops_unless (IsMissing a.names) (has_many_actors (replica_of a fit) a.names.server) ManyActors fit refl)
+
+    so_changed : (text : List ℕ) (ranges : RangesValue) → FarAnswer (change a text ranges work)
+    so_changed text ranges =
+        so_answered (file_at a text) (change_file a ranges work) (file_missing a text)
+        (λ f found. so_answered (when_fit a ranges f) _ (fits_missing ranges f)
+        (λ fit fits. so_version (idle a work) fit (drawn a work.now) ranges first))
+
+    so_timed : (tell : Unit {0} → Reply) → FarAnswer (replied a work (in_time a (tt {0})) tell)
+    so_timed tell = so_looked (in_time a (tt {0})) tell (stops_time (IsMissing a.names) a (tt {0}))
+
+    -- A CALL
+    pub so_called : (x : Call) → GivesNewIds p a x work → FarAnswer (do_call a x work)
+    so_called (call.Mkdir path) ids = so_mkdir path ids
+    so_called (call.Create path policy) ids = so_create path policy ids
+    so_called (call.Write path offset bytes) ids = so_changed path (written offset bytes)
+    so_called (call.Cut path length) ids = so_changed path (cut_to length)
+    so_called (call.Read path offset count) ids = so_looked (file_at a path) _ (file_missing a path)
+    so_called (call.Fresh path) ids = so_looked (file_at a path) _ (file_missing a path)
+    so_called (call.Ls path from) ids = so_looked (dir_at a path) _ (dir_missing a path)
+    so_called (call.Stat target) ids = so_looked (target_at a target) _ (target_missing a target)
+    so_called (call.Rename from to) ids = so_rename from to
+    so_called (call.Unlink path) ids = so_unlink path
+    so_called (call.Rmdir path) ids = so_rmdir path
+    so_called (call.Forget id) ids = so_timed _
+    so_called (call.Demote target) ids = so_timed _
+    so_called (call.Drop target) ids = so_timed _
+    so_called (call.Giveup view server) ids = so_timed _
+    so_called call.Status ids = so_timed _
+    so_called call.Stop ids = so_timed _

@@ -1,17 +1,15 @@
 -- What a change of one thing leaves of what is held.
-use Rattle.std.proofs.Common.{◌≡◌, Bool, true, false, cond, Option, None, Some, refl, sym, ap, subst, ◌∙◌, inl, inr, ◌⊎◌}
+use Rattle.std.proofs.Common.{◌≡◌, Bool, true, false, Option, None, Some, refl, sym, ap, subst, ◌∙◌, inl, inr, ◌⊎◌}
 use Rattle.std.specs.List.Sorted.{IsStrictlySortedBy}
 use Rattle.std.specs.Map.{keys_of}
 use Rattle.std.proofs.lemmas.Option.{same_Some}
 use Rattle.pg_base.specs.declared.id.FileId.{FileId}
 use Rattle.pg_base.specs.Id.{file_cmp, is_same_file}
-use Rattle.pg_base.proofs.Maps.{lookup-insert_entry}
-use Rattle.pg_base.proofs.Orders.{file_total, is_same_file-true}
+use Rattle.pg_base.proofs.Orders.{is_same_file-true}
 use Rattle.pg_entries.specs.declared.entry.Entry.{Entry}
 use Rattle.pg_names.specs.declared.own.Own.{Own}
-use Rattle.pg_names.specs.Names.{HeldValue, NamesValue, blank, cell_at, held_with, hold, known, own_at, own_of, set_entry, set_own, update, with_own}
+use Rattle.pg_names.specs.Names.{HeldValue, NamesValue, cell_at, known, own_at, set_entry, set_own, update, with_entry, with_own}
 use Rattle.pg_names.proofs.Lookups.{entry_other_child, entry_other_dir, entry_same, known_absent, own_back, own_other, own_same}
-use Rattle.pg_names.specs.Names.{with_entry}
 use Rattle.pg_house.specs.Facts.{AreOrdered, IsHeld}
 use Rattle.pg_house.proofs.Ordered.{changed_ordered}
 use Rattle.pg_promises.proofs.Growth.{OneOwn}
@@ -64,16 +62,6 @@ cell_written s d e q g c h = at (is_same_file d q) (is_same_file g e.child) (own
         let one : d ≡ q = is_same_file-true d q same in
         let two : g ≡ e.child = is_same_file-true g e.child child in
         inr (two, same_Some c e (sym h ∙ ap (cell_at (set_entry s d e) q) two ∙ ap (λ (x : FileId). cell_at (set_entry s d e) x e.child) (sym one) ∙ entry_same s d b e held))
-
--- ---- one thing more is held
-
-hold_other_by : (s : NamesValue) (f q : FileId) (o : Option HeldValue) → is_same_file q f ≡ false → known (held_with s f o) q ≡ known s q
-hold_other_by s f q None apart = lookup-insert_entry file_cmp file_total q f (blank f) s.held ∙ ap (λ t. cond t (Some (blank f)) (known s q)) apart
-hold_other_by s f q (Some x) apart = refl
-
--- any other thing is held as it was
-pub hold_other : (s : NamesValue) (f q : FileId) → is_same_file q f ≡ false → own_at (hold s f) q ≡ own_at s q
-hold_other s f q apart = ap own_of (hold_other_by s f q (known s f) apart)
 
 -- ---- entries stay in order
 

@@ -1,5 +1,5 @@
 -- What a call is about: where its checks find something, it is held, and a new name is one that a client may give.
-use Rattle.std.proofs.Common.{ℕ, ◌≡◌, ◌≢◌, not, length, Bool, true, false, if◌then◌else◌, List, Option, None, Some, Ok, Err, All, refl, sym, ap, subst, ◌∙◌}
+use Rattle.std.proofs.Common.{ℕ, ◌≡◌, ◌≢◌, not, length, Bool, true, false, if◌then◌else◌, List, Option, None, Some, Ok, All, refl, sym, ap, subst, ◌∙◌}
 use Rattle.std.proofs.lemmas.Bool.{false≢true}
 use Rattle.std.proofs.lemmas.List.Elements.{All-weaker}
 use Rattle.pg_base.specs.declared.id.FileId.{FileId}
@@ -8,9 +8,10 @@ use Rattle.pg_path.specs.Name.{IsNameByte}
 use Rattle.pg_path.proofs.Tested.{client_name_is}
 use Rattle.pg_call.specs.declared.refusal.Refusal.TheVariants.{BadPath, ClockEnd, DirFull, Exists, Loop, Root}
 use Rattle.pg_register.specs.Place.{root}
-use Rattle.pg_names.specs.Names.{NamesValue, is_dir, known}
+use Rattle.pg_names.specs.Names.{NamesValue, is_dir, is_full, known}
 use Rattle.pg_walk.specs.Chain.{is_above}
-use Rattle.pg_walk.specs.Walk.{is_full, reach_parent, shown_by}
+use Rattle.pg_walk.specs.declared.paths.Stop.TheVariants as stop
+use Rattle.pg_walk.specs.Walk.{and_then, has_no_room, reach, reach_parent, refused, shown_by}
 use Rattle.pg_house.specs.Facts.{IsHeld}
 use Rattle.pg_house.specs.Returning.{is_root}
 use Rattle.pg_store.specs.declared.store.Store.{Store}
@@ -18,11 +19,11 @@ use Rattle.pg_store.specs.Store.{is_in_time}
 use Rattle.pg_calls.specs.declared.checks.Move.{Move}
 use Rattle.pg_calls.specs.declared.checks.NewName.{NewName}
 use Rattle.pg_calls.specs.declared.paths.Paths.{Paths}
-use Rattle.pg_calls.specs.Answer.{and_then, unless}
-use Rattle.pg_calls.specs.Checks.{dir_at, empty_dir_at, first_child, in_time, move_along, move_of, move_to, new_name, new_name_in, reach_full, unless_child, unless_shown, when_free}
+use Rattle.pg_calls.specs.Answer.{unless}
+use Rattle.pg_calls.specs.Checks.{dir_at, empty_dir_at, first_child, in_time, move_along, move_of, move_to, new_name, new_name_in, unless_child, unless_shown, when_free}
 use Rattle.pg_calls.specs.Paths.{is_none, last_of, new_path_of, path_of, paths_of, with_new_name}
 use Rattle.pg_calls.proofs.Checked.{behind, no_ok, same_ok, unless_ok}
-use Rattle.pg_calls.proofs.Walked.{full_found, parent_found, thing_found}
+use Rattle.pg_calls.proofs.Walked.{full_own, parent_found, reach_ok, thing_found}
 
 -- ---- things
 
@@ -38,7 +39,7 @@ empty_found a text g h =
     let u = unless_ok (is_root c.0) Root c.0 b.0 c.2 in
     let none = child_ok b.0 g (first_child b.0 (known a.names b.0)) b.2 in
     let same : c.0 ≡ g = u.1 ∙ none.0 in
-    (subst (IsHeld a.names) same (thing_found a true text c.0 c.1), ap is_root (sym same) ∙ u.0, ap (λ (d : FileId). first_child d (known a.names d)) (sym none.0) ∙ none.1)
+    (full_own a.names g (subst (λ (d : FileId). is_full a.names d ≡ true) same (thing_found a true text c.0 c.1)), ap is_root (sym same) ∙ u.0, ap (λ (d : FileId). first_child d (known a.names d)) (sym none.0) ∙ none.1)
 
 -- ---- names that clients give
 
@@ -57,7 +58,7 @@ pub record IsFree (a : Store) (new : NewName) : Type 0 where
   pub dir : is_dir new.dir ≡ true
   pub name : HasNoTilde new.name
 
-named_by : (parts q : List (List ℕ)) (t u : Bool) → is_none parts ≡ t → is_client_name (last_of parts) ≡ u → (if t then Ok parts else (if u then Ok parts else Err (BadPath (length parts)))) ≡ Ok q
+named_by : (parts q : List (List ℕ)) (t u : Bool) → is_none parts ≡ t → is_client_name (last_of parts) ≡ u → (if t then Ok parts else (if u then Ok parts else refused (BadPath (length parts)))) ≡ Ok q
     → (parts ≡ q) × (is_none parts ≡ false → is_client_name (last_of parts) ≡ true)
 named_by parts q true u e f h = (same_ok parts q h, λ g. absurd (false≢true (sym g ∙ e)))
 named_by parts q false true e f h = (same_ok parts q h, λ g. f)
@@ -72,19 +73,19 @@ path_found a text q h some =
 
 shown_ok : (o : Option FileId) (n m : NewName) → unless_shown o n ≡ Ok m → n ≡ m
 shown_ok None n m h = same_ok n m h
-shown_ok (Some c) n m h = absurd (no_ok (Exists c) m h)
+shown_ok (Some c) n m h = absurd (no_ok (stop.Refused (Exists c)) m h)
 
 free_ok : (names : NamesValue) (child : FileId) (n m : NewName) → when_free names child n ≡ Ok m → n ≡ m
 free_ok names child n m h =
-    let b = behind (unless_shown (shown_by names n.dir n.name) n) (λ found. unless (is_full names found.dir child) DirFull found) m h in
-    shown_ok (shown_by names n.dir n.name) n b.0 b.1 ∙ (unless_ok (is_full names b.0.dir child) DirFull b.0 m b.2).1
+    let b = behind (unless_shown (shown_by names n.dir n.name) n) (λ found. unless (has_no_room names found.dir child) DirFull found) m h in
+    shown_ok (shown_by names n.dir n.name) n b.0 b.1 ∙ (unless_ok (has_no_room names b.0.dir child) DirFull b.0 m b.2).1
 
 abbrev named : FileId → List ℕ → NewName
 named dir name = record { dir = dir; name = name }
 
 name_by : (names : NamesValue) (child : FileId) (parts : List (List ℕ)) (dir : FileId) (m : NewName) (t : Bool) → is_none parts ≡ t
-    → (if t then Err (Exists root) else when_free names child (named dir (last_of parts))) ≡ Ok m → (is_none parts ≡ false) × (named dir (last_of parts) ≡ m)
-name_by names child parts dir m true e h = absurd (no_ok (Exists root) m h)
+    → (if t then refused (Exists root) else when_free names child (named dir (last_of parts))) ≡ Ok m → (is_none parts ≡ false) × (named dir (last_of parts) ≡ m)
+name_by names child parts dir m true e h = absurd (no_ok (stop.Refused (Exists root)) m h)
 name_by names child parts dir m false e h = (e, free_ok names child (named dir (last_of parts)) m h)
 
 -- a new name in a directory that was found, by the path of a new name
@@ -97,6 +98,10 @@ free_found a child text parts dir new path found h =
 timed : {A : Type 0} (a : Store) (x y : A) → in_time a x ≡ Ok y → x ≡ y
 timed a x y h = (unless_ok (not (is_in_time a)) ClockEnd x y h).1
 
+-- what is to be the parent is held
+parent_held : (a : Store) (parts : List (List ℕ)) (dir : FileId) → reach_parent a.names parts ≡ Ok dir → IsHeld a.names dir × (is_dir dir ≡ true)
+parent_held a parts dir h = let r = parent_found a.names parts dir h in (full_own a.names dir r.0, r.1)
+
 pub name_found : (a : Store) (child : FileId) (text : List ℕ) (new : NewName) → new_name a child text ≡ Ok new → IsFree a new
 name_found a child text new h =
     let next = λ (parts : List (List ℕ)). and_then (reach_parent a.names parts) (new_name_in a.names child parts) in
@@ -104,7 +109,7 @@ name_found a child text new h =
     let p = behind (new_path_of text) (in_time a) b.0 b.1 in
     let path : new_path_of text ≡ Ok b.0 = p.1 ∙ ap Ok (timed a p.0 b.0 p.2) in
     let d = behind (reach_parent a.names b.0) (new_name_in a.names child b.0) new b.2 in
-    free_found a child text b.0 d.0 new path (parent_found a.names b.0 d.0 d.1) d.2
+    free_found a child text b.0 d.0 new path (parent_held a b.0 d.0 d.1) d.2
 
 -- ---- moves
 
@@ -142,6 +147,6 @@ move_found a from to move h =
     let b = behind (and_then (paths_of from to) (in_time a)) (move_along a) move h in
     let p = behind (paths_of from to) (in_time a) b.0 b.1 in
     let path : new_path_of to ≡ Ok b.0.to = paths_found from to b.0 (p.1 ∙ ap Ok (timed a p.0 b.0 p.2)) in
-    let t = behind (reach_full a false b.0.from) (λ thing. and_then (reach_parent a.names b.0.to) (move_to a.names thing b.0.to)) move b.2 in
+    let t = behind (reach a.names false b.0.from) (λ thing. and_then (reach_parent a.names b.0.to) (move_to a.names thing b.0.to)) move b.2 in
     let d = behind (reach_parent a.names b.0.to) (move_to a.names t.0 b.0.to) move t.2 in
-    moved_to a t.0 to b.0.to d.0 move (full_found a false b.0.from t.0 t.1) path (parent_found a.names b.0.to d.0 d.1) d.2
+    moved_to a t.0 to b.0.to d.0 move (full_own a.names t.0 (reach_ok a.names false b.0.from t.0 t.1).0) path (parent_held a b.0.to d.0 d.1) d.2

@@ -1,36 +1,40 @@
--- What is said of ids, names and parents: the house rules keep it, and it stays so as places become newer.
+-- What is said of ids, names, parents and flags: the house rules keep it, and it stays so as ids are given out.
 use Rattle.std.proofs.Common.{ℕ, ◌≡◌, ◌≤◌, ◌≢◌, false, List, All, get_or, refl, sym, ap, subst, ◌∙◌, inl, inr, ◌⊎◌, arith}
 use Rattle.std.proofs.lemmas.Bool.{false≢true}
 use Rattle.pg_base.specs.declared.id.FileId.{FileId}
 use Rattle.pg_base.specs.Id.{is_same_file}
 use Rattle.pg_entries.specs.declared.cell.Cell.{Cell}
 use Rattle.pg_entries.specs.declared.cell.Cell.TheVariants as cell
+use Rattle.pg_entries.specs.declared.entry.Entry.{Entry}
+use Rattle.pg_intent.specs.declared.intent.Intent.{Intent}
+use Rattle.pg_intent.specs.declared.intent.Intent.TheVariants as intent
 use Rattle.pg_msg.specs.declared.message.Message.{Message}
 use Rattle.pg_msg.specs.declared.message.Message.TheVariants as message
 use Rattle.pg_msg.specs.declared.message.Sent.{Sent}
-use Rattle.pg_names.specs.Names.{NamesValue, is_dir}
+use Rattle.pg_names.specs.declared.own.Own.{Own}
+use Rattle.pg_names.specs.Names.{is_dir}
+use Rattle.pg_register.specs.declared.flag.Flag.{Flag}
 use Rattle.pg_register.specs.declared.place.Place.{Place}
 use Rattle.pg_register.specs.Place.{root, tilde_name}
 use Rattle.pg_store.specs.declared.store.Store.{Store}
-use Rattle.pg_order.specs.Named.{IsMade, IsWell, naming}
-use Rattle.pg_order.specs.Saying.{IsClosed, IsSaidOf, IsSaidOfCell, IsSaidOfMessage}
-use Rattle.pg_order.proofs.Older.{time_at}
+use Rattle.pg_order.specs.Named.{IsMade, IsOfServer, IsWell, naming}
+use Rattle.pg_order.specs.Saying.{IsClosed, IsIntended, IsSaidCell, IsSaidOfCell, IsSaidOfMessage, IsSaidOwn, IsSaidTold}
+use Rattle.pg_order.proofs.Ended.{IsAtRest}
 use Rattle.pg_order.proofs.Sent.{AreSaidOf}
-use Rattle.pg_order.proofs.StoreSays.{IsSaidAt}
 
-module _ (n : ℕ) (stores : ℕ → Store) where
-  again_well : (f : FileId) (place other : Place) → is_same_file f root ≡ false → IsWell n stores f place → other.parent ≡ place.parent → other.name ≡ place.name → IsWell n stores f other
+module _ (n : ℕ) (files : ℕ → ℕ) where
+  again_well : (f : FileId) (place other : Place) → is_same_file f root ≡ false → IsWell n files f place → other.parent ≡ place.parent → other.name ≡ place.name → IsWell n files f other
   again_well f place other apart k parent name =
       let P : List ℕ → Type 0 = λ z. (All (λ byte. byte ≢ 126) z) ⊎ (z ≡ tilde_name f) in
       record {
-        parent = subst (IsMade n stores) (sym parent) k.parent;
+        parent = subst (IsMade n files) (sym parent) k.parent;
         dir = ap is_dir parent ∙ k.dir;
         first = λ e. absurd (false≢true (sym apart ∙ e));
         name = λ e. subst P (sym name) (k.name e);
       }
 
   -- THE HOUSE RULES KEEP IT
-  pub naming_closed : IsClosed (naming n stores)
+  pub naming_closed : IsClosed (naming n files)
   naming_closed = record {
     blank = λ f apart thing. record { parent = inl refl; dir = refl; first = λ e. absurd (false≢true (sym apart ∙ e)); name = λ e. inr refl };
     again = again_well;
@@ -41,51 +45,87 @@ module _ (n : ℕ) (stores : ℕ → Store) where
       name = λ e. inr name;
     };
     given = λ f place apart parent dir name. record { parent = parent; dir = dir; first = λ e. absurd (false≢true (sym apart ∙ e)); name = λ e. inl name };
-    parent = λ f place k. k.parent;
+    parent = λ f place k. (k.parent, k.dir);
+    first = λ place k. ap (λ (q : Place). q.live) (k.first refl);
     child = λ f apart. apart;
+    other = λ f apart. apart;
   }
 
--- ---- as places become newer
+  pub own_flag : (s : ℕ) → 1 ≤ s → s ≤ n → (flag : Flag) → flag.server ≡ s → IsOfServer n flag
+  own_flag s least most flag same = record {
+    least = subst (λ (m : ℕ). 1 ≤ m) (sym same) least;
+    most = subst (λ (m : ℕ). m ≤ n) (sym same) most;
+  }
 
--- no place is older at any server
-abbrev pub AreAllOlder : (ℕ → Store) → (ℕ → Store) → Type 0
-AreAllOlder stores later = (k : ℕ) (f : FileId) → time_at (stores k).names f ≤ time_at (later k).names f
+-- ---- as ids are given out
 
 up_more : (a b c : ℕ) → a ≤ b → b ≤ c → a ≤ c
 up_more a b c h k = omega arith
 
-module _ (n : ℕ) (stores later : ℕ → Store) (older : AreAllOlder stores later) where
-  pub made_later : (f : FileId) → IsMade n stores f → IsMade n later f
-  made_later f (inl e) = inl e
-  made_later f (inr b) = inr (record { least = b.least; most = b.most; number = b.number; time = up_more 1 (time_at (stores f.server).names f) (time_at (later f.server).names f) b.time (older f.server f) })
+module _ (n : ℕ) (f g : ℕ → ℕ) (more : (k : ℕ) → f k ≤ g k) where
+  pub made_later : (file : FileId) → IsMade n f file → IsMade n g file
+  made_later file (inl e) = inl e
+  made_later file (inr b) = inr (record { least = b.least; most = b.most; number = b.number; given = up_more file.number (f file.server) (g file.server) b.given (more file.server) })
 
-  well_later : (f : FileId) (place : Place) → IsWell n stores f place → IsWell n later f place
-  well_later f place k = record { parent = made_later place.parent k.parent; dir = k.dir; first = k.first; name = k.name }
+  well_later : (file : FileId) (place : Place) → IsWell n f file place → IsWell n g file place
+  well_later file place k = record { parent = made_later place.parent k.parent; dir = k.dir; first = k.first; name = k.name }
 
-  said_later : (s : NamesValue) → IsSaidOf (naming n stores) s → IsSaidOf (naming n later) s
-  said_later s k = record {
-    things = λ f b h. made_later f (k.things f b h);
-    places = λ f b h. well_later f b.place (k.places f b h);
-    cells = λ d g e h. (let c = k.cells d g e h in (c.0, well_later g e.place c.1));
+  own_later : (file : FileId) (own : Own) → IsSaidOwn (naming n f) file own → IsSaidOwn (naming n g) file own
+  own_later file own k = record { thing = made_later file k.thing; place = well_later file own.place k.place; flags = k.flags; order = k.order }
+
+  child_later : (file : FileId) (e : Entry) → IsSaidCell (naming n f) file e → IsSaidCell (naming n g) file e
+  child_later file e k = record { thing = made_later file k.thing; child = k.child; place = well_later file e.place k.place; flags = k.flags; order = k.order }
+
+  told_later : (dir : FileId) (e : Entry) → IsSaidTold (naming n f) dir e → IsSaidTold (naming n g) dir e
+  told_later dir e k = record { dir = k.dir; of = made_later dir k.of; cell = child_later e.child e k.cell }
+
+  intended_later : (i : Intent) → IsIntended (naming n f) i → IsIntended (naming n g) i
+  intended_later (intent.Bye file birth peer peer_birth) k = k
+  intended_later (intent.Seek file target) k = k
+  intended_later (intent.Fill file birth target) k = k
+  intended_later (intent.Patch dir entry target) k = told_later dir entry k
+  intended_later (intent.Confirm dir child target) k = k
+  intended_later (intent.Leave file peer peer_birth) k = k
+
+  pub rest_later : (s : ℕ) (a : Store) → IsAtRest (naming n f) n s a → IsAtRest (naming n g) n s a
+  rest_later s a k =
+      let was = k.sound.named in
+      record {
+        sound = record {
+          whole = k.sound.whole;
+          births = k.sound.births;
+          keys = k.sound.keys;
+          named = record {
+            tidy = was.tidy;
+            said = record {
+              own = λ file own h. own_later file own (was.said.own file own h);
+              cells = λ dir child e h. child_later child e (was.said.cells dir child e h);
+            };
+            intents = λ i d lt. intended_later (get_or a.intents i d) (was.intents i d lt);
+          };
+        };
+        fills = k.fills;
+        settled = k.settled;
+      }
+
+  cell_later : (file : FileId) (x : Cell) → IsSaidOfCell (naming n f) file x → IsSaidOfCell (naming n g) file x
+  cell_later file (cell.Place place) k = well_later file place k
+  cell_later file (cell.Flag flag) k = k
+  cell_later file (cell.Entry e sure) k = told_later file e k
+  cell_later file (cell.Version v) k = k
+
+  pub message_later : (m : Message) → IsSaidOfMessage (naming n f) m → IsSaidOfMessage (naming n g) m
+  message_later (message.Cell ends tag x) k = cell_later ends.file x k
+  message_later (message.Grant ends granted) k = record {
+    thing = made_later ends.file k.thing;
+    place = well_later ends.file granted.place k.place;
+    flags = k.flags;
+    order = k.order;
   }
-
-  pub at_later : (s : ℕ) (a : Store) → IsSaidAt (naming n stores) s a → IsSaidAt (naming n later) s a
-  at_later s a k = record {
-    server = k.server;
-    names = said_later a.names k.names;
-    top = k.top;
-    replicas = λ i d lt. made_later (get_or a.replicas i d).0 (k.replicas i d lt);
-  }
-
-  cell_later : (f : FileId) (c : Cell) → IsSaidOfCell (naming n stores) f c → IsSaidOfCell (naming n later) f c
-  cell_later f (cell.Place place) k = (made_later f k.0, well_later f place k.1)
-  cell_later f (cell.Flag flag) k = made_later f k
-  cell_later f (cell.Entry e sure) k = (made_later f k.0, made_later e.child k.1, k.2, well_later e.child e.place k.3)
-  cell_later f (cell.Version v policy) k = made_later f k
-
-  pub message_later : (m : Message) → IsSaidOfMessage (naming n stores) m → IsSaidOfMessage (naming n later) m
-  message_later (message.Cell ends tag c) k = cell_later ends.file c k
+  message_later (message.Confirm dir entry) k = told_later dir entry k
+  message_later (message.PlaceIs dir entry) k = told_later dir entry k
+  message_later (message.Tell dir entry) k = told_later dir entry k
   message_later m k = k
 
-  pub sent_later : (ms : List Sent) → AreSaidOf (naming n stores) ms → AreSaidOf (naming n later) ms
+  pub sent_later : (ms : List Sent) → AreSaidOf (naming n f) ms → AreSaidOf (naming n g) ms
   sent_later ms all i d lt = message_later (get_or ms i d).packet.message (all i d lt)

@@ -1,164 +1,199 @@
--- What the house rules ask for stays so, whatever comes and whatever they do.
-use Rattle.std.proofs.Common.{ℕ, drop, length, ◌≡◌, true, Some, sym, subst, ◌∙◌, inl, inr}
+-- The pieces of an event leave a server sound: whole, with births that were given out, and all that is known said.
+use Rattle.std.proofs.Common.{ℕ, drop, length, ◌≡◌, Bool, true, not, List, [], ◌∷◌, Option, None, Some, is_some, refl, sym, ap, subst, ◌∙◌}
+use Rattle.std.specs.List.{IsAmong}
 use Rattle.pg_base.specs.declared.id.FileId.{FileId}
 use Rattle.pg_base.specs.declared.policy.Policy.{Policy}
-use Rattle.pg_base.specs.Id.{file_cmp}
+use Rattle.pg_base.specs.declared.stamp.Stamp.{Stamp}
 use Rattle.pg_base.specs.Version.{VersionValue}
-use Rattle.pg_base.proofs.Entries.{IsStrictlySortedBy-insert_entry}
-use Rattle.pg_base.proofs.Orders.{file_total}
-use Rattle.pg_edges.specs.declared.key.Key.TheVariants as key
-use Rattle.pg_entries.specs.declared.cell.Cell.{Cell}
-use Rattle.pg_entries.specs.declared.cell.Cell.TheVariants as cell
+use Rattle.pg_patch.specs.Ranges.{RangesValue}
+use Rattle.pg_edges.specs.declared.key.Key.{Key}
 use Rattle.pg_entries.specs.declared.entry.Entry.{Entry}
+use Rattle.pg_intent.specs.declared.intent.Intent.{Intent}
+use Rattle.pg_intent.specs.declared.intent.Intent.TheVariants as intent
+use Rattle.pg_intent.specs.declared.key.IntentKey.{IntentKey}
+use Rattle.pg_intent.specs.Intents.{HaveOwnKeys, ended, has_key, intent_at}
+use Rattle.pg_intent.proofs.Kept.{own-ended}
+use Rattle.pg_msg.specs.declared.work.Touched.{Touched}
 use Rattle.pg_msg.specs.declared.work.Work.{Work}
 use Rattle.pg_names.specs.declared.own.Own.{Own}
-use Rattle.pg_names.specs.Names.{NamesValue, hold, is_dir, join_entry, join_flag, join_place, own_at, raise, with_flag, with_joined, with_place}
-use Rattle.pg_names.proofs.Holding.{hold_cells, hold_held, hold_stays}
-use Rattle.pg_names.proofs.Lookups.{flag_cell, joined_own, own_with_flag, own_with_place, place_cell}
+use Rattle.pg_names.specs.Names.{HeldValue, NamesValue, fill, is_dir, known, own_of}
+use Rattle.pg_names.proofs.Holding.{fill_own}
 use Rattle.pg_register.specs.declared.flag.Flag.{Flag}
 use Rattle.pg_register.specs.declared.place.Place.{Place}
-use Rattle.pg_register.specs.Place.{root}
-use Rattle.pg_house.specs.Facts.{IsHeld}
+use Rattle.pg_register.specs.Flag.{IsByServer}
+use Rattle.pg_replica.specs.declared.link.Link.{Link}
 use Rattle.pg_house.specs.House.{house}
-use Rattle.pg_house.specs.Work.{State, state_of}
-use Rattle.pg_house.proofs.Behind as behind
-use Rattle.pg_house.proofs.Growing.{grown_ordered, hold_grows}
+use Rattle.pg_house.specs.Work.{state_of}
+use Rattle.pg_house.proofs.Keys.{rules_keys}
 use Rattle.pg_store.specs.declared.store.Store.{Store}
-use Rattle.pg_store.specs.Store.{begin_file, has_no_head, holding_both, is_newer_entry, is_newer_flag, is_newer_place, put_version, replica_of, take_entry, take_flag, take_place, take_version, touch, with_names, with_news, with_policy}
-use Rattle.pg_replica.specs.Replica.{covers, with_head}
-use Rattle.pg_cells.specs.Cells.{fits, taken}
-use Rattle.pg_cells.specs.Settling.{settle}
+use Rattle.pg_store.specs.Beginning.{begin, patches_of, put_new, take_patch, take_patches, take_told, take_told_in, with_intents}
+use Rattle.pg_store.specs.Links.{is_linked, is_new_link, link, put_link, unlink}
+use Rattle.pg_store.specs.Store.{acknowledge, is_new_version, is_newer_entry, is_newer_flag, is_newer_place, put_entry, put_flag, put_place, put_version, take_entry, take_flag, take_place, take_version, touch, with_names, write}
+use Rattle.pg_store.specs.Together.{AreBirths, HoldsAsBefore, MayBegin}
+use Rattle.pg_store.proofs.Given.{begin_births, births_as_before}
+use Rattle.pg_store.proofs.Pairs.{acknowledge_as_before, as_before, ended_as_before, entry_as_before, flag_as_before, link_as_before, names_as_before, place_as_before, then_as_before, touch_as_before, unlink_as_before, version_as_before, write_as_before}
+use Rattle.pg_cells.specs.Settling.{settle, touch_all}
+use Rattle.pg_promises.specs.Laws.{AreAlike}
+use Rattle.pg_promises.specs.Whole.{IsOther, IsWhole}
 use Rattle.pg_promises.proofs.Choices.{chosen}
-use Rattle.pg_promises.proofs.Growth.{entry_at_one, flag_one, place_one}
-use Rattle.pg_promises.proofs.Orderly.{orderly_entry, orderly_flag, orderly_held, orderly_place, orderly_raised}
-use Rattle.pg_promises.proofs.Rules.{house_keeps}
-use Rattle.pg_promises.proofs.Touching.{same_names}
-use Rattle.pg_order.specs.Sound.{IsSound}
-use Rattle.pg_order.proofs.Changes.{one_stays, ordered_update}
+use Rattle.pg_promises.proofs.Settling.{whole_settle}
+use Rattle.pg_promises.proofs.Together.{held_by_keys}
+use Rattle.pg_promises.proofs.Whole.{whole_acknowledge, whole_alike, whole_entry, whole_flag, whole_link, whole_place, whole_unlink, whole_version, whole_write}
+use Rattle.pg_promises.proofs.WholeBeginning.{whole_begun, whole_filled}
+use Rattle.pg_order.specs.Saying.{AreIntended, IsClosed, IsIntended, IsSaidOf, IsSaidOwn, IsSaidTold, Saying}
+use Rattle.pg_order.specs.Sound.{AreTidy, IsNamed, IsSound}
+use Rattle.pg_order.proofs.HouseSays.{AreLeft}
+use Rattle.pg_order.proofs.Pieces.{named_begun, named_entry, named_filled, named_flag, named_link, named_on, named_place, named_settle, named_unlink, named_version, named_write, fewer_intents, same_intents}
 
--- ---- one thing more is held
+-- Patches are for directories
+pub for_dirs : (p : Saying) (is : List Intent) → AreIntended p is → (dir : FileId) (e : Entry) (target : ℕ) → IsAmong is (intent.Patch dir e target) → is_dir dir ≡ true
+for_dirs p is all dir e target among =
+    let i = intent.Patch dir e target in
+    let said : IsIntended p i = subst (IsIntended p) (sym among.1.1) (all among.0 i among.1.0) in
+    said.dir
 
-pub sound_held : (s : NamesValue) (f : FileId) → IsSound s → IsSound (hold s f)
-sound_held s f k = record {
-  orderly = orderly_held s f k.orderly;
-  ordered = grown_ordered s (hold s f) (hold_grows s f) k.ordered;
-  children = λ d c e h. (let was = k.children d c e (sym (hold_cells s f d c) ∙ h) in (was.0, hold_stays s f c was.0 was.1));
-  top = (k.top.0, hold_stays s f root k.top.0 k.top.1);
-}
+-- ---- intentions of a directory that begins
 
--- a stamp is taken
-pub sound_raised : (s : NamesValue) (time : ℕ) → IsSound s → IsSound (raise s time)
-sound_raised s time k = record { orderly = orderly_raised s time k.orderly; ordered = k.ordered; children = k.children; top = k.top }
+entry_intents : (a : Store) (d : FileId) (e : Entry) → (take_entry a d e).intents ≡ a.intents
+entry_intents a d e = chosen (λ (b : Store). b.intents ≡ a.intents) (is_newer_entry a d e) (put_entry a d e) a refl refl
 
--- ---- a place or a flag comes
+told_intents : (a : Store) (d : FileId) (i : Intent) → (take_told a d i).intents ≡ a.intents
+told_intents a d (intent.Bye file birth peer peer_birth) = refl
+told_intents a d (intent.Seek file target) = refl
+told_intents a d (intent.Fill file birth target) = refl
+told_intents a d (intent.Patch to entry target) = entry_intents a d entry
+told_intents a d (intent.Confirm to child target) = refl
+told_intents a d (intent.Leave file peer peer_birth) = refl
 
-module _ (s : NamesValue) (f : FileId) (b : Own) (held : own_at s f ≡ Some b) (k : IsSound s) where
-  pub sound_place : (place : Place) → IsSound (raise (join_place s f place) place.stamp.time)
-  sound_place place =
-      let stays = one_stays s (join_place s f place) f b (own_with_place place b) (place_one s f b held place) in
-      record {
-        orderly = orderly_place s f b held k.orderly place;
-        ordered = ordered_update s f (with_place place) (λ x h. h) k.ordered;
-        children = λ d g e h. stays g (k.children d g e (sym (place_cell s f place d g) ∙ h));
-        top = stays root k.top;
-      }
+told_in_intents : (a : Store) (d : FileId) (o : Option Intent) → (take_told_in a d o).intents ≡ a.intents
+told_in_intents a d None = refl
+told_in_intents a d (Some i) = told_intents a d i
 
-  pub sound_flag : (flag : Flag) → IsSound (join_flag s f flag)
-  sound_flag flag =
-      let stays = one_stays s (join_flag s f flag) f b (own_with_flag flag b) (flag_one s f b held flag) in
-      record {
-        orderly = orderly_flag s f b held k.orderly flag;
-        ordered = ordered_update s f (with_flag flag) (λ x h. h) k.ordered;
-        children = λ d g e h. stays g (k.children d g e (sym (flag_cell s f flag d g) ∙ h));
-        top = stays root k.top;
-      }
+pub patch_intents : (a : Store) (d : FileId) (q : IntentKey) → (take_patch a d q).intents ≡ ended a.intents q
+patch_intents a d q = told_in_intents (with_intents a (ended a.intents q)) d (intent_at a.intents q)
 
--- ---- an entry comes
+patches_keys : (d : FileId) (qs : List IntentKey) (a : Store) → HaveOwnKeys a.intents → HaveOwnKeys (take_patches a d qs).intents
+patches_keys d [] a h = h
+patches_keys d (q ∷ qs) a h = patches_keys d qs (take_patch a d q) (subst HaveOwnKeys (sym (patch_intents a d q)) (own-ended a.intents q h))
 
-module _ (s : NamesValue) (d : FileId) (b : Own) (held : own_at s d ≡ Some b) (dir : is_dir d ≡ true) (k : IsSound s) (e : Entry) (child : IsHeld s e.child) where
-  abbrev Then : NamesValue
-  Then = join_entry s d e
+-- ---- the same is held
 
-  still_held : (q : FileId) → IsHeld s q → IsHeld Then q
-  still_held q h = (h.0, joined_own s d e q ∙ h.1)
+some_own : (o : Option HeldValue) → is_some o ≡ is_some (own_of o)
+some_own None = refl
+some_own (Some x) = refl
 
-  pub sound_entry : IsSound (raise Then e.place.stamp.time)
-  sound_entry = record {
-    orderly = orderly_entry s d b held dir k.orderly e;
-    ordered = ordered_update s d (with_joined e) (λ x h. IsStrictlySortedBy-insert_entry file_cmp file_total e.child _ x.entries h) k.ordered;
-    children = λ q g c h. elim (entry_at_one s d b held e q g) [
-      | inl same ↦ still_held g (k.children q g c (sym same ∙ h))
-      | inr here ↦ subst (IsHeld Then) (sym here.1) (still_held e.child child)
-    ];
-    top = still_held root k.top;
-  }
+filled_held : (s : NamesValue) (f q : FileId) → is_some (known (fill s f) q) ≡ is_some (known s q)
+filled_held s f q =
+    some_own (known (fill s f) q) ∙ ap (λ (o : Option Own). is_some o) (fill_own s f q) ∙ sym (some_own (known s q))
 
--- ---- the house rules run
+touches_as_before : (a : Store) (ts : List Touched) → HoldsAsBefore a (touch_all a ts)
+touches_as_before a [] = as_before a
+touches_as_before a (t ∷ ts) =
+    then_as_before a (touch a t.file t.key) (touch_all (touch a t.file t.key) ts) (touch_as_before a t.file t.key) (touches_as_before (touch a t.file t.key) ts)
 
-pub sound_house : (moment : ℕ) (st : State) → IsSound st.names → IsSound (house moment st).names
-sound_house moment st k =
-    let o = k.orderly in
-    record {
-      orderly = record {
-        dirs = behind.still_of_dirs moment st o.dirs o.sorted;
-        sorted = behind.still_by_server moment st o.dirs o.sorted;
-        last = behind.still_last moment st o.dirs o.sorted o.last;
-        children = (house_keeps moment st o.dirs o.sorted o.last o.children).child;
-      };
-      ordered = behind.ordered moment st k.ordered;
-      children = behind.still_children moment st o.dirs o.sorted o.last k.children k.top;
-      top = behind.still_top moment st o.dirs o.sorted o.last k.children k.top;
+pub settle_as_before : (a : Store) (work : Work) → HoldsAsBefore a (settle a work).store
+settle_as_before a work =
+    let st = house work.now (state_of a.names work) in
+    let b = with_names a st.names in
+    then_as_before a b (settle a work).store (names_as_before a st.names (λ q. held_by_keys st.names a.names q (rules_keys work.now (state_of a.names work))))
+    (touches_as_before b (drop (length work.touched) st.work.touched))
+
+pub settle_intents : (a : Store) (work : Work) → (settle a work).store.intents ≡ a.intents
+settle_intents a work =
+    let st = house work.now (state_of a.names work) in
+    same_intents (with_names a st.names) (drop (length work.touched) st.work.touched)
+
+-- ---- the pieces
+
+module _ (p : Saying) (n s : ℕ) where
+  abbrev pub Sound : Store → Type 0
+  Sound a = IsSound p n s a
+
+  module _ (a : Store) (k : Sound a) where
+    -- the same is held and intended
+    sound_by : (b : Store) → IsWhole n s b → IsNamed p b → HoldsAsBefore a b → b.intents ≡ a.intents → Sound b
+    sound_by b whole named same intents = record {
+      whole = whole;
+      births = births_as_before a b same k.births;
+      keys = subst HaveOwnKeys (sym intents) k.keys;
+      named = named;
     }
 
--- ---- the pieces of an event
+    abbrev Intends : Store → Type 0
+    Intends b = b.intents ≡ a.intents
 
-abbrev pub IsSoundAt : Store → Type 0
-IsSoundAt a = IsSound a.names
+    pub sound_place : (f : FileId) (place : Place) → p.IsPlace f place → Sound (take_place a f place)
+    sound_place f place here =
+        sound_by (take_place a f place) (whole_place n s a k.whole f place) (named_place p a k.named f place here) (place_as_before a f place)
+        (chosen Intends (is_newer_place a f place) (put_place a f place) a refl refl)
 
-module _ (a : Store) (k : IsSoundAt a) where
-  pub sound_take_place : (f : FileId) (place : Place) → IsSoundAt (take_place a f place)
-  sound_take_place f place =
-      let held = hold_held a.names f in
-      let more = sound_held a.names f k in
-      chosen IsSoundAt (is_newer_place a f place) (touch (with_names a (raise (join_place (hold a.names f) f place) place.stamp.time)) f key.Place) (with_names a (hold a.names f))
-      (sound_place (hold a.names f) f held.0 held.1 more place) more
+    pub sound_flag : (f : FileId) (flag : Flag) → p.IsFlag flag → Sound (take_flag a f flag)
+    sound_flag f flag here =
+        sound_by (take_flag a f flag) (whole_flag n s a k.whole f flag) (named_flag p a k.named f flag here) (flag_as_before a f flag)
+        (chosen Intends (is_newer_flag a f flag) (put_flag a f flag) a refl refl)
 
-  pub sound_take_flag : (f : FileId) (flag : Flag) → IsSoundAt (take_flag a f flag)
-  sound_take_flag f flag =
-      let held = hold_held a.names f in
-      let more = sound_held a.names f k in
-      chosen IsSoundAt (is_newer_flag a f flag) (touch (with_names a (join_flag (hold a.names f) f flag)) f (key.Flag flag.server)) (with_names a (hold a.names f))
-      (sound_flag (hold a.names f) f held.0 held.1 more flag) more
+    pub sound_entry : (d : FileId) (e : Entry) → IsSaidTold p d e → Sound (take_entry a d e)
+    sound_entry d e here =
+        sound_by (take_entry a d e) (whole_entry n s a k.whole d e here.dir) (named_entry p a k.named d e here.cell) (entry_as_before a d e) (entry_intents a d e)
 
-  pub sound_take_entry : (d : FileId) (e : Entry) → is_dir d ≡ true → IsSoundAt (take_entry a d e)
-  sound_take_entry d e dir =
-      let both = holding_both a.names d e.child in
-      let first = hold_held a.names d in
-      let more = sound_held (hold a.names d) e.child (sound_held a.names d k) in
-      chosen IsSoundAt (is_newer_entry a d e) (touch (with_names a (raise (join_entry both d e) e.place.stamp.time)) d (key.Entry e.child)) (with_names a both)
-      (sound_entry both d first.0 (hold_stays (hold a.names d) e.child d first.0 first.1) dir more e (hold_held (hold a.names d) e.child)) more
+    pub sound_version : (f : FileId) (v : VersionValue) → Sound (take_version a f v)
+    sound_version f v =
+        sound_by (take_version a f v) (whole_version n s a k.whole f v) (named_version p a k.named f v) (version_as_before a f v)
+        (chosen Intends (is_new_version a f v) (put_version a f v) a refl refl)
 
-  pub sound_policy : (f : FileId) (policy : Policy) → IsSoundAt (with_policy a f policy)
-  sound_policy f policy = chosen IsSoundAt (has_no_head (replica_of a f)) (begin_file a f policy) a k k
+    pub sound_write : (f : FileId) (stamp : Stamp) (ranges : RangesValue) → Sound (write a f stamp ranges)
+    sound_write f stamp ranges =
+        sound_by (write a f stamp ranges) (whole_write n s a k.whole f stamp ranges) (named_write p a k.named f stamp ranges) (write_as_before a f stamp ranges) refl
 
-  pub sound_put : (f : FileId) (v : VersionValue) → IsSoundAt (put_version a f v)
-  sound_put f v =
-      let x = replica_of a f in
-      chosen IsSoundAt (covers x v) a (with_news a f (with_head x v a.tags) v.head.stamp) k (sound_raised a.names v.head.stamp.time k)
+    pub sound_acknowledge : (f : FileId) (l : Link) (q : Key) (g : ℕ) → Sound (acknowledge a f l q g)
+    sound_acknowledge f l q g =
+        sound_by (acknowledge a f l q g) (whole_acknowledge n s a k.whole f l q g) (named_on p a (acknowledge a f l q g) k.named refl refl)
+        (acknowledge_as_before a f l q g) refl
 
-  pub sound_settle : (work : Work) → IsSoundAt (settle a work).store
-  sound_settle work =
-      let st = house work.now (state_of a.names work) in
-      subst IsSound (sym (same_names (with_names a st.names) (drop (length work.touched) st.work.touched))) (sound_house work.now (state_of a.names work) k)
+    pub sound_link : (f : FileId) (peer birth : ℕ) → IsOther n s peer → Sound (link a f peer birth)
+    sound_link f peer birth other =
+        sound_by (link a f peer birth) (whole_link n s a k.whole f peer birth other) (named_link p a k.named f peer birth) (link_as_before a f peer birth)
+        (chosen Intends (is_new_link a f peer birth) (put_link a f peer birth) a refl refl)
 
-pub sound_take_version : (a : Store) → IsSoundAt a → (f : FileId) (policy : Policy) (v : VersionValue) → IsSoundAt (take_version a f policy v)
-sound_take_version a k f policy v =
-    let held = with_names a (hold a.names f) in
-    sound_put (with_policy held f policy) (sound_policy held (sound_held a.names f k) f policy) f v
+    pub sound_unlink : (f : FileId) (peer birth : ℕ) → Sound (unlink a f peer birth)
+    sound_unlink f peer birth =
+        sound_by (unlink a f peer birth) (whole_unlink n s a k.whole f peer birth) (named_unlink p a k.named f peer birth) (unlink_as_before a f peer birth)
+        (chosen Intends (is_linked a f peer birth) _ a refl refl)
 
--- A CELL IS TAKEN
-pub sound_taken : (a : Store) → IsSoundAt a → (f : FileId) (c : Cell) → fits f c ≡ true → IsSoundAt (taken a f c)
-sound_taken a k f (cell.Place place) fit = sound_take_place a k f place
-sound_taken a k f (cell.Flag flag) fit = sound_take_flag a k f flag
-sound_taken a k f (cell.Entry e sure) fit = sound_take_entry a k f e fit
-sound_taken a k f (cell.Version v policy) fit = sound_take_version a k f policy v
+    pub sound_filled : (f : FileId) → Sound (with_names a (fill a.names f))
+    sound_filled f =
+        sound_by (with_names a (fill a.names f)) (whole_filled n s a f k.whole) (named_filled p a k.named f)
+        (names_as_before a (fill a.names f) (filled_held a.names f)) refl
+
+    pub sound_begun : (file : FileId) (birth : ℕ) (policy : Policy) (own : Own) (full : Bool) → MayBegin a file birth → IsByServer own.flags → IsSaidOwn p file own
+        → Sound (begin a file birth policy own full)
+    sound_begun file birth policy own full may order here = record {
+      whole = whole_begun n s a file birth policy own full may.away order k.whole;
+      births = begin_births a file birth policy own full k.births may;
+      keys = patches_keys file (patches_of file a.intents) (put_new a file birth policy own full) k.keys;
+      named = named_begun p a k.named file birth policy own full may.away here;
+    }
+
+    -- what the edges do not see changes, and what is intended
+    pub sound_alike : (b : Store) → AreAlike a b → AreBirths b → HaveOwnKeys b.intents → AreIntended p b.intents → Sound b
+    sound_alike b same births keys all = record {
+      whole = whole_alike n s a k.whole b same (for_dirs p b.intents all);
+      births = births;
+      keys = keys;
+      named = record {
+        tidy = subst AreTidy (sym same.names) k.named.tidy;
+        said = subst (IsSaidOf p) (sym same.names) k.named.said;
+        intents = all;
+      };
+    }
+
+    pub sound_ended : (q : IntentKey) → Sound (with_intents a (ended a.intents q))
+    sound_ended q =
+        sound_alike (with_intents a (ended a.intents q)) (record { servers = refl; tags = refl; names = refl; replicas = refl })
+        (births_as_before a (with_intents a (ended a.intents q)) (ended_as_before a q) k.births) (own-ended a.intents q k.keys)
+        (fewer_intents p a k.named (λ i. not (has_key q i)))
+
+    pub sound_settle : (c : IsClosed p) (work : Work) → AreLeft p c work.left → Sound (settle a work).store × AreLeft p c (settle a work).work.left
+    sound_settle c work all =
+        let named = named_settle p a k.named c work all in
+        (sound_by (settle a work).store (whole_settle n s a work k.whole) named.0 (settle_as_before a work) (settle_intents a work), named.1)

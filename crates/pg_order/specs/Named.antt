@@ -1,37 +1,42 @@
--- What holds of all ids, names and parents that are known anywhere in a run.
+-- What holds of all ids, names, parents and flags that are known anywhere in a run.
 use Rattle.std.specs.Prelude.{ℕ, ◌≡◌, ◌≢◌, ◌≤◌, ◌<◌, ◌^◌, ◌⊎◌, true, false, All}
 use Rattle.pg_base.specs.declared.id.FileId.{FileId}
 use Rattle.pg_base.specs.Id.{is_same_file}
+use Rattle.pg_register.specs.declared.flag.Flag.{Flag}
 use Rattle.pg_register.specs.declared.place.Place.{Place}
 use Rattle.pg_register.specs.Place.{root, root_place, tilde_name}
-use Rattle.pg_names.specs.Names.{is_dir, own_or_blank}
-use Rattle.pg_store.specs.declared.store.Store.{Store}
+use Rattle.pg_names.specs.Names.{is_dir}
 use Rattle.pg_order.specs.Saying.{Saying}
 
--- one of the servers gave the id out, and knows a place of the thing
-pub record IsBorn (servers : ℕ) (stores : ℕ → Store) (file : FileId) : Type 0 where
+-- one of the servers gave the id out, where each gave out so many
+pub record IsBorn (servers : ℕ) (files : ℕ → ℕ) (file : FileId) : Type 0 where
   pub least : 1 ≤ file.server
   pub most : file.server ≤ servers
   pub number : file.number < 2 ^ 64
-  pub time : 1 ≤ (own_or_blank (stores file.server).names file).place.stamp.time
+  pub given : file.number ≤ files file.server
 
-abbrev pub IsMade : ℕ → (ℕ → Store) → FileId → Type 0
-IsMade servers stores file = (file ≡ root) ⊎ IsBorn servers stores file
+abbrev pub IsMade : ℕ → (ℕ → ℕ) → FileId → Type 0
+IsMade servers files file = (file ≡ root) ⊎ IsBorn servers files file
 
 -- a place of a thing: its parent was made, and is a directory; the root has its first place, and any
 -- other thing a client's name or the one that is made of its id
-pub record IsWell (servers : ℕ) (stores : ℕ → Store) (file : FileId) (place : Place) : Type 0
-  where
-    pub parent : IsMade servers stores place.parent
-    pub dir : is_dir place.parent ≡ true
-    pub first : is_same_file file root ≡ true → place ≡ root_place
-    pub name : is_same_file file root ≡ false
-        → (All (λ byte. byte ≢ 126) place.name) ⊎ (place.name ≡ tilde_name file)
+pub record IsWell (servers : ℕ) (files : ℕ → ℕ) (file : FileId) (place : Place) : Type 0 where
+  pub parent : IsMade servers files place.parent
+  pub dir : is_dir place.parent ≡ true
+  pub first : is_same_file file root ≡ true → place ≡ root_place
+  pub name : is_same_file file root ≡ false
+      → (All (λ byte. byte ≢ 126) place.name) ⊎ (place.name ≡ tilde_name file)
+
+-- a flag is one of the run's servers
+pub record IsOfServer (servers : ℕ) (flag : Flag) : Type 0 where
+  pub least : 1 ≤ flag.server
+  pub most : flag.server ≤ servers
 
 -- and no directory has a cell for the root
-abbrev pub naming : ℕ → (ℕ → Store) → Saying
-naming servers stores = record {
-  IsThing = IsMade servers stores;
-  IsPlace = IsWell servers stores;
+abbrev pub naming : ℕ → (ℕ → ℕ) → Saying
+naming servers files = record {
+  IsThing = IsMade servers files;
+  IsPlace = IsWell servers files;
+  IsFlag = IsOfServer servers;
   IsChild = λ file. is_same_file file root ≡ false;
 }

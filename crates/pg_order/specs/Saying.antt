@@ -1,44 +1,100 @@
--- What is said of all that a server knows of names: of each thing, of each place of a thing, and of
--- each child of a directory.
-use Rattle.std.specs.Prelude.{◌≡◌, ◌≢◌, true, false, All, Some}
+-- What is said of all that a server knows of names: of each thing, of each place and flag of a thing,
+-- and of each child of a directory; and of the messages that bring these.
+use Rattle.std.specs.Prelude.{◌≡◌, ◌≢◌, true, false, All, List, Some}
 use Rattle.pg_base.specs.declared.id.FileId.{FileId}
 use Rattle.pg_base.specs.Id.{is_same_file}
+use Rattle.pg_register.specs.declared.flag.Flag.{Flag}
 use Rattle.pg_register.specs.declared.place.Place.{Place}
+use Rattle.pg_register.specs.Flag.{IsByServer}
 use Rattle.pg_register.specs.Place.{blank_place, root, tilde_name}
 use Rattle.pg_entries.specs.declared.cell.Cell.{Cell}
 use Rattle.pg_entries.specs.declared.cell.Cell.TheVariants as cell
 use Rattle.pg_entries.specs.declared.entry.Entry.{Entry}
+use Rattle.pg_intent.specs.declared.intent.Intent.{Intent}
+use Rattle.pg_intent.specs.declared.intent.Intent.TheVariants as intent
+use Rattle.pg_msg.specs.declared.message.Granted.{Granted}
 use Rattle.pg_msg.specs.declared.message.Message.{Message}
 use Rattle.pg_msg.specs.declared.message.Message.TheVariants as message
+use Rattle.pg_msg.specs.declared.work.Slot.{Slot}
 use Rattle.pg_names.specs.declared.own.Own.{Own}
 use Rattle.pg_names.specs.Names.{NamesValue, cell_at, is_dir, own_at}
 
 pub record Saying : Type 1 where
   pub IsThing : FileId → Type 0
   pub IsPlace : FileId → Place → Type 0
+  pub IsFlag : Flag → Type 0
   pub IsChild : FileId → Type 0
+
+-- of a thing's own place and flags, which are by server
+pub record IsSaidOwn (p : Saying) (file : FileId) (own : Own) : Type 0 where
+  pub thing : p.IsThing file
+  pub place : p.IsPlace file own.place
+  pub flags : All p.IsFlag own.flags
+  pub order : IsByServer own.flags
+
+-- of a cell for a child, with flags by server
+pub record IsSaidCell (p : Saying) (file : FileId) (e : Entry) : Type 0 where
+  pub thing : p.IsThing file
+  pub child : p.IsChild file
+  pub place : p.IsPlace file e.place
+  pub flags : All p.IsFlag e.flags
+  pub order : IsByServer e.flags
 
 -- it is said of all that is known at a server
 pub record IsSaidOf (p : Saying) (names : NamesValue) : Type 0 where
-  pub things : (file : FileId) (own : Own) → own_at names file ≡ Some own → p.IsThing file
-  pub places : (file : FileId) (own : Own) → own_at names file ≡ Some own
-      → p.IsPlace file own.place
+  pub own : (file : FileId) (own : Own) → own_at names file ≡ Some own → IsSaidOwn p file own
   pub cells : (dir child : FileId) (e : Entry) → cell_at names dir child ≡ Some e
-      → p.IsChild child × p.IsPlace child e.place
+      → IsSaidCell p child e
 
--- and of what a message brings
+-- of what a directory is told of a child
+pub record IsSaidTold (p : Saying) (to : FileId) (e : Entry) : Type 0 where
+  pub dir : is_dir to ≡ true
+  pub of : p.IsThing to
+  pub cell : IsSaidCell p e.child e
+
+-- of what is intended. Of the other kinds none begins yet
+abbrev pub IsIntended : Saying → Intent → Type 0
+IsIntended p (intent.Bye file birth peer peer_birth) = ⊥
+IsIntended p (intent.Seek file target) = ⊥
+IsIntended p (intent.Fill file birth target) = Unit {0}
+IsIntended p (intent.Patch dir entry target) = IsSaidTold p dir entry
+IsIntended p (intent.Confirm dir child target) = Unit {0}
+IsIntended p (intent.Leave file peer peer_birth) = ⊥
+
+abbrev pub AreIntended : Saying → List Intent → Type 0
+AreIntended p is = All (IsIntended p) is
+
+-- of what an event notes: a child whose place in a directory was replaced
+pub record IsSaidLeft (p : Saying) (slot : Slot) : Type 0 where
+  pub dir : is_dir slot.dir ≡ true
+  pub of : p.IsThing slot.dir
+  pub thing : p.IsThing slot.child
+  pub child : p.IsChild slot.child
+
+-- ---- and of what a message brings
+
 abbrev pub IsSaidOfCell : Saying → FileId → Cell → Type 0
-IsSaidOfCell p file (cell.Place place) = p.IsThing file × p.IsPlace file place
-IsSaidOfCell p file (cell.Flag flag) = p.IsThing file
-IsSaidOfCell p file (cell.Entry e sure) =
-    p.IsThing file × p.IsThing e.child × p.IsChild e.child × p.IsPlace e.child e.place
-IsSaidOfCell p file (cell.Version version policy) = p.IsThing file
+IsSaidOfCell p file (cell.Place place) = p.IsPlace file place
+IsSaidOfCell p file (cell.Flag flag) = p.IsFlag flag
+IsSaidOfCell p file (cell.Entry e sure) = IsSaidTold p file e
+IsSaidOfCell p file (cell.Version version) = Unit {0}
+
+pub record IsSaidGranted (p : Saying) (file : FileId) (g : Granted) : Type 0 where
+  pub thing : p.IsThing file
+  pub place : p.IsPlace file g.place
+  pub flags : All p.IsFlag g.flags
+  pub order : IsByServer g.flags
 
 abbrev pub IsSaidOfMessage : Saying → Message → Type 0
 IsSaidOfMessage p (message.Cell ends tag c) = IsSaidOfCell p ends.file c
+IsSaidOfMessage p (message.Grant ends granted) = IsSaidGranted p ends.file granted
+IsSaidOfMessage p (message.Confirm dir entry) = IsSaidTold p dir entry
+IsSaidOfMessage p (message.PlaceIs dir entry) = IsSaidTold p dir entry
+IsSaidOfMessage p (message.Tell dir entry) = IsSaidTold p dir entry
 IsSaidOfMessage p _ = Unit {0}
 
--- what the house rules make of it may be said too
+-- ---- what the house rules and calls make of it may be said too
+
 pub record IsClosed (p : Saying) : Type 0 where
   pub blank : (file : FileId) → is_same_file file root ≡ false → p.IsThing file
       → p.IsPlace file (blank_place file)
@@ -50,5 +106,8 @@ pub record IsClosed (p : Saying) : Type 0 where
   pub given : (file : FileId) (place : Place) → is_same_file file root ≡ false
       → p.IsThing place.parent → is_dir place.parent ≡ true
       → All (λ byte. byte ≢ 126) place.name → p.IsPlace file place
-  pub parent : (file : FileId) (place : Place) → p.IsPlace file place → p.IsThing place.parent
+  pub parent : (file : FileId) (place : Place) → p.IsPlace file place
+      → p.IsThing place.parent × (is_dir place.parent ≡ true)
+  pub first : (place : Place) → p.IsPlace root place → place.live ≡ true
   pub child : (file : FileId) → is_same_file file root ≡ false → p.IsChild file
+  pub other : (file : FileId) → p.IsChild file → is_same_file file root ≡ false

@@ -81,12 +81,12 @@ key_bytes (key.Flag server) = number_bytes 1 2 ++ number_bytes 4 server
 key_bytes (key.Entry child) = number_bytes 1 3 ++ file_bytes child
 key_bytes (key.Version stamp) = number_bytes 1 4 ++ stamp_bytes stamp
 
--- The kind of the cell, and what it holds. The policy of a version is not told.
+-- the kind of the cell, and what it holds
 unfoldable pub cell_bytes : Cell → List ℕ
 cell_bytes (cell.Place place) = number_bytes 1 1 ++ place_bytes place
 cell_bytes (cell.Flag flag) = number_bytes 1 2 ++ gold_bytes flag
 cell_bytes (cell.Entry entry sure) = number_bytes 1 3 ++ (entry_bytes entry ++ flag_bytes sure)
-cell_bytes (cell.Version version chosen) = number_bytes 1 4 ++ version_bytes version
+cell_bytes (cell.Version version) = number_bytes 1 4 ++ version_bytes version
 
 unfoldable pub policy_bytes : Policy → List ℕ
 policy_bytes policy.Last = number_bytes 1 1

@@ -1,7 +1,6 @@
 -- What has a spelling in a packet. Numbers have their widths by their types.
-use Rattle.std.specs.Prelude.{ℕ, ◌≡◌, ◌+◌, ◌^◌, ◌<◌, ◌≤◌, List, [], ◌∷◌, length}
+use Rattle.std.specs.Prelude.{ℕ, ◌+◌, ◌^◌, ◌<◌, ◌≤◌, List, [], ◌∷◌, length}
 use Rattle.std.specs.List.{AllByRecursion}
-use Rattle.pg_base.specs.declared.policy.Policy.TheVariants.{Last}
 use Rattle.pg_base.specs.declared.stamp.Stamp.{Stamp}
 use Rattle.pg_base.specs.declared.vector.Actor.{Actor}
 use Rattle.pg_base.specs.Stamp.{IsBefore}
@@ -71,12 +70,11 @@ FitsKey (key.Flag server) = IsServer server
 FitsKey (key.Entry child) = Unit {0}
 FitsKey (key.Version stamp) = Unit {0}
 
--- A version stands for itself, and says nothing of a policy: it has the first of them.
 abbrev pub FitsCell : Cell → Type 0
 FitsCell (cell.Place place) = IsPlace place
 FitsCell (cell.Flag flag) = IsServer flag.server
 FitsCell (cell.Entry entry sure) = FitsEntry entry
-FitsCell (cell.Version version chosen) = FitsVersion version × (chosen ≡ Last)
+FitsCell (cell.Version version) = FitsVersion version
 
 -- bytes whose number takes so many bytes
 pub record FitsCount (width : ℕ) (bytes : List ℕ) : Type 0 where

@@ -233,7 +233,7 @@ pub fn write_cell(cell: &Cell, out: &mut Bytes) -> Result<(), AllocError>
             write_entry(entry.get(), out)?;
             write_flag(*sure, out)
         }
-        Cell::Version(version, _) => {
+        Cell::Version(version) => {
             write_u8(4, out)?;
             write_version(version, out)
         }

@@ -1,181 +1,266 @@
--- Places that may stand, and flags of first replicas alone: what is known of all things by whichever
--- replica, and that passing, holding and what comes keep it.
-use Rattle.std.proofs.Common.{ℕ, ◌≡◌, ◌==◌, Bool, true, false, cond, List, [], ◌∷◌, Option, None, Some, refl, sym, ap, subst, ◌∙◌, inl, inr, ◌⊎◌}
-use Rattle.std.proofs.lemmas.Bool.{eqb-true}
-use Rattle.std.proofs.lemmas.Option.{same_Some}
+-- What is known at a server: each place of a thing may stand. Each change of names and of intentions
+-- keeps it, where what comes may stand too.
+use Rattle.std.proofs.Common.{ℕ, ◌≡◌, max, Bool, true, false, cond, ◌&&◌, List, [], ◌∷◌, ◌++◌, Option, None, Some, filter, refl, sym, ap, subst, ◌∙◌, inl, inr, ◌⊎◌}
+use Rattle.std.proofs.lemmas.Option.{none-some, same_Some}
+use Rattle.std.proofs.lemmas.Bool.{and_parts}
 use Rattle.pg_base.specs.declared.id.FileId.{FileId}
 use Rattle.pg_base.specs.Id.{is_same_file}
 use Rattle.pg_base.specs.Stamp.{is_before}
 use Rattle.pg_base.proofs.Orders.{is_same_file-true}
-use Rattle.pg_register.specs.declared.flag.Flag.{Flag}
-use Rattle.pg_register.specs.declared.place.Place.{Place}
-use Rattle.pg_register.specs.Flag.{IsByServer, flag_of, is_older, join_flag, join_flags, newest}
-use Rattle.pg_register.specs.Place.{newer_place}
-use Rattle.pg_register.proofs.ByServer.{IsByServer-join_flag, IsByServer-join_flags, flag_of-join_flag, flag_of-join_flags}
 use Rattle.pg_entries.specs.declared.entry.Entry.{Entry}
 use Rattle.pg_entries.specs.Entry.{joined_to}
-use Rattle.pg_names.specs.declared.own.Own.{Own}
-use Rattle.pg_names.specs.Names.{NamesValue, cell_at, own_at}
-use Rattle.pg_names.proofs.Lookups.{apart_back}
-use Rattle.pg_store.specs.Start.{first_flag}
-use Rattle.pg_house.specs.Work.{State}
-use Rattle.pg_house.specs.Passing.{greatest, is_held_back, joined_with, own_taken, pass, pass_all, pass_own}
 use Rattle.pg_house.specs.Facts.{IsHeld}
-use Rattle.pg_house.proofs.AfterPassing.{After, AreDirs, after_all, after_child, after_other, after_own}
-use Rattle.pg_house.proofs.Passes.{one_pass}
 use Rattle.pg_house.proofs.Truths.{bool_cases}
 use Rattle.pg_promises.proofs.Choices.{chosen}
-use Rattle.pg_promises.proofs.Growth.{OneOwn}
-use Rattle.pg_order.proofs.Changes.{one_own, one_stays}
-
--- ---- flags
-
-one_of : (x g i f : Flag) (t : Bool) → g ≡ x → i ≡ x → Some (cond t i g) ≡ Some f → f ≡ x
-one_of x g i f true a b h = sym (same_Some i f h) ∙ b
-one_of x g i f false a b h = sym (same_Some g f h) ∙ a
-
--- the newer of two is one of them
-newest_known : (x : Flag) (o p : Option Flag) → ((f : Flag) → o ≡ Some f → f ≡ x) → ((f : Flag) → p ≡ Some f → f ≡ x) → (f : Flag) → newest o p ≡ Some f → f ≡ x
-newest_known x None p a b f h = b f h
-newest_known x (Some g) None a b f h = a f h
-newest_known x (Some g) (Some i) a b f h = one_of x g i f (is_older g i) (a g refl) (b i refl) h
-
--- these are flags of first replicas, by server
-pub record AreFirst (flags : List Flag) : Type 0 where
-  pub sorted : IsByServer flags
-  pub each : (server : ℕ) (f : Flag) → flag_of flags server ≡ Some f → f ≡ first_flag server
-
-pub joined_first : (fs gs : List Flag) → AreFirst fs → AreFirst gs → AreFirst (join_flags fs gs)
-joined_first fs gs a b = record {
-  sorted = IsByServer-join_flags fs gs a.sorted;
-  each = λ m f h. newest_known (first_flag m) (flag_of fs m) (flag_of gs m) (a.each m) (b.each m) f
-      (sym (flag_of-join_flags fs gs m b.sorted) ∙ h);
-}
-
-one_more : (fs : List Flag) (g : Flag) (m : ℕ) (t : Bool) → (g.server == m) ≡ t → g ≡ first_flag g.server → AreFirst fs → (f : Flag)
-    → cond t (newest (flag_of fs m) (Some g)) (flag_of fs m) ≡ Some f → f ≡ first_flag m
-one_more fs g m true e first a f h =
-    let same : g ≡ first_flag m = first ∙ ap first_flag (eqb-true g.server m e) in
-    newest_known (first_flag m) (flag_of fs m) (Some g) (a.each m) (λ i k. sym (same_Some g i k) ∙ same) f h
-one_more fs g m false e first a f h = a.each m f h
-
-pub more_first : (fs : List Flag) (g : Flag) → g ≡ first_flag g.server → AreFirst fs → AreFirst (join_flag fs g)
-more_first fs g first a = record {
-  sorted = IsByServer-join_flag g fs a.sorted;
-  each = λ m f h. one_more fs g m (g.server == m) refl first a f (sym (flag_of-join_flag g fs m) ∙ h);
-}
-
--- ---- places and flags
+use Rattle.pg_intent.specs.declared.intent.Intent.{Intent}
+use Rattle.pg_intent.specs.declared.intent.Intent.TheVariants as intent
+use Rattle.pg_intent.specs.declared.key.IntentKey.{IntentKey}
+use Rattle.pg_intent.specs.Intent.{aimed_at, key_of, rejoined}
+use Rattle.pg_intent.specs.Intents.{aimed, begun, changed, has_key, intent_at, stands}
+use Rattle.pg_names.specs.declared.own.Own.{Own}
+use Rattle.pg_names.specs.Names.{HeldValue, NamesValue, begin, cell_at, entry_in, fill, join_entry, join_flag, join_place, known, new_held, own_at, own_of, own_or_blank, or_blank, raise, with_flag, with_joined, with_place}
+use Rattle.pg_names.proofs.Holding.{begun_known, fill_cells, fill_own}
+use Rattle.pg_names.proofs.Lookups.{flag_cell, flag_other, flag_same, joined_other_child, joined_other_dir, joined_own, joined_same, known_absent, own_with_flag, own_with_place, place_cell, place_other, place_same}
+use Rattle.pg_register.specs.declared.flag.Flag.{Flag}
+use Rattle.pg_register.specs.declared.place.Place.{Place}
+use Rattle.pg_register.specs.Place.{blank_place, newer_place, root}
 
 module _ (P : FileId → Place → Type 0) where
-  pub record IsKnown (file : FileId) (place : Place) (flags : List Flag) : Type 0 where
-    pub stands : P file place
-    pub first : AreFirst flags
+  -- of all things that are held, and of all children of directories; and the root is held
+  pub record AreNames (names : NamesValue) : Type 0 where
+    pub own : (f : FileId) (o : Own) → own_at names f ≡ Some o → P f o.place
+    pub child : (d c : FileId) (e : Entry) → cell_at names d c ≡ Some e → e.child ≡ c
+    pub cells : (d c : FileId) (e : Entry) → cell_at names d c ≡ Some e → P c e.place
+    pub top : IsHeld names root
 
-  abbrev pub IsOwn : FileId → Own → Type 0
-  IsOwn f o = IsKnown f o.place o.flags
+  -- of what a directory is to be told
+  abbrev pub OfIntent : Intent → Type 0
+  OfIntent (intent.Patch dir e target) = P e.child e.place
+  OfIntent _ = Unit {0}
 
-  abbrev pub IsCell : FileId → Entry → Type 0
-  IsCell f e = IsKnown f e.place e.flags
+  abbrev pub OfAll : List Intent → Type 0
+  OfAll [] = Unit {0}
+  OfAll (i ∷ is) = OfIntent i × OfAll is
 
-  -- of all that is held, and of all cells of directories
-  pub record AreKnown (names : NamesValue) : Type 0 where
-    pub own : (file : FileId) (o : Own) → own_at names file ≡ Some o → IsOwn file o
-    pub cells : (dir child : FileId) (e : Entry) → cell_at names dir child ≡ Some e → IsCell child e
+  -- ---- one own place changes
 
-  pub newer_stands : (f : FileId) (p q : Place) → P f p → P f q → P f (newer_place p q)
-  newer_stands f p q a b = chosen (P f) (is_before p.stamp q.stamp) q p b a
+  newer_is : (f : FileId) (p q : Place) → P f p → P f q → P f (newer_place p q)
+  newer_is f p q a b = chosen (P f) (is_before p.stamp q.stamp) q p b a
 
-  joined_known : (f : FileId) (p q : Place) (fs gs : List Flag) → IsKnown f p fs → IsKnown f q gs → IsKnown f (newer_place p q) (join_flags fs gs)
-  joined_known f p q fs gs a b = record { stands = newer_stands f p q a.stands b.stands; first = joined_first fs gs a.first b.first }
-
-  pub entry_joined : (f : FileId) (o : Option Entry) (e : Entry) → ((c : Entry) → o ≡ Some c → IsCell f c) → IsCell f e → IsCell f (joined_to o e)
-  entry_joined f None e old new = new
-  entry_joined f (Some c) e old new = joined_known f c.place e.place c.flags e.flags (old c refl) new
-
-  -- ---- the greatest of what is known
-
-  with_known : (f : FileId) (top : Own) (o : Option Entry) → IsOwn f top → ((c : Entry) → o ≡ Some c → IsCell f c) → IsOwn f (joined_with top o)
-  with_known f top None k all = k
-  with_known f top (Some c) k all = joined_known f top.place c.place top.flags c.flags k (all c refl)
-
-  greatest_known : (s : NamesValue) (f : FileId) → ((d : FileId) (c : Entry) → cell_at s d f ≡ Some c → IsCell f c) → (top : Own) (ds : List FileId) → IsOwn f top → IsOwn f (greatest s f top ds)
-  greatest_known s f all top [] k = k
-  greatest_known s f all top (d ∷ ds) k = greatest_known s f all (joined_with top (cell_at s d f)) ds (with_known f top (cell_at s d f) k (all d))
-
-  taken_known : (f : FileId) (own top : Own) (t : Bool) → IsOwn f own → IsOwn f top → IsOwn f (own_taken own top t)
-  taken_known f own top true a b = record { stands = a.stands; first = b.first }
-  taken_known f own top false a b = b
-
-  -- ---- passing
-
-  module _ (st : State) (ds : List FileId) (f : FileId) (dirs : AreDirs st.names ds) (k : AreKnown st.names) where
-    module _ (own : Own) (held : own_at st.names f ≡ Some own) (t : Bool) where
-      abbrev Top : Own
-      Top = greatest st.names f own ds
-
-      abbrev Then : NamesValue
-      Then = After st ds f own Top t
-
-      top_known : IsOwn f Top
-      top_known = greatest_known st.names f (λ d c h. k.cells d f c h) own ds (k.own f own held)
-
-      own_by : (q : FileId) (c : Own) → own_at Then q ≡ Some c → (is_same_file f q ≡ true) ⊎ (is_same_file f q ≡ false) → IsOwn q c
-      own_by q c h (inl same) =
+  module _ (a b : NamesValue) (k : AreNames a) where
+    module _ (f : FileId) (x : Own) (is : own_at b f ≡ Some x) (others : (q : FileId) → is_same_file f q ≡ false → own_at b q ≡ own_at a q) (new : P f x.place) where
+      own_by : (q : FileId) (o : Own) → own_at b q ≡ Some o → (is_same_file f q ≡ true) ⊎ (is_same_file f q ≡ false) → P q o.place
+      own_by q o h (inr apart) = k.own q o (sym (others q apart) ∙ h)
+      own_by q o h (inl same) =
           let at : f ≡ q = is_same_file-true f q same in
-          let e : own_taken own Top t ≡ c = same_Some (own_taken own Top t) c (sym (after_own st ds f own Top t held) ∙ ap (own_at Then) at ∙ h) in
-          subst (λ (x : Own). IsOwn q x) e (subst (λ (g : FileId). IsOwn g (own_taken own Top t)) at (taken_known f own Top t (k.own f own held) top_known))
-      own_by q c h (inr apart) = k.own q c (sym (after_other st ds f own Top t q apart) ∙ h)
+          let e : x ≡ o = same_Some x o (sym is ∙ ap (own_at b) at ∙ h) in
+          subst (λ (g : FileId). P g o.place) at (subst (λ (y : Own). P f y.place) e new)
 
-      cells_by : (q g : FileId) (c : Entry) → cell_at Then q g ≡ Some c → (is_same_file f g ≡ true) ⊎ (is_same_file f g ≡ false) → IsCell g c
-      cells_by q g c h (inl same) =
-          let at : f ≡ g = is_same_file-true f g same in
-          subst (λ (x : Entry). IsCell g x) (sym (after_all st ds f own Top t dirs q c (ap (cell_at Then q) at ∙ h)))
-          (subst (λ (i : FileId). IsOwn i Top) at top_known)
-      cells_by q g c h (inr apart) = k.cells q g c (sym (after_child st ds f own Top t q g (apart_back f g apart)) ∙ h)
+      top_by : (is_same_file f root ≡ true) ⊎ (is_same_file f root ≡ false) → IsHeld b root
+      top_by (inl same) = (x, ap (own_at b) (sym (is_same_file-true f root same)) ∙ is)
+      top_by (inr apart) = (k.top.0, others root apart ∙ k.top.1)
 
-      some_known : AreKnown Then
-      some_known = record { own = λ q c h. own_by q c h (bool_cases (is_same_file f q)); cells = λ q g c h. cells_by q g c h (bool_cases (is_same_file f g)) }
+      pub one_names : ((d c : FileId) → cell_at b d c ≡ cell_at a d c) → AreNames b
+      one_names cells = record {
+        own = λ q o h. own_by q o h (bool_cases (is_same_file f q));
+        child = λ d c e h. k.child d c e (sym (cells d c) ∙ h);
+        cells = λ d c e h. k.cells d c e (sym (cells d c) ∙ h);
+        top = top_by (bool_cases (is_same_file f root));
+      }
 
-    by_own : (o : Option Own) → own_at st.names f ≡ o → AreKnown (pass_own st ds f o).names
-    by_own None h = k
-    by_own (Some own) h = some_known own h (is_held_back st.names.removed f own (greatest st.names f own ds))
+    -- nothing is found otherwise
+    pub same_names : ((q : FileId) → own_at b q ≡ own_at a q) → ((d c : FileId) → cell_at b d c ≡ cell_at a d c) → AreNames b
+    same_names own cells = record {
+      own = λ q o h. k.own q o (sym (own q) ∙ h);
+      child = λ d c e h. k.child d c e (sym (cells d c) ∙ h);
+      cells = λ d c e h. k.cells d c e (sym (cells d c) ∙ h);
+      top = (k.top.0, own root ∙ k.top.1);
+    }
 
-    pub pass_known : AreKnown (pass st ds f).names
-    pass_known = by_own (own_at st.names f) refl
+  module _ (s : NamesValue) (k : AreNames s) where
+    pub raised_names : (time : ℕ) → AreNames (raise s time)
+    raised_names time = record { own = λ q o h. k.own q o h; child = λ d c e h. k.child d c e h; cells = λ d c e h. k.cells d c e h; top = k.top }
 
-  pub all_known : (st : State) (ds fs : List FileId) → AreDirs st.names ds → AreKnown st.names → AreKnown (pass_all st ds fs).names
-  all_known st ds [] dirs k = k
-  all_known st ds (f ∷ fs) dirs k = all_known (pass st ds f) ds fs (one_pass st ds f dirs).dirs (pass_known st ds f dirs k)
+    pub filled_names : (f : FileId) → AreNames (fill s f)
+    filled_names f = same_names s (fill s f) k (fill_own s f) (fill_cells s f)
 
-  -- ---- one thing's own place and flags change
+    module _ (f : FileId) where
+      place_by : (place : Place) → P f place → (o : Option Own) → own_at s f ≡ o → AreNames (join_place s f place)
+      place_by place new None e = subst AreNames (sym (known_absent s f (with_place place) e)) k
+      place_by place new (Some b) e =
+          one_names s (join_place s f place) k f (own_with_place place b) (place_same s f place b e) (place_other s f place)
+          (newer_is f b.place place (k.own f b e) new) (place_cell s f place)
 
-  pub one_known : (s t : NamesValue) (f : FileId) (b c : Own) → OneOwn s t f b c → ((d g : FileId) → cell_at t d g ≡ cell_at s d g) → AreKnown s → IsOwn f c → AreKnown t
-  one_known s t f b c one cells k new = record {
-    own = one_own (λ q o. IsOwn q o) s t f b c one new k.own;
-    cells = λ d g e h. k.cells d g e (sym (cells d g) ∙ h);
-  }
+      pub place_names : (place : Place) → P f place → AreNames (join_place s f place)
+      place_names place new = place_by place new (own_at s f) refl
+
+      flag_by : (flag : Flag) (o : Option Own) → own_at s f ≡ o → AreNames (join_flag s f flag)
+      flag_by flag None e = subst AreNames (sym (known_absent s f (with_flag flag) e)) k
+      flag_by flag (Some b) e =
+          one_names s (join_flag s f flag) k f (own_with_flag flag b) (flag_same s f flag b e) (flag_other s f flag) (k.own f b e) (flag_cell s f flag)
+
+      pub flag_names : (flag : Flag) → AreNames (join_flag s f flag)
+      flag_names flag = flag_by flag (own_at s f) refl
+
+    -- ---- a cell comes
+
+    module _ (d : FileId) (e : Entry) (new : P e.child e.place) where
+      abbrev Cells : NamesValue
+      Cells = join_entry s d e
+
+      joined_child : (o : Option Entry) → cell_at s d e.child ≡ o → (joined_to o e).child ≡ e.child
+      joined_child None h = refl
+      joined_child (Some x) h = k.child d e.child x h
+
+      joined_place : (o : Option Entry) → cell_at s d e.child ≡ o → P e.child (joined_to o e).place
+      joined_place None h = new
+      joined_place (Some x) h = newer_is e.child x.place e.place (k.cells d e.child x h) new
+
+      -- a cell that is there then is the one that came, joined, or it was there
+      cell_by : (b : Own) → own_at s d ≡ Some b → (q c : FileId) (x : Entry) → cell_at Cells q c ≡ Some x
+          → (is_same_file d q ≡ true) ⊎ (is_same_file d q ≡ false) → (is_same_file c e.child ≡ true) ⊎ (is_same_file c e.child ≡ false)
+          → ((x ≡ joined_to (cell_at s d e.child) e) × (e.child ≡ c)) ⊎ (cell_at s q c ≡ Some x)
+      cell_by b held q c x h (inr apart) other = inr (sym (joined_other_dir s d e q c apart) ∙ h)
+      cell_by b held q c x h (inl same) (inr apart) = inr (sym (joined_other_child s d e q c apart) ∙ h)
+      cell_by b held q c x h (inl same) (inl child) =
+          let dir : d ≡ q = is_same_file-true d q same in
+          let at : e.child ≡ c = sym (is_same_file-true c e.child child) in
+          inl (same_Some x (joined_to (cell_at s d e.child) e) (sym h ∙ sym (ap (λ g. cell_at Cells g c) dir) ∙ sym (ap (cell_at Cells d) at) ∙ joined_same s d b e held), at)
+
+      entry_of_is : (b : Own) → own_at s d ≡ Some b → (q c : FileId) (x : Entry) → cell_at Cells q c ≡ Some x → (x.child ≡ c) × P c x.place
+      entry_of_is b held q c x h = elim (cell_by b held q c x h (bool_cases (is_same_file d q)) (bool_cases (is_same_file c e.child))) [
+        | inl new ↦ (
+          ap (λ (y : Entry). y.child) new.0 ∙ joined_child (cell_at s d e.child) refl ∙ new.1,
+          subst (λ (g : FileId). P g x.place) new.1 (subst (λ (y : Entry). P e.child y.place) (sym new.0) (joined_place (cell_at s d e.child) refl)),
+        )
+        | inr old ↦ (k.child q c x old, k.cells q c x old)
+      ]
+
+      entry_by : (o : Option Own) → own_at s d ≡ o → AreNames Cells
+      entry_by None h = subst AreNames (sym (known_absent s d (with_joined e) h)) k
+      entry_by (Some b) h = record {
+        own = λ q o i. k.own q o (sym (joined_own s d e q) ∙ i);
+        child = λ q c x i. (entry_of_is b h q c x i).0;
+        cells = λ q c x i. (entry_of_is b h q c x i).1;
+        top = (k.top.0, joined_own s d e root ∙ k.top.1);
+      }
+
+      pub entry_names : AreNames Cells
+      entry_names = entry_by (own_at s d) refl
+
+    -- ---- a thing becomes held
+
+    module _ (f : FileId) (own : Own) (full : Bool) (new : P f own.place) where
+      abbrev Begun : NamesValue
+      Begun = begin s f own full
+
+      begun_own_by : (q : FileId) (o : Own) (t : Bool) → is_same_file q f ≡ t → own_of (cond t (Some (new_held own full)) (known s q)) ≡ Some o → P q o.place
+      begun_own_by q o false e h = k.own q o h
+      begun_own_by q o true e h =
+          subst (λ (g : FileId). P g o.place) (sym (is_same_file-true q f e)) (subst (λ (y : Own). P f y.place) (same_Some own o h) new)
+
+      begun_cell_by : (q c : FileId) (x : Entry) (t : Bool) → entry_in c (cond t (Some (new_held own full)) (known s q)) ≡ Some x → cell_at s q c ≡ Some x
+      begun_cell_by q c x false h = h
+      begun_cell_by q c x true h = absurd (none-some x h)
+
+      begun_cell : (q c : FileId) (x : Entry) → cell_at Begun q c ≡ Some x → cell_at s q c ≡ Some x
+      begun_cell q c x h = begun_cell_by q c x (is_same_file q f) (sym (ap (entry_in c) (begun_known s f own full q)) ∙ h)
+
+      begun_top : (t : Bool) → (o : Own) × (own_of (cond t (Some (new_held own full)) (known s root)) ≡ Some o)
+      begun_top true = (own, refl)
+      begun_top false = k.top
+
+      pub begun_names : AreNames Begun
+      begun_names = record {
+        own = λ q o h. begun_own_by q o (is_same_file q f) refl (sym (ap own_of (begun_known s f own full q)) ∙ h);
+        child = λ q c x h. k.child q c x (begun_cell q c x h);
+        cells = λ q c x h. k.cells q c x (begun_cell q c x h);
+        top = (let r = begun_top (is_same_file root f) in (r.0, ap own_of (begun_known s f own full root) ∙ r.1));
+      }
+
+    -- ---- what is known of a thing
+
+    root_by : (g : FileId) → own_at s g ≡ None → (t : Bool) → is_same_file g root ≡ t → t ≡ false
+    root_by g none false e = refl
+    root_by g none true e = absurd (none-some k.top.0 (sym none ∙ ap (own_at s) (is_same_file-true g root e) ∙ k.top.1))
+
+    or_by : ((f : FileId) → is_same_file f root ≡ false → P f (blank_place f)) → (f : FileId) (o : Option Own) → own_at s f ≡ o → P f (or_blank f o).place
+    or_by blanks f None e = blanks f (root_by f e (is_same_file f root) refl)
+    or_by blanks f (Some x) e = k.own f x e
+
+    pub or_is : ((f : FileId) → is_same_file f root ≡ false → P f (blank_place f)) → (f : FileId) → P f (own_or_blank s f).place
+    or_is blanks f = or_by blanks f (own_at s f) refl
+
+  -- ---- intentions
+
+  found_by : (i j : Intent) (t : Bool) (o : Option Intent) → OfIntent j → (o ≡ Some i → OfIntent i) → cond t (Some j) o ≡ Some i → OfIntent i
+  found_by i j true o h rest e = subst OfIntent (same_Some j i e) h
+  found_by i j false o h rest e = rest e
+
+  pub found_is : (is : List Intent) (k : IntentKey) (i : Intent) → OfAll is → intent_at is k ≡ Some i → OfIntent i
+  found_is [] k i h e = absurd (none-some i e)
+  found_is (j ∷ js) k i h e = found_by i j (has_key k j) (intent_at js k) h.0 (λ f. found_is js k i h.1 f) e
+
+  pub last_is : (is : List Intent) (i : Intent) → OfAll is → OfIntent i → OfAll (is ++ i ∷ [])
+  last_is [] i h new = (new, tt)
+  last_is (j ∷ js) i h new = (h.0, last_is js i h.1 new)
+
+  pub filter_is : (test : Intent → Bool) (is : List Intent) → OfAll is → OfAll (filter test is)
+  filter_is test [] h = tt
+  filter_is test (i ∷ is) h = chosen OfAll (test i) (i ∷ filter test is) (filter test is) (h.0, filter_is test is h.1) (filter_is test is h.1)
+
+  module _ (f : Intent → Intent) (k : IntentKey) (up : (i : Intent) → has_key k i ≡ true → OfIntent i → OfIntent (f i)) where
+    changed_by : (i : Intent) (is : List Intent) (t : Bool) → has_key k i ≡ t → OfAll (i ∷ is) → OfAll (changed f is k) → OfAll (cond t (f i ∷ is) (i ∷ changed f is k))
+    changed_by i is true e h rest = (up i e h.0, h.1)
+    changed_by i is false e h rest = (h.0, rest)
+
+    pub changed_is : (is : List Intent) → OfAll is → OfAll (changed f is k)
+    changed_is [] h = tt
+    changed_is (i ∷ is) h = changed_by i is (has_key k i) refl h (changed_is is h.1)
+
+  aimed_one : (to : ℕ) (i : Intent) → OfIntent i → OfIntent (aimed_at to i)
+  aimed_one to (intent.Patch d e t) h = h
+  aimed_one to (intent.Bye f b p c) h = tt
+  aimed_one to (intent.Seek f t) h = tt
+  aimed_one to (intent.Fill f b t) h = tt
+  aimed_one to (intent.Confirm d c t) h = tt
+  aimed_one to (intent.Leave f p b) h = tt
+
+  pub aimed_is : (is : List Intent) (k : IntentKey) (to : ℕ) → OfAll is → OfAll (aimed is k to)
+  aimed_is is k to h = changed_is (aimed_at to) k (λ i e g. aimed_one to i g) is h
+
+  joined_patch : (d dir : FileId) (x e : Entry) → (is_same_file d dir && is_same_file e.child x.child) ≡ true → P x.child x.place → P e.child e.place → P x.child (newer_place x.place e.place)
+  joined_patch d dir x e same h new =
+      let at : e.child ≡ x.child = is_same_file-true e.child x.child (and_parts (is_same_file d dir) (is_same_file e.child x.child) same).1 in
+      newer_is x.child x.place e.place h (subst (λ (g : FileId). P g e.place) at new)
+
+  rejoined_one : (j i : Intent) → has_key (key_of j) i ≡ true → OfIntent i → OfIntent j → OfIntent (rejoined i j)
+  rejoined_one (intent.Patch d e t) (intent.Patch dir x target) same h new = joined_patch d dir x e same h new
+  rejoined_one (intent.Bye f b p c) (intent.Patch dir x target) same h new = h
+  rejoined_one (intent.Seek f t) (intent.Patch dir x target) same h new = h
+  rejoined_one (intent.Fill f b t) (intent.Patch dir x target) same h new = h
+  rejoined_one (intent.Confirm d c t) (intent.Patch dir x target) same h new = h
+  rejoined_one (intent.Leave f p b) (intent.Patch dir x target) same h new = h
+  rejoined_one j i same h new = h
+
+  pub begun_is : (is : List Intent) (i : Intent) → OfAll is → OfIntent i → OfAll (begun is i)
+  begun_is is i h new =
+      chosen OfAll (stands is (key_of i)) (changed (λ held. rejoined held i) is (key_of i)) (is ++ i ∷ [])
+      (changed_is (λ held. rejoined held i) (key_of i) (λ held e g. rejoined_one i held e g new) is h) (last_is is i h new)
 
 -- what may stand may stand by a weaker rule
-pub known_further : (P Q : FileId → Place → Type 0) → ((f : FileId) (p : Place) → P f p → Q f p) → (names : NamesValue) → AreKnown P names → AreKnown Q names
-known_further P Q up names k = record {
-  own = λ f o h. record { stands = up f o.place (k.own f o h).stands; first = (k.own f o h).first };
-  cells = λ d g e h. record { stands = up g e.place (k.cells d g e h).stands; first = (k.cells d g e h).first };
-}
+module _ (P Q : FileId → Place → Type 0) (up : (f : FileId) (p : Place) → P f p → Q f p) where
+  pub names_further : (s : NamesValue) → AreNames P s → AreNames Q s
+  names_further s k = record { own = λ f o h. up f o.place (k.own f o h); child = k.child; cells = λ d c e h. up c e.place (k.cells d c e h); top = k.top }
 
--- ---- what is held stays held
+  intent_further : (i : Intent) → OfIntent P i → OfIntent Q i
+  intent_further (intent.Patch d e t) h = up e.child e.place h
+  intent_further (intent.Bye f b p c) h = tt
+  intent_further (intent.Seek f t) h = tt
+  intent_further (intent.Fill f b t) h = tt
+  intent_further (intent.Confirm d c t) h = tt
+  intent_further (intent.Leave f p b) h = tt
 
-held_by : (st : State) (ds : List FileId) (f q : FileId) (o : Option Own) → own_at st.names f ≡ o → IsHeld st.names q → IsHeld (pass_own st ds f o).names q
-held_by st ds f q None e h = h
-held_by st ds f q (Some own) e h =
-    let top = greatest st.names f own ds in
-    let back = is_held_back st.names.removed f own top in
-    one_stays st.names (After st ds f own top back) f own (own_taken own top back)
-    (record { was = e; is = after_own st ds f own top back e; others = after_other st ds f own top back }) q h
-
-pub pass_held : (st : State) (ds : List FileId) (f q : FileId) → IsHeld st.names q → IsHeld (pass st ds f).names q
-pass_held st ds f q h = held_by st ds f q (own_at st.names f) refl h
-
-pub all_pass_held : (st : State) (ds fs : List FileId) (q : FileId) → IsHeld st.names q → IsHeld (pass_all st ds fs).names q
-all_pass_held st ds [] q h = h
-all_pass_held st ds (f ∷ fs) q h = all_pass_held (pass st ds f) ds fs q (pass_held st ds f q h)
+  pub intents_further : (is : List Intent) → OfAll P is → OfAll Q is
+  intents_further [] h = tt
+  intents_further (i ∷ is) h = (intent_further i h.0, intents_further is h.1)

@@ -1,8 +1,9 @@
+pub mod Origins
 pub mod Known
-pub mod Book
-pub mod HouseKnown
-pub mod StoreKnown
-pub mod MessagesKnown
-pub mod EffectsKnown
-pub mod WorldsKnown
+pub mod Fine
+pub mod Handled
+pub mod Called
+pub mod Behind
+pub mod Effects
+pub mod Worlds
 pub mod OnePlace

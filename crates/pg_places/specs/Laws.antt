@@ -1,36 +1,84 @@
--- What places and flags are known in a run: statements.
-use Rattle.std.specs.Prelude.{ℕ, ◌≡◌, ◌⊎◌, List, Some}
+-- What places are known in a run, and where they come from: statements.
+use Rattle.std.specs.Prelude.{ℕ, ◌≡◌, ◌⊎◌, false, List, Contains, Some}
 use Rattle.pg_base.specs.declared.id.FileId.{FileId}
+use Rattle.pg_base.specs.Id.{is_same_file}
+use Rattle.pg_entries.specs.declared.cell.Cell.{Cell}
+use Rattle.pg_entries.specs.declared.cell.Cell.TheVariants as cells
 use Rattle.pg_entries.specs.declared.entry.Entry.{Entry}
 use Rattle.pg_event.specs.declared.event.Event.{Event}
+use Rattle.pg_intent.specs.declared.intent.Intent.TheVariants as intent
+use Rattle.pg_intent.specs.declared.key.IntentKey.TheVariants as intent_key
+use Rattle.pg_intent.specs.Intents.{intent_at}
+use Rattle.pg_msg.specs.declared.message.Message.{Message}
+use Rattle.pg_msg.specs.declared.message.Message.TheVariants as message
+use Rattle.pg_msg.specs.declared.message.Sent.{Sent}
 use Rattle.pg_names.specs.declared.own.Own.{Own}
 use Rattle.pg_names.specs.Names.{NamesValue, cell_at, own_at}
-use Rattle.pg_register.specs.declared.flag.Flag.{Flag}
 use Rattle.pg_register.specs.declared.place.Place.{Place}
-use Rattle.pg_register.specs.Flag.{flag_of}
 use Rattle.pg_register.specs.Laws.{IsOnePlace}
-use Rattle.pg_store.specs.Start.{first_flag}
-use Rattle.pg_run.specs.Laws.{names_after}
+use Rattle.pg_register.specs.Place.{root}
+use Rattle.pg_store.specs.declared.store.Store.{Store}
+use Rattle.pg_run.specs.Journal.{mail}
+use Rattle.pg_run.specs.Known.{IsPlaceOf, WasMade}
+use Rattle.pg_run.specs.Run.{World, run}
+
+-- ---- which places are known
 
 -- a thing has this place at a server, or a directory has it in its cell for the thing
 abbrev pub KnowsPlace : NamesValue → FileId → Place → Type 0
 KnowsPlace names file place = ((own : Own) × (own_at names file ≡ Some own) × (own.place ≡ place))
     ⊎ ((dir : FileId) × (e : Entry) × (cell_at names dir file ≡ Some e) × (e.place ≡ place))
 
+-- a directory is to be told this place of the thing
+pub record OwesPlace (a : Store) (file : FileId) (place : Place) : Type 0 where
+  pub dir : FileId
+  pub entry : Entry
+  pub target : ℕ
+  pub owed : intent_at a.intents (intent_key.Patch dir file)
+      ≡ Some (intent.Patch dir entry target)
+  pub is : entry.place ≡ place
+
+abbrev pub cell_tells : FileId → Cell → FileId → Place → Type 0
+cell_tells of (cells.Place told) file place = (of ≡ file) × (told ≡ place)
+cell_tells of (cells.Entry e sure) file place = (e.child ≡ file) × (e.place ≡ place)
+cell_tells of _ file place = ⊥
+
+-- a message tells this place of the thing. The root is never granted
+abbrev pub tells : Message → FileId → Place → Type 0
+tells (message.Cell ends tag c) file place = cell_tells ends.file c file place
+tells (message.Grant ends granted) file place =
+    (ends.file ≡ file) × (is_same_file file root ≡ false) × (granted.place ≡ place)
+tells (message.Confirm dir e) file place = (e.child ≡ file) × (e.place ≡ place)
+tells (message.PlaceIs dir e) file place = (e.child ≡ file) × (e.place ≡ place)
+tells (message.Tell dir e) file place = (e.child ≡ file) × (e.place ≡ place)
+tells _ file place = ⊥
+
+-- some message that was ever sent does
+pub record WasSent (w : World) (file : FileId) (place : Place) : Type 0 where
+  pub sent : Sent
+  pub mailed : Contains (mail w.journal) sent
+  pub tells : tells sent.packet.message file place
+
+-- the place is known at some server, or is told
+abbrev pub IsKnown : World → FileId → Place → Type 0
+IsKnown w file place = ((s : ℕ) × KnowsPlace (w.stores s).names file place)
+    ⊎ (((s : ℕ) × OwesPlace (w.stores s) file place) ⊎ WasSent w file place)
+
+-- ---- where they come from
+
+-- PLACES COME FROM THE JOURNAL: each is one that was made, or the one that is known of a thing before
+-- any is made. None comes from nowhere
+abbrev pub PlacesWereMade : ℕ → Type 0
+PlacesWereMade servers = (events : List Event) (file : FileId) (place : Place)
+    → IsKnown (run servers events) file place → IsPlaceOf (run servers events) file place
+
+-- no two places that were made have one stamp, be it of two things
+abbrev pub OneMadePlaceAStamp : ℕ → Type 0
+OneMadePlaceAStamp servers = (events : List Event) (f g : FileId) (p q : Place)
+    → WasMade (run servers events).journal f p → WasMade (run servers events).journal g q
+    → p.stamp ≡ q.stamp → (f ≡ g) × (p ≡ q)
+
 -- ONE PLACE A STAMP: two places of a thing that are known anywhere with one stamp are one place
 abbrev pub OnePlaceAStamp : ℕ → Type 0
-OnePlaceAStamp servers = (events : List Event) (s t : ℕ) (file : FileId) (p q : Place)
-    → KnowsPlace (names_after servers events s) file p
-    → KnowsPlace (names_after servers events t) file q → IsOnePlace p q
-
--- a thing has this flag at a server, or a directory has it in its cell for the thing
-abbrev pub KnowsFlag : NamesValue → FileId → ℕ → Flag → Type 0
-KnowsFlag names file m flag =
-    ((own : Own) × (own_at names file ≡ Some own) × (flag_of own.flags m ≡ Some flag))
-    ⊎ ((dir : FileId) × (e : Entry) × (cell_at names dir file ≡ Some e)
-    × (flag_of e.flags m ≡ Some flag))
-
--- the flags of all things are those of first replicas: no flag is lowered or raised again yet
-abbrev pub FlagsAreFirst : ℕ → Type 0
-FlagsAreFirst servers = (events : List Event) (s m : ℕ) (file : FileId) (flag : Flag)
-    → KnowsFlag (names_after servers events s) file m flag → flag ≡ first_flag m
+OnePlaceAStamp servers = (events : List Event) (file : FileId) (p q : Place)
+    → IsKnown (run servers events) file p → IsKnown (run servers events) file q → IsOnePlace p q

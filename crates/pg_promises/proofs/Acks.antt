@@ -1,10 +1,8 @@
 -- An answer comes to a server.
-use Rattle.std.proofs.Common.{ℕ, ◌≡◌, ◌==◌, [], Option, None, Some, refl, sym, ap, subst, ◌∙◌}
+use Rattle.std.proofs.Common.{ℕ, ◌≡◌, ◌==◌, [], Option, None, Some, option_map, refl, sym, ap, subst, ◌∙◌}
 use Rattle.std.proofs.lemmas.Bool.{eqb-true, and_parts}
-use Rattle.std.specs.BTreeMap.{insert_entry}
 use mathlib.Core.Path.{fun_ext}
 use Rattle.pg_base.specs.declared.id.FileId.{FileId}
-use Rattle.pg_base.specs.Id.{file_cmp}
 use Rattle.pg_edges.specs.declared.key.Key.{Key}
 use Rattle.pg_edges.specs.Edges.{is_listed}
 use Rattle.pg_flood.specs.Promises.{Saying}
@@ -19,15 +17,14 @@ use Rattle.pg_msg.specs.declared.message.Ends.{Ends}
 use Rattle.pg_msg.specs.declared.message.Message.TheVariants as message
 use Rattle.pg_replica.specs.declared.replica.Replica.{Replica}
 use Rattle.pg_replica.specs.Replica.{has_edge, with_ack}
-use Rattle.pg_replica.specs.Replicas.{ByFile, or_new, replicas_acked}
+use Rattle.pg_replica.specs.Replicas.{ByFile, or_nothing, put_replica, replicas_acked}
 use Rattle.pg_store.specs.declared.store.Store.{Store}
-use Rattle.pg_store.specs.Cells.{cell_at}
-use Rattle.pg_store.specs.Store.{acknowledge, content_of, home_of, replica_at, replica_of}
+use Rattle.pg_store.specs.Store.{acknowledge, content_of, replica_at}
 use Rattle.pg_cells.specs.Done.{link_of}
 use Rattle.pg_promises.specs.Seen.{cells, saying, see, seen}
 use Rattle.pg_promises.proofs.Choices.{decided}
 use Rattle.pg_promises.proofs.Single.{SameSeen, same_steps}
-use Rattle.pg_promises.proofs.Stores.{Changes, by_file, cell_same, replica_elsewhere, replica_here, replica_same}
+use Rattle.pg_promises.proofs.Stores.{Changes, by_file, cell_same, plain_at, replica_elsewhere, replica_here}
 
 pub none_noted : (a b : Store) (heard : Saying Slot Cell) → NotesFrom cells a b heard
 none_noted a b heard x h = absurd h
@@ -38,7 +35,7 @@ pub record IsAcked (s : ℕ) (a : Store) (heard : Saying Slot Cell) (b : Store) 
   pub tags : HasSoundTags cells a → HasSoundTags cells b
 
 abbrev with_replicas : Store → ByFile → Store
-with_replicas a rs = record { servers = a.servers; tags = a.tags; files = a.files; names = a.names; replicas = rs }
+with_replicas a rs = record a { replicas = rs }
 
 -- ---- nothing comes of it
 
@@ -46,17 +43,10 @@ module _ (s : ℕ) (a : Store) (heard : Saying Slot Cell) where
   abbrev Same : Store
   Same = with_replicas a a.replicas
 
-  stays : (f : FileId) → replica_of Same f ≡ replica_of a f
-  stays f = replica_same a Same f refl refl refl
-
   same_seen : SameSeen a Same
   same_seen = record {
     tags = refl;
-    files = λ f. record {
-      birth = ap (λ (x : Replica). x.birth) (stays f);
-      edges = ap (λ (x : Replica). x.edges) (stays f);
-      cells = cell_same a Same f (record { own = refl; entries = λ g. refl; content = ap (λ (x : Replica). x.content) (stays f) });
-    };
+    files = λ f. record { replica = refl; cells = cell_same a Same f (record { own = refl; entries = λ g. refl; content = refl }) };
   }
 
   nothing_acked : IsAcked s a heard Same
@@ -66,46 +56,49 @@ module _ (s : ℕ) (a : Store) (heard : Saying Slot Cell) where
 
 -- ---- the edge is there
 
-module _ (s : ℕ) (a : Store) (file : FileId) (x : Replica) (there : replica_of a file ≡ x) (peer birth : ℕ) (k : Key) (g : ℕ) where
+module _ (s : ℕ) (a : Store) (file : FileId) (x : Replica) (there : replica_at a file ≡ Some x) (peer birth : ℕ) (k : Key) (g : ℕ) where
   abbrev Y : Replica
   Y = with_ack x peer birth k g
 
   abbrev Now : Store
-  Now = with_replicas a (insert_entry file_cmp a.replicas file Y)
+  Now = with_replicas a (put_replica a.replicas file Y)
 
-  ack_changes : Changes a Now file Y
-  ack_changes = record { server = refl; servers = refl; replicas = refl }
+  ack_changes : Changes a Now file x Y
+  ack_changes = record { old = there; replicas = refl }
 
   same_content : (f : FileId) → content_of Now f ≡ content_of a f
-  same_content = by_file (λ f y. y.content ≡ content_of a f) a Now file Y ack_changes (ap (λ (z : Replica). z.content) (sym there)) (λ f. refl)
+  same_content =
+      by_file (λ f o. (or_nothing o).content ≡ content_of a f) a Now file x Y ack_changes
+      (sym (ap (λ (o : Option Replica). (or_nothing o).content) there)) (λ f apart. refl)
 
-  same_cells : (f : FileId) → cell_at Now f ≡ cell_at a f
+  same_cells : (f : FileId) → plain_at Now f ≡ plain_at a f
   same_cells f = fun_ext (cell_same a Now f (record { own = refl; entries = λ h. refl; content = same_content f }))
 
   abbrev seen_with : Replica → (Key → Option Cell) → Seen Cell
   seen_with z cs = record { birth = z.birth; edges = z.edges; cells = cs }
 
-  seen_now : seen Now file ≡ seen_with (with_ack (replica_of a file) peer birth k g) (cell_at a file)
-  seen_now =
-      ap (λ (z : Replica). seen_with z (cell_at Now file)) (replica_here a Now file Y ack_changes)
-      ∙ ap (λ (z : Replica). seen_with (with_ack z peer birth k g) (cell_at Now file)) (sym there)
-      ∙ ap (λ cs. seen_with (with_ack (replica_of a file) peer birth k g) cs) (same_cells file)
+  seen_same : (f : FileId) (o : Option Replica) → option_map (seen Now f) o ≡ option_map (seen a f) o
+  seen_same f None = refl
+  seen_same f (Some z) = ap (λ cs. Some (seen_with z cs)) (same_cells f)
 
   others : OthersStay (see a) (see Now) file
-  others f apart =
-      ap (λ (z : Replica). Some (seen_with z (cell_at Now f))) (replica_elsewhere a Now file Y f ack_changes apart)
-      ∙ ap (λ cs. Some (seen_with (replica_of a f) cs)) (same_cells f)
+  others f apart = ap (option_map (seen Now f)) (replica_elsewhere a Now file x Y f ack_changes apart) ∙ seen_same f (replica_at a f)
 
-  answers : Answers cells a Now file (seen a file) peer birth k g
-  answers = record { old = refl; new = ap Some seen_now; others = others; tags = refl; over = λ f n c h. absurd h }
+  answers : Answers cells a Now file (seen a file x) peer birth k g
+  answers = record {
+    old = ap (option_map (seen a file)) there;
+    new = ap (option_map (seen Now file)) (replica_here a Now file x Y ack_changes) ∙ ap (λ cs. Some (seen_with Y cs)) (same_cells file);
+    others = others;
+    tags = refl;
+    over = λ f n c h. absurd h;
+  }
 
   edge_acked : (own : ℕ) → own ≡ x.birth → IsAcked s a (AckTo s (slot file own peer birth k) g) Now
   edge_acked own same =
       let P : ℕ → Type 0 = λ n. Rule cells s a Now (AckTo s (slot file n peer birth k) g) [] in
-      let birth_is : (replica_of a file).birth ≡ own = ap (λ (z : Replica). z.birth) there ∙ sym same in
       record {
-        rule = subst P birth_is (answer_rule cells s a Now file (seen a file) peer birth k g answers (none_noted a Now (AckTo s (slot file (replica_of a file).birth peer birth k) g)));
-        tags = answer_tags cells a Now file (seen a file) peer birth k g answers;
+        rule = subst P (sym same) (answer_rule cells s a Now file (seen a file x) peer birth k g answers (none_noted a Now (AckTo s (slot file x.birth peer birth k) g)));
+        tags = answer_tags cells a Now file (seen a file x) peer birth k g answers;
       }
 
 -- ---- either
@@ -118,7 +111,7 @@ module _ (s : ℕ) (a : Store) (from : ℕ) (ends : Ends) (k : Key) (g : ℕ) wh
   acked_by None e = nothing_acked s a Heard
   acked_by (Some x) e =
       decided (λ rs. IsAcked s a Heard (with_replicas a rs)) (has_edge x (link_of from ends)) _ _
-      (λ edge. edge_acked s a ends.file x (ap (or_new (home_of a)) e) from ends.sender k g ends.receiver
+      (λ edge. edge_acked s a ends.file x e from ends.sender k g ends.receiver
       (eqb-true ends.receiver x.birth (and_parts (ends.receiver == x.birth) (is_listed x.edges from ends.sender) edge).0))
       (λ none. nothing_acked s a Heard)
 

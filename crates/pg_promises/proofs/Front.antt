@@ -1,5 +1,5 @@
 -- What was touched before the house rules run stays in front, and makes no difference to them; nor does what was sent.
-use Rattle.std.proofs.Common.{ℕ, zero, suc, ◌≡◌, Bool, true, false, cond, not, List, [], ◌∷◌, ◌++◌, drop, length, Option, None, Some, refl, sym, ap, subst, ◌∙◌}
+use Rattle.std.proofs.Common.{ℕ, zero, suc, ◌≡◌, Bool, true, false, ◌&&◌, cond, not, List, [], ◌∷◌, ◌++◌, drop, length, Option, None, Some, refl, sym, ap, subst, ◌∙◌}
 use Rattle.std.proofs.lemmas.List.{append-nil, append_assoc}
 use Rattle.std.proofs.Math.Seq.{drop-append_seam}
 use Rattle.pg_base.specs.declared.id.FileId.{FileId}
@@ -11,22 +11,24 @@ use Rattle.pg_register.specs.Flag.{flag_of}
 use Rattle.pg_register.specs.Place.{root, tilde_name}
 use Rattle.pg_msg.specs.declared.message.Sent.{Sent}
 use Rattle.pg_msg.specs.declared.work.Touched.{Touched}
+use Rattle.pg_msg.specs.declared.update.Update.TheVariants as update
 use Rattle.pg_msg.specs.declared.work.Work.{Work}
+use Rattle.pg_msg.specs.Work.{with_left, with_made, with_touched}
 use Rattle.pg_names.specs.declared.own.Own.{Own}
 use Rattle.pg_names.specs.Names.{NamesValue, directories, own_at, set_entry, set_own}
 use Rattle.pg_names.specs.Same.{is_same_own, is_same_place}
-use Rattle.pg_house.specs.Work.{State, state_of, touched}
+use Rattle.pg_house.specs.Work.{State, is_root, note_left, place_touched, state_of, touched}
 use Rattle.pg_house.specs.Passing.{cell_for, flags_touched, gets, given, greatest, is_held_back, is_other_flag, offered, own_taken, own_touched, pass, pass_all, pass_own, spread, taking, took}
 use Rattle.pg_house.specs.Placing.{drawn, live_place, made_at, place_at, placed, repeated}
 use Rattle.pg_house.specs.Returning.{first_returning, return_first, returned}
 use Rattle.pg_house.specs.Cycles.{break_first, first_moving, moved}
-use Rattle.pg_house.specs.House.{house, movable, rules, with_parents}
+use Rattle.pg_house.specs.House.{house, movable}
 use Rattle.pg_house.specs.Facts.{IsTold}
 use Rattle.pg_house.proofs.Told.{told}
 use Rattle.pg_promises.specs.Names.{IsToldBy}
 
 abbrev pub with_lists : Work → List Sent → List Touched → Work
-with_lists w sent ts = record { now = w.now; from = w.from; made = w.made; sent = sent; touched = ts }
+with_lists w sent ts = record w { sent = sent; touched = ts }
 
 module _ (p : List Touched) (sent : List Sent) where
   -- these keys stand in front, and these messages are sent
@@ -42,6 +44,17 @@ module _ (p : List Touched) (sent : List Sent) where
   touched_by w f k true = ap (with_lists w sent) (append_assoc p w.touched (record { file = f; key = k } ∷ []))
   touched_by w f k false = refl
 
+  left_if : (t : Bool) (w : Work) (d f : FileId) → cond t (with_left (work_behind w) d f) (work_behind w) ≡ work_behind (cond t (with_left w d f) w)
+  left_if true w d f = refl
+  left_if false w d f = refl
+
+  left_behind : (w : Work) (f : FileId) (old : Place) → note_left (work_behind w) f old ≡ work_behind (note_left w f old)
+  left_behind w f old = left_if (old.live && not (is_root f)) w old.parent f
+
+  place_by : (w : Work) (f : FileId) (old : Place) (t : Bool) → place_touched (work_behind w) f old t ≡ work_behind (place_touched w f old t)
+  place_by w f old true = ap (λ v. note_left v f old) (touched_by w f key.Place true) ∙ left_behind (with_touched w f key.Place) f old
+  place_by w f old false = refl
+
   flags_behind : (w : Work) (f : FileId) (held gs : List Flag) → flags_touched (work_behind w) f held gs ≡ work_behind (flags_touched w f held gs)
   flags_behind w f held [] = refl
   flags_behind w f held (g ∷ gs) =
@@ -51,7 +64,7 @@ module _ (p : List Touched) (sent : List Sent) where
   own_behind : (w : Work) (f : FileId) (own taken : Own) → own_touched (work_behind w) f own taken ≡ work_behind (own_touched w f own taken)
   own_behind w f own taken =
       let t = not (is_same_place own.place taken.place) in
-      ap (λ v. flags_touched v f own.flags taken.flags) (touched_by w f key.Place t) ∙ flags_behind (touched w f key.Place t) f own.flags taken.flags
+      ap (λ v. flags_touched v f own.flags taken.flags) (place_by w f own.place t) ∙ flags_behind (place_touched w f own.place t) f own.flags taken.flags
 
   given_behind : (st : State) (f : FileId) (top : Own) (d : FileId) → given (behind st) f top d ≡ behind (given st f top d)
   given_behind st f top d = ap (state_of (set_entry st.names d (cell_for f top))) (touched_by st.work d (key.Entry f) true)
@@ -90,7 +103,10 @@ module _ (p : List Touched) (sent : List Sent) where
 
   made_behind : (st : State) (f : FileId) (place : Place) → made_at (behind st) f place ≡ behind (made_at st f place)
   made_behind st f place =
-      ap (λ ts. state_of (made_at st f place).names (with_lists (made_at st f place).work sent ts)) (append_assoc p st.work.touched (record { file = f; key = key.Place } ∷ []))
+      let work = with_made st.work (update.Place f place) in
+      let old = place_at st.names f in
+      ap (state_of (made_at st f place).names)
+      (ap (λ v. note_left v f old) (touched_by work f key.Place true) ∙ left_behind (with_touched work f key.Place) f old)
 
   placed_behind : (moment : ℕ) (ds : List FileId) (st : State) (f q : FileId) (name : List ℕ) → placed moment ds (behind st) f q name ≡ behind (placed moment ds st f q name)
   placed_behind moment ds st f q name =
@@ -109,17 +125,14 @@ module _ (p : List Touched) (sent : List Sent) where
   repeated_behind step each zero st = refl
   repeated_behind step each (suc n) st = ap (repeated n step) (each st) ∙ repeated_behind step each n (step st)
 
-  rules_behind : (moment : ℕ) (st : State) → rules moment (behind st) ≡ behind (rules moment st)
-  rules_behind moment st =
+  pub house_behind : (moment : ℕ) (st : State) → house moment (behind st) ≡ behind (house moment st)
+  house_behind moment st =
       let ds = directories st.names in
       let one = pass_all st ds (movable st.names) in
       let two = repeated (length ds) (return_first moment ds) one in
       ap (λ s. repeated (length ds) (break_first moment ds) (repeated (length ds) (return_first moment ds) s)) (all_behind st ds (movable st.names))
       ∙ ap (repeated (length ds) (break_first moment ds)) (repeated_behind (return_first moment ds) (λ t. returned_behind moment ds t (first_returning t.names ds)) (length ds) one)
       ∙ repeated_behind (break_first moment ds) (λ t. moved_behind moment ds t (first_moving t.names (length ds) None ds)) (length ds) two
-
-  pub house_behind : (moment : ℕ) (st : State) → house moment (behind st) ≡ behind (house moment st)
-  house_behind moment st = rules_behind moment (state_of (with_parents st.names) st.work)
 
 -- ---- what the rules touch tells of all that they change
 

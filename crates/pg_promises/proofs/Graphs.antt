@@ -1,31 +1,27 @@
--- On complete graphs: the edges of a replica, one to each other server.
-use Rattle.std.proofs.Common.{[], ℕ, zero, suc, ◌≡◌, ◌≢◌, ◌≤◌, ◌+◌, nat_eq, ◌==◌, Bool, true, false, not, cond, List, ◌∷◌, Option, None, Some, is_some, Less, Equal, Greater, refl, sym, ap, subst, ◌∙◌, inl, inr, arith, All}
+-- The edges of a replica: at most one to each other server, by number.
+use Rattle.std.proofs.Common.{[], ℕ, zero, suc, ◌≡◌, ◌≢◌, ◌≤◌, ◌+◌, nat_eq, ◌==◌, Bool, true, false, not, cond, List, ◌∷◌, Some, Less, Equal, Greater, refl, sym, ap, subst, ◌∙◌, inl, inr, arith, All}
 use Rattle.std.specs.Ordering.{nat_cmp, match_ordering}
 use Rattle.std.specs.List.{filter}
 use Rattle.std.specs.List.Sorted.{IsStrictlySortedBy}
 use Rattle.std.specs.Option.{option_eq}
 use Rattle.std.specs.Map.{keys_of}
 use Rattle.std.specs.BTreeMap.{insert_entry}
-use Rattle.std.proofs.lemmas.Bool.{eq-eqb}
 use Rattle.std.proofs.lemmas.Bool.Decides.{eqb_tells}
-use Rattle.std.proofs.lemmas.List.Elements.{All-nil, All-cons, All-head, All-tail, All-weaker, All-map}
+use Rattle.std.proofs.lemmas.List.Elements.{All-nil, All-cons, All-filter, All-head, All-tail, All-weaker, All-map}
 use Rattle.std.proofs.lemmas.List.Kept.{IsStrictlySortedBy-filter}
 use Rattle.pg_base.proofs.Entries.{IsStrictlySortedBy-insert_entry}
 use Rattle.pg_edges.specs.declared.edge.Edge.{Edge}
 use Rattle.pg_edges.specs.declared.key.Key.{Key}
 use Rattle.pg_edges.specs.Key.{key_cmp, is_same_key}
-use Rattle.pg_edges.specs.Keys.{without as off}
-use Rattle.pg_edges.specs.Edges.{keys_if_born, keys_at, is_listed, tag_at, put_edge, touched, take_off, retired, taken_off, acked, peers, AscendFrom}
-use Rattle.pg_edges.proofs.Lookups.{puts, touch_listed}
+use Rattle.pg_edges.specs.Keys.{touch_each, without as off}
+use Rattle.pg_edges.specs.Edges.{acked, is_listed, linked, makes_edge, new_edge, peers, put_edge, retired, tag_at, take_off, taken_off, touched, unlinked, without_edge, AscendFrom}
 use Rattle.pg_edges.proofs.Orders.{key_total}
-use Rattle.pg_edges.proofs.Lists.{ascend-same, ascend-put_edge}
+use Rattle.pg_edges.proofs.Lists.{ascend-filter, ascend-same, ascend-put_edge}
 use Rattle.pg_edges.proofs.Edits.{peers-retired, peers-touched}
 use Rattle.pg_flood.specs.Laws.{IsClean}
-use Rattle.pg_flood.proofs.Retire.{retired_listed}
-use Rattle.pg_flood.proofs.Answer.{acked_listed}
 use Rattle.pg_replica.specs.Replica.{without_keys}
-use Rattle.pg_replica.specs.Untouched.{clean_edge, clean_edges}
-use Rattle.pg_promises.specs.Whole.{AreEdges, IsEdge}
+use Rattle.pg_replica.specs.Root.{clean_edge, clean_edges}
+use Rattle.pg_promises.specs.Whole.{AreEdges, IsEdge, IsOther}
 use Rattle.pg_promises.proofs.Choices.{chosen}
 
 -- ---- edges
@@ -33,13 +29,7 @@ use Rattle.pg_promises.proofs.Choices.{chosen}
 -- the same edge with other keys
 with_keys : (n s : ℕ) (e : Edge) (ks : List (Key × ℕ)) → IsEdge n s e
     → IsStrictlySortedBy key_cmp (keys_of ks) → IsEdge n s (record e { keys = ks })
-with_keys n s e ks k h = record {
-  least = k.least;
-  most = k.most;
-  apart = k.apart;
-  birth = k.birth;
-  sorted = h;
-}
+with_keys n s e ks k h = record { other = k.other; sorted = h }
 
 choice_off : (k : Key × ℕ) (p : Key → Bool) (ks : List (Key × ℕ)) (t : Bool)
     → keys_of (filter (λ (e : Key × ℕ). p e.0) ks) ≡ filter p (keys_of ks)
@@ -69,7 +59,6 @@ edges_retired n s es k h = record {
       (All-weaker (IsEdge n s) (λ e. IsEdge n s (take_off k e))
       (λ e i. with_keys n s e (off e.keys k) i (sorted_off e.keys k i.sorted)) es h.each);
   order = ascend-same 0 (peers es) (peers (retired es k)) (peers-retired es k) h.order;
-  listed = λ peer l m apart. retired_listed es k peer 1 ∙ h.listed peer l m apart;
 }
 
 pub edges_without : (n s : ℕ) (es : List Edge) (ks : List Key) → AreEdges n s es
@@ -93,7 +82,6 @@ pub edges_touched : (n s : ℕ) (k : Key) (es : List Edge) (t : ℕ) → AreEdge
 edges_touched n s k es t h = record {
   each = all_touched n s k es t h.each;
   order = ascend-same 0 (peers es) (peers (touched es k t)) (peers-touched es k t) h.order;
-  listed = λ peer l m apart. touch_listed es k t peer 1 ∙ h.listed peer l m apart;
 }
 
 same_peer : (e : Edge) (k : Key) (t : Bool) → (cond t (take_off k e) e).peer ≡ e.peer
@@ -127,7 +115,6 @@ edges_acked n s es peer birth k g h = record {
       (taken_off es peer k) es (all_taken_off n s es peer k h.each) h.each;
   order = ascend-same 0 (peers es) (peers (acked es peer birth k g))
       (peers-acked es peer k (option_eq nat_eq (tag_at es peer birth k) (Some g))) h.order;
-  listed = λ p l m apart. acked_listed es peer birth k g p 1 ∙ h.listed p l m apart;
 }
 
 -- ---- the start
@@ -168,15 +155,11 @@ clean_all P n s (suc k) one le =
 pub clean_each : (n s : ℕ) → All (IsEdge n s) (clean_edges s n)
 clean_each n s = clean_all (IsEdge n s) n s n
     (λ peer least most apart. record {
-      least = least;
-      most = most;
-      apart = apart;
-      birth =
-          refl;
+      other = record { least = least; most = most; apart = apart };
       sorted = no_keys_sorted;
     }) (omega arith)
 
--- the edges of a replica that nobody has touched
+-- no key is on them
 pub new_clean : (n s : ℕ) → IsClean (clean_edges s n)
 new_clean n s = clean_all (λ (e : Edge). e.keys ≡ []) n s n (λ peer least most apart. refl)
     (omega arith)
@@ -189,29 +172,42 @@ clean_order s (suc k) =
     (clean_order s k) (ascend-put_edge 0 (clean_edges s k) (clean_edge (suc k)) (clean_order s k)
     (omega arith))
 
-listed_one : (es : List Edge) (e : Edge) (p : ℕ) (t : Bool) → (p == e.peer) ≡ t → e.birth ≡ 1
-    → (p ≢ e.peer → is_listed es p 1 ≡ true) → is_listed (put_edge es e) p 1 ≡ true
-listed_one es e p true same birth rest =
-    ap (λ (o : Option (List (Key × ℕ))). is_some o) (puts es e p 1)
-    ∙ ap (λ c. is_some (cond c (keys_if_born (Some e) 1) (keys_at es p 1))) same
-    ∙ ap (λ c. is_some (cond c (Some e.keys) None)) (eq-eqb e.birth 1 birth)
-listed_one es e p false apart birth rest =
-    ap (λ (o : Option (List (Key × ℕ))). is_some o) (puts es e p 1)
-    ∙ ap (λ c. is_some (cond c (keys_if_born (Some e) 1) (keys_at es p 1))) apart
-    ∙ rest (λ q. let w : (p == e.peer) ≡ true = eq-eqb p e.peer q in let z : false ≡ true = cc in
-    cc)
+-- the edges of the first replica of the root
+pub clean_are : (n s : ℕ) → AreEdges n s (clean_edges s n)
+clean_are n s = record { each = clean_each n s; order = clean_order s n }
 
-pub clean_listed : (s k peer : ℕ) → 1 ≤ peer → peer ≤ k → peer ≢ s
-    → is_listed (clean_edges s k) peer 1 ≡ true
-clean_listed s zero peer least most apart = absurd (omega arith)
-clean_listed s (suc k) peer least most apart =
-    let before : peer ≢ suc k → is_listed (clean_edges s k) peer 1 ≡ true =
-    (λ other. clean_listed s k peer least (omega arith) apart) in
-    let P : Bool → Type 0 =
-    (λ t. is_listed (cond t (clean_edges s k) (put_edge (clean_edges s k) (clean_edge (suc k))))
-    peer 1 ≡ true) in
-    elim (eqb_tells (suc k) s) [
-      | inl e ↦ subst P (sym e.0) (before (λ q. apart (q ∙ e.1)))
-      | inr e ↦ subst P (sym e.0)
-          (listed_one (clean_edges s k) (clean_edge (suc k)) peer (peer == suc k) refl refl before)
-    ]
+-- ---- no edge, an edge that is made, and one that goes
+
+pub no_edges : (n s : ℕ) → AreEdges n s []
+no_edges n s = record { each = All-nil (IsEdge n s); order = tt }
+
+-- keys are put one after another
+sorted_puts : (ks : List Key) (t : ℕ) (es : List (Key × ℕ)) → IsStrictlySortedBy key_cmp (keys_of es)
+    → IsStrictlySortedBy key_cmp (keys_of (touch_each es ks t))
+sorted_puts [] t es h = h
+sorted_puts (k ∷ ks) t es h =
+    sorted_puts ks (t + 1) (insert_entry key_cmp es k t)
+    (IsStrictlySortedBy-insert_entry key_cmp key_total k t es h)
+
+linked_by : (n s : ℕ) (es : List Edge) (peer birth : ℕ) (ks : List Key) (t : ℕ) (made : Bool) → IsOther n s peer
+    → AreEdges n s es → AreEdges n s (cond made (put_edge es (new_edge peer birth ks t)) es)
+linked_by n s es peer birth ks t false other h = h
+linked_by n s es peer birth ks t true other h = record {
+  each = All-put_edge (IsEdge n s) es (new_edge peer birth ks t) h.each
+      (record { other = other; sorted = sorted_puts ks t [] no_keys_sorted });
+  order = ascend-put_edge 0 es (new_edge peer birth ks t) h.order (omega arith);
+}
+
+pub edges_linked : (n s : ℕ) (es : List Edge) (peer birth : ℕ) (ks : List Key) (t : ℕ) → IsOther n s peer → AreEdges n s es
+    → AreEdges n s (linked es peer birth ks t)
+edges_linked n s es peer birth ks t other h = linked_by n s es peer birth ks t (makes_edge es peer birth) other h
+
+unlinked_by : (n s : ℕ) (es : List Edge) (peer : ℕ) (listed : Bool) → AreEdges n s es → AreEdges n s (cond listed (without_edge es peer) es)
+unlinked_by n s es peer false h = h
+unlinked_by n s es peer true h = record {
+  each = All-filter (λ e. not (e.peer == peer)) (IsEdge n s) es h.each;
+  order = ascend-filter 0 (λ e. not (e.peer == peer)) es h.order;
+}
+
+pub edges_unlinked : (n s : ℕ) (es : List Edge) (peer birth : ℕ) → AreEdges n s es → AreEdges n s (unlinked es peer birth)
+edges_unlinked n s es peer birth h = unlinked_by n s es peer (is_listed es peer birth) h

@@ -7,10 +7,9 @@ use Rattle.pg_base.proofs.Orders.{UpTo-refl, UpTo-trans, is_same_file-true}
 use Rattle.pg_edges.specs.declared.key.Key.TheVariants as key
 use Rattle.pg_entries.specs.declared.entry.Entry.{Entry}
 use Rattle.pg_house.specs.Facts.{IsIn}
-use Rattle.pg_house.proofs.Growing.{grown_own, hold_grows}
 use Rattle.pg_msg.specs.declared.work.Touched.{Touched}
 use Rattle.pg_names.specs.declared.own.Own.{Own}
-use Rattle.pg_names.specs.Names.{NamesValue, cell_at, hold, join_entry, join_flag, join_place, or_blank, own_at, own_or_blank}
+use Rattle.pg_names.specs.Names.{NamesValue, cell_at, join_entry, join_flag, join_place, or_blank, own_at, own_or_blank}
 use Rattle.pg_names.proofs.Lookups.{flag_cell, flag_other, flag_same, joined_other_child, joined_other_dir, joined_own, joined_same, own_with_flag, own_with_place, place_cell, place_other, place_same}
 use Rattle.pg_register.specs.declared.flag.Flag.{Flag}
 use Rattle.pg_register.specs.declared.place.Place.{Place}
@@ -75,10 +74,6 @@ same_told ts s t k = record {
   flags = λ f n. inl (ap (λ (o : Own). flag_of o.flags n) (k.own f));
   entries = λ d g. inl (k.entries d g);
 }
-
--- one thing more is held
-pub hold_same : (s : NamesValue) (f : FileId) → SameNames s (hold s f)
-hold_same s f = let m = hold_grows s f in record { own = grown_own s (hold s f) m; entries = m.cells }
 
 -- ---- the own place and flags of one thing change
 

@@ -8,12 +8,17 @@ pub mod Growth
 pub mod Taking
 pub mod Single
 pub mod Versions
-pub mod Policies
+pub mod LawsOf
 pub mod Acks
 pub mod Graphs
 pub mod Found
 pub mod Orderly
+pub mod Together
 pub mod Whole
+pub mod AllKeys
+pub mod Linking
+pub mod Beginning
+pub mod WholeBeginning
 pub mod Sending
 pub mod Front
 pub mod Rules
@@ -21,3 +26,4 @@ pub mod Settling
 pub mod Events
 pub mod Start
 pub mod Worlds
+pub mod Grown

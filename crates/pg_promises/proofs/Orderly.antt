@@ -1,5 +1,5 @@
 -- What the house rules ask of names stays so, whatever comes.
-use Rattle.std.proofs.Common.{ℕ, ◌≡◌, ◌≤◌, max, Bool, true, false, Option, None, Some, refl, sym, ap, subst, ◌∙◌, inl, inr, arith}
+use Rattle.std.proofs.Common.{ℕ, ◌≡◌, ◌≤◌, max, Bool, true, false, cond, Option, None, Some, refl, sym, ap, subst, ◌∙◌, inl, inr, arith}
 use Rattle.std.proofs.lemmas.Option.{same_Some}
 use Rattle.pg_base.specs.declared.id.FileId.{FileId}
 use Rattle.pg_base.specs.Id.{is_same_file}
@@ -8,9 +8,9 @@ use Rattle.pg_base.proofs.Orders.{is_same_file-true}
 use Rattle.pg_entries.specs.declared.entry.Entry.{Entry}
 use Rattle.pg_entries.specs.Entry.{joined_to}
 use Rattle.pg_house.specs.Facts.{IsLast}
-use Rattle.pg_house.proofs.Growing.{grown_by_server, grown_dirs, grown_last, hold_grows}
 use Rattle.pg_names.specs.declared.own.Own.{Own}
-use Rattle.pg_names.specs.Names.{NamesValue, cell_at, hold, is_dir, join_entry, join_flag, join_place, own_at, raise, with_flag, with_joined, with_place}
+use Rattle.pg_names.specs.Names.{NamesValue, begin, cell_at, fill, filled, is_dir, known, new_held, own_of, join_entry, join_flag, join_place, own_at, raise, with_flag, with_joined, with_place}
+use Rattle.pg_names.proofs.Holding.{begun_cells, begun_known, fill_cells, fill_own}
 use Rattle.pg_names.proofs.Lookups.{flag_cell, joined_own, joined_same, own_with_flag, own_with_place, place_cell, update_frame}
 use Rattle.pg_register.specs.declared.flag.Flag.{Flag}
 use Rattle.pg_register.specs.declared.place.Place.{Place}
@@ -20,16 +20,12 @@ use Rattle.pg_register.proofs.ByServer.{IsByServer-join_flag}
 use Rattle.pg_promises.specs.Whole.{AreByChild, AreOrderly}
 use Rattle.pg_promises.proofs.Choices.{chosen}
 use Rattle.pg_promises.proofs.Growth.{OneOwn, entry_at_one, flag_one, place_one}
-use Rattle.pg_names.proofs.Holding.{hold_cells}
 
 -- ---- entries stand at their children
 
 -- where no entry changes
 pub same_children : (s t : NamesValue) → ((d g : FileId) → cell_at t d g ≡ cell_at s d g) → AreByChild s → AreByChild t
 same_children s t same own d g e h = own d g e (sym (same d g) ∙ h)
-
-pub held_children : (s : NamesValue) (f : FileId) → AreByChild s → AreByChild (hold s f)
-held_children s f own = same_children s (hold s f) (λ d g. hold_cells s f d g) own
 
 joined_child : (o : Option Entry) (e : Entry) → ((held : Entry) → o ≡ Some held → held.child ≡ e.child) → (joined_to o e).child ≡ e.child
 joined_child None e same = refl
@@ -76,13 +72,6 @@ own_cases P s t f b c k here there q o false e h = there q o (sym (k.others q e)
 
 by_cases : (P : Own → Type 0) (s t : NamesValue) (f : FileId) (b c : Own) → OneOwn s t f b c → P c → ((q : FileId) (o : Own) → own_at s q ≡ Some o → P o) → (q : FileId) (o : Own) → own_at t q ≡ Some o → P o
 by_cases P s t f b c k here there q o h = own_cases P s t f b c k here there q o (is_same_file f q) refl h
-
--- ---- one thing more is held
-
-pub orderly_held : (s : NamesValue) (f : FileId) → AreOrderly s → AreOrderly (hold s f)
-orderly_held s f k =
-    let g = hold_grows s f in
-    record { dirs = grown_dirs s (hold s f) g k.dirs; sorted = grown_by_server s (hold s f) g k.sorted; last = grown_last s (hold s f) g k.last; children = held_children s f k.children }
 
 -- ---- a place or a flag comes
 
@@ -166,3 +155,51 @@ module _ (s : NamesValue) (d : FileId) (b : Own) (held : own_at s d ≡ Some b) 
 -- a stamp is taken
 pub orderly_raised : (s : NamesValue) (time : ℕ) → AreOrderly s → AreOrderly (raise s time)
 orderly_raised s time k = record { dirs = k.dirs; sorted = k.sorted; last = raised_last s time (more (max s.last time) s (first_most s.last time) k.last); children = k.children }
+
+-- ---- a thing begins that was not held
+
+module _ (s : NamesValue) (f : FileId) (own : Own) (full : Bool) (none : known s f ≡ None) (flags : IsByServer own.flags) (k : AreOrderly s) where
+  abbrev Begun : NamesValue
+  Begun = begin s f own full
+
+  old_cell : (d g : FileId) (c : Entry) → cell_at Begun d g ≡ Some c → cell_at s d g ≡ Some c
+  old_cell d g c h = sym (begun_cells s f own full none d g) ∙ h
+
+  own_by_test : (P : Own → Type 0) → P own → ((q : FileId) (o : Own) → own_at s q ≡ Some o → P o) → (q : FileId) (o : Own) (t : Bool)
+      → own_of (cond t (Some (new_held own full)) (known s q)) ≡ Some o → P o
+  own_by_test P here there q o true h = subst P (same_Some own o h) here
+  own_by_test P here there q o false h = there q o h
+
+  begun_own : (P : Own → Type 0) → P own → ((q : FileId) (o : Own) → own_at s q ≡ Some o → P o) → (q : FileId) (o : Own) → own_at Begun q ≡ Some o → P o
+  begun_own P here there q o h = own_by_test P here there q o (is_same_file q f) (sym (ap own_of (begun_known s f own full q)) ∙ h)
+
+  pub orderly_begun : AreOrderly (raise Begun own.place.stamp.time)
+  orderly_begun =
+      let n = max Begun.last own.place.stamp.time in
+      let old : AreUpTo n s = more n s (first_most Begun.last own.place.stamp.time) k.last in
+      let up : AreUpTo n Begun = record {
+        own = begun_own (λ o. o.place.stamp.time ≤ n) (second_most Begun.last own.place.stamp.time) old.own;
+        cells = λ d g c h. old.cells d g c (old_cell d g c h);
+      } in
+      record {
+        dirs = λ d g c h. k.dirs d g c (old_cell d g c h);
+        sorted = begun_own (λ o. IsByServer o.flags) flags k.sorted;
+        last = raised_last Begun own.place.stamp.time up;
+        children = λ d g c h. k.children d g c (old_cell d g c h);
+      }
+
+-- a thing is full
+pub orderly_filled : (s : NamesValue) (f : FileId) → AreOrderly s → AreOrderly (fill s f)
+orderly_filled s f k =
+    let frame = update_frame s f filled in
+    let P : ℕ → Type 0 = λ m. (q : FileId) (o : Own) → own_at (fill s f) q ≡ Some o → o.place.stamp.time ≤ m in
+    let Q : ℕ → Type 0 = λ m. (d g : FileId) (c : Entry) → cell_at (fill s f) d g ≡ Some c → c.place.stamp.time ≤ m in
+    record {
+      dirs = λ d g c h. k.dirs d g c (sym (fill_cells s f d g) ∙ h);
+      sorted = λ q o h. k.sorted q o (sym (fill_own s f q) ∙ h);
+      last = record {
+        own = subst P (sym frame.last) (λ q o h. k.last.own q o (sym (fill_own s f q) ∙ h));
+        cells = subst Q (sym frame.last) (λ d g c h. k.last.cells d g c (sym (fill_cells s f d g) ∙ h));
+      };
+      children = λ d g c h. k.children d g c (sym (fill_cells s f d g) ∙ h);
+    }

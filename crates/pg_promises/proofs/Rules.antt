@@ -14,14 +14,12 @@ use Rattle.pg_entries.specs.declared.entry.Entry.{Entry}
 use Rattle.pg_names.specs.declared.own.Own.{Own}
 use Rattle.pg_names.specs.Names.{NamesValue, cell_at, directories, known, own_at, with_last, with_own}
 use Rattle.pg_names.proofs.Lookups.{own_cell, own_other, own_same, update_frame}
-use Rattle.pg_store.proofs.Stays.{hold_server}
-use Rattle.pg_house.specs.Work.{State, state_of}
+use Rattle.pg_house.specs.Work.{State}
 use Rattle.pg_house.specs.Passing.{cell_for, greatest, is_cell, is_held_back, joined_with, own_taken, pass, pass_all, pass_own}
-use Rattle.pg_house.specs.Parents.{hold_parent, hold_parents, parent_held, takes}
 use Rattle.pg_house.specs.Placing.{drawn, flags_of, live_place, made_at, own_with, place_at, placed}
 use Rattle.pg_house.specs.Returning.{first_returning, is_returning, return_first, returned}
 use Rattle.pg_house.specs.Cycles.{break_first, first_moving, moved}
-use Rattle.pg_house.specs.House.{house, movable, rules, with_parents}
+use Rattle.pg_house.specs.House.{house, movable}
 use Rattle.pg_house.specs.Facts.{AreByServer, IsHeld, IsLast, IsOfDirs, is_among}
 use Rattle.pg_house.proofs.AfterPassing.{After, AreDirs, after_all, after_child, after_frame, after_gives, after_other, after_own}
 use Rattle.pg_house.proofs.AllClimb.{IsDeep, member_deep, moving_member}
@@ -29,7 +27,6 @@ use Rattle.pg_house.proofs.AllReturned.{returning_by}
 use Rattle.pg_house.proofs.Counting.{find_found}
 use Rattle.pg_house.proofs.Ends.{first_dirs, one_last, one_settled}
 use Rattle.pg_house.proofs.Greatest.{cell_held}
-use Rattle.pg_house.proofs.Growing.{grown_by_server, grown_dirs, grown_last, grown_own, grows}
 use Rattle.pg_house.proofs.NoCycles.{inner_parts, some_dirs}
 use Rattle.pg_house.proofs.Passes.{one_pass}
 use Rattle.pg_house.proofs.Placed.{Settled, made_dirs, placed_is_last, placed_settled}
@@ -40,7 +37,7 @@ use Rattle.pg_promises.specs.Names.{AreNamesUpTo, IsEntryKnownBy}
 use Rattle.pg_promises.specs.UpTo.{AreFlagsUpTo, IsPlaceUpTo}
 use Rattle.pg_promises.specs.Whole.{AreByChild}
 use Rattle.pg_promises.proofs.Flags.{flags_joined, flags_there, newer_of_both}
-use Rattle.pg_promises.proofs.Growth.{OneOwn, SameNames, SameNames-refl, entry_known_itself, names_further, one_own_grows, same_grow}
+use Rattle.pg_promises.proofs.Growth.{OneOwn, SameNames-refl, entry_known_itself, names_further, one_own_grows, same_grow}
 use Rattle.pg_promises.proofs.UpTo.{flags_further, flags_themselves}
 use Rattle.pg_promises.proofs.Orderly.{same_children}
 
@@ -248,31 +245,11 @@ module _ (moment : ℕ) (ds : List FileId) (s : NamesValue) (st : State) (k : St
             place_stands d root (tilde_name d) (inner_parts st.names d deep.0).held
       ]
 
-rules_keep : (moment : ℕ) (st : State) → IsOfDirs st.names → AreByServer st.names → IsLast st.names → AreByChild st.names → Keeps st.names (rules moment st).names
-rules_keep moment st of_dirs sorted last child =
+-- THE HOUSE RULES
+pub house_keeps : (moment : ℕ) (st : State) → IsOfDirs st.names → AreByServer st.names → IsLast st.names → AreByChild st.names → Keeps st.names (house moment st).names
+house_keeps moment st of_dirs sorted last child =
     let ds = directories st.names in
     let one = pass_all st ds (movable st.names) in
     let start : Stands ds st.names one = (one_settled moment st of_dirs sorted, one_last moment st of_dirs sorted last, all_keep st ds (movable st.names) (first_dirs moment st of_dirs sorted) child) in
     (repeated_keeps (Stands ds st.names) (break_first moment ds) (λ t q. move_stands moment ds st.names t q (first_moving t.names (length ds) None ds) refl) (length ds) _
     (repeated_keeps (Stands ds st.names) (return_first moment ds) (λ t q. return_stands moment ds st.names t q (first_returning t.names ds) refl) (length ds) one start)).2
-
--- ---- the parents are held first
-
-parent_server : (s : NamesValue) (ds : List FileId) (f : FileId) (o : Option Own) → (parent_held s ds f o).server ≡ s.server
-parent_server s ds f None = refl
-parent_server s ds f (Some own) = hold_server s (takes s ds f own).place.parent
-
-pub parents_server : (s : NamesValue) (ds fs : List FileId) → (hold_parents s ds fs).server ≡ s.server
-parents_server s ds [] = refl
-parents_server s ds (f ∷ fs) = parents_server (hold_parent s ds f) ds fs ∙ parent_server s ds f (own_at s f)
-
--- THE HOUSE RULES
-pub house_keeps : (moment : ℕ) (st : State) → IsOfDirs st.names → AreByServer st.names → IsLast st.names → AreByChild st.names → Keeps st.names (house moment st).names
-house_keeps moment st of_dirs sorted last child =
-    let more = with_parents st.names in
-    let g = grows st.names in
-    let same : SameNames st.names more = record { own = grown_own st.names more g; entries = g.cells } in
-    let own = same_children st.names more g.cells child in
-    keeps_further st.names more (house moment st).names
-    (record { server = parents_server st.names (directories st.names) (movable st.names); grow = same_grow st.names more same; child = own })
-    (rules_keep moment (state_of more st.work) (grown_dirs st.names more g of_dirs) (grown_by_server st.names more g sorted) (grown_last st.names more g last) own)

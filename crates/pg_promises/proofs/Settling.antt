@@ -1,54 +1,40 @@
 -- The house rules at the end of an event.
-use Rattle.std.proofs.Common.{ℕ, ◌≡◌, List, drop, length, refl, sym, ap, subst}
+use Rattle.std.proofs.Common.{ℕ, ◌≡◌, List, drop, length, refl, sym, subst}
 use Rattle.pg_base.specs.declared.id.FileId.{FileId}
-use Rattle.pg_edges.specs.declared.key.Key.{Key}
 use Rattle.pg_flood.proofs.Steps.{Steps}
 use Rattle.pg_msg.specs.declared.work.Touched.{Touched}
 use Rattle.pg_msg.specs.declared.work.Work.{Work}
-use Rattle.pg_names.specs.Names.{NamesValue, hold}
+use Rattle.pg_names.specs.Names.{NamesValue, is_held}
 use Rattle.pg_house.specs.House.{house}
-use Rattle.pg_house.proofs.Behind.{still_by_server, still_last, still_of_dirs}
+use Rattle.pg_house.proofs.Ends as ends
+use Rattle.pg_house.proofs.Keys.{rules_keys}
 use Rattle.pg_house.specs.Work.{state_of}
 use Rattle.pg_store.specs.declared.store.Store.{Store}
-use Rattle.pg_replica.specs.declared.replica.Replica.{Replica}
-use Rattle.pg_store.specs.Cells.{cell_at}
 use Rattle.pg_store.specs.Store.{with_names}
-use Rattle.pg_store.proofs.Stays.{hold_server}
 use Rattle.pg_cells.specs.Settling.{settle, touch_all}
 use Rattle.pg_promises.specs.Seen.{cells}
 use Rattle.pg_promises.specs.Whole.{AreOrderly, IsWhole}
-use Rattle.pg_promises.proofs.Growth.{SameNames-refl, hold_same}
-use Rattle.pg_promises.proofs.Stores.{cell_same, replica_same}
+use Rattle.pg_promises.proofs.Growth.{SameNames-refl}
 use Rattle.pg_promises.proofs.Front.{house_sent, house_told}
 use Rattle.pg_promises.proofs.Rules.{Keeps, house_keeps}
 use Rattle.pg_promises.proofs.Taking.{Grew, Took, grew_same, took_steps}
 use Rattle.pg_promises.proofs.Touching.{all_touched, same_names, touched_before, touched_behind}
+use Rattle.pg_promises.proofs.Together.{held_by_keys}
 use Rattle.pg_promises.proofs.Whole.{whole_names, whole_touches}
-
--- where one thing more is held, every cell is as it was
-pub held_cells : (a : Store) (file f : FileId) (q : Key) → cell_at (with_names a (hold a.names file)) f q ≡ cell_at a f q
-held_cells a file f q =
-    let b = with_names a (hold a.names file) in
-    let same = hold_same a.names file in
-    cell_same a b f (record { own = same.own f; entries = same.entries f; content = ap (λ (x : Replica). x.content) (replica_same a b f (hold_server a.names file) refl refl) }) q
 
 -- names grew, and the keys that tell of it are touched after that
 pub took_all : (a : Store) (names : NamesValue) (ts : List Touched) → Grew ts a.names names → Took ts a (touch_all (with_names a names) ts)
 took_all a names ts g =
     let P : NamesValue → Type 0 = λ n. Grew ts a.names n in
     record {
-      touched = touched_behind ts a (touch_all (with_names a names) ts) names g.server (all_touched (with_names a names) ts);
+      touched = touched_behind ts a (touch_all (with_names a names) ts) names (all_touched (with_names a names) ts);
       names = subst P (sym (same_names (with_names a names) ts)) g;
     }
 
 -- names grew, and the keys that tell of it were touched before that
 pub took_before : (a : Store) (names : NamesValue) (ts : List Touched) → Grew ts a.names names → Took ts a (with_names (touch_all a ts) names)
 took_before a names ts g =
-    let P : NamesValue → Type 0 = λ n. names.server ≡ n.server in
-    record {
-      touched = touched_before ts a (touch_all a ts) names (subst P (sym (same_names a ts)) g.server) (all_touched a ts);
-      names = g;
-    }
+    record { touched = touched_before ts a (touch_all a ts) names (all_touched a ts); names = g }
 
 -- keys are touched, and nothing else is done
 pub touches_steps : (a : Store) (ts : List Touched) → Steps cells a (touch_all a ts)
@@ -71,9 +57,9 @@ module _ (n s : ℕ) (a : Store) (work : Work) (k : IsWhole n s a) where
 
   behind_orderly : AreOrderly Behind
   behind_orderly = record {
-    dirs = still_of_dirs work.now (state_of a.names work) k.names.dirs k.names.sorted;
-    sorted = still_by_server work.now (state_of a.names work) k.names.dirs k.names.sorted;
-    last = still_last work.now (state_of a.names work) k.names.dirs k.names.sorted k.names.last;
+    dirs = ends.is_of_dirs work.now (state_of a.names work) k.names.dirs k.names.sorted;
+    sorted = ends.by_server work.now (state_of a.names work) k.names.dirs k.names.sorted;
+    last = ends.is_last work.now (state_of a.names work) k.names.dirs k.names.sorted k.names.last;
     children = kept.child;
   }
 
@@ -85,5 +71,9 @@ module _ (n s : ℕ) (a : Store) (work : Work) (k : IsWhole n s a) where
   pub settle_sent : (settle a work).work.sent ≡ work.sent
   settle_sent = house_sent work.now a.names work
 
+  -- and hold just what was held
+  held_same : (f : FileId) → is_held Behind f ≡ is_held a.names f
+  held_same f = held_by_keys Behind a.names f (rules_keys work.now (state_of a.names work))
+
   pub whole_settle : IsWhole n s (settle a work).store
-  whole_settle = whole_touches n s (with_names a Behind) Keys (whole_names n s a Behind k kept.server behind_orderly)
+  whole_settle = whole_touches n s (with_names a Behind) Keys (whole_names n s a k Behind kept.server behind_orderly held_same)

@@ -1,61 +1,73 @@
 -- One replica of a server changes, or none that is seen.
-use Rattle.std.proofs.Common.{◌≡◌, ◌≤◌, Bool, true, false, None, Some, refl, sym, ap, subst, ◌∙◌, inl, inr, arith}
+use Rattle.std.proofs.Common.{◌≡◌, ◌≤◌, Bool, true, false, Option, None, Some, option_map, refl, sym, ap, subst, ◌∙◌, inl, inr, arith}
 use Rattle.pg_base.specs.declared.id.FileId.{FileId}
 use Rattle.pg_base.specs.Id.{is_same_file}
 use Rattle.pg_base.proofs.Orders.{is_same_file-true}
 use Rattle.pg_edges.specs.declared.key.Key.{Key}
-use Rattle.pg_edges.specs.Edges.{is_listed, tag_at}
-use Rattle.pg_flood.specs.Server.{HoldsAll}
-use Rattle.pg_flood.proofs.Bulk.{Goes, bulk_steps}
+use Rattle.pg_flood.specs.Server.{Slot, HoldsAll, tag_on}
+use Rattle.pg_flood.proofs.Bulk.{Goes, GoesIf, bulk_steps}
 use Rattle.pg_flood.proofs.Draws.{Draws}
 use Rattle.pg_flood.proofs.Steps.{Steps, fewer_tags}
 use Rattle.pg_replica.specs.declared.replica.Replica.{Replica}
 use Rattle.pg_store.specs.declared.store.Store.{Store}
-use Rattle.pg_store.specs.Cells.{cell_at}
-use Rattle.pg_store.specs.Store.{replica_of}
+use Rattle.pg_store.specs.Store.{replica_at}
 use Rattle.pg_promises.specs.Seen.{cells, seen}
 use Rattle.pg_promises.specs.UpTo.{IsUpTo}
 use Rattle.pg_promises.proofs.Growth.{SameNames}
-use Rattle.pg_promises.proofs.Stores.{Changes, bare_seen, cell_same, from_bare, replica_elsewhere, replica_here, tags_drawn, to_bare}
+use Rattle.pg_promises.proofs.Stores.{Changes, bare_seen, cell_same, content_same, from_bare, plain_at, replica_elsewhere, replica_here, tags_drawn, to_bare}
 use Rattle.pg_promises.proofs.UpTo.{cell_itself, is_sound}
 
--- of this file two servers show the same
-pub record SameAt (a b : Store) (f : FileId) : Type 0 where
-  pub birth : (replica_of b f).birth ≡ (replica_of a f).birth
-  pub edges : (replica_of b f).edges ≡ (replica_of a f).edges
-  pub cells : (q : Key) → cell_at b f q ≡ cell_at a f q
+-- ---- nothing that is seen changes
 
-same_goes : (a b : Store) (f : FileId) → SameAt a b f → Goes cells a.tags b.tags (seen a f) (seen b f)
-same_goes a b f k = record {
-  birth = k.birth;
-  brings = λ p n q g h. inl (sym (ap (λ es. tag_at es p n q) k.edges) ∙ h);
-  slots = λ p n q c listed cell. inr (sym (ap (λ es. is_listed es p n) k.edges) ∙ listed, sym (k.cells q) ∙ cell, ap (λ es. tag_at es p n q) k.edges);
-  holds = λ q c is. record { key = q; cell = c; is = k.cells q ∙ is; upto = cell_itself c };
+-- of this file two servers show the same: the same replica, or none; and the same cells
+pub record SameAt (a b : Store) (f : FileId) : Type 0 where
+  pub replica : replica_at b f ≡ replica_at a f
+  pub cells : (q : Key) → plain_at b f q ≡ plain_at a f q
+
+same_goes : (a b : Store) (f : FileId) (x : Replica) → ((q : Key) → plain_at b f q ≡ plain_at a f q) → Goes cells a.tags b.tags (seen a f x) (seen b f x)
+same_goes a b f x same = record {
+  birth = refl;
+  brings = λ p n q g h. inl h;
+  slots = λ p n q c listed cell. inr (listed, sym (same q) ∙ cell, refl);
+  holds = λ q c is. record { key = q; cell = c; is = same q ∙ is; upto = cell_itself c };
 }
 
--- ---- nothing that is seen changes
+same_if : (a b : Store) (f : FileId) (o : Option Replica) → ((q : Key) → plain_at b f q ≡ plain_at a f q)
+    → GoesIf cells a.tags b.tags (option_map (seen a f) o) (option_map (seen b f) o)
+same_if a b f None same = tt
+same_if a b f (Some x) same = same_goes a b f x same
+
+pub goes_same : (a b : Store) (f : FileId) → SameAt a b f → GoesIf cells a.tags b.tags ((cells.see a).replicas f) ((cells.see b).replicas f)
+goes_same a b f k =
+    let P : Option Replica → Type 0 = λ o. GoesIf cells a.tags b.tags (option_map (seen a f) (replica_at a f)) (option_map (seen b f) o) in
+    subst P (sym k.replica) (same_if a b f (replica_at a f) k.cells)
 
 pub record SameSeen (a b : Store) : Type 0 where
   pub tags : b.tags ≡ a.tags
   pub files : (f : FileId) → SameAt a b f
+
+tag_same : (a b : Store) (q : Slot) (o : Option Replica) → tag_on (option_map (seen b q.file) o) q ≡ tag_on (option_map (seen a q.file) o) q
+tag_same a b q None = refl
+tag_same a b q (Some x) = refl
 
 pub same_steps : (a b : Store) → SameSeen a b → Steps cells a b
 same_steps a b k =
     let up : a.tags ≤ b.tags = (let e = k.tags in omega arith) in
     bulk_steps cells is_sound a b (record {
       up = up;
-      files = λ f. same_goes a b f (k.files f);
-      single = λ s. (fewer_tags cells a b up (λ q g h. sym (ap (λ es. tag_at es q.peer q.birth q.key) (k.files q.file).edges) ∙ h) s).single;
+      files = λ f. goes_same a b f (k.files f);
+      single = λ s. (fewer_tags cells a b up
+          (λ q g h. sym (tag_same a b q (replica_at a q.file)) ∙ sym (ap (λ (o : Option Replica). tag_on (option_map (seen b q.file) o) q) (k.files q.file).replica) ∙ h) s).single;
       over = λ f n c h. absurd h;
     })
 
 -- ---- one replica changes
 
-draws_goes : (a b : Store) (f : FileId) → Draws a.tags (seen a f) b.tags (seen b f) → HoldsAll IsUpTo (cell_at a f) (cell_at b f) → Goes cells a.tags b.tags (seen a f) (seen b f)
-draws_goes a b f d holds = record { birth = d.birth; brings = d.brings; slots = d.slots; holds = holds }
+draws_goes : (a b : Store) (f : FileId) (x y : Replica) → Draws a.tags (seen a f x) b.tags (seen b f y) → HoldsAll IsUpTo (plain_at a f) (plain_at b f) → Goes cells a.tags b.tags (seen a f x) (seen b f y)
+draws_goes a b f x y d holds = record { birth = d.birth; brings = d.brings; slots = d.slots; holds = holds }
 
-bare_draws : (a b : Store) (f : FileId) → Draws a.tags (seen a f) b.tags (seen b f) → Draws a.tags (bare_seen (replica_of a f)) b.tags (bare_seen (replica_of b f))
-bare_draws a b f d = record {
+bare_draws : (a b : Store) (f : FileId) (x y : Replica) → Draws a.tags (seen a f x) b.tags (seen b f y) → Draws a.tags (bare_seen x) b.tags (bare_seen y)
+bare_draws a b f x y d = record {
   birth = d.birth;
   up = d.up;
   brings = d.brings;
@@ -63,29 +75,35 @@ bare_draws a b f d = record {
   slots = λ p n q c listed cell. absurd (let z : None ≡ Some c = cell in cc);
 }
 
-module _ (a b : Store) (file : FileId) (x : Replica) (k : Changes a b file x) (names : SameNames a.names b.names)
-    (d : Draws a.tags (seen a file) b.tags (seen b file)) (holds : HoldsAll IsUpTo (cell_at a file) (cell_at b file)) where
-  same_elsewhere : (f : FileId) → is_same_file f file ≡ false → SameAt a b f
-  same_elsewhere f apart =
-      let same : replica_of b f ≡ replica_of a f = replica_elsewhere a b file x f k apart in
-      record {
-        birth = ap (λ (y : Replica). y.birth) same;
-        edges = ap (λ (y : Replica). y.edges) same;
-        cells = cell_same a b f (record { own = names.own f; entries = names.entries f; content = ap (λ (y : Replica). y.content) same });
-      }
+-- the cells of all other files are as they were
+module _ (a b : Store) (file : FileId) (x y : Replica) (k : Changes a b file x y) (names : SameNames a.names b.names)
+    (draws : Draws a.tags (seen a file x) b.tags (seen b file y)) (holds : HoldsAll IsUpTo (plain_at a file) (plain_at b file)) where
+  abbrev GoesAt : FileId → Option Replica → Type 0
+  GoesAt f o = GoesIf cells a.tags b.tags (option_map (seen a f) (replica_at a f)) (option_map (seen b f) o)
 
-  goes_by : (f : FileId) (t : Bool) → is_same_file f file ≡ t → Goes cells a.tags b.tags (seen a f) (seen b f)
-  goes_by f true e = let P : FileId → Type 0 = λ g. Goes cells a.tags b.tags (seen a g) (seen b g) in subst P (sym (is_same_file-true f file e)) (draws_goes a b file d holds)
-  goes_by f false e = same_goes a b f (same_elsewhere f e)
+  goes_here : GoesAt file (Some y)
+  goes_here =
+      let P : Option Replica → Type 0 = λ o. GoesIf cells a.tags b.tags (option_map (seen a file) o) (Some (seen b file y)) in
+      subst P (sym k.old) (draws_goes a b file x y draws holds)
 
-  -- ONE REPLICA CHANGES, and holds no less than before
+  goes_at : (f : FileId) → GoesAt f (replica_at b f)
+  goes_at f = at (is_same_file f file) refl
+    where
+      at : (t : Bool) → is_same_file f file ≡ t → GoesAt f (replica_at b f)
+      at true e =
+          let Q : FileId → Type 0 = λ g. GoesAt g (replica_at b g) in
+          subst Q (sym (is_same_file-true f file e)) (subst (GoesAt file) (sym (replica_here a b file x y k)) goes_here)
+      at false e =
+          let same = replica_elsewhere a b file x y f k e in
+          goes_same a b f (record {
+            replica = same;
+            cells = cell_same a b f (record { own = names.own f; entries = names.entries f; content = content_same a b f same });
+          })
+
   pub one_steps : Steps cells a b
-  one_steps =
-      let P : Replica → Type 0 = λ y. Draws a.tags (bare_seen (replica_of a file)) b.tags (bare_seen y) in
-      let bare = subst P (replica_here a b file x k) (bare_draws a b file d) in
-      bulk_steps cells is_sound a b (record {
-        up = d.up;
-        files = λ f. goes_by f (is_same_file f file) refl;
-        single = λ s. (from_bare b (tags_drawn a b file x k bare (to_bare a s))).single;
-        over = λ f n c h. absurd h;
-      })
+  one_steps = bulk_steps cells is_sound a b (record {
+    up = draws.up;
+    files = goes_at;
+    single = λ s. (from_bare b (tags_drawn a b file x y k (bare_draws a b file x y draws) (to_bare a s))).single;
+    over = λ f n c h. absurd h;
+  })

@@ -1,5 +1,5 @@
--- A place, a flag or an entry comes to a server: what edges promise is kept, and what came is held.
-use Rattle.std.proofs.Common.{ℕ, ◌≡◌, Bool, true, false, List, [], ◌∷◌, Option, None, Some, refl, sym, ap, subst, ◌∙◌}
+-- A place, a flag or an entry comes to a thing that is held: what edges promise is kept, and what came is held.
+use Rattle.std.proofs.Common.{ℕ, ◌≡◌, Bool, false, List, [], ◌∷◌, Option, None, Some, refl, sym, ap, subst, ◌∙◌}
 use Rattle.std.proofs.lemmas.Option.{none-some}
 use Rattle.pg_base.specs.declared.id.FileId.{FileId}
 use Rattle.pg_base.specs.Stamp.{is_before}
@@ -14,8 +14,7 @@ use Rattle.pg_entries.specs.declared.entry.Entry.{Entry}
 use Rattle.pg_entries.specs.Entry.{brings, joined_to}
 use Rattle.pg_msg.specs.declared.work.Touched.{Touched}
 use Rattle.pg_names.specs.declared.own.Own.{Own}
-use Rattle.pg_names.specs.Names.{HeldValue, NamesValue, cell_at as entry_at, entry_in, hold, is_entry_new, is_flag_new, is_place_new, join_entry, join_flag, join_place, known, or_blank, own_at, own_of, own_or_blank, raise}
-use Rattle.pg_names.proofs.Holding.{hold_cells, hold_held, hold_stays}
+use Rattle.pg_names.specs.Names.{HeldValue, NamesValue, cell_at as entry_at, entry_in, is_entry_new, is_flag_new, is_place_new, join_entry, join_flag, join_place, known, or_blank, own_at, own_of, own_or_blank, raise}
 use Rattle.pg_names.proofs.Lookups.{flag_same, joined_same, own_with_flag, own_with_place, place_same, update_frame}
 use Rattle.pg_names.specs.Names.{with_flag, with_joined, with_place}
 use Rattle.pg_register.specs.declared.flag.Flag.{Flag}
@@ -23,16 +22,15 @@ use Rattle.pg_register.specs.declared.place.Place.{Place}
 use Rattle.pg_register.specs.Flag as flags
 use Rattle.pg_register.specs.Flag.{flag_of}
 use Rattle.pg_store.specs.declared.store.Store.{Store}
-use Rattle.pg_store.specs.Cells.{cell_at, entry_cell, flag_cell}
-use Rattle.pg_store.specs.Store.{holding_both, is_newer_entry, is_newer_flag, is_newer_place, take_entry, take_flag, take_place, touch, with_names}
-use Rattle.pg_store.proofs.Stays.{hold_server}
+use Rattle.pg_store.specs.Cells.{cell_at, entry_cell, flag_cell, is_sure}
+use Rattle.pg_store.specs.Store.{is_newer_entry, is_newer_flag, is_newer_place, put_entry, put_flag, put_place, take_entry, take_flag, take_place, touch, with_names}
 use Rattle.pg_promises.specs.Names.{AreNamesUpTo, IsEntryKnownBy, IsToldBy}
 use Rattle.pg_promises.specs.Seen.{cells}
 use Rattle.pg_promises.specs.UpTo.{IsFlagKnownBy, IsPlaceUpTo, IsUpTo}
 use Rattle.pg_promises.specs.Whole.{AreByChild}
 use Rattle.pg_promises.proofs.Choices.{decided}
 use Rattle.pg_promises.proofs.Flags.{flag_there, known_there, newer_of_both, old_entry, old_known, server_of}
-use Rattle.pg_promises.proofs.Growth.{SameNames, entry_grows, entry_told, flag_grows, flag_told, hold_same, names_further, place_grows, place_told, same_grow, same_told, told_further}
+use Rattle.pg_promises.proofs.Growth.{SameNames, entry_grows, entry_told, flag_grows, flag_told, names_further, place_grows, place_told, same_grow, same_told, told_further}
 use Rattle.pg_promises.proofs.Touching.{IsTouchedBy, none_touched, one_touched, touched_behind, touched_steps}
 
 -- ---- names, and the keys that tell of their change
@@ -49,9 +47,6 @@ grew_same ts s t server k = record { server = server; grow = same_grow s t k; to
 pub grew_further : (ts : List Touched) (s t u : NamesValue) → Grew ts s t → Grew ts t u → Grew ts s u
 grew_further ts s t u a b = record { server = b.server ∙ a.server; grow = names_further s t u a.grow b.grow; told = told_further ts s t u a.told b.told }
 
-pub grew_held : (ts : List Touched) (s : NamesValue) (f : FileId) → Grew ts s (hold s f)
-grew_held ts s f = grew_same ts s (hold s f) (hold_server s f) (hold_same s f)
-
 pub grew_raised : (ts : List Touched) (s : NamesValue) (time : ℕ) → Grew ts s (raise s time)
 grew_raised ts s time = grew_same ts s (raise s time) refl (record { own = λ f. refl; entries = λ d g. refl })
 
@@ -67,13 +62,20 @@ took_steps ts a b k = touched_steps ts a b k.touched k.names.told k.names.grow
 
 -- none had to be
 pub took_none : (a : Store) (names : NamesValue) → Grew [] a.names names → Took [] a (with_names a names)
-took_none a names k = record { touched = none_touched a (with_names a names) refl k.server refl refl; names = k }
+took_none a names k = record { touched = none_touched a (with_names a names) refl (λ f. refl); names = k }
+
+-- nothing was done
+pub took_nothing : (a : Store) → Took [] a a
+took_nothing a = record {
+  touched = none_touched a a refl (λ f. refl);
+  names = grew_same [] a.names a.names refl (record { own = λ f. refl; entries = λ d g. refl });
+}
 
 -- one
 pub took_one : (a : Store) (names : NamesValue) (f : FileId) (k : Key) → Grew (record { file = f; key = k } ∷ []) a.names names
     → Took (record { file = f; key = k } ∷ []) a (touch (with_names a names) f k)
 took_one a names f k g = record {
-  touched = touched_behind (record { file = f; key = k } ∷ []) a (touch (with_names a names) f k) names g.server (one_touched (with_names a names) f k);
+  touched = touched_behind (record { file = f; key = k } ∷ []) a (touch (with_names a names) f k) names (one_touched (with_names a names) f k);
   names = g;
 }
 
@@ -93,26 +95,22 @@ flag_held b f flag (Some g) is h = record { key = key.Flag flag.server; cell = c
 
 entry_held : (b : Store) (d : FileId) (e : Entry) (sure : Bool) (o : Option Entry) → entry_at b.names d e.child ≡ o → IsEntryKnownBy (Some e) o → Holds IsUpTo (cell_at b d) (cell.Entry e sure)
 entry_held b d e sure None is h = absurd h
-entry_held b d e sure (Some g) is h = record { key = key.Entry e.child; cell = cell.Entry g true; is = ap entry_cell is; upto = h }
+entry_held b d e sure (Some g) is h = record {
+  key = key.Entry e.child;
+  cell = cell.Entry g (is_sure b d e.child);
+  is = ap (λ (o : Option Entry). entry_cell o (is_sure b d e.child)) is;
+  upto = h;
+}
 
 -- ---- a place
 
-module _ (a : Store) (file : FileId) where
-  abbrev Held : NamesValue
-  Held = hold a.names file
-
-  abbrev Mine : Own
-  Mine = (hold_held a.names file).0
-
-  held_own : own_at Held file ≡ Some Mine
-  held_own = (hold_held a.names file).1
-
-  mine_is : own_or_blank Held file ≡ Mine
+module _ (a : Store) (file : FileId) (mine : Own) (held_own : own_at a.names file ≡ Some mine) where
+  mine_is : own_or_blank a.names file ≡ mine
   mine_is = ap (or_blank file) held_own
 
   module _ (place : Place) where
     abbrev Placed : NamesValue
-    Placed = join_place Held file place
+    Placed = join_place a.names file place
 
     abbrev place_keys : List Touched
     place_keys = record { file = file; key = key.Place } ∷ []
@@ -120,30 +118,33 @@ module _ (a : Store) (file : FileId) where
     placed_grew : Grew place_keys a.names (raise Placed place.stamp.time)
     placed_grew =
         grew_further place_keys a.names Placed (raise Placed place.stamp.time)
-        (grew_further place_keys a.names Held Placed (grew_held place_keys a.names file)
-        (record { server = (update_frame Held file (with_place place)).server; grow = place_grows Held file Mine held_own place; told = place_told Held file Mine held_own place }))
+        (record {
+          server = (update_frame a.names file (with_place place)).server;
+          grow = place_grows a.names file mine held_own place;
+          told = place_told a.names file mine held_own place;
+        })
         (grew_raised place_keys Placed place.stamp.time)
 
-    placed_is : own_or_blank (raise Placed place.stamp.time) file ≡ own_with_place place Mine
-    placed_is = ap (or_blank file) (place_same Held file place Mine held_own)
+    placed_is : own_or_blank (raise Placed place.stamp.time) file ≡ own_with_place place mine
+    placed_is = ap (or_blank file) (place_same a.names file place mine held_own)
 
-    place_new : Takes a (touch (with_names a (raise Placed place.stamp.time)) file key.Place) file (cell.Place place)
+    place_new : Takes a (put_place a file place) file (cell.Place place)
     place_new = record {
       keys = place_keys;
       took = took_one a (raise Placed place.stamp.time) file key.Place placed_grew;
       holds =
           let P : Own → Type 0 = λ o. IsPlaceUpTo place o.place in
-          place_held (touch (with_names a (raise Placed place.stamp.time)) file key.Place) file place (subst P (sym placed_is) (newer_of_both Mine.place place).1);
+          place_held (put_place a file place) file place (subst P (sym placed_is) (newer_of_both mine.place place).1);
     }
 
-    place_old : is_newer_place a file place ≡ false → Takes a (with_names a Held) file (cell.Place place)
+    place_old : is_newer_place a file place ≡ false → Takes a a file (cell.Place place)
     place_old old = record {
       keys = [];
-      took = took_none a Held (grew_held [] a.names file);
+      took = took_nothing a;
       holds =
           let P : Own → Type 0 = λ o. IsPlaceUpTo place o.place in
-          let before : is_before Mine.place.stamp place.stamp ≡ false = ap (λ o. is_place_new o place) (sym held_own) ∙ old in
-          place_held (with_names a Held) file place (subst P (sym mine_is) (is_before-false Mine.place.stamp place.stamp before));
+          let before : is_before mine.place.stamp place.stamp ≡ false = ap (λ o. is_place_new o place) (sym held_own) ∙ old in
+          place_held a file place (subst P (sym mine_is) (is_before-false mine.place.stamp place.stamp before));
     }
 
     -- A PLACE IS TAKEN
@@ -154,35 +155,37 @@ module _ (a : Store) (file : FileId) where
 
   module _ (flag : Flag) where
     abbrev Flagged : NamesValue
-    Flagged = join_flag Held file flag
+    Flagged = join_flag a.names file flag
 
     abbrev flag_keys : List Touched
     flag_keys = record { file = file; key = key.Flag flag.server } ∷ []
 
     flagged_grew : Grew flag_keys a.names Flagged
-    flagged_grew =
-        grew_further flag_keys a.names Held Flagged (grew_held flag_keys a.names file)
-        (record { server = (update_frame Held file (with_flag flag)).server; grow = flag_grows Held file Mine held_own flag; told = flag_told Held file Mine held_own flag })
+    flagged_grew = record {
+      server = (update_frame a.names file (with_flag flag)).server;
+      grow = flag_grows a.names file mine held_own flag;
+      told = flag_told a.names file mine held_own flag;
+    }
 
-    flagged_is : own_or_blank Flagged file ≡ own_with_flag flag Mine
-    flagged_is = ap (or_blank file) (flag_same Held file flag Mine held_own)
+    flagged_is : own_or_blank Flagged file ≡ own_with_flag flag mine
+    flagged_is = ap (or_blank file) (flag_same a.names file flag mine held_own)
 
-    flag_new : Takes a (touch (with_names a Flagged) file (key.Flag flag.server)) file (cell.Flag flag)
+    flag_new : Takes a (put_flag a file flag) file (cell.Flag flag)
     flag_new = record {
       keys = flag_keys;
       took = took_one a Flagged file (key.Flag flag.server) flagged_grew;
-      holds = flag_held (touch (with_names a Flagged) file (key.Flag flag.server)) file flag (flag_of (flags.join_flag Mine.flags flag) flag.server)
-          (ap (λ (o : Own). flag_of o.flags flag.server) flagged_is) (flag_there Mine.flags flag);
+      holds = flag_held (put_flag a file flag) file flag (flag_of (flags.join_flag mine.flags flag) flag.server)
+          (ap (λ (o : Own). flag_of o.flags flag.server) flagged_is) (flag_there mine.flags flag);
     }
 
-    flag_old : is_newer_flag a file flag ≡ false → Takes a (with_names a Held) file (cell.Flag flag)
+    flag_old : is_newer_flag a file flag ≡ false → Takes a a file (cell.Flag flag)
     flag_old old = record {
       keys = [];
-      took = took_none a Held (grew_held [] a.names file);
+      took = took_nothing a;
       holds =
-          let before : flags.is_new (flag_of Mine.flags flag.server) flag ≡ false = ap (λ o. is_flag_new o flag) (sym held_own) ∙ old in
-          flag_held (with_names a Held) file flag (flag_of Mine.flags flag.server) (ap (λ (o : Own). flag_of o.flags flag.server) mine_is)
-          (old_known (flag_of Mine.flags flag.server) flag (λ f h. server_of Mine.flags flag.server f h) before);
+          let before : flags.is_new (flag_of mine.flags flag.server) flag ≡ false = ap (λ o. is_flag_new o flag) (sym held_own) ∙ old in
+          flag_held a file flag (flag_of mine.flags flag.server) (ap (λ (o : Own). flag_of o.flags flag.server) mine_is)
+          (old_known (flag_of mine.flags flag.server) flag (λ f h. server_of mine.flags flag.server f h) before);
     }
 
     -- A FLAG IS TAKEN
@@ -195,24 +198,12 @@ new_by : (o : Option HeldValue) (b : Own) (e : Entry) → own_of o ≡ Some b �
 new_by None b e h = absurd (none-some b h)
 new_by (Some x) b e h = refl
 
-module _ (a : Store) (dir : FileId) (e : Entry) (sure : Bool) (own : AreByChild a.names) where
-  abbrev Both : NamesValue
-  Both = holding_both a.names dir e.child
-
-  abbrev First : Own
-  First = (hold_held a.names dir).0
-
-  first_own : own_at Both dir ≡ Some First
-  first_own = hold_stays (hold a.names dir) e.child dir First (hold_held a.names dir).1
-
-  both_grew : (ts : List Touched) → Grew ts a.names Both
-  both_grew ts = grew_further ts a.names (hold a.names dir) Both (grew_held ts a.names dir) (grew_held ts (hold a.names dir) e.child)
-
-  same_child : (held : Entry) → entry_at Both dir e.child ≡ Some held → held.child ≡ e.child
-  same_child held h = own dir e.child held (sym (hold_cells (hold a.names dir) e.child dir e.child ∙ hold_cells a.names dir dir e.child) ∙ h)
+module _ (a : Store) (dir : FileId) (first : Own) (first_own : own_at a.names dir ≡ Some first) (e : Entry) (sure : Bool) (own : AreByChild a.names) where
+  same_child : (held : Entry) → entry_at a.names dir e.child ≡ Some held → held.child ≡ e.child
+  same_child held h = own dir e.child held h
 
   abbrev Joined : NamesValue
-  Joined = join_entry Both dir e
+  Joined = join_entry a.names dir e
 
   abbrev entry_keys : List Touched
   entry_keys = record { file = dir; key = key.Entry e.child } ∷ []
@@ -223,24 +214,27 @@ module _ (a : Store) (dir : FileId) (e : Entry) (sure : Bool) (own : AreByChild 
   joined_grew : Grew entry_keys a.names Raised
   joined_grew =
       grew_further entry_keys a.names Joined Raised
-      (grew_further entry_keys a.names Both Joined (both_grew entry_keys)
-      (record { server = (update_frame Both dir (with_joined e)).server; grow = entry_grows Both dir First first_own e; told = entry_told Both dir First first_own e }))
+      (record {
+        server = (update_frame a.names dir (with_joined e)).server;
+        grow = entry_grows a.names dir first first_own e;
+        told = entry_told a.names dir first first_own e;
+      })
       (grew_raised entry_keys Joined e.place.stamp.time)
 
-  entry_new : Takes a (touch (with_names a Raised) dir (key.Entry e.child)) dir (cell.Entry e sure)
+  entry_new : Takes a (put_entry a dir e) dir (cell.Entry e sure)
   entry_new = record {
     keys = entry_keys;
     took = took_one a Raised dir (key.Entry e.child) joined_grew;
-    holds = entry_held (touch (with_names a Raised) dir (key.Entry e.child)) dir e sure (Some (joined_to (entry_at Both dir e.child) e))
-        (joined_same Both dir First e first_own) (known_there (entry_at Both dir e.child) e same_child);
+    holds = entry_held (put_entry a dir e) dir e sure (Some (joined_to (entry_at a.names dir e.child) e))
+        (joined_same a.names dir first e first_own) (known_there (entry_at a.names dir e.child) e same_child);
   }
 
-  entry_old : is_newer_entry a dir e ≡ false → Takes a (with_names a Both) dir (cell.Entry e sure)
+  entry_old : is_newer_entry a dir e ≡ false → Takes a a dir (cell.Entry e sure)
   entry_old old = record {
     keys = [];
-    took = took_none a Both (both_grew []);
-    holds = entry_held (with_names a Both) dir e sure (entry_at Both dir e.child) refl
-        (old_entry (entry_at Both dir e.child) e same_child (sym (new_by (known Both dir) First e first_own) ∙ old));
+    took = took_nothing a;
+    holds = entry_held a dir e sure (entry_at a.names dir e.child) refl
+        (old_entry (entry_at a.names dir e.child) e same_child (sym (new_by (known a.names dir) first e first_own) ∙ old));
   }
 
   -- AN ENTRY IS TAKEN

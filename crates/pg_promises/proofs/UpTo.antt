@@ -58,37 +58,37 @@ pub cell_itself : (c : Cell) → IsUpTo c c
 cell_itself (cell.Place a) = UpTo-refl a.stamp
 cell_itself (cell.Flag a) = flag_itself a
 cell_itself (cell.Entry a sure) = entry_itself a
-cell_itself (cell.Version a policy) = upto_itself a.head.vector
+cell_itself (cell.Version a) = upto_itself a.head.vector
 
 pub cell_further : (a b c : Cell) → IsUpTo a b → IsUpTo b c → IsUpTo a c
 cell_further (cell.Place a) (cell.Place b) (cell.Place c) h k = UpTo-trans a.stamp b.stamp c.stamp h k
 cell_further (cell.Flag a) (cell.Flag b) (cell.Flag c) h k = flag_further a b c h k
 cell_further (cell.Entry a s) (cell.Entry b t) (cell.Entry c u) h k = entry_further a b c h k
-cell_further (cell.Version a p) (cell.Version b q) (cell.Version c r) h k = upto_trans a.head.vector b.head.vector c.head.vector h k
+cell_further (cell.Version a) (cell.Version b) (cell.Version c) h k = upto_trans a.head.vector b.head.vector c.head.vector h k
 cell_further (cell.Place a) (cell.Flag b) c h k = absurd h
 cell_further (cell.Place a) (cell.Entry b t) c h k = absurd h
-cell_further (cell.Place a) (cell.Version b q) c h k = absurd h
+cell_further (cell.Place a) (cell.Version b) c h k = absurd h
 cell_further (cell.Flag a) (cell.Place b) c h k = absurd h
 cell_further (cell.Flag a) (cell.Entry b t) c h k = absurd h
-cell_further (cell.Flag a) (cell.Version b q) c h k = absurd h
+cell_further (cell.Flag a) (cell.Version b) c h k = absurd h
 cell_further (cell.Entry a s) (cell.Place b) c h k = absurd h
 cell_further (cell.Entry a s) (cell.Flag b) c h k = absurd h
-cell_further (cell.Entry a s) (cell.Version b q) c h k = absurd h
-cell_further (cell.Version a p) (cell.Place b) c h k = absurd h
-cell_further (cell.Version a p) (cell.Flag b) c h k = absurd h
-cell_further (cell.Version a p) (cell.Entry b t) c h k = absurd h
+cell_further (cell.Entry a s) (cell.Version b) c h k = absurd h
+cell_further (cell.Version a) (cell.Place b) c h k = absurd h
+cell_further (cell.Version a) (cell.Flag b) c h k = absurd h
+cell_further (cell.Version a) (cell.Entry b t) c h k = absurd h
 cell_further (cell.Place a) (cell.Place b) (cell.Flag c) h k = absurd k
 cell_further (cell.Place a) (cell.Place b) (cell.Entry c u) h k = absurd k
-cell_further (cell.Place a) (cell.Place b) (cell.Version c r) h k = absurd k
+cell_further (cell.Place a) (cell.Place b) (cell.Version c) h k = absurd k
 cell_further (cell.Flag a) (cell.Flag b) (cell.Place c) h k = absurd k
 cell_further (cell.Flag a) (cell.Flag b) (cell.Entry c u) h k = absurd k
-cell_further (cell.Flag a) (cell.Flag b) (cell.Version c r) h k = absurd k
+cell_further (cell.Flag a) (cell.Flag b) (cell.Version c) h k = absurd k
 cell_further (cell.Entry a s) (cell.Entry b t) (cell.Place c) h k = absurd k
 cell_further (cell.Entry a s) (cell.Entry b t) (cell.Flag c) h k = absurd k
-cell_further (cell.Entry a s) (cell.Entry b t) (cell.Version c r) h k = absurd k
-cell_further (cell.Version a p) (cell.Version b q) (cell.Place c) h k = absurd k
-cell_further (cell.Version a p) (cell.Version b q) (cell.Flag c) h k = absurd k
-cell_further (cell.Version a p) (cell.Version b q) (cell.Entry c u) h k = absurd k
+cell_further (cell.Entry a s) (cell.Entry b t) (cell.Version c) h k = absurd k
+cell_further (cell.Version a) (cell.Version b) (cell.Place c) h k = absurd k
+cell_further (cell.Version a) (cell.Version b) (cell.Flag c) h k = absurd k
+cell_further (cell.Version a) (cell.Version b) (cell.Entry c u) h k = absurd k
 
 pub is_sound : IsSound cells
 is_sound = record {

@@ -1,8 +1,7 @@
 -- A version comes to a server, or is made there: what edges promise is kept, and the version is held.
-use Rattle.std.proofs.Common.{ℕ, ◌≡◌, ◌+◌, Bool, true, false, cond, List, [], ◌∷◌, length, Option, None, Some, refl, sym, ap, subst, ◌∙◌, arith, inl, inr, ◌⊎◌}
+use Rattle.std.proofs.Common.{ℕ, ◌≡◌, ◌+◌, Bool, true, false, not, cond, List, [], ◌∷◌, length, Option, None, Some, option_map, refl, sym, ap, subst, ◌∙◌, arith, inl, inr, ◌⊎◌}
 use Rattle.std.proofs.lemmas.Bool.Decides.{nat_tests}
 use Rattle.pg_base.specs.declared.id.FileId.{FileId}
-use Rattle.pg_base.specs.declared.policy.Policy.{Policy}
 use Rattle.pg_base.specs.declared.stamp.Stamp.{Stamp}
 use Rattle.pg_base.specs.Version.{VersionValue}
 use Rattle.pg_patch.specs.Ranges.{RangesValue}
@@ -13,13 +12,13 @@ use Rattle.pg_edges.specs.Key.{is_same_key}
 use Rattle.pg_edges.specs.Edges.{is_listed, retired, slot_at, tag_at, tag_of, touched}
 use Rattle.pg_edges.specs.Laws.{acknowledged}
 use Rattle.pg_edges.proofs.Lookups.{retires, touch_listed, touch_others}
-use Rattle.pg_content.specs.Content.{Among, covers_version, next_version, put_version}
+use Rattle.pg_content.specs.Content.{Among, ContentValue, covers_version, next_version, put_version}
 use Rattle.pg_content.specs.Covering.{AreCoveredBy, IsUpToHead}
 use Rattle.pg_content.specs.History.{Made, version_of}
 use Rattle.pg_content.specs.StandsFor.{InStrictOrder}
 use Rattle.pg_content.proofs.Ancestry.{one_made}
 use Rattle.pg_content.proofs.Covering.{joined_covers, written_covers}
-use Rattle.pg_flood.specs.Server.{Replica as Seen, Holds, HoldsAll}
+use Rattle.pg_flood.specs.Server.{Holds, HoldsAll}
 use Rattle.pg_flood.proofs.Draws.{Draws, IsAsBefore, IsFreshAt}
 use Rattle.pg_flood.proofs.Retire.{retired_listed}
 use Rattle.pg_flood.proofs.Servers.{some_same}
@@ -34,14 +33,17 @@ use Rattle.pg_replica.proofs.Drawn.{seen as heads_seen, version_draws, write_dra
 use Rattle.pg_replica.proofs.Growth.{CanTake, CoversItself, cell_head, head_at as head_found}
 use Rattle.pg_replica.proofs.Order.{version_order, write_order}
 use Rattle.pg_store.specs.declared.store.Store.{Store}
-use Rattle.pg_store.specs.Cells.{cell_at, entry_cell, flag_cell, version_cell}
-use Rattle.pg_store.specs.Store.{content_of, put_version as put_at, replica_of, with_news, write}
+use Rattle.pg_house.proofs.Truths.{not_true}
+use Rattle.pg_names.specs.Names.{raise}
+use Rattle.pg_replica.specs.Replicas.{ByFile, edge_count, or_nothing, put_replica, replicas_taking, replicas_writing, takes_version}
+use Rattle.pg_store.specs.Cells.{cell_at, flag_cell, version_cell}
+use Rattle.pg_store.specs.Store.{content_of, replica_at, take_version, with_drawn, with_names, write}
 use Rattle.pg_promises.specs.Histories.{IsOfHistory}
-use Rattle.pg_promises.specs.Seen.{cells, seen}
+use Rattle.pg_promises.specs.Seen.{cells, plain, seen}
 use Rattle.pg_promises.specs.UpTo.{IsUpTo}
 use Rattle.pg_promises.proofs.Growth.{SameNames}
 use Rattle.pg_promises.proofs.Single.{one_steps}
-use Rattle.pg_promises.proofs.Stores.{Changes, replica_here}
+use Rattle.pg_promises.proofs.Stores.{Changes, entry_seen, plain_at, plain_entry, replica_here}
 use Rattle.pg_promises.proofs.Choices.{decided}
 use Rattle.pg_promises.proofs.UpTo.{cell_itself}
 
@@ -67,28 +69,34 @@ module _ (b : Store) (file : FileId) (order : InStrictOrder (content_of b file).
   abbrev Heads : List VersionValue
   Heads = (content_of b file).heads
 
-  abbrev Rule : Policy
-  Rule = (content_of b file).policy
+  pub version_held : (v : VersionValue) → IsUpToHead v.head.vector Heads → Holds IsUpTo (cell_at b file) (cell.Version v)
+  version_held v up = record { key = key_of up.0; cell = cell.Version up.0; is = ap version_cell (head_found Heads up.0 order up.1); upto = up.2 }
 
-  pub version_held : (v : VersionValue) (policy : Policy) → IsUpToHead v.head.vector Heads → Holds IsUpTo (cell_at b file) (cell.Version v policy)
-  version_held v policy up = record { key = key_of up.0; cell = cell.Version up.0 Rule; is = ap (version_cell Rule) (head_found Heads up.0 order up.1); upto = up.2 }
+  -- and seen by the edges
+  version_seen : (v : VersionValue) → IsUpToHead v.head.vector Heads → Holds IsUpTo (plain_at b file) (cell.Version v)
+  version_seen v up = record {
+    key = key_of up.0;
+    cell = cell.Version up.0;
+    is = ap (λ (o : Option VersionValue). option_map plain (version_cell o)) (head_found Heads up.0 order up.1);
+    upto = up.2;
+  }
 
   module _ (a : Store) (same : SameNames a.names b.names) (covered : AreCoveredBy (content_of a file).heads Heads) where
-    head_held : (stamp : Stamp) (c : Cell) (o : Option VersionValue) → head_at (content_of a file).heads (key.Version stamp) ≡ o → version_cell (content_of a file).policy o ≡ Some c → Holds IsUpTo (cell_at b file) c
+    head_held : (stamp : Stamp) (c : Cell) (o : Option VersionValue) → head_at (content_of a file).heads (key.Version stamp) ≡ o → option_map plain (version_cell o) ≡ Some c → Holds IsUpTo (plain_at b file) c
     head_held stamp c None e is = absurd (let z : None ≡ Some c = is in cc)
     head_held stamp c (Some v) e is =
-        let P : Cell → Type 0 = λ z. Holds IsUpTo (cell_at b file) z in
-        subst P (some_same (cell.Version v (content_of a file).policy) c is)
-        (version_held v (content_of a file).policy (covered v (cell_head (content_of a file).heads (key.Version stamp) v e).0))
+        let P : Cell → Type 0 = λ z. Holds IsUpTo (plain_at b file) z in
+        subst P (some_same (cell.Version v) c is) (version_seen v (covered v (cell_head (content_of a file).heads (key.Version stamp) v e).0))
 
-    stays_held : (q : Key) (c : Cell) → cell_at b file q ≡ cell_at a file q → cell_at a file q ≡ Some c → Holds IsUpTo (cell_at b file) c
+    stays_held : (q : Key) (c : Cell) → plain_at b file q ≡ plain_at a file q → plain_at a file q ≡ Some c → Holds IsUpTo (plain_at b file) c
     stays_held q c e is = record { key = q; cell = c; is = e ∙ is; upto = cell_itself c }
 
     -- where the heads of before are covered, no cell is lost
-    pub all_held : HoldsAll IsUpTo (cell_at a file) (cell_at b file)
+    pub all_held : HoldsAll IsUpTo (plain_at a file) (plain_at b file)
     all_held key.Place c is = stays_held key.Place c (ap (λ (o : Own). Some (cell.Place o.place)) (same.own file)) is
-    all_held (key.Flag n) c is = stays_held (key.Flag n) c (ap (λ (o : Own). flag_cell (flag_of o.flags n)) (same.own file)) is
-    all_held (key.Entry g) c is = stays_held (key.Entry g) c (ap entry_cell (same.entries file g)) is
+    all_held (key.Flag n) c is = stays_held (key.Flag n) c (ap (λ (o : Own). option_map plain (flag_cell (flag_of o.flags n))) (same.own file)) is
+    all_held (key.Entry g) c is =
+        stays_held (key.Entry g) c (entry_seen b file g ∙ ap plain_entry (same.entries file g) ∙ sym (entry_seen a file g)) is
     all_held (key.Version stamp) c is = head_held stamp c (head_at (content_of a file).heads (key.Version stamp)) refl is
 
 -- ---- a replica has news
@@ -98,158 +106,181 @@ module _ (b : Store) (file : FileId) (order : InStrictOrder (content_of b file).
 pub record IsNews (t : ℕ) (x y : Replica) (gone : List VersionValue) (v : VersionValue) : Type 0 where
   pub birth : y.birth ≡ x.birth
   pub edges : y.edges ≡ touched (without_keys x.edges (keys gone)) (key_of v) t
-  pub policy : y.content.policy ≡ x.content.policy
   pub draws : Draws t (heads_seen x) (t + length x.edges) (heads_seen y)
   pub order : InStrictOrder y.content.heads
   pub covered : AreCoveredBy x.content.heads y.content.heads
 
-module _ (a : Store) (file : FileId) (y : Replica) (gone : List VersionValue) (v : VersionValue) (k : IsNews a.tags (replica_of a file) y gone v) where
+-- the server then
+abbrev pub with_new : Store → FileId → Replica → Replica → Stamp → Store
+with_new a file x y stamp = with_names (with_drawn a (length x.edges) (put_replica a.replicas file y)) (raise a.names stamp.time)
+
+module _ (a : Store) (file : FileId) (x y : Replica) (held : replica_at a file ≡ Some x) (gone : List VersionValue) (v : VersionValue) (k : IsNews a.tags x y gone v) where
   abbrev Now : Store
-  Now = with_news a file y v.head.stamp
+  Now = with_new a file x y v.head.stamp
 
-  abbrev X : Replica
-  X = replica_of a file
-
-  news_changes : Changes a Now file y
-  news_changes = record { server = refl; servers = refl; replicas = refl }
+  news_changes : Changes a Now file x y
+  news_changes = record { old = held; replicas = refl }
 
   news_names : SameNames a.names Now.names
   news_names = record { own = λ f. refl; entries = λ d g. refl }
 
-  pub news_here : replica_of Now file ≡ y
-  news_here = replica_here a Now file y news_changes
+  before_is : content_of a file ≡ x.content
+  before_is = ap (λ (o : Option Replica). (or_nothing o).content) held
 
-  -- the replica with its cells of all kinds
-  abbrev shown : Replica → Seen Cell
-  shown z = record { birth = z.birth; edges = z.edges; cells = cell_at Now file }
+  pub news_is : content_of Now file ≡ y.content
+  news_is = ap (λ (o : Option Replica). (or_nothing o).content) (replica_here a Now file x y news_changes)
 
-  abbrev Slot : ℕ → ℕ → Key → Cell → Type 0
-  Slot p b q c = IsFreshAt a.tags y.edges p b q ⊎ IsAsBefore (seen a file) (shown y) p b q c
+  abbrev IsSlot : ℕ → ℕ → Key → Cell → Type 0
+  IsSlot p b q c = IsFreshAt a.tags y.edges p b q ⊎ IsAsBefore (seen a file x) (seen Now file y) p b q c
 
-  other_slot : (q : Key) → IsApart q → cell_at Now file q ≡ cell_at a file q → (p b : ℕ) (c : Cell) → is_listed y.edges p b ≡ true → cell_at Now file q ≡ Some c → Slot p b q c
+  other_slot : (q : Key) → IsApart q → plain_at Now file q ≡ plain_at a file q → (p b : ℕ) (c : Cell) → is_listed y.edges p b ≡ true → plain_at Now file q ≡ Some c → IsSlot p b q c
   other_slot q apart same p b c listed cell =
-      let es = without_keys X.edges (keys gone) in
-      let listed_before : is_listed y.edges p b ≡ is_listed X.edges p b =
-      ap (λ fs. is_listed fs p b) k.edges ∙ touch_listed es (key_of v) a.tags p b ∙ less_listed X.edges gone p b in
-      let tag_before : tag_at y.edges p b q ≡ tag_at X.edges p b q =
-      ap (λ fs. tag_at fs p b q) k.edges ∙ ap tag_of (touch_others es (key_of v) a.tags p b q (apart v) ∙ less_tag q apart X.edges gone p b) in
+      let es = without_keys x.edges (keys gone) in
+      let listed_before : is_listed y.edges p b ≡ is_listed x.edges p b =
+      ap (λ fs. is_listed fs p b) k.edges ∙ touch_listed es (key_of v) a.tags p b ∙ less_listed x.edges gone p b in
+      let tag_before : tag_at y.edges p b q ≡ tag_at x.edges p b q =
+      ap (λ fs. tag_at fs p b q) k.edges ∙ ap tag_of (touch_others es (key_of v) a.tags p b q (apart v) ∙ less_tag q apart x.edges gone p b) in
       inr (sym listed_before ∙ listed, sym same ∙ cell, tag_before)
 
-  version_at : (s : Stamp) → cell_at Now file (key.Version s) ≡ version_cell X.content.policy (head_at y.content.heads (key.Version s))
-  version_at s =
-      ap (λ (z : Replica). version_cell z.content.policy (head_at z.content.heads (key.Version s))) news_here
-      ∙ ap (λ r. version_cell r (head_at y.content.heads (key.Version s))) k.policy
+  abbrev version_in : ContentValue → Stamp → Option Cell
+  version_in content s = option_map plain (version_cell (head_at content.heads (key.Version s)))
 
-  version_slot : (s : Stamp) (p b : ℕ) (c : Cell) (o : Option VersionValue) → head_at y.content.heads (key.Version s) ≡ o → is_listed y.edges p b ≡ true → version_cell X.content.policy o ≡ Some c → Slot p b (key.Version s) c
+  version_slot : (s : Stamp) (p b : ℕ) (c : Cell) (o : Option VersionValue) → head_at y.content.heads (key.Version s) ≡ o → is_listed y.edges p b ≡ true → option_map plain (version_cell o) ≡ Some c
+      → IsSlot p b (key.Version s) c
   version_slot s p b c None e listed cell = absurd (let z : None ≡ Some c = cell in cc)
   version_slot s p b c (Some w) e listed cell = elim (k.draws.slots p b (key.Version s) w listed e) [
     | inl fresh ↦ inl fresh
-    | inr old ↦ inr (old.0, ap (version_cell X.content.policy) old.1 ∙ cell, old.2)
+    | inr old ↦ inr (
+      old.0,
+      ap (λ (z : ContentValue). version_in z s) before_is ∙ ap (λ (z : Option VersionValue). option_map plain (version_cell z)) old.1 ∙ cell,
+      old.2,
+    )
   ]
 
-  slot_by : (p b : ℕ) (q : Key) (c : Cell) → is_listed y.edges p b ≡ true → cell_at Now file q ≡ Some c → Slot p b q c
+  slot_by : (p b : ℕ) (q : Key) (c : Cell) → is_listed y.edges p b ≡ true → plain_at Now file q ≡ Some c → IsSlot p b q c
   slot_by p b key.Place c listed cell = other_slot key.Place (λ w. refl) refl p b c listed cell
   slot_by p b (key.Flag n) c listed cell = other_slot (key.Flag n) (λ w. refl) refl p b c listed cell
   slot_by p b (key.Entry g) c listed cell = other_slot (key.Entry g) (λ w. refl) refl p b c listed cell
-  slot_by p b (key.Version s) c listed cell = version_slot s p b c (head_at y.content.heads (key.Version s)) refl listed (sym (version_at s) ∙ cell)
+  slot_by p b (key.Version s) c listed cell =
+      version_slot s p b c (head_at y.content.heads (key.Version s)) refl listed (sym (ap (λ (z : ContentValue). version_in z s) news_is) ∙ cell)
 
-  news_draws : Draws a.tags (seen a file) Now.tags (seen Now file)
-  news_draws =
-      let D : Replica → Type 0 = λ z. Draws a.tags (seen a file) Now.tags (shown z) in
-      subst D (sym news_here) (record { birth = k.draws.birth; up = k.draws.up; brings = k.draws.brings; single = k.draws.single; slots = slot_by })
+  news_draws : Draws a.tags (seen a file x) Now.tags (seen Now file y)
+  news_draws = record { birth = k.draws.birth; up = k.draws.up; brings = k.draws.brings; single = k.draws.single; slots = slot_by }
 
   pub news_order : InStrictOrder (content_of Now file).heads
-  news_order = let P : Replica → Type 0 = λ z. InStrictOrder z.content.heads in subst P (sym news_here) k.order
+  news_order = let P : ContentValue → Type 0 = λ z. InStrictOrder z.heads in subst P (sym news_is) k.order
 
-  news_held : HoldsAll IsUpTo (cell_at a file) (cell_at Now file)
+  news_held : HoldsAll IsUpTo (plain_at a file) (plain_at Now file)
   news_held =
-      let P : Replica → Type 0 = λ z. AreCoveredBy (content_of a file).heads z.content.heads in
-      all_held Now file news_order a news_names (subst P (sym news_here) k.covered)
+      let P : ContentValue → Type 0 = λ z. AreCoveredBy (content_of a file).heads z.heads in
+      let Q : ContentValue → Type 0 = λ z. AreCoveredBy z.heads y.content.heads in
+      all_held Now file news_order a news_names (subst P (sym news_is) (subst Q (sym before_is) k.covered))
 
   -- A REPLICA HAS NEWS
   pub news_steps : Steps cells a Now
-  news_steps = one_steps a Now file y news_changes news_names news_draws news_held
+  news_steps = one_steps a Now file x y news_changes news_names news_draws news_held
 
 -- ---- a write, and a version that comes
 
-module _ (a : Store) (file : FileId) (h : List Made) (k : IsOfHistory h (content_of a file)) where
-  abbrev W : Replica
-  W = replica_of a file
+not_of : (t : Bool) → not t ≡ false → t ≡ true
+not_of true h = refl
+not_of false h = absurd (let z : true ≡ false = h in cc)
 
+-- the same, by what there is of the file
+abbrev with_news_of : Store → FileId → Stamp → Option Replica → ByFile → Store
+with_news_of a file stamp o rs = with_names (with_drawn a (edge_count o) rs) (raise a.names stamp.time)
+
+module _ (a : Store) (file : FileId) (w : Replica) (held : replica_at a file ≡ Some w) (h : List Made) (k : IsOfHistory h w.content) where
   abbrev Written : Stamp → RangesValue → VersionValue
-  Written stamp ranges = next_version W.content (own_actor W stamp.server) stamp ranges
+  Written stamp ranges = next_version w.content (own_actor w stamp.server) stamp ranges
 
-  write_news : (stamp : Stamp) (ranges : RangesValue) → IsNews a.tags W (with_write W (own_actor W stamp.server) stamp ranges a.tags) W.content.heads (Written stamp ranges)
+  write_news : (stamp : Stamp) (ranges : RangesValue) → IsNews a.tags w (with_write w (own_actor w stamp.server) stamp ranges a.tags) w.content.heads (Written stamp ranges)
   write_news stamp ranges = record {
     birth = refl;
     edges = refl;
-    policy = refl;
-    draws = write_draws a.tags W (own_actor W stamp.server) stamp ranges;
-    order = write_order W (own_actor W stamp.server) stamp ranges a.tags;
-    covered = written_covers h k.history W.content k.versions (own_actor W stamp.server) stamp ranges;
+    draws = write_draws a.tags w (own_actor w stamp.server) stamp ranges;
+    order = write_order w (own_actor w stamp.server) stamp ranges a.tags;
+    covered = written_covers h k.history w.content k.versions (own_actor w stamp.server) stamp ranges;
   }
+
+  abbrev wrote : Stamp → RangesValue → Option Replica → Store
+  wrote stamp ranges o = with_news_of a file stamp o (replicas_writing a.replicas file stamp ranges a.tags o)
 
   -- A WRITE
   pub write_steps : (stamp : Stamp) (ranges : RangesValue) → Steps cells a (write a file stamp ranges)
-  write_steps stamp ranges = news_steps a file (with_write W (own_actor W stamp.server) stamp ranges a.tags) W.content.heads (Written stamp ranges) (write_news stamp ranges)
+  write_steps stamp ranges =
+      let P : Option Replica → Type 0 = λ o. Steps cells a (wrote stamp ranges o) in
+      subst P (sym held) (news_steps a file w (with_write w (own_actor w stamp.server) stamp ranges a.tags) held w.content.heads (Written stamp ranges) (write_news stamp ranges))
 
   module _ (m : Made) (is : Among m h) where
     abbrev V : VersionValue
-    V = version_of W.content.policy h m
+    V = version_of w.content.policy h m
 
     abbrev Next : Replica
-    Next = with_head W V a.tags
+    Next = with_head w V a.tags
 
-    itself : (u : Made) → covers_version (version_of W.content.policy h u).head.vector (version_of W.content.policy h u) ≡ true
+    itself : (u : Made) → covers_version (version_of w.content.policy h u).head.vector (version_of w.content.policy h u) ≡ true
     itself u = grind (arith, nat_tests)
 
-    can_take : CanTake W V
+    can_take : CanTake w V
     can_take = record {
       own = λ c l. (let r = k.versions c l in subst CoversItself (sym r.2) (omega arith));
       one = λ c l e.
           let r = k.versions c l in
           let same : r.0 ≡ m = one_made h k.history r.0 m r.1 is (ap (λ (v : VersionValue). v.head.stamp) (sym r.2) ∙ e) in
           let P : VersionValue → Type 0 = λ v. covers_version V.head.vector v ≡ true in
-          subst P (sym (r.2 ∙ ap (version_of W.content.policy h) same)) (itself m);
+          subst P (sym (r.2 ∙ ap (version_of w.content.policy h) same)) (itself m);
     }
 
-    head_news : covers W V ≡ false → IsNews a.tags W Next (covered_heads W.content.heads V) V
+    head_news : covers w V ≡ false → IsNews a.tags w Next (covered_heads w.content.heads V) V
     head_news new =
-        let O : Bool → Type 0 = λ b. InStrictOrder (cond b W Next).content.heads in
-        let D : Bool → Type 0 = λ b. Draws a.tags (heads_seen W) (cond b a.tags (a.tags + length W.edges)) (heads_seen (cond b W Next)) in
+        let O : Bool → Type 0 = λ b. InStrictOrder (cond b w Next).content.heads in
+        let D : Bool → Type 0 = λ b. Draws a.tags (heads_seen w) (cond b a.tags (a.tags + length w.edges)) (heads_seen (cond b w Next)) in
         record {
           birth = refl;
           edges = refl;
-          policy = refl;
-          draws = subst D new (version_draws a.tags W V k.order);
-          order = subst O new (version_order W V a.tags k.order can_take);
-          covered = (joined_covers h k.history W.content.policy W.content.heads k.versions m is).0;
+          draws = subst D new (version_draws a.tags w V k.order);
+          order = subst O new (version_order w V a.tags k.order can_take);
+          covered = (joined_covers h k.history w.content.policy w.content.heads k.versions m is).0;
         }
 
     upto_joined : IsUpToHead V.head.vector Next.content.heads
-    upto_joined = (joined_covers h k.history W.content.policy W.content.heads k.versions m is).1
+    upto_joined = (joined_covers h k.history w.content.policy w.content.heads k.versions m is).1
 
     -- what comes of it
     pub record Puts (b : Store) : Type 0 where
       pub steps : Steps cells a b
-      pub holds : (policy : Policy) → Holds IsUpTo (cell_at b file) (cell.Version V policy)
+      pub holds : Holds IsUpTo (cell_at b file) (cell.Version V)
 
-    puts_new : covers W V ≡ false → Puts (with_news a file Next V.head.stamp)
+    puts_new : covers w V ≡ false → Puts (with_new a file w Next V.head.stamp)
     puts_new new =
         let n = head_news new in
-        let gone = covered_heads W.content.heads V in
-        let P : Replica → Type 0 = λ z. IsUpToHead V.head.vector z.content.heads in
+        let gone = covered_heads w.content.heads V in
+        let P : ContentValue → Type 0 = λ z. IsUpToHead V.head.vector z.heads in
         record {
-          steps = news_steps a file Next gone V n;
-          holds = λ policy. version_held (with_news a file Next V.head.stamp) file (news_order a file Next gone V n) V policy
-              (subst P (sym (news_here a file Next gone V n)) upto_joined);
+          steps = news_steps a file w Next held gone V n;
+          holds = version_held (with_new a file w Next V.head.stamp) file (news_order a file w Next held gone V n) V
+              (subst P (sym (news_is a file w Next held gone V n)) upto_joined);
         }
 
-    puts_old : covers W V ≡ true → Puts a
+    puts_old : covers w V ≡ true → Puts a
     puts_old old =
-        let P : Bool → Type 0 = λ b. IsUpToHead V.head.vector (cond b W.content.heads (put_version W.content.heads V)) in
-        record { steps = Steps-refl cells a; holds = λ policy. version_held a file k.order V policy (subst P old upto_joined) }
+        let P : Bool → Type 0 = λ b. IsUpToHead V.head.vector (cond b w.content.heads (put_version w.content.heads V)) in
+        let Q : ContentValue → Type 0 = λ z. InStrictOrder z.heads in
+        let R : ContentValue → Type 0 = λ z. IsUpToHead V.head.vector z.heads in
+        let is_it : content_of a file ≡ w.content = ap (λ (o : Option Replica). (or_nothing o).content) held in
+        record {
+          steps = Steps-refl cells a;
+          holds = version_held a file (subst Q (sym is_it) k.order) V (subst R (sym is_it) (subst P old upto_joined));
+        }
+
+    abbrev took : Option Replica → Store
+    took o = cond (takes_version o V) (with_news_of a file V.head.stamp o (replicas_taking a.replicas file V a.tags o)) a
+
+    took_known : Puts (took (Some w))
+    took_known = decided (λ b. Puts b) (not (covers w V)) (with_new a file w Next V.head.stamp) a
+        (λ t. puts_new (not_true (covers w V) t)) (λ f. puts_old (not_of (covers w V) f))
 
     -- A VERSION OF THE HISTORY COMES
-    pub version_put : Puts (put_at a file V)
-    version_put = decided Puts (covers W V) a (with_news a file Next V.head.stamp) puts_old puts_new
+    pub version_put : Puts (take_version a file V)
+    version_put = let P : Option Replica → Type 0 = λ o. Puts (took o) in subst P (sym held) took_known

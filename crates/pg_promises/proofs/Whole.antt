@@ -1,10 +1,8 @@
--- Every replica has birth 1 and an edge to each other server, whatever comes.
-use Rattle.std.proofs.Common.{ℕ, ◌≡◌, true, List, [], ◌∷◌, Option, None, Some, refl, sym, subst, ◌∙◌, All}
+-- Each piece of an event leaves edges to other servers, names as the house rules ask, and just what is held with a replica.
+use Rattle.std.proofs.Common.{ℕ, ◌≡◌, Bool, true, false, cond, is_some, List, [], ◌∷◌, Option, None, Some, refl, sym, ap, subst, ◌∙◌, All}
 use Rattle.std.specs.List.Sorted.{IsStrictlySortedBy}
 use Rattle.std.specs.Map.{keys_of}
-use Rattle.std.specs.BTreeMap.{insert_entry}
 use Rattle.pg_base.specs.declared.id.FileId.{FileId}
-use Rattle.pg_base.specs.declared.policy.Policy.{Policy}
 use Rattle.pg_base.specs.declared.stamp.Stamp.{Stamp}
 use Rattle.pg_base.specs.Id.{file_cmp}
 use Rattle.pg_base.specs.Version.{VersionValue}
@@ -13,186 +11,203 @@ use Rattle.pg_base.proofs.Entries.{All-insert_entry, IsStrictlySortedBy-insert_e
 use Rattle.pg_patch.specs.Ranges.{RangesValue}
 use Rattle.pg_edges.specs.declared.key.Key.{Key}
 use Rattle.pg_edges.specs.declared.key.Key.TheVariants as key
-use Rattle.pg_edges.specs.Edges.{touched}
 use Rattle.pg_entries.specs.declared.entry.Entry.{Entry}
 use Rattle.pg_msg.specs.declared.work.Touched.{Touched}
-use Rattle.pg_names.specs.Names.{NamesValue, hold, join_entry, join_flag, join_place, is_dir, raise, with_flag, with_joined, with_place}
-use Rattle.pg_names.proofs.Holding.{hold_held, hold_stays}
+use Rattle.pg_names.specs.declared.own.Own.{Own}
+use Rattle.pg_names.specs.Names.{HeldValue, NamesValue, is_dir, is_entry_new, is_flag_new, is_held, is_place_new, known, own_at, own_of, with_flag, with_joined, with_place}
 use Rattle.pg_names.proofs.Lookups.{update_frame}
 use Rattle.pg_register.specs.declared.flag.Flag.{Flag}
 use Rattle.pg_register.specs.declared.place.Place.{Place}
 use Rattle.pg_replica.specs.declared.link.Link.{Link}
 use Rattle.pg_replica.specs.declared.replica.Replica.{Replica}
-use Rattle.pg_replica.specs.Replica.{begun, covered_heads, covers, has_edge, keys, key_of, own_actor, with_ack, with_head, with_touch, with_write, without_keys}
-use Rattle.pg_replica.specs.Replicas.{ByFile, or_new, replicas_acked}
-use Rattle.pg_replica.specs.Untouched.{new_replica}
+use Rattle.pg_edges.specs.Edges.{touched}
+use Rattle.pg_replica.specs.Replica.{covered_heads, has_edge, keys, key_of, with_ack, without_keys}
+use Rattle.pg_replica.specs.Replicas.{ByFile, put_replica, replica_in, replicas_acked, replicas_linked, replicas_taking, replicas_touched, replicas_unlinked, replicas_writing}
 use Rattle.pg_store.specs.declared.store.Store.{Store}
-use Rattle.pg_store.specs.Store.{acknowledge, begin_file, has_no_head, holding_both, home_of, is_newer_entry, is_newer_flag, is_newer_place, put_version, replica_at, replica_of, take_entry, take_flag, take_place, take_version, touch, with_names, with_news, with_policy, write}
-use Rattle.pg_store.proofs.Stays.{hold_server}
+use Rattle.pg_store.specs.Links.{is_linked, is_new_link, link, put_link, unlink}
+use Rattle.pg_store.specs.Links as links
+use Rattle.pg_store.specs.Store.{acknowledge, is_new_version, is_newer_entry, is_newer_flag, is_newer_place, put_entry, put_flag, put_place, put_version, replica_at, take_entry, take_flag, take_place, take_version, touch, with_names, write}
+use Rattle.pg_store.specs.Together.{AreTogether}
+use Rattle.pg_store.proofs.Pairs.{acknowledge_as_before, entry_as_before, flag_as_before, link_as_before, place_as_before, together_as_before, touch_as_before, unlink_as_before, version_as_before, write_as_before}
 use Rattle.pg_cells.specs.Settling.{touch_all}
-use Rattle.pg_promises.specs.Whole.{AreEdges, AreOrderly, IsFull, IsWhole}
-use Rattle.pg_promises.proofs.Choices.{chosen, found_replica}
-use Rattle.pg_promises.proofs.Graphs.{clean_each, clean_listed, clean_order, edges_acked, edges_touched, edges_without}
-use Rattle.pg_promises.proofs.Orderly.{orderly_entry, orderly_flag, orderly_held, orderly_place, orderly_raised}
-use Rattle.pg_promises.proofs.Policies.{with_files}
-use Rattle.pg_promises.proofs.Stores.{Changes}
+use Rattle.pg_promises.specs.Laws.{AreAlike}
+use Rattle.pg_promises.specs.Whole.{AreEdges, AreOrderly, IsOther, IsWhole, PatchesAreForDirs}
+use Rattle.pg_promises.proofs.Choices.{chosen, decided, found_replica}
+use Rattle.pg_promises.proofs.Graphs.{edges_acked, edges_linked, edges_touched, edges_unlinked, edges_without}
+use Rattle.pg_promises.proofs.Orderly.{orderly_entry, orderly_flag, orderly_place, orderly_raised}
 
 -- ---- replicas
 
--- a replica that nobody has touched
-pub new_full : (n s : ℕ) → IsFull n s (new_replica s n)
-new_full n s = record {
-  born = refl;
-  edges = record { each = clean_each n s; order = clean_order s n; listed = λ peer l m apart. clean_listed s n peer l m apart };
+-- the edges of all replicas of server s of n
+pub record AreGraphs (n s : ℕ) (rs : ByFile) : Type 0 where
+  pub all : All (λ (r : FileId × Replica). AreEdges n s r.1.edges) rs
+  pub order : IsStrictlySortedBy file_cmp (keys_of rs)
+
+pub graphs_of : (n s : ℕ) (a : Store) → IsWhole n s a → AreGraphs n s a.replicas
+graphs_of n s a k = record { all = k.replicas; order = k.order }
+
+module _ (n s : ℕ) (rs : ByFile) (file : FileId) (k : AreGraphs n s rs) where
+  pub graphs_put : (y : Replica) → AreEdges n s y.edges → AreGraphs n s (put_replica rs file y)
+  graphs_put y edges = record {
+    all = All-insert_entry file_cmp (λ (r : FileId × Replica). AreEdges n s r.1.edges) file y rs k.all edges (λ e t. edges);
+    order = IsStrictlySortedBy-insert_entry file_cmp file_total file y rs k.order;
+  }
+
+  pub edges_at : (x : Replica) → replica_in rs file ≡ Some x → AreEdges n s x.edges
+  edges_at x e = found_replica (λ z. AreEdges n s z.edges) file x rs k.all e
+
+  pub graphs_touched : (q : Key) (t : ℕ) (o : Option Replica) → replica_in rs file ≡ o → AreGraphs n s (replicas_touched rs file q t o)
+  graphs_touched q t None e = k
+  graphs_touched q t (Some x) e = graphs_put _ (edges_touched n s q x.edges t (edges_at x e))
+
+  news_edges : (x : Replica) (q : Key) (gone : List VersionValue) (t : ℕ) → replica_in rs file ≡ Some x → AreEdges n s (touched (without_keys x.edges (keys gone)) q t)
+  news_edges x q gone t e = edges_touched n s q (without_keys x.edges (keys gone)) t (edges_without n s x.edges (keys gone) (edges_at x e))
+
+  pub graphs_taking : (v : VersionValue) (t : ℕ) (o : Option Replica) → replica_in rs file ≡ o → AreGraphs n s (replicas_taking rs file v t o)
+  graphs_taking v t None e = k
+  graphs_taking v t (Some x) e = graphs_put _ (news_edges x (key_of v) (covered_heads x.content.heads v) t e)
+
+  pub graphs_writing : (stamp : Stamp) (ranges : RangesValue) (t : ℕ) (o : Option Replica) → replica_in rs file ≡ o → AreGraphs n s (replicas_writing rs file stamp ranges t o)
+  graphs_writing stamp ranges t None e = k
+  graphs_writing stamp ranges t (Some x) e = graphs_put _ (news_edges x (key.Version stamp) x.content.heads t e)
+
+  pub graphs_linked : (peer birth : ℕ) (ks : List Key) (t : ℕ) → IsOther n s peer → (o : Option Replica) → replica_in rs file ≡ o → AreGraphs n s (replicas_linked rs file peer birth ks t o)
+  graphs_linked peer birth ks t other None e = k
+  graphs_linked peer birth ks t other (Some x) e = graphs_put _ (edges_linked n s x.edges peer birth ks t other (edges_at x e))
+
+  pub graphs_unlinked : (peer birth : ℕ) (o : Option Replica) → replica_in rs file ≡ o → AreGraphs n s (replicas_unlinked rs file peer birth o)
+  graphs_unlinked peer birth None e = k
+  graphs_unlinked peer birth (Some x) e = graphs_put _ (edges_unlinked n s x.edges peer birth (edges_at x e))
+
+  pub graphs_acked : (l : Link) (q : Key) (g : ℕ) (o : Option Replica) → replica_in rs file ≡ o → AreGraphs n s (replicas_acked rs file l q g o)
+  graphs_acked l q g None e = k
+  graphs_acked l q g (Some x) e =
+      let y = with_ack x l.peer l.birth q g in
+      chosen (AreGraphs n s) (has_edge x l) (put_replica rs file y) rs (graphs_put y (edges_acked n s x.edges l.peer l.birth q g (edges_at x e))) k
+
+-- ---- a server
+
+pub whole_by : (n s : ℕ) (a b : Store) → IsWhole n s a → b.names.server ≡ a.names.server → b.servers ≡ a.servers → AreOrderly b.names → AreGraphs n s b.replicas → AreTogether b → PatchesAreForDirs b
+    → IsWhole n s b
+whole_by n s a b k server servers own graphs both patches = record {
+  server = server ∙ k.server;
+  servers = servers ∙ k.servers;
+  names = own;
+  replicas = graphs.all;
+  order = graphs.order;
+  together = both;
+  patches = patches;
 }
 
-full_by : (n s : ℕ) (a : Store) → IsWhole n s a → (file : FileId) (o : Option Replica) → replica_at a file ≡ o → IsFull n s (or_new (home_of a) o)
-full_by n s a k file None e =
-    let P : ℕ → Type 0 = λ z. IsFull n s (new_replica z a.servers) in
-    let Q : ℕ → Type 0 = λ z. IsFull n s (new_replica s z) in
-    subst P (sym k.server) (subst Q (sym k.servers) (new_full n s))
-full_by n s a k file (Some x) e = found_replica (IsFull n s) file x a.replicas k.replicas e
+module _ (n s : ℕ) (a : Store) (k : IsWhole n s a) where
+  -- ---- keys are touched
 
--- each replica of a server is such a one
-pub full_of : (n s : ℕ) (a : Store) → IsWhole n s a → (file : FileId) → IsFull n s (replica_of a file)
-full_of n s a k file = full_by n s a k file (replica_at a file) refl
+  pub whole_touch : (file : FileId) (q : Key) → IsWhole n s (touch a file q)
+  whole_touch file q =
+      whole_by n s a (touch a file q) k refl refl k.names
+      (graphs_touched n s a.replicas file (graphs_of n s a k) q a.tags (replica_at a file) refl)
+      (together_as_before a (touch a file q) (touch_as_before a file q) k.together) k.patches
 
--- ---- one replica changes
+  -- ---- names change, and just the same is held
 
-pub whole_put : (n s : ℕ) (a b : Store) (file : FileId) (x : Replica) → IsWhole n s a → IsFull n s x → AreOrderly b.names → Changes a b file x → IsWhole n s b
-whole_put n s a b file x k full own c =
-    let P : List (FileId × Replica) → Type 0 = λ es. All (λ (r : FileId × Replica). IsFull n s r.1) es in
-    let Q : List (FileId × Replica) → Type 0 = λ es. IsStrictlySortedBy file_cmp (keys_of es) in
-    record {
-      server = c.server ∙ k.server;
-      servers = c.servers ∙ k.servers;
-      names = own;
-      replicas = subst P (sym c.replicas) (All-insert_entry file_cmp (λ (r : FileId × Replica). IsFull n s r.1) file x a.replicas k.replicas full (λ e t. full));
-      order = subst Q (sym c.replicas) (IsStrictlySortedBy-insert_entry file_cmp file_total file x a.replicas k.order);
-    }
+  pub whole_names : (other : NamesValue) → other.server ≡ a.names.server → AreOrderly other → ((f : FileId) → is_held other f ≡ is_held a.names f) → IsWhole n s (with_names a other)
+  whole_names other server own held =
+      whole_by n s a (with_names a other) k server refl own (graphs_of n s a k) (λ f. k.together f ∙ sym (held f)) k.patches
 
--- ---- keys are touched
+  -- ---- a place, a flag, an entry
 
-full_touch : (n s : ℕ) (x : Replica) (q : Key) (t : ℕ) → IsFull n s x → IsFull n s (with_touch x q t)
-full_touch n s x q t f = record { born = f.born; edges = edges_touched n s q x.edges t f.edges }
+  -- what is together where a choice went this way
+  chosen_so : (b c : Store) (t : Bool) → t ≡ true → b ≡ cond t c a → AreTogether b → AreTogether c
+  chosen_so b c true h e both = subst AreTogether e both
+  chosen_so b c false h e both = absurd (let z : false ≡ true = h in cc)
 
-pub whole_touch : (n s : ℕ) (a : Store) (file : FileId) (q : Key) → IsWhole n s a → IsWhole n s (touch a file q)
-whole_touch n s a file q k =
-    whole_put n s a (touch a file q) file (with_touch (replica_of a file) q a.tags) k (full_touch n s (replica_of a file) q a.tags (full_of n s a k file)) k.names
-    (record { server = refl; servers = refl; replicas = refl })
+  place_own : (o : Option Own) (place : Place) → is_place_new o place ≡ true → (own : Own) × (o ≡ Some own)
+  place_own None place h = absurd (let z : false ≡ true = h in cc)
+  place_own (Some own) place h = (own, refl)
+
+  pub whole_place : (f : FileId) (place : Place) → IsWhole n s (take_place a f place)
+  whole_place f place = decided (IsWhole n s) (is_newer_place a f place) (put_place a f place) a (λ new.
+      let own = place_own (own_at a.names f) place new in
+      whole_by n s a (put_place a f place) k (update_frame a.names f (with_place place)).server refl
+      (orderly_place a.names f own.0 own.1 k.names place)
+      (graphs_touched n s a.replicas f (graphs_of n s a k) key.Place a.tags (replica_at a f) refl)
+      (chosen_so (take_place a f place) (put_place a f place) (is_newer_place a f place) new refl (together_as_before a (take_place a f place) (place_as_before a f place) k.together)) k.patches)
+      (λ old. k)
+
+  flag_own : (o : Option Own) (flag : Flag) → is_flag_new o flag ≡ true → (own : Own) × (o ≡ Some own)
+  flag_own None flag h = absurd (let z : false ≡ true = h in cc)
+  flag_own (Some own) flag h = (own, refl)
+
+  pub whole_flag : (f : FileId) (flag : Flag) → IsWhole n s (take_flag a f flag)
+  whole_flag f flag = decided (IsWhole n s) (is_newer_flag a f flag) (put_flag a f flag) a (λ new.
+      let own = flag_own (own_at a.names f) flag new in
+      whole_by n s a (put_flag a f flag) k (update_frame a.names f (with_flag flag)).server refl
+      (orderly_flag a.names f own.0 own.1 k.names flag)
+      (graphs_touched n s a.replicas f (graphs_of n s a k) (key.Flag flag.server) a.tags (replica_at a f) refl)
+      (chosen_so (take_flag a f flag) (put_flag a f flag) (is_newer_flag a f flag) new refl (together_as_before a (take_flag a f flag) (flag_as_before a f flag) k.together)) k.patches)
+      (λ old. k)
+
+  entry_own : (o : Option HeldValue) (e : Entry) → is_entry_new o e ≡ true → (own : Own) × (own_of o ≡ Some own)
+  entry_own None e h = absurd (let z : false ≡ true = h in cc)
+  entry_own (Some x) e h = (x.own, refl)
+
+  pub whole_entry : (d : FileId) (e : Entry) → is_dir d ≡ true → IsWhole n s (take_entry a d e)
+  whole_entry d e dir = decided (IsWhole n s) (is_newer_entry a d e) (put_entry a d e) a (λ new.
+      let own = entry_own (known a.names d) e new in
+      whole_by n s a (put_entry a d e) k (update_frame a.names d (with_joined e)).server refl
+      (orderly_entry a.names d own.0 own.1 dir k.names e)
+      (graphs_touched n s a.replicas d (graphs_of n s a k) (key.Entry e.child) a.tags (replica_at a d) refl)
+      (chosen_so (take_entry a d e) (put_entry a d e) (is_newer_entry a d e) new refl (together_as_before a (take_entry a d e) (entry_as_before a d e) k.together)) k.patches)
+      (λ old. k)
+
+  -- ---- versions
+
+  pub whole_version : (f : FileId) (v : VersionValue) → IsWhole n s (take_version a f v)
+  whole_version f v = decided (IsWhole n s) (is_new_version a f v) (put_version a f v) a (λ new.
+      whole_by n s a (put_version a f v) k refl refl (orderly_raised a.names v.head.stamp.time k.names)
+      (graphs_taking n s a.replicas f (graphs_of n s a k) v a.tags (replica_at a f) refl)
+      (chosen_so (take_version a f v) (put_version a f v) (is_new_version a f v) new refl (together_as_before a (take_version a f v) (version_as_before a f v) k.together)) k.patches)
+      (λ old. k)
+
+  pub whole_write : (f : FileId) (stamp : Stamp) (ranges : RangesValue) → IsWhole n s (write a f stamp ranges)
+  whole_write f stamp ranges =
+      whole_by n s a (write a f stamp ranges) k refl refl (orderly_raised a.names stamp.time k.names)
+      (graphs_writing n s a.replicas f (graphs_of n s a k) stamp ranges a.tags (replica_at a f) refl)
+      (together_as_before a (write a f stamp ranges) (write_as_before a f stamp ranges) k.together) k.patches
+
+  -- ---- edges
+
+  pub whole_acknowledge : (f : FileId) (l : Link) (q : Key) (g : ℕ) → IsWhole n s (acknowledge a f l q g)
+  whole_acknowledge f l q g =
+      whole_by n s a (acknowledge a f l q g) k refl refl k.names
+      (graphs_acked n s a.replicas f (graphs_of n s a k) l q g (replica_at a f) refl)
+      (together_as_before a (acknowledge a f l q g) (acknowledge_as_before a f l q g) k.together) k.patches
+
+  pub whole_link : (f : FileId) (peer birth : ℕ) → IsOther n s peer → IsWhole n s (link a f peer birth)
+  whole_link f peer birth other = decided (IsWhole n s) (is_new_link a f peer birth) (put_link a f peer birth) a (λ new.
+      whole_by n s a (put_link a f peer birth) k refl refl k.names
+      (graphs_linked n s a.replicas f (graphs_of n s a k) peer birth (links.keys a f) a.tags other (replica_at a f) refl)
+      (chosen_so (link a f peer birth) (put_link a f peer birth) (is_new_link a f peer birth) new refl (together_as_before a (link a f peer birth) (link_as_before a f peer birth) k.together)) k.patches)
+      (λ old. k)
+
+  abbrev without_link : FileId → ℕ → ℕ → Store
+  without_link f peer birth = record a { replicas = replicas_unlinked a.replicas f peer birth (replica_at a f) }
+
+  pub whole_unlink : (f : FileId) (peer birth : ℕ) → IsWhole n s (unlink a f peer birth)
+  whole_unlink f peer birth = decided (IsWhole n s) (is_linked a f peer birth) (without_link f peer birth) a (λ there.
+      whole_by n s a (without_link f peer birth) k refl refl k.names
+      (graphs_unlinked n s a.replicas f (graphs_of n s a k) peer birth (replica_at a f) refl)
+      (chosen_so (unlink a f peer birth) (without_link f peer birth) (is_linked a f peer birth) there refl (together_as_before a (unlink a f peer birth) (unlink_as_before a f peer birth) k.together)) k.patches)
+      (λ none. k)
+
+  -- ---- what the edges do not see
+
+  pub whole_alike : (b : Store) → AreAlike a b → PatchesAreForDirs b → IsWhole n s b
+  whole_alike b same patches =
+      whole_by n s a b k (ap (λ (t : NamesValue). t.server) same.names) same.servers (subst AreOrderly (sym same.names) k.names)
+      (subst (AreGraphs n s) (sym same.replicas) (graphs_of n s a k))
+      (λ f. ap (λ rs. is_some (replica_in rs f)) same.replicas ∙ k.together f ∙ sym (ap (λ (t : NamesValue). is_held t f) same.names)) patches
 
 pub whole_touches : (n s : ℕ) (a : Store) (ts : List Touched) → IsWhole n s a → IsWhole n s (touch_all a ts)
 whole_touches n s a [] k = k
-whole_touches n s a (t ∷ ts) k = whole_touches n s (touch a t.file t.key) ts (whole_touch n s a t.file t.key k)
-
--- ---- names change
-
-pub whole_names : (n s : ℕ) (a : Store) (names : NamesValue) → IsWhole n s a → names.server ≡ a.names.server → AreOrderly names → IsWhole n s (with_names a names)
-whole_names n s a names k server own = record { server = server ∙ k.server; servers = k.servers; names = own; replicas = k.replicas; order = k.order }
-
--- ---- what comes
-
-module _ (n s : ℕ) (a : Store) (k : IsWhole n s a) where
-  pub whole_held : (f : FileId) → IsWhole n s (with_names a (hold a.names f))
-  whole_held f = whole_names n s a (hold a.names f) k (hold_server a.names f) (orderly_held a.names f k.names)
-
-  -- A PLACE
-  pub whole_place : (f : FileId) (place : Place) → IsWhole n s (take_place a f place)
-  whole_place f place =
-      let held = hold a.names f in
-      let own = hold_held a.names f in
-      let names = raise (join_place held f place) place.stamp.time in
-      chosen (IsWhole n s) (is_newer_place a f place) (touch (with_names a names) f key.Place) (with_names a held)
-      (whole_touch n s (with_names a names) f key.Place
-      (whole_names n s a names k ((update_frame held f (with_place place)).server ∙ hold_server a.names f) (orderly_place held f own.0 own.1 (orderly_held a.names f k.names) place)))
-      (whole_held f)
-
-  -- A FLAG
-  pub whole_flag : (f : FileId) (flag : Flag) → IsWhole n s (take_flag a f flag)
-  whole_flag f flag =
-      let held = hold a.names f in
-      let own = hold_held a.names f in
-      let names = join_flag held f flag in
-      chosen (IsWhole n s) (is_newer_flag a f flag) (touch (with_names a names) f (key.Flag flag.server)) (with_names a held)
-      (whole_touch n s (with_names a names) f (key.Flag flag.server)
-      (whole_names n s a names k ((update_frame held f (with_flag flag)).server ∙ hold_server a.names f) (orderly_flag held f own.0 own.1 (orderly_held a.names f k.names) flag)))
-      (whole_held f)
-
-  -- AN ENTRY OF A DIRECTORY
-  pub whole_entry : (d : FileId) (e : Entry) → is_dir d ≡ true → IsWhole n s (take_entry a d e)
-  whole_entry d e dir =
-      let both = holding_both a.names d e.child in
-      let server : both.server ≡ a.names.server = hold_server (hold a.names d) e.child ∙ hold_server a.names d in
-      let own = orderly_held (hold a.names d) e.child (orderly_held a.names d k.names) in
-      let first = hold_held a.names d in
-      let names = raise (join_entry both d e) e.place.stamp.time in
-      chosen (IsWhole n s) (is_newer_entry a d e) (touch (with_names a names) d (key.Entry e.child)) (with_names a both)
-      (whole_touch n s (with_names a names) d (key.Entry e.child)
-      (whole_names n s a names k ((update_frame both d (with_joined e)).server ∙ server)
-      (orderly_entry both d first.0 (hold_stays (hold a.names d) e.child d first.0 first.1) dir own e)))
-      (whole_names n s a both k server own)
-
-  full_news : (f : FileId) (q : Key) (gone : List VersionValue) (y : Replica) → y.birth ≡ (replica_of a f).birth → y.edges ≡ touched (without_keys (replica_of a f).edges (keys gone)) q a.tags → IsFull n s y
-  full_news f q gone y birth edges = record {
-    born = birth ∙ (full_of n s a k f).born;
-    edges = subst (AreEdges n s) (sym edges) (edges_touched n s q (without_keys (replica_of a f).edges (keys gone)) a.tags (edges_without n s (replica_of a f).edges (keys gone) (full_of n s a k f).edges));
-  }
-
-  whole_news : (f : FileId) (y : Replica) (stamp : Stamp) → IsFull n s y → IsWhole n s (with_news a f y stamp)
-  whole_news f y stamp full = whole_put n s a (with_news a f y stamp) f y k full (orderly_raised a.names stamp.time k.names) (record { server = refl; servers = refl; replicas = refl })
-
-  -- A VERSION THAT IS MADE
-  pub whole_write : (f : FileId) (stamp : Stamp) (ranges : RangesValue) → IsWhole n s (write a f stamp ranges)
-  whole_write f stamp ranges =
-      let x = replica_of a f in
-      whole_news f (with_write x (own_actor x stamp.server) stamp ranges a.tags) stamp
-      (full_news f (key.Version stamp) x.content.heads (with_write x (own_actor x stamp.server) stamp ranges a.tags) refl refl)
-
-  -- ONE THAT COMES
-  pub whole_version : (f : FileId) (v : VersionValue) → IsWhole n s (put_version a f v)
-  whole_version f v =
-      let x = replica_of a f in
-      chosen (IsWhole n s) (covers x v) a (with_news a f (with_head x v a.tags) v.head.stamp) k
-      (whole_news f (with_head x v a.tags) v.head.stamp (full_news f (key_of v) (covered_heads x.content.heads v) (with_head x v a.tags) refl refl))
-
-  full_begun : (x : Replica) (policy : Policy) → IsFull n s x → IsFull n s (begun x policy)
-  full_begun x policy f = record { born = f.born; edges = f.edges }
-
-  -- A FILE THAT BEGINS
-  pub whole_begin : (f : FileId) (policy : Policy) → IsWhole n s (begin_file a f policy)
-  whole_begin f policy =
-      whole_put n s a (begin_file a f policy) f (begun (replica_of a f) policy) k (full_begun (replica_of a f) policy (full_of n s a k f)) k.names (record { server = refl; servers = refl; replicas = refl })
-
-  pub whole_policy : (f : FileId) (policy : Policy) → IsWhole n s (with_policy a f policy)
-  whole_policy f policy = chosen (IsWhole n s) (has_no_head (replica_of a f)) (begin_file a f policy) a (whole_begin f policy) k
-
-  -- AN ID IS GIVEN OUT
-  pub whole_files : (files : ℕ) → IsWhole n s (with_files a files)
-  whole_files files = record { server = k.server; servers = k.servers; names = k.names; replicas = k.replicas; order = k.order }
-
-  -- ---- an answer
-
-  abbrev with_replicas : ByFile → Store
-  with_replicas rs = record { servers = a.servers; tags = a.tags; files = a.files; names = a.names; replicas = rs }
-
-  stays : IsWhole n s (with_replicas a.replicas)
-  stays = record { server = k.server; servers = k.servers; names = k.names; replicas = k.replicas; order = k.order }
-
-  acked_by : (f : FileId) (link : Link) (q : Key) (g : ℕ) (o : Option Replica) → replica_at a f ≡ o → IsWhole n s (with_replicas (replicas_acked a.replicas f link q g o))
-  acked_by f link q g None e = stays
-  acked_by f link q g (Some x) e =
-      let full = found_replica (IsFull n s) f x a.replicas k.replicas e in
-      let y = with_ack x link.peer link.birth q g in
-      chosen (λ rs. IsWhole n s (with_replicas rs)) (has_edge x link) (insert_entry file_cmp a.replicas f y) a.replicas
-      (whole_put n s a (with_replicas (insert_entry file_cmp a.replicas f y)) f y k (record { born = full.born; edges = edges_acked n s x.edges link.peer link.birth q g full.edges }) k.names
-      (record { server = refl; servers = refl; replicas = refl }))
-      stays
-
-  pub whole_acknowledge : (f : FileId) (link : Link) (q : Key) (g : ℕ) → IsWhole n s (acknowledge a f link q g)
-  whole_acknowledge f link q g = acked_by f link q g (replica_at a f) refl
-
--- ONE THAT COMES ALONG AN EDGE
-pub whole_taken : (n s : ℕ) (a : Store) → IsWhole n s a → (f : FileId) (policy : Policy) (v : VersionValue) → IsWhole n s (take_version a f policy v)
-whole_taken n s a k f policy v =
-    let held = with_names a (hold a.names f) in
-    whole_version n s (with_policy held f policy) (whole_policy n s held (whole_held n s a k f) f policy) f v
+whole_touches n s a (t ∷ ts) k = whole_touches n s (touch a t.file t.key) ts (whole_touch n s a k t.file t.key)

@@ -1,5 +1,5 @@
 -- What each piece of an event leaves of the promises of the edges.
-use Rattle.std.specs.Prelude.{ℕ, ◌≡◌, Bool, true, List, []}
+use Rattle.std.specs.Prelude.{ℕ, ◌≡◌, Bool, true, false, All, Contains, List, [], Some}
 use Rattle.pg_base.specs.declared.id.FileId.{FileId}
 use Rattle.pg_base.specs.declared.policy.Policy.{Policy}
 use Rattle.pg_base.specs.declared.stamp.Stamp.{Stamp}
@@ -9,6 +9,7 @@ use Rattle.pg_edges.specs.declared.key.Key.{Key}
 use Rattle.pg_content.specs.Content.{Among}
 use Rattle.pg_content.specs.History.{Made, version_of}
 use Rattle.pg_flood.specs.Promises.{Saying}
+use Rattle.pg_flood.specs.Promises.Saying.{Other}
 use Rattle.pg_flood.specs.Protocol.{IsSound, KeepsEdges}
 use Rattle.pg_flood.specs.Server.{Holds, Slot}
 use Rattle.pg_flood.proofs.Steps.{AllMay, HasSoundTags, Rule, Steps}
@@ -17,23 +18,28 @@ use Rattle.pg_entries.specs.declared.cell.Cell.TheVariants as cell
 use Rattle.pg_entries.specs.declared.entry.Entry.{Entry}
 use Rattle.pg_msg.specs.declared.message.Ends.{Ends}
 use Rattle.pg_msg.specs.declared.message.Message.TheVariants as message
+use Rattle.pg_msg.specs.declared.message.Sent.{Sent}
 use Rattle.pg_msg.specs.declared.work.Touched.{Touched}
 use Rattle.pg_msg.specs.declared.work.Work.{Work}
-use Rattle.pg_names.specs.Names.{NamesValue, hold, is_dir}
+use Rattle.pg_names.specs.declared.own.Own.{Own}
+use Rattle.pg_names.specs.Names.{NamesValue, fill, is_dir}
 use Rattle.pg_register.specs.declared.flag.Flag.{Flag}
 use Rattle.pg_register.specs.declared.place.Place.{Place}
+use Rattle.pg_register.specs.Flag.{IsByServer}
 use Rattle.pg_store.specs.declared.store.Store.{Store}
+use Rattle.pg_store.specs.Beginning.{begin}
 use Rattle.pg_store.specs.Cells.{cell_at}
-use Rattle.pg_store.specs.Store.{acknowledge, content_of, new_store, take_entry, take_flag, take_place, take_version, with_names, with_policy, write}
+use Rattle.pg_store.specs.Links.{keys, link, unlink}
+use Rattle.pg_store.specs.Store.{acknowledge, content_of, is_held, new_store, take_entry, take_flag, take_place, take_version, with_names, write}
 use Rattle.pg_cells.specs.Done.{link_of}
 use Rattle.pg_cells.specs.Finish.{finish}
 use Rattle.pg_cells.specs.Settling.{settle, touch_all}
 use Rattle.pg_cells.specs.Ticks.{tick}
 use Rattle.pg_promises.specs.Histories.{IsOfHistory}
 use Rattle.pg_promises.specs.Names.{AreNamesUpTo, IsToldBy}
-use Rattle.pg_promises.specs.Seen.{cells, saying}
+use Rattle.pg_promises.specs.Seen.{cells, says, saying}
 use Rattle.pg_promises.specs.UpTo.{IsUpTo}
-use Rattle.pg_promises.specs.Whole.{IsWhole}
+use Rattle.pg_promises.specs.Whole.{IsOther, IsWhole, PatchesAreForDirs}
 
 -- cells are up to themselves, and on through others
 abbrev pub CellsAreSound : Type 0
@@ -41,47 +47,45 @@ CellsAreSound = IsSound cells
 
 -- ---- what comes
 
--- a server goes on by the rule, and then holds a cell of the file or more
+-- a server goes on by the rule, and then holds a cell of the thing or more
 abbrev pub IsTaken : Store → Store → FileId → Cell → Type 0
 IsTaken before after file c = Steps cells before after × Holds IsUpTo (cell_at after file) c
 
+-- of server s of n, and of a thing that it holds
+abbrev pub WhereHeld : (Store → FileId → Type 0) → Type 0
+WhereHeld P = (n s : ℕ) (a : Store) (file : FileId) → IsWhole n s a → is_held a file ≡ true
+    → P a file
+
 abbrev pub PlacesAreTaken : Type 0
-PlacesAreTaken = (a : Store) (file : FileId) (place : Place)
-    → IsTaken a (take_place a file place) file (cell.Place place)
+PlacesAreTaken = WhereHeld (λ a file. (place : Place)
+    → IsTaken a (take_place a file place) file (cell.Place place))
 
 abbrev pub FlagsAreTaken : Type 0
-FlagsAreTaken = (a : Store) (file : FileId) (flag : Flag)
-    → IsTaken a (take_flag a file flag) file (cell.Flag flag)
+FlagsAreTaken = WhereHeld (λ a file. (flag : Flag)
+    → IsTaken a (take_flag a file flag) file (cell.Flag flag))
 
 abbrev pub EntriesAreTaken : Type 0
-EntriesAreTaken = (n s : ℕ) (a : Store) (dir : FileId) (e : Entry) (sure : Bool) → IsWhole n s a
-    → IsTaken a (take_entry a dir e) dir (cell.Entry e sure)
+EntriesAreTaken = WhereHeld (λ a dir. (e : Entry) (sure : Bool)
+    → IsTaken a (take_entry a dir e) dir (cell.Entry e sure))
 
 -- the version of a history, as a file with the policy has it
-abbrev pub coming : Store → FileId → Policy → List Made → Made → VersionValue
-coming a file policy h m =
-    version_of
-    (content_of (with_policy (with_names a (hold a.names file)) file policy) file).policy h m
+abbrev pub coming : Store → FileId → List Made → Made → VersionValue
+coming a file h m = version_of (content_of a file).policy h m
 
 abbrev pub VersionsAreTaken : Type 0
-VersionsAreTaken = (a : Store) (file : FileId) (policy : Policy) (h : List Made) (m : Made)
+VersionsAreTaken = WhereHeld (λ a file. (h : List Made) (m : Made)
     → IsOfHistory h (content_of a file) → Among m h
-    → IsTaken a (take_version a file policy (coming a file policy h m)) file
-    (cell.Version (coming a file policy h m) policy)
+    → IsTaken a (take_version a file (coming a file h m)) file
+    (cell.Version (coming a file h m)))
 
 -- ---- what a server does
 
 abbrev pub VersionsAreMade : Type 0
-VersionsAreMade = (a : Store) (file : FileId) (h : List Made) (stamp : Stamp) (ranges : RangesValue)
-    → IsOfHistory h (content_of a file) → Steps cells a (write a file stamp ranges)
+VersionsAreMade = WhereHeld (λ a file. (h : List Made) (stamp : Stamp) (ranges : RangesValue)
+    → IsOfHistory h (content_of a file) → Steps cells a (write a file stamp ranges))
 
 abbrev pub KeysAreTouched : Type 0
 KeysAreTouched = (a : Store) (ts : List Touched) → Steps cells a (touch_all a ts)
-
--- one thing more is held: nothing of it is seen
-abbrev pub HeldIsUnseen : Type 0
-HeldIsUnseen = (a : Store) (file : FileId) → Steps cells a (with_names a (hold a.names file))
-    × ((f : FileId) (k : Key) → cell_at (with_names a (hold a.names file)) f k ≡ cell_at a f k)
 
 -- names grow, and the keys that tell of it are touched behind that, or before
 abbrev pub NamesAreTold : Type 0
@@ -94,7 +98,47 @@ abbrev pub RulesAreSettled : Type 0
 RulesAreSettled = (n s : ℕ) (a : Store) (work : Work) → IsWhole n s a
     → Steps cells a (settle a work).store
 
--- an answer, to whichever tag, along an edge or not
+-- ---- edges and replicas that come and go
+
+-- the keys of a replica are all that have a cell: so an edge that is made has each of them
+abbrev pub KeysAreAll : Type 0
+KeysAreAll = (a : Store) (file : FileId) (k : Key) (c : Cell) → is_held a file ≡ true
+    → cell_at a file k ≡ Some c → Contains (keys a file) k
+
+-- a birth of a peer is linked: along the new edge nothing is acknowledged yet
+abbrev pub LinksAreSteps : Type 0
+LinksAreSteps =
+    WhereHeld (λ a file. (peer birth : ℕ) → Steps cells a (link a file peer birth))
+
+abbrev pub UnlinksAreSteps : Type 0
+UnlinksAreSteps = (a : Store) (file : FileId) (peer birth : ℕ)
+    → Steps cells a (unlink a file peer birth)
+
+-- a replica begins, of what was not held: it has no edge, whatever it begins with
+abbrev pub BeginningsAreSteps : Type 0
+BeginningsAreSteps = (n s : ℕ) (a : Store) (file : FileId) (birth : ℕ) (policy : Policy)
+    (own : Own) (full : Bool) → IsWhole n s a → is_held a file ≡ false
+    → Steps cells a (begin a file birth policy own full)
+
+-- what stands beside names, replicas and tags is not seen: intentions, wishes, births, numbers of
+-- files
+pub record AreAlike (a b : Store) : Type 0 where
+  pub servers : b.servers ≡ a.servers
+  pub tags : b.tags ≡ a.tags
+  pub names : b.names ≡ a.names
+  pub replicas : b.replicas ≡ a.replicas
+
+abbrev pub WhatIsBesideIsUnseen : Type 0
+WhatIsBesideIsUnseen = (a b : Store) → AreAlike a b → Steps cells a b
+
+-- that a replica is full is not seen either
+abbrev pub FillingIsUnseen : Type 0
+FillingIsUnseen = (a : Store) (file : FileId)
+    → Steps cells a (with_names a (fill a.names file))
+
+-- ---- an answer
+
+-- to whichever tag, along an edge or not
 abbrev pub AnswersAreTaken : Type 0
 AnswersAreTaken = (s : ℕ) (a : Store) (from : ℕ) (ends : Ends) (k : Key) (tag : ℕ)
     → Rule cells s a (acknowledge a ends.file (link_of from ends) k tag)
@@ -114,6 +158,11 @@ TicksMaySend = MaySendMore tick
 abbrev pub EndsMaySend : Type 0
 EndsMaySend = MaySendMore finish
 
+-- what the edges do not read may always be sent
+abbrev pub OthersMayBeSent : Type 0
+OthersMayBeSent = (s : ℕ) (a b : Store) (heard : Saying Slot Cell) (ms : List Sent)
+    → All (λ m. says m ≡ Other) ms → AllMay cells s a b heard ms
+
 -- ---- whole servers
 
 abbrev pub StaysWhole : (Store → Store) → Type 0
@@ -130,12 +179,12 @@ EntriesLeaveWhole =
     (dir : FileId) (e : Entry) → is_dir dir ≡ true → StaysWhole (λ a. take_entry a dir e)
 
 abbrev pub VersionsLeaveWhole : Type 0
-VersionsLeaveWhole = (file : FileId) (policy : Policy) (v : VersionValue)
-    → StaysWhole (λ a. take_version a file policy v)
+VersionsLeaveWhole = (file : FileId) (v : VersionValue) → StaysWhole (λ a. take_version a file v)
 
+-- a version is made of a file that is held
 abbrev pub WritesLeaveWhole : Type 0
-WritesLeaveWhole = (file : FileId) (stamp : Stamp) (ranges : RangesValue)
-    → StaysWhole (λ a. write a file stamp ranges)
+WritesLeaveWhole = (file : FileId) (stamp : Stamp) (ranges : RangesValue) (n s : ℕ) (a : Store)
+    → is_held a file ≡ true → IsWhole n s a → IsWhole n s (write a file stamp ranges)
 
 abbrev pub AnswersLeaveWhole : Type 0
 AnswersLeaveWhole = (from : ℕ) (ends : Ends) (k : Key) (tag : ℕ)
@@ -143,6 +192,28 @@ AnswersLeaveWhole = (from : ℕ) (ends : Ends) (k : Key) (tag : ℕ)
 
 abbrev pub RulesLeaveWhole : Type 0
 RulesLeaveWhole = (work : Work) → StaysWhole (λ a. (settle a work).store)
+
+abbrev pub LinksLeaveWhole : Type 0
+LinksLeaveWhole = (n s : ℕ) (a : Store) (file : FileId) (peer birth : ℕ) → IsOther n s peer
+    → IsWhole n s a → IsWhole n s (link a file peer birth)
+
+abbrev pub UnlinksLeaveWhole : Type 0
+UnlinksLeaveWhole =
+    (file : FileId) (peer birth : ℕ) → StaysWhole (λ a. unlink a file peer birth)
+
+-- of what was not held, with flags that are by server
+abbrev pub BeginningsLeaveWhole : Type 0
+BeginningsLeaveWhole = (n s : ℕ) (a : Store) (file : FileId) (birth : ℕ) (policy : Policy)
+    (own : Own) (full : Bool) → is_held a file ≡ false → IsByServer own.flags
+    → IsWhole n s a → IsWhole n s (begin a file birth policy own full)
+
+-- where nothing changes but what stands beside, and Patches are for directories
+abbrev pub WhatIsBesideLeavesWhole : Type 0
+WhatIsBesideLeavesWhole = (n s : ℕ) (a b : Store) → AreAlike a b → PatchesAreForDirs b
+    → IsWhole n s a → IsWhole n s b
+
+abbrev pub FillingLeavesWhole : Type 0
+FillingLeavesWhole = (file : FileId) → StaysWhole (λ a. with_names a (fill a.names file))
 
 -- ---- the start of a run of so many servers
 

@@ -4,3 +4,4 @@ pub mod Histories
 pub mod Whole
 pub mod Seen
 pub mod Laws
+pub mod Growing

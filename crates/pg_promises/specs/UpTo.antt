@@ -43,5 +43,5 @@ abbrev pub IsUpTo : Cell → Cell → Type 0
 IsUpTo (cell.Place a) (cell.Place b) = IsPlaceUpTo a b
 IsUpTo (cell.Flag a) (cell.Flag b) = IsFlagUpTo a b
 IsUpTo (cell.Entry a sure) (cell.Entry b known) = IsEntryUpTo a b
-IsUpTo (cell.Version a policy) (cell.Version b other) = IsVersionUpTo a b
+IsUpTo (cell.Version a) (cell.Version b) = IsVersionUpTo a b
 IsUpTo _ _ = ⊥

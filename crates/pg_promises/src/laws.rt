@@ -2,15 +2,15 @@
 //! goes on to cover what it covers, and a key that is acknowledged behind them was so before, with
 //! the same cell; so all promises outlive them. Each law is a clause of a function that does nothing.
 
-ghost use Rattle.pg_promises.specs.Laws.{AnswersAreTaken, AnswersLeaveWhole, CellsAreSound, EndsMaySend, EntriesAreTaken, EntriesLeaveWhole, FlagsAreTaken, FlagsLeaveWhole, HeldIsUnseen, KeysAreTouched, NamesAreTold, PlacesAreTaken, PlacesLeaveWhole, RulesAreSettled, RulesLeaveWhole, StartKeepsEdges, StartsWhole, TicksMaySend, VersionsAreMade, VersionsAreTaken, VersionsLeaveWhole, WritesLeaveWhole};
+ghost use Rattle.pg_promises.specs.Laws.{AnswersAreTaken, AnswersLeaveWhole, BeginningsAreSteps, BeginningsLeaveWhole, CellsAreSound, EndsMaySend, EntriesAreTaken, EntriesLeaveWhole, FillingIsUnseen, FillingLeavesWhole, FlagsAreTaken, FlagsLeaveWhole, KeysAreAll, KeysAreTouched, LinksAreSteps, LinksLeaveWhole, NamesAreTold, OthersMayBeSent, PlacesAreTaken, PlacesLeaveWhole, RulesAreSettled, RulesLeaveWhole, StartKeepsEdges, StartsWhole, TicksMaySend, UnlinksAreSteps, UnlinksLeaveWhole, VersionsAreMade, VersionsAreTaken, VersionsLeaveWhole, WhatIsBesideIsUnseen, WhatIsBesideLeavesWhole, WritesLeaveWhole};
 
 /// A cell is up to itself, and what is up to a second is up to whatever the second is up to.
 pub fn cells_are_sound()
     ensures { CellsAreSound }
 {}
 
-/// A cell that comes is held from then on, or more: so its answer may be sent. A version is one of a
-/// history, whose versions are the heads that are held.
+/// A cell that comes to a thing that is held is held from then on, or more: so its answer may be
+/// sent. A version is one of a history, whose versions are the heads that are held.
 pub fn what_comes_is_taken()
     ensures places { PlacesAreTaken }
     ensures flags { FlagsAreTaken }
@@ -18,15 +18,26 @@ pub fn what_comes_is_taken()
     ensures versions { VersionsAreTaken }
 {}
 
-/// A version that is made on all heads, a thing that is held, keys that are touched, names that grow
-/// with the keys touched that tell of it, and the house rules, whatever they change: nothing that is
-/// covered is lost, and no acknowledged key has another cell.
+/// A version that is made on all heads, keys that are touched, names that grow with the keys touched
+/// that tell of it, and the house rules, whatever they change: nothing that is covered is lost, and
+/// no acknowledged key has another cell.
 pub fn changes_are_steps()
     ensures writes { VersionsAreMade }
-    ensures held { HeldIsUnseen }
     ensures touches { KeysAreTouched }
     ensures names { NamesAreTold }
     ensures rules { RulesAreSettled }
+{}
+
+/// An edge that is made has all keys, and one that goes has none any more; a replica that begins has
+/// no edge. What stands beside names, replicas and tags, and that a replica is full, the edges do
+/// not see.
+pub fn links_are_steps()
+    ensures keys { KeysAreAll }
+    ensures links { LinksAreSteps }
+    ensures unlinks { UnlinksAreSteps }
+    ensures beginnings { BeginningsAreSteps }
+    ensures beside { WhatIsBesideIsUnseen }
+    ensures filling { FillingIsUnseen }
 {}
 
 /// An answer takes a key off only where its own cell is still the present one.
@@ -35,13 +46,15 @@ pub fn answers_are_taken()
 {}
 
 /// What a tick sends, and what is sent at the end of an event, are present cells under tags that stand
-/// nowhere else.
+/// nowhere else. What the edges do not read may always be sent.
 pub fn cells_may_be_sent()
     ensures ticks { TicksMaySend }
     ensures ends { EndsMaySend }
+    ensures others { OthersMayBeSent }
 {}
 
-/// Each piece leaves every replica with an edge to each other server, and names as the house rules ask.
+/// Each piece leaves every edge with another server at its other end, just what is held with a
+/// replica, and names as the house rules ask.
 pub fn servers_stay_whole()
     ensures places { PlacesLeaveWhole }
     ensures flags { FlagsLeaveWhole }
@@ -50,6 +63,15 @@ pub fn servers_stay_whole()
     ensures writes { WritesLeaveWhole }
     ensures answers { AnswersLeaveWhole }
     ensures rules { RulesLeaveWhole }
+{}
+
+/// The same of edges and replicas that come and go, and of what the edges do not see.
+pub fn links_leave_whole()
+    ensures links { LinksLeaveWhole }
+    ensures unlinks { UnlinksLeaveWhole }
+    ensures beginnings { BeginningsLeaveWhole }
+    ensures beside { WhatIsBesideLeavesWhole }
+    ensures filling { FillingLeavesWhole }
 {}
 
 /// At the start every server is whole, no tag stands, and each edge keeps what it promises.

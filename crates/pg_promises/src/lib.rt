@@ -4,6 +4,6 @@
 mod laws;
 
 pub use laws::{
-    answers_are_taken, cells_are_sound, cells_may_be_sent, changes_are_steps, servers_stay_whole,
-    start_keeps_promises, what_comes_is_taken,
+    answers_are_taken, cells_are_sound, cells_may_be_sent, changes_are_steps, links_are_steps,
+    links_leave_whole, servers_stay_whole, start_keeps_promises, what_comes_is_taken,
 };

@@ -1,126 +1,198 @@
--- Wherever no message is under way and nothing is owed, all servers hold the same.
-use Rattle.std.proofs.Common.{[], ℕ, ◌≡◌, ◌≢◌, ◌≤◌, List, ◌∷◌, Option, None, Some, refl, sym, subst, ◌∙◌, inl, inr}
-use Rattle.std.proofs.lemmas.Bool.Decides.{eqb_tells}
-use Rattle.std.proofs.lemmas.Option.{none-some}
+-- Wherever no message is under way and nothing is owed, servers that are joined for a thing hold the same of it.
+use Rattle.std.proofs.Common.{[], ℕ, ◌≡◌, ◌≢◌, ◌≤◌, ◌==◌, Bool, true, false, cond, List, ◌∷◌, Option, None, Some, is_some, refl, sym, ap, subst, ◌∙◌, inl, inr}
+use Rattle.std.proofs.lemmas.Bool.{eqb-true, false≢true}
+use Rattle.std.proofs.lemmas.Option.{none-some, same_Some}
 use Rattle.pg_base.specs.declared.id.FileId.{FileId}
-use Rattle.pg_base.specs.Version.{VersionValue}
+use Rattle.pg_content.specs.Content.{Among, ContentValue}
 use Rattle.pg_content.specs.Covering.{AreCoveredBy}
+use Rattle.pg_content.specs.StandsFor.{InStrictOrder}
 use Rattle.pg_content.proofs.Covering.{covered_same}
-use Rattle.pg_event.specs.declared.entry.Entry.{Entry as Told}
+use Rattle.pg_event.specs.declared.event.Event.{Event}
 use Rattle.pg_entries.specs.declared.entry.Entry.{Entry}
 use Rattle.pg_names.specs.declared.own.Own.{Own}
-use Rattle.pg_names.specs.Names.{cell_at, or_blank, own_at, own_or_blank}
+use Rattle.pg_names.specs.Names.{HeldValue, cell_at, known, or_blank, own_at, own_of, own_or_blank}
 use Rattle.pg_names.proofs.Alike.{own_of_parts}
 use Rattle.pg_register.specs.declared.flag.Flag.{Flag}
-use Rattle.pg_register.specs.Flag.{flag_of}
+use Rattle.pg_register.specs.Flag.{IsByServer, flag_of}
 use Rattle.pg_register.specs.Laws.{IsOneFlag}
-use Rattle.pg_register.proofs.ByServer.{IsByServer-nil}
+use Rattle.pg_replica.specs.declared.replica.Replica.{Replica}
+use Rattle.pg_replica.specs.Replicas.{or_nothing}
 use Rattle.pg_store.specs.declared.store.Store.{Store}
-use Rattle.pg_store.specs.Store.{content_of}
-use Rattle.pg_run.specs.Journal.{bag, versions}
+use Rattle.pg_store.specs.Store.{content_of, replica_at}
+use Rattle.pg_promises.specs.UpTo.{AreFlagsUpTo, IsPlaceUpTo}
+use Rattle.pg_promises.specs.Whole.{IsOther, IsWhole}
+use Rattle.pg_run.specs.Graphs.{AreJoined, HasEdge, Holds, IsChain}
+use Rattle.pg_run.specs.Journal.{versions}
+use Rattle.pg_run.specs.Known.{AreTold, IsFlagOf, IsStoreTold, of_run}
+use Rattle.pg_run.specs.Laws.{content_taken}
 use Rattle.pg_run.specs.Quiet.{IsQuiet}
 use Rattle.pg_run.specs.Run.{World, run}
-use Rattle.pg_kept.specs.Histories.{HoldHistories, HoldsHistory, policy_with}
+use Rattle.pg_run.specs.State.{versions_taken}
+use Rattle.pg_quiet.specs.Given.{AgreementIsGiven}
 use Rattle.pg_quiet.specs.Laws.{HoldTheSame, QuietStoresAgree}
-use Rattle.pg_quiet.proofs.Across.{entries_up, flags_up, heads_up, place_up}
+use Rattle.pg_quiet.proofs.Across.{entries_up, flags_up, heads_up, peer_is, place_up}
 use Rattle.pg_quiet.proofs.Alike.{AreOneEntry, entries_alike, flags_alike, same_place}
-use Rattle.pg_places.proofs.Book.{In, in_one}
-use Rattle.pg_places.proofs.HouseKnown.{none_root}
-use Rattle.pg_places.proofs.Known.{AreFirst}
-use Rattle.pg_kept.proofs.Runs.{Keeps}
-use Rattle.pg_places.proofs.WorldsKnown.{AllKnown, run_known}
 
--- flags of first replicas are one
-first_one : (fs gs : List Flag) → AreFirst fs → AreFirst gs → (m : ℕ) → IsOneFlag (flag_of fs m) (flag_of gs m)
-first_one fs gs a b m f g h i birth number = a.each m f h ∙ sym (b.each m g i)
+-- ---- what is held
 
--- what covers nothing covers no version
-none_covered : (vs : List VersionValue) → AreCoveredBy vs [] → vs ≡ []
-none_covered [] h = refl
-none_covered (v ∷ vs) h = absurd (h v (inl refl)).1
+pub own_by : (o : Option HeldValue) → is_some o ≡ true → (x : HeldValue) × (o ≡ Some x)
+own_by None h = absurd (false≢true h)
+own_by (Some x) h = (x, refl)
 
-same_policy : (file : FileId) (journal : List Told) (vs ws : List VersionValue) → AreCoveredBy vs ws → AreCoveredBy ws vs → policy_with file journal vs ≡ policy_with file journal ws
-same_policy file journal [] [] up down = refl
-same_policy file journal [] (w ∷ ws) up down = absurd (down w (inl refl)).1
-same_policy file journal (v ∷ vs) [] up down = absurd (up v (inl refl)).1
-same_policy file journal (v ∷ vs) (w ∷ ws) up down = refl
+-- what has a replica is held
+held_own : (n s : ℕ) (a : Store) (file : FileId) (x : Replica) → IsWhole n s a → replica_at a file ≡ Some x
+    → (own : Own) × (own_at a.names file ≡ Some own)
+held_own n s a file x whole is =
+    let h = own_by (known a.names file) (sym (whole.together file) ∙ ap is_some is) in
+    (h.0.own, ap own_of h.1)
 
-module _ (n : ℕ) (w : World) (holds : HoldsHistory n w) (kept : Keeps n w) (k : AllKnown w) (quiet : IsQuiet n w) (file : FileId) where
+-- ---- flags
+
+found_at : (f : Flag) (fs : List Flag) (m : ℕ) (g : Flag) (t : Bool) → (f.server == m) ≡ t
+    → (flag_of fs m ≡ Some g → Among g fs × (g.server ≡ m)) → cond t (Some f) (flag_of fs m) ≡ Some g → Among g (f ∷ fs) × (g.server ≡ m)
+found_at f fs m g true is rest h =
+    let same : f ≡ g = same_Some f g h in
+    (inl (sym same), ap (λ (x : Flag). x.server) (sym same) ∙ eqb-true f.server m is)
+found_at f fs m g false is rest h = let k = rest h in (inr k.0, k.1)
+
+flag_found : (fs : List Flag) (m : ℕ) (g : Flag) → flag_of fs m ≡ Some g → Among g fs × (g.server ≡ m)
+flag_found [] m g h = absurd (none-some g h)
+flag_found (f ∷ fs) m g h = found_at f fs m g (f.server == m) refl (flag_found fs m g) h
+
+module _ (n : ℕ) (g : AgreementIsGiven n) (events : List Event) (quiet : IsQuiet n (run n events)) (file : FileId) where
+  abbrev W : World
+  W = run n events
+
   abbrev A : ℕ → Store
-  A s = w.stores s
+  A s = W.stores s
 
-  place_by : (s : ℕ) (o : Option Own) → own_at (A s).names file ≡ o → In k.book file (or_blank file o).place
-  place_by s None e = k.blanks file (none_root (A s).names (k.top s) file e)
-  place_by s (Some own) e = ((k.known s).own file own e).stands
+  -- two flags of a server, of one thing, are one: it holds the thing, with that flag
+  one_flag : (thing : FileId) (f h : Flag) → IsFlagOf n W thing f → IsFlagOf n W thing h → f.server ≡ h.server → f ≡ h
+  one_flag thing f h a b same =
+      let x = g.flags events thing f a in
+      let y = g.flags events thing h b in
+      let P : ℕ → Type 0 = λ m. own_at (A m).names thing ≡ Some y.0 in
+      let Q : ℕ → Type 0 = λ m. flag_of y.0.flags m ≡ Some h in
+      let own : x.0 ≡ y.0 = same_Some x.0 y.0 (sym x.1 ∙ subst P (sym same) y.1) in
+      same_Some f h (sym x.2 ∙ ap (λ (o : Own). flag_of o.flags f.server) own ∙ subst Q (sym same) y.2)
 
-  flags_by : (s : ℕ) (o : Option Own) → own_at (A s).names file ≡ o → AreFirst (or_blank file o).flags
-  flags_by s None e = record { sorted = IsByServer-nil; each = λ m g h. absurd (none-some g h) }
-  flags_by s (Some own) e = ((k.known s).own file own e).first
+  flags_one : (thing : FileId) (fs hs : List Flag) → ((f : Flag) → Among f fs → IsFlagOf n W thing f)
+      → ((f : Flag) → Among f hs → IsFlagOf n W thing f) → (m : ℕ) → IsOneFlag (flag_of fs m) (flag_of hs m)
+  flags_one thing fs hs a b m f h i j birth number =
+      let x = flag_found fs m f i in
+      let y = flag_found hs m h j in
+      one_flag thing f h (a f x.0) (b h y.0) (x.1 ∙ sym y.1)
 
-  place_of : (s : ℕ) → In k.book file (own_or_blank (A s).names file).place
-  place_of s = place_by s (own_at (A s).names file) refl
+  module _ (s t : ℕ) (ls : 1 ≤ s) (ms : s ≤ n) (lt : 1 ≤ t) (mt : t ≤ n) (there : HasEdge W file s t) (back : HasEdge W file t s) where
+    first : IsStoreTold (of_run n W) (A s)
+    first = (g.known events).stores s ls ms
 
-  first_of : (s : ℕ) → AreFirst (own_or_blank (A s).names file).flags
-  first_of s = flags_by s (own_at (A s).names file) refl
+    second : IsStoreTold (of_run n W) (A t)
+    second = (g.known events).stores t lt mt
 
-  one_entry : (s t : ℕ) (child : FileId) (x y : Entry) → cell_at (A s).names file child ≡ Some x → cell_at (A t).names file child ≡ Some y → AreOneEntry x y
-  one_entry s t child x y h i =
-      let a = (k.known s).cells file child x h in
-      let b = (k.known t).cells file child y i in
-      record {
-        place = in_one k.book child x.place y.place a.stands b.stands;
-        first = a.first.sorted;
-        second = b.first.sorted;
-        flags = first_one x.flags y.flags a.first b.first;
-      }
+    whole_s : IsWhole n s (A s)
+    whole_s = g.whole events s ls ms
 
-  module _ (s t : ℕ) (ls : 1 ≤ s) (ms : s ≤ n) (lt : 1 ≤ t) (mt : t ≤ n) (apart : t ≢ s) where
-    back : s ≢ t
-    back e = apart (sym e)
+    whole_t : IsWhole n t (A t)
+    whole_t = g.whole events t lt mt
+
+    same_by : (a b : Own) → own_at (A s).names file ≡ Some a → own_at (A t).names file ≡ Some b
+        → own_or_blank (A s).names file ≡ own_or_blank (A t).names file
+    same_by a b i j =
+        let x = first.own file a i in
+        let y = second.own file b j in
+        let is_a : own_or_blank (A s).names file ≡ a = ap (or_blank file) i in
+        let is_b : own_or_blank (A t).names file ≡ b = ap (or_blank file) j in
+        let up = place_up n W file s t there (quiet.nothing s ls ms) (g.acknowledged events s ls ms) whole_s whole_t in
+        let down = place_up n W file t s back (quiet.nothing t lt mt) (g.acknowledged events t lt mt) whole_t whole_s in
+        let fup = flags_up n W file s t there (quiet.nothing s ls ms) (g.acknowledged events s ls ms) whole_s whole_t in
+        let fdown = flags_up n W file t s back (quiet.nothing t lt mt) (g.acknowledged events t lt mt) whole_t whole_s in
+        let P : Own → Own → Type 0 = λ p q. IsPlaceUpTo p.place q.place in
+        let F : Own → Own → Type 0 = λ p q. AreFlagsUpTo p.flags q.flags in
+        let places : a.place ≡ b.place =
+        same_place a.place b.place (g.stamps events file a.place b.place x.place_is y.place_is)
+        (subst (λ (p : Own). P p b) is_a (subst (λ (q : Own). P (own_or_blank (A s).names file) q) is_b up))
+        (subst (λ (p : Own). P p a) is_b (subst (λ (q : Own). P (own_or_blank (A t).names file) q) is_a down)) in
+        let flags : a.flags ≡ b.flags =
+        flags_alike a.flags b.flags x.sorted y.sorted (flags_one file a.flags b.flags x.flags_are y.flags_are)
+        (subst (λ (p : Own). F p b) is_a (subst (λ (q : Own). F (own_or_blank (A s).names file) q) is_b fup))
+        (subst (λ (p : Own). F p a) is_b (subst (λ (q : Own). F (own_or_blank (A t).names file) q) is_a fdown)) in
+        is_a ∙ own_of_parts a.place b.place a.flags b.flags places flags ∙ sym is_b
 
     same_own : own_or_blank (A s).names file ≡ own_or_blank (A t).names file
     same_own =
-        let a = own_or_blank (A s).names file in
-        let b = own_or_blank (A t).names file in
-        own_of_parts a.place b.place a.flags b.flags
-        (same_place a.place b.place (in_one k.book file a.place b.place (place_of s) (place_of t))
-        (place_up n w.stores (bag w.journal) kept s t (quiet.nothing s ls ms) lt mt apart file)
-        (place_up n w.stores (bag w.journal) kept t s (quiet.nothing t lt mt) ls ms back file))
-        (flags_alike a.flags b.flags (first_of s).sorted (first_of t).sorted (first_one a.flags b.flags (first_of s) (first_of t))
-        (flags_up n w.stores (bag w.journal) kept s t (quiet.nothing s ls ms) lt mt apart file)
-        (flags_up n w.stores (bag w.journal) kept t s (quiet.nothing t lt mt) ls ms back file))
+        let a = held_own n s (A s) file there.here.replica whole_s there.here.is in
+        let b = held_own n t (A t) file there.there.replica whole_t there.there.is in
+        same_by a.0 b.0 a.1 b.1
+
+    one_entry : (child : FileId) (x y : Entry) → cell_at (A s).names file child ≡ Some x → cell_at (A t).names file child ≡ Some y → AreOneEntry x y
+    one_entry child x y h i =
+        let a = first.cells file child x h in
+        let b = second.cells file child y i in
+        let P : FileId → Type 0 = λ c. AreTold (of_run n W) c y.place y.flags in
+        let c : AreTold (of_run n W) x.child y.place y.flags = subst P (b.0 ∙ sym a.0) b.1 in
+        record {
+          place = g.stamps events x.child x.place y.place a.1.place_is c.place_is;
+          first = a.1.sorted;
+          second = b.1.sorted;
+          flags = flags_one x.child x.flags y.flags a.1.flags_are c.flags_are;
+        }
 
     same_entries : (child : FileId) → cell_at (A s).names file child ≡ cell_at (A t).names file child
     same_entries child =
-        entries_alike (cell_at (A s).names file child) (cell_at (A t).names file child) (one_entry s t child)
-        (entries_up n w.stores (bag w.journal) kept s t (quiet.nothing s ls ms) lt mt apart file child)
-        (entries_up n w.stores (bag w.journal) kept t s (quiet.nothing t lt mt) ls ms back file child)
+        entries_alike (cell_at (A s).names file child) (cell_at (A t).names file child) (one_entry child)
+        (entries_up n W file s t there (quiet.nothing s ls ms) (g.acknowledged events s ls ms) whole_s whole_t child)
+        (entries_up n W file t s back (quiet.nothing t lt mt) (g.acknowledged events t lt mt) whole_t whole_s child)
+
+    -- the content of a replica is the state of what it took
+    taken_is : (m : ℕ) (lm : 1 ≤ m) (mm : m ≤ n) (x : Replica) → replica_at (A m) file ≡ Some x → content_of (A m) file ≡ content_taken W file m
+    taken_is m lm mm x is = ap (λ (o : Option Replica). (or_nothing o).content) is ∙ g.took events file m lm mm x is
 
     same_content : content_of (A s) file ≡ content_of (A t) file
     same_content =
-        let c = content_of (A s) file in
-        let d = content_of (A t) file in
-        let first = holds.stands s ls ms file in
-        let second = holds.stands t lt mt file in
-        let up = heads_up n w.stores (bag w.journal) kept s t (quiet.nothing s ls ms) lt mt apart file first.1.order in
-        let down = heads_up n w.stores (bag w.journal) kept t s (quiet.nothing t lt mt) ls ms back file second.1.order in
-        covered_same (versions file w.journal) (holds.histories file) c d first.0 second.0 first.1 second.1
-        (holds.policies s ls ms file ∙ same_policy file w.journal c.heads d.heads up down ∙ sym (holds.policies t lt mt file)) up down
+        let c = content_taken W file s in
+        let d = content_taken W file t in
+        let is_c = taken_is s ls ms there.here.replica there.here.is in
+        let is_d = taken_is t lt mt there.there.replica there.there.is in
+        let a = g.heads events s file in
+        let b = g.heads events t file in
+        let C : ContentValue → ContentValue → Type 0 = λ p q. AreCoveredBy p.heads q.heads in
+        let O : ContentValue → Type 0 = λ p. InStrictOrder p.heads in
+        let up = heads_up n W file s t there (quiet.nothing s ls ms) (g.acknowledged events s ls ms) whole_s whole_t (subst O (sym is_c) a.order) in
+        let down = heads_up n W file t s back (quiet.nothing t lt mt) (g.acknowledged events t lt mt) whole_t whole_s (subst O (sym is_d) b.order) in
+        is_c
+        ∙ covered_same (versions file W.history) (g.histories events file) c d (versions_taken file W.history (W.took s)) (versions_taken file W.history (W.took t)) a b refl
+        (subst (λ (p : ContentValue). C p d) is_c (subst (λ (q : ContentValue). C (content_of (A s) file) q) is_d up))
+        (subst (λ (p : ContentValue). C p c) is_d (subst (λ (q : ContentValue). C (content_of (A t) file) q) is_c down))
+        ∙ sym is_d
 
     same_held : HoldTheSame (A s) (A t) file
     same_held = record { own = same_own; entries = same_entries; content = same_content }
 
-  itself : (s t : ℕ) → t ≡ s → HoldTheSame (A s) (A t) file
-  itself s t e = let P : ℕ → Type 0 = λ i. HoldTheSame (A s) (A i) file in subst P (sym e) (record { own = refl; entries = λ child. refl; content = refl })
+  -- ---- along a chain
 
-  pub agree : (s t : ℕ) → 1 ≤ s → s ≤ n → 1 ≤ t → t ≤ n → HoldTheSame (A s) (A t) file
-  agree s t ls ms lt mt = elim (eqb_tells t s) [
-    | inl e ↦ itself s t e.1
-    | inr e ↦ same_held s t ls ms lt mt e.1
-  ]
+  turned : (s t : ℕ) → HasEdge W file s t → HasEdge W file t s
+  turned s t e = record { here = e.there; there = e.here; names = e.named; named = e.names }
+
+  further : (s u t : ℕ) → HoldTheSame (A s) (A u) file → HoldTheSame (A u) (A t) file → HoldTheSame (A s) (A t) file
+  further s u t a b = record { own = a.own ∙ b.own; entries = λ child. a.entries child ∙ b.entries child; content = a.content ∙ b.content }
+
+  -- the other end of an edge is a server of the run
+  one_edge : (s t : ℕ) → 1 ≤ s → s ≤ n → 1 ≤ t → t ≤ n → HasEdge W file s t → HoldTheSame (A s) (A t) file
+  one_edge s t ls ms lt mt e = same_held s t ls ms lt mt e (turned s t e)
+
+  peer_of : (s t : ℕ) → 1 ≤ s → s ≤ n → HasEdge W file s t → IsOther n s t
+  peer_of s t ls ms e = peer_is n W file s t e (g.whole events s ls ms)
+
+  along : (between : List ℕ) (s t : ℕ) → 1 ≤ s → s ≤ n → 1 ≤ t → t ≤ n → IsChain W file s between t → HoldTheSame (A s) (A t) file
+  along [] s t ls ms lt mt e = one_edge s t ls ms lt mt e
+  along (u ∷ us) s t ls ms lt mt chain =
+      let other = peer_of s u ls ms chain.0 in
+      further s u t (one_edge s u ls ms other.least other.most chain.0) (along us u t other.least other.most lt mt chain.1)
+
+  pub joined_same : (s t : ℕ) → 1 ≤ s → s ≤ n → 1 ≤ t → t ≤ n → AreJoined W file s t → HoldTheSame (A s) (A t) file
+  joined_same s t ls ms lt mt joined = along joined.0 s t ls ms lt mt joined.1
 
 -- AGREEMENT WHEN QUIET
-pub quiet_stores_agree : (n : ℕ) → HoldHistories n → QuietStoresAgree n
-quiet_stores_agree n holds events quiet file s ls ms t lt mt =
-    let k = run_known n holds events in
-    agree n (run n events) (holds events) k.0 k.1 quiet file s t ls ms lt mt
+pub quiet_stores_agree : (n : ℕ) → AgreementIsGiven n → QuietStoresAgree n
+quiet_stores_agree n g events quiet file s ls ms t lt mt joined = joined_same n g events quiet file s t ls ms lt mt joined

@@ -1,20 +1,19 @@
 -- Replicas whose peers have acknowledged every key.
-use Rattle.std.proofs.lemmas.Bool.{and_parts}
-use Rattle.std.proofs.Common.{◌≡◌, ℕ, zero, suc, Bool, true, false, cond, nat_eq, ◌&&◌, ◌==◌, Some, List, [], ◌∷◌, ◌++◌, refl, ap, ◌∙◌, Less, Equal, Greater}
+use Rattle.std.proofs.Common.{◌≡◌, ℕ, zero, suc, Bool, true, false, cond, not, length, arith, nat_eq, ◌&&◌, ◌==◌, Some, List, [], ◌∷◌, ◌++◌, refl, ap, ◌∙◌, Less, Equal, Greater}
 use Rattle.std.specs.declared.cmp.Ordering.{Ordering}
 use Rattle.std.specs.Ordering.{nat_cmp, match_ordering}
 use Rattle.std.specs.Option.{option_eq}
-use Rattle.std.specs.List.{flat_map}
+use Rattle.std.specs.List.{filter, flat_map}
 use Rattle.std.proofs.lemmas.Bool.{and_parts}
 use Rattle.pg_edges.specs.declared.key.Key.{Key}
 use Rattle.pg_edges.specs.declared.edge.Edge.{Edge}
 use Rattle.pg_edges.specs.Keys.{without}
-use Rattle.pg_edges.specs.Edges.{acked, put_edge, take_off, taken_off, tag_at}
+use Rattle.pg_edges.specs.Edges.{acked, is_listed, put_edge, take_off, taken_off, tag_at, unlinked, without_edge}
 use Rattle.pg_replica.specs.declared.link.Link.{Link}
 use Rattle.pg_replica.specs.declared.replica.Replica.{Replica}
 use Rattle.pg_edges.specs.Edges.{is_none, are_clean}
 use Rattle.pg_replica.specs.Replica.{has_edge, with_ack_along}
-use Rattle.pg_replica.specs.Untouched.{clean_edge, clean_edges}
+use Rattle.pg_replica.specs.Root.{clean_edge, clean_edges}
 
 -- ---- replicas that are all clean
 
@@ -49,7 +48,7 @@ clean_by es fs false h k = k
 pub clean_acked : (es : List Edge) (peer birth : ℕ) (key : Key) (tag : ℕ) → are_clean es ≡ true → are_clean (acked es peer birth key tag) ≡ true
 clean_acked es peer birth key tag h = clean_by es (taken_off es peer key) (option_eq nat_eq (tag_at es peer birth key) (Some tag)) (clean_taken_off peer key es h) h
 
--- ---- a replica that nobody has touched
+-- ---- the first replica of the root
 
 clean_put_by : (e x : Edge) (es : List Edge) (o : Ordering) → is_none x.keys ≡ true
     → are_clean (e ∷ es) ≡ true → are_clean (put_edge es x) ≡ true
@@ -65,12 +64,12 @@ clean_put (e ∷ es) x h k =
     clean_put_by e x es (nat_cmp x.peer e.peer) h k
     (clean_put es x h (and_parts (is_none e.keys) (are_clean es) k).1)
 
-pub clean_new : (server servers : ℕ) → are_clean (clean_edges server servers) ≡ true
-clean_new server zero = refl
-clean_new server (suc k) =
+pub clean_first : (server servers : ℕ) → are_clean (clean_edges server servers) ≡ true
+clean_first server zero = refl
+clean_first server (suc k) =
     clean_by (put_edge (clean_edges server k) (clean_edge (suc k))) (clean_edges server k)
-    (suc k == server) (clean_new server k)
-    (clean_put (clean_edges server k) (clean_edge (suc k)) refl (clean_new server k))
+    (suc k == server) (clean_first server k)
+    (clean_put (clean_edges server k) (clean_edge (suc k)) refl (clean_first server k))
 
 -- ---- an answer makes no replica unclean
 
@@ -84,3 +83,21 @@ clean_along x link key tag h =
         → are_clean (cond t (record { birth = x.birth; content = x.content; edges = es }) x).edges ≡ true
     along_by true es k = k
     along_by false es k = h
+
+-- ---- nor does an edge that goes
+
+clean_kept : (p : Edge → Bool) (es : List Edge) → are_clean es ≡ true → are_clean (filter p es) ≡ true
+clean_kept p [] h = refl
+clean_kept p (e ∷ es) h =
+    let b = and_parts (is_none e.keys) (are_clean es) h in
+    clean_by (filter p es) (e ∷ filter p es) (p e) (both_are _ _ b.0 (clean_kept p es b.1)) (clean_kept p es b.1)
+
+pub clean_unlinked : (es : List Edge) (peer birth : ℕ) → are_clean es ≡ true → are_clean (unlinked es peer birth) ≡ true
+clean_unlinked es peer birth h =
+    clean_by es (without_edge es peer) (is_listed es peer birth) (clean_kept (λ (e : Edge). not (e.peer == peer)) es h) h
+
+-- ---- where there is no edge, all is clean
+
+pub clean_none : (es : List Edge) → length es ≡ 0 → are_clean es ≡ true
+clean_none [] h = refl
+clean_none (e ∷ es) h = absurd (omega arith)

@@ -19,10 +19,8 @@ use Rattle.pg_base.proofs.Vectors.{actor_exact}
 use Rattle.pg_content.specs.Shown.{inserted}
 use Rattle.pg_content.specs.Content.{ContentValue, covers_version, is_covered, joined_version, put_version}
 use Rattle.pg_replica.specs.declared.replica.Replica.{Replica}
-use Rattle.pg_replica.specs.declared.untouched.Home.{Home}
 use Rattle.pg_replica.specs.Replica.{has_end, has_own_end, has_room, knows_own_end, own_actor}
-use Rattle.pg_replica.specs.Replicas.{ByFile, have_own_end, is_own_end_in, or_new, replica_for, replica_in}
-use Rattle.pg_replica.specs.Untouched.{new_replica}
+use Rattle.pg_replica.specs.Replicas.{ByFile, have_own_end, is_own_end_in, or_nothing, replica_in}
 use Rattle.pg_replica.specs.Index.{Files, IsIndexBy, KnowsNoEnd, Relists, with_end}
 use Rattle.pg_replica.proofs.Merging.{by_index}
 use Rattle.pg_replica.proofs.Relisting.{relists_more, relists_same}
@@ -87,11 +85,16 @@ pub ends_alone : (us vs : Files) (file : FileId) (x y : Replica) (v : VersionVal
 ends_alone us vs file x y v is alone =
     ends_listed us vs file x y v is (λ h none. subst (All HasNoEnd) (sym alone) (All-cons HasNoEnd v [] h (All-nil HasNoEnd)))
 
--- a new replica has no head
-pub new_none : (x : Replica) (server servers : ℕ) → x ≡ new_replica server servers → KnowsNoEnd x
-new_none x server servers new =
-    let P : Replica → Type 0 = λ y. KnowsNoEnd y in
-    subst P (sym new) (All-nil HasNoEnd)
+-- no head knows none
+pub no_heads : (x : Replica) → x.content.heads ≡ [] → KnowsNoEnd x
+no_heads x none = subst (All HasNoEnd) (sym none) (All-nil HasNoEnd)
+
+-- the files that are listed stay, and so does the content
+pub ends_same : (us vs : Files) (file : FileId) (x y : Replica) → vs ≡ us
+    → y.content ≡ x.content → Relists KnowsNoEnd us vs file x y
+ends_same us vs file x y listed same =
+    let P : ContentValue → Type 0 = λ z. All HasNoEnd z.heads in
+    relists_same us vs file x y listed (λ none. subst P (sym same) none)
 
 -- ---- the files that are listed are enough
 
@@ -169,10 +172,10 @@ heads_room a (v ∷ vs) h =
     (found_own a v.head.vector parts.0)
     ∙ heads_room a vs parts.1
 
-room_in : (home : Home) (server : ℕ) (o : Option Replica) → is_own_end_in server o ≡ false
-    → has_room (or_new home o) server ≡ true
-room_in home server None h = refl
-room_in home server (Some x) h = ap not (heads_room (own_actor x server) x.content.heads h)
+room_in : (server : ℕ) (o : Option Replica) → is_own_end_in server o ≡ false
+    → has_room (or_nothing o) server ≡ true
+room_in server None h = refl
+room_in server (Some x) h = ap not (heads_room (own_actor x server) x.content.heads h)
 
 found_by : (server : ℕ) (x : Replica) (t : Bool) (o : Option Replica) → knows_own_end server x ≡ false
     → is_own_end_in server o ≡ false → is_own_end_in server (cond t (Some x) o) ≡ false
@@ -187,6 +190,6 @@ found_none server file (r ∷ rs) h =
     found_by server r.1 (is_at (file_cmp file) r.0) (replica_in rs file) parts.0 (found_none server file rs parts.1)
 
 -- where no number of the server's own is at its end, every replica has room for one more
-pub room_without_end : (home : Home) (file : FileId) (server : ℕ) (es : ByFile) → have_own_end es server ≡ false
-    → has_room (replica_for home es file) server ≡ true
-room_without_end home file server es h = room_in home server (replica_in es file) (found_none server file es h)
+pub room_without_end : (file : FileId) (server : ℕ) (es : ByFile) → have_own_end es server ≡ false
+    → has_room (or_nothing (replica_in es file)) server ≡ true
+room_without_end file server es h = room_in server (replica_in es file) (found_none server file es h)

@@ -46,7 +46,8 @@ module _ {K : Type 0} (R : K → K → Ordering) where
   alike : CmpEqualImpliesEq R → (p : K → Bool) (q x : K) → R q x ≡ Equal → p x ≡ p q
   alike exact p q x e = ap p (sym (exact q x e))
 
-  sorted_filter : {X : Type 0} (p : K → Bool) (es : List (K × X)) → IsStrictlySortedBy R (keys_of es) → IsStrictlySortedBy R (keys_of (filter (λ (e : K × X). p e.0) es))
+  -- the entries whose keys pass are in order too
+  pub sorted_filter : {X : Type 0} (p : K → Bool) (es : List (K × X)) → IsStrictlySortedBy R (keys_of es) → IsStrictlySortedBy R (keys_of (filter (λ (e : K × X). p e.0) es))
   sorted_filter p es s = subst (IsStrictlySortedBy R) (sym (keys_of-filter p es)) (IsStrictlySortedBy-filter R p (keys_of es) s)
 
   module _ {X : Type 0} where

@@ -1,6 +1,7 @@
 -- Which files are listed when a replica changes.
-use Rattle.std.proofs.Common.{◌≡◌, Bool, true, false, cond, Option, None, Some, refl, sym, ap, subst, ◌∙◌}
+use Rattle.std.proofs.Common.{ℕ, ◌≡◌, Bool, true, false, cond, nat_lt, length, arith, Option, None, Some, refl, sym, ap, subst, ◌∙◌}
 use Rattle.std.specs.declared.cmp.Ordering.{Ordering}
+use Rattle.std.proofs.lemmas.Bool.Decides.{nat_tests}
 use Rattle.std.specs.Ordering.{eq_by_cmp}
 use Rattle.std.specs.Map.{lookup, set_value}
 use Rattle.std.specs.BTreeMap.{is_at, insert_entry}
@@ -11,11 +12,15 @@ use Rattle.pg_base.proofs.Entries.{IsStrictlySortedBy-insert_entry, insert_there
 use Rattle.pg_base.proofs.Orders.{file_total, is_same_file-refl, is_same_file-true}
 use Rattle.pg_replica.specs.declared.replica.Replica.{Replica}
 use Rattle.pg_replica.specs.Replicas.{ByFile, replica_in}
-use Rattle.pg_replica.specs.Index.{Files, IsIndexBy, ListsOthers, Relists}
+use Rattle.pg_replica.specs.Index.{Files, IsAllClean, IsIndexBy, ListsOthers, Relists, with_keys}
+use Rattle.pg_replica.proofs.Clean.{clean_none}
 
 -- the program's order of files, which is that of the definitions
 abbrev Order : Type 0
 Order = FileId → FileId → Ordering
+
+no_length : (n : ℕ) → nat_lt 0 n ≡ false → n ≡ 0
+no_length n h = grind (arith, nat_tests)
 
 -- ---- which files are listed then
 
@@ -79,6 +84,25 @@ relists_less {P} us vs file x y R o less has =
       own = λ none was. has;
     }
 
+-- a file more, if its replica has an edge: where it has none there is no key
+keys_by : (us : Files) (file : FileId) (x y : Replica) (t : Bool) → nat_lt 0 (length x.edges) ≡ t
+    → (length x.edges ≡ 0 → length y.edges ≡ 0) → Relists IsAllClean us (with_keys us file x) file x y
+keys_by us file x y true e none =
+    relists_more us (with_keys us file x) file x y file_cmp refl (ap (λ b. cond b (insert_entry file_cmp us file tt) us) e)
+keys_by us file x y false e none =
+    relists_same us (with_keys us file x) file x y (ap (λ b. cond b (insert_entry file_cmp us file tt) us) e)
+    (λ clean. clean_none y.edges (none (no_length (length x.edges) e)))
+
+pub keys_listed : (us vs : Files) (file : FileId) (x y : Replica) → vs ≡ with_keys us file x
+    → (length x.edges ≡ 0 → length y.edges ≡ 0) → Relists IsAllClean us vs file x y
+keys_listed us vs file x y is none =
+    let P : Files → Type 0 = λ zs. Relists IsAllClean us zs file x y in
+    subst P (sym is) (keys_by us file x y (nat_lt 0 (length x.edges)) refl none)
+
+-- and the replica is as it was
+pub keys_same : (us vs : Files) (file : FileId) (x : Replica) → vs ≡ with_keys us file x → Relists IsAllClean us vs file x x
+keys_same us vs file x is = keys_listed us vs file x x is (λ none. none)
+
 -- ---- the index then
 
 same_value : (w y : Replica) → ◌≡◌ {A = Option Replica} (Some w) (Some y) → w ≡ y
@@ -118,20 +142,3 @@ module _ {P : Replica → Type 0} {us vs : Files} {file : FileId} {x w : Replica
   index_come R o ds has put =
       let S : Order → Type 0 = λ r. ds ≡ insert_entry r es file w in
       subst (IsIndexBy P vs) (sym (subst S o put)) (put_index (λ none. has))
-
-  -- there was none, and none came
-  beside_lists : replica_in es file ≡ None → ListsOthers P vs es
-  beside_lists gap q y there none =
-      elim (eq_by_cmp file_cmp q file) as (λ b. eq_by_cmp file_cmp q file ≡ b → P y) [
-        | true ↦ λ h. absurd (
-            let S : FileId → Type 0 = λ k. replica_in es k ≡ Some y in
-            let k : None ≡ Some y = sym gap ∙ subst S (is_same_file-true q file h) there in cc)
-        | false ↦ λ h. index.lists q y there (listed.others q h none)
-      ] refl
-
-  pub index_beside : (R : Order) → R ≡ file_cmp → (ds : ByFile) → ◌≡◌ {A = Option Replica} (lookup (is_at (R file)) es) None
-      → ds ≡ es → IsIndexBy P vs ds
-  index_beside R o ds gap same =
-      let Q : Order → Type 0 = λ r. ◌≡◌ {A = Option Replica} (lookup (is_at (r file)) es) None in
-      subst (IsIndexBy P vs) (sym same)
-      (record { by_file = index.by_file; lists = beside_lists (subst Q o gap) })

@@ -1,6 +1,6 @@
 -- Which replicas a server need not look at: those whose peers have acknowledged every key, and those
 -- that know no number at its end.
-use Rattle.std.specs.Prelude.{◌≡◌, if◌then◌else◌, All, true, false, List, None, Some}
+use Rattle.std.specs.Prelude.{◌≡◌, if◌then◌else◌, All, true, false, nat_lt, List, length, None, Some}
 use Rattle.std.specs.Ordering.{eq_by_cmp}
 use Rattle.std.specs.BTreeMap.{insert_entry, is_at}
 use Rattle.std.specs.List.Sorted.{IsStrictlySortedBy}
@@ -43,6 +43,12 @@ IsAllClean x = are_clean x.edges ≡ true
 -- every replica that is not all clean is among the files that are listed
 abbrev pub IsIndex : Files → ByFile → Type 0
 IsIndex listed replicas = IsIndexBy IsAllClean listed replicas
+
+-- the files that are listed with this one, if its replica has an edge, on which a key that is
+-- touched stays until it is acknowledged
+abbrev pub with_keys : Files → FileId → Replica → Files
+with_keys listed file x =
+    if nat_lt 0 (length x.edges) then insert_entry file_cmp listed file tt else listed
 
 -- ---- numbers at their end
 

@@ -1,6 +1,6 @@
 pub mod Replica
 pub mod Laws
-pub mod Untouched
+pub mod Root
 pub mod Replicas
 pub mod InOrder
 pub mod Index

@@ -1,6 +1,6 @@
 -- A replica with its heads and edges: which keys and cells it has, and what a version, a write and
 -- an answer make of it.
-use Rattle.std.specs.Prelude.{ℕ, ◌+◌, ◌==◌, ◌&&◌, Bool, if◌then◌else◌, List, [], ◌∷◌, filter, length, map, nat_le, nat_lt, not, Option, None, Some}
+use Rattle.std.specs.Prelude.{ℕ, ◌+◌, ◌==◌, ◌&&◌, Bool, false, if◌then◌else◌, List, [], ◌∷◌, filter, length, map, nat_le, nat_lt, not, Option, None, Some}
 use Rattle.std.specs.List.{list_any}
 use Rattle.pg_base.specs.declared.stamp.Stamp.{Stamp}
 use Rattle.pg_base.specs.declared.vector.Actor.{Actor}
@@ -12,15 +12,13 @@ use Rattle.pg_edges.specs.declared.key.Key.{Key}
 use Rattle.pg_edges.specs.declared.key.Key.TheVariants as key
 use Rattle.pg_edges.specs.declared.edge.Edge.{Edge}
 use Rattle.pg_edges.specs.Key.{is_same_key}
-use Rattle.pg_edges.specs.Edges.{is_listed, touched, retired, acked}
+use Rattle.pg_edges.specs.Edges.{acked, edge_to, is_listed, is_none, keys_at, linked, retired, touched, unlinked}
 use Rattle.pg_base.specs.Version.{VersionValue, actor_of}
 use Rattle.pg_content.specs.Content.{is_covered, covers_version, actor_limit, body_limit, joined_content, next_vector, shown_bytes, with_heads, written}
 use Rattle.pg_content.specs.declared.error.WriteError.{WriteError}
 use Rattle.pg_content.specs.declared.error.WriteError.TheVariants.{TooLong, ManyActors}
 use Rattle.pg_replica.specs.declared.link.Link.{Link}
 use Rattle.pg_replica.specs.declared.replica.Replica.{Replica}
-use Rattle.pg_replica.specs.declared.link.Taking.{Taking}
-use Rattle.pg_replica.specs.declared.link.Taking.TheVariants.{NoEdge, Covered, News}
 
 -- ---- keys and cells
 
@@ -69,20 +67,20 @@ with_version x v tags = if covers x v then x else with_head x v tags
 abbrev pub tags_after : Replica → VersionValue → ℕ → ℕ
 tags_after x v tags = if covers x v then tags else tags + length x.edges
 
--- ---- touching, and the begin of a file
+-- ---- the beginning, and touching
+
+-- a replica begins with no version and no edge
+abbrev pub new_replica : ℕ → Policy → Replica
+new_replica birth policy = record {
+  birth = birth;
+  content = record { policy = policy; heads = [] };
+  edges = [];
+}
 
 -- a fresh tag at the key on every edge, from this tag on
 abbrev pub with_touch : Replica → Key → ℕ → Replica
 with_touch x k tags =
     record { birth = x.birth; content = x.content; edges = touched x.edges k tags }
-
--- the content is empty, with this policy
-abbrev pub begun : Replica → Policy → Replica
-begun x policy = record {
-  birth = x.birth;
-  content = record { policy = policy; heads = [] };
-  edges = x.edges;
-}
 
 -- ---- a write
 
@@ -148,6 +146,36 @@ refusal_of x server ranges =
 abbrev pub has_edge : Replica → Link → Bool
 has_edge x link = link.own == x.birth && is_listed x.edges link.peer link.birth
 
+-- the peer is listed with a greater birth
+abbrev pub is_born_later : Option Edge → ℕ → Bool
+is_born_later None birth = false
+is_born_later (Some e) birth = nat_lt birth e.birth
+
+abbrev pub knows_later : Replica → ℕ → ℕ → Bool
+knows_later x peer birth = is_born_later (edge_to x.edges peer) birth
+
+-- the peer is listed with this birth, and has acknowledged every key
+abbrev pub are_none : Option (List (Key × ℕ)) → Bool
+are_none None = false
+are_none (Some keys) = is_none keys
+
+abbrev pub is_clean_to : Replica → ℕ → ℕ → Bool
+is_clean_to x peer birth = are_none (keys_at x.edges peer birth)
+
+-- a link to this birth of a peer: where it makes an edge, each of these keys has a fresh tag there,
+-- from this tag on
+abbrev pub with_link : Replica → ℕ → ℕ → List Key → ℕ → Replica
+with_link x peer birth ks tags = record {
+  birth = x.birth;
+  content = x.content;
+  edges = linked x.edges peer birth ks tags;
+}
+
+-- the edge to a peer goes, where it names this birth
+abbrev pub with_unlink : Replica → ℕ → ℕ → Replica
+with_unlink x peer birth =
+    record { birth = x.birth; content = x.content; edges = unlinked x.edges peer birth }
+
 -- ---- an answer
 
 -- the key goes off the edge to this birth of the peer where the tag is the present one there
@@ -161,15 +189,3 @@ with_ack x peer birth k tag = record {
 -- the same, where there is the edge
 abbrev pub with_ack_along : Replica → Link → Key → ℕ → Replica
 with_ack_along x link k tag = if has_edge x link then with_ack x link.peer link.birth k tag else x
-
--- ---- a version comes along an edge
-
--- what comes of it
-abbrev pub taking : Replica → Link → VersionValue → Taking
-taking x link v = if has_edge x link then (if covers x v then Covered else News) else NoEdge
-
-abbrev pub with_taking : Replica → Link → VersionValue → ℕ → Replica
-with_taking x link v tags = if has_edge x link then with_version x v tags else x
-
-abbrev pub tags_taking : Replica → Link → VersionValue → ℕ → ℕ
-tags_taking x link v tags = if has_edge x link then tags_after x v tags else tags

@@ -9,10 +9,10 @@ mod numbers;
 mod replica;
 mod replicas;
 mod retiring;
-mod untouched;
+mod root;
 
 pub use laws::keys_are_heads;
-pub use link::{Link, Taking};
+pub use link::Link;
 pub use replica::Replica;
 pub use replicas::Replicas;
-pub use untouched::Home;
+pub use root::{FIRST_BIRTH, first_root};

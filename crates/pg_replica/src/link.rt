@@ -9,14 +9,3 @@ pub struct Link {
     pub peer: NodeId,
     pub birth: u64,
 }
-
-/// What came of a version that came along an edge.
-#[derive(Clone, Copy, Debug, PartialEq, Eq)]
-pub enum Taking {
-    /// There is no such edge: nothing.
-    NoEdge,
-    /// It, or one that was made after it and knew it, had been brought in.
-    Covered,
-    /// It is a head now.
-    News,
-}

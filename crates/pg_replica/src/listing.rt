@@ -1,14 +1,15 @@
 //! Changes of one replica that keep the lists of the files to look at.
 
-ghost use Rattle.std.specs.Prelude.{[], ◌≡◌, ◌≢◌, ◌≤◌, ◌+◌, ◌^◌, IfErr, IfOk, None, OnErr, OnOk, Some, length, map, true};
+ghost use Rattle.std.specs.Prelude.{[], ◌≡◌, ◌≢◌, ◌≤◌, ◌+◌, ◌^◌, IfErr, IfOk, None, OnErr, OnOk, Some, length, map, not, true};
 ghost use Rattle.pg_base.specs.Version.{stamp_of};
-ghost use Rattle.pg_replica.specs.Replica.{begun, has_room, own_actor, refusal_of, tags_taking, taking, with_ack_along, with_taking, with_touch, with_write};
-ghost use Rattle.pg_replica.specs.Index.{IsAllClean, KnowsNoEnd, Relists, with_end};
+ghost use Rattle.pg_edges.specs.Edges.{drawn, makes_edge};
+ghost use Rattle.pg_replica.specs.Replica.{covers, has_room, own_actor, refusal_of, tags_after, with_ack_along, with_link, with_touch, with_unlink, with_version, with_write};
+ghost use Rattle.pg_replica.specs.Index.{IsAllClean, KnowsNoEnd, Relists, with_end, with_keys};
 
-use crate::link::{Link, Taking};
+use crate::link::Link;
 use crate::numbers::has_end;
 use crate::replica::Replica;
-use pg_base::{FileId, Items, Policy, Stamp, Version};
+use pg_base::{FileId, Items, NodeId, Stamp, Version};
 use pg_content::WriteError;
 use pg_edges::Key;
 use pg_patch::Ranges;
@@ -50,38 +51,44 @@ fn list_end(ended: &mut Files, file: FileId, version: &Version) -> Result<(), Al
     Ok(())
 }
 
-/// Takes a version that came along an edge. It is a head from then on, if it is not covered. `tags` is the next tag to
-/// give.
+/// Lists the file, if the replica has an edge, on which a key that is touched stays until it is acknowledged.
+fn list_keys(unacknowledged: &mut Files, file: FileId, replica: &Replica) -> Result<(), AllocError>
+    ensures ok { OnOk result (unacknowledged.new.entries
+        ≡ with_keys unacknowledged.old.entries file replica.now) }
+    ensures err { OnErr result (unacknowledged.new.entries ≡ unacknowledged.old.entries) }
+{
+    if replica.edges.len() > 0 {
+        unacknowledged.insert(file, ())?;
+    }
+    Ok(())
+}
+
+/// Takes a version, and tells whether it is a head from then on: where it is not covered. `tags` is the next tag to give.
 pub(crate) fn take_listed(
     replica: &mut Replica,
     lists: &mut Lists,
     file: FileId,
-    link: &Link,
     version: Version,
     tags: &mut u64,
-) -> Result<Taking, AllocError>
-    requires { tags.old ≤ 2 ^ 62 }
-    ensures taking { IfOk result (λ t. t ≡ taking replica.old link.now version) }
-    ensures replica { OnOk result
-        (replica.new ≡ with_taking replica.old link.now version tags.old) }
-    ensures tags { OnOk result (tags.new ≡ tags_taking replica.old link.now version tags.old) }
+) -> Result<bool, AllocError>
+    requires { tags.old ≤ 2 ^ 63 }
+    ensures news { IfOk result (λ news. news ≡ not (covers replica.old version)) }
+    ensures replica { OnOk result (replica.new ≡ with_version replica.old version tags.old) }
+    ensures tags { OnOk result (tags.new ≡ tags_after replica.old version tags.old) }
     ensures listed { Relists IsAllClean lists.old.unacknowledged.entries
         lists.new.unacknowledged.entries file replica.old replica.new }
     ensures ended { Relists KnowsNoEnd lists.old.ended.entries lists.new.ended.entries file
         replica.old replica.new }
 {
-    if !replica.has_edge(link) {
-        return Ok(Taking::NoEdge);
-    }
     if replica.covers(&version) {
-        return Ok(Taking::Covered);
+        return Ok(false);
     }
     // These are fewer than 2^63, so the tags stay in range.
     let _count = replica.edges.as_slice().len();
-    lists.unacknowledged.insert(file, ())?;
+    list_keys(&mut lists.unacknowledged, file, replica)?;
     list_end(&mut lists.ended, file, &version)?;
     replica.put_head(version, tags)?;
-    Ok(Taking::News)
+    Ok(true)
 }
 
 /// Makes a version of what the ranges make of what is shown, and answers the stamps of the heads that it is based on. It
@@ -116,7 +123,7 @@ pub(crate) fn write_listed(
     let bases = replica.bases(alloc)?;
     // These are fewer than 2^63, so the tags stay in range.
     let _count = replica.edges.as_slice().len();
-    lists.unacknowledged.insert(file, ())?;
+    list_keys(&mut lists.unacknowledged, file, replica)?;
     list_end(&mut lists.ended, file, &version)?;
     replica.put_alone(version, tags)?;
     Ok(bases)
@@ -140,26 +147,57 @@ pub(crate) fn touch_listed(
 {
     // These are fewer than 2^63, so the tags stay in range.
     let _count = replica.edges.as_slice().len();
-    lists.unacknowledged.insert(file, ())?;
+    list_keys(&mut lists.unacknowledged, file, replica)?;
     replica.touch(key, tags)?;
     Ok(())
 }
 
-/// The content is empty from now on, with this policy.
-pub(crate) fn begin_listed(
+/// Links a birth of a peer, and tells whether that made an edge, on which each of these keys has a fresh tag. `tags` is
+/// the next tag to give.
+pub(crate) fn link_listed(
     replica: &mut Replica,
-    lists: &Lists,
-    alloc: Global,
+    lists: &mut Lists,
     file: FileId,
-    policy: Policy,
-)
-    ensures replica { replica.new ≡ begun replica.old policy }
-    ensures listed { Relists IsAllClean lists.now.unacknowledged.entries
-        lists.now.unacknowledged.entries file replica.old replica.new }
-    ensures ended { Relists KnowsNoEnd lists.now.ended.entries lists.now.ended.entries file
+    peer: NodeId,
+    birth: u64,
+    keys: &[Key],
+    tags: &mut u64,
+) -> Result<bool, AllocError>
+    requires { tags.old ≤ 2 ^ 63 }
+    ensures made { IfOk result (λ made. made ≡ makes_edge replica.old.edges peer birth) }
+    ensures replica { OnOk result
+        (replica.new ≡ with_link replica.old peer birth keys.now tags.old) }
+    ensures tags { OnOk result (tags.new ≡ tags.old + drawn replica.old.edges peer birth keys.now) }
+    ensures listed { Relists IsAllClean lists.old.unacknowledged.entries
+        lists.new.unacknowledged.entries file replica.old replica.new }
+    ensures ended { Relists KnowsNoEnd lists.old.ended.entries lists.new.ended.entries file
         replica.old replica.new }
 {
-    replica.begin(alloc, policy);
+    if !replica.edges.makes_edge(peer, birth) {
+        return Ok(false);
+    }
+    lists.unacknowledged.insert(file, ())?;
+    replica.link(peer, birth, keys, tags)
+}
+
+/// The edge to a peer goes, where it is listed with this birth.
+pub(crate) fn unlink_listed(
+    replica: &mut Replica,
+    lists: &mut Lists,
+    file: FileId,
+    peer: NodeId,
+    birth: u64,
+)
+    ensures replica { replica.new ≡ with_unlink replica.old peer birth }
+    ensures listed { Relists IsAllClean lists.old.unacknowledged.entries
+        lists.new.unacknowledged.entries file replica.old replica.new }
+    ensures ended { Relists KnowsNoEnd lists.old.ended.entries lists.new.ended.entries file
+        replica.old replica.new }
+{
+    replica.edges.unlink(peer, birth);
+    if replica.is_clean() {
+        lists.unacknowledged.remove(&file);
+    }
 }
 
 /// An answer that came along an edge takes the key off where the tag is the present one there.

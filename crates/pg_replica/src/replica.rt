@@ -5,8 +5,8 @@ ghost use Rattle.pg_base.specs.Vector.{number_at};
 ghost use Rattle.pg_base.specs.Version.{stamp_of};
 ghost use Rattle.pg_patch.specs.Ranges.{applied};
 ghost use Rattle.pg_content.specs.Content.{actor_limit, body_limit, next_vector, next_version, shown_bytes};
-ghost use Rattle.pg_edges.specs.Edges.{are_clean};
-ghost use Rattle.pg_replica.specs.Replica.{begun, cell_at, covers, has_edge, has_room, is_too_long, keys, own_actor, refusal_of, with_ack_along, with_head, with_only, with_touch};
+ghost use Rattle.pg_edges.specs.Edges.{are_clean, drawn, makes_edge, touched};
+ghost use Rattle.pg_replica.specs.Replica.{cell_at, covers, has_edge, has_room, is_clean_to, is_too_long, keys, knows_later, new_replica, own_actor, refusal_of, with_ack_along, with_head, with_link, with_only, with_touch};
 
 use crate::link::Link;
 use crate::retiring::{key_of, retire_all, retire_replaced};
@@ -28,6 +28,17 @@ pub struct Replica {
 }
 
 impl Replica {
+    /// A replica of this birth, with no version and no edge. It takes no memory.
+    pub fn new(alloc: Global, birth: u64, policy: Policy) -> Replica
+        ensures { result ≡ new_replica birth policy }
+    {
+        Replica {
+            birth,
+            content: Content::new(alloc, policy),
+            edges: Edges::new(alloc),
+        }
+    }
+
     /// Whether the version, or one that was made after it and knew it, was brought in.
     pub fn covers(&self, version: &Version) -> bool
         ensures { result ≡ covers self.now version.now }
@@ -64,6 +75,26 @@ impl Replica {
         link.own == self.birth && self.edges.is_listed(link.peer, link.birth)
     }
 
+    /// Whether the peer is listed with a greater birth.
+    pub fn knows_later(&self, peer: NodeId, birth: u64) -> bool
+        ensures { result ≡ knows_later self.now peer birth }
+    {
+        match self.edges.get(peer) {
+            Some(edge) => birth < edge.birth,
+            None => false,
+        }
+    }
+
+    /// Whether the peer is listed with this birth, and has acknowledged every key.
+    pub fn is_clean_to(&self, peer: NodeId, birth: u64) -> bool
+        ensures { result ≡ is_clean_to self.now peer birth }
+    {
+        match self.edges.keys(peer, birth) {
+            Some(keys) => keys.is_empty(),
+            None => false,
+        }
+    }
+
     /// Whether every peer has acknowledged every key.
     pub fn is_clean(&self) -> bool
         ensures { result ≡ are_clean self.now.edges }
@@ -80,9 +111,10 @@ impl Replica {
         ensures replica { OnOk result (self.new ≡ with_head self.old version tags.old) }
         ensures tags { OnOk result (tags.new ≡ tags.old + length self.old.edges) }
         ensures err { OnErr result (self.new.content ≡ self.old.content) }
+        ensures no_edge { length self.old.edges ≡ 0 → length self.new.edges ≡ 0 }
     {
         retire_replaced(&mut self.edges, &self.content, &version);
-        self.edges.touch(key_of(&version), tags)?;
+        touch_edges(&mut self.edges, key_of(&version), tags)?;
         self.content.put_head(version)?;
         Ok(())
     }
@@ -93,17 +125,31 @@ impl Replica {
         requires { tags.old + length self.old.edges < 2 ^ 64 }
         ensures replica { OnOk result (self.new ≡ with_touch self.old key tags.old) }
         ensures tags { OnOk result (tags.new ≡ tags.old + length self.old.edges) }
-        ensures err { OnErr result (self.new.content ≡ self.old.content) }
+        ensures content { self.new.content ≡ self.old.content }
+        ensures no_edge { length self.old.edges ≡ 0 → length self.new.edges ≡ 0 }
     {
-        self.edges.touch(key, tags)?;
-        Ok(())
+        touch_edges(&mut self.edges, key, tags)
     }
 
-    /// The content is empty from now on, with this policy. It takes no memory.
-    pub(crate) fn begin(&mut self, alloc: Global, policy: Policy)
-        ensures { self.new ≡ begun self.old policy }
+    /// Links a birth of a peer that makes an edge, and tells that it did. Each of the keys has a fresh tag there. `tags` is
+    /// the next tag to give. After out of memory nothing has changed.
+    pub(crate) fn link(
+        &mut self,
+        peer: NodeId,
+        birth: u64,
+        keys: &[Key],
+        tags: &mut u64,
+    ) -> Result<bool, AllocError>
+        requires { tags.old ≤ 2 ^ 63 }
+        ensures made { IfOk result (λ made. made ≡ makes_edge self.old.edges peer birth) }
+        ensures replica { OnOk result (self.new ≡ with_link self.old peer birth keys.now tags.old) }
+        ensures tags { OnOk result
+            (tags.new ≡ tags.old + drawn self.old.edges peer birth keys.now) }
+        ensures content { self.new.content ≡ self.old.content }
     {
-        self.content = Content::new(alloc, policy);
+        // These are fewer than 2^63, so the tags stay in range.
+        let _count = keys.len();
+        Ok(self.edges.link(peer, birth, keys, tags)?)
     }
 
     /// The version that the server makes of what the ranges make of what is shown, with all heads as its bases. Nothing
@@ -129,9 +175,10 @@ impl Replica {
         ensures replica { OnOk result (self.new ≡ with_only self.old version tags.old) }
         ensures tags { OnOk result (tags.new ≡ tags.old + length self.old.edges) }
         ensures err { OnErr result (self.new.content ≡ self.old.content) }
+        ensures no_edge { length self.old.edges ≡ 0 → length self.new.edges ≡ 0 }
     {
         retire_all(&mut self.edges, self.content.heads());
-        self.edges.touch(key_of(&version), tags)?;
+        touch_edges(&mut self.edges, key_of(&version), tags)?;
         self.content.put_alone(version)?;
         Ok(())
     }
@@ -175,4 +222,18 @@ impl Replica {
             birth: self.birth,
         }
     }
+}
+
+/// Touches the key on every edge. Where there is no edge nothing is done, and so nothing fails.
+fn touch_edges(edges: &mut Edges, key: Key, tags: &mut u64) -> Result<(), AllocError>
+    requires { tags.old + length edges.old < 2 ^ 64 }
+    ensures edges { OnOk result (edges.new ≡ touched edges.old key tags.old) }
+    ensures tags { OnOk result (tags.new ≡ tags.old + length edges.old) }
+    ensures no_edge { length edges.old ≡ 0 → length edges.new ≡ 0 }
+{
+    if edges.len() == 0 {
+        return Ok(());
+    }
+    edges.touch(key, tags)?;
+    Ok(())
 }

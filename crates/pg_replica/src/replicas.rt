@@ -1,22 +1,22 @@
 //! The replicas of a server, by file.
 
-ghost use Rattle.std.specs.Prelude.{◌≡◌, ◌≢◌, ◌≤◌, ◌+◌, ◌^◌, [], true, length, map, IfErr, IfOk, None, OnOk, Some, option_copied};
+ghost use Rattle.std.specs.Prelude.{◌≡◌, ◌≢◌, ◌≤◌, ◌+◌, ◌^◌, [], true, if◌then◌else◌, is_some, length, map, IfErr, IfOk, None, OnErr, OnOk, Some, option_copied};
 ghost use Rattle.std.specs.List.Sorted.{IsStrictlySortedBy};
 ghost use Rattle.std.specs.Map.{keys_of};
 ghost use Rattle.pg_base.specs.Id.{file_cmp};
 ghost use Rattle.pg_base.specs.Version.{stamp_of};
-ghost use Rattle.pg_replica.specs.Replica.{has_room, refusal_of, tags_taking, taking};
-ghost use Rattle.pg_replica.specs.Replicas.{have_own_end, is_own_end_in, replica_for, replica_in, replicas_acked, replicas_begun, replicas_taking, replicas_touched, replicas_writing};
+ghost use Rattle.pg_edges.specs.Edges.{are_clean};
+ghost use Rattle.pg_replica.specs.Replica.{has_room, refusal_of};
+ghost use Rattle.pg_replica.specs.Replicas.{edge_count, have_own_end, is_own_end_in, lists_peer, or_nothing, put_replica, replica_in, replicas_acked, replicas_linked, replicas_taking, replicas_touched, replicas_unlinked, replicas_writing, takes_link, takes_version};
 ghost use Rattle.pg_replica.specs.Index.{IsIndex};
 
-use crate::link::{Link, Taking};
+use crate::link::Link;
 use crate::listing::{
-    Lists, acknowledge_listed, begin_listed, take_listed, touch_listed, write_listed,
+    Lists, acknowledge_listed, link_listed, take_listed, touch_listed, unlink_listed, write_listed,
 };
 use crate::numbers::knows_own_end;
 use crate::replica::Replica;
-use crate::untouched::{Home, new_replica};
-use pg_base::{FileId, Items, NodeId, Policy, Stamp, Version};
+use pg_base::{FileId, Items, NodeId, Stamp, Version};
 use pg_content::WriteError;
 use pg_edges::Key;
 use pg_patch::Ranges;
@@ -100,142 +100,137 @@ impl Replicas {
         }
     }
 
-    /// Touches a key of the replica of a file on every edge. `tags` is the next tag to give. After a refusal a part may be
-    /// done.
-    pub fn touch(
+    /// A replica begins, which has no version and no unacknowledged key. Where there is one of the file it goes.
+    pub fn add(&mut self, file: FileId, replica: Replica) -> Result<(), AllocError>
+        requires clean { are_clean replica.edges ≡ true }
+        requires no_head { replica.content.heads ≡ [] }
+        ensures ok { OnOk result (self.new ≡ put_replica self.old file replica) }
+        ensures err { OnErr result (self.new ≡ self.old) }
+    {
+        self.by_file.insert(file, replica)?;
+        Ok(())
+    }
+
+    /// Links a birth of a peer to the replica of a file, and tells whether that made an edge, on which each of these keys
+    /// has a fresh tag. `tags` is the next tag to give. After out of memory a part may be done.
+    pub fn link(
         &mut self,
-        home: Home,
         file: FileId,
-        key: Key,
+        peer: NodeId,
+        birth: u64,
+        keys: &[Key],
         tags: &mut u64,
-    ) -> Result<(), AllocError>
+    ) -> Result<bool, AllocError>
         requires { tags.old ≤ 2 ^ 63 }
-        ensures replicas { OnOk result
-            (self.new ≡ replicas_touched self.old file (replica_for home self.old file) key
-            tags.old) }
+        ensures made { IfOk result
+            (λ made. made ≡ takes_link (replica_in self.old file) peer birth) }
+        ensures replicas { OnOk result (self.new
+            ≡ (if takes_link (replica_in self.old file) peer birth
+            then replicas_linked self.old file peer birth keys.now tags.old (replica_in self.old file)
+            else self.old)) }
+        ensures tags { OnOk result (tags.new
+            ≡ (if takes_link (replica_in self.old file) peer birth then tags.old + length keys.now
+            else tags.old)) }
+    {
+        let Some(replica) = self.by_file.get_mut(&file) else {
+            return Ok(false);
+        };
+        link_listed(replica, &mut self.lists, file, peer, birth, keys, tags)
+    }
+
+    /// The edge of the replica of a file to a peer goes, where it is listed with this birth.
+    pub fn unlink(&mut self, file: FileId, peer: NodeId, birth: u64)
+        ensures { self.new
+            ≡ (if lists_peer (replica_in self.old file) peer birth
+            then replicas_unlinked self.old file peer birth (replica_in self.old file)
+            else self.old) }
+    {
+        let Some(replica) = self.by_file.get_mut(&file) else {
+            return;
+        };
+        unlink_listed(replica, &mut self.lists, file, peer, birth);
+    }
+
+    /// Touches a key of the replica of a file on every edge. `tags` is the next tag to give. After out of memory a part
+    /// may be done.
+    pub fn touch(&mut self, file: FileId, key: Key, tags: &mut u64) -> Result<(), AllocError>
+        requires { tags.old ≤ 2 ^ 63 }
+        ensures replicas { OnOk result (self.new
+            ≡ replicas_touched self.old file key tags.old (replica_in self.old file)) }
         ensures tags { OnOk result
-            (tags.new ≡ tags.old + length (replica_for home self.old file).edges) }
+            (tags.new ≡ tags.old + edge_count (replica_in self.old file)) }
     {
-        match self.by_file.get_mut(&file) {
-            Some(replica) => {
-                touch_listed(replica, &mut self.lists, file, key, tags)?;
-                Ok(())
-            }
-            None => {
-                let mut replica = new_replica(self.alloc, home)?;
-                touch_listed(&mut replica, &mut self.lists, file, key, tags)?;
-                self.by_file.insert(file, replica)?;
-                Ok(())
-            }
-        }
+        let Some(replica) = self.by_file.get_mut(&file) else {
+            return Ok(());
+        };
+        touch_listed(replica, &mut self.lists, file, key, tags)
     }
 
-    /// The content of a file is empty from now on, with this policy.
-    pub fn begin(&mut self, home: Home, file: FileId, policy: Policy) -> Result<(), AllocError>
-        ensures { OnOk result
-            (self.new ≡ replicas_begun self.old file (replica_for home self.old file) policy) }
-    {
-        match self.by_file.get_mut(&file) {
-            Some(replica) => {
-                begin_listed(replica, &self.lists, self.alloc, file, policy);
-                Ok(())
-            }
-            None => {
-                let mut replica = new_replica(self.alloc, home)?;
-                begin_listed(&mut replica, &self.lists, self.alloc, file, policy);
-                self.by_file.insert(file, replica)?;
-                Ok(())
-            }
-        }
-    }
-
-    /// Takes a version that came along an edge. `tags` is the next tag to give. After a refusal a part may be done.
+    /// Takes a version, and tells whether it is a head from then on: where there is a replica of the file, and the version
+    /// is not covered. `tags` is the next tag to give. After out of memory a part may be done.
     pub fn take_version(
         &mut self,
-        home: Home,
         file: FileId,
-        link: &Link,
         version: Version,
         tags: &mut u64,
-    ) -> Result<Taking, AllocError>
-        requires { tags.old ≤ 2 ^ 62 }
-        ensures taking { IfOk result
-            (λ t. t ≡ taking (replica_for home self.old file) link.now version) }
-        ensures replicas { OnOk result
-            (self.new ≡ replicas_taking self.old file (replica_for home self.old file) link.now
-            version tags.old) }
-        ensures tags { OnOk result
-            (tags.new ≡ tags_taking (replica_for home self.old file) link.now version tags.old) }
+    ) -> Result<bool, AllocError>
+        requires { tags.old ≤ 2 ^ 63 }
+        ensures news { IfOk result
+            (λ news. news ≡ takes_version (replica_in self.old file) version) }
+        ensures replicas { OnOk result (self.new
+            ≡ (if takes_version (replica_in self.old file) version
+            then replicas_taking self.old file version tags.old (replica_in self.old file)
+            else self.old)) }
+        ensures tags { OnOk result (tags.new
+            ≡ (if takes_version (replica_in self.old file) version
+            then tags.old + edge_count (replica_in self.old file)
+            else tags.old)) }
     {
-        match self.by_file.get_mut(&file) {
-            Some(replica) => take_listed(replica, &mut self.lists, file, link, version, tags),
-            None => {
-                let mut replica = new_replica(self.alloc, home)?;
-                let taking = take_listed(&mut replica, &mut self.lists, file, link, version, tags)?;
-                match taking {
-                    Taking::News => {
-                        self.by_file.insert(file, replica)?;
-                        Ok(Taking::News)
-                    }
-                    Taking::Covered => Ok(Taking::Covered),
-                    Taking::NoEdge => Ok(Taking::NoEdge),
-                }
-            }
-        }
+        let Some(replica) = self.by_file.get_mut(&file) else {
+            return Ok(false);
+        };
+        take_listed(replica, &mut self.lists, file, version, tags)
     }
 
-    /// Makes a version of what the ranges make of what is shown of the file, and answers the stamps of the heads that it
-    /// is based on. It is the only head then. Where that is refused nothing changes. Where memory ran out a part may be
-    /// done. `tags` is the next tag to give.
+    /// Makes a version of what the ranges make of what is shown of a file that has a replica, and answers the stamps of the
+    /// heads that it is based on. It is the only head then. Where that is refused nothing changes. Where memory ran out a
+    /// part may be done. `tags` is the next tag to give.
     pub fn write(
         &mut self,
-        home: Home,
         file: FileId,
         stamp: Stamp,
         ranges: &Ranges,
         tags: &mut u64,
     ) -> Result<Items<Stamp>, WriteError>
         requires tags { tags.old ≤ 2 ^ 63 }
-        requires room { has_room (replica_for home self.old file) stamp.server ≡ true }
-        ensures bases { IfOk result
-            (λ ss. ss ≡ map stamp_of (replica_for home self.old file).content.heads) }
-        ensures replicas { OnOk result
-            (self.new ≡ replicas_writing self.old file (replica_for home self.old file) stamp
-            ranges.now tags.old) }
+        requires held { is_some (replica_in self.old file) ≡ true }
+        requires room { has_room (or_nothing (replica_in self.old file)) stamp.server ≡ true }
+        ensures bases { IfOk result (λ ss. ss
+            ≡ map stamp_of (or_nothing (replica_in self.old file)).content.heads) }
+        ensures replicas { OnOk result (self.new
+            ≡ replicas_writing self.old file stamp ranges.now tags.old (replica_in self.old file)) }
         ensures tags { OnOk result
-            (tags.new ≡ tags.old + length (replica_for home self.old file).edges) }
-        ensures allowed { OnOk result
-            (refusal_of (replica_for home self.old file) stamp.server ranges.now ≡ None) }
+            (tags.new ≡ tags.old + edge_count (replica_in self.old file)) }
+        ensures allowed { OnOk result (refusal_of (or_nothing (replica_in self.old file))
+            stamp.server ranges.now ≡ None) }
         ensures refused { IfErr result (λ e. e ≢ WriteError.OutOfMemory
-            → refusal_of (replica_for home self.old file) stamp.server ranges.now ≡ Some e) }
+            → refusal_of (or_nothing (replica_in self.old file)) stamp.server ranges.now
+            ≡ Some e) }
         ensures same { IfErr result (λ e. e ≢ WriteError.OutOfMemory
             → (self.new ≡ self.old) × (tags.new ≡ tags.old)) }
     {
-        match self.by_file.get_mut(&file) {
-            Some(replica) => write_listed(
-                replica,
-                &mut self.lists,
-                self.alloc,
-                file,
-                stamp,
-                ranges,
-                tags,
-            ),
-            None => {
-                let mut replica = new_replica(self.alloc, home)?;
-                let bases = write_listed(
-                    &mut replica,
-                    &mut self.lists,
-                    self.alloc,
-                    file,
-                    stamp,
-                    ranges,
-                    tags,
-                )?;
-                self.by_file.insert(file, replica)?;
-                Ok(bases)
-            }
-        }
+        let Some(replica) = self.by_file.get_mut(&file) else {
+            unreachable!();
+        };
+        write_listed(
+            replica,
+            &mut self.lists,
+            self.alloc,
+            file,
+            stamp,
+            ranges,
+            tags,
+        )
     }
 
     /// An answer that came along an edge takes the key off where the tag is the present one there. The file is listed no

@@ -1,4 +1,4 @@
--- What takes tell: passing tells nothing that was not known, and forgets nothing.
+-- What takes tell: passing tells nothing that was not known, forgets nothing, and begins nothing.
 use Rattle.std.proofs.Common.{◌≡◌, Bool, true, false, cond, List, [], ◌∷◌, ◌++◌, map, ◌⊎◌, inl, inr, refl, sym, subst, ℕ}
 use Rattle.std.specs.List.{flat_map}
 use Rattle.pg_base.specs.declared.id.FileId.{FileId}
@@ -12,10 +12,10 @@ use Rattle.pg_register.specs.declared.place.Place.{Place}
 use Rattle.pg_msg.specs.declared.update.Update.{Update}
 use Rattle.pg_house.specs.Returning.{is_root}
 use Rattle.pg_house.proofs.Truths.{chosen}
-use Rattle.pg_run.specs.Took.{Take, Taker, held, stamp_taken_by, stamps_taken, take_of}
+use Rattle.pg_run.specs.Took.{Take, Taker, begun_by, held, stamp_taken_by, stamps_taken, take_of}
 use Rattle.pg_run.specs.Took.Taker.{InDir, Itself}
 use Rattle.pg_run.specs.Took.Take.{Began, TookFlag, TookPlace, TookVersion}
-use Rattle.pg_run.specs.Passed.{all_passed, all_to, all_to_dir, coming_place, flag_known_by, flags_known, flags_to, is_back, own_takes, parent_of, parties, passed, passed_with, passes, place_known_by, places_known, places_to, with_parents}
+use Rattle.pg_run.specs.Passed.{all_to, all_to_dir, flag_known_by, flags_known, flags_to, is_back, own_takes, parties, passed, passed_with, passes, place_known_by, places_known, places_to}
 use Rattle.pg_run.proofs.Lists.{among_back, among_front, among_parts, among_pieces, pieces_among}
 
 -- what one take tells is among what these tell
@@ -23,7 +23,7 @@ abbrev pub Tells : List Take → Take → Type 0
 Tells takes (TookVersion file stamp) = Among stamp (stamps_taken file takes)
 Tells takes (TookPlace by thing place) = Among place (places_known thing takes)
 Tells takes (TookFlag by thing flag) = Among flag (flags_known thing takes)
-Tells takes (Began file) = Unit {0}
+Tells takes (Began file) = Among file (held takes)
 
 -- and so of each of the first
 abbrev pub Within : List Take → List Take → Type 0
@@ -42,7 +42,7 @@ told_itself (TookPlace by thing place) takes k =
     pieces_among (place_known_by thing) place (TookPlace by thing place) takes k (here_if (is_same_file thing thing) place (is_same_file-refl thing))
 told_itself (TookFlag by thing flag) takes k =
     pieces_among (flag_known_by thing) flag (TookFlag by thing flag) takes k (here_if (is_same_file thing thing) flag (is_same_file-refl thing))
-told_itself (Began file) takes k = tt {0}
+told_itself (Began file) takes k = pieces_among begun_by file (Began file) takes k (inl refl)
 
 -- ---- what is told of the first is told of the second
 
@@ -74,6 +74,15 @@ flag_told thing flag old (TookFlag by t g) k told =
     subst (λ (q : FileId × Flag). Among q.1 (flags_known q.0 old)) (λ i. (is_same_file-true t thing h.0 i, sym h.1 i)) told
 flag_told thing flag old (Began file) k told = absurd k
 
+begun_told : (file : FileId) (old : List Take) (u : Take) → Among file (begun_by u) → Tells old u → Among file (held old)
+begun_told file old (TookVersion f s) k told = absurd k
+begun_told file old (TookPlace by t p) k told = absurd k
+begun_told file old (TookFlag by t g) k told = absurd k
+begun_told file old (Began f) k told = elim k [
+  | inl same ↦ subst (λ (g : FileId). Among g (held old)) (sym same) told
+  | inr later ↦ absurd later
+]
+
 pub told_on : (new old : List Take) → Within new old → (u : Take) → Tells new u → Tells old u
 told_on new old w (TookVersion file stamp) h =
     let r = among_pieces (stamp_taken_by file) stamp new h in stamp_told file stamp old r.0 r.2 (w r.0 r.1)
@@ -81,7 +90,8 @@ told_on new old w (TookPlace by thing place) h =
     let r = among_pieces (place_known_by thing) place new h in place_told thing place old r.0 r.2 (w r.0 r.1)
 told_on new old w (TookFlag by thing flag) h =
     let r = among_pieces (flag_known_by thing) flag new h in flag_told thing flag old r.0 r.2 (w r.0 r.1)
-told_on new old w (Began file) h = tt {0}
+told_on new old w (Began file) h =
+    let r = among_pieces begun_by file new h in begun_told file old r.0 r.2 (w r.0 r.1)
 
 -- what is told of two lists is told of one of them
 half_told : {A B : Type 0} (f : A → List B) (y : B) (xs ys : List A) → Among y (flat_map f (xs ++ ys)) → Among y (flat_map f xs) ⊎ Among y (flat_map f ys)
@@ -96,7 +106,7 @@ pub tells_parts : (u : Take) (xs ys : List Take) → Tells (xs ++ ys) u → Tell
 tells_parts (TookVersion file stamp) xs ys h = half_told (stamp_taken_by file) stamp xs ys h
 tells_parts (TookPlace by thing place) xs ys h = half_told (place_known_by thing) place xs ys h
 tells_parts (TookFlag by thing flag) xs ys h = half_told (flag_known_by thing) flag xs ys h
-tells_parts (Began file) xs ys h = inl (tt {0})
+tells_parts (Began file) xs ys h = half_told begun_by file xs ys h
 
 pub within_then : (a b c : List Take) → Within a b → Within b c → Within a c
 within_then a b c f g u k = told_on b c g u (f u k)
@@ -116,17 +126,6 @@ none_within old u k = absurd k
 -- ---- passing
 
 module _ (removed : List ℕ) (takes : List Take) where
-  parent_within : (thing : FileId) → Within (parent_of removed takes thing) takes
-  parent_within thing =
-      chosen (λ (xs : List Take). Within xs takes) (is_root thing) [] (Began (coming_place removed thing takes).parent ∷ []) (none_within takes)
-      (λ u k. elim k [ inl same ↦ subst (λ (v : Take). Tells takes v) (sym same) (tt {0}) | inr later ↦ absurd later ])
-
-  parents_within : Within (with_parents removed takes) takes
-  parents_within =
-      within_parts (flat_map (parent_of removed takes) (held takes)) takes takes
-      (λ u k. let r = among_pieces (parent_of removed takes) u (held takes) k in parent_within r.0 u r.2)
-      (within_itself takes)
-
   places_within : (thing : FileId) (by : Taker) → Within (places_to thing takes by) takes
   places_within thing by u k =
       let r = among_map (TookPlace by thing) (places_known thing takes) u k in subst (λ (v : Take). Tells takes v) (sym r.2) r.1
@@ -155,23 +154,14 @@ module _ (removed : List ℕ) (takes : List Take) where
       chosen (λ (xs : List Take). Within xs takes) (is_root thing) [] (own ++ dirs) (none_within takes)
       (within_parts own dirs takes (own_within thing) (dirs_within thing))
 
-  on_within : Within (all_passed removed takes) takes
-  on_within =
+  pub passed_within : Within (passed removed takes) takes
+  passed_within =
       within_parts (flat_map (passes removed takes) (held takes)) takes takes
       (λ u k. let r = among_pieces (passes removed takes) u (held takes) k in passes_within r.0 u r.2)
       (within_itself takes)
 
-pub passed_within : (removed : List ℕ) (takes : List Take) → Within (passed removed takes) takes
-passed_within removed takes =
-    let full = with_parents removed takes in
-    within_then (passed removed takes) full takes (on_within removed full) (parents_within removed takes)
-
-pub within_passed : (removed : List ℕ) (takes : List Take) → Within takes (passed removed takes)
-within_passed removed takes =
-    let full = with_parents removed takes in
-    within_then takes full (passed removed takes)
-    (within_back (flat_map (parent_of removed takes) (held takes)) takes)
-    (within_back (flat_map (passes removed full) (held full)) full)
+  pub within_passed : Within takes (passed removed takes)
+  within_passed = within_back (flat_map (passes removed takes) (held takes)) takes
 
 -- ---- and what the house rules make
 

@@ -1,5 +1,7 @@
 pub mod Lists
 pub mod Bags
+pub mod Frame
+pub mod Event
 pub mod QuietAnswers
 pub mod Makes
 pub mod Knowing
@@ -8,4 +10,7 @@ pub mod Pigeons
 pub mod StillRules
 mod Rows
 pub mod OwedOrder
+pub mod Zips
+pub mod OwedCells
+pub mod Requests
 pub mod Ticks

@@ -18,7 +18,7 @@ use Rattle.pg_store.specs.declared.store.Store.{Store}
 use Rattle.pg_event.specs.declared.quiet.OwedKey.{OwedKey}
 use Rattle.pg_server.specs.Owing.{edge_owes, owed_keys, replica_owes}
 use Rattle.pg_run.specs.Ticks.{owing_cmp}
-use Rattle.pg_promises.specs.Whole.{IsEdge, IsFull, IsWhole}
+use Rattle.pg_promises.specs.Whole.{AreEdges, IsEdge, IsWhole}
 
 -- ---- sorted lists of sorted parts
 
@@ -172,15 +172,15 @@ peers_ordered least [] a = tt
 peers_ordered least (e ∷ es) a =
     (above_all e.peer (e.peer + 1) es (omega arith) a.1, peers_ordered (e.peer + 1) es a.1)
 
-replica_sorted : (n s server : ℕ) (r : FileId × Replica) → IsFull n s r.1
+replica_sorted : (n s server : ℕ) (r : FileId × Replica) → AreEdges n s r.1.edges
     → IsStrictlySortedBy owing_cmp (replica_owes server r)
 replica_sorted n s server r full =
     sorted_parts owing_cmp (edge_owes server r.0) (IsAlong r.0) (λ (e f : Edge). e.peer < f.peer)
     (λ e. edge_along server r.0 e e.keys)
     (λ e f x y lt h k. by_peer r.0 x y h.0 k.0 (let p = h.1 in let q = k.1 in omega arith))
     r.1.edges
-    (peers_ordered 0 r.1.edges full.edges.order)
-    (λ i d lt. edge_sorted n s server r.0 (get_or r.1.edges i d) (full.edges.each i d lt))
+    (peers_ordered 0 r.1.edges full.order)
+    (λ i d lt. edge_sorted n s server r.0 (get_or r.1.edges i d) (full.each i d lt))
 
 replica_at_file : (server : ℕ) (file : FileId) (es : List Edge)
     → AllByRecursion (IsAt file) (flat_map (edge_owes server file) es)

@@ -1,17 +1,16 @@
 -- Where names are in order no house rule applies: run again, at whichever moment, the rules change,
 -- touch and make nothing.
-use Rattle.std.proofs.Common.{◌≡◌, ℕ, true, false, not, List, length, sym, ap, ◌∙◌, subst, arith}
+use Rattle.std.proofs.Common.{◌≡◌, ℕ, true, false, not, List, length, ap, ◌∙◌, arith}
 use Rattle.std.specs.Map.{keys_of}
 use Rattle.pg_base.specs.declared.id.FileId.{FileId}
 use Rattle.pg_base.specs.Id.{is_same_file}
-use Rattle.pg_register.specs.declared.place.Place.{Place}
 use Rattle.pg_register.specs.Place.{root}
 use Rattle.pg_msg.specs.declared.work.Work.{Work}
 use Rattle.pg_names.specs.Names.{NamesValue, directories}
 use Rattle.pg_house.specs.Work.{State, state_of}
 use Rattle.pg_house.specs.Cycles.{break_first}
-use Rattle.pg_house.specs.Facts.{AreOrdered, IsHeld, is_among}
-use Rattle.pg_house.specs.House.{house, movable, rules, with_parents}
+use Rattle.pg_house.specs.Facts.{AreOrdered, is_among}
+use Rattle.pg_house.specs.House.{house, movable}
 use Rattle.pg_house.specs.Passing.{pass_all}
 use Rattle.pg_house.specs.Placing.{repeated}
 use Rattle.pg_house.specs.Returning.{is_root, return_first}
@@ -19,9 +18,7 @@ use Rattle.pg_house.proofs.Counting.{kept_dir}
 use Rattle.pg_house.proofs.Repeating as repeating
 use Rattle.pg_house.proofs.Repeating.{none_returns, repeated_still}
 use Rattle.pg_house.proofs.Settling.{all_idle, dirs_held, none_returns_at}
-use Rattle.pg_house.proofs.Taken.{passed_takes}
 use Rattle.pg_house.proofs.Truths.{not_true}
-use Rattle.pg_house.proofs.Behind.{parents_idle}
 use Rattle.pg_run.specs.Laws.{IsInOrder}
 use Rattle.pg_run.proofs.Pigeons.{none_moves}
 
@@ -37,11 +34,6 @@ module _ (moment : ℕ) (s : NamesValue) (work : Work) (order : IsInOrder s) (or
   apart_of : (g : FileId) → is_among g (movable s) ≡ true → is_same_file g root ≡ false
   apart_of g among = not_true (is_root g) (kept_dir (λ f. not (is_root f)) (keys_of s.held) g among)
 
-  none_new : with_parents s ≡ s
-  none_new =
-      parents_idle s Ds (movable s) (λ g among own h.
-      subst (λ (p : Place). IsHeld s p.parent) (sym (passed_takes s Ds g own (order.passing g own h (apart_of g among)))) (order.parents g own h (apart_of g among)))
-
   no_pass : pass_all St Ds (movable s) ≡ St
   no_pass = all_idle St Ds (movable s) (dirs_held s) (λ g among own h. (order.passing g own h (apart_of g among), order.own_parent g own h (apart_of g among)))
 
@@ -51,11 +43,8 @@ module _ (moment : ℕ) (s : NamesValue) (work : Work) (order : IsInOrder s) (or
   no_break : break_first moment Ds St ≡ St
   no_break = repeating.none_moves moment Ds St (none_moves s order.no_cycle (length Ds) (omega arith) Ds)
 
-  rules_still : rules moment St ≡ St
-  rules_still =
+  pub house_still : house moment St ≡ St
+  house_still =
       ap (λ (t : State). repeated (length Ds) (break_first moment Ds) (repeated (length Ds) (return_first moment Ds) t)) no_pass
       ∙ ap (repeated (length Ds) (break_first moment Ds)) (repeated_still (return_first moment Ds) (length Ds) St no_return)
       ∙ repeated_still (break_first moment Ds) (length Ds) St no_break
-
-  pub house_still : house moment St ≡ St
-  house_still = ap (λ (t : NamesValue). rules moment (state_of t work)) none_new ∙ rules_still

@@ -10,16 +10,16 @@ use Rattle.pg_event.specs.declared.event.Event.{Event}
 use Rattle.pg_store.specs.declared.store.Store.{Store}
 use Rattle.pg_store.specs.Start.{first_flags}
 use Rattle.pg_server.specs.declared.input.Input.{Input}
-use Rattle.pg_server.specs.Local.{effect}
-use Rattle.pg_run.specs.Took.{Take, first_takes, stamps_taken, take_of}
+use Rattle.pg_server.specs.Local.{effect, takes_effect}
+use Rattle.pg_run.specs.Took.{Take, first_takes, is_held, stamps_taken, take_of}
 use Rattle.pg_run.specs.Passed.{flags_known, places_known}
-use Rattle.pg_run.specs.Run.{World, brought, first_made, made_behind, next, run, start, takes_effect, taking_in, world_after}
+use Rattle.pg_run.specs.Run.{World, brought, first_made, made_behind, next, run, start, taking_in, world_after}
 
 -- what an input brings a server: what its first effect brings, and what is made in the event
 abbrev pub all_brought : Store → Input → List Take
 all_brought store asked = brought store asked ++ map take_of (effect store asked).out.made
 
--- an event brings a server, whose clock is not at its end, takes of which this holds
+-- an event brings a server, at which it takes effect, takes of which this holds
 pub record Brings (servers : ℕ) (w : World) (event : Event) (s : ℕ) (P : List Take → Type 0)
     : Type 0 where
   pub asked : Input
@@ -38,9 +38,12 @@ abbrev pub Came : ℕ → List Event → ℕ → (List Take → Type 0) → Type
 Came servers events s P =
     P (first_takes (first_flags servers)) ⊎ CameFrom servers (start servers) events s P
 
--- the places and flags that a server knows of a thing, and the versions of a file that came to it,
--- are those that it made, that were delivered to it, or that were there from the start on
+-- what a server holds, the places and flags that it knows of a thing, and the versions of a file that
+-- came to it, are those that it made, that were delivered to it, or that were there from the start on
 pub record TookWhatCame (servers : ℕ) (events : List Event) (s : ℕ) : Type 0 where
+  pub began : (file : FileId)
+      → is_held file ((run servers events).took s) ≡ true
+      ↔ Came servers events s (λ takes. is_held file takes ≡ true)
   pub places : (thing : FileId) (place : Place)
       → Among place (places_known thing ((run servers events).took s))
       ↔ Came servers events s (λ takes. Among place (places_known thing takes))

@@ -1,5 +1,5 @@
--- What a journal says: which versions were made, and which messages are under way. A journal is the
--- list of its entries, the latest first.
+-- What a journal says: which versions were made, which messages were sent, and which are under way.
+-- A journal is the list of its entries, the latest first.
 use Rattle.std.specs.Prelude.{[], ℕ, ◌-◌, ◌==◌, ◌||◌, Bool, if◌then◌else◌, List, ◌∷◌, ◌++◌, filter, map, Option, None, Some, slice_get, remove}
 use Rattle.std.specs.List.{list_any}
 use Rattle.pg_base.specs.declared.id.FileId.{FileId}
@@ -13,6 +13,8 @@ use Rattle.pg_msg.specs.declared.update.Update.TheVariants as update
 use Rattle.pg_event.specs.declared.event.Event.{Event}
 use Rattle.pg_event.specs.declared.event.Event.TheVariants.{Call, Tick, Deliver, Lose, Repeat, Restart, Remove}
 use Rattle.pg_event.specs.declared.entry.Entry.{Entry}
+use Rattle.pg_store.specs.declared.store.Store.{Store}
+use Rattle.pg_store.specs.Births.{birth_of}
 
 -- the versions among what was made
 abbrev pub versions_in : List Update → List MadeVersion
@@ -21,23 +23,40 @@ versions_in (update.Version made ∷ us) = made ∷ versions_in us
 versions_in (update.Place file place ∷ us) = versions_in us
 versions_in (update.Flag file flag ∷ us) = versions_in us
 
--- all versions that were made, the latest first
-abbrev pub history : List Entry → List MadeVersion
-history [] = []
-history (entry ∷ earlier) = versions_in entry.made ++ history earlier
+-- a version, and the birth of the replica that made it
+pub record Born : Type 0 where
+  pub birth : ℕ
+  pub made : MadeVersion
 
--- a version as the history of its file has it. Every replica has birth 1
-abbrev pub made_of : MadeVersion → Made
-made_of u = record { stamp = u.stamp; birth = 1; bases = u.bases; ranges = u.ranges }
+-- what a server made: of each file by the replica that it has
+abbrev pub born_at : Store → MadeVersion → Born
+born_at store u = record { birth = birth_of store u.file; made = u }
 
-abbrev pub made_for : FileId → List MadeVersion → List Made
+abbrev pub born_in : Store → List Update → List Born
+born_in store us = map (born_at store) (versions_in us)
+
+-- a version as the history of its file has it
+abbrev pub made_of : Born → Made
+made_of u = record {
+  stamp = u.made.stamp;
+  birth = u.birth;
+  bases = u.made.bases;
+  ranges = u.made.ranges;
+}
+
+abbrev pub made_for : FileId → List Born → List Made
 made_for file [] = []
 made_for file (u ∷ us) =
-    if is_same_file file u.file then made_of u ∷ made_for file us else made_for file us
+    if is_same_file file u.made.file then made_of u ∷ made_for file us else made_for file us
 
 -- the history of a file: its versions, the latest first
-abbrev pub versions : FileId → List Entry → List Made
-versions file journal = made_for file (history journal)
+abbrev pub versions : FileId → List Born → List Made
+versions file history = made_for file history
+
+-- the versions that entries tell of, without births
+abbrev pub made_versions : List Entry → List MadeVersion
+made_versions [] = []
+made_versions (entry ∷ earlier) = versions_in entry.made ++ made_versions earlier
 
 -- whether the version is one of these or an ancestor of one
 abbrev pub is_within : List Made → List Stamp → Stamp → Bool
@@ -70,10 +89,17 @@ bag_after bag (Tick server moment word) sent = bag ++ sent
 bag_after bag (Deliver number) sent = without bag number (message_at bag number) ++ sent
 bag_after bag (Lose number) sent = without bag number (message_at bag number)
 bag_after bag (Repeat number) sent = with_copy bag (message_at bag number)
-bag_after bag (Restart server) sent = bag
+bag_after bag (Restart server) sent = bag ++ sent
 bag_after bag (Remove server) sent = bag
 
 -- the messages under way, in order of sending
 abbrev pub bag : List Entry → List Sent
 bag [] = []
 bag (entry ∷ earlier) = bag_after (bag earlier) entry.event entry.sent
+
+-- ---- messages ever sent
+
+-- all of them, be they under way, delivered or lost
+abbrev pub mail : List Entry → List Sent
+mail [] = []
+mail (entry ∷ earlier) = entry.sent ++ mail earlier

@@ -16,9 +16,12 @@ use Rattle.pg_server.specs.declared.input.Input.{Input}
 use Rattle.pg_event.specs.declared.quiet.Quiet.TheVariants.{Quiet}
 use Rattle.pg_names.specs.declared.own.Own.{Own}
 use Rattle.pg_names.specs.Names.{HeldValue, NamesValue, cell_at, known, own_at, own_or_blank}
-use Rattle.pg_house.specs.Facts.{NoCycle, NoDeadLists, OwnParent, ParentsHeld, Passing}
+use Rattle.pg_content.specs.Content.{ContentValue}
+use Rattle.pg_house.specs.Facts.{NoCycle, NoDeadLists, OwnParent, Passing}
+use Rattle.pg_replica.specs.declared.replica.Replica.{Replica}
 use Rattle.pg_store.specs.declared.store.Store.{Store}
-use Rattle.pg_store.specs.Store.{content_of}
+use Rattle.pg_store.specs.Store.{replica_at}
+use Rattle.pg_run.specs.Graphs.{AreConnected, AreJoined, Holds, IsConnected}
 use Rattle.pg_run.specs.Took.{Take, is_held, own_place, place_in, places_taken}
 use Rattle.pg_run.specs.Took.Taker.{InDir}
 use Rattle.pg_run.specs.Passed.{passed, passed_with}
@@ -39,14 +42,18 @@ AtEach servers P = (server : ℕ) → 1 ≤ server → server ≤ servers → P 
 
 -- ---- merge
 
--- what each server holds of each file's content is the state of exactly the versions that it took
+-- what the replicas of a server took comes to this content of a file
+abbrev pub content_taken : World → FileId → ℕ → ContentValue
+content_taken w file s = content_state file w.journal w.history (w.took s)
+
+-- the content of each replica is the state of exactly the versions that it took
 abbrev pub HoldsWhatItTook : ℕ → Type 0
 HoldsWhatItTook servers = (events : List Event) (file : FileId) → AtEach servers (λ s.
-    content_of (store_after servers events s) file
-    ≡ content_state file (run servers events).journal ((run servers events).took s))
+    (x : Replica) → replica_at (store_after servers events s) file ≡ Some x
+    → x.content ≡ content_taken (run servers events) file s)
 
--- a server knows of names what its replicas took: which things it holds, each with its place and
--- its flags, and of each directory the entries of its children
+-- a server holds the things of which a replica began there, and knows of names what its replicas took:
+-- of each thing its place and its flags, and of each directory the entries of its children
 pub record KnowsWhatItTook (servers : ℕ) (events : List Event) (s : ℕ) : Type 0 where
   pub held : (file : FileId)
       → is_held file ((run servers events).took s) ≡ true
@@ -64,7 +71,6 @@ NamesMerge servers = (events : List Event) → AtEach servers (KnowsWhatItTook s
 pub record IsInOrder (names : NamesValue) : Type 0 where
   pub passing : Passing names
   pub own_parent : OwnParent names
-  pub parents : ParentsHeld names
   pub returned : NoDeadLists names
   pub no_cycle : NoCycle names
 
@@ -78,16 +84,28 @@ abbrev pub WhereQuiet : ℕ → (World → Type 0) → Type 0
 WhereQuiet servers P = (events : List Event) → IsQuiet servers (run servers events)
     → P (run servers events)
 
+-- and the graph of each thing that is held is connected
+abbrev pub WhereConnected : ℕ → (World → Type 0) → Type 0
+WhereConnected servers P = (events : List Event) → IsQuiet servers (run servers events)
+    → AreConnected servers (run servers events) → P (run servers events)
+
 -- two servers have the same state of a thing: place, flags, entries and content
 pub record Agree (w : World) (file : FileId) (s t : ℕ) : Type 0 where
   pub own : own_state file (w.took s) ≡ own_state file (w.took t)
   pub entries : (child : FileId)
       → entry_state file child (w.took s) ≡ entry_state file child (w.took t)
-  pub content : content_state file w.journal (w.took s) ≡ content_state file w.journal (w.took t)
+  pub content : content_taken w file s ≡ content_taken w file t
 
+-- two servers that are joined by edges for a thing agree on it
+abbrev pub QuietJoinedServersAgree : ℕ → Type 0
+QuietJoinedServersAgree servers = WhereQuiet servers (λ w. (file : FileId)
+    → AtEach servers (λ s. AtEach servers (λ t. AreJoined w file s t → Agree w file s t)))
+
+-- so where its graph is connected all that hold it do
 abbrev pub QuietServersAgree : ℕ → Type 0
 QuietServersAgree servers = WhereQuiet servers (λ w. (file : FileId)
-    → AtEach servers (λ s. AtEach servers (Agree w file s)))
+    → IsConnected servers w file → AtEach servers (λ s. AtEach servers (λ t.
+    Holds w file s → Holds w file t → Agree w file s t)))
 
 -- a server holds a thing with this live place
 pub record Stands (servers : ℕ) (w : World) (file : FileId) (place : Place) : Type 0 where
@@ -128,8 +146,10 @@ pub record Lists (servers : ℕ) (w : World) (dir file : FileId) (cell : Cell) :
   pub held : cell_at (w.stores server).names dir file ≡ Some cell
   pub listed : is_listed dir cell ≡ true
 
--- each survivor but the root is listed by every held replica of its parent, with its place and with
--- exactly its flags; whatever is listed stands there
+-- there: each survivor but the root is listed by every held replica of its parent, with its place and
+--   with exactly its flags
+-- only: whatever is listed stands there, be it held where it is listed or not
+-- nowhere_else: and a survivor is listed by no other directory, and with no other place
 pub record IsListedOnly (servers : ℕ) (w : World) : Type 0 where
   pub there : (file : FileId) (own : Own) (s t : ℕ) → 1 ≤ s → s ≤ servers → 1 ≤ t → t ≤ servers
       → is_same_file file root ≡ false → own_at (w.stores s).names file ≡ Some own
@@ -139,6 +159,9 @@ pub record IsListedOnly (servers : ℕ) (w : World) : Type 0 where
       × (cell.place ≡ own.place) × (cell.flags ≡ own.flags)
   pub only : (dir file : FileId) (cell : Cell) → Lists servers w dir file cell
       → Stands servers w file cell.place
+  pub nowhere_else : (dir file : FileId) (cell : Cell) (place : Place)
+      → Lists servers w dir file cell → Stands servers w file place
+      → (cell.place ≡ place) × (dir ≡ place.parent)
 
 -- no directory that is dead at a server holds a survivor
 abbrev pub IsBroughtBack : ℕ → World → Type 0
@@ -147,13 +170,13 @@ IsBroughtBack servers w = (file : FileId) (place : Place) → Stands servers w f
     → own_at (w.stores s).names place.parent ≡ Some own → own.place.live ≡ true)
 
 abbrev pub QuietNamesFormATree : ℕ → Type 0
-QuietNamesFormATree servers = WhereQuiet servers (IsTree servers)
+QuietNamesFormATree servers = WhereConnected servers (IsTree servers)
 
 abbrev pub QuietThingsAreListedOnlyWhereTheyStand : ℕ → Type 0
-QuietThingsAreListedOnlyWhereTheyStand servers = WhereQuiet servers (IsListedOnly servers)
+QuietThingsAreListedOnlyWhereTheyStand servers = WhereConnected servers (IsListedOnly servers)
 
 abbrev pub QuietDirectoriesAreBroughtBack : ℕ → Type 0
-QuietDirectoriesAreBroughtBack servers = WhereQuiet servers (IsBroughtBack servers)
+QuietDirectoriesAreBroughtBack servers = WhereConnected servers (IsBroughtBack servers)
 
 -- ---- returns are justified
 

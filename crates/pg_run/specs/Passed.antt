@@ -46,21 +46,6 @@ is_back removed thing takes = is_dir thing && (not (top thing takes).live
     && (is_before (own_place thing takes).stamp (top thing takes).stamp
     && not (is_removed removed (top thing takes).stamp.server)))
 
--- the place that the thing has behind passing
-abbrev pub coming_place : List ℕ → FileId → List Take → Place
-coming_place removed thing takes =
-    if is_back removed thing takes then own_place thing takes else top thing takes
-
--- ---- what is held
-
--- the parent in the place that a held thing is going to have is held
-abbrev pub parent_of : List ℕ → List Take → FileId → List Take
-parent_of removed takes thing =
-    if is_root thing then [] else Began (coming_place removed thing takes).parent ∷ []
-
-abbrev pub with_parents : List ℕ → List Take → List Take
-with_parents removed takes = flat_map (parent_of removed takes) (held takes) ++ takes
-
 -- ---- which directories take part
 
 abbrev pub has_taken : FileId → FileId → Take → Bool
@@ -113,13 +98,9 @@ passes removed takes thing =
     else own_takes removed thing takes
     ++ flat_map (all_to_dir thing takes) (parties removed thing takes)
 
--- all that is held passes
-abbrev pub all_passed : List ℕ → List Take → List Take
-all_passed removed takes = flat_map (passes removed takes) (held takes) ++ takes
-
--- what the replicas took behind passing
+-- what the replicas took behind passing: all that is held passes
 abbrev pub passed : List ℕ → List Take → List Take
-passed removed takes = all_passed removed (with_parents removed takes)
+passed removed takes = flat_map (passes removed takes) (held takes) ++ takes
 
 -- and behind each update that a house rule made
 abbrev pub passed_with : List ℕ → List Take → List Update → List Take

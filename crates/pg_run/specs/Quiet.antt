@@ -11,7 +11,8 @@ use Rattle.pg_store.specs.declared.store.Store.{Store}
 use Rattle.pg_server.specs.Owing.{owed}
 use Rattle.pg_run.specs.Run.{World}
 
--- no message is under way, and no server owes anything: no key, and no place that it holds back
+-- no message is under way, and no server owes anything: no intention, no key, and no place that it
+-- holds back. All views are of no removal yet
 pub record IsQuiet (servers : ℕ) (w : World) : Type 0 where
   pub silent : bag w.journal ≡ []
   pub nothing : (server : ℕ) → 1 ≤ server → server ≤ servers → owed (w.stores server) ≡ []

@@ -1,11 +1,8 @@
--- What each event does to the servers, to the journal, and to what replicas took.
+-- What each event does to the servers, to the journal, to the history of versions, and to what
+-- replicas took.
 use Rattle.std.specs.Prelude.{[], ℕ, ◌&&◌, Bool, nat_le, if◌then◌else◌, List, ◌∷◌, ◌++◌, drop, length, map, Option, None, Some}
-use Rattle.pg_msg.specs.declared.message.Message.{Message}
-use Rattle.pg_msg.specs.declared.message.Message.TheVariants as message
 use Rattle.pg_msg.specs.declared.message.Sent.{Sent}
 use Rattle.pg_msg.specs.declared.update.Update.{Update}
-use Rattle.pg_msg.specs.Numbers.{is_in_range}
-use Rattle.pg_msg.specs.Work.{new_work}
 use Rattle.pg_call.specs.declared.call.Call.{Call}
 use Rattle.pg_event.specs.declared.event.Event.{Event}
 use Rattle.pg_event.specs.declared.event.Event.TheVariants.{Call as Called, Tick, Deliver, Lose, Repeat, Restart, Remove}
@@ -13,88 +10,49 @@ use Rattle.pg_event.specs.declared.entry.Entry.{Entry}
 use Rattle.pg_event.specs.declared.entry.VoidCause.{VoidCause}
 use Rattle.pg_event.specs.declared.entry.VoidCause.TheVariants.{NoMessage, NoServer, Unbuilt}
 use Rattle.pg_flood.specs.World.{after}
-use Rattle.pg_run.specs.Journal.{bag, message_at}
 use Rattle.pg_store.specs.declared.store.Store.{Store}
 use Rattle.pg_store.specs.Start.{first_flags}
-use Rattle.pg_store.specs.Store.{is_in_time, new_store}
-use Rattle.pg_cells.specs.Cells.{fits}
-use Rattle.pg_cells.specs.Done.{is_accepted}
-use Rattle.pg_calls.specs.Calls.{do_call, is_built}
+use Rattle.pg_store.specs.Store.{new_store}
+use Rattle.pg_calls.specs.Calls.{is_built}
 use Rattle.pg_server.specs.declared.input.Input.{Input}
 use Rattle.pg_server.specs.declared.input.Input.TheVariants as input
-use Rattle.pg_server.specs.Local.{Effect, effect}
-use Rattle.pg_run.specs.Took.{Take, first_takes, take_of, takes_in}
+use Rattle.pg_server.specs.Local.{Effect, effect, first_effect, takes_effect}
+use Rattle.pg_run.specs.Journal.{Born, bag, born_in, message_at}
+use Rattle.pg_run.specs.Took.{Take, first_takes, take_of}
+use Rattle.pg_run.specs.Carried.{came}
 use Rattle.pg_run.specs.Passed.{passed, passed_with}
 
 -- stores: what each server holds, by its number
 -- journal: the entries so far, the latest first
+-- history: all versions that were made, each with the birth of the replica that made it, the latest
+--   first
 -- took: what each server's replicas took
 pub record World : Type 0 where
   pub stores : ℕ → Store
   pub journal : List Entry
+  pub history : List Born
   pub took : ℕ → List Take
 
--- what the servers hold after an event, its entry, and what replicas took
+-- what the servers hold after an event, its entry, the history, and what replicas took
 pub record Step : Type 0 where
   pub stores : ℕ → Store
   pub entry : Entry
+  pub history : List Born
   pub took : ℕ → List Take
 
 -- ---- what an event brings a server's replicas
 
--- what a message carries: a cell that is accepted, of a thing that may have it
-abbrev pub carried : Store → ℕ → Message → List Take
-carried store from (message.Cell ends tag c) =
-    if is_accepted store from ends && fits ends.file c then takes_in ends.file c else []
-carried store from (message.Ack ends k tag) = []
-carried store from (message.Harbinger ends tag head) = []
-carried store from (message.Want ends wanted) = []
-carried store from (message.Delta ends delta) = []
-carried store from (message.Piece ends piece) = []
-carried store from (message.Later ends stamp) = []
-carried store from (message.Fetch file birth) = []
-carried store from (message.Grant ends granted) = []
-carried store from (message.NoGrant file birth) = []
-carried store from (message.Full ends) = []
-carried store from (message.Seek file birth) = []
-carried store from (message.Here ends) = []
-carried store from (message.NoneHere ask file child) = []
-carried store from (message.Gone file birth) = []
-carried store from (message.Bye ends) = []
-carried store from (message.ByeOk file birth) = []
-carried store from (message.Confirm dir entry) = []
-carried store from (message.PlaceIs dir entry) = []
-carried store from (message.Tell dir entry) = []
-carried store from (message.TellOk dir child stamp) = []
-carried store from (message.Leave ends stamp) = []
-carried store from (message.LeaveOk ends stamp) = []
-carried store from (message.Invite ends) = []
-carried store from (message.Walk ends origin birth hops word) = []
-carried store from (message.Meet ends) = []
-
 -- what the first effect of an event made, before the house rules
 abbrev pub first_made : Store → Input → List Update
-first_made store (input.Call moment call) = (do_call store call (new_work moment 0)).work.made
-first_made store (input.Tick moment word) = []
-first_made store (input.Arrival packet) = []
+first_made store asked = (first_effect store asked).work.made
 
--- what its first effect brings: what was made, or what came
+-- what its first effect brings: what was made, and what came
 abbrev pub brought : Store → Input → List Take
-brought store (input.Call moment call) =
-    map take_of (do_call store call (new_work moment 0)).work.made
-brought store (input.Tick moment word) = []
-brought store (input.Arrival packet) = carried store packet.from packet.message
+brought store asked = map take_of (first_made store asked) ++ came store asked
 
 -- the updates that the house rules made in the event, in their order
 abbrev pub made_behind : Store → Input → List Update
 made_behind store asked = drop (length (first_made store asked)) (effect store asked).out.made
-
--- an input takes effect where the server's clock is not at its end, and a message where its numbers
--- are in range
-abbrev pub takes_effect : Store → Input → Bool
-takes_effect store (input.Call moment call) = is_in_time store
-takes_effect store (input.Tick moment word) = is_in_time store
-takes_effect store (input.Arrival packet) = is_in_time store && is_in_range packet.message
 
 -- what a server's replicas took then: what its first effect brings passes, and so does each place
 -- that a house rule makes
@@ -122,21 +80,30 @@ effect_entry event done = record {
 }
 
 abbrev pub idle_step : World → Event → Option VoidCause → Step
-idle_step w event cause =
-    record { stores = w.stores; entry = idle_entry event cause; took = w.took }
+idle_step w event cause = record {
+  stores = w.stores;
+  entry = idle_entry event cause;
+  history = w.history;
+  took = w.took;
+}
+
+-- the versions that a server made in an event, each of its replica as that is then
+abbrev pub history_after : List Born → Effect → List Born
+history_after earlier done = born_in done.store done.out.made ++ earlier
 
 -- one server takes an input
 abbrev pub effect_step : World → Event → ℕ → Input → Step
 effect_step w event server asked = record {
   stores = after w.stores server (effect (w.stores server) asked).store;
   entry = effect_entry event (effect (w.stores server) asked);
+  history = history_after w.history (effect (w.stores server) asked);
   took = after w.took server (took_after (w.stores server) (w.took server) asked);
 }
 
 abbrev pub is_server : ℕ → ℕ → Bool
 is_server servers server = nat_le 1 server && nat_le server servers
 
--- a client's call, or a tick
+-- a client's call, a tick or a restart
 abbrev pub server_step : ℕ → World → Event → ℕ → Input → Step
 server_step servers w event server asked =
     if is_server servers server then effect_step w event server asked
@@ -173,7 +140,7 @@ next servers w (Deliver number) =
     delivery_step servers w (Deliver number) (message_at (bag w.journal) number)
 next servers w (Lose number) = bag_step w (Lose number) (message_at (bag w.journal) number)
 next servers w (Repeat number) = bag_step w (Repeat number) (message_at (bag w.journal) number)
-next servers w (Restart server) = unbuilt_step w (Restart server)
+next servers w (Restart server) = server_step servers w (Restart server) server input.Restart
 next servers w (Remove server) = unbuilt_step w (Remove server)
 
 -- ---- which server takes an input in an event
@@ -203,18 +170,24 @@ taking_in servers w (Deliver number) =
     taking_message servers (message_at (bag w.journal) number)
 taking_in servers w (Lose number) = None
 taking_in servers w (Repeat number) = None
-taking_in servers w (Restart server) = None
+taking_in servers w (Restart server) = taking_at servers server input.Restart
 taking_in servers w (Remove server) = None
 
 -- the world after a step
 abbrev pub world_after : World → Step → World
 world_after w step =
-    record { stores = step.stores; journal = step.entry ∷ w.journal; took = step.took }
+    record {
+      stores = step.stores;
+      journal = step.entry ∷ w.journal;
+      history = step.history;
+      took = step.took;
+    }
 
 abbrev pub start : ℕ → World
 start servers = record {
   stores = new_store servers;
   journal = [];
+  history = [];
   took = λ server. first_takes (first_flags servers);
 }
 

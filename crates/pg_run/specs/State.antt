@@ -17,8 +17,7 @@ use Rattle.pg_event.specs.declared.event.Event.{Event}
 use Rattle.pg_event.specs.declared.event.Event.TheVariants as event
 use Rattle.pg_event.specs.declared.entry.Entry.{Entry}
 use Rattle.pg_names.specs.declared.own.Own.{Own}
-use Rattle.pg_run.specs.Journal.{versions, with_ancestors}
-use Rattle.pg_replica.specs.Untouched.{no_content}
+use Rattle.pg_run.specs.Journal.{Born, versions, with_ancestors}
 use Rattle.pg_run.specs.Took.{Take, flags_in, own_place, place_in, stamps_taken}
 use Rattle.pg_run.specs.Took.Taker.{InDir, Itself}
 use Rattle.pg_run.specs.Passed.{has_cell}
@@ -96,17 +95,13 @@ policy_made file (entry ∷ earlier) =
     policy_by (is_made file entry.reply) (policy_asked entry.event) (policy_made file earlier)
 
 -- the versions of a file that a server took: a version comes with its ancestors
-abbrev pub versions_taken : FileId → List Entry → List Take → List Stamp
-versions_taken file journal takes =
-    with_ancestors (versions file journal) (stamps_taken file takes)
+abbrev pub versions_taken : FileId → List Born → List Take → List Stamp
+versions_taken file history takes =
+    with_ancestors (versions file history) (stamps_taken file takes)
 
--- a set of versions comes to its heads, whole and by stamp; without a version the content is that
--- of a replica that nobody has touched
-abbrev pub content_with : Policy → List Entry → FileId → List Stamp → ContentValue
-content_with policy journal file [] = no_content
-content_with policy journal file (stamp ∷ stamps) =
-    content_of policy (versions file journal) (stamp ∷ stamps)
-
-abbrev pub content_state : FileId → List Entry → List Take → ContentValue
-content_state file journal takes =
-    content_with (policy_made file journal) journal file (versions_taken file journal takes)
+-- the content of a file: the heads of the versions that were taken, whole and by stamp, with the
+-- policy of the file. Of a directory it is empty
+abbrev pub content_state : FileId → List Entry → List Born → List Take → ContentValue
+content_state file journal history takes =
+    content_of (policy_made file journal) (versions file history)
+    (versions_taken file history takes)

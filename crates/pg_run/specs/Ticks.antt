@@ -1,5 +1,5 @@
--- What a tick sends in any run.
-use Rattle.std.specs.Prelude.{ℕ, Bool, true, false, not, Option, None, Some, [], ◌≡◌, ◌≤◌, List, map}
+-- What a tick sends in any run, and what a restart does.
+use Rattle.std.specs.Prelude.{ℕ, Bool, true, false, not, Option, None, Some, [], ◌++◌, ◌==◌, ◌≡◌, ◌≢◌, ◌≤◌, List, map}
 use Rattle.std.specs.List.{AllZip, filter}
 use Rattle.std.specs.List.Sorted.{IsStrictlySortedBy}
 use Rattle.std.specs.Ordering.{nat_cmp, ordering_then}
@@ -10,6 +10,11 @@ use Rattle.pg_edges.specs.Key.{key_cmp}
 use Rattle.pg_edges.specs.Keys.{tag_in}
 use Rattle.pg_edges.specs.Edges.{edge_to}
 use Rattle.pg_entries.specs.declared.cell.Cell.{Cell}
+use Rattle.pg_entries.specs.declared.entry.Entry.{Entry as ChildEntry}
+use Rattle.pg_intent.specs.declared.intent.Intent.{Intent}
+use Rattle.pg_intent.specs.declared.intent.Intent.TheVariants as intent
+use Rattle.pg_intent.specs.Intent.{target_of}
+use Rattle.pg_msg.specs.declared.message.Message.{Message}
 use Rattle.pg_msg.specs.declared.message.Message.TheVariants as message
 use Rattle.pg_msg.specs.declared.message.Sent.{Sent}
 use Rattle.pg_msg.specs.declared.summary.Summary.{Summary}
@@ -20,12 +25,18 @@ use Rattle.pg_call.specs.declared.refusal.Refusal.TheVariants.{ClockEnd}
 use Rattle.pg_call.specs.declared.reply.Reply.TheVariants.{Done, Refused}
 use Rattle.pg_event.specs.declared.entry.Entry.{Entry}
 use Rattle.pg_event.specs.declared.event.Event.{Event}
-use Rattle.pg_event.specs.declared.event.Event.TheVariants.{Tick}
+use Rattle.pg_event.specs.declared.event.Event.TheVariants.{Restart, Tick}
 use Rattle.pg_event.specs.declared.quiet.OwedKey.{OwedKey}
 use Rattle.pg_store.specs.declared.store.Store.{Store}
 use Rattle.pg_store.specs.Cells.{cell_at}
-use Rattle.pg_store.specs.Store.{is_in_time, replica_of}
+use Rattle.pg_names.specs.declared.own.Own.{Own}
+use Rattle.pg_names.specs.Names.{cell_at as entry_at, own_at}
+use Rattle.pg_replica.specs.declared.replica.Replica.{Replica}
+use Rattle.pg_store.specs.Births.{birth_of}
+use Rattle.pg_store.specs.Store.{is_in_time, replica_at}
+use Rattle.pg_cells.specs.Posting.{sent_to}
 use Rattle.pg_cells.specs.Sending.{waits}
+use Rattle.pg_server.specs.Local.{without_wishes}
 use Rattle.pg_server.specs.Owing.{owed_keys}
 use Rattle.pg_run.specs.Run.{Step, next, run}
 
@@ -40,8 +51,13 @@ abbrev pub waits_on : Store → OwedKey → Option Edge → Bool
 waits_on a o None = false
 waits_on a o (Some e) = waits a o.file e o.key
 
+-- the edge to a peer, of what is held
+abbrev pub edge_of : Option Replica → ℕ → Option Edge
+edge_of None peer = None
+edge_of (Some x) peer = edge_to x.edges peer
+
 abbrev pub is_let : Store → OwedKey → Bool
-is_let a o = not (waits_on a o (edge_to (replica_of a o.file).edges o.peer))
+is_let a o = not (waits_on a o (edge_of (replica_at a o.file) o.peer))
 
 -- the keys that a server owes, but for those that wait
 abbrev pub let_through : Store → List OwedKey
@@ -60,26 +76,45 @@ owed_cell o = record {
 }
 
 -- the same, whole: it goes along the edge to the peer, names the births of both ends, and carries
--- the present cell of that key under the tag that the key has there
+-- the present cell of that key under the tag that the key has there. `sent_to` is a message in the
+-- server's view
 pub record IsOwedCell (a : Store) (o : OwedKey) (m : Sent) : Type 0 where
+  pub replica : Replica
   pub edge : Edge
   pub tag : ℕ
   pub c : Cell
-  pub linked : edge_to (replica_of a o.file).edges o.peer ≡ Some edge
+  pub held : replica_at a o.file ≡ Some replica
+  pub linked : edge_to replica.edges o.peer ≡ Some edge
   pub tagged : tag_in edge.keys o.key ≡ Some tag
   pub present : cell_at a o.file o.key ≡ Some c
-  pub whole : m ≡ record {
-    to = o.peer;
-    packet = record {
-      from = o.server;
-      view = 0;
-      message = message.Cell (record {
-        file = o.file;
-        sender = (replica_of a o.file).birth;
-        receiver = edge.birth;
-      }) tag c;
-    };
-  }
+  pub whole : m ≡ sent_to a o.peer (message.Cell
+      (record { file = o.file; sender = replica.birth; receiver = edge.birth }) tag c)
+
+-- ---- what is asked by intentions
+
+-- those that ask a server, in the order in which they began
+abbrev pub asking : Store → List Intent
+asking a = filter (λ i. not (target_of i == 0)) a.intents
+
+-- The message of an intention. A Fill fetches a replica of its birth, a Patch tells its entry, and a
+-- Confirm asks for the place and flags of a child as the directory has them now. Of the other
+-- kinds none begins yet
+abbrev pub IsAskedBy : Store → Intent → Message → Type 0
+IsAskedBy a (intent.Bye file birth peer peer_birth) m =
+    m ≡ message.Bye (record { file = file; sender = birth; receiver = peer_birth })
+IsAskedBy a (intent.Seek file target) m = m ≡ message.Seek file (birth_of a file)
+IsAskedBy a (intent.Fill file birth target) m = m ≡ message.Fetch file birth
+IsAskedBy a (intent.Patch dir entry target) m = m ≡ message.Tell dir entry
+IsAskedBy a (intent.Confirm dir child target) m =
+    (e : ChildEntry) × (entry_at a.names dir child ≡ Some e) × (m ≡ message.Confirm dir e)
+IsAskedBy a (intent.Leave file peer peer_birth) m =
+    (own : Own) × (own_at a.names file ≡ Some own) × (m ≡ message.Leave
+    (record { file = file; sender = birth_of a file; receiver = peer_birth }) own.place.stamp)
+
+pub record IsRequest (a : Store) (i : Intent) (m : Sent) : Type 0 where
+  pub asked : Message
+  pub by : IsAskedBy a i asked
+  pub whole : m ≡ sent_to a (target_of i) asked
 
 -- ---- a tick
 
@@ -89,13 +124,17 @@ owing_cmp x y =
     ordering_then (file_cmp x.file y.file)
     (ordering_then (nat_cmp x.peer y.peer) (key_cmp x.key y.key))
 
--- one cell for each key that is owed and does not wait was sent, in their order, and nothing else;
--- nothing was made
+-- one cell for each key that is owed and does not wait was sent, in their order, and behind these one
+-- message for each intention that asks a server, in their order, and nothing else; nothing was made
 pub record SendsWhatItOwes (a : Store) (entry : Entry) : Type 0 where
   pub reply : entry.reply ≡ Some Done
   pub made : entry.made ≡ []
-  pub cells : AllZip (IsOwedCell a) (let_through a) entry.sent
-  pub summaries : map summary entry.sent ≡ map owed_cell (let_through a)
+  pub cells : List Sent
+  pub requests : List Sent
+  pub sent : entry.sent ≡ cells ++ requests
+  pub owed : AllZip (IsOwedCell a) (let_through a) cells
+  pub asked : AllZip (IsRequest a) (asking a) requests
+  pub summaries : map summary cells ≡ map owed_cell (let_through a)
   pub order : IsStrictlySortedBy owing_cmp (owed_keys a)
 
 -- the tick was refused, and nothing was made or sent
@@ -112,10 +151,25 @@ pub record TickSends (stores : ℕ → Store) (server : ℕ) (step : Step) : Typ
   pub refuses : ¬ (HasTime (stores server)) → IsRefused step.entry
   pub still : (s : ℕ) → step.stores s ≡ stores s
 
--- and sends else one cell for each key that its server owes and that does not wait, in their order,
--- and nothing else
+-- and sends else just what its server owes and what it asks for
 abbrev pub TicksSendWhatIsOwed : ℕ → Type 0
 TicksSendWhatIsOwed servers = (events : List Event) (server moment word : ℕ)
     → 1 ≤ server → server ≤ servers
     → TickSends (run servers events).stores server
     (next servers (run servers events) (Tick server moment word))
+
+-- ---- a restart
+
+-- a restart loses the wishes and changes nothing else; nothing is made, told or sent
+pub record RestartLoses (stores : ℕ → Store) (server : ℕ) (step : Step) : Type 0 where
+  pub void : step.entry.void ≡ None
+  pub reply : step.entry.reply ≡ None
+  pub made : step.entry.made ≡ []
+  pub sent : step.entry.sent ≡ []
+  pub here : step.stores server ≡ without_wishes (stores server)
+  pub still : (s : ℕ) → s ≢ server → step.stores s ≡ stores s
+
+abbrev pub RestartsLoseWishes : ℕ → Type 0
+RestartsLoseWishes servers = (events : List Event) (server : ℕ) → 1 ≤ server → server ≤ servers
+    → RestartLoses (run servers events).stores server
+    (next servers (run servers events) (Restart server))

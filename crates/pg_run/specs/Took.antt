@@ -11,9 +11,11 @@ use Rattle.pg_register.specs.Flag.{join_flags}
 use Rattle.pg_register.specs.Place.{blank_place, newer_place, root, root_place}
 use Rattle.pg_entries.specs.declared.cell.Cell.{Cell}
 use Rattle.pg_entries.specs.declared.cell.Cell.TheVariants as cell
+use Rattle.pg_entries.specs.declared.entry.Entry.{Entry}
 use Rattle.pg_msg.specs.declared.update.Update.{Update}
 use Rattle.pg_msg.specs.declared.update.Update.TheVariants as update
 use Rattle.pg_house.specs.Facts.{is_among}
+use Rattle.pg_house.specs.Passing.{is_update}
 
 -- which replica took what came of a thing: its own, or that of a directory with an entry for it
 pub data Taker : Type 0 where
@@ -21,7 +23,7 @@ pub data Taker : Type 0 where
   InDir : (dir : FileId) → Taker
 
 -- one update that a replica took: a version of a file by its stamp; or a place or a flag of a
--- thing. Or a replica began with nothing, since the thing is the parent in the place of another
+-- thing. Or a replica of a thing began here, and took nothing yet
 pub data Take : Type 0 where
   TookVersion : (file : FileId) (stamp : Stamp) → Take
   TookPlace : (by : Taker) (thing : FileId) (place : Place) → Take
@@ -36,18 +38,30 @@ take_of (update.Version made) = TookVersion made.file made.stamp
 take_of (update.Place thing place) = TookPlace Itself thing place
 take_of (update.Flag thing flag) = TookFlag Itself thing flag
 
+-- a directory takes the place and the flags of a child
+abbrev pub entry_takes : FileId → Entry → List Take
+entry_takes dir entry =
+    TookPlace (InDir dir) entry.child entry.place
+    ∷ map (TookFlag (InDir dir) entry.child) entry.flags
+
 -- a cell brings the replica of a file its update; an entry's brings a directory those of the child
 abbrev pub takes_in : FileId → Cell → List Take
 takes_in file (cell.Place place) = TookPlace Itself file place ∷ []
 takes_in file (cell.Flag flag) = TookFlag Itself file flag ∷ []
-takes_in file (cell.Entry entry sure) =
-    TookPlace (InDir file) entry.child entry.place
-    ∷ map (TookFlag (InDir file) entry.child) entry.flags
-takes_in file (cell.Version version policy) = TookVersion file version.head.stamp ∷ []
+takes_in file (cell.Entry entry sure) = entry_takes file entry
+takes_in file (cell.Version version) = TookVersion file version.head.stamp ∷ []
 
--- the start: every server's replica of the root has the root's place, and these flags
+-- a place and flags of a thing are taken; the blank place is no update
+abbrev pub places_of : Taker → FileId → Place → List Take
+places_of by thing place = if is_update place then TookPlace by thing place ∷ [] else []
+
+abbrev pub flags_of : Taker → FileId → List Flag → List Take
+flags_of by thing flags = map (TookFlag by thing) flags
+
+-- the start: every server has a replica of the root, with the root's place and these flags
 abbrev pub first_takes : List Flag → List Take
-first_takes flags = TookPlace Itself root root_place ∷ map (TookFlag Itself root) flags
+first_takes flags =
+    Began root ∷ TookPlace Itself root root_place ∷ flags_of Itself root flags
 
 -- ---- what a server's replicas took of a thing
 
@@ -116,20 +130,17 @@ own_place thing takes = place_in Itself thing takes
 
 -- ---- what is held
 
--- the replicas that an update tells of: that of the thing, and of the directory that took it
-abbrev pub dirs_of : Taker → List FileId
-dirs_of Itself = []
-dirs_of (InDir dir) = dir ∷ []
+-- the thing of which a replica began
+abbrev pub begun_by : Take → List FileId
+begun_by (TookVersion file stamp) = []
+begun_by (TookPlace by thing place) = []
+begun_by (TookFlag by thing flag) = []
+begun_by (Began file) = file ∷ []
 
-abbrev pub told_by : Take → List FileId
-told_by (TookVersion file stamp) = file ∷ []
-told_by (TookPlace by thing place) = thing ∷ dirs_of by
-told_by (TookFlag by thing flag) = thing ∷ dirs_of by
-told_by (Began file) = file ∷ []
-
--- all that is held, each as often as it is told of
+-- a server holds the things of which a replica began there: what a directory lists need not be held,
+-- nor the parent of what is held. Nothing that is held goes
 abbrev pub held : List Take → List FileId
-held takes = flat_map told_by takes
+held takes = flat_map begun_by takes
 
 abbrev pub is_held : FileId → List Take → Bool
 is_held file takes = is_among file (held takes)

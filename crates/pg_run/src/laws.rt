@@ -9,9 +9,9 @@ pub fn quiet_is_told()
     ensures { QuietIsTold }
 {}
 
-/// The places and flags that a server knows of a thing, and the versions of a file that came to it, are those that it
-/// made, that were delivered to it, or that were there from the start on: passing brings nothing, and nothing is
-/// forgotten. What is made in an event is what its first effect made, and behind that what the house rules made.
+/// The things that a server holds, the places and flags that it knows of a thing, and the versions of a file that came to
+/// it, are those that it made, that were delivered to it, or that were there from the start on: passing brings nothing, and
+/// nothing is forgotten. What is made in an event is what its first effect made, and behind that what the house rules made.
 pub fn takes_are_what_came()
     ensures took { (servers : ℕ) → TakesWhatCame servers }
     ensures parts { IsMadeInParts }

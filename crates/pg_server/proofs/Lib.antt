@@ -1,6 +1,4 @@
 mod Unacknowledged
+mod FirstIntent
 mod FirstOwed
 mod Results
-mod Lasting
-mod LastingMessages
-mod LastingCalls

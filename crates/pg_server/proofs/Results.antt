@@ -1,24 +1,51 @@
--- What comes of an input is what comes of its kind.
-use Rattle.std.proofs.Common.{ℕ, ◌≡◌, refl, sym, ap}
+-- What comes of an input is what comes of its kind; and of a call what its end makes of its answer.
+use Rattle.std.proofs.Common.{ℕ, ◌≡◌, ◌∙◌, Bool, true, if◌then◌else◌, None, Some, refl, sym, ap}
 use Rattle.pg_call.specs.declared.call.Call.{Call}
+use Rattle.pg_call.specs.declared.reply.Reply.{Reply}
 use Rattle.pg_msg.specs.declared.message.Packet.{Packet}
+use Rattle.pg_msg.specs.declared.work.Work.{Work}
+use Rattle.pg_msg.specs.Work.{new_work}
 use Rattle.pg_store.specs.declared.store.Store.{Store}
+use Rattle.pg_store.specs.Store.{is_in_time}
+use Rattle.pg_cells.specs.Done.{idle}
+use Rattle.pg_calls.specs.Calls.{do_call}
 use Rattle.pg_server.specs.declared.input.Input.{Input}
 use Rattle.pg_server.specs.declared.input.Input.TheVariants as input
-use Rattle.pg_server.specs.Local.{arrival_effect, call_effect, effect, effect_of, tick_effect}
+use Rattle.pg_server.specs.Local.{Effect, closed, done_of, effect, effect_of, finished, is_heard, receive}
 
-pub of_call : (s : Store) (i : Input) (m : ℕ) (c : Call) → i ≡ input.Call m c → call_effect s m c ≡ effect_of s i
+pub of_kind : (s : Store) (i k : Input) → i ≡ k → effect s k ≡ effect_of s i
 unfolding effect_of
-of_call s i m c is = sym (ap (effect s) is)
-
-pub of_tick : (s : Store) (i : Input) (m word : ℕ) → i ≡ input.Tick m word → tick_effect s m ≡ effect_of s i
-unfolding effect_of
-of_tick s i m word is = sym (ap (effect s) is)
-
-pub of_arrival : (s : Store) (i : Input) (p : Packet) → i ≡ input.Arrival p → arrival_effect s p ≡ effect_of s i
-unfolding effect_of
-of_arrival s i p is = sym (ap (effect s) is)
+of_kind s i k is = sym (ap (effect s) is)
 
 pub effect_is : (s : Store) (i : Input) → effect_of s i ≡ effect s i
 unfolding effect_of
 effect_is s i = refl
+
+same_end : (r q : Reply) (b d : Store) (v w : Work) → r ≡ q → b ≡ d → v ≡ w → closed (Some r) (idle b v) ≡ closed (Some q) (idle d w)
+same_end r q b d v w rs bs vs =
+    ap (λ (x : Reply). closed (Some x) (idle b v)) rs ∙ ap (λ (x : Store). closed (Some q) (idle x v)) bs ∙ ap (λ (x : Work). closed (Some q) (idle d x)) vs
+
+-- where the clock is not at its end the house rules run behind a call
+pub called : (a : Store) (m : ℕ) (call : Call) (v : Work) (goes : Bool) (r : Reply) (b : Store) (w : Work)
+    → v ≡ new_work m 0 → goes ≡ is_in_time a → goes ≡ true
+    → r ≡ (do_call a call v).reply → b ≡ (do_call a call v).store → w ≡ (do_call a call v).work
+    → closed (Some r) (idle b w) ≡ effect a (input.Call m call)
+called a m call v goes r b w new is true_is rs bs ws =
+    let d = do_call a call (new_work m 0) in
+    same_end r d.reply b d.store w d.work
+    (rs ∙ ap (λ (x : Work). (do_call a call x).reply) new)
+    (bs ∙ ap (λ (x : Work). (do_call a call x).store) new)
+    (ws ∙ ap (λ (x : Work). (do_call a call x).work) new)
+    ∙ sym (ap (λ (t : Bool). if t then closed (Some d.reply) (done_of d) else finished (Some d.reply) (done_of d)) (sym is ∙ true_is))
+
+-- and behind a message that is heard
+pub heard : (a : Store) (p : Packet) (v : Work) (goes : Bool) (b : Store) (w : Work)
+    → v ≡ new_work 0 p.from → goes ≡ is_heard a p → goes ≡ true
+    → b ≡ (receive a p.message v).store → w ≡ (receive a p.message v).work
+    → closed None (idle b w) ≡ effect a (input.Arrival p)
+heard a p v goes b w new is true_is bs ws =
+    let d = receive a p.message (new_work 0 p.from) in
+    let rest = idle a (new_work 0 p.from) in
+    ap (λ (x : Store). closed None (idle x w)) (bs ∙ ap (λ (x : Work). (receive a p.message x).store) new)
+    ∙ ap (λ (x : Work). closed None (idle d.store x)) (ws ∙ ap (λ (x : Work). (receive a p.message x).work) new)
+    ∙ sym (ap (λ (t : Bool). if t then closed None (if t then d else rest) else finished None (if t then d else rest)) (sym is ∙ true_is))

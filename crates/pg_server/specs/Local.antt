@@ -1,6 +1,5 @@
 -- What a server does with what comes to it.
-use Rattle.std.specs.Prelude.{ℕ, ◌&&◌, if◌then◌else◌, Option, None, Some}
-use Rattle.pg_call.specs.declared.call.Call.{Call}
+use Rattle.std.specs.Prelude.{[], ◌&&◌, ◌==◌, Bool, if◌then◌else◌, Option, None, Some}
 use Rattle.pg_call.specs.declared.refusal.Refusal.TheVariants.{ClockEnd}
 use Rattle.pg_call.specs.declared.reply.Reply.{Reply}
 use Rattle.pg_call.specs.declared.reply.Reply.TheVariants as reply
@@ -11,13 +10,22 @@ use Rattle.pg_msg.specs.declared.work.Work.{Work}
 use Rattle.pg_msg.specs.Numbers.{is_in_range}
 use Rattle.pg_msg.specs.Work.{new_work}
 use Rattle.pg_store.specs.declared.store.Store.{Store}
+use Rattle.pg_store.specs.Servers.{is_live_other, view_of}
 use Rattle.pg_store.specs.Store.{is_in_time}
 use Rattle.pg_cells.specs.Acks.{ack}
-use Rattle.pg_cells.specs.Cells.{cell_if_accepted}
+use Rattle.pg_cells.specs.Cells.{cell}
 use Rattle.pg_cells.specs.Done.{Done, idle}
 use Rattle.pg_cells.specs.Finish.{finish}
 use Rattle.pg_cells.specs.Settling.{settle}
 use Rattle.pg_cells.specs.Ticks.{tick}
+use Rattle.pg_repair.specs.Beginning.{begin_end}
+use Rattle.pg_repair.specs.Confirming.{confirm, place_is}
+use Rattle.pg_repair.specs.Fetching.{fetch}
+use Rattle.pg_repair.specs.Filling.{full}
+use Rattle.pg_repair.specs.Granting.{gone, grant, no_grant}
+use Rattle.pg_repair.specs.NoneHere.{none_here}
+use Rattle.pg_repair.specs.Requests.{ask_all, ask_begun}
+use Rattle.pg_repair.specs.Telling.{tell, tell_ok}
 use Rattle.pg_calls.specs.Answer.{Answer}
 use Rattle.pg_calls.specs.Calls.{do_call}
 use Rattle.pg_server.specs.declared.input.Input.{Input}
@@ -34,82 +42,110 @@ pub record Effect : Type 0 where
 abbrev pub out_of : Option Reply → Work → Out
 out_of answer work = record { reply = answer; made = work.made; sent = work.sent }
 
--- what was touched is sent at the end
+-- what was touched or linked is sent, and behind it the messages of the intentions that began
+abbrev pub sent_at_end : Done → Work
+sent_at_end done = ask_begun done.store (finish done.store done.work)
+
+-- the end of an event at which nothing changed names
 abbrev pub finished : Option Reply → Done → Effect
-finished answer done =
-    record { store = done.store; out = out_of answer (finish done.store done.work) }
+finished answer done = record { store = done.store; out = out_of answer (sent_at_end done) }
 
--- the house rules run before that
+-- what the house rules leave, and the intentions that end and begin behind them
+abbrev pub settled : Done → Done
+settled done = settle done.store done.work
+
+abbrev pub intended : Done → Done
+intended done = begin_end done.store done.work
+
+-- the end of any other event: the house rules run, intentions end and begin, and then it is sent
 abbrev pub closed : Option Reply → Done → Effect
-closed answer done = finished answer (settle done.store done.work)
-
--- ---- a call
-
--- at the end of the clock a call changes nothing, and no house rule runs
-abbrev pub after_call : Store → Answer → Effect
-after_call store a =
-    if is_in_time store then closed (Some a.reply) (idle a.store a.work)
-    else finished (Some a.reply) (idle a.store a.work)
-
-abbrev pub call_effect : Store → ℕ → Call → Effect
-call_effect store moment call = after_call store (do_call store call (new_work moment 0))
-
--- ---- a tick
-
--- what is not acknowledged is sent again. At the end of the clock a tick is refused
-abbrev pub tick_effect : Store → ℕ → Effect
-tick_effect store moment =
-    if is_in_time store
-    then closed (Some reply.Done) (idle store (tick store (new_work moment 0)))
-    else finished (Some (reply.Refused ClockEnd)) (idle store (new_work moment 0))
+closed answer done = finished answer (intended (settled done))
 
 -- ---- a message
 
--- each kind of message has its handler, which does nothing where the message is not accepted. The
--- kinds behind the acknowledgement do nothing yet
+-- it comes from another live server of the run, in the same view; its numbers are in range, and the
+-- clock is not at its end
+abbrev pub is_heard : Store → Packet → Bool
+is_heard store packet = is_in_time store && ((packet.view == view_of store)
+    && (is_live_other store packet.from && is_in_range packet.message))
+
+-- each kind of message goes to its handler, which does nothing where the message is not accepted.
+-- Bodies on demand, gold replicas and leaving are not built: their messages do nothing
 abbrev pub receive : Store → Message → Work → Done
-receive store (message.Cell ends tag cell) work = cell_if_accepted store ends tag cell work
+receive store (message.Cell ends tag c) work = cell store ends tag c work
 receive store (message.Ack ends k tag) work = ack store ends k tag work
 receive store (message.Harbinger ends tag head) work = idle store work
 receive store (message.Want ends wanted) work = idle store work
 receive store (message.Delta ends delta) work = idle store work
 receive store (message.Piece ends piece) work = idle store work
 receive store (message.Later ends stamp) work = idle store work
-receive store (message.Fetch file birth) work = idle store work
-receive store (message.Grant ends granted) work = idle store work
-receive store (message.NoGrant file birth) work = idle store work
-receive store (message.Full ends) work = idle store work
+receive store (message.Fetch file birth) work = fetch store file birth work
+receive store (message.Grant ends granted) work = grant store ends granted work
+receive store (message.NoGrant file birth) work = no_grant store file birth work
+receive store (message.Full ends) work = full store ends work
 receive store (message.Seek file birth) work = idle store work
 receive store (message.Here ends) work = idle store work
-receive store (message.NoneHere ask file child) work = idle store work
-receive store (message.Gone file birth) work = idle store work
+receive store (message.NoneHere ask file child) work = none_here store ask file child work
+receive store (message.Gone file birth) work = gone store file birth work
 receive store (message.Bye ends) work = idle store work
 receive store (message.ByeOk file birth) work = idle store work
-receive store (message.Confirm dir entry) work = idle store work
-receive store (message.PlaceIs dir entry) work = idle store work
-receive store (message.Tell dir entry) work = idle store work
-receive store (message.TellOk dir child stamp) work = idle store work
+receive store (message.Confirm dir entry) work = confirm store dir entry work
+receive store (message.PlaceIs dir entry) work = place_is store dir entry work
+receive store (message.Tell dir entry) work = tell store dir entry work
+receive store (message.TellOk dir child stamp) work = tell_ok store dir child stamp work
 receive store (message.Leave ends stamp) work = idle store work
 receive store (message.LeaveOk ends stamp) work = idle store work
 receive store (message.Invite ends) work = idle store work
 receive store (message.Walk ends origin birth hops word) work = idle store work
 receive store (message.Meet ends) work = idle store work
 
--- a message that has a number out of range is ignored, and so is every message at the end of the
--- clock: no house rule runs then
-abbrev pub arrival_effect : Store → Packet → Effect
-arrival_effect store packet =
-    if is_in_time store && is_in_range packet.message
-    then closed None (receive store packet.message (new_work 0 packet.from))
-    else finished None (idle store (new_work 0 packet.from))
+-- ---- the first effect of an input, before the house rules
+
+abbrev pub done_of : Answer → Done
+done_of a = record { store = a.store; work = a.work }
+
+-- what is not acknowledged is sent again, and behind it the messages of all intentions
+abbrev pub sent_again : Store → Work → Work
+sent_again store work = ask_all store (tick store work)
+
+-- a restart loses the wishes, and nothing else
+abbrev pub without_wishes : Store → Store
+without_wishes store = record store { wishes = [] }
+
+-- at the end of the clock a call is refused by its own checks, and a tick sends nothing. A message
+-- that is not heard is ignored
+abbrev pub first_effect : Store → Input → Done
+first_effect store (input.Call moment call) = done_of (do_call store call (new_work moment 0))
+first_effect store (input.Tick moment word) = idle store
+    (if is_in_time store then sent_again store (new_work moment 0) else new_work moment 0)
+first_effect store (input.Arrival packet) =
+    if is_heard store packet then receive store packet.message (new_work 0 packet.from)
+    else idle store (new_work 0 packet.from)
+first_effect store input.Restart = idle (without_wishes store) (new_work 0 0)
+
+-- what the client is told, if one is
+abbrev pub reply_to : Store → Input → Option Reply
+reply_to store (input.Call moment call) = Some (do_call store call (new_work moment 0)).reply
+reply_to store (input.Tick moment word) =
+    Some (if is_in_time store then reply.Done else reply.Refused ClockEnd)
+reply_to store (input.Arrival packet) = None
+reply_to store input.Restart = None
 
 -- ---- any input
 
+-- at the end of the clock nothing takes effect, and of messages only those that are heard
+abbrev pub takes_effect : Store → Input → Bool
+takes_effect store (input.Call moment call) = is_in_time store
+takes_effect store (input.Tick moment word) = is_in_time store
+takes_effect store (input.Arrival packet) = is_heard store packet
+takes_effect store input.Restart = is_in_time store
+
+-- the house rules and the intentions stand behind whatever takes effect
 abbrev pub effect : Store → Input → Effect
-effect store (input.Call moment call) = call_effect store moment call
-effect store (input.Tick moment word) = tick_effect store moment
-effect store (input.Arrival packet) = arrival_effect store packet
+effect store asked =
+    if takes_effect store asked then closed (reply_to store asked) (first_effect store asked)
+    else finished (reply_to store asked) (first_effect store asked)
 
 -- the same, in a word that opens only where a proof names it
 unfoldable pub effect_of : Store → Input → Effect
-effect_of store what = effect store what
+effect_of store asked = effect store asked

@@ -13,6 +13,8 @@ pub enum Input {
     Tick { moment: u64, word: u64 },
     /// A packet arrives.
     Arrival(Packet),
+    /// It starts again, and has lost what it keeps in memory alone.
+    Restart,
 }
 
 /// What comes of an input: the reply to a client, the updates that were made, and the messages that were sent, in their

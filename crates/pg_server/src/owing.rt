@@ -1,13 +1,14 @@
 //! What a server owes.
 
-ghost use Rattle.std.specs.Prelude.{◌≡◌, slice_get};
+ghost use Rattle.std.specs.Prelude.{◌≡◌, ◌++◌, map, slice_get};
 ghost use Rattle.pg_store.specs.Store.{replica_at};
-ghost use Rattle.pg_server.specs.Owing.{edge_owes, file_owes, owed, owed_keys, replica_owes};
+ghost use Rattle.pg_server.specs.Owing.{edge_owes, file_owes, intent_owed, owed, owed_intents, owed_keys, owed_places, replica_owes};
 
 use pg_base::{FileId, NodeId};
 use pg_edges::Edge;
-use pg_event::{OwedKey, Owing};
+use pg_event::{OwedIntent, OwedKey, Owing};
 use pg_house::first_held_back;
+use pg_intent::Intent;
 use pg_replica::Replica;
 use pg_store::Store;
 
@@ -61,9 +62,32 @@ fn first_key(store: &Store) -> Option<OwedKey>
     None
 }
 
-/// The first that a server owes: a key, or else a place that it holds back. It takes no memory.
-pub(crate) fn first_owed(store: &Store) -> Option<Owing>
-    ensures { result ≡ slice_get (owed store.now) 0 }
+/// An intention of a server, as it is told.
+fn intent_owed(server: NodeId, intent: &Intent) -> OwedIntent
+    ensures { result ≡ intent_owed server intent.now }
+{
+    OwedIntent {
+        server,
+        kind: intent.kind(),
+        file: intent.file(),
+        child: intent.child(),
+        target: intent.target(),
+    }
+}
+
+/// The first intention, in the order in which they began.
+fn first_intent(store: &Store) -> Option<OwedIntent>
+    ensures { result ≡ slice_get (owed_intents store.now) 0 }
+{
+    match store.intents.at(0) {
+        Some(intent) => Some(intent_owed(store.server(), intent)),
+        None => None,
+    }
+}
+
+/// The first key that a peer has not acknowledged, or else place that it holds back.
+fn first_key_or_place(store: &Store) -> Option<Owing>
+    ensures { result ≡ slice_get (map Owing.Key (owed_keys store.now) ++ owed_places store.now) 0 }
 {
     match first_key(store) {
         Some(key) => Some(Owing::Key(key)),
@@ -74,5 +98,15 @@ pub(crate) fn first_owed(store: &Store) -> Option<Owing>
             }),
             None => None,
         },
+    }
+}
+
+/// The first that a server owes: an intention, or else a key, or else a place that it holds back. It takes no memory.
+pub(crate) fn first_owed(store: &Store) -> Option<Owing>
+    ensures { result ≡ slice_get (owed store.now) 0 }
+{
+    match first_intent(store) {
+        Some(intent) => Some(Owing::Intent(intent)),
+        None => first_key_or_place(store),
     }
 }

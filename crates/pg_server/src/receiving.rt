@@ -1,16 +1,24 @@
 //! What an input does to what a server holds, and what comes of it.
 
-ghost use Rattle.std.specs.Prelude.{◌≡◌, ◌≤◌, ◌+◌, ◌^◌, OnOk, IfOk};
+ghost use Rattle.std.specs.Prelude.{◌≡◌, ◌≤◌, ◌^◌, OnOk, IfOk};
 ghost use Rattle.pg_cells.specs.Done.{idle};
-ghost use Rattle.pg_server.specs.Local.{arrival_effect, call_effect, closed, effect_of, finished, out_of, receive, tick_effect};
+ghost use Rattle.pg_server.specs.Local.{closed, effect, effect_of, finished, is_heard, out_of, receive};
 
 use crate::input::{Input, Out};
 use pg_call::{Call, Refusal, Reply};
 use pg_calls::do_call;
 use pg_cells::{ack, cell, finish, settle, tick};
 use pg_msg::{Message, Packet, Work};
+use pg_repair::{
+    ask_all, ask_begun, begin_end, confirm, fetch, full, gone, grant, no_grant, none_here,
+    place_is, tell, tell_ok,
+};
 use pg_store::Store;
 use std::alloc::AllocError;
+
+/// From a greatest time behind this no house rule draws a stamp: memory ends before. A call draws two stamps at most from a
+/// clock that is not at its end, and no message with a later time is heard.
+const LATEST_TIME: u64 = (1 << 62) + (1 << 40);
 
 /// What comes of an event: the reply to a client, what was made, and what is sent.
 fn out_of(reply: Option<Reply>, work: Work) -> Out
@@ -27,8 +35,9 @@ pub(crate) fn effect(store: &mut Store, input: Input) -> Result<Out, AllocError>
 {
     match input {
         Input::Call { moment, call } => call_effect(store, moment, &call),
-        Input::Tick { moment, .. } => tick_effect(store, moment),
+        Input::Tick { moment, word } => tick_effect(store, moment, word),
         Input::Arrival(packet) => arrival_effect(store, packet),
+        Input::Restart => restart_effect(store),
     }
 }
 
@@ -37,23 +46,28 @@ fn finished(reply: Option<Reply>, store: &Store, mut work: Work) -> Result<Out, 
     ensures { IfOk result (λ out. out ≡ (finished reply (idle store.now work)).out) }
 {
     finish(store, &mut work)?;
+    ask_begun(store, &mut work)?;
     Ok(out_of(reply, work))
 }
 
-/// The end of an event: the house rules run, and what was touched is sent.
+/// The end of an event: the house rules run, intentions end and begin, and what was touched is sent, and the messages of the
+/// intentions that began behind it.
 fn closed(reply: Option<Reply>, store: &mut Store, mut work: Work) -> Result<Out, AllocError>
-    requires { store.old.names.last ≤ 2 ^ 62 + 2 ^ 40 }
     ensures store { OnOk result (store.new ≡ (closed reply (idle store.old work)).store) }
     ensures out { IfOk result (λ out. out ≡ (closed reply (idle store.old work)).out) }
 {
+    if store.names.last() > LATEST_TIME {
+        return Err(AllocError);
+    }
     settle(store, &mut work)?;
+    begin_end(store, &mut work)?;
     Ok(finished(reply, store, work)?)
 }
 
 /// A client calls the server. At the end of the clock no house rule runs.
 fn call_effect(store: &mut Store, moment: u64, call: &Call) -> Result<Out, AllocError>
-    ensures store { OnOk result (store.new ≡ (call_effect store.old moment call.now).store) }
-    ensures out { IfOk result (λ out. out ≡ (call_effect store.old moment call.now).out) }
+    ensures store { OnOk result (store.new ≡ (effect store.old (Input.Call moment call.now)).store) }
+    ensures out { IfOk result (λ out. out ≡ (effect store.old (Input.Call moment call.now)).out) }
 {
     let mut work = Work::new(store.allocator(), moment, 0);
     let goes = store.is_in_time();
@@ -66,13 +80,14 @@ fn call_effect(store: &mut Store, moment: u64, call: &Call) -> Result<Out, Alloc
 }
 
 /// Sends again what is not acknowledged. At the end of the clock it is refused.
-fn tick_effect(store: &mut Store, moment: u64) -> Result<Out, AllocError>
-    ensures store { OnOk result (store.new ≡ (tick_effect store.old moment).store) }
-    ensures out { IfOk result (λ out. out ≡ (tick_effect store.old moment).out) }
+fn tick_effect(store: &mut Store, moment: u64, word: u64) -> Result<Out, AllocError>
+    ensures store { OnOk result (store.new ≡ (effect store.old (Input.Tick moment word)).store) }
+    ensures out { IfOk result (λ out. out ≡ (effect store.old (Input.Tick moment word)).out) }
 {
     let mut work = Work::new(store.allocator(), moment, 0);
     if store.is_in_time() {
         tick(store, &mut work)?;
+        ask_all(store, &mut work)?;
         Ok(closed(Some(Reply::Done), store, work)?)
     } else {
         let reply = Reply::Refused(Refusal::ClockEnd);
@@ -80,13 +95,40 @@ fn tick_effect(store: &mut Store, moment: u64) -> Result<Out, AllocError>
     }
 }
 
-/// Takes a message, but at the end of the clock, and but one that has a number out of range.
+/// It has lost its wishes, and nothing else: there is no reply, nothing is made, and nothing begins. At the end of the clock
+/// no house rule runs.
+fn restart_effect(store: &mut Store) -> Result<Out, AllocError>
+    ensures store { OnOk result (store.new ≡ (effect store.old Input.Restart).store) }
+    ensures out { IfOk result (λ out. out ≡ (effect store.old Input.Restart).out) }
+{
+    let work = Work::new(store.allocator(), 0, 0);
+    let goes = store.is_in_time();
+    store.wishes.clear();
+    if goes {
+        Ok(closed(None, store, work)?)
+    } else {
+        Ok(finished(None, store, work)?)
+    }
+}
+
+/// Whether a message is heard: it comes from another live server in the same view, has no number out of range, and the
+/// clock is not at its end.
+fn is_heard(store: &Store, packet: &Packet) -> bool
+    ensures { result ≡ is_heard store.now packet.now }
+{
+    store.is_in_time()
+        && packet.view == store.view()
+        && store.is_live_other(packet.from)
+        && packet.message.is_in_range()
+}
+
+/// Takes a message that is heard.
 fn arrival_effect(store: &mut Store, packet: Packet) -> Result<Out, AllocError>
-    ensures store { OnOk result (store.new ≡ (arrival_effect store.old packet).store) }
-    ensures out { IfOk result (λ out. out ≡ (arrival_effect store.old packet).out) }
+    ensures store { OnOk result (store.new ≡ (effect store.old (Input.Arrival packet)).store) }
+    ensures out { IfOk result (λ out. out ≡ (effect store.old (Input.Arrival packet)).out) }
 {
     let mut work = Work::new(store.allocator(), 0, packet.from);
-    if store.is_in_time() && packet.message.is_in_range() {
+    if is_heard(store, &packet) {
         receive(store, packet.message, &mut work)?;
         Ok(closed(None, store, work)?)
     } else {
@@ -95,7 +137,7 @@ fn arrival_effect(store: &mut Store, packet: Packet) -> Result<Out, AllocError>
 }
 
 /// Each kind of message goes to its handler, which does nothing where the message is not accepted. What has no handler
-/// yet changes nothing.
+/// changes nothing.
 fn receive(store: &mut Store, message: Message, work: &mut Work) -> Result<(), AllocError>
     requires { store.old.tags ≤ 2 ^ 62 }
     ensures store { OnOk result (store.new ≡ (receive store.old message work.old).store) }
@@ -116,20 +158,32 @@ fn receive(store: &mut Store, message: Message, work: &mut Work) -> Result<(), A
         Message::Delta { .. } => Ok(()),
         Message::Piece { .. } => Ok(()),
         Message::Later { .. } => Ok(()),
-        Message::Fetch { .. } => Ok(()),
-        Message::Grant { .. } => Ok(()),
-        Message::NoGrant { .. } => Ok(()),
-        Message::Full { .. } => Ok(()),
+        Message::Fetch { file, birth } => fetch(store, file, birth, work),
+        Message::Grant { ends, granted } => grant(store, ends, granted.get(), work),
+        Message::NoGrant { file, birth } => {
+            no_grant(store, file, birth, work);
+            Ok(())
+        }
+        Message::Full { ends } => full(store, ends, work),
         Message::Seek { .. } => Ok(()),
         Message::Here { .. } => Ok(()),
-        Message::NoneHere { .. } => Ok(()),
-        Message::Gone { .. } => Ok(()),
+        Message::NoneHere { ask, file, child } => {
+            none_here(store, ask, file, child, work);
+            Ok(())
+        }
+        Message::Gone { file, birth } => {
+            gone(store, file, birth, work);
+            Ok(())
+        }
         Message::Bye { .. } => Ok(()),
         Message::ByeOk { .. } => Ok(()),
-        Message::Confirm { .. } => Ok(()),
-        Message::PlaceIs { .. } => Ok(()),
-        Message::Tell { .. } => Ok(()),
-        Message::TellOk { .. } => Ok(()),
+        Message::Confirm { dir, entry } => confirm(store, dir, entry.get(), work),
+        Message::PlaceIs { dir, entry } => place_is(store, dir, entry.get(), work),
+        Message::Tell { dir, entry } => tell(store, dir, entry.get(), work),
+        Message::TellOk { dir, child, stamp } => {
+            tell_ok(store, dir, child, stamp, work);
+            Ok(())
+        }
         Message::Leave { .. } => Ok(()),
         Message::LeaveOk { .. } => Ok(()),
         Message::Invite { .. } => Ok(()),

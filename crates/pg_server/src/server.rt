@@ -58,8 +58,8 @@ impl Server {
         Ok(out)
     }
 
-    /// The first that the server owes: a key that a peer has not acknowledged, by file, peer and key, or else a place
-    /// that it holds back, by id. It takes no memory.
+    /// The first that the server owes: an intention, in the order in which they began, or else a key that a peer has not
+    /// acknowledged, by file, peer and key, or else a place that it holds back, by id. It takes no memory.
     pub fn owed(&self) -> Option<Owing>
         ensures { result ≡ slice_get (owed self.now.store) 0 }
     {

@@ -2,4 +2,6 @@
 #![tactic(auto)]
 
 #[cfg(test)]
+mod confirming;
+#[cfg(test)]
 mod steps;

@@ -6,14 +6,13 @@ use pg_words::first_words;
 use std::alloc::Global;
 use std::test::Fail;
 
-const MADE: &str =
-    "made d1.1, made 2, 1 2 cell d0.0 entry:d1.1, 1 2 cell d1.1 place, 1 2 cell d1.1 flag:1";
+const MADE: &str = "made d1.1, made 2, 1 2 cell d0.0 entry:d1.1";
 
-const TAKEN: &str =
-    "made 0, 2 1 ack d0.0 entry:d1.1, 2 1 cell d0.0 entry:d1.1, 2 1 cell d1.1 place, 2 1 cell d1.1 flag:1";
+const TAKEN: &str = "made 0, 2 1 ack d0.0 entry:d1.1, 2 1 cell d0.0 entry:d1.1";
 
-const SENT_AGAIN: &str =
-    "done, made 0, 1 2 cell d0.0 entry:d1.1, 1 2 cell d1.1 place, 1 2 cell d1.1 flag:1";
+const SENT_AGAIN: &str = "done, made 0, 1 2 cell d0.0 entry:d1.1";
+
+const ASKED: &str = "refused 3 NotYet d1.1, made 0, 2 1 fetch d1.1 -";
 
 /// A client calls at time 50 with these words.
 fn call(alloc: Global, line: &[u8]) -> Result<Option<Input>, Fail> {
@@ -47,7 +46,7 @@ fn told(alloc: Global, out: &Out) -> Result<String, Fail> {
 }
 
 /// Something comes to the server, and this comes of it. Gives the first message that is sent.
-fn happen(
+pub(crate) fn happen(
     alloc: Global,
     server: &mut Server,
     input: Option<Input>,
@@ -62,7 +61,7 @@ fn happen(
 }
 
 /// The first that the server owes is this.
-fn owes(alloc: Global, server: &Server, expected: &str) -> Result<bool, Fail> {
+pub(crate) fn owes(alloc: Global, server: &Server, expected: &str) -> Result<bool, Fail> {
     let owing = server.owed().ok_or("owed")?;
     let text = format!(in alloc; "{owing}")?;
     Ok(text.as_str() == expected)
@@ -94,6 +93,34 @@ fn servers_take_what_comes(rt: HostRuntime) -> Result<(), Fail> {
     let taken = happen(alloc, &mut second, made, TAKEN)?;
     assert_eq!(rt; second.store().server(), 2);
     happen(alloc, &mut first, taken, "made 0")?;
-    assert!(rt; owes(alloc, &first, "cell 1 d1.1 2 place")?);
+    assert!(rt; first.owed().is_none());
+    Ok(())
+}
+
+/// A server that took the entry of a directory, which it does not hold.
+fn listing(alloc: Global) -> Result<Server, Fail> {
+    let mut first = Server::new(alloc, 1, 2)?;
+    let made = happen(alloc, &mut first, call(alloc, b"mkdir /a")?, MADE)?;
+    let mut second = Server::new(alloc, 2, 2)?;
+    happen(alloc, &mut second, made, TAKEN)?;
+    Ok(second)
+}
+
+/// A call asks for the directory. Whether so many births are given out then.
+fn asks(alloc: Global, server: &mut Server, births: u64) -> Result<bool, Fail> {
+    happen(alloc, server, call(alloc, b"ls /a 0")?, ASKED)?;
+    Ok(server.store().births == births)
+}
+
+/// What is listed and not held is fetched by each call, with one birth, until a restart loses the wish: then with the next
+/// one.
+#[test]
+fn a_restart_loses_the_wish(rt: HostRuntime) -> Result<(), Fail> {
+    let alloc = rt.alloc();
+    let mut server = listing(alloc)?;
+    assert!(rt; asks(alloc, &mut server, 2)?);
+    assert!(rt; asks(alloc, &mut server, 2)?);
+    happen(alloc, &mut server, Some(Input::Restart), "made 0")?;
+    assert!(rt; asks(alloc, &mut server, 3)?);
     Ok(())
 }

@@ -14,7 +14,7 @@ use Rattle.pg_house.specs.Placing.{place_at, place_of}
 use Rattle.pg_house.specs.Returning.{is_root}
 use Rattle.pg_house.specs.Cycles as cycles
 use Rattle.pg_house.specs.Cycles.{is_inner, is_live_own}
-use Rattle.pg_house.specs.House.{rules}
+use Rattle.pg_house.specs.House.{house}
 use Rattle.pg_house.specs.Facts.{AreByServer, IsLast, IsOfDirs, is_among}
 use Rattle.pg_house.proofs.Truths.{both_true, chosen_true, not_false}
 use Rattle.pg_house.proofs.Counting.{among_kept}
@@ -98,9 +98,9 @@ module _ (s : NamesValue) where
     pub comes_out : (f : FileId) → ComesOut s f
     comes_out f = from_any f (own_at s f) refl
 
-pub rules_come_out : (moment : ℕ) (st : State) → IsOfDirs st.names → AreByServer st.names → IsLast st.names → (f : FileId) → ComesOut (rules moment st).names f
+pub rules_come_out : (moment : ℕ) (st : State) → IsOfDirs st.names → AreByServer st.names → IsLast st.names → (f : FileId) → ComesOut (house moment st).names f
 rules_come_out moment st of_dirs sorted last f =
-    let s = (rules moment st).names in
+    let s = (house moment st).names in
     let ds = directories st.names in
     let n = length ds in
     comes_out s (n + n) (λ d b h dir.

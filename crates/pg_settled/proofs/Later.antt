@@ -19,7 +19,7 @@ use Rattle.pg_house.specs.Passing.{cell_for, greatest, is_cell, is_held_back, jo
 use Rattle.pg_house.specs.Placing.{drawn, live_place, made_at, own_with, place_at, placed}
 use Rattle.pg_house.specs.Returning.{first_returning, is_returning, return_first, returned}
 use Rattle.pg_house.specs.Cycles.{break_first, first_moving, moved}
-use Rattle.pg_house.specs.House.{movable, rules}
+use Rattle.pg_house.specs.House.{house, movable}
 use Rattle.pg_house.specs.Facts.{AreByServer, IsHeld, IsLast, IsOfDirs, is_among}
 use Rattle.pg_house.proofs.Truths.{or_cases, or_left}
 use Rattle.pg_house.proofs.Counting.{find_found}
@@ -217,7 +217,7 @@ module _ (moment : ℕ) (ds : List FileId) (s : NamesValue) (st : State) (k : St
       ]
 
 -- THE RULES ONLY GROW
-pub rules_grow : (moment : ℕ) (st : State) → IsOfDirs st.names → AreByServer st.names → IsLast st.names → Grows st.names (rules moment st).names
+pub rules_grow : (moment : ℕ) (st : State) → IsOfDirs st.names → AreByServer st.names → IsLast st.names → Grows st.names (house moment st).names
 rules_grow moment st of_dirs sorted last =
     let ds = directories st.names in
     let one = pass_all st ds (movable st.names) in

@@ -18,7 +18,7 @@ use Rattle.pg_house.specs.Passing.{cell_for, greatest, is_cell, is_held_back, jo
 use Rattle.pg_house.specs.Placing.{drawn, live_place, made_at, own_with, place_at, placed}
 use Rattle.pg_house.specs.Returning.{first_returning, return_first, returned}
 use Rattle.pg_house.specs.Cycles.{break_first, first_moving, moved}
-use Rattle.pg_house.specs.House.{movable, rules}
+use Rattle.pg_house.specs.House.{house, movable}
 use Rattle.pg_house.specs.Facts.{AreByServer, HasOwnParent, IsHeld, IsOfDirs}
 use Rattle.pg_house.proofs.Truths.{before_itself, bool_cases, or_left}
 use Rattle.pg_house.proofs.Greatest.{cell_held, cell_is}
@@ -210,7 +210,7 @@ module _ (moment : ℕ) (st : State) (of_dirs : IsOfDirs st.names) (sorted : Are
       (has now.0 (ap (λ (z : Place). z.live) k.same ∙ live) (ap (own_at One.names) up ∙ now.1) (ap is_dir up ∙ dir))
 
   -- THE PARENT AT THE START has a cell in the end
-  pub start_parent : (g d : FileId) (own : Own) → is_same_file g root ≡ false → own_at st.names g ≡ Some own → own.place.live ≡ true → own.place.parent ≡ d → is_dir d ≡ true → IsHeld st.names d → OnlyBack st.names g own.place → is_cell (cell_at (rules moment st).names d g) ≡ true
+  pub start_parent : (g d : FileId) (own : Own) → is_same_file g root ≡ false → own_at st.names g ≡ Some own → own.place.live ≡ true → own.place.parent ≡ d → is_dir d ≡ true → IsHeld st.names d → OnlyBack st.names g own.place → is_cell (cell_at (house moment st).names d g) ≡ true
   start_parent g d own apart held live parent dir there back =
       let one = after_passing g d own apart held live parent dir there back in
       (repeated_keeps (Goes Dirs d g) (break_first moment Dirs) (λ t k. moved_goes moment Dirs t (first_moving t.names (length Dirs) None Dirs) d g k) (length Dirs) _

@@ -6,3 +6,4 @@ pub mod Unheld
 pub mod Climbs
 pub mod Given
 pub mod Second
+pub mod Works

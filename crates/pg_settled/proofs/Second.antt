@@ -7,13 +7,13 @@ use Rattle.pg_msg.specs.declared.work.Work.{Work}
 use Rattle.pg_names.specs.Names.{NamesValue}
 use Rattle.pg_house.specs.Work.{state_of}
 use Rattle.pg_house.specs.Facts.{AreByServer, IsLast, IsOfDirs}
-use Rattle.pg_house.specs.House.{rules}
+use Rattle.pg_house.specs.House.{house}
 use Rattle.pg_listing.specs.Protocol.{IsIn, IsUpTo}
 use Rattle.pg_listing.specs.Rule.{HasCell, Holds, IsSettled, IsToldAt}
 use Rattle.pg_listing.specs.Parts.{NoneLater, SecondPart}
 use Rattle.pg_settled.specs.Listing.{Beside, listing}
 use Rattle.pg_settled.specs.Second.{Intends, RulesAreSecondParts, Seen}
-use Rattle.pg_settled.proofs.Given.{cells_grow_rules, own_places_grow_rules, parents_at_start_rules, settled_behind_rules, unheld_stay_none, unheld_stay_rules}
+use Rattle.pg_settled.proofs.Given.{cells_grow, nothing_begins, own_places_grow, parents_at_start, settled_behind, unheld_stay}
 
 -- what the rules give, from one server's names to the next
 record Gives (s t : NamesValue) : Type 0 where
@@ -24,16 +24,16 @@ record Gives (s t : NamesValue) : Type 0 where
   unheld : (d c : FileId) → listing.own s c ≡ None → listing.cell t d c ≡ listing.cell s d c
   parent : (d c : FileId) (q : Place) → listing.own s c ≡ Some q → IsIn listing d c q → Holds listing s d → NoneLater listing s c q → HasCell listing t d c
 
-gives : (moment : ℕ) (s : NamesValue) (work : Work) → IsOfDirs s → AreByServer s → IsLast s → Gives s (rules moment (state_of s work)).names
+gives : (moment : ℕ) (s : NamesValue) (work : Work) → IsOfDirs s → AreByServer s → IsLast s → Gives s (house moment (state_of s work)).names
 gives moment s work of_dirs sorted last =
     let st = state_of s work in
     record {
-      settled = settled_behind_rules moment st of_dirs sorted;
-      own = own_places_grow_rules moment st of_dirs sorted last;
-      gone = unheld_stay_none moment st;
-      cells = cells_grow_rules moment st of_dirs sorted last;
-      unheld = λ d c none. (unheld_stay_rules moment st c (unheld_stay_none moment st c none)).1 d;
-      parent = parents_at_start_rules moment st of_dirs sorted;
+      settled = settled_behind moment st of_dirs sorted;
+      own = own_places_grow moment st of_dirs sorted last;
+      gone = nothing_begins moment st;
+      cells = cells_grow moment st of_dirs sorted last;
+      unheld = λ d c none. (unheld_stay moment st c (nothing_begins moment st c none)).1 d;
+      parent = parents_at_start moment st of_dirs sorted;
     }
 
 module _ {N : Type 0} (see : N → NamesValue) (beside : Beside N) where

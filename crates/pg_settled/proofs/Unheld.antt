@@ -14,7 +14,7 @@ use Rattle.pg_house.specs.Passing.{greatest, is_held_back, pass, pass_all, pass_
 use Rattle.pg_house.specs.Placing.{drawn, live_place, made_at, own_with, place_at, placed}
 use Rattle.pg_house.specs.Returning.{first_returning, return_first, returned}
 use Rattle.pg_house.specs.Cycles.{break_first, first_moving, moved}
-use Rattle.pg_house.specs.House.{movable, rules}
+use Rattle.pg_house.specs.House.{house, movable}
 use Rattle.pg_house.specs.Facts.{is_among}
 use Rattle.pg_house.proofs.AfterPassing.{after_child, after_other}
 use Rattle.pg_house.proofs.Keys.{rules_keys}
@@ -71,7 +71,7 @@ module _ (s : NamesValue) (g : FileId) where
   moved_unheld moment ds st None k = k
   moved_unheld moment ds st (Some d) k = placed_unheld moment ds st d root (tilde_name d) k
 
-  pub rules_unheld : (moment : ℕ) (st : State) → IsUnheld st.names → IsUnheld (rules moment st).names
+  pub rules_unheld : (moment : ℕ) (st : State) → IsUnheld st.names → IsUnheld (house moment st).names
   rules_unheld moment st k =
       let ds = directories st.names in
       repeated_keeps (λ (t : State). IsUnheld t.names) (break_first moment ds) (λ t h. moved_unheld moment ds t (first_moving t.names (length ds) None ds) h) (length ds) _
@@ -80,13 +80,13 @@ module _ (s : NamesValue) (g : FileId) where
 
 -- ---- and what is not held in the end was not held at the start
 
-was_none_by : (moment : ℕ) (st : State) (f : FileId) (o : Option Own) → own_at st.names f ≡ o → own_at (rules moment st).names f ≡ None → own_at st.names f ≡ None
+was_none_by : (moment : ℕ) (st : State) (f : FileId) (o : Option Own) → own_at st.names f ≡ o → own_at (house moment st).names f ≡ None → own_at st.names f ≡ None
 was_none_by moment st f None h none = h
 was_none_by moment st f (Some b) h none =
-    let end = (rules moment st).names in
+    let end = (house moment st).names in
     let among : is_among f (keys_of end.held) ≡ true = ap (is_among f) (rules_keys moment st) ∙ key_of_held st.names f b h in
     let x = key_found f end.held among in
     absurd (none-some x.0.own (sym none ∙ ap own_of x.1))
 
-pub was_none : (moment : ℕ) (st : State) (f : FileId) → own_at (rules moment st).names f ≡ None → own_at st.names f ≡ None
+pub was_none : (moment : ℕ) (st : State) (f : FileId) → own_at (house moment st).names f ≡ None → own_at st.names f ≡ None
 was_none moment st f none = was_none_by moment st f (own_at st.names f) refl none

@@ -7,7 +7,7 @@ use Rattle.pg_msg.specs.declared.work.Work.{Work}
 use Rattle.pg_names.specs.Names.{NamesValue}
 use Rattle.pg_house.specs.Work.{state_of}
 use Rattle.pg_house.specs.Facts.{AreByServer, IsLast, IsOfDirs}
-use Rattle.pg_house.specs.House.{rules}
+use Rattle.pg_house.specs.House.{house}
 use Rattle.pg_listing.specs.Protocol.{Protocol, Above, AtLeast, IsIn, Lists}
 use Rattle.pg_listing.specs.Rule.{Holds, IsToldAt}
 use Rattle.pg_listing.specs.Parts.{SecondPart}
@@ -47,5 +47,5 @@ module _ {N : Type 0} (see : N → NamesValue) (beside : Beside N) where
   RulesAreSecondParts =
       (moment : ℕ) (work : Work) (a m b : N)
       → IsOfDirs (see m) → AreByServer (see m) → IsLast (see m)
-      → see b ≡ (rules moment (state_of (see m) work)).names
+      → see b ≡ (house moment (state_of (see m) work)).names
       → Intends a m b → SecondPart Seen a m b

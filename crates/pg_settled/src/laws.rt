@@ -1,9 +1,7 @@
 //! What the house rules give to the listings of `pg_listing`. Each law is a clause of a function
-//! that does nothing: of `rules`, under which nothing becomes held, and of `house`, which first
-//! holds the parents in the places that things take.
+//! that does nothing.
 
-ghost use Rattle.pg_house.specs.House.{house, rules};
-ghost use Rattle.pg_settled.specs.Laws.{CellsGrow, ClimbsComeOut, NothingBegins, OwnPlacesGrow, ParentsAtStart, SettledBehind, UnheldStay};
+ghost use Rattle.pg_settled.specs.Laws.{CellsGrow, ClimbsComeOut, NothingBegins, OwnPlacesGrow, ParentsAtStart, ReplacedAreNoted, SettledBehind, UnheldStay};
 ghost use Rattle.pg_settled.specs.Second.{RulesAreSecondParts};
 
 /// Servers that keep names, and births, intentions and views beside them.
@@ -23,47 +21,47 @@ pub trait Keeping {
 /// held directory has a cell for each held child that is live in it; and only held directories have
 /// cells. Asks that only directories have entries, and that flags are by server.
 pub fn settled_behind()
-    ensures rules { SettledBehind rules }
-    ensures house { SettledBehind house }
+    ensures { SettledBehind }
 {}
 
 /// A held directory has in the end a cell for each held child that was live in it at the start,
 /// unless a later place was there that the child takes. So a place that is replaced leaves a later
-/// one behind in its parent, also where the parent became held in the same event.
+/// one behind in its parent, where that is held.
 pub fn parents_at_start()
-    ensures rules { ParentsAtStart rules }
-    ensures house { ParentsAtStart house }
+    ensures { ParentsAtStart }
 {}
 
 /// Cells stay, and none goes to an earlier stamp. Asks also that no stamp is later than the
 /// greatest time.
 pub fn cells_grow()
-    ensures rules { CellsGrow rules }
-    ensures house { CellsGrow house }
+    ensures { CellsGrow }
 {}
 
 /// What is held stays held, with the same place or one of a later stamp. Asks for the same.
 pub fn own_places_grow()
-    ensures rules { OwnPlacesGrow rules }
-    ensures house { OwnPlacesGrow house }
+    ensures { OwnPlacesGrow }
 {}
 
-/// What is not held in the end was not held before, and its cells are as they were. Where no
-/// parents are held first, nothing becomes held (`none`). Asks for nothing.
+/// What is not held in the end was not held before, and its cells are as they were. Nothing becomes
+/// held (`none`). Asks for nothing.
 pub fn unheld_stay()
-    ensures rules { UnheldStay rules }
-    ensures house { UnheldStay house }
-    ensures none { NothingBegins rules }
+    ensures stay { UnheldStay }
+    ensures none { NothingBegins }
+{}
+
+/// Where the place of a thing becomes a later one it is noted that it left the directory in which it
+/// was live at the start, held or not: none is forgotten. Asks for nothing.
+pub fn replaced_are_noted()
+    ensures { ReplacedAreNoted }
 {}
 
 /// From each thing a climb comes to the root, or to what is not held live: there is no cycle. Asks
 /// for the same as `cells_grow`.
 pub fn climbs_come_out()
-    ensures rules { ClimbsComeOut rules }
-    ensures house { ClimbsComeOut house }
+    ensures { ClimbsComeOut }
 {}
 
-/// Where names in the end are those behind `rules`, the rules are the second part of a step, as
+/// Where names in the end are those behind the rules, they are the second part of a step, as
 /// `parts_are_steps` of `pg_listing` wants it, but for what the intentions give: births, Patches
 /// and Confirms.
 pub fn rules_are_second_parts<K: Keeping>()

@@ -5,6 +5,6 @@
 mod laws;
 
 pub use laws::{
-    Keeping, cells_grow, climbs_come_out, own_places_grow, parents_at_start,
+    Keeping, cells_grow, climbs_come_out, own_places_grow, parents_at_start, replaced_are_noted,
     rules_are_second_parts, settled_behind, unheld_stay,
 };

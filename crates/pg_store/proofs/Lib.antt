@@ -1,5 +1,9 @@
-pub mod FirstEdges
 pub mod Stays
 mod Old
-mod Linked
+pub mod News
 pub mod InTime
+pub mod Wanted
+pub mod Pairs
+pub mod Given
+pub mod Wishing
+pub mod Aiming

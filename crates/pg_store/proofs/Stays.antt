@@ -1,4 +1,4 @@
--- What a place or a flag that brings nothing leaves, and what a server that holds one thing more is.
+-- What a place or a flag that brings nothing leaves.
 use Rattle.std.proofs.Common.{◌≡◌, false, cond, List, Option, None, Some, refl, ap, ◌∙◌}
 use Rattle.std.specs.BTreeMap.{is_at}
 use Rattle.std.proofs.lemmas.Map.Steps.{set_value_same}
@@ -8,7 +8,7 @@ use Rattle.pg_base.specs.Stamp.{is_before}
 use Rattle.pg_register.specs.declared.flag.Flag.{Flag}
 use Rattle.pg_register.specs.declared.place.Place.{Place}
 use Rattle.pg_register.specs.Flag.{flag_of, is_new, put_flag}
-use Rattle.pg_names.specs.Names.{HeldValue, NamesValue, changed, hold, held_with, is_flag_new, is_place_new, join_flag, join_place, known, own_at, own_of, with_flag, with_held, with_place}
+use Rattle.pg_names.specs.Names.{HeldValue, NamesValue, changed, is_flag_new, is_place_new, join_flag, join_place, known, own_at, own_of, with_flag, with_held, with_place}
 
 abbrev names_with : NamesValue → List (FileId × HeldValue) → NamesValue
 names_with names held =
@@ -22,7 +22,7 @@ same_held names file x y there same =
 -- ---- a place
 
 place_stays : (x : HeldValue) (place : Place) → is_before x.own.place.stamp place.stamp ≡ false → with_place place x ≡ x
-place_stays x place old = ap (λ b. record { own = record { place = cond b place x.own.place; flags = x.own.flags }; entries = x.entries }) old
+place_stays x place old = ap (λ b. record { full = x.full; own = record { place = cond b place x.own.place; flags = x.own.flags }; entries = x.entries }) old
 
 place_by : (names : NamesValue) (file : FileId) (place : Place) (o : Option HeldValue) → known names file ≡ o
     → is_place_new (own_of o) place ≡ false → changed names file (with_place place) o ≡ names
@@ -37,7 +37,7 @@ old_place names file place old = place_by names file place (known names file) re
 
 flag_stays : (x : HeldValue) (flag : Flag) → is_new (flag_of x.own.flags flag.server) flag ≡ false → with_flag flag x ≡ x
 flag_stays x flag old =
-    ap (λ b. record { own = record { place = x.own.place; flags = cond b (put_flag x.own.flags flag) x.own.flags }; entries = x.entries }) old
+    ap (λ b. record { full = x.full; own = record { place = x.own.place; flags = cond b (put_flag x.own.flags flag) x.own.flags }; entries = x.entries }) old
 
 flag_by : (names : NamesValue) (file : FileId) (flag : Flag) (o : Option HeldValue) → known names file ≡ o
     → is_flag_new (own_of o) flag ≡ false → changed names file (with_flag flag) o ≡ names
@@ -47,13 +47,3 @@ flag_by names file flag (Some x) there old = same_held names file x (with_flag f
 pub old_flag : (names : NamesValue) (file : FileId) (flag : Flag) → is_flag_new (own_at names file) flag ≡ false
     → join_flag names file flag ≡ names
 old_flag names file flag old = flag_by names file flag (known names file) refl old
-
--- ---- one thing more is held
-
-server_by : (names : NamesValue) (file : FileId) (o : Option HeldValue) → (held_with names file o).server ≡ names.server
-server_by names file None = refl
-server_by names file (Some x) = refl
-
--- it is the same server
-pub hold_server : (names : NamesValue) (file : FileId) → (hold names file).server ≡ names.server
-hold_server names file = server_by names file (known names file)

@@ -1,3 +1,9 @@
 pub mod Start
+pub mod Wishes
 pub mod Store
+pub mod Births
+pub mod Servers
+pub mod Links
+pub mod Beginning
 pub mod Cells
+pub mod Together

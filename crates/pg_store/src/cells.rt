@@ -2,12 +2,13 @@
 
 ghost use Rattle.std.specs.Prelude.{◌≡◌, IfOk, Some};
 ghost use Rattle.std.specs.Option.{option_copied};
-ghost use Rattle.pg_store.specs.Cells.{cell_at};
+ghost use Rattle.pg_store.specs.Cells.{cell_at, is_sure};
 
 use crate::store::Store;
 use pg_base::{FileId, NodeId, Shared, Stamp};
 use pg_edges::Key;
 use pg_entries::Cell;
+use pg_intent::IntentKey;
 use pg_names::Own;
 use std::alloc::AllocError;
 
@@ -50,7 +51,16 @@ impl Store {
             return Ok(None);
         };
         let entry = Shared::new(self.allocator(), entry.copy()?)?;
-        Ok(Some(Cell::Entry(entry, true)))
+        Ok(Some(Cell::Entry(entry, self.is_sure(dir, child))))
+    }
+
+    /// Whether the server does not owe to have a child's place confirmed.
+    fn is_sure(&self, dir: FileId, child: FileId) -> bool
+        ensures { result ≡ is_sure self.now dir child }
+    {
+        self.intents
+            .get(&IntentKey::Confirm { dir, child })
+            .is_none()
     }
 
     fn version_cell(&self, file: FileId, stamp: Stamp) -> Result<Option<Cell>, AllocError>
@@ -62,7 +72,6 @@ impl Store {
         let Some(version) = replica.cell_at(&Key::Version(stamp)) else {
             return Ok(None);
         };
-        let policy = replica.content.policy();
-        Ok(Some(Cell::Version(version.copy()?, policy)))
+        Ok(Some(Cell::Version(version.copy()?)))
     }
 }

@@ -2,11 +2,16 @@
 //! the content of a file.
 #![tactic(auto)]
 
+mod beginning;
 mod cells;
+mod links;
+mod servers;
 mod start;
 mod store;
 mod taking;
 mod versions;
+mod wishes;
 
-pub use start::first_flag;
 pub use store::{MOST_TAGS, Store};
+pub use taking::EntryNews;
+pub use wishes::{Wish, Wishes};

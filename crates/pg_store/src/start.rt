@@ -1,14 +1,12 @@
-//! The root, of which every server has a gold replica from the start on, and the edges of what nobody has touched.
+//! The root, of which every server has a full gold replica from the start on.
 
-ghost use Rattle.std.specs.Prelude.{◌≡◌, IfOk, OnOk, length};
-ghost use Rattle.pg_register.specs.Flag.{join_flag};
-ghost use Rattle.pg_replica.specs.Untouched.{clean_edges};
-ghost use Rattle.pg_store.specs.Start.{first_flag, first_flags, first_names, is_first_link, is_server, root_own};
+ghost use Rattle.std.specs.Prelude.{◌≡◌, IfOk};
+ghost use Rattle.pg_store.specs.Start.{first_flag, first_flags, first_names, first_replicas, root_own};
 
 use pg_base::{FileId, Kind, NodeId};
 use pg_names::{Names, Own};
 use pg_register::{Flag, GoldFlags, Place};
-use pg_replica::{Home, Link};
+use pg_replica::{FIRST_BIRTH, Replicas, first_root};
 use std::alloc::{AllocError, Global};
 
 /// The directory above all others.
@@ -18,13 +16,13 @@ const ROOT: FileId = FileId {
     number: 0,
 };
 
-/// The raised flag of a server's first replica of a thing.
-pub fn first_flag(server: NodeId) -> Flag
+/// The raised flag of a server's first replica of the root.
+fn first_flag(server: NodeId) -> Flag
     ensures { result ≡ first_flag server }
 {
     Flag {
         server,
-        birth: 1,
+        birth: FIRST_BIRTH,
         number: 1,
         raised: true,
     }
@@ -50,37 +48,24 @@ fn root_own(alloc: Global, servers: u32) -> Result<Own, AllocError>
     })
 }
 
-/// What a server knows of names at the start of a run with so many servers.
+/// What a server knows of names at the start of a run with so many servers: the root, and it is full.
 pub(crate) fn first_names(alloc: Global, server: NodeId, servers: u32) -> Result<Names, AllocError>
     ensures { IfOk result (λ names. names ≡ first_names servers server) }
 {
     let mut names = Names::new(alloc, server);
-    names.hold(ROOT)?;
-    names.set_own(&ROOT, root_own(alloc, servers)?);
+    names.begin(ROOT, root_own(alloc, servers)?, true)?;
     Ok(names)
 }
 
-/// Whether it is one of the servers of the run.
-fn is_server(home: Home, server: NodeId) -> bool
-    ensures { result ≡ is_server home server }
+/// And the replicas: that of the root, with a clean edge to each other server.
+pub(crate) fn first_replicas(
+    alloc: Global,
+    server: NodeId,
+    servers: u32,
+) -> Result<Replicas, AllocError>
+    ensures { IfOk result (λ replicas. replicas ≡ first_replicas servers server) }
 {
-    1 <= server && server <= home.servers
-}
-
-/// Whether a replica that nobody has touched has an edge between these births: it has one to each other server.
-pub(crate) fn is_first_link(home: Home, link: &Link) -> bool
-    ensures { result ≡ is_first_link home link.now }
-{
-    link.own == 1 && (link.birth == 1 && (link.peer != home.server && is_server(home, link.peer)))
-}
-
-/// How many edges it has.
-pub(crate) fn first_edge_count(home: Home) -> usize
-    ensures { result ≡ length (clean_edges home.server home.servers) }
-{
-    if is_server(home, home.server) {
-        home.servers as usize - 1
-    } else {
-        home.servers as usize
-    }
+    let mut replicas = Replicas::new(alloc);
+    replicas.add(ROOT, first_root(alloc, server, servers)?)?;
+    Ok(replicas)
 }

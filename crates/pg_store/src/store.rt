@@ -3,13 +3,16 @@
 ghost use Rattle.std.specs.Prelude.{◌≡◌, ◌≤◌, ◌^◌, IfOk, OnOk, length};
 ghost use Rattle.std.specs.Option.{option_copied};
 ghost use Rattle.pg_replica.specs.Replica.{has_edge};
-ghost use Rattle.pg_store.specs.Store.{acknowledge, has_time, have_own_flag_at_end, home_of, is_in_time, is_own_flag_at_end, new_store, replica_at, replica_of, touch, with_names};
+ghost use Rattle.pg_store.specs.Births.{birth_of, has_birth};
+ghost use Rattle.pg_store.specs.Store.{acknowledge, has_time, have_own_flag_at_end, is_in_time, is_own_flag_at_end, new_store, replica_at, replica_of, touch};
 
-use crate::start::{first_edge_count, first_names, is_first_link};
+use crate::start::{first_names, first_replicas};
+use crate::wishes::Wishes;
 use pg_base::{FileId, NodeId, Stamp};
 use pg_edges::Key;
+use pg_intent::Intents;
 use pg_names::{Held, Names};
-use pg_replica::{Home, Link, Replica, Replicas};
+use pg_replica::{FIRST_BIRTH, Link, Replica, Replicas};
 use std::alloc::{AllocError, Global};
 
 /// What a server holds.
@@ -21,10 +24,16 @@ pub struct Store {
     pub tags: u64,
     /// The number of the latest id that it gave out: 0 before the first.
     pub files: u64,
+    /// The latest birth that it gave out. The first is that of the root's replica.
+    pub births: u64,
     /// What it knows of names: by id, all that it holds.
     pub names: Names,
-    /// The replicas that were touched, with their edges and contents.
+    /// The replicas of all that it holds, with their edges and contents.
     pub replicas: Replicas,
+    /// What it intends until others have answered.
+    pub intents: Intents,
+    /// What its clients asked for that it does not hold. A restart loses them.
+    pub wishes: Wishes,
 }
 
 /// Where more tags than this were given out, no version is made and no key is touched: memory ends before.
@@ -39,8 +48,11 @@ impl Store {
             servers,
             tags: 1,
             files: 0,
+            births: FIRST_BIRTH,
             names: first_names(alloc, server, servers)?,
-            replicas: Replicas::new(alloc),
+            replicas: first_replicas(alloc, server, servers)?,
+            intents: Intents::new(alloc),
+            wishes: Wishes::new(alloc),
         })
     }
 
@@ -55,17 +67,8 @@ impl Store {
         self.names.server()
     }
 
-    pub(crate) fn home(&self) -> Home
-        ensures { result ≡ home_of self.now }
-    {
-        Home {
-            server: self.server(),
-            servers: self.servers,
-        }
-    }
-
-    /// Whether the clock is not at its end: no stamp that was taken, no tag and no id that was given out, and no number of
-    /// one of the server's own actors or flags that is known here, has come to 2^62.
+    /// Whether the clock is not at its end: no stamp that was taken, no tag, no id and no birth that was given out, and no
+    /// number of one of the server's own actors or flags that is known here, has come to 2^62.
     pub fn is_in_time(&self) -> bool
         ensures { result ≡ is_in_time self.now }
     {
@@ -75,11 +78,13 @@ impl Store {
     }
 
     fn has_time(&self) -> bool
-        ensures { result ≡ has_time self.now.names.last self.now.tags self.now.files }
+        ensures { result
+            ≡ has_time self.now.names.last self.now.tags self.now.files self.now.births }
     {
         self.names.last() < Stamp::LATEST
             && self.tags <= Stamp::LATEST
             && self.files < Stamp::LATEST
+            && self.births < Stamp::LATEST
     }
 
     fn have_own_flag_at_end(&self) -> bool
@@ -92,11 +97,31 @@ impl Store {
             .any(|held| is_own_flag_at_end(server, held))
     }
 
-    /// The replica of a file or directory, if it was touched.
+    /// The replica of a file or directory, if it is held.
     pub fn replica(&self, file: &FileId) -> Option<&Replica>
         ensures { option_copied result ≡ replica_at self.now file.now }
     {
         self.replicas.get(file)
+    }
+
+    /// Whether the thing is held, and its replica has this birth.
+    pub fn has_birth(&self, file: &FileId, birth: u64) -> bool
+        ensures { result ≡ has_birth self.now file.now birth }
+    {
+        match self.replica(file) {
+            Some(replica) => replica.birth == birth,
+            None => false,
+        }
+    }
+
+    /// The birth of the replica. 0 where the thing is not held.
+    pub fn birth(&self, file: &FileId) -> u64
+        ensures { result ≡ birth_of self.now file.now }
+    {
+        match self.replica(file) {
+            Some(replica) => replica.birth,
+            None => 0,
+        }
     }
 
     /// Whether the replica has an edge between these births.
@@ -105,17 +130,7 @@ impl Store {
     {
         match self.replica(file) {
             Some(replica) => replica.has_edge(link),
-            None => is_first_link(self.home(), link),
-        }
-    }
-
-    /// The birth of the replica: 1 before it was touched.
-    pub fn birth(&self, file: &FileId) -> u64
-        ensures { result ≡ (replica_of self.now file.now).birth }
-    {
-        match self.replica(file) {
-            Some(replica) => replica.birth,
-            None => 1,
+            None => false,
         }
     }
 
@@ -125,7 +140,7 @@ impl Store {
     {
         match self.replica(file) {
             Some(replica) => replica.edges.len(),
-            None => first_edge_count(self.home()),
+            None => 0,
         }
     }
 
@@ -136,8 +151,7 @@ impl Store {
         if self.tags > MOST_TAGS {
             return Err(AllocError);
         }
-        let home = self.home();
-        self.replicas.touch(home, file, key, &mut self.tags)?;
+        self.replicas.touch(file, key, &mut self.tags)?;
         Ok(())
     }
 

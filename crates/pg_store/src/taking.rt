@@ -1,8 +1,8 @@
 //! Places, flags and entries that come to a server, or that it makes.
 
 ghost use Rattle.std.specs.Prelude.{◌≡◌, IfOk, OnOk};
-ghost use Rattle.pg_names.specs.Names.{is_entry_new, known};
-ghost use Rattle.pg_store.specs.Store.{is_newer_entry, is_newer_flag, is_newer_place, take_entry, take_flag, take_place};
+ghost use Rattle.std.specs.Option.{option_copied};
+ghost use Rattle.pg_store.specs.Store.{entry_news, is_any_news, is_newer_flag, is_newer_place, news_beside, put_entry, take_entry, take_flag, take_place};
 
 use crate::store::Store;
 use pg_base::FileId;
@@ -11,15 +11,37 @@ use pg_entries::Entry;
 use pg_register::{Flag, Place};
 use std::alloc::AllocError;
 
+/// What is news in an entry that came to a directory.
+#[derive(Clone, Copy, Debug, PartialEq, Eq)]
+pub enum EntryNews {
+    Nothing,
+    /// Flags alone.
+    Flags,
+    /// The place, be it the first that is known of the child.
+    Place,
+}
+
+impl EntryNews {
+    /// Whether something is.
+    pub fn is_any(&self) -> bool
+        ensures { result ≡ is_any_news self.now }
+    {
+        match self {
+            EntryNews::Nothing => false,
+            EntryNews::Flags => true,
+            EntryNews::Place => true,
+        }
+    }
+}
+
 impl Store {
-    /// The thing is held, and takes the place where it is newer than its own: then its key is touched. Tells whether it is.
-    /// After out of memory a part may be done.
+    /// A held thing takes the place where it is newer than its own: then its key is touched. Tells whether it is. After out
+    /// of memory a part may be done.
     pub fn take_place(&mut self, file: FileId, place: Place) -> Result<bool, AllocError>
         ensures store { OnOk result (self.new ≡ take_place self.old file place) }
         ensures news { IfOk result (λ news. news ≡ is_newer_place self.old file place) }
     {
         let time = place.stamp.time;
-        self.names.hold(file)?;
         if !self.names.join_place(&file, place) {
             return Ok(false);
         }
@@ -33,7 +55,6 @@ impl Store {
         ensures store { OnOk result (self.new ≡ take_flag self.old file flag) }
         ensures news { IfOk result (λ news. news ≡ is_newer_flag self.old file flag) }
     {
-        self.names.hold(file)?;
         if !self.names.join_flag(&file, flag)? {
             return Ok(false);
         }
@@ -41,31 +62,53 @@ impl Store {
         Ok(true)
     }
 
-    /// The same of an entry of a directory. It tells of the child, so the child is held too.
-    pub fn take_entry(&mut self, dir: FileId, entry: Entry) -> Result<bool, AllocError>
+    /// The same of an entry of a held directory. Tells what is news in it.
+    pub fn take_entry(&mut self, dir: FileId, entry: Entry) -> Result<EntryNews, AllocError>
         ensures store { OnOk result (self.new ≡ take_entry self.old dir entry) }
-        ensures news { IfOk result (λ news. news ≡ is_newer_entry self.old dir entry) }
+        ensures news { IfOk result (λ news. news ≡ entry_news self.old dir entry) }
+    {
+        let news = self.entry_news(&dir, &entry);
+        if !news.is_any() {
+            return Ok(news);
+        }
+        self.put_entry(dir, entry)?;
+        Ok(news)
+    }
+
+    /// A held directory joins an entry, whose key is touched.
+    fn put_entry(&mut self, dir: FileId, entry: Entry) -> Result<(), AllocError>
+        ensures { OnOk result (self.new ≡ put_entry self.old dir entry) }
     {
         let child = entry.child;
         let time = entry.place.stamp.time;
-        self.names.hold(dir)?;
-        self.names.hold(child)?;
-        if !self.is_entry_new(&dir, &entry) {
-            return Ok(false);
-        }
         self.names.join_entry(&dir, entry)?;
         self.names.raise(time);
-        self.touch(dir, Key::Entry(child))?;
-        Ok(true)
+        self.touch(dir, Key::Entry(child))
     }
 
-    /// Whether the entry brings a held directory a newer place or flag.
-    fn is_entry_new(&self, dir: &FileId, entry: &Entry) -> bool
-        ensures { result ≡ is_entry_new (known self.now.names dir.now) entry.now }
+    /// What the entry brings a directory. Where that is not held it is nothing.
+    fn entry_news(&self, dir: &FileId, entry: &Entry) -> EntryNews
+        ensures { result ≡ entry_news self.now dir.now entry.now }
     {
         match self.names.get(dir) {
-            Some(held) => !held.entries().covers(entry),
-            None => false,
+            Some(held) => news_of(held.entries().get(entry.child), entry),
+            None => EntryNews::Nothing,
         }
     }
+}
+
+/// What an entry brings beside the one that was there.
+fn news_of(known: Option<&Entry>, entry: &Entry) -> EntryNews
+    ensures { result ≡ news_beside (option_copied known.entry) entry.now }
+{
+    let Some(known) = known else {
+        return EntryNews::Place;
+    };
+    if known.place.stamp.is_before(entry.place.stamp) {
+        return EntryNews::Place;
+    }
+    if known.covers(entry) {
+        return EntryNews::Nothing;
+    }
+    EntryNews::Flags
 }

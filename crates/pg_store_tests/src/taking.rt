@@ -1,11 +1,13 @@
 //! What comes to server 1 of three.
 
-use pg_base::{FileId, Head, Kind, Policy, SharedBytes, Stamp, Vector, Version};
+use pg_base::{Actor, FileId, Head, Kind, Policy, SharedBytes, Stamp, Vector, Version};
 use pg_edges::Key;
 use pg_entries::Entry;
+use pg_intent::Intent;
+use pg_names::Own;
 use pg_register::{Flag, GoldFlags, Place};
 use pg_replica::Link;
-use pg_store::Store;
+use pg_store::{EntryNews, Store, Wish};
 use std::alloc::{AllocError, Global};
 use std::test::Fail;
 
@@ -29,7 +31,7 @@ const FILE: FileId = FileId {
 
 /// The edge to server 2.
 const LINK: Link = Link {
-    own: 1,
+    own: 2,
     peer: 2,
     birth: 1,
 };
@@ -57,22 +59,34 @@ fn entry(alloc: Global, time: u64) -> Result<Entry, AllocError> {
 }
 
 fn version(alloc: Global, time: u64) -> Result<Version, AllocError> {
+    let actor = Actor {
+        server: 2,
+        birth: 1,
+    };
+    let mut vector = Vector::new(alloc);
+    vector.raise(actor, 1)?;
     let head = Head {
         stamp: stamp(time),
         birth: 1,
         number: 1,
-        vector: Vector::new(alloc),
+        vector,
         length: 1,
     };
     Version::new(alloc, head, SharedBytes::from_slice(alloc, b"x")?)
 }
 
-/// A version comes along the edge. Whether it was news.
+/// A version comes. Whether it was news.
 fn version_comes(store: &mut Store, alloc: Global, time: u64) -> Result<bool, AllocError> {
-    if !store.has_edge(&FILE, &LINK) || store.tags > Stamp::LATEST {
-        return Err(AllocError);
-    }
-    store.take_version(FILE, &LINK, Policy::Last, version(alloc, time)?)
+    store.take_version(FILE, version(alloc, time)?)
+}
+
+/// Server 1 of three begins a replica, under its second birth, and links server 2.
+fn holding(alloc: Global, file: FileId) -> Result<Store, AllocError> {
+    let mut store = Store::new(alloc, 1, 3)?;
+    let birth = store.draw_birth()?;
+    store.begin(file, birth, Policy::Last, Own::blank(alloc, file)?, false)?;
+    store.link(file, 2, 1)?;
+    Ok(store)
 }
 
 /// Whether there is a cell at this key.
@@ -80,7 +94,7 @@ fn has_cell(store: &Store, file: FileId, key: Key) -> Result<bool, AllocError> {
     Ok(store.cell(file, &key)?.is_some())
 }
 
-/// A key of a replica that was not touched before gets a tag on each edge, until the peer has acknowledged it.
+/// A key of the root's replica gets a tag on each edge, until the peer has acknowledged it.
 #[test]
 fn a_key_is_touched(rt: HostRuntime) -> Result<(), Fail> {
     let mut store = Store::new(rt.alloc(), 1, 3)?;
@@ -90,7 +104,12 @@ fn a_key_is_touched(rt: HostRuntime) -> Result<(), Fail> {
     );
     store.touch(ROOT, Key::Place)?;
     assert_eq!(rt; store.tags, 3);
-    store.acknowledge(ROOT, &LINK, Key::Place, 1);
+    let link = Link {
+        own: 1,
+        peer: 2,
+        birth: 1,
+    };
+    store.acknowledge(ROOT, &link, Key::Place, 1);
     let owed = store
         .replica(&ROOT)
         .map(|replica| replica.edges.is_clean(2, 1));
@@ -102,7 +121,7 @@ fn a_key_is_touched(rt: HostRuntime) -> Result<(), Fail> {
 #[test]
 fn a_place_comes(rt: HostRuntime) -> Result<(), Fail> {
     let alloc = rt.alloc();
-    let mut store = Store::new(alloc, 1, 3)?;
+    let mut store = holding(alloc, DIR)?;
     assert!(rt; store.take_place(DIR, place(alloc, 5)?)?);
     assert!(rt; !store.take_place(DIR, place(alloc, 4)?)?);
     assert_eq!(rt; (store.names.last(), store.tags), (5, 3));
@@ -127,15 +146,18 @@ fn a_flag_comes(rt: HostRuntime) -> Result<(), Fail> {
     Ok(())
 }
 
-/// An entry is taken and touched, and its child is held.
+/// An entry is taken and touched, and its child is not held for that.
 #[test]
 fn an_entry_comes(rt: HostRuntime) -> Result<(), Fail> {
     let alloc = rt.alloc();
     let mut store = Store::new(alloc, 1, 3)?;
-    assert!(rt; store.take_entry(ROOT, entry(alloc, 5)?)?);
-    assert!(rt; !store.take_entry(ROOT, entry(alloc, 5)?)?);
+    assert_eq!(rt; store.take_entry(ROOT, entry(alloc, 5)?)?, EntryNews::Place);
+    assert_eq!(rt;
+        store.take_entry(ROOT, entry(alloc, 5)?)?,
+        EntryNews::Nothing
+    );
     assert_eq!(rt; (store.names.last(), store.tags), (5, 3));
-    assert!(rt; store.names.own(&DIR).is_some());
+    assert!(rt; store.names.own(&DIR).is_none());
     assert!(rt; has_cell(&store, ROOT, Key::Entry(DIR))?);
     Ok(())
 }
@@ -144,12 +166,59 @@ fn an_entry_comes(rt: HostRuntime) -> Result<(), Fail> {
 #[test]
 fn a_version_comes(rt: HostRuntime) -> Result<(), Fail> {
     let alloc = rt.alloc();
-    let mut store = Store::new(alloc, 1, 3)?;
-    store.begin_file(FILE, Policy::Last)?;
-    assert!(rt; store.has_no_head(&FILE));
+    let mut store = holding(alloc, FILE)?;
     assert!(rt; version_comes(&mut store, alloc, 5)?);
+    assert!(rt; !version_comes(&mut store, alloc, 5)?);
     assert_eq!(rt; (store.names.last(), store.tags), (5, 3));
-    assert!(rt; !store.has_no_head(&FILE));
     assert!(rt; has_cell(&store, FILE, Key::Version(stamp(5)))?);
+    assert!(rt; store.has_edge(&FILE, &LINK));
+    Ok(())
+}
+
+/// A link to a greater birth takes the place of the edge, one to a lesser birth changes nothing, and only what is listed is
+/// unlinked.
+#[test]
+fn births_are_linked(rt: HostRuntime) -> Result<(), Fail> {
+    let mut store = holding(rt.alloc(), FILE)?;
+    assert!(rt; store.link(FILE, 2, 3)?);
+    assert!(rt; !store.link(FILE, 2, 2)?);
+    assert!(rt; store.knows_later_birth(&FILE, 2, 2));
+    assert!(rt; !store.is_clean(&FILE, 2, 3));
+    store.unlink(FILE, 2, 2);
+    assert_eq!(rt; store.edge_count(&FILE), 1);
+    store.unlink(FILE, 2, 3);
+    assert_eq!(rt; store.edge_count(&FILE), 0);
+    Ok(())
+}
+
+/// A birth that is wished for is pending until the replica begins, and then there is no wish.
+#[test]
+fn a_wish_comes_true(rt: HostRuntime) -> Result<(), Fail> {
+    let alloc = rt.alloc();
+    let mut store = Store::new(alloc, 1, 3)?;
+    let birth = store.draw_birth()?;
+    store.wishes.put(FILE, Wish { birth, target: 2 })?;
+    assert!(rt; store.is_pending(FILE, birth));
+    store.begin(FILE, birth, Policy::Last, Own::blank(alloc, FILE)?, false)?;
+    assert!(rt; !store.is_pending(FILE, birth));
+    assert!(rt; store.has_birth(&FILE, 2));
+    assert!(rt; store.wishes.get(&FILE).is_none());
+    Ok(())
+}
+
+/// A directory that begins takes the entries of its Patches, and these end.
+#[test]
+fn patches_are_taken(rt: HostRuntime) -> Result<(), Fail> {
+    let alloc = rt.alloc();
+    let mut store = Store::new(alloc, 1, 3)?;
+    let patch = Intent::Patch {
+        dir: DIR,
+        entry: entry(alloc, 5)?,
+        target: 2,
+    };
+    store.intents.begin(patch)?;
+    store.begin(DIR, 2, Policy::Last, Own::blank(alloc, DIR)?, false)?;
+    assert!(rt; has_cell(&store, DIR, Key::Entry(DIR))?);
+    assert_eq!(rt; (store.intents.len(), store.names.last()), (0, 5));
     Ok(())
 }

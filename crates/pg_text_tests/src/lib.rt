@@ -9,3 +9,5 @@ mod event;
 mod msg;
 #[cfg(test)]
 mod words;
+#[cfg(test)]
+mod work;

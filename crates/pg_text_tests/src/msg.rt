@@ -1,8 +1,6 @@
 //! That messages are copied and told as they are, and that summaries and updates are read as they are told.
 
-use pg_base::{
-    FileId, Head, Kind as FileKind, Policy, Shared, SharedBytes, Stamp, Vector, Version,
-};
+use pg_base::{FileId, Head, Kind as FileKind, Shared, SharedBytes, Stamp, Vector, Version};
 use pg_edges::Key;
 use pg_entries::{Cell, Entry};
 use pg_msg::{Ends, Message, MessageKind, Packet, Sent, read_summary, read_update};
@@ -52,7 +50,7 @@ fn version_cell(alloc: Global) -> Result<Cell, Fail> {
     };
     let body = SharedBytes::from_slice(alloc, b"ab")?;
     let version = Version::new(alloc, head, body)?;
-    Ok(Cell::Version(version, Policy::Last))
+    Ok(Cell::Version(version))
 }
 
 #[test]

@@ -11,9 +11,11 @@ use Rattle.pg_register.specs.Flag.{flag_of}
 use Rattle.pg_register.specs.Place.{root, tilde_name}
 use Rattle.pg_entries.specs.declared.entry.Entry.{Entry}
 use Rattle.pg_msg.specs.declared.work.Touched.{Touched}
+use Rattle.pg_msg.specs.declared.update.Update.TheVariants as update
 use Rattle.pg_msg.specs.declared.work.Work.{Work}
+use Rattle.pg_msg.specs.Work.{with_made, with_touched}
 use Rattle.pg_names.specs.declared.own.Own.{Own}
-use Rattle.pg_names.specs.Names.{HeldValue, NamesValue, cell_at, changed, directories, known, or_blank, own_at, own_of, own_or_blank, set_own, with_last, with_own}
+use Rattle.pg_names.specs.Names.{HeldValue, NamesValue, cell_at, changed, directories, known, or_blank, own_at, own_of, set_own, with_last, with_own}
 use Rattle.pg_names.specs.Same.{is_same_own}
 use Rattle.pg_names.proofs.Lookups.{own_cell, own_other, own_same}
 use Rattle.pg_house.specs.Facts.{IsHeld, IsIn, is_among}
@@ -22,8 +24,7 @@ use Rattle.pg_house.specs.Passing.{greatest, is_held_back, joined_with, own_take
 use Rattle.pg_house.specs.Placing.{drawn, flags_of, live_place, made_at, own_with, place_at, placed}
 use Rattle.pg_house.specs.Returning.{first_returning, return_first, returned}
 use Rattle.pg_house.specs.Cycles.{break_first, first_moving, moved}
-use Rattle.pg_house.specs.House.{house, movable, rules, with_parents}
-use Rattle.pg_house.proofs.Growing.{grown_own, grows}
+use Rattle.pg_house.specs.House.{house, movable}
 use Rattle.pg_house.proofs.Repeating.{repeated_keeps}
 use Rattle.pg_house.proofs.Settling.{dirs_held}
 use Rattle.pg_house.proofs.Spreading.{spread_own}
@@ -34,8 +35,7 @@ use Rattle.pg_promises.proofs.Flags.{flags_joined}
 use Rattle.pg_promises.proofs.Growth.{OneOwn}
 use Rattle.pg_promises.proofs.UpTo.{flags_further, flags_themselves}
 use Rattle.pg_promises.proofs.Front.{Alone, ends, new_keys, with_lists}
-use Rattle.pg_order.proofs.Changes.{one_stays as one_held_stays}
-use Rattle.pg_ticks.proofs.Keyed.{AllHeld, NameHas, Touches, Touches-refl, Touches-trans, held_further, in_split, one_stays, spread_touches, took_touches}
+use Rattle.pg_ticks.proofs.Keyed.{AllHeld, NameHas, Touches, Touches-refl, Touches-trans, held_further, in_split, left_touched, one_held_stays, one_stays, spread_touches, took_touches}
 
 -- ---- passing
 
@@ -74,13 +74,6 @@ all_touches st ds (f ∷ fs) h =
     let one = pass_touches st ds f h in
     Touches-trans st next (pass_all next ds fs) one (all_touches next ds fs (held_further st.names next.names one.held ds h))
 
--- where no cell changes
-held_stays : (s t : NamesValue) → ((q : FileId) → own_or_blank t q ≡ own_or_blank s q) → ((d g : FileId) → cell_at t d g ≡ cell_at s d g) → (f : FileId) (k : Key) → NameHas s f k → NameHas t f k
-held_stays s t own cells f key.Place h = tt
-held_stays s t own cells f (key.Flag m) h = (h.0, ap (λ (o : Own). flag_of o.flags m) (own f) ∙ h.1)
-held_stays s t own cells f (key.Entry g) h = (h.0, cells f g ∙ h.1)
-held_stays s t own cells f (key.Version stamp) h = absurd h
-
 -- ---- new places
 
 none_changes : (s : NamesValue) (f : FileId) (c : Own) (o : Option HeldValue) → known s f ≡ o → own_of o ≡ None → set_own s f c ≡ s
@@ -103,7 +96,10 @@ module _ (st : State) (f : FileId) (place : Place) where
   new_by : (x : Touched) → IsIn x (made_at st f place).work.touched → IsIn x st.work.touched ⊎ NameHas (made_at st f place).names x.file x.key
   new_by x h =
       let P : Touched → Type 0 = λ y. NameHas (made_at st f place).names y.file y.key in
-      elim (in_split x (record { file = f; key = key.Place }) st.work.touched h) [ inl old ↦ inl old | inr is ↦ inr (subst P is tt) ]
+      let Q : List Touched → Type 0 = λ ts. IsIn x ts in
+      let work = with_touched (with_made st.work (update.Place f place)) f key.Place in
+      let in_work : IsIn x work.touched = subst Q (left_touched work f (place_at st.names f)) h in
+      elim (in_split x (record { file = f; key = key.Place }) st.work.touched in_work) [ inl old ↦ inl old | inr is ↦ inr (subst P is tt) ]
 
   made_by : (o : Option Own) → own_at st.names f ≡ o → Touches st (made_at st f place)
   made_by None e =
@@ -153,27 +149,14 @@ all_of_among s [] h = tt
 all_of_among s (d ∷ ds) h =
     (h d (or_left (is_same_file d d) _ (is_same_file-refl d)), all_of_among s ds (λ q among. h q (or_right (is_same_file d q) _ among)))
 
-rules_touch : (moment : ℕ) (st : State) → Touches st (rules moment st)
-rules_touch moment st =
+house_touches : (moment : ℕ) (st : State) → Touches st (house moment st)
+house_touches moment st =
     let ds = directories st.names in
     let held : AllHeld st.names ds = all_of_among st.names ds (λ q among. (dirs_held st.names q among).0) in
     let one = all_touches st ds (movable st.names) held in
     let start : Goes moment ds st (pass_all st ds (movable st.names)) = (one, held_further st.names (pass_all st ds (movable st.names)).names one.held ds held) in
     (repeated_keeps (Goes moment ds st) (break_first moment ds) (λ t k. moved_goes moment ds st t (first_moving t.names (length ds) None ds) k) (length ds) _
     (repeated_keeps (Goes moment ds st) (return_first moment ds) (λ t k. returned_goes moment ds st t (first_returning t.names ds) k) (length ds) (pass_all st ds (movable st.names)) start)).0
-
-house_touches : (moment : ℕ) (st : State) → Touches st (house moment st)
-house_touches moment st =
-    let more = with_parents st.names in
-    let g = grows st.names in
-    let begun = state_of more st.work in
-    let own : (q : FileId) → own_or_blank more q ≡ own_or_blank st.names q = grown_own st.names more g in
-    let first : Touches st begun = record {
-      held = λ q h. (h.0, g.stays q h.0 h.1);
-      stays = held_stays st.names more own g.cells;
-      new = λ x h. inl h;
-    } in
-    Touches-trans st begun (house moment st) first (rules_touch moment begun)
 
 -- ---- so each key that the rules touch has a cell
 

@@ -1,5 +1,5 @@
 -- Keys that have cells where names change, piece by piece, and keys that are touched.
-use Rattle.std.proofs.Common.{ℕ, ◌≡◌, ◌==◌, Bool, true, false, cond, not, List, [], ◌∷◌, ◌++◌, Option, None, Some, refl, sym, ap, subst, ◌∙◌, inl, inr, ◌⊎◌}
+use Rattle.std.proofs.Common.{ℕ, ◌≡◌, ◌==◌, ◌&&◌, Bool, true, false, cond, not, List, [], ◌∷◌, ◌++◌, Option, None, Some, refl, sym, ap, subst, ◌∙◌, inl, inr, ◌⊎◌}
 use Rattle.std.proofs.lemmas.Bool.{eq-eqb, false≢true}
 use Rattle.std.proofs.lemmas.Option.{none-some}
 use Rattle.pg_base.specs.declared.id.FileId.{FileId}
@@ -8,6 +8,7 @@ use Rattle.pg_base.proofs.Orders.{is_same_file-true}
 use Rattle.pg_edges.specs.declared.key.Key.{Key}
 use Rattle.pg_edges.specs.declared.key.Key.TheVariants as key
 use Rattle.pg_register.specs.declared.flag.Flag.{Flag}
+use Rattle.pg_register.specs.declared.place.Place.{Place}
 use Rattle.pg_register.specs.Flag.{flag_of}
 use Rattle.pg_entries.specs.declared.entry.Entry.{Entry}
 use Rattle.pg_msg.specs.declared.work.Touched.{Touched}
@@ -17,12 +18,13 @@ use Rattle.pg_names.specs.Names.{NamesValue, cell_at, or_blank, own_at, own_or_b
 use Rattle.pg_names.specs.Same.{is_same_place}
 use Rattle.pg_names.proofs.Lookups.{entry_other_child, entry_other_dir, entry_own, entry_same, own_cell, own_other, own_same}
 use Rattle.pg_house.specs.Facts.{IsHeld, IsIn}
-use Rattle.pg_house.specs.Work.{State, touched}
+use Rattle.pg_house.specs.Work.{State, note_left, place_touched, touched}
+use Rattle.pg_house.specs.Returning.{is_root}
+use Rattle.pg_msg.specs.Work.{with_left, with_touched}
 use Rattle.pg_house.specs.Passing.{cell_for, flags_touched, gets, given, is_other_flag, offered, own_touched, spread, took}
 use Rattle.pg_promises.specs.UpTo.{AreFlagsUpTo, IsFlagKnownBy}
 use Rattle.pg_promises.proofs.Choices.{chosen}
 use Rattle.pg_promises.proofs.Growth.{OneOwn}
-use Rattle.pg_order.proofs.Changes.{one_stays as one_held_stays}
 
 -- ---- what is known of a key
 
@@ -118,7 +120,7 @@ spread_touches st f own top back (d ∷ ds) h =
 -- ---- the thing itself
 
 -- every flag of these is found by its server
-abbrev IsMember : Flag → List Flag → Type 0
+abbrev pub IsMember : Flag → List Flag → Type 0
 IsMember g [] = ⊥
 IsMember g (f ∷ fs) = (f ≡ g) ⊎ IsMember g fs
 
@@ -126,7 +128,7 @@ found_at : (f g : Flag) (fs : List Flag) (t : Bool) → (f.server == g.server) �
 found_at f g fs true e h = (f, refl)
 found_at f g fs false e h = elim h [ inl rest ↦ rest | inr other ↦ absurd (false≢true other) ]
 
-member_found : (g : Flag) (fs : List Flag) → IsMember g fs → (h : Flag) × (flag_of fs g.server ≡ Some h)
+pub member_found : (g : Flag) (fs : List Flag) → IsMember g fs → (h : Flag) × (flag_of fs g.server ≡ Some h)
 member_found g [] h = absurd h
 member_found g (f ∷ fs) h = elim h [
   | inl same ↦ found_at f g fs (f.server == g.server) refl (inr (eq-eqb f.server g.server (ap (λ (x : Flag). x.server) same)))
@@ -151,11 +153,23 @@ module _ (f : FileId) (all : List Flag) where
         | inr own ↦ inr own
       ]
 
+-- what is noted of a place that was replaced touches nothing
+pub left_touched : (work : Work) (f : FileId) (old : Place) → (note_left work f old).touched ≡ work.touched
+left_touched work f old =
+    chosen (λ (w : Work). w.touched ≡ work.touched) (old.live && not (is_root f)) (with_left work old.parent f) work refl refl
+
+placed_by : (f : FileId) (all : List Flag) (work : Work) (old : Place) (t : Bool) (x : Touched) → IsIn x (place_touched work f old t).touched
+    → IsIn x work.touched ⊎ IsOwnKey f all x
+placed_by f all work old false x h = inl h
+placed_by f all work old true x h =
+    let P : List Touched → Type 0 = λ ts. IsIn x ts in
+    touched_by f all work key.Place true x (inl refl) (subst P (left_touched (with_touched work f key.Place) f old) h)
+
 own_keys : (work : Work) (f : FileId) (own taken : Own) (x : Touched) → IsIn x (own_touched work f own taken).touched → IsIn x work.touched ⊎ IsOwnKey f taken.flags x
 own_keys work f own taken x h =
     let t = not (is_same_place own.place taken.place) in
-    elim (flags_by f taken.flags (touched work f key.Place t) own.flags taken.flags (λ g m. m) x h) [
-      | inl old ↦ touched_by f taken.flags work key.Place t x (inl refl) old
+    elim (flags_by f taken.flags (place_touched work f own.place t) own.flags taken.flags (λ g m. m) x h) [
+      | inl old ↦ placed_by f taken.flags work own.place t x old
       | inr own ↦ inr own
     ]
 
@@ -174,6 +188,14 @@ module _ (s t : NamesValue) (f : FileId) (b c : Own) (one : OneOwn s t f b c) (c
   one_stays q (key.Flag m) h = flag_by q m h.0 h.1 (is_same_file f q) refl
   one_stays q (key.Entry g) h = (h.0, cells q g ∙ h.1)
   one_stays q (key.Version stamp) h = absurd h
+
+-- what is held stays held
+pub one_held_stays : (s t : NamesValue) (f : FileId) (b c : Own) → OneOwn s t f b c → (q : FileId) → IsHeld s q → IsHeld t q
+one_held_stays s t f b c k q h = at (is_same_file f q) refl
+  where
+    at : (u : Bool) → is_same_file f q ≡ u → IsHeld t q
+    at true e = (c, ap (own_at t) (sym (is_same_file-true f q e)) ∙ k.is)
+    at false e = (h.0, k.others q e ∙ h.1)
 
 pub known_up : (o p : Option Flag) → IsFlagKnownBy o p → (g : Flag) → o ≡ Some g → (h : Flag) × (p ≡ Some h)
 known_up None p up g h = absurd (none-some g h)

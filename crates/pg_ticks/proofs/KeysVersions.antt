@@ -1,11 +1,15 @@
--- And whatever versions, answers and house rules do.
+-- And whatever versions, replicas that begin, and house rules do.
 use Rattle.std.proofs.Common.{ℕ, ◌≡◌, Bool, true, false, cond, not, List, [], ◌∷◌, drop, length, Option, None, Some, refl, sym, ap, subst, ◌∙◌, inl, inr}
 use Rattle.std.specs.List.{filter}
 use Rattle.std.proofs.lemmas.Bool.{false≢true}
+use Rattle.std.proofs.lemmas.Option.{none-some}
 use Rattle.pg_base.specs.declared.id.FileId.{FileId}
 use Rattle.pg_base.specs.declared.policy.Policy.{Policy}
 use Rattle.pg_base.specs.declared.stamp.Stamp.{Stamp}
+use Rattle.pg_base.specs.Id.{file_cmp, is_same_file}
 use Rattle.pg_base.specs.Version.{VersionValue}
+use Rattle.pg_base.proofs.Maps.{lookup-insert_entry}
+use Rattle.pg_base.proofs.Orders.{file_total}
 use Rattle.pg_patch.specs.Ranges.{RangesValue}
 use Rattle.pg_content.specs.Content.{Among, ContentValue, covers_version, next_version, put_version as put_head}
 use Rattle.pg_content.proofs.Inserting.{inserted_among}
@@ -13,36 +17,37 @@ use Rattle.pg_content.proofs.Members.{filter_among, map_among}
 use Rattle.pg_edges.specs.declared.key.Key.{Key}
 use Rattle.pg_edges.specs.declared.key.Key.TheVariants as key
 use Rattle.pg_edges.specs.Edges.{tag_at, touched}
-use Rattle.pg_edges.specs.Laws.Change.{Ack, Touch}
+use Rattle.pg_edges.specs.Laws.Change.{Touch}
 use Rattle.pg_edges.proofs.Tags.{keeps_or_brings}
-use Rattle.pg_entries.specs.declared.cell.Cell.{Cell}
 use Rattle.pg_entries.specs.declared.cell.Cell.TheVariants as cell
 use Rattle.pg_house.specs.House.{house}
 use Rattle.pg_house.specs.Work.{state_of}
+use Rattle.pg_intent.specs.declared.intent.Intent.{Intent}
+use Rattle.pg_intent.specs.declared.intent.Intent.TheVariants as intent
+use Rattle.pg_intent.specs.declared.key.IntentKey.{IntentKey}
+use Rattle.pg_intent.specs.Intents.{ended, intent_at}
 use Rattle.pg_msg.specs.declared.work.Work.{Work}
-use Rattle.pg_names.specs.Names.{cell_at as entry_at, hold, own_or_blank}
+use Rattle.pg_names.specs.declared.own.Own.{Own}
+use Rattle.pg_names.specs.Names.{HeldValue, NamesValue, begin as begin_names, cell_at as entry_at, entry_in, fill, filled, known, new_held, or_blank, own_of, own_or_blank, raise}
+use Rattle.pg_names.proofs.Lookups.{cells_kept, own_kept}
 use Rattle.pg_register.specs.Flag.{flag_of}
-use Rattle.pg_replica.specs.declared.link.Link.{Link}
 use Rattle.pg_replica.specs.declared.replica.Replica.{Replica}
 use Rattle.pg_replica.specs.Laws.{IsKeyOf}
-use Rattle.pg_replica.specs.Replica.{cell_at as head_at, covered_heads, covers, has_edge, key_of, keys, own_actor, with_ack, with_head, with_write, without_keys}
-use Rattle.pg_replica.specs.Replicas.{ByFile, or_new, replicas_acked}
-use Rattle.std.specs.BTreeMap.{insert_entry}
-use Rattle.pg_base.specs.Id.{file_cmp, is_same_file}
-use Rattle.pg_base.proofs.Orders.{is_same_file-true}
+use Rattle.pg_replica.specs.Replica.{cell_at as head_at, covered_heads, covers, key_of, keys, new_replica, own_actor, with_head, with_write, without_keys}
+use Rattle.pg_replica.specs.Replicas.{edge_count, or_nothing, replicas_taking, replicas_writing, takes_version}
 use Rattle.pg_replica.proofs.Growth.{cell_head}
 use Rattle.pg_replica.proofs.Heads.{head_cell, left_tag}
 use Rattle.pg_store.specs.declared.store.Store.{Store}
+use Rattle.pg_store.specs.Beginning.{begin, patches_of, put_new, take_patch, take_patches, take_told, take_told_in, with_intents}
 use Rattle.pg_store.specs.Cells.{version_cell}
-use Rattle.pg_store.specs.Store.{acknowledge, begin_file, content_of, has_no_head, home_of, is_empty, put_version, replica_at, replica_of, take_version, with_names, with_news, with_policy, write}
-use Rattle.pg_cells.specs.Cells.{taken}
+use Rattle.pg_store.specs.Store.{content_of, is_new_version, put_version, replica_at, take_version, with_drawn, with_names, write}
 use Rattle.pg_cells.specs.Settling.{settle}
-use Rattle.pg_promises.proofs.Choices.{chosen, decided}
-use Rattle.pg_promises.proofs.Policies.{begun_seen}
+use Rattle.pg_house.proofs.Truths.{not_true}
+use Rattle.pg_promises.proofs.Choices.{decided}
 use Rattle.pg_promises.proofs.Stores.{Changes, by_file, replica_elsewhere, replica_here}
 use Rattle.pg_ticks.proofs.HouseKeys.{new_has, old_has}
 use Rattle.pg_ticks.proofs.Keyed.{NameHas}
-use Rattle.pg_ticks.proofs.KeysCells.{AllHaveCells, HasCell, HaveCells, cell_stays, entry_have, entry_named, flag_have, flag_named, held_have, name_cell, named_have, place_have, raised_up, touches_have, version_named}
+use Rattle.pg_ticks.proofs.KeysCells.{AllHaveCells, HasCell, HaveCells, HaveIn, beside_have, cell_stays, entry_have, entry_named, flag_named, have_in, name_cell, named_have, raised_up, touches_have, version_named}
 
 -- ---- versions
 
@@ -52,22 +57,15 @@ stays_by test vs w true e none m = absurd (none (map_among key_of (filter test v
 stays_by test vs w false e none m = filter_among (λ h. not (test h)) w vs m (ap not e)
 
 module _ (a b : Store) (f : FileId) (up : (k : Key) → NameHas a.names f k → NameHas b.names f k) where
-  -- a key that is no version's
-  other_cell : (q : Key) → ((stamp : Stamp) → q ≡ key.Version stamp → ⊥) → HasCell a f q → HasCell b f q
-  other_cell key.Place apart h = (cell.Place (own_or_blank b.names f).place, refl)
-  other_cell (key.Flag m) apart h = name_cell b f (key.Flag m) (up (key.Flag m) (flag_named (flag_of (own_or_blank a.names f).flags m) h.0 h.1))
-  other_cell (key.Entry g) apart h = name_cell b f (key.Entry g) (up (key.Entry g) (entry_named (entry_at a.names f g) h.0 h.1))
-  other_cell (key.Version stamp) apart h = absurd (apart stamp refl)
-
   -- a version's key is that of a head
   version_cell_of : (stamp : Stamp) → IsKeyOf (content_of b f).heads (key.Version stamp) → HasCell b f (key.Version stamp)
   version_cell_of stamp is =
       let h = head_cell (content_of b f).heads (key.Version stamp) is in
-      (cell.Version h.0 (content_of b f).policy, ap (version_cell (content_of b f).policy) h.1)
+      (cell.Version h.0, ap version_cell h.1)
 
   head_of : (stamp : Stamp) → HasCell a f (key.Version stamp) → IsKeyOf (content_of a f).heads (key.Version stamp)
   head_of stamp h =
-      let v = version_named (content_of a f).policy (head_at (content_of a f).heads (key.Version stamp)) h.0 h.1 in
+      let v = version_named (head_at (content_of a f).heads (key.Version stamp)) h.0 h.1 in
       let c = cell_head (content_of a f).heads (key.Version stamp) v.0 v.1 in
       (v.0, c.0, c.1)
 
@@ -75,61 +73,53 @@ module _ (a b : Store) (f : FileId) (up : (k : Key) → NameHas a.names f k → 
   left_cell : (gone : List VersionValue) → ((w : VersionValue) → Among w (content_of a f).heads → (Among (key_of w) (keys gone) → ⊥) → Among w (content_of b f).heads)
       → (q : Key) → (Among q (keys gone) → ⊥) → HasCell a f q → HasCell b f q
   left_cell gone left key.Place none h = (cell.Place (own_or_blank b.names f).place, refl)
-  left_cell gone left (key.Flag m) none h = other_cell (key.Flag m) (λ stamp e. cc) h
-  left_cell gone left (key.Entry g) none h = other_cell (key.Entry g) (λ stamp e. cc) h
+  left_cell gone left (key.Flag m) none h = name_cell b f (key.Flag m) (up (key.Flag m) (flag_named (flag_of (own_or_blank a.names f).flags m) h.0 h.1))
+  left_cell gone left (key.Entry g) none h = name_cell b f (key.Entry g) (up (key.Entry g) (entry_named (entry_at a.names f g) _ h.0 h.1))
   left_cell gone left (key.Version stamp) none h =
       let is = head_of stamp h in
       version_cell_of stamp (is.0, left is.0 is.1 (λ m. none (subst (λ z. Among z (keys gone)) (sym is.2) m)), is.2)
 
 -- a replica in which some heads went and one came
-module _ (a : Store) (k : AllHaveCells a) (f : FileId) (x : Replica) (stamp : Stamp) (v : VersionValue) (gone : List VersionValue) (own : v.head.stamp ≡ stamp)
-    (edges : x.edges ≡ touched (without_keys (replica_of a f).edges (keys gone)) (key.Version stamp) a.tags)
-    (left : (w : VersionValue) → Among w (content_of a f).heads → (Among (key_of w) (keys gone) → ⊥) → Among w x.content.heads)
-    (here : Among v x.content.heads) where
-  abbrev B : Store
-  B = with_news a f x stamp
+module _ (a b : Store) (k : AllHaveCells a) (f : FileId) (x y : Replica) (ch : Changes a b f x y) (stamp : Stamp) (v : VersionValue) (gone : List VersionValue)
+    (own : v.head.stamp ≡ stamp) (up : (g : FileId) (q : Key) → NameHas a.names g q → NameHas b.names g q)
+    (edges : y.edges ≡ touched (without_keys x.edges (keys gone)) (key.Version stamp) a.tags)
+    (left : (w : VersionValue) → Among w x.content.heads → (Among (key_of w) (keys gone) → ⊥) → Among w y.content.heads)
+    (here : Among v y.content.heads) where
+  new_content : content_of b f ≡ y.content
+  new_content = ap (λ (o : Option Replica). (or_nothing o).content) (replica_here a b f x y ch)
 
-  changes : Changes a B f x
-  changes = record { server = refl; servers = refl; replicas = refl }
+  old_content : content_of a f ≡ x.content
+  old_content = ap (λ (o : Option Replica). (or_nothing o).content) ch.old
 
-  content : content_of B f ≡ x.content
-  content = ap (λ (y : Replica). y.content) (replica_here a B f x changes)
+  abbrev In : VersionValue → ContentValue → Type 0
+  In w c = Among w c.heads
 
-  up : (g : FileId) (q : Key) → NameHas a.names g q → NameHas B.names g q
-  up g q h = raised_up a.names stamp.time g q h
-
-  came : HasCell B f (key.Version stamp)
+  came : HasCell b f (key.Version stamp)
   came =
-      let P : List VersionValue → Type 0 = Among v in
-      let Q : Stamp → Type 0 = λ z. HasCell B f (key.Version z) in
-      subst Q own (version_cell_of a B f (up f) v.head.stamp (v, subst P (ap (λ (c : ContentValue). c.heads) (sym content)) here, refl))
+      let Q : Stamp → Type 0 = λ z. HasCell b f (key.Version z) in
+      subst Q own (version_cell_of a b f (up f) v.head.stamp (v, subst (In v) (sym new_content) here, refl))
 
-  left_here : (w : VersionValue) → Among w (content_of a f).heads → (Among (key_of w) (keys gone) → ⊥) → Among w (content_of B f).heads
-  left_here w m none = let P : List VersionValue → Type 0 = Among w in subst P (ap (λ (c : ContentValue). c.heads) (sym content)) (left w m none)
+  left_here : (w : VersionValue) → Among w (content_of a f).heads → (Among (key_of w) (keys gone) → ⊥) → Among w (content_of b f).heads
+  left_here w m none = subst (In w) (sym new_content) (left w (subst (In w) old_content m) none)
 
-  here_have : HaveCells B f x.edges
-  here_have p b q g h =
-      let es = without_keys (replica_of a f).edges (keys gone) in
-      let there : tag_at (touched es (key.Version stamp) a.tags) p b q ≡ Some g = ap (λ zs. tag_at zs p b q) (sym edges) ∙ h in
-      elim (keeps_or_brings (Touch (key.Version stamp) a.tags) es p b q g there) [
-        | inl old ↦
-            let r = left_tag (keys gone) (replica_of a f).edges q p b g old in
-            left_cell a B f (up f) gone left_here q r.1 (k f p b q g r.0)
-        | inr new ↦ subst (HasCell B f) (sym new.0) came
+  here_have : HaveCells b f y.edges
+  here_have p i q g h =
+      let es = without_keys x.edges (keys gone) in
+      let old : HaveIn a f (Some x) = subst (HaveIn a f) ch.old (k.each f) in
+      let there : tag_at (touched es (key.Version stamp) a.tags) p i q ≡ Some g = ap (λ zs. tag_at zs p i q) (sym edges) ∙ h in
+      elim (keeps_or_brings (Touch (key.Version stamp) a.tags) es p i q g there) [
+        | inl was ↦ (
+            let r = left_tag (keys gone) x.edges q p i g was in
+            left_cell a b f (up f) gone left_here q r.1 (old p i q g r.0))
+        | inr new ↦ subst (HasCell b f) (sym new.0) came
       ]
 
-  news_by : (g : FileId) (t : Bool) → is_same_file g f ≡ t → HaveCells B g (replica_of B g).edges
-  news_by g true e =
-      let at : g ≡ f = is_same_file-true g f e in
-      let P : FileId → Type 0 = λ z. HaveCells B z (replica_of B z).edges in
-      let Q : Replica → Type 0 = λ y. HaveCells B f y.edges in
-      subst P (sym at) (subst Q (sym (replica_here a B f x changes)) here_have)
-  news_by g false e =
-      let same : replica_of B g ≡ replica_of a g = replica_elsewhere a B f x g changes e in
-      λ p b q t h. cell_stays a B g (up g) (ap (λ (y : Replica). y.content) same) q (k g p b q t (ap (λ (y : Replica). tag_at y.edges p b q) (sym same) ∙ h))
-
-  pub news_have : AllHaveCells B
-  news_have g = news_by g (is_same_file g f) refl
+  pub news_have : AllHaveCells b
+  news_have = record {
+    each = by_file (λ g o. HaveIn b g o) a b f x y ch here_have (λ g apart.
+        have_in a b g (replica_at a g)
+        (cell_stays a b g (up g) (ap (λ (o : Option Replica). (or_nothing o).content) (replica_elsewhere a b f x y g ch apart))) (k.each g));
+  }
 
 put_left : (x : Replica) (v : VersionValue) (t : ℕ) → covers x v ≡ false → (w : VersionValue) → Among w x.content.heads → (Among (key_of w) (keys (covered_heads x.content.heads v)) → ⊥) → Among w (with_head x v t).content.heads
 put_left x v t new w m none =
@@ -142,84 +132,117 @@ put_here x v t new =
     let P : Bool → Type 0 = λ c. Among v (cond c x.content.heads (put_head x.content.heads v)) in
     subst P (sym new) (inserted_among v v (filter (λ h. not (covers_version v.head.vector h)) x.content.heads) (inl refl))
 
-put_have : (a : Store) (f : FileId) (v : VersionValue) → AllHaveCells a → AllHaveCells (put_version a f v)
-put_have a f v k =
-    let x = replica_of a f in
-    decided AllHaveCells (covers x v) a (with_news a f (with_head x v a.tags) v.head.stamp) (λ old. k)
-    (λ new. news_have a k f (with_head x v a.tags) v.head.stamp v (covered_heads x.content.heads v) refl refl (put_left x v a.tags new) (put_here x v a.tags new))
+-- as `with_news` of this replica, or of none
+abbrev took : Store → FileId → VersionValue → Option Replica → Store
+took a f v o = with_names (with_drawn a (edge_count o) (replicas_taking a.replicas f v a.tags o)) (raise a.names v.head.stamp.time)
+
+put_by : (a : Store) (f : FileId) (v : VersionValue) (o : Option Replica) → replica_at a f ≡ o → takes_version o v ≡ true → AllHaveCells a → AllHaveCells (took a f v o)
+put_by a f v None e new k = absurd (false≢true new)
+put_by a f v (Some x) e new k =
+    let y = with_head x v a.tags in
+    let b = took a f v (Some x) in
+    let fresh : covers x v ≡ false = not_true (covers x v) new in
+    let ch : Changes a b f x y = record { old = e; replicas = refl } in
+    news_have a b k f x y ch v.head.stamp v (covered_heads x.content.heads v) refl (raised_up a.names v.head.stamp.time) refl (put_left x v a.tags fresh) (put_here x v a.tags fresh)
+
+pub version_have : (a : Store) (f : FileId) (v : VersionValue) → AllHaveCells a → AllHaveCells (take_version a f v)
+version_have a f v k =
+    decided AllHaveCells (is_new_version a f v) (put_version a f v) a (λ new. put_by a f v (replica_at a f) refl new k) (λ old. k)
 
 -- a version that is made
-pub write_have : (a : Store) (f : FileId) (stamp : Stamp) (ranges : RangesValue) → AllHaveCells a → AllHaveCells (write a f stamp ranges)
-write_have a f stamp ranges k =
-    let x = replica_of a f in
-    let y = with_write x (own_actor x stamp.server) stamp ranges a.tags in
-    news_have a k f y stamp (next_version x.content (own_actor x stamp.server) stamp ranges) x.content.heads refl refl
+abbrev wrote : Store → FileId → Stamp → RangesValue → Option Replica → Store
+wrote a f stamp ranges o = with_names (with_drawn a (edge_count o) (replicas_writing a.replicas f stamp ranges a.tags o)) (raise a.names stamp.time)
+
+write_by : (a : Store) (f : FileId) (stamp : Stamp) (ranges : RangesValue) (o : Option Replica) → replica_at a f ≡ o → AllHaveCells a → AllHaveCells (wrote a f stamp ranges o)
+write_by a f stamp ranges None e k = beside_have a (wrote a f stamp ranges None) refl (raised_up a.names stamp.time) k
+write_by a f stamp ranges (Some x) e k =
+    let actor = own_actor x stamp.server in
+    let y = with_write x actor stamp ranges a.tags in
+    let b = wrote a f stamp ranges (Some x) in
+    let ch : Changes a b f x y = record { old = e; replicas = refl } in
+    news_have a b k f x y ch stamp (next_version x.content actor stamp ranges) x.content.heads refl (raised_up a.names stamp.time) refl
     (λ w m none. absurd (none (map_among key_of x.content.heads w m))) (inl refl)
 
--- ---- a file begins
+pub write_have : (a : Store) (f : FileId) (stamp : Stamp) (ranges : RangesValue) → AllHaveCells a → AllHaveCells (write a f stamp ranges)
+write_have a f stamp ranges k = write_by a f stamp ranges (replica_at a f) refl k
 
-no_head : (vs : List VersionValue) (q : Key) → is_empty vs ≡ true → IsKeyOf vs q → ⊥
-no_head [] q e is = is.1
-no_head (v ∷ vs) q e is = absurd (false≢true e)
+-- ---- a replica begins
 
-pub begin_have : (a : Store) (f : FileId) (policy : Policy) → has_no_head (replica_of a f) ≡ true → AllHaveCells a → AllHaveCells (begin_file a f policy)
-begin_have a f policy empty k =
-    let b = begin_file a f policy in
-    let seen = begun_seen a f policy empty in
-    λ g p i q t h.
-    let c = k g p i q t (ap (λ es. tag_at es p i q) (sym (seen.files g).edges) ∙ h) in
-    (c.0, (seen.files g).cells q ∙ c.1)
+-- of what was not held something is known then, and of all else what was
+module _ (s : NamesValue) (f : FileId) (own : Own) (full : Bool) where
+  abbrev Begun : NamesValue
+  Begun = begin_names s f own full
 
-policy_have : (a : Store) (f : FileId) (policy : Policy) → AllHaveCells a → AllHaveCells (with_policy a f policy)
-policy_have a f policy k = decided AllHaveCells (has_no_head (replica_of a f)) (begin_file a f policy) a (λ empty. begin_have a f policy empty k) (λ some. k)
+  known_then : (g : FileId) → known Begun g ≡ cond (is_same_file g f) (Some (new_held own full)) (known s g)
+  known_then g = lookup-insert_entry file_cmp file_total g f (new_held own full) s.held
 
-pub version_have : (a : Store) (f : FileId) (policy : Policy) (v : VersionValue) → AllHaveCells a → AllHaveCells (take_version a f policy v)
-version_have a f policy v k =
-    let held = with_names a (hold a.names f) in
-    put_have (with_policy held f policy) f v (policy_have held f policy (held_have a f k))
+  module _ (g : FileId) (apart : is_same_file g f ≡ false) where
+    known_still : known Begun g ≡ known s g
+    known_still = known_then g ∙ ap (λ t. cond t (Some (new_held own full)) (known s g)) apart
 
--- A CELL THAT COMES
-pub taken_have : (a : Store) (f : FileId) (c : Cell) → AllHaveCells a → AllHaveCells (taken a f c)
-taken_have a f (cell.Place place) k = place_have a k f place
-taken_have a f (cell.Flag flag) k = flag_have a k f flag
-taken_have a f (cell.Entry e sure) k = entry_have a k f e
-taken_have a f (cell.Version v policy) k = version_have a f policy v k
+    pub begun_stays : (k : Key) → NameHas s g k → NameHas Begun g k
+    begun_stays key.Place h = tt
+    begun_stays (key.Flag m) h = (h.0, ap (λ (o : Option HeldValue). flag_of (or_blank g (own_of o)).flags m) known_still ∙ h.1)
+    begun_stays (key.Entry c) h = (h.0, ap (entry_in c) known_still ∙ h.1)
+    begun_stays (key.Version stamp) h = absurd h
 
--- ---- an answer
+new_have : (a : Store) (f : FileId) (birth : ℕ) (policy : Policy) (own : Own) (full : Bool) → AllHaveCells a → AllHaveCells (put_new a f birth policy own full)
+new_have a f birth policy own full k = record { each = λ g. at g (is_same_file g f) refl }
+  where
+    b : Store
+    b = put_new a f birth policy own full
 
-abbrev with_replicas : Store → ByFile → Store
-with_replicas a rs = record { servers = a.servers; tags = a.tags; files = a.files; names = a.names; replicas = rs }
+    replica_then : (g : FileId) → replica_at (put_new a f birth policy own full) g ≡ cond (is_same_file g f) (Some (new_replica birth policy)) (replica_at a g)
+    replica_then g = lookup-insert_entry file_cmp file_total g f (new_replica birth policy) a.replicas
 
-acked_here : (a : Store) (f : FileId) (x : Replica) (peer birth : ℕ) (q : Key) (g : ℕ) → replica_at a f ≡ Some x → AllHaveCells a
-    → AllHaveCells (with_replicas a (insert_entry file_cmp a.replicas f (with_ack x peer birth q g)))
-acked_here a f x peer birth q g is k =
-    let y = with_ack x peer birth q g in
-    let b = with_replicas a (insert_entry file_cmp a.replicas f y) in
-    let here : replica_of a f ≡ x = ap (or_new (home_of a)) is in
-    let changes : Changes a b f y = record { server = refl; servers = refl; replicas = refl } in
-    let content : (h : FileId) → content_of b h ≡ content_of a h =
-    by_file (λ h z. z.content ≡ content_of a h) a b f y changes (ap (λ (z : Replica). z.content) (sym here)) (λ h. refl) in
-    by_file (λ h z. HaveCells b h z.edges) a b f y changes
-    (λ p i r t e. elim (keeps_or_brings (Ack peer birth q g) x.edges p i r t e) [
-      | inl old ↦ cell_stays a b f (λ j z. z) (content f) r (k f p i r t (ap (λ (z : Replica). tag_at z.edges p i r) here ∙ old))
-      | inr never ↦ absurd never
-    ])
-    (λ h p i r t e. cell_stays a b h (λ j z. z) (content h) r (k h p i r t e))
+    at : (g : FileId) (t : Bool) → is_same_file g f ≡ t → HaveIn (put_new a f birth policy own full) g (replica_at (put_new a f birth policy own full) g)
+    at g true e =
+        let b = put_new a f birth policy own full in
+        subst (HaveIn b g) (sym (replica_then g ∙ ap (λ t. cond t (Some (new_replica birth policy)) (replica_at a g)) e))
+        (λ p i q t h. absurd (none-some t h))
+    at g false e =
+        let b = put_new a f birth policy own full in
+        let same : replica_at b g ≡ replica_at a g = replica_then g ∙ ap (λ t. cond t (Some (new_replica birth policy)) (replica_at a g)) e in
+        let up : (q : Key) → NameHas a.names g q → NameHas b.names g q =
+        λ q h. raised_up (begin_names a.names f own full) own.place.stamp.time g q (begun_stays a.names f own full g e q h) in
+        subst (HaveIn b g) (sym same)
+        (have_in a b g (replica_at a g) (cell_stays a b g up (ap (λ (o : Option Replica). (or_nothing o).content) same)) (k.each g))
 
-acked_by : (a : Store) (f : FileId) (link : Link) (q : Key) (g : ℕ) (o : Option Replica) → replica_at a f ≡ o → AllHaveCells a → AllHaveCells (with_replicas a (replicas_acked a.replicas f link q g o))
-acked_by a f link q g None e k = k
-acked_by a f link q g (Some x) e k =
-    chosen (λ rs. AllHaveCells (with_replicas a rs)) (has_edge x link) (insert_entry file_cmp a.replicas f (with_ack x link.peer link.birth q g)) a.replicas
-    (acked_here a f x link.peer link.birth q g e k) k
+intents_have : (a : Store) (is : List Intent) → AllHaveCells a → AllHaveCells (with_intents a is)
+intents_have a is k = beside_have a (with_intents a is) refl (λ g q h. h) k
 
-pub acknowledged_have : (a : Store) (f : FileId) (link : Link) (q : Key) (g : ℕ) → AllHaveCells a → AllHaveCells (acknowledge a f link q g)
-acknowledged_have a f link q g k = acked_by a f link q g (replica_at a f) refl k
+told_have : (a : Store) (d : FileId) (i : Intent) → AllHaveCells a → AllHaveCells (take_told a d i)
+told_have a d (intent.Patch to entry target) k = entry_have a d entry k
+told_have a d i k = k
+
+told_in_have : (a : Store) (d : FileId) (o : Option Intent) → AllHaveCells a → AllHaveCells (take_told_in a d o)
+told_in_have a d None k = k
+told_in_have a d (Some i) k = told_have a d i k
+
+patches_have : (a : Store) (d : FileId) (ks : List IntentKey) → AllHaveCells a → AllHaveCells (take_patches a d ks)
+patches_have a d [] k = k
+patches_have a d (q ∷ ks) k =
+    patches_have (take_patch a d q) d ks (told_in_have (with_intents a (ended a.intents q)) d (intent_at a.intents q) (intents_have a (ended a.intents q) k))
+
+pub begin_have : (a : Store) (f : FileId) (birth : ℕ) (policy : Policy) (own : Own) (full : Bool) → AllHaveCells a → AllHaveCells (begin a f birth policy own full)
+begin_have a f birth policy own full k =
+    patches_have (put_new a f birth policy own full) f (patches_of f a.intents) (new_have a f birth policy own full k)
+
+-- ---- a filling replica is full
+
+pub fill_have : (a : Store) (f : FileId) → AllHaveCells a → AllHaveCells (with_names a (fill a.names f))
+fill_have a f k = named_have a (fill a.names f) stays k
+  where
+    stays : (g : FileId) (q : Key) → NameHas a.names g q → NameHas (fill a.names f) g q
+    stays g key.Place h = tt
+    stays g (key.Flag m) h = (h.0, ap (λ o. flag_of (or_blank g o).flags m) (own_kept a.names f filled (λ x. refl) g) ∙ h.1)
+    stays g (key.Entry c) h = (h.0, cells_kept a.names f filled (λ x. refl) g c ∙ h.1)
+    stays g (key.Version stamp) h = absurd h
 
 -- ---- the house rules
 
-pub settled_have : (a : Store) (work : Work) → (house work.now (state_of a.names work)).names.server ≡ a.names.server → AllHaveCells a → AllHaveCells (settle a work).store
-settled_have a work server k =
+pub settled_have : (a : Store) (work : Work) → AllHaveCells a → AllHaveCells (settle a work).store
+settled_have a work k =
     let names = (house work.now (state_of a.names work)).names in
     let ts = drop (length work.touched) (house work.now (state_of a.names work)).work.touched in
-    touches_have (with_names a names) ts (λ x h. name_cell (with_names a names) x.file x.key (new_has work.now a.names work x h))
-    (named_have a names server (old_has work.now a.names work) k)
+    touches_have (with_names a names) ts (λ x h. new_has work.now a.names work x h) (named_have a names (old_has work.now a.names work) k)

@@ -1,7 +1,9 @@
 pub mod Keyed
 pub mod HouseKeys
 pub mod KeysCells
+pub mod KeysLinks
 pub mod KeysVersions
+pub mod Pieces
 pub mod KeysRuns
 pub mod Ticks
 pub mod FirstCause

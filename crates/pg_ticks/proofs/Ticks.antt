@@ -1,31 +1,33 @@
--- Ticks send what is owed: each server is as the lemma on ticks asks.
-use Rattle.std.proofs.Common.{ℕ, List}
-use Rattle.pg_event.specs.declared.event.Event.{Event}
-use Rattle.pg_run.specs.Run.{run}
-use Rattle.pg_run.specs.Ticks.{TicksSendWhatIsOwed}
+-- Ticks send what is owed, and restarts lose wishes: each server is as the lemmas on one event ask.
+use Rattle.std.proofs.Common.{ℕ}
+use Rattle.pg_run.specs.Ticks.{RestartsLoseWishes, TicksSendWhatIsOwed}
 use Rattle.pg_run.proofs.Ticks as ticks
-use Rattle.pg_run.proofs.Ticks.{IsTidy}
-use Rattle.pg_order.proofs.Settled.{settled_run}
+use Rattle.pg_run.proofs.Ticks.{AreTidy}
+use Rattle.pg_run.specs.Laws.{store_after}
 use Rattle.pg_promises.proofs.Sending.{own_key}
-use Rattle.pg_kept.specs.Histories.{HoldHistories}
+use Rattle.pg_ticks.specs.Given.{TidinessIsGiven}
 use Rattle.pg_ticks.proofs.KeysRuns.{run_cells}
 
-tidy : (n : ℕ) → HoldHistories n → (events : List Event) (s : ℕ) → IsTidy n s ((run n events).stores s)
-tidy n holds events s =
-    let a = (run n events).stores s in
-    let k = run_cells n holds events in
-    let settled = settled_run n events s in
-    let whole = k.0.whole s in
+pub tidy : (n : ℕ) → TidinessIsGiven n → AreTidy n
+tidy n g events s least most =
+    let a = store_after n events s in
+    let whole = g.whole events s least most in
     record {
-      order = settled.order;
-      ordered = settled.sound.ordered;
+      order = g.order events s least most;
+      ordered = g.ordered events s least most;
+      still = g.intends.still events s least most;
+      still_without = g.intends.still_without events s least most;
+      asked = g.intends.asked events s least most;
       whole = whole;
-      cells = λ file peer birth q tag h.
-          let c = k.1 s file peer birth q tag h in
+      cells = λ file x peer birth q tag held h.
+          let c = run_cells n events s least most file x peer birth q tag held h in
           record { c = c.0; is = c.1; named = own_key a whole.names.children file q c.0 c.1 };
     }
 
 -- TICKS SEND WHAT IS OWED
-pub ticks_send_what_is_owed : (n : ℕ) → HoldHistories n → TicksSendWhatIsOwed n
-ticks_send_what_is_owed n holds =
-    ticks.ticks_send_what_is_owed n (λ events s least most. tidy n holds events s)
+pub ticks_send_what_is_owed : (n : ℕ) → TidinessIsGiven n → TicksSendWhatIsOwed n
+ticks_send_what_is_owed n g = ticks.ticks_send_what_is_owed n (tidy n g)
+
+-- RESTARTS LOSE WISHES
+pub restarts_lose_wishes : (n : ℕ) → TidinessIsGiven n → RestartsLoseWishes n
+restarts_lose_wishes n g = ticks.restarts_lose_wishes n (tidy n g)

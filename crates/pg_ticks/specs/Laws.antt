@@ -16,7 +16,8 @@ use Rattle.pg_msg.specs.declared.summary.Summary.{Summary}
 use Rattle.pg_msg.specs.declared.work.Work.{Work}
 use Rattle.pg_msg.specs.Sent.{summary}
 use Rattle.pg_store.specs.Cells.{cell_at}
-use Rattle.pg_store.specs.Store.{replica_of}
+use Rattle.pg_replica.specs.declared.replica.Replica.{Replica}
+use Rattle.pg_store.specs.Store.{replica_at}
 use Rattle.pg_server.specs.Owing.{owed}
 use Rattle.pg_run.specs.Journal.{bag}
 use Rattle.pg_run.specs.Laws.{AtEach, names_after, store_after}
@@ -27,10 +28,11 @@ use Rattle.pg_run.specs.Run.{World}
 
 -- each key that is unacknowledged on an edge has a cell
 abbrev pub KeysHaveCells : ℕ → Type 0
-KeysHaveCells servers = (events : List Event) (s : ℕ) (file : FileId) (peer birth : ℕ) (key : Key)
-    (tag : ℕ) → let a = store_after servers events s in
-    tag_at (replica_of a file).edges peer birth key ≡ Some tag
-    → (c : Cell) × (cell_at a file key ≡ Some c)
+KeysHaveCells servers = (events : List Event) → AtEach servers (λ s.
+    (file : FileId) (x : Replica) (peer birth : ℕ) (key : Key) (tag : ℕ)
+    → replica_at (store_after servers events s) file ≡ Some x
+    → tag_at x.edges peer birth key ≡ Some tag
+    → (c : Cell) × (cell_at (store_after servers events s) file key ≡ Some c))
 
 -- ---- what a run waits for
 

@@ -1,18 +1,25 @@
 //! What holds of all runs. Each law is a clause of a function that does nothing.
 
-ghost use Rattle.std.specs.Prelude.{ℕ, ◌<◌, ◌^◌};
-ghost use Rattle.pg_run.specs.Ticks.{TicksSendWhatIsOwed};
+ghost use Rattle.std.specs.Prelude.{ℕ};
+ghost use Rattle.pg_run.specs.Laws.{HouseIsInOrder};
+ghost use Rattle.pg_run.specs.Ticks.{RestartsLoseWishes, TicksSendWhatIsOwed};
+ghost use Rattle.pg_ticks.specs.Given.{NamesAreOrdered, TidinessIsGiven};
 ghost use Rattle.pg_ticks.specs.Laws.{FirstCauseIsTold, KeysHaveCells, NoRuleApplies};
 
 /// Each key that is unacknowledged on an edge has a cell.
 pub fn keys_have_cells()
-    ensures { (servers : ℕ) → servers < 2 ^ 32 → KeysHaveCells servers }
+    ensures { (servers : ℕ) → KeysHaveCells servers }
 {}
 
-/// A tick sends the present cell of each key that its server owes and that does not wait, in their
-/// order, and nothing else; it is refused exactly where the clock is at its end.
+/// A tick sends the present cell of each key that its server owes and that does not wait, in their order, and behind these
+/// the message of each intention that asks a server, and nothing else; it is refused exactly where the clock is at its end.
 pub fn ticks_send_what_is_owed()
-    ensures { (servers : ℕ) → servers < 2 ^ 32 → TicksSendWhatIsOwed servers }
+    ensures { (servers : ℕ) → TidinessIsGiven servers → TicksSendWhatIsOwed servers }
+{}
+
+/// A restart loses the wishes of its server, and changes nothing else.
+pub fn restarts_lose_wishes()
+    ensures { (servers : ℕ) → TidinessIsGiven servers → RestartsLoseWishes servers }
 {}
 
 /// What a world is told to wait for is the first message under way, and where there is none what the
@@ -23,5 +30,6 @@ pub fn first_cause_is_told()
 
 /// No house rule applies after any events.
 pub fn no_rule_applies()
-    ensures { (servers : ℕ) → NoRuleApplies servers }
+    ensures { (servers : ℕ) → HouseIsInOrder servers → NamesAreOrdered servers
+        → NoRuleApplies servers }
 {}

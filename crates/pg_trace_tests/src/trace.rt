@@ -2,9 +2,7 @@
 
 ghost use Rattle.std.specs.Prelude.{◌<◌, ◌^◌, length};
 
-use pg_base::{
-    Bytes, FileId, Head, Items, Kind as FileKind, Policy, SharedBytes, Stamp, Vector, Version,
-};
+use pg_base::{Bytes, FileId, Head, Items, Kind as FileKind, SharedBytes, Stamp, Vector, Version};
 use pg_call::{Call, CallKind, Payload, Refusal, Reply};
 use pg_entries::Cell;
 use pg_event::{Entry, Event, MeterKind, Quiet, VoidCause};
@@ -110,7 +108,7 @@ fn call_entry(alloc: Global) -> Result<Entry, Fail> {
     let message = Message::Cell {
         ends,
         tag: 1,
-        cell: Cell::Version(version(alloc, STAMP, b"a")?, Policy::Last),
+        cell: Cell::Version(version(alloc, STAMP, b"a")?),
     };
     entry.sent.push(Sent {
         to: 2,

@@ -1,8 +1,6 @@
 -- Cells are fields.
 use Rattle.std.proofs.Common.{◌≡◌, ℕ, zero, suc, Bool, List, ◌++◌, refl, arith}
 use Rattle.pg_base.specs.Version.{VersionValue}
-use Rattle.pg_base.specs.declared.policy.Policy.{Policy}
-use Rattle.pg_base.specs.declared.policy.Policy.TheVariants.{Last, Join}
 use Rattle.pg_codec.specs.Laws.{Any, HasWidth, IsField}
 use Rattle.pg_codec.specs.Reading.{number_at}
 use Rattle.pg_codec.specs.Spelling.{flag_bytes, number_bytes}
@@ -26,13 +24,13 @@ abbrev cell_kind : Cell → ℕ
 cell_kind (cell.Place place) = 1
 cell_kind (cell.Flag flag) = 2
 cell_kind (cell.Entry entry sure) = 3
-cell_kind (cell.Version version policy) = 4
+cell_kind (cell.Version version) = 4
 
 abbrev cell_behind : Cell → List ℕ
 cell_behind (cell.Place place) = place_bytes place
 cell_behind (cell.Flag flag) = gold_bytes flag
 cell_behind (cell.Entry entry sure) = entry_bytes entry ++ flag_bytes sure
-cell_behind (cell.Version version policy) = version_bytes version
+cell_behind (cell.Version version) = version_bytes version
 
 abbrev IsCellOf : ℕ → Cell → Type 0
 IsCellOf n c = IsWholeCell c × (cell_kind c ≡ n)
@@ -41,38 +39,38 @@ kind_small : (c : Cell) → HasWidth 1 (cell_kind c)
 kind_small (cell.Place place) = omega arith
 kind_small (cell.Flag flag) = omega arith
 kind_small (cell.Entry entry sure) = omega arith
-kind_small (cell.Version version policy) = omega arith
+kind_small (cell.Version version) = omega arith
 
 cell_spelled : (c : Cell) → cell_bytes c ≡ number_bytes 1 (cell_kind c) ++ cell_behind c
 unfolding cell_bytes
 cell_spelled (cell.Place place) = refl
 cell_spelled (cell.Flag flag) = refl
 cell_spelled (cell.Entry entry sure) = refl
-cell_spelled (cell.Version version policy) = refl
+cell_spelled (cell.Version version) = refl
 
 none_below : (c : Cell) → cell_kind c ≡ 0 → ⊥
 none_below (cell.Place place) e = omega arith
 none_below (cell.Flag flag) e = omega arith
 none_below (cell.Entry entry sure) e = omega arith
-none_below (cell.Version version policy) e = omega arith
+none_below (cell.Version version) e = omega arith
 
 none_above : (n : ℕ) (c : Cell) → cell_kind c ≡ suc (suc (suc (suc (suc n)))) → ⊥
 none_above n (cell.Place place) e = omega arith
 none_above n (cell.Flag flag) e = omega arith
 none_above n (cell.Entry entry sure) e = omega arith
-none_above n (cell.Version version policy) e = omega arith
+none_above n (cell.Version version) e = omega arith
 
 place_of : (c : Cell) → IsCellOf 1 c → (p : Place) × IsWholePlace p × (cell.Place p ≡ c)
 place_of (cell.Place place) f = (place, f.0, refl)
 place_of (cell.Flag flag) f = absurd (omega (arith, f.1))
 place_of (cell.Entry entry sure) f = absurd (omega (arith, f.1))
-place_of (cell.Version version policy) f = absurd (omega (arith, f.1))
+place_of (cell.Version version) f = absurd (omega (arith, f.1))
 
 gold_of : (c : Cell) → IsCellOf 2 c → (g : Flag) × IsGold 0 g × (cell.Flag g ≡ c)
 gold_of (cell.Place place) f = absurd (omega (arith, f.1))
 gold_of (cell.Flag flag) f = (flag, f.0, refl)
 gold_of (cell.Entry entry sure) f = absurd (omega (arith, f.1))
-gold_of (cell.Version version policy) f = absurd (omega (arith, f.1))
+gold_of (cell.Version version) f = absurd (omega (arith, f.1))
 
 abbrev entry_view : Entry × Bool → Cell
 entry_view x = cell.Entry x.0 x.1
@@ -81,27 +79,20 @@ entry_of : (c : Cell) → IsCellOf 3 c → (x : Entry × Bool) × (IsWholeEntry 
 entry_of (cell.Place place) f = absurd (omega (arith, f.1))
 entry_of (cell.Flag flag) f = absurd (omega (arith, f.1))
 entry_of (cell.Entry entry sure) f = ((entry, sure), (f.0, tt), refl)
-entry_of (cell.Version version policy) f = absurd (omega (arith, f.1))
+entry_of (cell.Version version) f = absurd (omega (arith, f.1))
 
-abbrev version_view : VersionValue → Cell
-version_view v = cell.Version v Last
-
-policy_is : (v : VersionValue) (p : Policy) → IsWholeVersion v × (p ≡ Last) → (w : VersionValue) × IsWholeVersion w × (version_view w ≡ cell.Version v p)
-policy_is v Last f = (v, f.0, refl)
-policy_is v Join f = let wrong = f.1 in absurd cc
-
-version_of : (c : Cell) → IsCellOf 4 c → (v : VersionValue) × IsWholeVersion v × (version_view v ≡ c)
+version_of : (c : Cell) → IsCellOf 4 c → (v : VersionValue) × IsWholeVersion v × (cell.Version v ≡ c)
 version_of (cell.Place place) f = absurd (omega (arith, f.1))
 version_of (cell.Flag flag) f = absurd (omega (arith, f.1))
 version_of (cell.Entry entry sure) f = absurd (omega (arith, f.1))
-version_of (cell.Version version policy) f = policy_is version policy f.0
+version_of (cell.Version version) f = (version, f.0, refl)
 
 behind_kind : (place n : ℕ) → IsField (IsCellOf n) cell_behind (cell_of place n)
 behind_kind place zero = never_is (IsCellOf 0) cell_behind (BadTag place) (λ c f. none_below c f.1)
 behind_kind place (suc zero) = view_is place_field cell.Place (IsCellOf 1) cell_behind (λ p f. ((f, refl), refl)) place_of
 behind_kind place (suc (suc zero)) = view_is (gold_field 0) cell.Flag (IsCellOf 2) cell_behind (λ g f. ((f, refl), refl)) gold_of
 behind_kind place (suc (suc (suc zero))) = view_is (then_is entry_field flag_is) entry_view (IsCellOf 3) cell_behind (λ x f. ((f.0, refl), refl)) entry_of
-behind_kind place (suc (suc (suc (suc zero)))) = view_is version_field version_view (IsCellOf 4) cell_behind (λ v f. (((f, refl), refl), refl)) version_of
+behind_kind place (suc (suc (suc (suc zero)))) = view_is version_field cell.Version (IsCellOf 4) cell_behind (λ v f. ((f, refl), refl)) version_of
 behind_kind place (suc (suc (suc (suc (suc n))))) = never_is (IsCellOf (suc (suc (suc (suc (suc n)))))) cell_behind (BadTag place) (λ c f. none_above n c f.1)
 
 pub cell_field : IsField IsWholeCell cell_bytes cell_at

@@ -82,4 +82,4 @@ pub fits_cell : (c : Cell) → IsWholeCell c → FitsCell c
 fits_cell (cell.Place place) w = fits_place place w
 fits_cell (cell.Flag flag) w = let above = w.server.above in record { least = omega (arith, above); most = w.server.most }
 fits_cell (cell.Entry entry sure) w = fits_entry entry w
-fits_cell (cell.Version version policy) w = (fits_version version w.0, w.1)
+fits_cell (cell.Version version) w = fits_version version w

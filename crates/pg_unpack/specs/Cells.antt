@@ -1,6 +1,5 @@
 -- Cells.
-use Rattle.std.specs.Prelude.{ℕ, ◌≡◌, zero, suc, Err}
-use Rattle.pg_base.specs.declared.policy.Policy.TheVariants.{Last}
+use Rattle.std.specs.Prelude.{ℕ, zero, suc, Err}
 use Rattle.pg_codec.specs.Reading.{Field, ◌>>=◌, followed_by, seen_as, flag_at, number_at}
 use Rattle.pg_entries.specs.declared.cell.Cell.{Cell}
 use Rattle.pg_entries.specs.declared.cell.Cell.TheVariants as cell
@@ -10,14 +9,13 @@ use Rattle.pg_unpack.specs.Places.{IsGold, IsWholeEntry, IsWholePlace, entry_at,
 use Rattle.pg_unpack.specs.declared.error.PacketError.{PacketError}
 use Rattle.pg_unpack.specs.declared.error.PacketError.TheVariants.{BadTag}
 
--- What stands behind the kind of a cell, which is at the place. A version has the first policy.
+-- What stands behind the kind of a cell, which is at the place.
 abbrev pub cell_of : ℕ → ℕ → Field PacketError Cell
 cell_of place (suc zero) from = seen_as cell.Place place_at from
 cell_of place (suc (suc zero)) from = seen_as cell.Flag (gold_at 0) from
 cell_of place (suc (suc (suc zero))) from =
     seen_as (λ x. cell.Entry x.0 x.1) (followed_by entry_at (λ entry. of_packet flag_at)) from
-cell_of place (suc (suc (suc (suc zero)))) from =
-    seen_as (λ v. cell.Version v Last) version_at from
+cell_of place (suc (suc (suc (suc zero)))) from = seen_as cell.Version version_at from
 cell_of place n from = Err (BadTag place)
 
 unfoldable pub cell_at : Field PacketError Cell
@@ -28,4 +26,4 @@ abbrev pub IsWholeCell : Cell → Type 0
 IsWholeCell (cell.Place place) = IsWholePlace place
 IsWholeCell (cell.Flag flag) = IsGold 0 flag
 IsWholeCell (cell.Entry entry sure) = IsWholeEntry entry
-IsWholeCell (cell.Version version policy) = IsWholeVersion version × (policy ≡ Last)
+IsWholeCell (cell.Version version) = IsWholeVersion version

@@ -6,7 +6,7 @@ ghost use Rattle.pg_unpack.specs.Faults.{Gives};
 use crate::error::PacketError;
 use crate::heads::read_version;
 use crate::places::{read_entry, read_gold, read_place};
-use pg_base::{Policy, Shared};
+use pg_base::Shared;
 use pg_codec::Reader;
 use pg_entries::Cell;
 use std::alloc::Global;
@@ -33,7 +33,7 @@ pub fn read_cell(alloc: Global, reader: &mut Reader<'_>) -> Result<Cell, PacketE
         }
         4 => {
             let version = read_version(alloc, reader)?;
-            Ok(Cell::Version(version, Policy::Last))
+            Ok(Cell::Version(version))
         }
         _ => Err(PacketError::BadTag(place)),
     }

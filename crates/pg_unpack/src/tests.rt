@@ -185,7 +185,7 @@ const NO_NUMBER: &[u8] = b"\x04\0\0\0\0\0\0\0\x28\0\0\0\x01\0\0\0\0\0\0\0\x03\0\
 /// Whether the bytes spell the cell of a version with the body `ab`.
 fn is_version(alloc: Global, bytes: &[u8]) -> Result<bool, PacketError> {
     Ok(match read_cell(alloc, &mut Reader::new(bytes))? {
-        Cell::Version(version, _) => version.body().as_slice() == b"ab".as_slice(),
+        Cell::Version(version) => version.body().as_slice() == b"ab".as_slice(),
         _ => false,
     })
 }

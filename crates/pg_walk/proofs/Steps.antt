@@ -9,6 +9,7 @@ use Rattle.pg_base.specs.Id.{is_same_file}
 use Rattle.pg_register.specs.Place.{root}
 use Rattle.pg_names.specs.declared.own.Own.{Own}
 use Rattle.pg_names.specs.Names.{NamesValue, own_at}
+use Rattle.pg_walk.specs.declared.paths.Found.{Found}
 use Rattle.pg_walk.specs.Chain.{is_above_within, is_at_or_above}
 use Rattle.pg_walk.specs.Walk.{and_then, has_more, look_up, walk_from}
 
@@ -25,22 +26,22 @@ more_than k xs =
     some_by_length (drop k xs) ∙ ap (λ n. nat_lt 0 n) (length-drop k xs) ∙ less_than k (length xs)
 
 -- the way from a component on is one step, and the way from the next on
-pub one_step : (names : NamesValue) (dir : FileId) (i count : ℕ) (needs_dir : Bool)
+pub one_step : (names : NamesValue) (found : Found) (i count : ℕ) (needs_dir : Bool)
     → (parts : List (List ℕ)) (name : List ℕ) → i < count → count ≤ length parts
     → slice_get parts i ≡ Some name
-    → walk_from names dir (i + 1) needs_dir (drop i (take count parts))
-    ≡ and_then (λ next. walk_from names next (i + 1 + 1) needs_dir (drop (i + 1) (take count parts)))
-    (look_up names dir (i + 1) (nat_lt (i + 1) count || needs_dir) name)
-one_step names dir i count needs_dir parts name less most is =
+    → walk_from names found (i + 1) needs_dir (drop i (take count parts))
+    ≡ and_then (look_up names found (i + 1) (nat_lt (i + 1) count || needs_dir) name)
+    (λ next. walk_from names next (i + 1 + 1) needs_dir (drop (i + 1) (take count parts)))
+one_step names found i count needs_dir parts name less most is =
     let xs = take count parts in
     let long : length xs ≡ count = length-take-le count parts most in
     let at : get_or xs i name ≡ name =
     get_or-take count parts i name less ∙ get_or_from_slice_get parts i name name is in
     let rest = drop (i + 1) xs in
-    ap (walk_from names dir (i + 1) needs_dir) (drop_more xs i name (omega (arith, long)))
-    ∙ ap (λ x. walk_from names dir (i + 1) needs_dir (x ∷ rest)) at
-    ∙ ap (λ b. and_then (λ next. walk_from names next (i + 1 + 1) needs_dir rest)
-    (look_up names dir (i + 1) (b || needs_dir) name))
+    ap (walk_from names found (i + 1) needs_dir) (drop_more xs i name (omega (arith, long)))
+    ∙ ap (λ x. walk_from names found (i + 1) needs_dir (x ∷ rest)) at
+    ∙ ap (λ b. and_then (look_up names found (i + 1) (b || needs_dir) name)
+    (λ next. walk_from names next (i + 1 + 1) needs_dir rest))
     (more_than (i + 1) xs ∙ ap (λ n. nat_lt (i + 1) n) long)
 
 one_less : (m n : ℕ) → m < n → n - m ≡ suc (n - (m + 1))

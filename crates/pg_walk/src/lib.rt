@@ -7,4 +7,6 @@ mod paths;
 mod tests;
 
 pub use chain::is_above;
-pub use paths::{ROOT, is_full, reach, reach_parent, reached, shown_by, walk};
+pub use paths::{
+    Found, ROOT, Stop, Way, has_no_room, reach, reach_parent, reached, shown_by, walk,
+};

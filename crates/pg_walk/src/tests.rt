@@ -1,6 +1,6 @@
 //! Walks over a small tree: directories `a` and `a/b`, the latter not held, files `f` and `a/x`.
 
-use crate::{is_above, is_full, reach, reach_parent, shown_by, walk};
+use crate::{Found, Stop, Way, has_no_room, is_above, reach, reach_parent, shown_by, walk};
 use pg_base::{FileId, Kind, SharedBytes, Stamp};
 use pg_call::Refusal;
 use pg_entries::Entry;
@@ -65,11 +65,12 @@ fn list(
     names.set_entry(&parent, entry)
 }
 
+/// Directory `a` and file `f` are full, and directory `b` is not held.
 fn small_tree(alloc: Global) -> Result<Names, AllocError> {
     let mut names = Names::new(alloc, 1);
-    names.hold(ROOT)?;
-    names.hold(A)?;
-    names.hold(F)?;
+    for file in [ROOT, A, F] {
+        names.begin(file, Own::blank(alloc, file)?, true)?;
+    }
     list(&mut names, alloc, ROOT, A, b"a")?;
     list(&mut names, alloc, ROOT, F, b"f")?;
     list(&mut names, alloc, A, B, b"b")?;
@@ -82,10 +83,20 @@ fn small_tree(alloc: Global) -> Result<Names, AllocError> {
     Ok(names)
 }
 
+const X_IN_A: Found = Found {
+    file: X,
+    way: Way::Entry(A),
+};
+
+const B_IN_A: Found = Found {
+    file: B,
+    way: Way::Entry(A),
+};
+
 struct Row {
     path: &'static [u8],
     needs_dir: bool,
-    found: Result<FileId, Refusal>,
+    found: Result<FileId, Stop>,
 }
 
 const ROWS: [Row; 8] = [
@@ -107,27 +118,27 @@ const ROWS: [Row; 8] = [
     Row {
         path: b"/q/r",
         needs_dir: false,
-        found: Err(Refusal::NoName(1)),
+        found: Err(Stop::Refused(Refusal::NoName(1))),
     },
     Row {
         path: b"/f/y",
         needs_dir: false,
-        found: Err(Refusal::NotDir(1)),
+        found: Err(Stop::Refused(Refusal::NotDir(1))),
     },
     Row {
         path: b"/a/x",
         needs_dir: true,
-        found: Err(Refusal::NotDir(2)),
+        found: Err(Stop::Refused(Refusal::NotDir(2))),
     },
     Row {
         path: b"/a/x",
         needs_dir: false,
-        found: Err(Refusal::NotYet(X)),
+        found: Err(Stop::NotYet(X_IN_A)),
     },
     Row {
         path: b"/a/b/c",
         needs_dir: false,
-        found: Err(Refusal::NotYet(B)),
+        found: Err(Stop::NotYet(B_IN_A)),
     },
 ];
 
@@ -145,13 +156,26 @@ fn reaches_what_is_held(rt: HostRuntime) -> Result<(), Fail> {
 fn finds_what_is_not_held(rt: HostRuntime) -> Result<(), Fail> {
     let names = small_tree(rt.alloc())?;
     let path = Path::read(rt.alloc(), b"/a/b/c").ok().ok_or("path")?;
-    assert_eq!(rt; walk(&names, &path, 2, true), Ok(B));
-    assert_eq!(rt; reach_parent(&names, &path), Err(Refusal::NotYet(B)));
+    assert_eq!(rt; walk(&names, &path, 2, true), Ok(B_IN_A));
+    assert_eq!(rt; reach_parent(&names, &path), Err(Stop::NotYet(B_IN_A)));
     let path = Path::read(rt.alloc(), b"/a/new").ok().ok_or("path")?;
     assert_eq!(rt; reach_parent(&names, &path), Ok(A));
     assert_eq!(rt; shown_by(&names, A, path.part(1)), None);
     assert_eq!(rt; shown_by(&names, A, b"x"), Some(X));
-    assert!(rt; !is_full(&names, A, F));
+    assert!(rt; !has_no_room(&names, A, F));
+    Ok(())
+}
+
+/// A directory that is filling is not reached, nor is what stands in it.
+#[test]
+fn stops_at_what_is_filling(rt: HostRuntime) -> Result<(), Fail> {
+    let mut names = small_tree(rt.alloc())?;
+    names.begin(B, Own::blank(rt.alloc(), B)?, false)?;
+    let path = Path::read(rt.alloc(), b"/a/b/c").ok().ok_or("path")?;
+    assert_eq!(rt; reach(&names, &path, false), Err(Stop::NotYet(B_IN_A)));
+    names.fill(&B);
+    let no_name = Stop::Refused(Refusal::NoName(3));
+    assert_eq!(rt; reach(&names, &path, false), Err(no_name));
     Ok(())
 }
 

@@ -57,11 +57,6 @@ deliver_acted m k b w n number x h found test same e servers bags =
 
 -- ---- events one behind the other
 
--- one event more at a run's end
-pub run_from-push : (n : ℕ) (w : World) (events : List Event) (e : Event) → run_from n w (events ++ e ∷ []) ≡ world_after (run_from n w events) (next n (run_from n w events) e)
-run_from-push n w [] e = refl
-run_from-push n w (x ∷ xs) e = run_from-push n (world_after w (next n w x)) xs e
-
 pub run_from-append : (n : ℕ) (w : World) (first more : List Event) → run_from n w (first ++ more) ≡ run_from n (run_from n w first) more
 run_from-append n w [] more = refl
 run_from-append n w (x ∷ xs) more = run_from-append n (world_after w (next n w x)) xs more

@@ -216,13 +216,17 @@ impl Machine {
         Ok(self.idle_entry(Event::Repeat(number), None))
     }
 
-    /// A server loses what it keeps in memory alone: nothing is done of it yet.
-    fn restart(&mut self, server: NodeId) -> Entry
-        ensures state { StandsBehind self.old self.new (Event.Restart server) }
-        ensures entry { IsEntryOf self.old (Event.Restart server) result }
-        ensures count { length self.new.servers.items ≡ length self.old.servers.items }
+    /// A server loses what it keeps in memory alone.
+    fn restart(&mut self, server: NodeId) -> Result<Entry, AllocError>
+        ensures state { OnOk result (StandsBehind self.old self.new (Event.Restart server)) }
+        ensures entry { IfOk result (IsEntryOf self.old (Event.Restart server)) }
+        ensures count { OnOk result (length self.new.servers.items ≡ length self.old.servers.items) }
     {
-        self.idle_entry(Event::Restart(server), Some(VoidCause::Unbuilt))
+        let event = Event::Restart(server);
+        if !self.has_server(server) {
+            return Ok(self.idle_entry(event, Some(VoidCause::NoServer)));
+        }
+        self.act(event, server, Input::Restart)
     }
 
     /// A server is gone for good: nothing is done of it yet.
@@ -254,7 +258,7 @@ impl Machine {
             Event::Deliver(number) => self.deliver(number),
             Event::Lose(number) => Ok(self.lose(number)),
             Event::Repeat(number) => self.repeat(number),
-            Event::Restart(server) => Ok(self.restart(server)),
+            Event::Restart(server) => self.restart(server),
             Event::Remove(server) => Ok(self.remove(server)),
         }
     }
@@ -266,7 +270,7 @@ impl Machine {
         !self.bag.is_empty()
     }
 
-    /// The first that a server owes, by server: of each first keys, and then places that it holds back.
+    /// The first that a server owes, by server: of each first intentions, then keys, and then places that it holds back.
     fn owed(&self) -> Option<Owing>
         ensures { (w : World) → Stands self.now w
             → result ≡ slice_get (owed_by w.stores (length self.now.servers.items)) 0 }

@@ -106,8 +106,9 @@ impl World {
     }
 
     /// Whether the run is quiet: no message is under way, and no server owes anything. Else what it waits for first: the
-    /// oldest message; then, by server, the first unacknowledged key, by file, peer and key, and behind a server's keys
-    /// the first place that it holds back, by id. It takes no memory.
+    /// oldest message; then, by server, the first intention, in the order in which they began; behind a server's
+    /// intentions its first unacknowledged key, by file, peer and key; and behind its keys the first place that it holds
+    /// back, by id. It takes no memory.
     pub fn is_quiet(&self) -> Quiet
         requires { self.now.failed ≡ false }
         ensures answer { result ≡ quiet_of self.now.servers (final self.now) }

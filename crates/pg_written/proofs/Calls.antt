@@ -1,41 +1,50 @@
 -- What a client is told of a call, what the call makes and what the server holds then, suits.
-use Rattle.std.proofs.Common.{ℕ, ◌≡◌, ◌≤◌, List, Result, Ok, Err, length, take, refl, subst, inl, arith}
+use Rattle.std.proofs.Common.{ℕ, ◌≡◌, ◌==◌, ◌≤◌, true, List, Option, None, Some, Result, Ok, Err, length, take, refl, subst, inl, inr, arith}
 use Rattle.std.proofs.lemmas.List.Elements.{All-push}
 use Rattle.pg_base.specs.declared.id.FileId.{FileId}
 use Rattle.pg_base.specs.declared.id.Kind.TheVariants.{Dir, File}
 use Rattle.pg_base.specs.declared.policy.Policy.{Policy}
+use Rattle.pg_base.specs.declared.policy.Policy.TheVariants.{Last}
 use Rattle.pg_base.specs.declared.stamp.Stamp.{Stamp}
 use Rattle.pg_call.specs.declared.call.Call.{Call}
 use Rattle.pg_call.specs.declared.call.Call.TheVariants as call
-use Rattle.pg_call.specs.declared.refusal.Refusal.{Refusal}
 use Rattle.pg_call.specs.declared.reply.Reply.{Reply}
 use Rattle.pg_call.specs.declared.reply.Reply.TheVariants as reply
 use Rattle.pg_call.specs.Call.{IsCall}
-use Rattle.pg_edges.specs.declared.key.Key.TheVariants as key
+use Rattle.pg_msg.specs.declared.message.Message.TheVariants as message
 use Rattle.pg_msg.specs.declared.update.Update.TheVariants as update
 use Rattle.pg_msg.specs.declared.work.Work.{Work}
 use Rattle.pg_msg.specs.Work.{with_made}
-use Rattle.pg_names.specs.Names.{known, own_or_blank}
+use Rattle.pg_names.specs.Names.{blank_own, known, own_or_blank}
 use Rattle.pg_patch.specs.Ranges.{RangesValue, cut_to, written}
 use Rattle.pg_register.specs.declared.place.Place.{Place}
 use Rattle.pg_store.specs.declared.store.Store.{Store}
-use Rattle.pg_store.specs.Start.{first_flag}
-use Rattle.pg_store.specs.Store.{begin_file, is_newer_flag, is_newer_place}
+use Rattle.pg_store.specs.declared.wishes.Wish.{Wish}
+use Rattle.pg_store.specs.Births.{draw_birth, with_birth, with_wish}
+use Rattle.pg_house.proofs.Truths.{chosen}
+use Rattle.pg_walk.specs.declared.paths.Found.{Found}
+use Rattle.pg_walk.specs.declared.paths.Stop.{Stop}
+use Rattle.pg_walk.specs.declared.paths.Stop.TheVariants as stop
 use Rattle.pg_cells.specs.Done.{Done, idle}
-use Rattle.pg_calls.specs.Answer.{Answer, answered, replied, told}
+use Rattle.pg_cells.specs.Posting.{post}
+use Rattle.pg_calls.specs.Answer.{Answer, answer, answered, deny, replied, told}
+use Rattle.pg_calls.specs.Asking.{ask_by, ask_first, ask_for, fetch, fresh_wish, holder, standing}
 use Rattle.pg_calls.specs.Bodies.{change, change_file, read, shown_part, when_fit}
 use Rattle.pg_calls.specs.Calls.{do_call}
 use Rattle.pg_calls.specs.Checks.{dir_at, empty_dir_at, file_at, in_time, move_of, new_name, target_at}
-use Rattle.pg_calls.specs.Looks.{counts, fresh, listing, ls, page, stat, stat_of, status, stop}
-use Rattle.pg_calls.specs.Making.{drawn, first_ranges, make_flag, make_place, make_version, version_of}
-use Rattle.pg_calls.specs.Naming.{create, dead_place, mkdir, next_id, place_in, rename, rmdir, taken_away, unlink, with_first_version, with_id, with_thing}
+use Rattle.pg_calls.specs.Looks.{counts, listing, ls, page, stat_of, stop as stop_call}
+use Rattle.pg_calls.specs.Making.{drawn, first_ranges, make_place, make_version, version_of}
+use Rattle.pg_calls.specs.Naming.{begun, create, dead_place, mkdir, next_id, place_in, rename, taken_away, with_id, with_thing}
 use Rattle.pg_calls.proofs.Checked.{fit_found}
 use Rattle.pg_trace.specs.Suited.{IsCallAnswer, SuitsUpdate}
 use Rattle.pg_trace.proofs.Lines.{few_taken}
 use Rattle.pg_written.proofs.Found.{file_found, moved_name, named}
+use Rattle.pg_written.proofs.Handlers.{flag_raised}
+use Rattle.pg_written.proofs.House.{WorkSuits}
+use Rattle.pg_written.proofs.Messages.{Suits}
 use Rattle.pg_written.proofs.Places.{IsOwnPlace, blank_suits, own_place, suits_place}
 use Rattle.pg_written.proofs.Rows.{page_suits}
-use Rattle.pg_written.proofs.Stores.{DoneSuits, flag_suits, news_suits, place_suits}
+use Rattle.pg_written.proofs.Stores.{DoneSuits, StoreSuits, begun_suits, place_noted, posted}
 
 -- ---- what a call comes to
 
@@ -48,46 +57,63 @@ pub record CallSuits (K : Type 0) (a : Answer) : Type 0 where
 told_suits : (K : Type 0) (s : Store) (work : Work) (r : Reply) → (K → IsCallAnswer r) → DoneSuits (idle s work) → CallSuits K (told s work r)
 told_suits K s work r k h = record { told = k; done = h }
 
-answered_suits : {A : Type 0} (K : Type 0) (s : Store) (work : Work) (r : Result A Refusal) (next : A → Answer) → DoneSuits (idle s work)
+-- ---- what is not here yet is asked for
+
+fetched : (s : Store) (f : FileId) (wish : Wish) (work : Work) → WorkSuits Suits work → WorkSuits Suits (fetch s f wish work)
+fetched s f wish work h =
+    chosen (WorkSuits Suits) (wish.target == 0) work (post s wish.target (message.Fetch f wish.birth) work) h
+    (posted s wish.target (message.Fetch f wish.birth) work (record { about = λ g. g; told = λ g. g; carried = tt }) h)
+
+first_suits : (s : Store) (f : FileId) (target : ℕ) (work : Work) → DoneSuits (idle s work) → DoneSuits (ask_first s f target work)
+first_suits s f target work h =
+    let wish = fresh_wish s target in
+    chosen DoneSuits (target == 0) (idle s work) (idle (with_wish (with_birth s) f wish) (fetch s f wish work)) h
+    (record { store = record { names = h.store.names; intents = h.store.intents }; work = fetched s f wish work h.work })
+
+asked_by : (s : Store) (found : Found) (o : Option Wish) (work : Work) → DoneSuits (idle s work) → DoneSuits (ask_by s found o work)
+asked_by s found None work h = first_suits s found.file (holder s found) work h
+asked_by s found (Some wish) work h = record { store = h.store; work = fetched s found.file wish work h.work }
+
+deny_suits : (K : Type 0) (s : Store) (why : Stop) (work : Work) → DoneSuits (idle s work) → CallSuits K (deny s why work)
+deny_suits K s (stop.Refused why) work h = record { told = λ k. tt; done = h }
+deny_suits K s (stop.NotYet found) work h =
+    let a : DoneSuits (ask_for s found work) = asked_by s found (standing s found.file) work h in
+    record { told = λ k. tt; done = record { store = a.store; work = a.work } }
+
+answered_suits : {A : Type 0} (K : Type 0) (s : Store) (work : Work) (r : Result A Stop) (next : A → Answer) → DoneSuits (idle s work)
     → ((x : A) → r ≡ Ok x → CallSuits K (next x)) → CallSuits K (answered s work r next)
-answered_suits K s work (Err why) next h each = record { told = λ k. tt; done = h }
+answered_suits K s work (Err why) next h each = deny_suits K s why work h
 answered_suits K s work (Ok x) next h each = each x refl
 
-replied_suits : {A : Type 0} (r : Result A Refusal) (next : A → Reply) → ((x : A) → IsCallAnswer (next x)) → IsCallAnswer (replied r next)
-replied_suits (Err why) next each = tt
-replied_suits (Ok x) next each = each x
+replied_suits : {A : Type 0} (K : Type 0) (s : Store) (work : Work) (r : Result A Stop) (next : A → Reply) → DoneSuits (idle s work)
+    → ((x : A) → K → IsCallAnswer (next x)) → CallSuits K (replied s work r next)
+replied_suits K s work r next h each =
+    answered_suits K s work r (λ x. told s work (next x)) h (λ x e. told_suits K s work (next x) (each x) h)
 
 -- ---- what is made
 
 made_place : (f : FileId) (p : Place) (done : Done) → IsOwnPlace f p → DoneSuits done → DoneSuits (make_place f p done)
-made_place f p done k h = record {
-  names = place_suits done.store h.names f p k;
-  work = news_suits (is_newer_place done.store f p) (with_made done.work (update.Place f p)) f key.Place
-      (record {
+made_place f p done k h =
+    place_noted done.store (with_made done.work (update.Place f p))
+    (record {
+      store = h.store;
+      work = record {
         made = All-push SuitsUpdate done.work.made (update.Place f p) h.work.made (suits_place f p k);
         sent = h.work.sent;
-      });
-}
-
-made_flag : (f : FileId) (server : ℕ) (done : Done) → DoneSuits done → DoneSuits (make_flag f (first_flag server) done)
-made_flag f server done h =
-    let g = first_flag server in
-    record {
-      names = flag_suits done.store h.names f g;
-      work = news_suits (is_newer_flag done.store f g) (with_made done.work (update.Flag f g)) f (key.Flag g.server)
-          (record {
-            made = All-push SuitsUpdate done.work.made (update.Flag f g) h.work.made tt;
-            sent = h.work.sent;
-          });
-    }
+        left = h.work.left;
+        unsure = h.work.unsure;
+      };
+    }) f p k
 
 made_version : (f : FileId) (stamp : Stamp) (ranges : RangesValue) (done : Done) → f.kind ≡ File → DoneSuits done
     → DoneSuits (make_version f stamp ranges done)
 made_version f stamp ranges done k h = record {
-  names = h.names;
+  store = record { names = h.store.names; intents = h.store.intents };
   work = record {
     made = All-push SuitsUpdate done.work.made (update.Version (version_of done.store f stamp ranges)) h.work.made k;
     sent = h.work.sent;
+    left = h.work.left;
+    unsure = h.work.unsure;
   };
 }
 
@@ -101,41 +127,46 @@ few_bytes count few bytes = let h = few_taken count bytes in omega (arith, few, 
 -- ---- each call
 
 module _ (K : Type 0) (s : Store) (work : Work) (h : DoneSuits (idle s work)) where
-  thing_suits : (id : FileId) (text : List ℕ) (new : _) → new_name s id text ≡ Ok new → DoneSuits (with_thing (with_id s) work id new)
-  thing_suits id text new e =
+  thing_suits : (id : FileId) (policy : Policy) (text : List ℕ) (new : _) → new_name s id text ≡ Ok new → DoneSuits (with_thing (with_id s) work id policy new)
+  thing_suits id policy text new e =
       let k = named s id text new e in
-      let p = place_in (with_id s) work.now new in
+      let a = with_id s in
+      let p = place_in a work.now new in
       let own : IsOwnPlace id p = own_place id p (record { parent = k.parent; name = inl k.given }) in
-      made_flag id s.names.server (make_place id p (idle (with_id s) work))
-      (made_place id p (idle (with_id s) work) own (record { names = h.names; work = h.work }))
+      let blank : IsOwnPlace id (blank_own id).place = record { parent = refl; name = inr (inr refl) } in
+      let one = begun a id policy in
+      let store : StoreSuits one =
+      begun_suits (with_birth a) id (draw_birth a) policy (blank_own id) true blank (record { names = h.store.names; intents = h.store.intents }) in
+      let two = make_place id p (idle one work) in
+      let placed : DoneSuits two = made_place id p (idle one work) own (record { store = store; work = h.work }) in
+      flag_raised two.store id two.work (record { store = placed.store; work = placed.work })
 
   mkdir_suits : (text : List ℕ) → CallSuits K (mkdir s text work)
   mkdir_suits text =
       answered_suits K s work (new_name s (next_id s Dir) text) _ h
-      (λ new e. record { told = λ k. tt; done = thing_suits (next_id s Dir) text new e })
-
-  first_suits : (id : FileId) (policy : Policy) (done : Done) → id.kind ≡ File → DoneSuits done → DoneSuits (with_first_version id policy done)
-  first_suits id policy done k d =
-      made_version id (drawn done.store done.work.now) first_ranges (record { store = begin_file done.store id policy; work = done.work }) k
-      (record { names = d.names; work = d.work })
+      (λ new e.
+      let a = thing_suits (next_id s Dir) Last text new e in
+      record { told = λ k. tt; done = record { store = a.store; work = a.work } })
 
   create_suits : (text : List ℕ) (policy : Policy) → CallSuits K (create s text policy work)
   create_suits text policy =
       let id = next_id s File in
       answered_suits K s work (new_name s id text) _ h
-      (λ new e. record {
-        told = λ k. tt;
-        done = first_suits id policy (with_thing (with_id s) work id new) refl (thing_suits id text new e);
-      })
+      (λ new e.
+      let done = with_thing (with_id s) work id policy new in
+      let a = made_version id (drawn done.store done.work.now) first_ranges done refl (thing_suits id policy text new e) in
+      record { told = λ k. tt; done = record { store = a.store; work = a.work } })
 
-  version_suits : (ranges : RangesValue) (f : FileId) → f.kind ≡ File → CallSuits K (change_file s ranges work f)
-  version_suits ranges f k =
+  changed_suits : (ranges : RangesValue) (f : FileId) → f.kind ≡ File → CallSuits K (change_file s ranges work f)
+  changed_suits ranges f k =
       answered_suits K s work (when_fit s ranges f) _ h
-      (λ fit e. record { told = λ k. tt; done = made_version fit (drawn s work.now) ranges (idle s work) (fit_kind s ranges f fit k e) h })
+      (λ fit e.
+      let a = made_version fit (drawn s work.now) ranges (idle s work) (fit_kind s ranges f fit k e) h in
+      record { told = λ k. tt; done = record { store = a.store; work = a.work } })
 
   change_suits : (text : List ℕ) (ranges : RangesValue) → CallSuits K (change s text ranges work)
   change_suits text ranges =
-      answered_suits K s work (file_at s text) (change_file s ranges work) h (λ f e. version_suits ranges f (file_found s text f e))
+      answered_suits K s work (file_at s text) (change_file s ranges work) h (λ f e. changed_suits ranges f (file_found s text f e))
 
   rename_suits : (from to : List ℕ) → CallSuits K (rename s from to work)
   rename_suits from to =
@@ -143,35 +174,31 @@ module _ (K : Type 0) (s : Store) (work : Work) (h : DoneSuits (idle s work)) wh
       (λ move e.
       let k = moved_name s from to move e in
       let p = place_in s work.now move.to in
-      record { told = λ k. tt; done = made_place move.thing p (idle s work) (own_place move.thing p (record { parent = k.parent; name = inl k.given })) h })
+      let a = made_place move.thing p (idle s work) (own_place move.thing p (record { parent = k.parent; name = inl k.given })) h in
+      record { told = λ k. tt; done = record { store = a.store; work = a.work } })
 
   -- whatever is taken away keeps its parent and its name
   away_suits : (f : FileId) → DoneSuits (taken_away s work f)
   away_suits f =
-      let old = blank_suits s.names h.names f in
+      let old = blank_suits s.names h.store.names f in
       made_place f (dead_place s work.now f) (idle s work) (record { parent = old.parent; name = old.name }) h
 
-  unlink_suits : (text : List ℕ) → CallSuits K (unlink s text work)
-  unlink_suits text = answered_suits K s work (file_at s text) _ h (λ f e. record { told = λ k. tt; done = away_suits f })
+  gone_suits : (r : Result FileId Stop) (reply : Reply) → (K → IsCallAnswer reply)
+      → CallSuits K (answered s work r (λ f. answer (taken_away s work f) reply))
+  gone_suits r reply told =
+      answered_suits K s work r _ h (λ f e. let a = away_suits f in record { told = told; done = record { store = a.store; work = a.work } })
 
-  rmdir_suits : (text : List ℕ) → CallSuits K (rmdir s text work)
-  rmdir_suits text = answered_suits K s work (empty_dir_at s text) _ h (λ f e. record { told = λ k. tt; done = away_suits f })
-
-  look_suits : (r : Reply) → (K → IsCallAnswer r) → CallSuits K (told s work r)
-  look_suits r k = told_suits K s work r k h
-
-  read_suits : (text : List ℕ) (offset count : ℕ) → (K → count ≤ 32768) → CallSuits K (told s work (read s text offset count))
+  read_suits : (text : List ℕ) (offset count : ℕ) → (K → count ≤ 32768) → CallSuits K (read s text offset count work)
   read_suits text offset count few =
-      look_suits (read s text offset count)
-      (λ k. replied_suits (file_at s text) (λ f. reply.Bytes (shown_part s f offset count)) (λ f. few_bytes count (few k) _))
+      replied_suits K s work (file_at s text) (λ f. reply.Bytes (shown_part s f offset count)) h (λ f k. few_bytes count (few k) _)
 
-  ls_suits : (text : List ℕ) (from : ℕ) → CallSuits K (told s work (ls s text from))
+  ls_suits : (text : List ℕ) (from : ℕ) → CallSuits K (ls s text from work)
   ls_suits text from =
-      look_suits (ls s text from)
-      (λ k. replied_suits (dir_at s text) (λ dir. page (listing dir (known s.names dir)) from) (λ dir. page_suits s.names dir from h.names))
+      replied_suits K s work (dir_at s text) (λ dir. page (listing dir (known s.names dir)) from) h
+      (λ dir k. page_suits s.names dir from h.store.names)
 
-  stop_suits : CallSuits K (told s work (stop s))
-  stop_suits = look_suits (stop s) (λ k. replied_suits (in_time s (tt {0})) (λ found. reply.Done) (λ found. tt))
+  stop_suits : CallSuits K (stop_call s work)
+  stop_suits = replied_suits K s work (in_time s (tt {0})) (λ found. reply.Done) h (λ found k. tt)
 
 pub call_suits : (s : Store) (work : Work) → DoneSuits (idle s work) → (c : Call) → CallSuits (IsCall c) (do_call s c work)
 call_suits s work h (call.Mkdir path) = mkdir_suits (IsCall (call.Mkdir path)) s work h path
@@ -180,18 +207,18 @@ call_suits s work h (call.Write path offset bytes) = change_suits (IsCall (call.
 call_suits s work h (call.Cut path length) = change_suits (IsCall (call.Cut path length)) s work h path (cut_to length)
 call_suits s work h (call.Read path offset count) = read_suits (IsCall (call.Read path offset count)) s work h path offset count (λ k. k.2)
 call_suits s work h (call.Fresh path) =
-    look_suits (IsCall (call.Fresh path)) s work h (fresh s path) (λ k. replied_suits (file_at s path) (λ f. reply.Done) (λ f. tt))
+    replied_suits (IsCall (call.Fresh path)) s work (file_at s path) (λ f. reply.Done) h (λ f k. tt)
 call_suits s work h (call.Ls path from) = ls_suits (IsCall (call.Ls path from)) s work h path from
 call_suits s work h (call.Stat target) =
-    look_suits (IsCall (call.Stat target)) s work h (stat s target)
-    (λ k. replied_suits (target_at s target) (λ f. reply.Stat (stat_of s f)) (λ f. suits_place f (own_or_blank s.names f).place (blank_suits s.names h.names f)))
+    replied_suits (IsCall (call.Stat target)) s work (target_at s target) (λ f. reply.Stat (stat_of s f)) h
+    (λ f k. suits_place f (own_or_blank s.names f).place (blank_suits s.names h.store.names f))
 call_suits s work h (call.Rename from to) = rename_suits (IsCall (call.Rename from to)) s work h from to
-call_suits s work h (call.Unlink path) = unlink_suits (IsCall (call.Unlink path)) s work h path
-call_suits s work h (call.Rmdir path) = rmdir_suits (IsCall (call.Rmdir path)) s work h path
+call_suits s work h (call.Unlink path) = gone_suits (IsCall (call.Unlink path)) s work h (file_at s path) reply.Done (λ k. tt)
+call_suits s work h (call.Rmdir path) = gone_suits (IsCall (call.Rmdir path)) s work h (empty_dir_at s path) reply.Done (λ k. tt)
 call_suits s work h (call.Forget id) = stop_suits (IsCall (call.Forget id)) s work h
 call_suits s work h (call.Demote target) = stop_suits (IsCall (call.Demote target)) s work h
 call_suits s work h (call.Drop target) = stop_suits (IsCall (call.Drop target)) s work h
 call_suits s work h (call.Giveup view server) = stop_suits (IsCall (call.Giveup view server)) s work h
 call_suits s work h call.Status =
-    look_suits (IsCall call.Status) s work h (status s) (λ k. replied_suits (in_time s (tt {0})) (λ found. reply.Status (counts s)) (λ found. tt))
+    replied_suits (IsCall call.Status) s work (in_time s (tt {0})) (λ found. reply.Status (counts s)) h (λ found k. tt)
 call_suits s work h call.Stop = stop_suits (IsCall call.Stop) s work h

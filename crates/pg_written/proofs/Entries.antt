@@ -1,6 +1,6 @@
 -- What is told of one event suits, and what all servers hold and what is under way behind it; and so of any run.
-use Rattle.std.proofs.Common.{ℕ, ◌≡◌, ◌==◌, ◌&&◌, List, [], ◌++◌, Option, None, Some, All, refl}
-use Rattle.std.specs.List.{AllByRecursion}
+use Rattle.std.proofs.Common.{ℕ, ◌≡◌, ◌==◌, Bool, true, false, cond, List, [], ◌++◌, Option, None, Some, All, refl}
+use Rattle.std.specs.List.{AllByRecursion, flat_map}
 use Rattle.std.proofs.lemmas.List.Elements.{All-append, All-nil, recursion_from_All}
 use Rattle.pg_call.specs.declared.call.Call.{Call}
 use Rattle.pg_call.specs.declared.refusal.Refusal.TheVariants.{ClockEnd}
@@ -14,91 +14,128 @@ use Rattle.pg_event.specs.Event.{IsEvent}
 use Rattle.pg_msg.specs.declared.message.Packet.{Packet}
 use Rattle.pg_msg.specs.declared.message.Sent.{Sent}
 use Rattle.pg_msg.specs.declared.work.Work.{Work}
-use Rattle.pg_msg.specs.Numbers.{is_in_range}
 use Rattle.pg_msg.specs.Sent.{summary}
 use Rattle.pg_msg.specs.Work.{new_work}
 use Rattle.pg_store.specs.declared.store.Store.{Store}
 use Rattle.pg_store.specs.Store.{is_in_time}
 use Rattle.pg_house.proofs.Truths.{chosen}
 use Rattle.pg_cells.specs.Done.{Done, idle}
-use Rattle.pg_cells.specs.Sending.{cells_where, is_any, is_touched}
-use Rattle.pg_cells.specs.Settling.{settle}
-use Rattle.pg_cells.specs.Ticks.{tick}
+use Rattle.pg_cells.specs.Sending.{cells_where, is_any}
+use Rattle.pg_repair.specs.Requests.{asks}
 use Rattle.pg_calls.specs.Calls.{do_call, is_built}
 use Rattle.pg_server.specs.declared.input.Input.{Input}
 use Rattle.pg_server.specs.declared.input.Input.TheVariants as input
-use Rattle.pg_server.specs.Local.{Effect, arrival_effect, call_effect, closed, effect, finished, receive, tick_effect}
+use Rattle.pg_server.specs.Local.{Effect, closed, done_of, effect, finished, intended, is_heard, receive, sent_again, settled, without_wishes}
 use Rattle.pg_run.specs.Journal.{bag, bag_after, message_at, with_copy, without}
 use Rattle.pg_run.specs.Run.{Step, World, bag_step, delivery_step, effect_step, idle_step, is_server, next, server_step, unbuilt_step, world_after}
 use Rattle.pg_run.proofs.Bags.{at_message, left_copied, left_without}
 use Rattle.pg_trace.specs.Suited.{Answers, IsSuited, SuitsKind, SuitsUpdate}
+use Rattle.pg_written.proofs.Behind.{ended_suits, intended as intentions_suit, settled_suits}
 use Rattle.pg_written.proofs.Calls.{call_suits}
-use Rattle.pg_written.proofs.House.{WorkSuits}
-use Rattle.pg_written.proofs.Places.{NamesSuit}
-use Rattle.pg_written.proofs.Sending.{cells_suit}
-use Rattle.pg_written.proofs.Stores.{AllSuit, DoneSuits, Suits, SuitsMessage, received_suits, settled_suits}
+use Rattle.pg_written.proofs.Handlers.{received_suits}
+use Rattle.pg_written.proofs.House.{IsOfDir, SuitsSlot, WorkSuits}
+use Rattle.pg_written.proofs.Messages.{AllSuit, Suits, SuitsMessage}
+use Rattle.pg_written.proofs.Sending.{all_asked, cells_suit}
+use Rattle.pg_written.proofs.Stores.{DoneSuits, StoreSuits}
 
 -- ---- an input of a server
 
 -- what the server holds then, what it made and sent, and what it answers to this event
 pub record EffectSuits (e : Event) (done : Effect) : Type 0 where
-  pub names : NamesSuit done.store.names
+  pub store : StoreSuits done.store
   pub made : All SuitsUpdate done.out.made
   pub sent : AllSuit done.out.sent
   pub told : IsEvent e → Answers e done.out.reply
 
 new_suits : (now from : ℕ) → WorkSuits Suits (new_work now from)
-new_suits now from = record { made = All-nil SuitsUpdate; sent = All-nil Suits }
+new_suits now from = record { made = All-nil SuitsUpdate; sent = All-nil Suits; left = All-nil SuitsSlot; unsure = All-nil IsOfDir }
 
-begun : (s : Store) (now from : ℕ) → NamesSuit s.names → DoneSuits (idle s (new_work now from))
-begun s now from h = record { names = h; work = new_suits now from }
+begun : (s : Store) (now from : ℕ) → StoreSuits s → DoneSuits (idle s (new_work now from))
+begun s now from h = record { store = h; work = new_suits now from }
 
 finished_suits : (e : Event) (answer : Option Reply) (done : Done) → (IsEvent e → Answers e answer) → DoneSuits done → EffectSuits e (finished answer done)
-finished_suits e answer done told h = record {
-  names = h.names;
-  made = h.work.made;
-  sent = All-append Suits done.work.sent (cells_where done.store (is_touched done.work.touched)) h.work.sent
-      (cells_suit done.store h.names (is_touched done.work.touched));
-  told = told;
-}
+finished_suits e answer done told h = record { store = h.store; made = h.work.made; sent = ended_suits done h; told = told }
 
-closed_suits : (e : Event) (answer : Option Reply) (s : Store) (work : Work) → (IsEvent e → Answers e answer) → DoneSuits (idle s work)
-    → EffectSuits e (closed answer (idle s work))
-closed_suits e answer s work told h = finished_suits e answer (settle s work) told (settled_suits s work h)
+closed_suits : (e : Event) (answer : Option Reply) (done : Done) → (IsEvent e → Answers e answer) → DoneSuits done → EffectSuits e (closed answer done)
+closed_suits e answer done told h =
+    let one = settled done in
+    let a : DoneSuits one = settled_suits done.store done.work (record { store = h.store; work = h.work }) in
+    let two = intended one in
+    let b : DoneSuits two = intentions_suit one.store one.work (record { store = a.store; work = a.work }) in
+    finished_suits e answer two told b
 
-called_suits : (s : Store) (server moment : ℕ) (c : Call) → NamesSuit s.names → EffectSuits (Called server moment c) (call_effect s moment c)
+called_suits : (s : Store) (server moment : ℕ) (c : Call) → StoreSuits s → EffectSuits (Called server moment c) (effect s (input.Call moment c))
 called_suits s server moment c h =
     let e = Called server moment c in
     let a = do_call s c (new_work moment 0) in
     let is = call_suits s (new_work moment 0) (begun s moment 0 h) c in
     let told : IsEvent e → Answers e (Some a.reply) = (λ k. is.told k.2) in
-    chosen (EffectSuits e) (is_in_time s) (closed (Some a.reply) (idle a.store a.work)) (finished (Some a.reply) (idle a.store a.work))
-    (closed_suits e (Some a.reply) a.store a.work told is.done) (finished_suits e (Some a.reply) (idle a.store a.work) told is.done)
+    chosen (EffectSuits e) (is_in_time s) (closed (Some a.reply) (done_of a)) (finished (Some a.reply) (done_of a))
+    (closed_suits e (Some a.reply) (done_of a) told is.done) (finished_suits e (Some a.reply) (done_of a) told is.done)
 
-ticked_suits : (s : Store) (server moment word : ℕ) → NamesSuit s.names → EffectSuits (Tick server moment word) (tick_effect s moment)
-ticked_suits s server moment word h =
-    let e = Tick server moment word in
-    let work = new_work moment 0 in
-    let sent : DoneSuits (idle s (tick s work)) = record {
-      names = h;
-      work = record { made = All-nil SuitsUpdate; sent = All-append Suits [] (cells_where s is_any) (All-nil Suits) (cells_suit s h is_any) };
-    } in
-    chosen (EffectSuits e) (is_in_time s) (closed (Some reply.Done) (idle s (tick s work))) (finished (Some (reply.Refused ClockEnd)) (idle s work))
-    (closed_suits e (Some reply.Done) s (tick s work) (λ k. tt) sent) (finished_suits e (Some (reply.Refused ClockEnd)) (idle s work) (λ k. refl) (begun s moment 0 h))
+module _ (s : Store) (h : StoreSuits s) (server moment word : ℕ) where
+  abbrev Ticked : Event
+  Ticked = Tick server moment word
 
-arrived_suits : (s : Store) (number : ℕ) (p : Packet) → SuitsMessage p.message → NamesSuit s.names → EffectSuits (Deliver number) (arrival_effect s p)
-arrived_suits s number p k h =
-    let e = Deliver number in
-    let work = new_work 0 p.from in
-    let done = receive s p.message work in
-    let left : DoneSuits (idle done.store done.work) = received_suits s p.message work h k (new_suits 0 p.from) in
-    chosen (EffectSuits e) (is_in_time s && is_in_range p.message) (closed None done) (finished None (idle s work))
-    (closed_suits e None done.store done.work (λ k. tt) left) (finished_suits e None (idle s work) (λ k. tt) (begun s 0 p.from h))
+  abbrev Begun : Work
+  Begun = new_work moment 0
+
+  again_suits : DoneSuits (idle s (sent_again s Begun))
+  again_suits =
+      let cells = cells_where s is_any in
+      let none = new_suits moment 0 in
+      record {
+        store = h;
+        work = record {
+          made = none.made;
+          sent = All-append Suits cells (flat_map (asks s) s.intents) (cells_suit s h.names is_any) (all_asked s h);
+          left = none.left;
+          unsure = none.unsure;
+        };
+      }
+
+  abbrev Answering : Bool → Option Reply
+  Answering t = Some (cond t reply.Done (reply.Refused ClockEnd))
+
+  abbrev Working : Bool → Done
+  Working t = idle s (cond t (sent_again s Begun) Begun)
+
+  by_clock : (t : Bool) → EffectSuits Ticked (cond t (closed (Answering t) (Working t)) (finished (Answering t) (Working t)))
+  by_clock true = closed_suits Ticked (Some reply.Done) (idle s (sent_again s Begun)) (λ k. tt) again_suits
+  by_clock false = finished_suits Ticked (Some (reply.Refused ClockEnd)) (idle s Begun) (λ k. refl) (begun s moment 0 h)
+
+  pub ticked_suits : EffectSuits Ticked (effect s (input.Tick moment word))
+  ticked_suits = by_clock (is_in_time s)
+
+module _ (s : Store) (h : StoreSuits s) (number : ℕ) (p : Packet) (k : SuitsMessage p.message) where
+  abbrev Come : Work
+  Come = new_work 0 p.from
+
+  abbrev Received : Done
+  Received = receive s p.message Come
+
+  abbrev Hearing : Bool → Done
+  Hearing t = cond t Received (idle s Come)
+
+  by_hearing : (t : Bool) → EffectSuits (Deliver number) (cond t (closed None (Hearing t)) (finished None (Hearing t)))
+  by_hearing true = closed_suits (Deliver number) None Received (λ e. tt) (received_suits s p.message Come k (begun s 0 p.from h))
+  by_hearing false = finished_suits (Deliver number) None (idle s Come) (λ e. tt) (begun s 0 p.from h)
+
+  pub arrived_suits : EffectSuits (Deliver number) (effect s (input.Arrival p))
+  arrived_suits = by_hearing (is_heard s p)
+
+restarted_suits : (s : Store) (server : ℕ) → StoreSuits s → EffectSuits (Restart server) (effect s input.Restart)
+restarted_suits s server h =
+    let e = Restart server in
+    let done = idle (without_wishes s) (new_work 0 0) in
+    let k : DoneSuits done = record { store = record { names = h.names; intents = h.intents }; work = new_suits 0 0 } in
+    chosen (EffectSuits e) (is_in_time s) (closed None done) (finished None done)
+    (closed_suits e None done (λ x. tt) k) (finished_suits e None done (λ x. tt) k)
 
 -- ---- an event
 
 pub record RunSuits (w : World) : Type 0 where
-  pub names : (server : ℕ) → NamesSuit (w.stores server).names
+  pub stores : (server : ℕ) → StoreSuits (w.stores server)
   pub sent : AllSuit (bag w.journal)
 
 pub record StepSuits (e : Event) (w : World) (step : Step) : Type 0 where
@@ -114,7 +151,7 @@ idle_suits : (w : World) (e : Event) (cause : Option VoidCause) → Answers e No
     → StepSuits e w (idle_step w e cause)
 idle_suits w e cause told h left = record {
   entry = λ k. record { told = told; made = tt; sent = tt };
-  behind = record { names = h.names; sent = left };
+  behind = record { stores = h.stores; sent = left };
 }
 
 -- a server does this: its messages and what is left are under way
@@ -129,7 +166,7 @@ did_suits w e server asked h done left =
         sent = told_all out.out.sent done.sent;
       };
       behind = record {
-        names = λ k. chosen (λ (x : Store). NamesSuit x.names) (k == server) out.store (w.stores k) done.names (h.names k);
+        stores = λ k. chosen StoreSuits (k == server) out.store (w.stores k) done.store (h.stores k);
         sent = left;
       };
     }
@@ -162,7 +199,7 @@ delivered_suits n w number o h is = by o is
         let e = Deliver number in
         let asked = input.Arrival m.packet in
         let here : Suits m = at_message Suits (bag w.journal) number m h.sent is in
-        let done : EffectSuits e (effect (w.stores m.to) asked) = arrived_suits (w.stores m.to) number m.packet here.carried (h.names m.to) in
+        let done : EffectSuits e (effect (w.stores m.to) asked) = arrived_suits (w.stores m.to) (h.stores m.to) number m.packet here.carried in
         chosen (StepSuits e w) (is_server n m.to) (effect_step w e m.to asked) (idle_step w e None)
         (did_suits w e m.to asked h done (left (effect (w.stores m.to) asked).out.sent done.sent))
         (idle_suits w e None tt h (left [] (All-nil Suits)))
@@ -187,14 +224,16 @@ step_suits n w (Called server moment c) h =
     let e = Called server moment c in
     let more : (ms : List Sent) → AllSuit ms → AllSuit (bag w.journal ++ ms) = (λ ms p. more_sent (bag w.journal) ms h.sent p) in
     chosen (StepSuits e w) (is_built c) (server_step n w e server (input.Call moment c)) (idle_step w e (Some Unbuilt))
-    (server_suits n w e server (input.Call moment c) tt more h (called_suits (w.stores server) server moment c (h.names server)))
+    (server_suits n w e server (input.Call moment c) tt more h (called_suits (w.stores server) server moment c (h.stores server)))
     (unbuilt_suits w e tt h (more [] (All-nil Suits)))
 step_suits n w (Tick server moment word) h =
     let more : (ms : List Sent) → AllSuit ms → AllSuit (bag w.journal ++ ms) = (λ ms p. more_sent (bag w.journal) ms h.sent p) in
     server_suits n w (Tick server moment word) server (input.Tick moment word) tt more h
-    (ticked_suits (w.stores server) server moment word (h.names server))
+    (ticked_suits (w.stores server) (h.stores server) server moment word)
 step_suits n w (Deliver number) h = delivered_suits n w number (message_at (bag w.journal) number) h refl
 step_suits n w (Lose number) h = lost_suits w number (message_at (bag w.journal) number) h
 step_suits n w (Repeat number) h = repeated_suits w number (message_at (bag w.journal) number) h
-step_suits n w (Restart server) h = unbuilt_suits w (Restart server) tt h h.sent
+step_suits n w (Restart server) h =
+    let more : (ms : List Sent) → AllSuit ms → AllSuit (bag w.journal ++ ms) = (λ ms p. more_sent (bag w.journal) ms h.sent p) in
+    server_suits n w (Restart server) server input.Restart tt more h (restarted_suits (w.stores server) server (h.stores server))
 step_suits n w (Remove server) h = unbuilt_suits w (Remove server) tt h h.sent

@@ -4,7 +4,6 @@ use Rattle.std.proofs.lemmas.Bool.{false≢true}
 use Rattle.pg_base.specs.declared.id.FileId.{FileId}
 use Rattle.pg_base.specs.declared.id.Kind.{Kind}
 use Rattle.pg_base.specs.declared.id.Kind.TheVariants.{Dir, File}
-use Rattle.pg_call.specs.declared.refusal.Refusal.{Refusal}
 use Rattle.pg_call.specs.declared.refusal.Refusal.TheVariants.{DirFull, Exists, Loop, Root}
 use Rattle.pg_names.specs.Names.{NamesValue, is_dir_kind}
 use Rattle.pg_path.specs.Name.{IsClientName}
@@ -12,10 +11,12 @@ use Rattle.pg_path.specs.Tested.{is_client_name}
 use Rattle.pg_path.proofs.Tested.{client_name_is}
 use Rattle.pg_register.specs.Place.{root}
 use Rattle.pg_store.specs.declared.store.Store.{Store}
-use Rattle.pg_walk.specs.Walk.{reach_parent, shown_by, is_full}
+use Rattle.pg_walk.specs.declared.paths.Stop.{Stop}
+use Rattle.pg_walk.specs.declared.paths.Stop.TheVariants as stop
+use Rattle.pg_walk.specs.Walk.{and_then, has_no_room, reach, reach_parent, shown_by}
 use Rattle.pg_house.specs.Returning.{is_root}
-use Rattle.pg_calls.specs.Answer.{and_then, unless}
-use Rattle.pg_calls.specs.Checks.{file_at, in_time, move_along, move_of, move_to, new_name, new_name_in, reach_full, unless_shown, when_free}
+use Rattle.pg_calls.specs.Answer.{unless}
+use Rattle.pg_calls.specs.Checks.{file_at, in_time, move_along, move_of, move_to, new_name, new_name_in, unless_shown, when_free}
 use Rattle.pg_calls.specs.Paths.{is_none, last_of, new_path_of, path_of, paths_of, with_new_name}
 use Rattle.pg_calls.proofs.Checked.{behind, no_ok, same_ok, unless_ok}
 use Rattle.pg_calls.proofs.Walked.{file_found as held_file, parent_found}
@@ -51,8 +52,8 @@ pub record IsNewIn (dir : FileId) (name : List ℕ) : Type 0 where
   pub parent : dir.kind ≡ Dir
   pub given : IsClientName name
 
-tested_name : (parts other : List (List ℕ)) (why : Refusal) (t : Bool) → is_client_name (last_of parts) ≡ t
-    → ◌≡◌ {A = Result (List (List ℕ)) Refusal} (cond t (Ok parts) (Err why)) (Ok other) → (parts ≡ other) × IsClientName (last_of parts)
+tested_name : (parts other : List (List ℕ)) (why : Stop) (t : Bool) → is_client_name (last_of parts) ≡ t
+    → ◌≡◌ {A = Result (List (List ℕ)) Stop} (cond t (Ok parts) (Err why)) (Ok other) → (parts ≡ other) × IsClientName (last_of parts)
 tested_name parts other why true e h = (same_ok parts other h, client_name_is (last_of parts) e)
 tested_name parts other why false e h = absurd (no_ok why other h)
 
@@ -75,10 +76,10 @@ shown_is (Some other) new found h = absurd (no_ok _ found h)
 free_is : (s : NamesValue) (child : FileId) (new found : _) → when_free s child new ≡ Ok found → new ≡ found
 free_is s child new found h =
     let a = behind (unless_shown (shown_by s new.dir new.name) new) _ found h in
-    shown_is (shown_by s new.dir new.name) new a.0 a.1 ∙ (unless_ok (is_full s a.0.dir child) DirFull a.0 found a.2).1
+    shown_is (shown_by s new.dir new.name) new a.0 a.1 ∙ (unless_ok (has_no_room s a.0.dir child) DirFull a.0 found a.2).1
 
 name_in : (s : NamesValue) (child : FileId) (parts : List (List ℕ)) (dir : FileId) (new : _) (t : Bool) → is_none parts ≡ t
-    → cond t (Err (Exists root)) (when_free s child (record { dir = dir; name = last_of parts })) ≡ Ok new
+    → cond t (Err (stop.Refused (Exists root))) (when_free s child (record { dir = dir; name = last_of parts })) ≡ Ok new
     → (t ≡ false) × (dir ≡ new.dir) × (last_of parts ≡ new.name)
 name_in s child parts dir new true e h = absurd (no_ok _ new h)
 name_in s child parts dir new false e h =
@@ -120,7 +121,7 @@ moved_name s from to move h =
     let b = behind (paths_of from to) (in_time s) paths a.1 in
     let same : b.0 ≡ paths = (unless_ok _ _ b.0 paths b.2).1 in
     let path : new_path_of to ≡ Ok paths.to = second_path from to paths (b.1 ∙ ap Ok same) in
-    let c = behind (reach_full s false paths.from) _ move a.2 in
+    let c = behind (reach s.names false paths.from) _ move a.2 in
     let d = behind (reach_parent s.names paths.to) (move_to s.names c.0 paths.to) move c.2 in
     let e = behind (unless (is_root c.0) Root d.0) _ move d.2 in
     let parent : d.0 ≡ e.0 = (unless_ok (is_root c.0) Root d.0 e.0 e.1).1 in

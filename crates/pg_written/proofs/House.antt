@@ -1,10 +1,11 @@
 -- The house rules keep places that suit, and what they make suits.
-use Rattle.std.proofs.Common.{ℕ, ◌≡◌, ◌<◌, Bool, true, false, cond, not, List, [], ◌∷◌, length, Option, None, Some, All, refl, sym, subst, inl, inr, arith}
+use Rattle.std.proofs.Common.{ℕ, ◌≡◌, ◌<◌, Bool, true, false, cond, not, ◌&&◌, List, [], ◌∷◌, length, Option, None, Some, All, refl, sym, subst, inl, inr, arith}
 use Rattle.std.specs.List.{filter}
 use Rattle.std.specs.Map.{keys_of}
 use Rattle.std.proofs.lemmas.List.Elements.{All-cons, All-head, All-nil, All-push, All-tail}
 use Rattle.std.proofs.lemmas.Option.{none-some}
 use Rattle.pg_base.specs.declared.id.FileId.{FileId}
+use Rattle.pg_base.specs.declared.id.Kind.TheVariants.{Dir}
 use Rattle.pg_edges.specs.declared.key.Key.{Key}
 use Rattle.pg_edges.specs.declared.key.Key.TheVariants as key
 use Rattle.pg_register.specs.declared.flag.Flag.{Flag}
@@ -15,32 +16,43 @@ use Rattle.pg_entries.specs.declared.entry.Entry.{Entry}
 use Rattle.pg_msg.specs.declared.message.Sent.{Sent}
 use Rattle.pg_msg.specs.declared.update.Update.TheVariants as update
 use Rattle.pg_msg.specs.declared.work.Work.{Work}
-use Rattle.pg_msg.specs.Work.{with_touched}
+use Rattle.pg_msg.specs.Work.{with_left, with_made, with_touched}
+use Rattle.pg_msg.specs.declared.work.Slot.{Slot}
 use Rattle.pg_names.specs.declared.own.Own.{Own}
 use Rattle.pg_names.specs.Names.{NamesValue, cell_at, directories, known, own_at, with_last}
 use Rattle.pg_names.specs.Same.{is_same_own, is_same_place}
-use Rattle.pg_house.specs.Work.{State, state_of, touched}
+use Rattle.pg_house.specs.Work.{State, note_left, place_touched, touched}
 use Rattle.pg_house.specs.Passing.{cell_for, flags_touched, gets, given, greatest, is_held_back, is_other_flag, joined_with, offered, own_taken, own_touched, pass, pass_all, pass_own, passed_to, spread, taking, took}
-use Rattle.pg_house.specs.Parents.{hold_parent, hold_parents, parent_held, takes}
 use Rattle.pg_house.specs.Placing.{drawn, live_place, made_at, own_with, place_at, place_of, placed}
 use Rattle.pg_house.specs.Returning.{first_returning, is_returning, is_root, return_first, returned}
 use Rattle.pg_house.specs.Cycles.{break_first, first_moving, latest_member, moved}
-use Rattle.pg_house.specs.House.{house, house_with, movable, rules, with_parents}
+use Rattle.pg_house.specs.House.{house, house_with, movable}
 use Rattle.pg_house.proofs.AllClimb.{member_deep, moving_member}
 use Rattle.pg_house.proofs.AllReturned.{IsReturning, is_dead_own, returning_by}
 use Rattle.pg_house.proofs.Counting.{find_found}
 use Rattle.pg_house.proofs.NoCycles.{inner_parts}
 use Rattle.pg_house.proofs.Repeating.{repeated_keeps}
 use Rattle.pg_house.proofs.Truths.{and_true, chosen, not_true}
+use Rattle.pg_promises.proofs.Choices.{decided}
 use Rattle.pg_trace.specs.Suited.{SuitsUpdate}
-use Rattle.pg_written.proofs.Places.{IsThingPlace, NamesSuit, cell_suits, hold_suits, newer_thing, own_place, own_suits, set_entry_suits, set_own_suits, suits_place, thing_place}
+use Rattle.pg_written.proofs.Places.{IsOwnPlace, IsThingPlace, NamesSuit, cell_suits, newer_thing, own_place, own_suits, set_entry_suits, set_own_suits, suits_place, thing_place}
 
 -- ---- what is done in an event
 
--- what was made suits, and of what is sent P holds
+-- a directory, and a child that is not the root
+pub record SuitsSlot (s : Slot) : Type 0 where
+  pub dir : s.dir.kind ≡ Dir
+  pub inner : is_root s.child ≡ false
+
+abbrev pub IsOfDir : Slot → Type 0
+IsOfDir s = s.dir.kind ≡ Dir
+
+-- what was made suits, of what is sent P holds, and what is noted is of directories
 pub record WorkSuits (P : Sent → Type 0) (work : Work) : Type 0 where
   pub made : All SuitsUpdate work.made
   pub sent : All P work.sent
+  pub left : All SuitsSlot work.left
+  pub unsure : All IsOfDir work.unsure
 
 pub record StateSuits (P : Sent → Type 0) (st : State) : Type 0 where
   pub names : NamesSuit st.names
@@ -77,7 +89,24 @@ all_other (f ∷ fs) = other_at f fs (is_root f) refl (all_other fs)
 
 module _ (P : Sent → Type 0) where
   touched_suits : (work : Work) (f : FileId) (k : Key) (t : Bool) → WorkSuits P work → WorkSuits P (touched work f k t)
-  touched_suits work f k t h = chosen (WorkSuits P) t (with_touched work f k) work (record { made = h.made; sent = h.sent }) h
+  touched_suits work f k t h = chosen (WorkSuits P) t (with_touched work f k) work (record { made = h.made; sent = h.sent; left = h.left; unsure = h.unsure }) h
+
+  -- where a live place is replaced its directory is noted
+  pub noted_suits : (work : Work) (f : FileId) (old : Place) → old.parent.kind ≡ Dir → WorkSuits P work → WorkSuits P (note_left work f old)
+  noted_suits work f old k h =
+      decided (WorkSuits P) (old.live && not (is_root f)) (with_left work old.parent f) work
+      (λ t. record {
+        made = h.made;
+        sent = h.sent;
+        left = All-push SuitsSlot work.left (record { dir = old.parent; child = f }) h.left
+            (record { dir = k; inner = not_true (is_root f) (and_true old.live (not (is_root f)) t).1 });
+        unsure = h.unsure;
+      }) (λ e. h)
+
+  placed_work : (work : Work) (f : FileId) (old : Place) (t : Bool) → old.parent.kind ≡ Dir → WorkSuits P work → WorkSuits P (place_touched work f old t)
+  placed_work work f old t k h =
+      let next : WorkSuits P (with_touched work f key.Place) = record { made = h.made; sent = h.sent; left = h.left; unsure = h.unsure } in
+      chosen (WorkSuits P) t (note_left (with_touched work f key.Place) f old) work (noted_suits (with_touched work f key.Place) f old k next) h
 
   flags_suit : (work : Work) (f : FileId) (held flags : List Flag) → WorkSuits P work → WorkSuits P (flags_touched work f held flags)
   flags_suit work f held [] h = h
@@ -85,10 +114,10 @@ module _ (P : Sent → Type 0) where
       let t : Bool = is_other_flag (flag_of held g.server) g in
       flags_suit (touched work f (key.Flag g.server) t) f held gs (touched_suits work f (key.Flag g.server) t h)
 
-  own_work : (work : Work) (f : FileId) (own taken : Own) → WorkSuits P work → WorkSuits P (own_touched work f own taken)
-  own_work work f own taken h =
-      flags_suit (touched work f key.Place (not (is_same_place own.place taken.place))) f own.flags taken.flags
-      (touched_suits work f key.Place (not (is_same_place own.place taken.place)) h)
+  own_work : (work : Work) (f : FileId) (own taken : Own) → own.place.parent.kind ≡ Dir → WorkSuits P work → WorkSuits P (own_touched work f own taken)
+  own_work work f own taken k h =
+      let t : Bool = not (is_same_place own.place taken.place) in
+      flags_suit (place_touched work f own.place t) f own.flags taken.flags (placed_work work f own.place t k h)
 
   -- ---- passing
 
@@ -103,44 +132,45 @@ module _ (P : Sent → Type 0) where
   greatest_thing s f top (d ∷ ds) h k =
       greatest_thing s f (joined_with top (cell_at s d f)) ds h (joined_thing s f d top (cell_at s d f) h refl k)
 
-  given_suits : (st : State) (f : FileId) (top : Own) (d : FileId) → IsThingPlace f top.place → StateSuits P st → StateSuits P (given st f top d)
-  given_suits st f top d k h = record {
-    names = set_entry_suits st.names d (cell_for f top) (record { child = refl; place = k }) h.names;
-    work = record { made = h.work.made; sent = h.work.sent };
+  given_suits : (st : State) (f : FileId) (top : Own) (d : FileId) → NotRoot f → IsThingPlace f top.place → StateSuits P st → StateSuits P (given st f top d)
+  given_suits st f top d other k h = record {
+    names = set_entry_suits st.names d (cell_for f top) (record { child = refl; inner = other; place = k }) h.names;
+    work = record { made = h.work.made; sent = h.work.sent; left = h.work.left; unsure = h.work.unsure };
   }
 
-  spread_suits : (st : State) (f : FileId) (own top : Own) (back : Bool) (ds : List FileId) → IsThingPlace f top.place → StateSuits P st
+  spread_suits : (st : State) (f : FileId) (own top : Own) (back : Bool) (ds : List FileId) → NotRoot f → IsThingPlace f top.place → StateSuits P st
       → StateSuits P (spread st f own top back ds)
-  spread_suits st f own top back [] k h = h
-  spread_suits st f own top back (d ∷ ds) k h =
-      spread_suits (offered st f own top back d) f own top back ds k
-      (chosen (StateSuits P) (gets st.names f own top back d) (given st f top d) st (given_suits st f top d k h) h)
+  spread_suits st f own top back [] other k h = h
+  spread_suits st f own top back (d ∷ ds) other k h =
+      spread_suits (offered st f own top back d) f own top back ds other k
+      (chosen (StateSuits P) (gets st.names f own top back d) (given st f top d) st (given_suits st f top d other k h) h)
 
-  taking_suits : (st : State) (f : FileId) (own taken : Own) → IsThingPlace f taken.place → StateSuits P st → StateSuits P (taking st f own taken)
-  taking_suits st f own taken k h =
+  taking_suits : (st : State) (f : FileId) (own taken : Own) → IsThingPlace f own.place → IsThingPlace f taken.place → StateSuits P st
+      → StateSuits P (taking st f own taken)
+  taking_suits st f own taken old k h =
       chosen (StateSuits P) (is_same_own own taken) st (took st f own taken) h
       (record {
         names = set_own_suits st.names f taken (own_place f taken.place k) h.names;
-        work = own_work st.work f own taken h.work;
+        work = own_work st.work f own taken old.parent h.work;
       })
 
   taken_thing : (f : FileId) (own top : Own) (back : Bool) → IsThingPlace f own.place → IsThingPlace f top.place → IsThingPlace f (own_taken own top back).place
   taken_thing f own top true a b = a
   taken_thing f own top false a b = b
 
-  passed_suits : (st : State) (ds : List FileId) (f : FileId) (own : Own) → IsThingPlace f own.place → StateSuits P st
+  passed_suits : (st : State) (ds : List FileId) (f : FileId) (own : Own) → NotRoot f → IsThingPlace f own.place → StateSuits P st
       → StateSuits P (passed_to st ds f own (greatest st.names f own ds))
-  passed_suits st ds f own k h =
+  passed_suits st ds f own other k h =
       let top : Own = greatest st.names f own ds in
       let most : IsThingPlace f top.place = greatest_thing st.names f own ds h.names k in
       let back : Bool = is_held_back st.names.removed f own top in
-      taking_suits (spread st f own top back ds) f own (own_taken own top back) (taken_thing f own top back k most)
-      (spread_suits st f own top back ds most h)
+      taking_suits (spread st f own top back ds) f own (own_taken own top back) k (taken_thing f own top back k most)
+      (spread_suits st f own top back ds other most h)
 
   pass_by : (st : State) (ds : List FileId) (f : FileId) (o : Option Own) → NotRoot f → own_at st.names f ≡ o → StateSuits P st
       → StateSuits P (pass_own st ds f o)
   pass_by st ds f None other e h = h
-  pass_by st ds f (Some own) other e h = passed_suits st ds f own (thing_place f own.place other (own_suits st.names h.names f own e)) h
+  pass_by st ds f (Some own) other e h = passed_suits st ds f own other (thing_place f own.place other (own_suits st.names h.names f own e)) h
 
   pass_suits : (st : State) (ds : List FileId) (f : FileId) → NotRoot f → StateSuits P st → StateSuits P (pass st ds f)
   pass_suits st ds f other h = pass_by st ds f (own_at st.names f) other refl h
@@ -152,16 +182,24 @@ module _ (P : Sent → Type 0) where
 
   -- ---- new places
 
+  dir_by : (f : FileId) (o : Option Own) → ((own : Own) → o ≡ Some own → IsOwnPlace f own.place) → (place_of o).parent.kind ≡ Dir
+  dir_by f None each = refl
+  dir_by f (Some own) each = (each own refl).parent
+
   placed_suits : (moment : ℕ) (ds : List FileId) (st : State) (f parent : FileId) (name : List ℕ) → NotRoot f
       → IsThingPlace f (live_place (drawn moment st.names) parent name) → StateSuits P st → StateSuits P (placed moment ds st f parent name)
   placed_suits moment ds st f parent name other k h =
       let p : Place = live_place (drawn moment st.names) parent name in
       let made : StateSuits P (made_at st f p) = record {
         names = set_own_suits (with_last st.names p.stamp.time) f (own_with st.names f p) (own_place f p k) h.names;
-        work = record {
-          made = All-push SuitsUpdate st.work.made (update.Place f p) h.work.made (suits_place f p (own_place f p k));
-          sent = h.work.sent;
-        };
+        work = noted_suits (with_touched (with_made st.work (update.Place f p)) f key.Place) f (place_at st.names f)
+            (dir_by f (own_at st.names f) (λ own e. own_suits st.names h.names f own e))
+            (record {
+              made = All-push SuitsUpdate st.work.made (update.Place f p) h.work.made (suits_place f p (own_place f p k));
+              sent = h.work.sent;
+              left = h.work.left;
+              unsure = h.work.unsure;
+            });
       } in
       pass_suits (made_at st f p) ds f other made
 
@@ -189,14 +227,6 @@ module _ (P : Sent → Type 0) where
 
   -- ---- all rules
 
-  held_suits : (st : State) (ds fs : List FileId) (s : NamesValue) → NamesSuit s → NamesSuit (hold_parents s ds fs)
-  held_suits st ds [] s h = h
-  held_suits st ds (f ∷ fs) s h = held_suits st ds fs (hold_parent s ds f) (parent_by (own_at s f))
-    where
-      parent_by : (o : Option Own) → NamesSuit (parent_held s ds f o)
-      parent_by None = h
-      parent_by (Some own) = hold_suits s (takes s ds f own).place.parent h
-
   rules_suit : (moment : ℕ) (ds fs : List FileId) (st : State) → All NotRoot fs → StateSuits P st → StateSuits P (house_with moment ds fs st)
   rules_suit moment ds fs st other h =
       let n = length ds in
@@ -206,7 +236,4 @@ module _ (P : Sent → Type 0) where
 
   pub house_suits : (moment : ℕ) (st : State) → StateSuits P st → StateSuits P (house moment st)
   house_suits moment st h =
-      let s = with_parents st.names in
-      let begun = state_of s st.work in
-      rules_suit moment (directories s) (movable s) begun (all_other (keys_of s.held))
-      (record { names = held_suits st (directories st.names) (movable st.names) st.names h.names; work = h.work })
+      rules_suit moment (directories st.names) (movable st.names) st (all_other (keys_of st.names.held)) h

@@ -1,9 +1,13 @@
 pub mod Places
+pub mod Messages
+pub mod Intents
+pub mod Rows
+pub mod Found
 pub mod House
 pub mod Stores
+pub mod Handlers
 pub mod Sending
-pub mod Found
-pub mod Rows
+pub mod Behind
 pub mod Calls
 pub mod Entries
 pub mod Waiting

@@ -19,7 +19,7 @@ use Rattle.pg_register.specs.Place.{newer_place, tilde_name}
 use Rattle.pg_entries.specs.declared.entry.Entry.{Entry}
 use Rattle.pg_entries.specs.Entry.{entry_of, joined_to}
 use Rattle.pg_names.specs.declared.own.Own.{Own}
-use Rattle.pg_names.specs.Names.{HeldValue, NamesValue, blank, cell_at, changed, entry_in, held_with, hold, join_entry, join_flag, join_place, known, or_blank, own_at, own_of, own_or_blank, set_entry, set_own, update, with_entry, with_flag, with_joined, with_own, with_place}
+use Rattle.pg_names.specs.Names.{HeldValue, NamesValue, begin, cell_at, changed, entry_in, fill, filled, join_entry, join_flag, join_place, known, new_held, or_blank, own_at, own_of, own_or_blank, set_entry, set_own, update, with_entry, with_flag, with_joined, with_own, with_place}
 use Rattle.pg_names.proofs.Lookups.{known_held}
 use Rattle.pg_house.specs.Returning.{is_root}
 use Rattle.pg_house.proofs.Truths.{chosen}
@@ -66,9 +66,10 @@ newer_own f p q a b = chosen (IsOwnPlace f) (is_before p.stamp q.stamp) q p b a
 
 -- ---- what is held
 
--- a directory's entry for a child
+-- a directory's entry for a child, which is not the root
 pub record SuitsEntry (k : FileId) (e : Entry) : Type 0 where
   pub child : e.child ≡ k
+  pub inner : is_root k ≡ false
   pub place : IsThingPlace k e.place
 
 abbrev pub SuitEntries : List (FileId × Entry) → Type 0
@@ -133,7 +134,7 @@ joined_by : (f : FileId) (o : Option Entry) (e : Entry) → ((c : Entry) → o �
 joined_by f None e held h = h
 joined_by f (Some c) e held h =
     let old = held c refl in
-    record { child = old.child; place = newer_thing f c.place e.place old.place h.place }
+    record { child = old.child; inner = old.inner; place = newer_thing f c.place e.place old.place h.place }
 
 -- ---- changes
 
@@ -176,23 +177,21 @@ join_entry_suits s d e new h =
           (joined_by e.child (entry_of x.entries e.child) e (λ c g. entry_found e.child x.entries c old.entries g) new);
     }) h
 
--- ---- one thing more is held
+-- ---- one thing more is held, or is full
 
-blank_held : (f : FileId) → SuitsHeld f (blank f)
-blank_held f = record {
-  own = record { parent = refl; name = inr (inr refl) };
-  entries = All-nil (λ (e : FileId × Entry). SuitsEntry e.0 e.1);
-}
+new_suits : (f : FileId) (own : Own) (full : Bool) → IsOwnPlace f own.place → SuitsHeld f (new_held own full)
+new_suits f own full h = record { own = h; entries = All-nil (λ (e : FileId × Entry). SuitsEntry e.0 e.1) }
 
-new_at : (s : NamesValue) (f q : FileId) (y : HeldValue) (t : Bool) → is_same_file q f ≡ t → NamesSuit s → cond t (Some (blank f)) (known s q) ≡ Some y
-    → SuitsHeld q y
-new_at s f q y false e h g = h q y g
-new_at s f q y true e h g =
-    subst (λ (k : FileId). SuitsHeld k y) (sym (is_same_file-true q f e)) (subst (SuitsHeld f) (same_Some (blank f) y g) (blank_held f))
+new_at : (s : NamesValue) (f : FileId) (x : HeldValue) (q : FileId) (y : HeldValue) (t : Bool) → is_same_file q f ≡ t → NamesSuit s → SuitsHeld f x
+    → cond t (Some x) (known s q) ≡ Some y → SuitsHeld q y
+new_at s f x q y false e h new g = h q y g
+new_at s f x q y true e h new g =
+    subst (λ (k : FileId). SuitsHeld k y) (sym (is_same_file-true q f e)) (subst (SuitsHeld f) (same_Some x y g) new)
 
-held_by : (s : NamesValue) (f : FileId) (o : Option HeldValue) → NamesSuit s → NamesSuit (held_with s f o)
-held_by s f (Some x) h = h
-held_by s f None h = λ q y g. new_at s f q y (is_same_file q f) refl h (sym (lookup-insert_entry file_cmp file_total q f (blank f) s.held) ∙ g)
+pub begin_suits : (s : NamesValue) (f : FileId) (own : Own) (full : Bool) → IsOwnPlace f own.place → NamesSuit s → NamesSuit (begin s f own full)
+begin_suits s f own full new h =
+    λ q y g. new_at s f (new_held own full) q y (is_same_file q f) refl h (new_suits f own full new)
+    (sym (lookup-insert_entry file_cmp file_total q f (new_held own full) s.held) ∙ g)
 
-pub hold_suits : (s : NamesValue) (f : FileId) → NamesSuit s → NamesSuit (hold s f)
-hold_suits s f h = held_by s f (known s f) h
+pub fill_suits : (s : NamesValue) (f : FileId) → NamesSuit s → NamesSuit (fill s f)
+fill_suits s f h = update_suits s f filled (λ x old. record { own = old.own; entries = old.entries }) h

@@ -1,194 +1,187 @@
--- What a server takes and touches keeps places that suit; and what comes in messages of a run suits.
-use Rattle.std.proofs.Common.{ℕ, ◌&&◌, Bool, List, [], ◌∷◌, All, drop, length}
+-- What a server takes, links and begins keeps places that suit; and what it notes and posts.
+use Rattle.std.proofs.Common.{ℕ, ◌≡◌, ◌&&◌, not, Bool, List, [], ◌∷◌, Option, None, Some, refl}
 use Rattle.std.proofs.lemmas.List.Elements.{All-push}
 use Rattle.pg_base.specs.declared.id.FileId.{FileId}
+use Rattle.pg_base.specs.declared.id.Kind.TheVariants.{Dir}
 use Rattle.pg_base.specs.declared.policy.Policy.{Policy}
 use Rattle.pg_base.specs.Version.{VersionValue}
-use Rattle.pg_entries.specs.declared.cell.Cell.{Cell}
-use Rattle.pg_entries.specs.declared.cell.Cell.TheVariants as cells
 use Rattle.pg_entries.specs.declared.entry.Entry.{Entry}
 use Rattle.pg_edges.specs.declared.key.Key.{Key}
-use Rattle.pg_msg.specs.declared.message.Ends.{Ends}
+use Rattle.pg_edges.specs.declared.key.Key.TheVariants as key
+use Rattle.pg_intent.specs.declared.intent.Intent.{Intent}
+use Rattle.pg_intent.specs.declared.intent.Intent.TheVariants as intent
+use Rattle.pg_intent.specs.declared.key.IntentKey.{IntentKey}
+use Rattle.pg_intent.specs.Intents.{ended, intent_at}
 use Rattle.pg_msg.specs.declared.message.Message.{Message}
-use Rattle.pg_msg.specs.declared.message.Message.TheVariants as message
-use Rattle.pg_msg.specs.declared.message.Sent.{Sent}
-use Rattle.pg_msg.specs.declared.work.Touched.{Touched}
 use Rattle.pg_msg.specs.declared.work.Work.{Work}
-use Rattle.pg_msg.specs.Sent.{cell_key, summary}
-use Rattle.pg_msg.specs.Work.{with_touched}
+use Rattle.pg_msg.specs.Work.{with_linked, with_touched, with_unsure}
 use Rattle.pg_register.specs.declared.flag.Flag.{Flag}
 use Rattle.pg_register.specs.declared.place.Place.{Place}
-use Rattle.pg_names.specs.Names.{hold}
-use Rattle.pg_replica.specs.Replica.{covers}
+use Rattle.pg_names.specs.declared.own.Own.{Own}
+use Rattle.pg_names.specs.Names.{NamesValue, own_or_blank}
 use Rattle.pg_store.specs.declared.store.Store.{Store}
-use Rattle.pg_store.specs.Store.{begin_file, has_no_head, holding_both, is_newer_entry, is_newer_flag, is_newer_place, put_version, replica_of, take_entry, take_flag, take_place, take_version, touch, with_names, with_policy}
-use Rattle.pg_house.specs.House.{house}
-use Rattle.pg_house.specs.Work.{state_of}
+use Rattle.pg_store.specs.Beginning.{begin, patches_of, put_new, take_patch, take_patches, take_told, take_told_in, with_intents}
+use Rattle.pg_store.specs.Links.{is_linked, is_new_link, link, put_link, unlink}
+use Rattle.pg_store.specs.Store.{entry_news, is_new_version, is_newer_entry, is_newer_flag, is_newer_place, put_entry, put_flag, put_place, put_version, take_entry, take_flag, take_place, take_version, touch, with_names}
+use Rattle.pg_house.specs.Work.{note_left}
 use Rattle.pg_house.proofs.Truths.{chosen}
-use Rattle.pg_cells.specs.Cells.{ack_to, cell, cell_if_accepted, fits, is_news, taken, with_answer, with_news}
-use Rattle.pg_cells.specs.Done.{Done, idle, is_accepted}
-use Rattle.pg_cells.specs.Settling.{settle, touch_all}
-use Rattle.pg_server.specs.Local.{receive}
-use Rattle.pg_trace.specs.Suited.{SuitsKind}
-use Rattle.pg_written.proofs.House.{StateSuits, WorkSuits, house_suits}
-use Rattle.pg_written.proofs.Places.{IsOwnPlace, NamesSuit, SuitsEntry, hold_suits, join_entry_suits, join_flag_suits, join_place_suits}
+use Rattle.pg_cells.specs.Accepting.{link_peer, with_link}
+use Rattle.pg_cells.specs.Done.{Done, idle}
+use Rattle.pg_cells.specs.Posting.{post, sent_to}
+use Rattle.pg_cells.specs.Taking.{is_any_news, is_place_news, take_entry_cell, take_entry_noted, take_flag_noted, take_flags_noted, take_place_noted, take_version_noted, with_doubt, with_left_if, with_news}
+use Rattle.pg_written.proofs.House.{IsOfDir, WorkSuits, noted_suits}
+use Rattle.pg_written.proofs.Intents.{AllIntents, SuitsIntent, ended_suit, found_suits}
+use Rattle.pg_written.proofs.Messages.{Suits, SuitsPost, sent_suits}
+use Rattle.pg_written.proofs.Places.{IsOwnPlace, NamesSuit, SuitsEntry, begin_suits, blank_suits, join_entry_suits, join_flag_suits, join_place_suits}
 
--- ---- messages
-
--- a cell of a thing
-abbrev pub SuitsCell : FileId → Cell → Type 0
-SuitsCell f (cells.Place place) = IsOwnPlace f place
-SuitsCell f (cells.Flag flag) = Unit {0}
-SuitsCell f (cells.Entry entry sure) = SuitsEntry entry.child entry
-SuitsCell f (cells.Version v policy) = Unit {0}
-
--- what a message carries: cells alone carry places
-abbrev pub SuitsMessage : Message → Type 0
-SuitsMessage (message.Cell ends tag c) = SuitsCell ends.file c
-SuitsMessage (message.Ack ends k tag) = Unit {0}
-SuitsMessage (message.Harbinger ends tag head) = Unit {0}
-SuitsMessage (message.Want ends wanted) = Unit {0}
-SuitsMessage (message.Delta ends delta) = Unit {0}
-SuitsMessage (message.Piece ends piece) = Unit {0}
-SuitsMessage (message.Later ends stamp) = Unit {0}
-SuitsMessage (message.Fetch file birth) = Unit {0}
-SuitsMessage (message.Grant ends granted) = Unit {0}
-SuitsMessage (message.NoGrant file birth) = Unit {0}
-SuitsMessage (message.Full ends) = Unit {0}
-SuitsMessage (message.Seek file birth) = Unit {0}
-SuitsMessage (message.Here ends) = Unit {0}
-SuitsMessage (message.NoneHere ask file child) = Unit {0}
-SuitsMessage (message.Gone file birth) = Unit {0}
-SuitsMessage (message.Bye ends) = Unit {0}
-SuitsMessage (message.ByeOk file birth) = Unit {0}
-SuitsMessage (message.Confirm dir entry) = Unit {0}
-SuitsMessage (message.PlaceIs dir entry) = Unit {0}
-SuitsMessage (message.Tell dir entry) = Unit {0}
-SuitsMessage (message.TellOk dir child stamp) = Unit {0}
-SuitsMessage (message.Leave ends stamp) = Unit {0}
-SuitsMessage (message.LeaveOk ends stamp) = Unit {0}
-SuitsMessage (message.Invite ends) = Unit {0}
-SuitsMessage (message.Walk ends origin birth hops word) = Unit {0}
-SuitsMessage (message.Meet ends) = Unit {0}
-
--- what is told of it goes by its kind
-pub record Suits (m : Sent) : Type 0 where
-  pub told : SuitsKind (summary m)
-  pub carried : SuitsMessage m.packet.message
-
-abbrev pub AllSuit : List Sent → Type 0
-AllSuit ms = All Suits ms
+pub record StoreSuits (s : Store) : Type 0 where
+  pub names : NamesSuit s.names
+  pub intents : AllIntents s.intents
 
 pub record DoneSuits (done : Done) : Type 0 where
-  pub names : NamesSuit done.store.names
+  pub store : StoreSuits done.store
   pub work : WorkSuits Suits done.work
 
--- ---- what a store takes
+-- ---- what a store takes and links
 
-abbrev StoreSuits : Store → Type 0
-StoreSuits s = NamesSuit s.names
+module _ (s : Store) (h : StoreSuits s) where
+  pub named_suits : (n : NamesValue) → NamesSuit n → StoreSuits (with_names s n)
+  named_suits n k = record { names = k; intents = h.intents }
 
-module _ (s : Store) (h : NamesSuit s.names) where
-  pub place_suits : (f : FileId) (p : Place) → IsOwnPlace f p → NamesSuit (take_place s f p).names
+  pub intended_suits : (is : List Intent) → AllIntents is → StoreSuits (with_intents s is)
+  intended_suits is k = record { names = h.names; intents = k }
+
+  pub touch_suits : (f : FileId) (k : Key) → StoreSuits (touch s f k)
+  touch_suits f k = record { names = h.names; intents = h.intents }
+
+  pub place_suits : (f : FileId) (p : Place) → IsOwnPlace f p → StoreSuits (take_place s f p)
   place_suits f p k =
-      let held = hold s.names f in
-      let more : NamesSuit held = hold_suits s.names f h in
-      chosen StoreSuits (is_newer_place s f p) _ (with_names s held) (join_place_suits held f p k more) more
+      chosen StoreSuits (is_newer_place s f p) (put_place s f p) s
+      (record { names = join_place_suits s.names f p k h.names; intents = h.intents }) h
 
-  pub flag_suits : (f : FileId) (g : Flag) → NamesSuit (take_flag s f g).names
+  pub flag_suits : (f : FileId) (g : Flag) → StoreSuits (take_flag s f g)
   flag_suits f g =
-      let held = hold s.names f in
-      let more : NamesSuit held = hold_suits s.names f h in
-      chosen StoreSuits (is_newer_flag s f g) _ (with_names s held) (join_flag_suits held f g more) more
+      chosen StoreSuits (is_newer_flag s f g) (put_flag s f g) s
+      (record { names = join_flag_suits s.names f g h.names; intents = h.intents }) h
 
-  pub entry_suits : (d : FileId) (e : Entry) → SuitsEntry e.child e → NamesSuit (take_entry s d e).names
+  pub entry_suits : (d : FileId) (e : Entry) → SuitsEntry e.child e → StoreSuits (take_entry s d e)
   entry_suits d e k =
-      let both = holding_both s.names d e.child in
-      let more : NamesSuit both = hold_suits (hold s.names d) e.child (hold_suits s.names d h) in
-      chosen StoreSuits (is_newer_entry s d e) _ (with_names s both) (join_entry_suits both d e k more) more
+      chosen StoreSuits (is_newer_entry s d e) (put_entry s d e) s
+      (record { names = join_entry_suits s.names d e k h.names; intents = h.intents }) h
 
-policy_suits : (s : Store) (f : FileId) (policy : Policy) → NamesSuit s.names → NamesSuit (with_policy s f policy).names
-policy_suits s f policy h = chosen StoreSuits (has_no_head (replica_of s f)) (begin_file s f policy) s h h
+  pub version_suits : (f : FileId) (v : VersionValue) → StoreSuits (take_version s f v)
+  version_suits f v =
+      chosen StoreSuits (is_new_version s f v) (put_version s f v) s (record { names = h.names; intents = h.intents }) h
 
-put_suits : (s : Store) (f : FileId) (v : VersionValue) → NamesSuit s.names → NamesSuit (put_version s f v).names
-put_suits s f v h = chosen StoreSuits (covers (replica_of s f) v) s _ h h
+  pub link_suits : (f : FileId) (peer birth : ℕ) → StoreSuits (link s f peer birth)
+  link_suits f peer birth =
+      chosen StoreSuits (is_new_link s f peer birth) (put_link s f peer birth) s (record { names = h.names; intents = h.intents }) h
 
-version_suits : (s : Store) (f : FileId) (policy : Policy) (v : VersionValue) → NamesSuit s.names → NamesSuit (take_version s f policy v).names
-version_suits s f policy v h =
-    let held = with_names s (hold s.names f) in
-    put_suits (with_policy held f policy) f v (policy_suits held f policy (hold_suits s.names f h))
+  pub unlink_suits : (f : FileId) (peer birth : ℕ) → StoreSuits (unlink s f peer birth)
+  unlink_suits f peer birth =
+      chosen StoreSuits (is_linked s f peer birth) _ s (record { names = h.names; intents = h.intents }) h
 
-taken_suits : (s : Store) (f : FileId) (c : Cell) → NamesSuit s.names → SuitsCell f c → NamesSuit (taken s f c).names
-taken_suits s f (cells.Place p) h k = place_suits s h f p k
-taken_suits s f (cells.Flag g) h k = flag_suits s h f g
-taken_suits s f (cells.Entry e sure) h k = entry_suits s h f e k
-taken_suits s f (cells.Version v policy) h k = version_suits s f policy v h
+-- ---- a replica begins
 
--- ---- a message
+told_suits : (s : Store) (dir : FileId) (i : Intent) → StoreSuits s → SuitsIntent i → StoreSuits (take_told s dir i)
+told_suits s dir (intent.Patch to entry target) h k = entry_suits s h dir entry k.1
+told_suits s dir i h k = h
 
-ack_suits : (server from : ℕ) (ends : Ends) (k : Key) (tag : ℕ) → Suits (ack_to server from ends k tag)
-ack_suits server from ends k tag = record { told = record { about = λ h. h; told = λ h. h }; carried = tt }
+told_in_suits : (s : Store) (dir : FileId) (o : Option Intent) → StoreSuits s → ((i : Intent) → o ≡ Some i → SuitsIntent i)
+    → StoreSuits (take_told_in s dir o)
+told_in_suits s dir None h each = h
+told_in_suits s dir (Some i) h each = told_suits s dir i h (each i refl)
+
+patch_suits : (s : Store) (dir : FileId) (k : IntentKey) → StoreSuits s → StoreSuits (take_patch s dir k)
+patch_suits s dir k h =
+    told_in_suits (with_intents s (ended s.intents k)) dir (intent_at s.intents k)
+    (intended_suits s h (ended s.intents k) (ended_suit s.intents k h.intents)) (λ i e. found_suits s.intents k i h.intents e)
+
+patches_suit : (s : Store) (dir : FileId) (ks : List IntentKey) → StoreSuits s → StoreSuits (take_patches s dir ks)
+patches_suit s dir [] h = h
+patches_suit s dir (k ∷ ks) h = patches_suit (take_patch s dir k) dir ks (patch_suits s dir k h)
+
+pub begun_suits : (s : Store) (f : FileId) (birth : ℕ) (policy : Policy) (own : Own) (full : Bool) → IsOwnPlace f own.place → StoreSuits s
+    → StoreSuits (begin s f birth policy own full)
+begun_suits s f birth policy own full k h =
+    patches_suit (put_new s f birth policy own full) f (patches_of f s.intents)
+    (record { names = begin_suits s.names f own full k h.names; intents = h.intents })
+
+-- ---- what is noted of an event
 
 pub news_suits : (news : Bool) (work : Work) (f : FileId) (k : Key) → WorkSuits Suits work → WorkSuits Suits (with_news news work f k)
 news_suits news work f k h =
-    chosen (WorkSuits Suits) news (with_touched work f k) work (record { made = h.made; sent = h.sent }) h
+    chosen (WorkSuits Suits) news (with_touched work f k) work
+    (record { made = h.made; sent = h.sent; left = h.left; unsure = h.unsure }) h
 
-cell_suits : (s : Store) (ends : Ends) (tag : ℕ) (c : Cell) (work : Work) → NamesSuit s.names → SuitsCell ends.file c → WorkSuits Suits work
-    → DoneSuits (cell_if_accepted s ends tag c work)
-cell_suits s ends tag c work h k w =
-    let answered : WorkSuits Suits (with_answer s ends tag c work) = record {
-      made = w.made;
-      sent = All-push Suits work.sent (ack_to s.names.server work.from ends (cell_key c) tag) w.sent
-          (ack_suits s.names.server work.from ends (cell_key c) tag);
-    } in
-    chosen DoneSuits (is_accepted s work.from ends && fits ends.file c) (cell s ends tag c work) (idle s work)
-    (record {
-      names = taken_suits s ends.file c h k;
-      work = news_suits (is_news s ends.file c) (with_answer s ends tag c work) ends.file (cell_key c) answered;
-    })
-    (record { names = h; work = w })
+left_suits : (news : Bool) (work : Work) (f : FileId) (old : Place) → old.parent.kind ≡ Dir → WorkSuits Suits work
+    → WorkSuits Suits (with_left_if news work f old)
+left_suits news work f old k h = chosen (WorkSuits Suits) news (note_left work f old) work (noted_suits Suits work f old k h) h
 
-pub received_suits : (s : Store) (m : Message) (work : Work) → NamesSuit s.names → SuitsMessage m → WorkSuits Suits work
-    → DoneSuits (receive s m work)
-received_suits s (message.Cell ends tag c) work h k w = cell_suits s ends tag c work h k w
-received_suits s (message.Ack ends k tag) work h c w = record { names = h; work = w }
-received_suits s (message.Harbinger ends tag head) work h c w = record { names = h; work = w }
-received_suits s (message.Want ends wanted) work h c w = record { names = h; work = w }
-received_suits s (message.Delta ends delta) work h c w = record { names = h; work = w }
-received_suits s (message.Piece ends piece) work h c w = record { names = h; work = w }
-received_suits s (message.Later ends stamp) work h c w = record { names = h; work = w }
-received_suits s (message.Fetch file birth) work h c w = record { names = h; work = w }
-received_suits s (message.Grant ends granted) work h c w = record { names = h; work = w }
-received_suits s (message.NoGrant file birth) work h c w = record { names = h; work = w }
-received_suits s (message.Full ends) work h c w = record { names = h; work = w }
-received_suits s (message.Seek file birth) work h c w = record { names = h; work = w }
-received_suits s (message.Here ends) work h c w = record { names = h; work = w }
-received_suits s (message.NoneHere ask file child) work h c w = record { names = h; work = w }
-received_suits s (message.Gone file birth) work h c w = record { names = h; work = w }
-received_suits s (message.Bye ends) work h c w = record { names = h; work = w }
-received_suits s (message.ByeOk file birth) work h c w = record { names = h; work = w }
-received_suits s (message.Confirm dir entry) work h c w = record { names = h; work = w }
-received_suits s (message.PlaceIs dir entry) work h c w = record { names = h; work = w }
-received_suits s (message.Tell dir entry) work h c w = record { names = h; work = w }
-received_suits s (message.TellOk dir child stamp) work h c w = record { names = h; work = w }
-received_suits s (message.Leave ends stamp) work h c w = record { names = h; work = w }
-received_suits s (message.LeaveOk ends stamp) work h c w = record { names = h; work = w }
-received_suits s (message.Invite ends) work h c w = record { names = h; work = w }
-received_suits s (message.Walk ends origin birth hops word) work h c w = record { names = h; work = w }
-received_suits s (message.Meet ends) work h c w = record { names = h; work = w }
+linked_suits : (news : Bool) (work : Work) (f : FileId) (peer : ℕ) → WorkSuits Suits work → WorkSuits Suits (with_link news work f peer)
+linked_suits news work f peer h =
+    chosen (WorkSuits Suits) news (with_linked work f peer) work
+    (record { made = h.made; sent = h.sent; left = h.left; unsure = h.unsure }) h
 
--- ---- the house rules, behind the first effect
+doubt_suits : (doubt : Bool) (work : Work) (d c : FileId) → d.kind ≡ Dir → WorkSuits Suits work → WorkSuits Suits (with_doubt doubt work d c)
+doubt_suits doubt work d c k h =
+    chosen (WorkSuits Suits) doubt (with_unsure work d c) work
+    (record { made = h.made; sent = h.sent; left = h.left; unsure = All-push IsOfDir work.unsure (record { dir = d; child = c }) h.unsure k }) h
 
-touch_suits : (s : Store) (ts : List Touched) → NamesSuit s.names → NamesSuit (touch_all s ts).names
-touch_suits s [] h = h
-touch_suits s (t ∷ ts) h = touch_suits (touch s t.file t.key) ts h
+pub posted : (s : Store) (to : ℕ) (m : Message) (work : Work) → SuitsPost m → WorkSuits Suits work → WorkSuits Suits (post s to m work)
+posted s to m work k h = record {
+  made = h.made;
+  sent = All-push Suits work.sent (sent_to s to m) h.sent (sent_suits s to m k);
+  left = h.left;
+  unsure = h.unsure;
+}
 
-pub settled_suits : (s : Store) (work : Work) → DoneSuits (idle s work) → DoneSuits (settle s work)
-settled_suits s work h =
-    let begun = state_of s.names work in
-    let end = house work.now begun in
-    let k : StateSuits Suits end = house_suits Suits work.now begun (record { names = h.names; work = h.work }) in
-    record {
-      names = touch_suits (with_names s end.names) (drop (length work.touched) end.work.touched) k.names;
-      work = k.work;
-    }
+-- ---- what a thing takes, with what is noted of it
+
+module _ (s : Store) (work : Work) (h : DoneSuits (idle s work)) where
+  pub place_noted : (f : FileId) (p : Place) → IsOwnPlace f p → DoneSuits (take_place_noted s f p work)
+  place_noted f p k =
+      let old : Place = (own_or_blank s.names f).place in
+      let news : Bool = is_newer_place s f p in
+      record {
+        store = place_suits s h.store f p k;
+        work = news_suits news (with_left_if news work f old) f key.Place
+            (left_suits news work f old (blank_suits s.names h.store.names f).parent h.work);
+      }
+
+  pub flag_noted : (f : FileId) (g : Flag) → DoneSuits (take_flag_noted s f g work)
+  flag_noted f g = record {
+    store = flag_suits s h.store f g;
+    work = news_suits (is_newer_flag s f g) work f (key.Flag g.server) h.work;
+  }
+
+  pub entry_noted : (d : FileId) (e : Entry) → SuitsEntry e.child e → DoneSuits (take_entry_noted s d e work)
+  entry_noted d e k = record {
+    store = entry_suits s h.store d e k;
+    work = news_suits (is_any_news (entry_news s d e)) work d (key.Entry e.child) h.work;
+  }
+
+  pub entry_taken : (d : FileId) (e : Entry) (sure : Bool) → d.kind ≡ Dir → SuitsEntry e.child e → DoneSuits (take_entry_cell s d e sure work)
+  entry_taken d e sure dir k = record {
+    store = entry_suits s h.store d e k;
+    work = doubt_suits (is_place_news (entry_news s d e) && not sure) (take_entry_noted s d e work).work d e.child dir (entry_noted d e k).work;
+  }
+
+  pub version_noted : (f : FileId) (v : VersionValue) → DoneSuits (take_version_noted s f v work)
+  version_noted f v = record {
+    store = version_suits s h.store f v;
+    work = news_suits (is_new_version s f v) work f (key.Version v.head.stamp) h.work;
+  }
+
+  pub peer_linked : (f : FileId) (peer birth : ℕ) → DoneSuits (link_peer s f peer birth work)
+  peer_linked f peer birth = record {
+    store = link_suits s h.store f peer birth;
+    work = linked_suits (is_new_link s f peer birth) work f peer h.work;
+  }
+
+pub flags_noted : (s : Store) (f : FileId) (gs : List Flag) (work : Work) → DoneSuits (idle s work) → DoneSuits (take_flags_noted s f gs work)
+flags_noted s f [] work h = record { store = h.store; work = h.work }
+flags_noted s f (g ∷ gs) work h =
+    let one = flag_noted s work h f g in
+    let next = take_flag_noted s f g work in
+    flags_noted next.store f gs next.work (record { store = one.store; work = one.work })

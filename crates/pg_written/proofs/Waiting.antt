@@ -1,5 +1,5 @@
 -- What is told of any run suits: each entry, what the run waits for, and the places that are shown.
-use Rattle.std.proofs.Common.{ℕ, List, [], ◌∷◌, ◌++◌, map, refl, inl}
+use Rattle.std.proofs.Common.{ℕ, true, List, [], ◌∷◌, ◌++◌, map, refl, inl}
 use Rattle.std.proofs.lemmas.List.Elements.{All-head, All-nil}
 use Rattle.std.proofs.lemmas.Option.{none-some}
 use Rattle.pg_event.specs.declared.event.Event.{Event}
@@ -7,7 +7,7 @@ use Rattle.pg_event.specs.declared.quiet.Cause.TheVariants.{Message, Owed}
 use Rattle.pg_event.specs.declared.quiet.Owing.{Owing}
 use Rattle.pg_msg.specs.declared.message.Sent.{Sent}
 use Rattle.pg_msg.specs.Sent.{summary}
-use Rattle.pg_names.specs.Names.{new_names, hold}
+use Rattle.pg_names.specs.Names.{new_names}
 use Rattle.pg_register.specs.Place.{root}
 use Rattle.pg_store.specs.Start.{root_own}
 use Rattle.pg_run.specs.Journal.{bag}
@@ -16,8 +16,9 @@ use Rattle.pg_run.specs.Run.{World, next, run, run_from, start, world_after}
 use Rattle.pg_trace.specs.Suited.{SuitsQuiet}
 use Rattle.pg_written.specs.Laws.{AnswersSuit, EntriesSuit, PlacesSuit}
 use Rattle.pg_written.proofs.Entries.{RunSuits, step_suits}
-use Rattle.pg_written.proofs.Places.{NamesSuit, hold_suits, set_own_suits, suits_place}
-use Rattle.pg_written.proofs.Stores.{AllSuit, Suits}
+use Rattle.pg_written.proofs.Intents.{SuitsIntent}
+use Rattle.pg_written.proofs.Messages.{AllSuit, Suits}
+use Rattle.pg_written.proofs.Places.{NamesSuit, begin_suits, suits_place}
 
 -- ---- any run
 
@@ -26,8 +27,10 @@ new_suits server = λ f x h. absurd (none-some x h)
 
 start_suits : (n : ℕ) → RunSuits (start n)
 start_suits n = record {
-  names = λ server. set_own_suits (hold (new_names server) root) root (root_own n) (record { parent = refl; name = inl (refl, refl) })
-      (hold_suits (new_names server) root (new_suits server));
+  stores = λ server. record {
+    names = begin_suits (new_names server) root (root_own n) true (record { parent = refl; name = inl (refl, refl) }) (new_suits server);
+    intents = All-nil SuitsIntent;
+  };
   sent = All-nil Suits;
 }
 
@@ -58,4 +61,4 @@ answers n events = let w = run n events in first (bag w.journal) (owed_by w.stor
 -- ---- what is shown
 
 pub places : (n : ℕ) → PlacesSuit n
-places n events server f x h = suits_place f x.own.place ((run_suits n events).names server f x h).own
+places n events server f x h = suits_place f x.own.place (((run_suits n events).stores server).names f x h).own

@@ -3,7 +3,8 @@ use Rattle.pg_call.specs.declared.refusal.Refusal.TheVariants.{ClockEnd}
 use Rattle.pg_store.specs.Store.{is_in_time}
 use Rattle.pg_calls.specs.declared.denied.Denied.{Denied}
 use Rattle.pg_calls.specs.declared.paths.Paths.{Paths}
-use Rattle.pg_calls.specs.Answer.{Tells, and_then}
+use Rattle.pg_walk.specs.Walk.{and_then}
+use Rattle.pg_calls.specs.Answer.{Tells}
 use Rattle.pg_calls.specs.Checks.{in_time, move_along}
 use Rattle.pg_calls.specs.Paths.{paths_of}
 use Rattle.pg_calls.proofs.Telling.{goes_on, other_found, other_refused, stops}

@@ -1,10 +1,13 @@
-use Rattle.std.proofs.Common.{ap, Err, arith}
+use Rattle.std.proofs.Common.{Err, ap, arith, subst, sym}
 use Rattle.pg_path.specs.Path.{HasBadName}
+use Rattle.pg_calls.specs.declared.denied.Denied.{Denied}
+use Rattle.pg_calls.specs.Answer.{Tells}
+use Rattle.pg_calls.specs.Paths.{path_of}
 use Rattle.pg_calls.proofs.Components.{bad_component, bad_number, whole_path}
 use Rattle.pg_calls.proofs.paths.path_of.Goals as goal
 
-pub overflow_cast-result : goal.overflow_cast-result
-overflow_cast-result c =
+pub overflow_cast-component : goal.overflow_cast-component
+overflow_cast-component c =
     let bad : HasBadName c.args.text.now c.in-Err-BadName.component = (c.in-Err-BadName.ensures.bad c.in-Err-BadName.component).0 (ap Err c.in-Err-BadName.field-0-is) in
     let few = bad_number c.args.text.now c.in-Err-BadName.component bad in
     omega arith
@@ -16,4 +19,5 @@ returns-in-Ok c =
 pub returns-in-Err-BadName : goal.returns-in-Err-BadName
 returns-in-Err-BadName c =
     let bad : HasBadName c.args.text.now c.in-Err-BadName.component = (c.in-Err-BadName.ensures.bad c.in-Err-BadName.component).0 (ap Err c.in-Err-BadName.field-0-is) in
-    bad_component c.args.text.now c.in-Err-BadName.component bad
+    subst (λ (why : Denied). Tells (Err why) (path_of c.args.text.now)) (sym c.refused-in-Err-BadName.ensures)
+    (bad_component c.args.text.now c.in-Err-BadName.component bad)

@@ -1,7 +1,11 @@
 use Rattle.pg_gate.proofs.Begun.{gate_stands, removed_are_empty}
 use Rattle.pg_gate.proofs.Justified.{justified}
+use Rattle.pg_gate.proofs.Letters.{messages_are_mindful}
 use Rattle.pg_gate.proofs.Returned.{returns_find_new}
 use Rattle.pg_gate.proofs.laws.returns_are_justified.Goals as goal
+
+pub returns-clause-messages : goal.returns-clause-messages
+returns-clause-messages c = messages_are_mindful
 
 pub returns-clause-empty : goal.returns-clause-empty
 returns-clause-empty c = removed_are_empty

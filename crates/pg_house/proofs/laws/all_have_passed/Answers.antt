@@ -1,4 +1,4 @@
-use Rattle.pg_house.proofs.Behind as lemmas
+use Rattle.pg_house.proofs.Ends as lemmas
 use Rattle.pg_house.proofs.laws.all_have_passed.Goals as goal
 
 pub returns : goal.returns

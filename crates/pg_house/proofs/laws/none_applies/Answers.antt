@@ -1,4 +1,4 @@
-use Rattle.pg_house.proofs.Behind as lemmas
+use Rattle.pg_house.proofs.Settling as lemmas
 use Rattle.pg_house.proofs.laws.none_applies.Goals as goal
 
 pub returns : goal.returns

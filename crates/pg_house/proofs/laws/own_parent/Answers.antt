@@ -1,4 +1,4 @@
-use Rattle.pg_house.proofs.Behind as lemmas
+use Rattle.pg_house.proofs.Ends as lemmas
 use Rattle.pg_house.proofs.laws.own_parent.Goals as goal
 
 pub returns : goal.returns

@@ -1,9 +1,12 @@
-use Rattle.pg_kept.proofs.Histories.{hold_histories}
+use Rattle.pg_kept.proofs.Acknowledged.{acknowledged_are_had}
 use Rattle.pg_kept.proofs.Runs.{run_keeps}
 use Rattle.pg_kept.proofs.laws.runs_keep_edges.Goals as goal
 
 pub returns-clause-edges : goal.returns-clause-edges
-returns-clause-edges c = λ n small events. (run_keeps n (hold_histories n small) events).edges
+returns-clause-edges c = λ n on events. (run_keeps n on events).edges
 
 pub returns-clause-whole : goal.returns-clause-whole
-returns-clause-whole c = λ n small events s. (run_keeps n (hold_histories n small) events).whole s
+returns-clause-whole c = λ n on events s. (run_keeps n on events).whole s
+
+pub returns-clause-had : goal.returns-clause-had
+returns-clause-had c = acknowledged_are_had

@@ -1,6 +1,6 @@
 use Rattle.pg_cells.specs.Done.{link_of}
 use Rattle.pg_promises.proofs.Settling.{whole_settle}
-use Rattle.pg_promises.proofs.Whole.{whole_acknowledge, whole_entry, whole_flag, whole_place, whole_taken, whole_write}
+use Rattle.pg_promises.proofs.Whole.{whole_acknowledge, whole_entry, whole_flag, whole_place, whole_version, whole_write}
 use Rattle.pg_promises.proofs.laws.servers_stay_whole.Goals as goal
 
 pub returns-clause-places : goal.returns-clause-places
@@ -13,10 +13,10 @@ pub returns-clause-entries : goal.returns-clause-entries
 returns-clause-entries c = λ d e dir n s a k. whole_entry n s a k d e dir
 
 pub returns-clause-versions : goal.returns-clause-versions
-returns-clause-versions c = λ f p v n s a k. whole_taken n s a k f p v
+returns-clause-versions c = λ f v n s a k. whole_version n s a k f v
 
 pub returns-clause-writes : goal.returns-clause-writes
-returns-clause-writes c = λ f stamp ranges n s a k. whole_write n s a k f stamp ranges
+returns-clause-writes c = λ f stamp ranges n s a held k. whole_write n s a k f stamp ranges
 
 pub returns-clause-answers : goal.returns-clause-answers
 returns-clause-answers c = λ from ends q g n s a k. whole_acknowledge n s a k ends.file (link_of from ends) q g

@@ -1,4 +1,4 @@
-use Rattle.pg_quiet.proofs.Names.{quiet_back, quiet_listed, quiet_tree}
+use Rattle.pg_quiet.proofs.Servers.{quiet_back, quiet_listed, quiet_tree}
 use Rattle.pg_quiet.proofs.laws.quiet_names_form_a_tree.Goals as goal
 
 pub returns-clause-tree : goal.returns-clause-tree

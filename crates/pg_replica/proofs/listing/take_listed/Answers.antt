@@ -1,17 +1,15 @@
 use Rattle.std.proofs.Common.{ap}
-use Rattle.pg_base.proofs.Orders.{file_order_is}
 use Rattle.pg_replica.specs.declared.replica.Replica.{Replica}
 use Rattle.pg_replica.proofs.Ends.{ends_joined, ends_kept}
-use Rattle.pg_replica.proofs.Relisting.{relists_more}
+use Rattle.pg_replica.proofs.Relisting.{keys_listed, keys_same}
 use Rattle.pg_replica.proofs.listing.take_listed.Goals as goal
 
 pub returns-in_err-list_end-clause-listed : goal.returns-in_err-list_end-clause-listed
-returns-in_err-list_end-clause-listed c =
-    relists_more _ _ c.args.file _ _ _ file_order_is c.in_ok-insert.ensures.entries
+returns-in_err-list_end-clause-listed c = keys_same _ _ c.args.file _ c.in_ok-list_keys.ensures.ok
 
 pub returns-in_err-put_head-clause-listed : goal.returns-in_err-put_head-clause-listed
 returns-in_err-put_head-clause-listed c =
-    relists_more _ _ c.args.file _ _ _ file_order_is c.in_ok-insert.ensures.entries
+    keys_listed _ _ c.args.file _ _ c.in_ok-list_keys.ensures.ok c.in_err-put_head.ensures.no_edge
 
 pub returns-in_err-put_head-clause-ended : goal.returns-in_err-put_head-clause-ended
 returns-in_err-put_head-clause-ended c =
@@ -19,7 +17,7 @@ returns-in_err-put_head-clause-ended c =
 
 pub returns-clause-listed : goal.returns-clause-listed
 returns-clause-listed c =
-    relists_more _ _ c.args.file _ _ _ file_order_is c.in_ok-insert.ensures.entries
+    keys_listed _ _ c.args.file _ _ c.in_ok-list_keys.ensures.ok c.in_ok-put_head.ensures.no_edge
 
 pub returns-clause-ended : goal.returns-clause-ended
 returns-clause-ended c =

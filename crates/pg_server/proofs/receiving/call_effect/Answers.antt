@@ -1,9 +1,16 @@
-use Rattle.std.proofs.Common.{◌≤◌, ◌+◌, ◌^◌, subst, sym}
-use Rattle.pg_store.specs.declared.store.Store.{Store}
-use Rattle.pg_server.proofs.LastingCalls.{call_last}
+use Rattle.std.proofs.Common.{◌∙◌, ap}
+use Rattle.pg_server.specs.Local.{Effect}
+use Rattle.pg_server.proofs.Results.{called}
 use Rattle.pg_server.proofs.receiving.call_effect.Goals as goal
 
-pub closed-requires : goal.closed-requires
-closed-requires c =
-    subst (λ (s : Store). s.names.last ≤ 2 ^ 62 + 2 ^ 40) (sym c.in_ok-reply.ensures.store)
-    (call_last c.args.store.now c.args.call.now c.new-work.result (sym c.if-goes.ensures))
+pub returns-in_ok-closed-clause-store : goal.returns-in_ok-closed-clause-store
+returns-in_ok-closed-clause-store c =
+    c.in_ok-closed.ensures.store ∙ ap (λ (e : Effect). e.store)
+    (called c.args.store.now c.args.moment c.args.call.now c.new-work.result c.is_in_time-goes.result c.in_ok-reply.reply c.do_call.new.store c.do_call.new.work
+    c.new-work.ensures c.is_in_time-goes.ensures c.if-goes.true c.in_ok-reply.ensures.reply c.in_ok-reply.ensures.store c.in_ok-reply.ensures.work)
+
+pub returns-in_ok-closed-clause-out : goal.returns-in_ok-closed-clause-out
+returns-in_ok-closed-clause-out c =
+    c.in_ok-closed.ensures.out ∙ ap (λ (e : Effect). e.out)
+    (called c.args.store.now c.args.moment c.args.call.now c.new-work.result c.is_in_time-goes.result c.in_ok-reply.reply c.do_call.new.store c.do_call.new.work
+    c.new-work.ensures c.is_in_time-goes.ensures c.if-goes.true c.in_ok-reply.ensures.reply c.in_ok-reply.ensures.store c.in_ok-reply.ensures.work)

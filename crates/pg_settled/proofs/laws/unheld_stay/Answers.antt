@@ -1,11 +1,8 @@
-use Rattle.pg_settled.proofs.Given.{unheld_stay_rules, unheld_stay_house, unheld_stay_none}
+use Rattle.pg_settled.proofs.Given as lemmas
 use Rattle.pg_settled.proofs.laws.unheld_stay.Goals as goal
 
-pub returns-clause-rules : goal.returns-clause-rules
-returns-clause-rules c = unheld_stay_rules
-
-pub returns-clause-house : goal.returns-clause-house
-returns-clause-house c = unheld_stay_house
+pub returns-clause-stay : goal.returns-clause-stay
+returns-clause-stay c = lemmas.unheld_stay
 
 pub returns-clause-none : goal.returns-clause-none
-returns-clause-none c = unheld_stay_none
+returns-clause-none c = lemmas.nothing_begins

@@ -5,7 +5,7 @@ use Rattle.pg_trace.specs.Suited.{IsSuited}
 use Rattle.pg_trace.specs.Text.{entry_lines}
 use Rattle.pg_world.specs.Played.{final}
 use Rattle.pg_run.specs.Run.{start}
-use Rattle.pg_world.proofs.Standing.{run_from-push}
+use Rattle.pg_run.proofs.Frame.{run_more}
 use Rattle.pangaea.proofs.journal.Replay.happen.Goals as goal
 
 pub returns-in_ok-write_entry-in-Ok : goal.returns-in_ok-write_entry-in-Ok
@@ -16,7 +16,7 @@ returns-in_ok-write_entry-in-Ok c =
     let is = c.in-Ok.ensures.entry in
     let suits = c.entries_suit.ensures.entries p.servers p.events c.args.event c.requires in
     record {
-      world = ap final c.in-Ok.ensures.state ∙ run_from-push p.servers (start p.servers) p.events c.args.event;
+      world = ap final c.in-Ok.ensures.state ∙ run_more p.servers (start p.servers) p.events c.args.event;
       going = search rules;
       servers = search rules;
       number = search rules;

@@ -1,22 +1,21 @@
-use Rattle.std.proofs.Common.{refl, ◌∙◌, ◌≡◌, sym, subst}
+use Rattle.std.proofs.Common.{refl, ◌≡◌, ◌∙◌, sym, subst}
 use Rattle.pg_base.specs.Id.{file_cmp}
 use Rattle.pg_replica.specs.InOrder.{in_order}
 use Rattle.pg_replica.proofs.InOrder.{lookup-in_order, in_order-same, in_order-set}
+use Rattle.pg_replica.specs.declared.replica.Replica.{Replica}
 use Rattle.pg_replica.specs.Replicas.{ByFile, replica_in, replicas_acked}
 use Rattle.pg_replica.proofs.Relisting.{index_there}
-use Rattle.pg_replica.proofs.Takings.{acked_nowhere, acked_there}
+use Rattle.pg_replica.proofs.Takings.{acked_there, made_nowhere}
 use Rattle.pg_replica.proofs.replicas.Replicas.acknowledge.Goals as goal
 
 pub invariant_of-self-2 : goal.invariant_of-self-2
 invariant_of-self-2 c =
     let w = c.acknowledge_listed.new.replica in
+    let found = lookup-in_order c.args.file c.self.inside.by_file.entries ∙ sym c.in-Some.ensures.value in
+    let set = in_order-set c.self.inside.by_file (c.get_mut.follows.lender w) c.args.file _ w (sym c.in-Some.ensures.value) (c.get_mut.follows.holds w).3 in
     record {
-      unacknowledged =
-          index_there (in_order c.self.inside.by_file.entries) c.self.invariant.unacknowledged c.acknowledge_listed.ensures.listed file_cmp refl _
-          (lookup-in_order c.args.file c.self.inside.by_file.entries ∙ sym c.in-Some.ensures.value) (in_order-set c.self.inside.by_file (c.get_mut.follows.lender w) c.args.file _ w (sym c.in-Some.ensures.value) (c.get_mut.follows.holds w).3);
-      ended =
-          index_there (in_order c.self.inside.by_file.entries) c.self.invariant.ended c.acknowledge_listed.ensures.ended file_cmp refl _
-          (lookup-in_order c.args.file c.self.inside.by_file.entries ∙ sym c.in-Some.ensures.value) (in_order-set c.self.inside.by_file (c.get_mut.follows.lender w) c.args.file _ w (sym c.in-Some.ensures.value) (c.get_mut.follows.holds w).3);
+      unacknowledged = index_there (in_order c.self.inside.by_file.entries) c.self.invariant.unacknowledged c.acknowledge_listed.ensures.listed file_cmp refl _ found set;
+      ended = index_there (in_order c.self.inside.by_file.entries) c.self.invariant.ended c.acknowledge_listed.ensures.ended file_cmp refl _ found set;
     }
 
 pub returns : goal.returns
@@ -24,19 +23,17 @@ returns c =
     let es = in_order c.self.inside.by_file.entries in
     let w = c.acknowledge_listed.new.replica in
     let ds = in_order (c.get_mut.follows.lender w).entries in
-    let P : ByFile → Type 0 =
-    (λ rs. ds ≡ replicas_acked rs c.args.file c.args.link.now c.args.key c.args.tag (replica_in rs c.args.file)) in
+    let found = lookup-in_order c.args.file c.self.inside.by_file.entries ∙ sym c.in-Some.ensures.value in
+    let set = in_order-set c.self.inside.by_file (c.get_mut.follows.lender w) c.args.file _ w (sym c.in-Some.ensures.value) (c.get_mut.follows.holds w).3 in
+    let P : ByFile → Type 0 = λ rs. ds ≡ replicas_acked rs c.args.file c.args.link.now c.args.key c.args.tag (replica_in rs c.args.file) in
     subst P c.self.view_is
-    (acked_there file_cmp refl es ds c.args.file c.in-Some.replica.now w c.args.link.now c.args.key c.args.tag
-    c.self.invariant.unacknowledged.by_file (lookup-in_order c.args.file c.self.inside.by_file.entries ∙ sym c.in-Some.ensures.value) (in_order-set c.self.inside.by_file (c.get_mut.follows.lender w) c.args.file _ w (sym c.in-Some.ensures.value) (c.get_mut.follows.holds w).3) c.acknowledge_listed.ensures.replica)
+    (acked_there es ds c.args.file c.in-Some.replica.now w c.self.invariant.unacknowledged.by_file found set c.args.link.now c.args.key c.args.tag c.acknowledge_listed.ensures.replica)
 
 pub returns-in_default : goal.returns-in_default
 returns-in_default c =
     let es = in_order c.self.inside.by_file.entries in
     let ds = in_order c.get_mut.follows.lender-at-none.entries in
-    let P : ByFile → Type 0 =
-    (λ rs. ds ≡ replicas_acked rs c.args.file c.args.link.now c.args.key c.args.tag (replica_in rs c.args.file)) in
-    subst P c.self.view_is
-    (acked_nowhere es ds c.args.file c.args.link.now c.args.key c.args.tag
-    (lookup-in_order c.args.file c.self.inside.by_file.entries ∙ sym c.in_default.ensures.value)
-    (in_order-same _ _ c.get_mut.follows.holds-at-none))
+    let gap = lookup-in_order c.args.file c.self.inside.by_file.entries ∙ sym c.in_default.ensures.value in
+    let same = in_order-same _ _ c.get_mut.follows.holds-at-none in
+    let P : ByFile → Type 0 = λ rs. ds ≡ replicas_acked rs c.args.file c.args.link.now c.args.key c.args.tag (replica_in rs c.args.file) in
+    subst P c.self.view_is (made_nowhere es ds c.args.file gap same (λ o. replicas_acked es c.args.file c.args.link.now c.args.key c.args.tag o) refl)

@@ -1,15 +1,20 @@
-use Rattle.std.proofs.Common.{◌∙◌, sym}
-use Rattle.pg_store.proofs.Linked.{finds_edge}
+use Rattle.std.proofs.Common.{◌≡◌, sym, ap, ◌∙◌, rules}
+use Rattle.pg_names.specs.Names.{NamesValue, raise}
+use Rattle.pg_store.specs.declared.store.Store.{Store}
+use Rattle.pg_store.specs.Store.{is_new_version}
+use Rattle.pg_store.proofs.Old.{left_if, raised_if, raised_to}
 use Rattle.pg_store.proofs.store.Store.take_version.Goals as goal
 
-pub returns-in-NoEdge-clause-store : goal.returns-in-NoEdge-clause-store
-returns-in-NoEdge-clause-store c =
-    absurd (finds_edge c.args.self.now c.set_policy.new.self c.hold.new.self c.home-home.result c.args.file c.args.policy c.args.link.now c.args.version
-    c.in_ok-hold.ensures c.in_ok-set_policy.ensures c.home-home.ensures c.requires.linked
-    (sym c.in-NoEdge.is ∙ c.in_ok-take_version.ensures.taking))
+pub returns-then-news-clause-store : goal.returns-then-news-clause-store
+returns-then-news-clause-store c =
+    let a = c.args.self.now in
+    let raised : c.raise.new.self ≡ raise a.names c.args.version.head.stamp.time = search rules in
+    ap (λ (names : NamesValue). raised_to a c.take_version.new.tags c.take_version.new.self names) raised
+    ∙ raised_if a _ _ _ _ (raise a.names c.args.version.head.stamp.time) (is_new_version a c.args.file c.args.version)
+    (sym c.in_ok-news.ensures.news ∙ c.if-news.true) c.in_ok-news.ensures.tags c.in_ok-news.ensures.replicas
 
-pub returns-in-NoEdge-clause-news : goal.returns-in-NoEdge-clause-news
-returns-in-NoEdge-clause-news c =
-    absurd (finds_edge c.args.self.now c.set_policy.new.self c.hold.new.self c.home-home.result c.args.file c.args.policy c.args.link.now c.args.version
-    c.in_ok-hold.ensures c.in_ok-set_policy.ensures c.home-home.ensures c.requires.linked
-    (sym c.in-NoEdge.is ∙ c.in_ok-take_version.ensures.taking))
+pub returns-else-news-clause-store : goal.returns-else-news-clause-store
+returns-else-news-clause-store c =
+    let a = c.args.self.now in
+    left_if a _ _ _ _ _ (is_new_version a c.args.file c.args.version) (sym c.in_ok-news.ensures.news ∙ c.if-news.false)
+    c.in_ok-news.ensures.tags c.in_ok-news.ensures.replicas

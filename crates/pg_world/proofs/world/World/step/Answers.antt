@@ -1,7 +1,7 @@
 use Rattle.std.proofs.Common.{sym, ap, subst, ◌∙◌}
 use Rattle.pg_run.specs.Run.{World, next, world_after, run, run_from, start}
 use Rattle.pg_world.specs.Stands.{Stands}
-use Rattle.pg_world.proofs.Standing.{run_from-push}
+use Rattle.pg_run.proofs.Frame.{run_more}
 use Rattle.pg_world.proofs.world.World.step.Goals as goal
 
 pub invariant_of-self-2 : goal.invariant_of-self-2
@@ -14,6 +14,6 @@ invariant_of-self-2 c =
       few = c.self.invariant.few;
       count = λ e. c.in_ok-entry.ensures.count ∙ count;
       stands = λ e. subst P
-          (ap (λ k. world_after w (next k w c.args.event)) count ∙ sym (run_from-push n (start n) c.self.inside.events c.args.event) ∙ ap (run_from n (start n)) (sym c.in_ok-push.ensures))
+          (ap (λ k. world_after w (next k w c.args.event)) count ∙ sym (run_more n (start n) c.self.inside.events c.args.event) ∙ ap (run_from n (start n)) (sym c.in_ok-push.ensures))
           (c.in_ok-entry.ensures.state w (c.self.invariant.stands c.if-self.false));
     }

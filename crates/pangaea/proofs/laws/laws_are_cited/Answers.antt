@@ -1,0 +1,68 @@
+use Rattle.pangaea.proofs.laws.laws_are_cited.Goals as goal
+
+pub returns : goal.returns
+returns c = λ n. record {
+  order = record {
+    order = c.house_is_in_order.ensures n;
+    whole = c.servers_are_whole.ensures.whole n;
+    first = c.servers_are_whole.ensures.first n;
+    by_id = c.servers_are_whole.ensures.order n;
+    named = c.all_is_named.ensures.named n;
+    placed = c.all_is_named.ensures.placed n;
+    distinct = c.all_is_named.ensures.distinct n;
+    told = c.all_is_named.ensures.told n;
+    births = c.what_begins_is_new.ensures.births n;
+    ids = c.what_begins_is_new.ensures.ids n;
+    away = c.what_begins_is_new.ensures.away n;
+  };
+  intents = record {
+    order = c.intentions_are_in_order.ensures n;
+    still = c.nothing_is_left_to_do.ensures.still n;
+    asked = c.nothing_is_left_to_do.ensures.asked n;
+  };
+  contents = record {
+    held = c.contents_are_states.ensures n;
+    heads = c.states_are_heads.ensures.heads n;
+    determined = c.states_are_heads.ensures.determined n;
+    made = c.runs_make_histories.ensures.histories n;
+    one = c.runs_make_histories.ensures.one n;
+    ancestry = c.runs_make_histories.ensures.ancestry n;
+    carried = c.runs_make_histories.ensures.carried n;
+    clock = c.clocks_end_first.ensures n;
+  };
+  edges = record {
+    whole = c.runs_keep_edges.ensures.whole n;
+    had = c.runs_keep_edges.ensures.had n;
+    runs = c.runs_grow.ensures.runs n;
+    grow = c.runs_grow.ensures.events n;
+    placed = c.full_replicas_have_places.ensures.placed n;
+    alone = c.births_are_alone.ensures.alone n;
+    of_one = c.births_are_alone.ensures.apart n;
+    greater = c.edges_follow_births.ensures.greater n;
+    linked = c.edges_follow_births.ensures.sender n;
+    known = c.births_are_known.ensures n;
+  };
+  flags = record {
+    own = c.flags_are_own.ensures.own n;
+    known = c.flags_are_own.ensures.known n;
+    first = c.flags_are_own.ensures.first n;
+  };
+  names = record {
+    one_place = c.one_place_a_stamp.ensures n;
+    made = c.places_were_made.ensures.made n;
+    own = c.places_were_made.ensures.own n;
+    known = c.what_is_carried_is_known.ensures n;
+    merge = c.names_are_what_was_taken.ensures n;
+    justified = c.returns_are_justified.ensures.justified n;
+    owed = c.ticks_send_what_is_owed.ensures n;
+    lost = c.restarts_lose_wishes.ensures n;
+    listed = c.listings_are_kept.ensures n;
+  };
+  quiet = record {
+    joined = c.quiet_servers_agree.ensures.joined n;
+    agree = c.quiet_servers_agree.ensures.connected n;
+    tree = c.quiet_names_form_a_tree.ensures.tree n;
+    only = c.quiet_names_form_a_tree.ensures.listed n;
+    back = c.quiet_names_form_a_tree.ensures.returned n;
+  };
+}

@@ -1,0 +1,200 @@
+-- What each event does to the births and edges of the server that takes an input.
+use Rattle.std.proofs.Common.{ℕ, ◌≡◌, Bool, true, false, cond, not, List, Option, None, Some, is_some, refl, sym, ap, subst, ◌∙◌}
+use Rattle.std.specs.Option.{option_map}
+use Rattle.std.proofs.lemmas.Bool.{and_parts, false≢true}
+use Rattle.pg_base.specs.declared.id.FileId.{FileId}
+use Rattle.pg_base.specs.declared.id.Kind.{Kind}
+use Rattle.pg_call.specs.declared.reply.Reply.{Reply}
+use Rattle.pg_entries.specs.declared.cell.Cell.{Cell}
+use Rattle.pg_msg.specs.declared.message.Ends.{Ends}
+use Rattle.pg_msg.specs.declared.message.Granted.{Granted}
+use Rattle.pg_msg.specs.declared.message.Message.{Message}
+use Rattle.pg_msg.specs.declared.message.Message.TheVariants as message
+use Rattle.pg_msg.specs.declared.message.Packet.{Packet}
+use Rattle.pg_msg.specs.declared.work.Work.{Work}
+use Rattle.pg_msg.specs.Work.{new_work}
+use Rattle.pg_replica.specs.declared.replica.Replica.{Replica}
+use Rattle.pg_replica.specs.Replicas.{ByFile, is_of_birth, replica_in}
+use Rattle.pg_store.specs.declared.store.Store.{Store}
+use Rattle.pg_store.specs.Births.{has_birth, is_pending}
+use Rattle.pg_store.specs.Links.{knows_later, link}
+use Rattle.pg_store.specs.Store.{is_held, replica_at}
+use Rattle.pg_store.proofs.Aiming.{unwished_as_before}
+use Rattle.pg_store.proofs.Given.{pending_may}
+use Rattle.pg_cells.specs.declared.accepting.Manner.TheVariants as manner
+use Rattle.pg_cells.specs.Accepting.{accept, is_accepted, is_current, link_peer, with_gone}
+use Rattle.pg_cells.specs.Cells.{cell, fits, taken_along}
+use Rattle.pg_cells.specs.Done.{Done, idle}
+use Rattle.pg_repair.specs.Granting.{begin_granted, grant}
+use Rattle.pg_repair.proofs.Steady.{begin_end_stays}
+use Rattle.pg_server.specs.declared.input.Input.{Input}
+use Rattle.pg_server.specs.declared.input.Input.TheVariants as input
+use Rattle.pg_server.specs.Local.{Effect, closed, effect, finished, first_effect, intended, is_heard, receive, reply_to, settled, takes_effect, without_wishes}
+use Rattle.pg_promises.proofs.Choices.{chosen}
+use Rattle.pg_run.specs.Births.{linking}
+use Rattle.pg_run.specs.Intending.{FillsStand}
+use Rattle.pg_calls.specs.Naming.{next_id}
+use Rattle.pg_births.specs.Premises.{IsFree}
+use Rattle.pg_births.proofs.Calls.{call_moves}
+use Rattle.pg_births.proofs.Ends.{born_to}
+use Rattle.pg_births.proofs.Handlers.{received_moves, taken_stays}
+use Rattle.pg_births.proofs.Has.{IsAlone, before_goes}
+use Rattle.pg_births.proofs.Intends.{begin_end_goes}
+use Rattle.pg_births.proofs.Moving.{Moves, goes_moves, linked_there, moves_goes, moves_itself, moves_stay}
+use Rattle.pg_births.proofs.Pieces.{settle_stays, shape, shape_at}
+
+-- ---- the end of an event
+
+pub intended_shapes : (d : Done) (q : FileId) → shape_at (intended d).store q ≡ shape_at d.store q
+intended_shapes d q =
+    ap (λ (rs : ByFile). option_map shape (replica_in rs q)) (begin_end_stays d.store d.work).replicas
+
+pub closed_moves : (a : Store) (r : Option Reply) (d : Done) → Moves a d.store → Moves a (closed r d).store
+closed_moves a r d m =
+    let s = settled d in
+    moves_goes (moves_stay m (settle_stays d.store d.work)) (begin_end_goes s.store s.work) (intended_shapes s)
+
+module _ (a : Store) (fills : FillsStand a) (free : (kind : Kind) → IsFree a (next_id a kind)) where
+  pub first_moves : (asked : Input) → Moves a (first_effect a asked).store
+  first_moves (input.Call moment c) = call_moves a fills free (new_work moment 0) c
+  first_moves (input.Tick moment word) = moves_itself a
+  first_moves (input.Arrival packet) =
+      chosen (λ (d : Done). Moves a d.store) (is_heard a packet) (receive a packet.message (new_work 0 packet.from))
+      (idle a (new_work 0 packet.from)) (received_moves a packet.message (new_work 0 packet.from)) (moves_itself a)
+  first_moves input.Restart = goes_moves (before_goes a (without_wishes a) (unwished_as_before a)) (λ q. refl)
+
+  -- ANY INPUT
+  pub effect_moves : (asked : Input) → Moves a (effect a asked).store
+  effect_moves asked =
+      let d = first_effect a asked in
+      chosen (λ (e : Effect). Moves a e.store) (takes_effect a asked) (closed (reply_to a asked) d) (finished (reply_to a asked) d)
+      (closed_moves a (reply_to a asked) d (first_moves asked)) (first_moves asked)
+
+-- ---- who accepts a message that links its sender lists it
+
+-- the thing is held, and lists this birth of the peer
+abbrev pub Lists : Store → FileId → ℕ → ℕ → Type 0
+Lists a file peer birth = (n : ℕ) × (fs : List (ℕ × ℕ)) × (shape_at a file ≡ Some (n, fs)) × (born_to fs peer ≡ Some birth)
+
+pub lists_on : (a b : Store) (file : FileId) (peer birth : ℕ) → shape_at b file ≡ shape_at a file → Lists a file peer birth → Lists b file peer birth
+lists_on a b file peer birth same l = (l.0, l.1, same ∙ l.2, l.3)
+
+of_birth : (o : Option Replica) (n : ℕ) → is_of_birth o n ≡ true → (x : Replica) × (o ≡ Some x)
+of_birth None n e = cc
+of_birth (Some x) n e = (x, refl)
+
+not_true : (t : Bool) → not t ≡ true → t ≡ false
+not_true true h = cc
+not_true false h = refl
+
+module _ (a : Store) (ends : Ends) (work : Work) (current : is_current a work.from ends ≡ true) where
+  abbrev Named : Store → Type 0
+  Named b = Lists b ends.file work.from ends.sender
+
+  born_here : has_birth a ends.file ends.receiver ≡ true
+  born_here = (and_parts (has_birth a ends.file ends.receiver) _ current).0
+
+  not_later : knows_later a ends.file work.from ends.sender ≡ false
+  not_later = not_true (knows_later a ends.file work.from ends.sender) (and_parts (has_birth a ends.file ends.receiver) _ current).1
+
+  link_listed : Named (link a ends.file work.from ends.sender)
+  link_listed =
+      let x = of_birth (replica_at a ends.file) ends.receiver born_here in
+      let l = linked_there a ends.file work.from ends.sender x.0 x.1 not_later in
+      (x.0.birth, l.0, l.1, l.2)
+
+  met_by : (born later : Bool) (d old gone : Done) → born ≡ true → later ≡ false → Named d.store
+      → Named (cond born (cond later old d) gone).store
+  met_by true false d old gone b l k = k
+  met_by true true d old gone b l k = absurd (false≢true (sym l))
+  met_by false later d old gone b l k = absurd (false≢true b)
+
+  accept_listed : Named (accept a ends manner.Link work).store
+  accept_listed =
+      met_by (has_birth a ends.file ends.receiver) (knows_later a ends.file work.from ends.sender)
+      (link_peer a ends.file work.from ends.sender work) (idle a work) (idle a (with_gone a ends manner.Link work))
+      born_here not_later link_listed
+
+  fitting : (t : Bool) (d e : Done) → t ≡ true → Named d.store → Named (cond t d e).store
+  fitting true d e is k = k
+  fitting false d e is k = absurd (false≢true is)
+
+  pub cell_listed : (tag : ℕ) (c : Cell) → fits ends.file c ≡ true → Named (cell a ends tag c work).store
+  cell_listed tag c fit =
+      let met = accept a ends manner.Link work in
+      fitting (fits ends.file c) (cond (is_accepted a work.from manner.Link ends) (taken_along ends tag c met) met) (idle a work) fit
+      (chosen (λ (d : Done). Named d.store) (is_accepted a work.from manner.Link ends) (taken_along ends tag c met) met
+      (lists_on met.store (taken_along ends tag c met).store ends.file work.from ends.sender
+      ((taken_stays a met.store ends.file c met.work).shapes ends.file) accept_listed)
+      accept_listed)
+
+  held_here : IsAlone a → is_held a ends.file ≡ true
+  held_here k =
+      let x = of_birth (replica_at a ends.file) ends.receiver born_here in
+      sym (k.together ends.file) ∙ ap (λ (o : Option Replica). is_some o) x.1
+
+  granting : (t : Bool) (d e : Done) → t ≡ false → Named e.store → Named (cond t d e).store
+  granting true d e is k = absurd (false≢true (sym is))
+  granting false d e is k = k
+
+  unpending : IsAlone a → (t : Bool) → is_pending a ends.file ends.receiver ≡ t → t ≡ false
+  unpending k true is = absurd (false≢true (sym (pending_may a ends.file ends.receiver k.births is).away ∙ held_here k))
+  unpending k false is = refl
+
+  pub grant_listed : IsAlone a → (g : Granted) → Named (grant a ends g work).store
+  grant_listed k g =
+      granting (is_pending a ends.file ends.receiver) (begin_granted a ends g work) (accept a ends manner.Link work)
+      (unpending k (is_pending a ends.file ends.receiver) refl) accept_listed
+
+module _ (a : Store) (k : IsAlone a) (work : Work) (ends : Ends) (current : is_current a work.from ends ≡ true) where
+  same_ends : (x y : Ends) → ◌≡◌ {A = Option Ends} (Some x) (Some y) → x ≡ y
+  same_ends x y e = cc
+
+  abbrev After : Store → Ends → Type 0
+  After b z = Lists b z.file work.from z.sender
+
+  no_ends : ◌≡◌ {A = Option Ends} None (Some ends) → (b : Store) → After b ends
+  no_ends e b = cc
+
+  cell_by : (x : Ends) (tag : ℕ) (c : Cell) (t : Bool) → fits x.file c ≡ t → cond t (Some x) None ≡ Some ends
+      → After (cell a x tag c work).store ends
+  cell_by x tag c true fit e =
+      let P : Ends → Type 0 = λ z. is_current a work.from z ≡ true → After (cell a x tag c work).store z in
+      subst P (same_ends x ends e) (λ cur. cell_listed a x work cur tag c fit) current
+  cell_by x tag c false fit e = no_ends e (cell a x tag c work).store
+
+  grant_by : (x : Ends) (g : Granted) → ◌≡◌ {A = Option Ends} (Some x) (Some ends) → After (grant a x g work).store ends
+  grant_by x g e =
+      let P : Ends → Type 0 = λ z. is_current a work.from z ≡ true → After (grant a x g work).store z in
+      subst P (same_ends x ends e) (λ cur. grant_listed a x work cur k g) current
+
+  pub received_lists : (m : Message) → linking m ≡ Some ends → After (receive a m work).store ends
+  received_lists (message.Cell x tag c) e = cell_by x tag c (fits x.file c) refl e
+  received_lists (message.Grant x g) e = grant_by x g e
+  received_lists m e = no_ends e (receive a m work).store
+
+-- behind the whole event
+module _ (a : Store) (k : IsAlone a) (packet : Packet) (ends : Ends) (heard : is_heard a packet ≡ true)
+    (links : linking packet.message ≡ Some ends) (current : is_current a packet.from ends ≡ true) where
+  abbrev Work0 : Work
+  Work0 = new_work 0 packet.from
+
+  abbrev Here : Store → Type 0
+  Here b = Lists b ends.file packet.from ends.sender
+
+  choose : {A : Type 0} (P : A → Type 0) (t : Bool) (x y : A) → t ≡ true → P x → P (cond t x y)
+  choose P true x y is here = here
+  choose P false x y is here = absurd (false≢true is)
+
+  first_lists : Here (first_effect a (input.Arrival packet)).store
+  first_lists =
+      choose (λ (d : Done). Here d.store) (is_heard a packet) (receive a packet.message Work0) (idle a Work0) heard
+      (received_lists a k Work0 ends current packet.message links)
+
+  pub arrival_lists : Here (effect a (input.Arrival packet)).store
+  arrival_lists =
+      let d = first_effect a (input.Arrival packet) in
+      let s = settled d in
+      choose (λ (e : Effect). Here e.store) (is_heard a packet) (closed None d) (finished None d) heard
+      (lists_on s.store (intended s).store ends.file packet.from ends.sender (intended_shapes s ends.file)
+      (lists_on d.store s.store ends.file packet.from ends.sender ((settle_stays d.store d.work).shapes ends.file) first_lists))

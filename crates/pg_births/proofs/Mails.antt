@@ -1,0 +1,127 @@
+-- What is said of a message that is sent, and what changes of a work send nothing.
+use Rattle.std.proofs.Common.{ℕ, ◌≡◌, ◌&&◌, Bool, true, false, cond, not, Option, None, Some, refl, subst, ◌∙◌}
+use Rattle.pg_base.specs.declared.id.FileId.{FileId}
+use Rattle.pg_edges.specs.declared.key.Key.{Key}
+use Rattle.pg_msg.specs.declared.message.Ends.{Ends}
+use Rattle.pg_msg.specs.declared.message.Message.{Message}
+use Rattle.pg_msg.specs.declared.message.Message.TheVariants as message
+use Rattle.pg_msg.specs.declared.message.Sent.{Sent}
+use Rattle.pg_msg.specs.declared.work.Work.{Work}
+use Rattle.pg_msg.specs.Work.{with_left, with_linked, with_touched, with_unsure}
+use Rattle.pg_register.specs.declared.flag.Flag.{Flag}
+use Rattle.pg_register.specs.declared.place.Place.{Place}
+use Rattle.pg_house.specs.Work.{is_root, note_left}
+use Rattle.pg_cells.specs.Accepting.{with_link}
+use Rattle.pg_cells.specs.Taking.{with_doubt, with_left_if, with_news}
+use Rattle.pg_run.specs.Births.{AllNamed}
+use Rattle.pg_births.specs.Flags.{SaysMessage}
+
+-- a flag of a birth of which this holds
+abbrev pub OfBirths : (FileId → ℕ → ℕ → Type 0) → FileId → Flag → Type 0
+OfBirths P f flag = P f flag.server flag.birth
+
+-- of births that are gone this is said, and of flags what was said before
+abbrev pub SaysAll : (FileId → Flag → Type 0) → (FileId → ℕ → Type 0) → Message → Type 0
+SaysAll Q G (message.Gone file birth) = G file birth
+SaysAll Q G m = SaysMessage Q m
+
+-- a message that was sent by server s
+abbrev pub SaysSent : (FileId → ℕ → ℕ → Type 0) → (FileId → Flag → Type 0) → (FileId → ℕ → Type 0) → ℕ → Sent → Type 0
+SaysSent P Q G s m = AllNamed P s m.to m.packet.message × (SaysAll Q G m.packet.message × (m.packet.from ≡ s))
+
+-- whom a message links, that may be answered that a replica is gone
+abbrev pub linking_to : Message → Option Ends
+linking_to (message.Cell ends tag c) = Some ends
+linking_to (message.Grant ends granted) = Some ends
+linking_to _ = None
+
+-- so all is said that is said of flags
+pub says_of : (Q : FileId → Flag → Type 0) (G : FileId → ℕ → Type 0) (m : Message) → SaysAll Q G m → SaysMessage Q m
+says_of Q G (message.Cell ends tag c) says = says
+says_of Q G (message.Ack ends q tag) says = says
+says_of Q G (message.Harbinger ends tag head) says = says
+says_of Q G (message.Want ends wanted) says = says
+says_of Q G (message.Delta ends delta) says = says
+says_of Q G (message.Piece ends piece) says = says
+says_of Q G (message.Later ends stamp) says = says
+says_of Q G (message.Fetch file birth) says = says
+says_of Q G (message.Grant ends g) says = says
+says_of Q G (message.NoGrant file birth) says = says
+says_of Q G (message.Full ends) says = says
+says_of Q G (message.Seek file birth) says = says
+says_of Q G (message.Here ends) says = says
+says_of Q G (message.NoneHere what file child) says = says
+says_of Q G (message.Gone file birth) says = tt
+says_of Q G (message.Bye ends) says = says
+says_of Q G (message.ByeOk file birth) says = says
+says_of Q G (message.Confirm dir e) says = says
+says_of Q G (message.PlaceIs dir e) says = says
+says_of Q G (message.Tell dir e) says = says
+says_of Q G (message.TellOk dir child stamp) says = says
+says_of Q G (message.Leave ends stamp) says = says
+says_of Q G (message.LeaveOk ends stamp) says = says
+says_of Q G (message.Invite ends) says = says
+says_of Q G (message.Walk ends origin birth hops word) says = says
+says_of Q G (message.Meet ends) says = says
+
+-- and of these the birth of the receiver is named
+pub named_by : (P : FileId → ℕ → ℕ → Type 0) (m : Message) (from to : ℕ) → AllNamed P from to m → (ends : Ends) → linking_to m ≡ Some ends
+    → P ends.file to ends.receiver
+named_by P (message.Cell x tag c) from to named ends links = subst (λ (z : Ends). P z.file to z.receiver) (let same : x ≡ ends = cc in same) named.1
+named_by P (message.Ack x q tag) from to named ends links = cc
+named_by P (message.Harbinger x tag head) from to named ends links = cc
+named_by P (message.Want x wanted) from to named ends links = cc
+named_by P (message.Delta x delta) from to named ends links = cc
+named_by P (message.Piece x piece) from to named ends links = cc
+named_by P (message.Later x stamp) from to named ends links = cc
+named_by P (message.Fetch file birth) from to named ends links = cc
+named_by P (message.Grant x g) from to named ends links = subst (λ (z : Ends). P z.file to z.receiver) (let same : x ≡ ends = cc in same) named.1
+named_by P (message.NoGrant file birth) from to named ends links = cc
+named_by P (message.Full x) from to named ends links = cc
+named_by P (message.Seek file birth) from to named ends links = cc
+named_by P (message.Here x) from to named ends links = cc
+named_by P (message.NoneHere what file child) from to named ends links = cc
+named_by P (message.Gone file birth) from to named ends links = cc
+named_by P (message.Bye x) from to named ends links = cc
+named_by P (message.ByeOk file birth) from to named ends links = cc
+named_by P (message.Confirm dir e) from to named ends links = cc
+named_by P (message.PlaceIs dir e) from to named ends links = cc
+named_by P (message.Tell dir e) from to named ends links = cc
+named_by P (message.TellOk dir child stamp) from to named ends links = cc
+named_by P (message.Leave x stamp) from to named ends links = cc
+named_by P (message.LeaveOk x stamp) from to named ends links = cc
+named_by P (message.Invite x) from to named ends links = cc
+named_by P (message.Walk x origin birth hops word) from to named ends links = cc
+named_by P (message.Meet x) from to named ends links = cc
+
+-- ---- a work that sends nothing more
+
+pub record SameMail (w v : Work) : Type 0 where
+  pub sent : v.sent ≡ w.sent
+  pub asker : v.from ≡ w.from
+
+pub same_mail : (w : Work) → SameMail w w
+same_mail w = record { sent = refl; asker = refl }
+
+pub either_mail : (w x y : Work) (t : Bool) → SameMail w x → SameMail w y → SameMail w (cond t x y)
+either_mail w x y true one two = one
+either_mail w x y false one two = two
+
+pub then_mail : (w x y : Work) → SameMail w x → SameMail x y → SameMail w y
+then_mail w x y one two = record { sent = two.sent ∙ one.sent; asker = two.asker ∙ one.asker }
+
+pub news_mail : (t : Bool) (w : Work) (f : FileId) (q : Key) → SameMail w (with_news t w f q)
+news_mail t w f q = either_mail w (with_touched w f q) w t (record { sent = refl; asker = refl }) (same_mail w)
+
+pub note_mail : (w : Work) (f : FileId) (old : Place) → SameMail w (note_left w f old)
+note_mail w f old =
+    either_mail w (with_left w old.parent f) w (old.live && not (is_root f)) (record { sent = refl; asker = refl }) (same_mail w)
+
+pub left_mail : (t : Bool) (w : Work) (f : FileId) (old : Place) → SameMail w (with_left_if t w f old)
+left_mail t w f old = either_mail w (note_left w f old) w t (note_mail w f old) (same_mail w)
+
+pub link_mail : (t : Bool) (w : Work) (f : FileId) (p : ℕ) → SameMail w (with_link t w f p)
+link_mail t w f p = either_mail w (with_linked w f p) w t (record { sent = refl; asker = refl }) (same_mail w)
+
+pub doubt_mail : (t : Bool) (w : Work) (d c : FileId) → SameMail w (with_doubt t w d c)
+doubt_mail t w d c = either_mail w (with_unsure w d c) w t (record { sent = refl; asker = refl }) (same_mail w)

@@ -1,0 +1,174 @@
+-- What is said of births and flags is said of the cells and the requests that a server sends.
+use Rattle.std.proofs.Common.{ℕ, ◌≡◌, Bool, true, false, cond, List, [], ◌∷◌, map, Option, None, Some, All, get_or, inl, inr, refl, sym, ap, subst, ◌∙◌}
+use Rattle.std.specs.Option.{option_map}
+use Rattle.std.specs.List.{AllByRecursion, IsDistinct, flat_map}
+use Rattle.std.specs.List.Sorted.{IsStrictlySortedBy}
+use Rattle.std.specs.Map.{keys_of}
+use Rattle.std.proofs.lemmas.List.Elements.{All-cons, All-from_recursion, All-nil, All-weaker}
+use Rattle.pg_base.specs.declared.id.FileId.{FileId}
+use Rattle.pg_base.specs.Id.{file_cmp}
+use Rattle.pg_base.specs.Version.{VersionValue}
+use Rattle.pg_edges.specs.declared.edge.Edge.{Edge}
+use Rattle.pg_edges.specs.declared.key.Key.{Key}
+use Rattle.pg_edges.specs.declared.key.Key.TheVariants as key
+use Rattle.pg_entries.specs.declared.cell.Cell.{Cell}
+use Rattle.pg_entries.specs.declared.cell.Cell.TheVariants as cells
+use Rattle.pg_entries.specs.declared.entry.Entry.{Entry}
+use Rattle.pg_intent.specs.declared.intent.Intent.{Intent}
+use Rattle.pg_intent.specs.declared.intent.Intent.TheVariants as intent
+use Rattle.pg_intent.specs.Intent.{key_of}
+use Rattle.pg_intent.specs.Intents.{HaveOwnKeys, intent_at}
+use Rattle.pg_intent.specs.Key.{is_same_key}
+use Rattle.pg_intent.specs.declared.key.IntentKey.{IntentKey}
+use Rattle.pg_intent.proofs.SameKey.{is_same_key-refl, is_same_key-symm}
+use Rattle.pg_msg.specs.declared.message.Message.{Message}
+use Rattle.pg_msg.specs.declared.message.Message.TheVariants as message
+use Rattle.pg_msg.specs.declared.message.Sent.{Sent}
+use Rattle.pg_names.specs.Names.{cell_at as entry_at, own_or_blank}
+use Rattle.pg_register.specs.declared.flag.Flag.{Flag}
+use Rattle.pg_register.specs.Flag.{flag_of}
+use Rattle.pg_replica.specs.declared.replica.Replica.{Replica}
+use Rattle.pg_store.specs.declared.store.Store.{Store}
+use Rattle.pg_store.specs.Births.{fill_at}
+use Rattle.pg_store.specs.Cells.{cell_at, entry_cell, flag_cell, is_sure, version_cell}
+use Rattle.pg_store.specs.Store.{is_held, replica_at}
+use Rattle.pg_store.specs.Together.{birth_at}
+use Rattle.pg_cells.specs.Sending.{Wanted, cells_where}
+use Rattle.pg_repair.specs.Requests.{asks, asks_by, confirm_message}
+use Rattle.pg_cells.specs.Posting.{sent_to}
+use Rattle.pg_promises.proofs.Found.{entries_known}
+use Rattle.pg_run.proofs.Bags.{All-every}
+use Rattle.pg_run.proofs.Event.{AskHas, CellHas, asks_by_have, asks_have, cells_have}
+use Rattle.pg_births.specs.Flags.{SaysCell, SaysEntry, SaysIntent, SaysStore}
+use Rattle.pg_births.proofs.EndsSay.{AllEnds, SaysEnds}
+use Rattle.pg_births.proofs.Ends.{ends}
+use Rattle.pg_births.proofs.Has.{Has}
+use Rattle.pg_births.proofs.Joined.{found_says}
+use Rattle.pg_births.proofs.Pieces.{shape}
+use Rattle.pg_births.proofs.Mails.{OfBirths, SaysSent}
+use Rattle.pg_births.proofs.StoreSays.{own_says}
+
+-- what other laws say of a server: its replicas are by file, its intentions each of a key of its own, and a Fill of what is held
+-- has the birth of the replica
+pub record Sorted (b : Store) : Type 0 where
+  pub order : IsStrictlySortedBy file_cmp (keys_of b.replicas)
+  pub keys : HaveOwnKeys b.intents
+  pub own : (file f : FileId) (birth target : ℕ) → fill_at b file ≡ Some (intent.Fill f birth target) → is_held b file ≡ true
+      → birth_at b file ≡ Some birth
+
+-- ---- each intention is found with its key
+
+tail_found : (i : Intent) (is js : List Intent) → AllByRecursion (λ q. is_same_key (key_of i) q ≡ false) (map key_of js)
+    → AllByRecursion (λ (j : Intent). intent_at is (key_of j) ≡ Some j) js
+    → AllByRecursion (λ (j : Intent). intent_at (i ∷ is) (key_of j) ≡ Some j) js
+tail_found i is [] apart found = tt
+tail_found i is (j ∷ js) apart found =
+    (ap (λ t. cond t (Some i) (intent_at is (key_of j))) (is_same_key-symm (key_of j) (key_of i) ∙ apart.0) ∙ found.0, tail_found i is js apart.1 found.1)
+
+each_found : (is : List Intent) → HaveOwnKeys is → AllByRecursion (λ (i : Intent). intent_at is (key_of i) ≡ Some i) is
+unfolding IsDistinct
+each_found [] own = tt
+each_found (i ∷ is) own =
+    (ap (λ t. cond t (Some i) (intent_at is (key_of i))) (is_same_key-refl (key_of i)), tail_found i is is own.0 (each_found is own.1))
+
+pub all_found : (is : List Intent) → HaveOwnKeys is → All (λ (i : Intent). intent_at is (key_of i) ≡ Some i) is
+all_found is own = All-from_recursion (λ (i : Intent). intent_at is (key_of i) ≡ Some i) is (each_found is own)
+
+-- ---- of a list of edges
+
+module _ (P : FileId → ℕ → ℕ → Type 0) where
+  pub edges_all : (f : FileId) (es : List Edge) → AllEnds P f (ends es) → All (λ (e : Edge). P f e.peer e.birth) es
+  edges_all f [] all = All-nil (λ (e : Edge). P f e.peer e.birth)
+  edges_all f (e ∷ es) all = All-cons (λ (x : Edge). P f x.peer x.birth) e es all.0 (edges_all f es all.1)
+
+module _ (P : FileId → ℕ → ℕ → Type 0) (G : FileId → ℕ → Type 0) (s : ℕ) where
+  abbrev pub Of : FileId → Flag → Type 0
+  Of f flag = OfBirths P f flag
+
+  abbrev pub Sends : Sent → Type 0
+  Sends m = SaysSent P Of G s m
+
+  -- ---- cells that are sent
+
+  flag_says : (f : FileId) (c : Cell) (o : Option Flag) → ((g : Flag) → o ≡ Some g → Of f g) → flag_cell o ≡ Some c → SaysCell Of f c
+  flag_says f c None says there = cc
+  flag_says f c (Some g) says there = subst (SaysCell Of f) (let same : cells.Flag g ≡ c = cc in same) (says g refl)
+
+  entry_says : (f : FileId) (c : Cell) (o : Option Entry) (sure : Bool) → ((e : Entry) → o ≡ Some e → SaysEntry Of e)
+      → entry_cell o sure ≡ Some c → SaysCell Of f c
+  entry_says f c None sure says there = cc
+  entry_says f c (Some e) sure says there = subst (SaysCell Of f) (let same : cells.Entry e sure ≡ c = cc in same) (says e refl)
+
+  version_says : (f : FileId) (c : Cell) (o : Option VersionValue) → version_cell o ≡ Some c → SaysCell Of f c
+  version_says f c None there = cc
+  version_says f c (Some v) there = subst (SaysCell Of f) (let same : cells.Version v ≡ c = cc in same) tt
+
+  own_child : (child : FileId) (e : Entry) → (e.child ≡ child) × All (Of child) e.flags → SaysEntry Of e
+  own_child child e k = let R : FileId → Type 0 = λ z. All (Of z) e.flags in subst R (sym k.0) k.1
+
+  cell_says : (b : Store) (f : FileId) (q : Key) (c : Cell) → SaysStore Of s b → cell_at b f q ≡ Some c → SaysCell Of f c
+  cell_says b f key.Place c k there =
+      subst (SaysCell Of f) (let same : cells.Place (own_or_blank b.names f).place ≡ c = cc in same) tt
+  cell_says b f (key.Flag n) c k there =
+      flag_says f c (flag_of (own_or_blank b.names f).flags n)
+      (λ g is. found_says (Of f) (own_or_blank b.names f).flags n g (own_says Of s b f k) is) there
+  cell_says b f (key.Entry child) c k there =
+      entry_says f c (entry_at b.names f child) (is_sure b f child) (λ e is. own_child child e (k.names.cells f child e is)) there
+  cell_says b f (key.Version stamp) c k there = version_says f c _ there
+
+  module _ (b : Store) (k : SaysStore Of s b) (edges : SaysEnds P b) (born : (f : FileId) (n : ℕ) → Has b f n → P f s n) (whole : Sorted b) where
+    cell_has : (f : FileId) (x : Replica) (e : Edge) → P f s x.birth → P f e.peer e.birth → (q : Key × ℕ) → CellHas Sends b f x e q
+    cell_has f x e here there q c is passes = ((here, there), (cell_says b f q.0 c k is, k.names.server))
+
+    edge_has : (f : FileId) (x : Replica) → P f s x.birth → (e : Edge) → P f e.peer e.birth → All (CellHas Sends b f x e) e.keys
+    edge_has f x here e there = All-every (CellHas Sends b f x e) e.keys (cell_has f x e here there)
+
+    replica_has : (r : FileId × Replica) → replica_at b r.0 ≡ Some r.1
+        → All (λ (e : Edge). All (CellHas Sends b r.0 r.1 e) e.keys) r.1.edges
+    replica_has r there =
+        let found = ap (option_map shape) there in
+        let here = born r.0 r.1.birth (inl (ap (option_map (λ (y : Replica). y.birth)) there)) in
+        All-weaker (λ (e : Edge). P r.0 e.peer e.birth) (λ (e : Edge). All (CellHas Sends b r.0 r.1 e) e.keys)
+        (λ e one. edge_has r.0 r.1 here e one) r.1.edges
+        (edges_all P r.0 r.1.edges (edges r.0 r.1.birth (ends r.1.edges) found))
+
+    pub cells_say : (wanted : Wanted) → All Sends (cells_where b wanted)
+    cells_say wanted =
+        cells_have Sends b wanted
+        (All-weaker (λ (r : FileId × Replica). replica_at b r.0 ≡ Some r.1)
+        (λ (r : FileId × Replica). All (λ (e : Edge). All (CellHas Sends b r.0 r.1 e) e.keys) r.1.edges)
+        (λ r there. replica_has r there) b.replicas (entries_known b whole.order))
+
+    -- ---- what is asked
+
+    confirm_says : (dir child : FileId) (to : ℕ) (m : Message) (o : Option Entry) → ((e : Entry) → o ≡ Some e → SaysEntry Of e)
+        → confirm_message dir o ≡ Some m → Sends (sent_to b to m)
+    confirm_says dir child to m None says there = cc
+    confirm_says dir child to m (Some e) says there =
+        subst (λ (z : Message). Sends (sent_to b to z)) (let same : message.Confirm dir e ≡ m = cc in same) (tt, (says e refl, k.names.server))
+
+    fill_born : (f : FileId) (n t : ℕ) → fill_at b f ≡ Some (intent.Fill f n t) → (h : Bool) → is_held b f ≡ h → P f s n
+    fill_born f n t there true held = born f n (inl (whole.own f f n t there held))
+    fill_born f n t there false held = born f n (inr (inr (held, (f, t, there))))
+
+    ask_says : (i : Intent) → SaysIntent Of i → intent_at b.intents (key_of i) ≡ Some i → AskHas Sends b i
+    ask_says (intent.Bye f n p m) says found q is some = absurd says
+    ask_says (intent.Seek f t) says found q is some = absurd says
+    ask_says (intent.Fill f n t) says found q is some =
+        subst (λ (z : Message). Sends (sent_to b t z)) (let same : message.Fetch f n ≡ q = cc in same)
+        (fill_born f n t found (is_held b f) refl, (tt, k.names.server))
+    ask_says (intent.Patch dir e t) says found q is some =
+        subst (λ (z : Message). Sends (sent_to b t z)) (let same : message.Tell dir e ≡ q = cc in same) (tt, (says, k.names.server))
+    ask_says (intent.Confirm dir child t) says found q is some =
+        confirm_says dir child t q (entry_at b.names dir child) (λ e there. own_child child e (k.names.cells dir child e there)) is
+    ask_says (intent.Leave f p m) says found q is some = absurd says
+
+    asks_say : All (AskHas Sends b) b.intents
+    asks_say i d lt =
+        ask_says (get_or b.intents i d) (k.intents i d lt) (all_found b.intents whole.keys i d lt)
+
+    pub asks_all : All Sends (flat_map (asks b) b.intents)
+    asks_all = asks_have Sends b b.intents asks_say
+
+    pub asks_some : (ks : List IntentKey) → All Sends (flat_map (asks_by b) ks)
+    asks_some ks = asks_by_have Sends b ks asks_say

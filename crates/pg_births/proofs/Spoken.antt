@@ -1,0 +1,213 @@
+-- What is said of births and flags is said of what a server holds and sends behind any event.
+use Rattle.std.proofs.Common.{ℕ, ◌≡◌, ◌++◌, Bool, true, false, cond, List, [], Option, None, Some, All, inl, inr, refl, sym, ap, subst, ◌∙◌}
+use Rattle.std.specs.Option.{option_map, option_or}
+use Rattle.std.specs.List.{flat_map}
+use Rattle.std.proofs.lemmas.List.Elements.{All-append, All-nil}
+use Rattle.pg_base.specs.declared.id.FileId.{FileId}
+use Rattle.pg_base.specs.Id.{file_cmp}
+use Rattle.pg_base.proofs.Maps.{lookup-insert_entry}
+use Rattle.pg_base.proofs.Orders.{file_total, is_same_file-refl}
+use Rattle.pg_intent.specs.declared.intent.Intent.{Intent}
+use Rattle.pg_intent.specs.declared.intent.Intent.TheVariants as intent
+use Rattle.pg_msg.specs.declared.message.Ends.{Ends}
+use Rattle.pg_msg.specs.declared.work.Work.{Work}
+use Rattle.pg_msg.specs.Work.{new_work}
+use Rattle.pg_register.specs.declared.flag.Flag.{Flag}
+use Rattle.pg_replica.specs.declared.replica.Replica.{Replica}
+use Rattle.pg_server.specs.declared.input.Input.{Input}
+use Rattle.pg_server.specs.declared.input.Input.TheVariants as input
+use Rattle.pg_server.specs.Local.{Effect, closed, effect, finished, first_effect, is_heard, receive, reply_to, sent_again, settled, takes_effect}
+use Rattle.pg_store.specs.declared.store.Store.{Store}
+use Rattle.pg_store.specs.declared.wishes.Wish.{Wish}
+use Rattle.pg_store.specs.Births.{draw_birth, fill_at, has_birth, is_pending, wish_at, with_birth, with_wish}
+use Rattle.pg_store.specs.Store.{is_held, is_in_time, replica_at}
+use Rattle.pg_store.specs.Together.{birth_at}
+use Rattle.pg_cells.specs.Done.{Done, idle}
+use Rattle.pg_cells.specs.Sending.{Wanted, cells_where, is_any, is_chosen}
+use Rattle.pg_calls.specs.Asking.{fresh_wish, standing, wish_by}
+use Rattle.pg_repair.specs.Requests.{asks, asks_by}
+use Rattle.pg_intent.specs.declared.key.IntentKey.{IntentKey}
+use Rattle.pg_promises.proofs.Choices.{chosen}
+use Rattle.pg_run.specs.Births.{AllNamed}
+use Rattle.pg_run.proofs.Event.{all_sent, end_of, store_is}
+use Rattle.pg_births.specs.Flags.{SaysMessage, SaysStore}
+use Rattle.pg_births.proofs.Calls.{fill_only}
+use Rattle.pg_births.proofs.EndsSay.{SaysEnds, ends_same}
+use Rattle.pg_births.proofs.Effects.{intended_shapes}
+use Rattle.pg_births.proofs.Forward.{settle_wish, wish_comes}
+use Rattle.pg_births.proofs.Has.{Has, IsWished}
+use Rattle.pg_births.proofs.Pieces.{Shape, settle_stays, shape, shape_at}
+use Rattle.pg_births.proofs.Received.{fine_call, fine_received}
+use Rattle.pg_births.proofs.Mails.{OfBirths, SaysSent, linking_to}
+use Rattle.pg_births.proofs.Saying.{IsSaid}
+use Rattle.pg_births.proofs.Sends.{Sorted, asks_all, asks_some, cells_say}
+use Rattle.pg_births.proofs.StoreSays.{say_begin_end, say_settle}
+
+-- what is known of an input that comes
+abbrev pub Known : (FileId → ℕ → ℕ → Type 0) → ℕ → Input → Type 0
+Known P s (input.Call moment call) = Unit {0}
+Known P s (input.Tick moment word) = Unit {0}
+Known P s (input.Arrival packet) = AllNamed P packet.from s packet.message × SaysMessage (OfBirths P) packet.message
+Known P s input.Restart = Unit {0}
+
+-- where a message comes to a replica that is not here and not to come, it is gone
+abbrev pub Freshly : (FileId → ℕ → Type 0) → Store → Input → Type 0
+Freshly G a (input.Call moment call) = Unit {0}
+Freshly G a (input.Tick moment word) = Unit {0}
+Freshly G a (input.Arrival packet) = (ends : Ends) → linking_to packet.message ≡ Some ends
+    → has_birth a ends.file ends.receiver ≡ false → is_pending a ends.file ends.receiver ≡ false → G ends.file ends.receiver
+Freshly G a input.Restart = Unit {0}
+
+wish_birth : (v w : Wish) → ◌≡◌ {A = Option Wish} (Some v) (Some w) → v.birth ≡ w.birth
+wish_birth v w e = (let z : v ≡ w = cc in ap (λ (x : Wish). x.birth) z)
+
+-- ---- births that go on to the end of the event
+
+birth_by : (o : Option Shape) (n : ℕ) → option_map (λ (z : Shape). z.0) o ≡ Some n → (es : List (ℕ × ℕ)) × (o ≡ Some (n, es))
+birth_by None n e = cc
+birth_by (Some z) n e = (z.1, let same : z.0 ≡ n = cc in ap (λ (m : ℕ). Some (m, z.1)) same)
+
+birth_shape : (o : Option Replica) → option_map (λ (z : Shape). z.0) (option_map shape o) ≡ option_map (λ (x : Replica). x.birth) o
+birth_shape None = refl
+birth_shape (Some x) = refl
+
+pub birth_same : (a b : Store) (f : FileId) → shape_at b f ≡ shape_at a f → birth_at b f ≡ birth_at a f
+birth_same a b f same =
+    sym (birth_shape (replica_at b f)) ∙ ap (λ (o : Option Shape). option_map (λ (z : Shape). z.0) o) same ∙ birth_shape (replica_at a f)
+
+-- the names of an event at one server: a before, d behind the first effect, b in the end
+module _ (a : Store) (asked : Input) where
+  abbrev First : Done
+  First = first_effect a asked
+
+  abbrev End : Store
+  End = (effect a asked).store
+
+  end_shapes : (q : FileId) → shape_at End q ≡ shape_at First.store q
+  end_shapes q =
+      chosen (λ (e : Effect). shape_at e.store q ≡ shape_at First.store q) (takes_effect a asked) (closed (reply_to a asked) First)
+      (finished (reply_to a asked) First)
+      (intended_shapes (settled First) q ∙ (settle_stays First.store First.work).shapes q) refl
+
+  pub born_on : (q : FileId) (n : ℕ) → birth_at First.store q ≡ Some n → birth_at End q ≡ Some n
+  born_on q n there = birth_same First.store End q (end_shapes q) ∙ there
+
+  pub wish_on : (q : FileId) (n : ℕ) → IsWished First.store q n → Has End q n
+  wish_on q n there =
+      chosen (λ (e : Effect). Has e.store q n) (takes_effect a asked) (closed (reply_to a asked) First) (finished (reply_to a asked) First)
+      (inr (wish_comes q n (settled First).store (settled First).work (settle_wish q n First.store First.work there))) (inr (inl there))
+
+-- what is said of a server
+pub record IsKnownAt (P : FileId → ℕ → ℕ → Type 0) (s : ℕ) (a : Store) : Type 0 where
+  pub store : SaysStore (OfBirths P) s a
+  pub edges : SaysEnds P a
+
+module _ (P : FileId → ℕ → ℕ → Type 0) (G : FileId → ℕ → Type 0) (s : ℕ) where
+  abbrev Of : FileId → Flag → Type 0
+  Of f flag = OfBirths P f flag
+
+  abbrev Knows : Store → Type 0
+  Knows a = (f : FileId) (n : ℕ) → Has a f n → P f s n
+
+  module _ (a : Store) (k : IsKnownAt P s a) (before : Knows a) (sorted : Sorted a) where
+    start_said : (moment from : ℕ) → IsSaid P Of G s from (idle a (new_work moment from))
+    start_said moment from = record { store = k.store; edges = k.edges; sent = All-nil (SaysSent P Of G s); asker = refl }
+
+    -- what is asked for already was given out
+    fill_given : (q : FileId) (b u : ℕ) → fill_at a q ≡ Some (intent.Fill q b u) → (h : Bool) → is_held a q ≡ h → P q s b
+    fill_given q b u there true held = before q b (inl (sorted.own q q b u there held))
+    fill_given q b u there false held = before q b (inr (inr (held, (q, u, there))))
+
+    stood_by : (q : FileId) (w : Wish) (o : Option Intent) → fill_at a q ≡ o → option_or (wish_by o) (wish_at a q) ≡ Some w → P q s w.birth
+    stood_by q w None there some = before q w.birth (inr (inl (w, some, refl)))
+    stood_by q w (Some i) there some =
+        let f = fill_only a.intents q i there in
+        let is : fill_at a q ≡ Some (intent.Fill q f.0 f.1) = there ∙ ap (λ (j : Intent). Some j) f.2 in
+        let wish : Wish = record { birth = f.0; target = f.1 } in
+        let same : ◌≡◌ {A = Option Wish} (Some wish) (Some w) =
+        sym (ap (λ (j : Intent). option_or (wish_by (Some j)) (wish_at a q)) f.2) ∙ some in
+        subst (P q s) (wish_birth wish w same) (fill_given q f.0 f.1 is (is_held a q) refl)
+
+    stood : (q : FileId) (w : Wish) → standing a q ≡ Some w → P q s w.birth
+    stood q w some = stood_by q w (fill_at a q) refl some
+
+    wished_now : (q : FileId) (t : ℕ) (d : Store) → d ≡ with_wish (with_birth a) q (fresh_wish a t) → IsWished d q (draw_birth a)
+    wished_now q t d same =
+        let w = fresh_wish a t in
+        let here : wish_at (with_wish (with_birth a) q w) q ≡ Some w =
+        lookup-insert_entry file_cmp file_total q q w a.wishes ∙ ap (λ u. cond u (Some w) (wish_at a q)) (is_same_file-refl q) in
+        (w, ap (λ (z : Store). wish_at z q) same ∙ here, refl)
+
+    -- ---- the first effect
+
+    abbrev Said0 : Done → Type 0
+    Said0 d = IsSaid P Of G s d.work.from d
+
+    said_from : (from : ℕ) (d : Done) → IsSaid P Of G s from d → Said0 d
+    said_from from d h = record { store = h.store; edges = h.edges; sent = h.sent; asker = refl }
+
+    ticked : (moment : ℕ) → Said0 (idle a (sent_again a (new_work moment 0)))
+    ticked moment = record {
+      store = k.store;
+      edges = k.edges;
+      sent = All-append (SaysSent P Of G s) ([] ++ cells_where a is_any) (flat_map (asks a) a.intents)
+          (All-append (SaysSent P Of G s) [] (cells_where a is_any) (All-nil (SaysSent P Of G s)) (cells_say P G s a k.store k.edges before sorted is_any))
+          (asks_all P G s a k.store k.edges before sorted);
+      asker = refl;
+    }
+
+    first_said : (asked : Input) → Knows (effect a asked).store → Known P s asked → Freshly G a asked → Said0 (first_effect a asked)
+    first_said (input.Call moment c) behind came new =
+        let asked = input.Call moment c in
+        said_from 0 (first_effect a asked) (fine_call P G s 0 a (new_work moment 0) (start_said moment 0) stood c (record {
+          born = λ f n there. behind f n (inl (born_on a asked f n there));
+          fresh = λ f t same none full. behind f (draw_birth a) (wish_on a asked f (draw_birth a) (wished_now f t _ same));
+        }))
+    first_said (input.Tick moment word) behind came new =
+        chosen (λ (w : Work). Said0 (idle a w)) (is_in_time a) (sent_again a (new_work moment 0)) (new_work moment 0)
+        (ticked moment) (said_from 0 (idle a (new_work moment 0)) (start_said moment 0))
+    first_said (input.Arrival packet) behind came new =
+        let w = new_work 0 packet.from in
+        chosen Said0 (is_heard a packet) (receive a packet.message w) (idle a w)
+        (said_from packet.from (receive a packet.message w)
+        (fine_received P G s packet.from a packet.message w came.0 came.1 new (λ f n there. before f n (inl there)) (start_said 0 packet.from)))
+        (said_from packet.from (idle a w) (start_said 0 packet.from))
+    first_said input.Restart behind came new = record {
+      store = record { names = k.store.names; intents = k.store.intents };
+      edges = k.edges;
+      sent = All-nil (SaysSent P Of G s);
+      asker = refl;
+    }
+
+    -- ---- and the whole event
+
+    module _ (asked : Input) (behind : Knows (effect a asked).store) (then : Sorted (effect a asked).store) (came : Known P s asked) (new : Freshly G a asked) where
+      first_is : Said0 (first_effect a asked)
+      first_is = first_said asked behind came new
+
+      end_store : SaysStore Of s (effect a asked).store
+      end_store =
+          let d = first_effect a asked in
+          chosen (λ (e : Effect). SaysStore Of s e.store) (takes_effect a asked) (closed (reply_to a asked) d) (finished (reply_to a asked) d)
+          (say_begin_end Of s (settled d).store (settled d).work (say_settle Of s d.store d.work first_is.store)) first_is.store
+
+      pub end_known : IsKnownAt P s (effect a asked).store
+      end_known = record {
+        store = end_store;
+        edges = ends_same P (first_effect a asked).store (effect a asked).store (end_shapes a asked) first_is.edges;
+      }
+
+      -- what is sent at the end
+      abbrev AtEnd : Store → Type 0
+      AtEnd b = (cells : Wanted) (ks : List IntentKey) → All (SaysSent P Of G s) (cells_where b cells) × All (SaysSent P Of G s) (flat_map (asks_by b) ks)
+
+      at_end : AtEnd (effect a asked).store
+      at_end wanted ks =
+          let b = (effect a asked).store in
+          (cells_say P G s b end_known.store end_known.edges behind then wanted, asks_some P G s b end_known.store end_known.edges behind then ks)
+
+      pub end_sent : All (SaysSent P Of G s) (effect a asked).out.sent
+      end_sent =
+          let d = end_of a asked in
+          let all : AtEnd d.store = subst AtEnd (store_is a asked) at_end in
+          all_sent (SaysSent P Of G s) a asked first_is.sent (all (is_chosen d.work.touched d.work.linked) []).0 (all is_any d.work.begun).1

@@ -1,0 +1,251 @@
+-- Messages, house rules and intentions make no versions.
+use Rattle.std.proofs.Common.{ℕ, zero, suc, ◌≡◌, ◌&&◌, ◌||◌, Bool, true, cond, not, List, [], ◌∷◌, ◌++◌, length, Option, None, Some, refl, ap, ◌∙◌}
+use Rattle.std.specs.Prelude.{nat_lt}
+use Rattle.std.proofs.lemmas.List.{append-nil}
+use Rattle.pg_base.specs.declared.id.FileId.{FileId}
+use Rattle.pg_edges.specs.declared.key.Key.{Key}
+use Rattle.pg_edges.specs.declared.key.Key.TheVariants as key
+use Rattle.pg_entries.specs.declared.cell.Cell.{Cell}
+use Rattle.pg_entries.specs.declared.cell.Cell.TheVariants as cells
+use Rattle.pg_entries.specs.declared.entry.Entry.{Entry}
+use Rattle.pg_msg.specs.declared.message.Ask.TheVariants as ask
+use Rattle.pg_msg.specs.declared.message.Ends.{Ends}
+use Rattle.pg_msg.specs.declared.message.Granted.{Granted}
+use Rattle.pg_msg.specs.declared.message.Message.{Message}
+use Rattle.pg_msg.specs.declared.message.Message.TheVariants as message
+use Rattle.pg_msg.specs.declared.update.MadeVersion.{MadeVersion}
+use Rattle.pg_msg.specs.declared.update.Update.{Update}
+use Rattle.pg_msg.specs.declared.update.Update.TheVariants as update
+use Rattle.pg_msg.specs.declared.work.Work.{Work}
+use Rattle.pg_msg.specs.Work.{with_left, with_linked, with_made, with_touched, with_unsure}
+use Rattle.pg_register.specs.declared.flag.Flag.{Flag}
+use Rattle.pg_register.specs.declared.place.Place.{Place}
+use Rattle.pg_register.specs.Place.{root, tilde_name}
+use Rattle.pg_names.specs.Names.{directories, fill as fill_names, own_or_blank}
+use Rattle.pg_house.specs.Work.{State, is_root, note_left}
+use Rattle.pg_house.specs.Cycles.{break_first, first_moving, moved}
+use Rattle.pg_house.specs.House.{house, movable}
+use Rattle.pg_house.specs.Passing.{pass_all}
+use Rattle.pg_house.specs.Placing.{drawn, live_place, made_at, place_at, placed, repeated}
+use Rattle.pg_house.specs.Returning.{first_returning, return_first, returned}
+use Rattle.pg_house.proofs.Made.{all_made, left_made, pass_made}
+use Rattle.pg_replica.specs.declared.replica.Replica.{Replica}
+use Rattle.pg_store.specs.declared.store.Store.{Store}
+use Rattle.pg_store.specs.Births.{has_birth, is_pending}
+use Rattle.pg_store.specs.Links.{is_clean, is_new_link, knows_later}
+use Rattle.pg_store.specs.Store.{entry_news, is_full, is_held, is_new_version, is_newer_flag, is_newer_place, replica_at, with_names}
+use Rattle.pg_cells.specs.declared.accepting.Manner.{Manner}
+use Rattle.pg_cells.specs.declared.accepting.Manner.TheVariants as manner
+use Rattle.pg_cells.specs.Accepting.{accept, is_accepted, is_answer, link_peer, met, with_gone}
+use Rattle.pg_cells.specs.Cells.{cell, fits, taken, taken_along}
+use Rattle.pg_cells.specs.Done.{Done, idle}
+use Rattle.pg_cells.specs.Making.{own_next, raise_flag}
+use Rattle.pg_cells.specs.Posting.{reply}
+use Rattle.pg_cells.specs.Taking.{is_any_news, is_place_news, take_entry_cell, take_entry_noted, take_flag_noted, take_flags_noted, take_place_noted, with_left_if, with_news}
+use Rattle.pg_repair.specs.Confirming.{confirm, confirmed, place_is, place_told, take_told_flags, take_told_place}
+use Rattle.pg_repair.specs.Fetching.{answered_fetch, ends_to, fetch, give, given}
+use Rattle.pg_repair.specs.Filling.{few_golds, fill, full, live_golds}
+use Rattle.pg_repair.specs.Granting.{begin_granted, begun_by, grant}
+use Rattle.pg_repair.specs.Telling.{tell, told}
+use Rattle.pg_server.specs.Local.{receive}
+use Rattle.pg_promises.proofs.Choices.{chosen}
+use Rattle.pg_run.specs.Journal.{versions_in}
+
+-- ---- versions of lists
+
+pub versions_after : (us vs : List Update) → versions_in (us ++ vs) ≡ versions_in us ++ versions_in vs
+versions_after [] vs = refl
+versions_after (update.Version made ∷ us) vs = ap (λ (l : List MadeVersion). made ∷ l) (versions_after us vs)
+versions_after (update.Place file place ∷ us) vs = versions_after us vs
+versions_after (update.Flag file flag ∷ us) vs = versions_after us vs
+
+name_after : (us : List Update) (u : Update) → versions_in (u ∷ []) ≡ [] → versions_in (us ++ u ∷ []) ≡ versions_in us
+name_after us u none =
+    versions_after us (u ∷ []) ∙ ap (λ (l : List MadeVersion). versions_in us ++ l) none ∙ append-nil (versions_in us)
+
+-- ---- works of which the same versions were made
+
+abbrev pub MakesNone : Work → Work → Type 0
+MakesNone v w = versions_in w.made ≡ versions_in v.made
+
+news_none : (t : Bool) (w : Work) (f : FileId) (k : Key) → MakesNone w (with_news t w f k)
+news_none t w f k = chosen (MakesNone w) t (with_touched w f k) w refl refl
+
+left_none : (w : Work) (f : FileId) (old : Place) → MakesNone w (note_left w f old)
+left_none w f old = chosen (MakesNone w) (old.live && not (is_root f)) (with_left w old.parent f) w refl refl
+
+left_if_none : (t : Bool) (w : Work) (f : FileId) (old : Place) → MakesNone w (with_left_if t w f old)
+left_if_none t w f old = chosen (MakesNone w) t (note_left w f old) w (left_none w f old) refl
+
+link_none : (b : Store) (f : FileId) (peer birth : ℕ) (w : Work) → MakesNone w (link_peer b f peer birth w).work
+link_none b f peer birth w = chosen (MakesNone w) (is_new_link b f peer birth) (with_linked w f peer) w refl refl
+
+pub place_none : (b : Store) (f : FileId) (place : Place) (w : Work) → MakesNone w (take_place_noted b f place w).work
+place_none b f place w =
+    let news = is_newer_place b f place in
+    let old = (own_or_blank b.names f).place in
+    news_none news (with_left_if news w f old) f key.Place ∙ left_if_none news w f old
+
+pub flag_none : (b : Store) (f : FileId) (flag : Flag) (w : Work) → MakesNone w (take_flag_noted b f flag w).work
+flag_none b f flag w = news_none (is_newer_flag b f flag) w f (key.Flag flag.server)
+
+flags_none : (fs : List Flag) (b : Store) (f : FileId) (w : Work) → MakesNone w (take_flags_noted b f fs w).work
+flags_none [] b f w = refl
+flags_none (flag ∷ fs) b f w =
+    let d = take_flag_noted b f flag w in flags_none fs d.store f d.work ∙ flag_none b f flag w
+
+entry_none : (b : Store) (d : FileId) (e : Entry) (w : Work) → MakesNone w (take_entry_noted b d e w).work
+entry_none b d e w = news_none (is_any_news (entry_news b d e)) w d (key.Entry e.child)
+
+entry_cell_none : (b : Store) (d : FileId) (e : Entry) (sure : Bool) (w : Work) → MakesNone w (take_entry_cell b d e sure w).work
+entry_cell_none b d e sure w =
+    let noted = (take_entry_noted b d e w).work in
+    chosen (MakesNone noted) (is_place_news (entry_news b d e) && not sure) (with_unsure noted d e.child) noted refl refl
+    ∙ entry_none b d e w
+
+-- a flag is made
+pub raised_none : (b : Store) (f : FileId) (w : Work) → MakesNone w (raise_flag b f w).work
+raised_none b f w =
+    let flag = own_next b f true in
+    flag_none b f flag (with_made w (update.Flag f flag)) ∙ name_after w.made (update.Flag f flag) refl
+
+-- a place
+pub placed_none : (b : Store) (f : FileId) (place : Place) (w : Work)
+    → MakesNone w (take_place_noted b f place (with_made w (update.Place f place))).work
+placed_none b f place w =
+    place_none b f place (with_made w (update.Place f place)) ∙ name_after w.made (update.Place f place) refl
+
+-- ---- messages
+
+taken_none : (b : Store) (f : FileId) (c : Cell) (w : Work) → MakesNone w (taken b f c w).work
+taken_none b f (cells.Place place) w = place_none b f place w
+taken_none b f (cells.Flag flag) w = flag_none b f flag w
+taken_none b f (cells.Entry e sure) w = entry_cell_none b f e sure w
+taken_none b f (cells.Version v) w = news_none (is_new_version b f v) w f (key.Version v.head.stamp)
+
+gone_none : (b : Store) (ends : Ends) (m : Manner) (w : Work) → MakesNone w (with_gone b ends m w)
+gone_none b ends m w =
+    chosen (MakesNone w) (is_answer m || is_pending b ends.file ends.receiver) w
+    (reply b (message.Gone ends.file ends.receiver) w) refl refl
+
+met_none : (b : Store) (ends : Ends) (m : Manner) (w : Work) → MakesNone w (met b ends m w).work
+met_none b ends manner.Link w = link_none b ends.file w.from ends.sender w
+met_none b ends manner.Ask w = refl
+met_none b ends manner.Answer w = refl
+
+accept_none : (b : Store) (ends : Ends) (m : Manner) (w : Work) → MakesNone w (accept b ends m w).work
+accept_none b ends m w =
+    let later = knows_later b ends.file w.from ends.sender in
+    chosen (λ (d : Done). MakesNone w d.work) (has_birth b ends.file ends.receiver)
+    (cond later (idle b w) (met b ends m w)) (idle b (with_gone b ends m w))
+    (chosen (λ (d : Done). MakesNone w d.work) later (idle b w) (met b ends m w) refl (met_none b ends m w))
+    (gone_none b ends m w)
+
+cell_none : (b : Store) (ends : Ends) (tag : ℕ) (c : Cell) (w : Work) → MakesNone w (cell b ends tag c w).work
+cell_none b ends tag c w =
+    let accepted = is_accepted b w.from manner.Link ends in
+    let d = accept b ends manner.Link w in
+    let one = accept_none b ends manner.Link w in
+    chosen (λ (d : Done). MakesNone w d.work) (fits ends.file c) (cond accepted (taken_along ends tag c d) d) (idle b w)
+    (chosen (λ (d : Done). MakesNone w d.work) accepted (taken_along ends tag c d) d
+    (taken_none d.store ends.file c d.work ∙ one) one)
+    refl
+
+given_none : (b : Store) (ends : Ends) (o : Option Replica) (w : Work) → MakesNone w (given b ends o w)
+given_none b ends None w = refl
+given_none b ends (Some x) w = refl
+
+answered_none : (file : FileId) (birth : ℕ) (d : Done) → MakesNone d.work (answered_fetch file birth d).work
+answered_none file birth d =
+    let ends = ends_to d.store file birth in
+    chosen (MakesNone d.work) (is_clean d.store file d.work.from birth) (reply d.store (message.Full ends) d.work)
+    (give d.store ends d.work) refl (given_none d.store ends (replica_at d.store ends.file) d.work)
+
+fetch_none : (b : Store) (file : FileId) (birth : ℕ) (w : Work) → MakesNone w (fetch b file birth w).work
+fetch_none b file birth w =
+    let later = knows_later b file w.from birth in
+    let linked = link_peer b file w.from birth w in
+    chosen (λ (d : Done). MakesNone w d.work) (is_full b file)
+    (cond later (idle b w) (answered_fetch file birth linked)) (idle b (reply b (message.NoGrant file birth) w))
+    (chosen (λ (d : Done). MakesNone w d.work) later (idle b w) (answered_fetch file birth linked) refl
+    (answered_none file birth linked ∙ link_none b file w.from birth w))
+    refl
+
+grant_none : (b : Store) (ends : Ends) (g : Granted) (w : Work) → MakesNone w (grant b ends g w).work
+grant_none b ends g w =
+    chosen (λ (d : Done). MakesNone w d.work) (is_pending b ends.file ends.receiver) (begin_granted b ends g w)
+    (accept b ends manner.Link w) (link_none (begun_by b ends g) ends.file w.from ends.sender w) (accept_none b ends manner.Link w)
+
+full_none : (b : Store) (ends : Ends) (w : Work) → MakesNone w (full b ends w).work
+full_none b ends w =
+    let whole = with_names b (fill_names b.names ends.file) in
+    chosen (λ (d : Done). MakesNone w d.work) (is_accepted b w.from manner.Answer ends && not (is_full b ends.file))
+    (fill b ends.file w) (idle b w)
+    (chosen (λ (d : Done). MakesNone w d.work) (nat_lt (live_golds whole ends.file) few_golds)
+    (raise_flag whole ends.file w) (idle whole w) (raised_none whole ends.file w) refl)
+    refl
+
+confirm_none : (b : Store) (dir : FileId) (e : Entry) (w : Work) → MakesNone w (confirm b dir e w).work
+confirm_none b dir e w =
+    let placed = take_told_place b e w in
+    let one = chosen (λ (d : Done). MakesNone w d.work) (is_root e.child) (idle b w)
+    (take_place_noted b e.child e.place w) refl (place_none b e.child e.place w) in
+    chosen (λ (d : Done). MakesNone w d.work) (is_held b e.child) (place_told dir e.child (take_told_flags e placed))
+    (idle b (reply b (message.NoneHere ask.Confirm dir e.child) w))
+    (flags_none e.flags placed.store e.child placed.work ∙ one) refl
+
+place_is_none : (b : Store) (dir : FileId) (e : Entry) (w : Work) → MakesNone w (place_is b dir e w).work
+place_is_none b dir e w =
+    chosen (λ (d : Done). MakesNone w d.work) (is_held b dir) (confirmed dir e (take_entry_noted b dir e w)) (idle b w)
+    (entry_none b dir e w) refl
+
+tell_none : (b : Store) (dir : FileId) (e : Entry) (w : Work) → MakesNone w (tell b dir e w).work
+tell_none b dir e w =
+    chosen (λ (d : Done). MakesNone w d.work) (is_held b dir) (told dir e (take_entry_noted b dir e w))
+    (idle b (reply b (message.NoneHere ask.Patch dir e.child) w)) (entry_none b dir e w) refl
+
+-- NO MESSAGE makes a version
+pub received_none : (b : Store) (m : Message) (w : Work) → MakesNone w (receive b m w).work
+received_none b (message.Cell ends tag c) w = cell_none b ends tag c w
+received_none b (message.Fetch file birth) w = fetch_none b file birth w
+received_none b (message.Grant ends g) w = grant_none b ends g w
+received_none b (message.Full ends) w = full_none b ends w
+received_none b (message.Confirm dir e) w = confirm_none b dir e w
+received_none b (message.PlaceIs dir e) w = place_is_none b dir e w
+received_none b (message.Tell dir e) w = tell_none b dir e w
+received_none b m w = refl
+
+-- ---- house rules
+
+module _ (moment : ℕ) (ds : List FileId) where
+  abbrev Follows : State → State → Type 0
+  Follows a b = MakesNone a.work b.work
+
+  rule_none : (st : State) (f p : FileId) (name : List ℕ) → Follows st (placed moment ds st f p name)
+  rule_none st f p name =
+      let place = live_place (drawn moment st.names) p name in
+      let work = with_touched (with_made st.work (update.Place f place)) f key.Place in
+      ap versions_in (pass_made (made_at st f place) ds f ∙ left_made work f (place_at st.names f))
+      ∙ name_after st.work.made (update.Place f place) refl
+
+  returned_none : (st : State) (o : Option FileId) → Follows st (returned moment ds st o)
+  returned_none st None = refl
+  returned_none st (Some d) = rule_none st d (place_at st.names d).parent (place_at st.names d).name
+
+  moved_none : (st : State) (o : Option FileId) → Follows st (moved moment ds st o)
+  moved_none st None = refl
+  moved_none st (Some d) = rule_none st d root (tilde_name d)
+
+  repeated_none : (step : State → State) → ((st : State) → Follows st (step st)) → (n : ℕ) (st : State)
+      → Follows st (repeated n step st)
+  repeated_none step each zero st = refl
+  repeated_none step each (suc n) st = repeated_none step each n (step st) ∙ each st
+
+pub house_none : (moment : ℕ) (st : State) → MakesNone st.work (house moment st).work
+house_none moment st =
+    let ds = directories st.names in
+    let one = pass_all st ds (movable st.names) in
+    let two = repeated (length ds) (return_first moment ds) one in
+    repeated_none moment ds (break_first moment ds) (λ t. moved_none moment ds t (first_moving t.names (length ds) None ds)) (length ds) two
+    ∙ repeated_none moment ds (return_first moment ds) (λ t. returned_none moment ds t (first_returning t.names ds)) (length ds) one
+    ∙ ap versions_in (all_made st ds (movable st.names))

@@ -1,0 +1,38 @@
+-- Calls whose check does not go on: what is left of them.
+use Rattle.std.proofs.Common.{◌≡◌, ◌∙◌, Result, Err, sym, ap}
+use Rattle.pg_msg.specs.declared.work.Work.{Work}
+use Rattle.pg_call.specs.declared.reply.Reply.{Reply}
+use Rattle.pg_walk.specs.declared.paths.Stop.{Stop}
+use Rattle.pg_store.specs.declared.store.Store.{Store}
+use Rattle.pg_calls.specs.declared.denied.Denied.{Denied}
+use Rattle.pg_calls.specs.declared.denied.Denied.TheVariants as denied
+use Rattle.pg_calls.specs.Answer.{Answer, Leaves, Tells, answered}
+
+module _ {A : Type 0} (store : Store) (work : Work) (check : Result A Stop) (next : A → Answer) where
+  -- what is left of a call whose check does not go on
+  pub denied_left : (why : Denied) (left : Answer) → Tells {A = A} (Err why) check → Leaves why store work left
+      → left ≡ answered store work check next
+  denied_left (denied.Stopped why) left told is = is ∙ ap (λ x. answered store work x next) (sym told)
+  denied_left denied.OutOfMemory left told none = absurd none
+
+  module _ (why : Denied) (s : Store) (w : Work) (r : Reply) (told : Tells {A = A} (Err why) check)
+      (is : Leaves why store work (record { store = s; work = w; reply = r })) where
+    pub store_is : s ≡ (answered store work check next).store
+    store_is = ap (λ (a : Answer). a.store) (denied_left why _ told is)
+
+    pub work_is : w ≡ (answered store work check next).work
+    work_is = ap (λ (a : Answer). a.work) (denied_left why _ told is)
+
+    pub reply_is : r ≡ (answered store work check next).reply
+    reply_is = ap (λ (a : Answer). a.reply) (denied_left why _ told is)
+
+-- ---- an answer by its parts
+
+abbrev answer_of : Store → Work → Reply → Answer
+answer_of s w r = record { store = s; work = w; reply = r }
+
+pub whole : (a : Answer) (s : Store) (w : Work) (r : Reply) → s ≡ a.store → w ≡ a.work → r ≡ a.reply
+    → ◌≡◌ {A = Answer} (record { store = s; work = w; reply = r }) a
+whole a s w r p q t =
+    ap (λ (x : Store). answer_of x w r) p ∙ ap (λ (y : Work). answer_of a.store y r) q
+    ∙ ap (λ (z : Reply). answer_of a.store a.work z) t

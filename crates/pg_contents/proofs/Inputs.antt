@@ -1,0 +1,96 @@
+-- Ticks, messages and restarts make no version.
+use Rattle.std.proofs.Common.{ℕ, Bool, true, false, cond, List, [], ◌++◌, map, None, Some, refl}
+use Rattle.pg_base.specs.declared.id.FileId.{FileId}
+use Rattle.pg_base.specs.declared.policy.Policy.{Policy}
+use Rattle.pg_call.specs.declared.refusal.Refusal.TheVariants.{ClockEnd}
+use Rattle.pg_call.specs.declared.reply.Reply.TheVariants as reply
+use Rattle.pg_msg.specs.declared.message.Packet.{Packet}
+use Rattle.pg_msg.specs.declared.work.Work.{Work}
+use Rattle.pg_msg.specs.Work.{new_work}
+use Rattle.pg_run.specs.Carried.{carried}
+use Rattle.pg_run.specs.Journal.{Born}
+use Rattle.pg_run.specs.Run.{took_after}
+use Rattle.pg_run.specs.Took.{Take, take_of}
+use Rattle.pg_store.specs.declared.store.Store.{Store}
+use Rattle.pg_store.specs.Store.{is_in_time}
+use Rattle.pg_cells.specs.Done.{Done, idle}
+use Rattle.pg_cells.specs.Sending.{is_any}
+use Rattle.pg_cells.specs.Ticks.{tick}
+use Rattle.pg_server.specs.declared.input.Input.TheVariants as input
+use Rattle.pg_server.specs.Local.{effect, is_heard, receive, sent_again, without_wishes}
+use Rattle.pg_contents.proofs.Asking.{all_asked_carry}
+use Rattle.pg_contents.proofs.Carrying.{Carries}
+use Rattle.pg_contents.proofs.Changes.{Keeps-refl}
+use Rattle.pg_contents.proofs.Effects.{IsPassive, passive_by, quiet_both}
+use Rattle.pg_contents.proofs.Pieces.{wishes_keep}
+use Rattle.pg_contents.proofs.Quiet.{Quiet, quiet_idle, quiet_store}
+use Rattle.pg_contents.proofs.Receiving.{receive_arrives}
+use Rattle.pg_contents.proofs.Sending.{more_carry}
+use Rattle.pg_contents.proofs.Servers.{IsServer, came_of}
+
+module _ {s : ℕ} {a : Store} {us : List Born} {p : FileId → Policy} {N : FileId → Type 0}
+    (before : List Take) (k : IsServer s a us p N (came_of before)) where
+  -- ---- a tick
+
+  module _ (moment word : ℕ) where
+    abbrev work : Work
+    work = new_work moment 0
+
+    abbrev ticked : Bool → Done
+    ticked t = idle a (cond t (sent_again a work) work)
+
+    again_quiet : Quiet us p N a work (idle a (sent_again a work))
+    again_quiet = record {
+      keeps = Keeps-refl a;
+      none = refl;
+      takes = λ q. refl;
+      sent = λ h. all_asked_carry us p N a (tick a work) (more_carry k.stands N is_any work.sent h);
+    }
+
+    ticked_quiet : (t : Bool) → Quiet us p N a work (ticked t)
+    ticked_quiet true = again_quiet
+    ticked_quiet false = quiet_idle us p N a work
+
+    -- A TICK
+    pub tick_passive : IsPassive s a us p N (effect a (input.Tick moment word))
+        (took_after a before (input.Tick moment word))
+    tick_passive =
+        passive_by before k
+        (Some (cond (is_in_time a) reply.Done (reply.Refused ClockEnd))) ticked
+        (λ t. map take_of (ticked t).work.made ++ []) (is_in_time a)
+        (quiet_both before k moment 0 (ticked true) (ticked_quiet true)).0
+        (quiet_both before k moment 0 (ticked false) (ticked_quiet false)).1
+
+  -- ---- a message
+
+  module _ (packet : Packet) (h : Carries us p N packet.message) where
+    abbrev arrived : Bool → Done
+    arrived t =
+        cond t (receive a packet.message (new_work 0 packet.from))
+        (idle a (new_work 0 packet.from))
+
+    -- A MESSAGE
+    pub arrived_passive : IsPassive s a us p N (effect a (input.Arrival packet))
+        (took_after a before (input.Arrival packet))
+    arrived_passive =
+        passive_by before k None arrived
+        (λ t. map take_of (arrived t).work.made ++ carried a packet.from packet.message)
+        (is_heard a packet) (receive_arrives k packet.from packet.message h)
+        (quiet_both before k 0 packet.from (arrived false)
+        (quiet_idle us p N a (new_work 0 packet.from))).1
+
+  -- ---- a restart
+
+  abbrev restarted : Done
+  restarted = idle (without_wishes a) (new_work 0 0)
+
+  restarted_quiet : Quiet us p N a (new_work 0 0) restarted
+  restarted_quiet = quiet_store us p N a (without_wishes a) (new_work 0 0) (wishes_keep a [])
+
+  -- A RESTART
+  pub restart_passive : IsPassive s a us p N (effect a input.Restart)
+      (took_after a before input.Restart)
+  restart_passive =
+      passive_by before k None (λ t. restarted) (λ t. map take_of restarted.work.made ++ [])
+      (is_in_time a) (quiet_both before k 0 0 restarted restarted_quiet).0
+      (quiet_both before k 0 0 restarted restarted_quiet).1

@@ -1,0 +1,55 @@
+-- What is to come is not here, and what is held has a replica, whose birth was given out.
+use Rattle.std.proofs.Common.{ℕ, ◌≡◌, ◌&&◌, true, false, not, is_some, Option, None, Some, option_map, refl, ap, ◌∙◌, inl, inr}
+use Rattle.std.proofs.lemmas.Bool.{and_parts, or_cases}
+use Rattle.pg_base.specs.declared.id.FileId.{FileId}
+use Rattle.pg_house.proofs.Truths.{not_true}
+use Rattle.pg_replica.specs.declared.replica.Replica.{Replica}
+use Rattle.pg_store.specs.declared.store.Store.{Store}
+use Rattle.pg_store.specs.declared.wishes.Wish.{Wish}
+use Rattle.pg_store.specs.Births.{fill_at, is_fill_at, is_pending, wish_at}
+use Rattle.pg_store.specs.Store.{is_held, replica_at}
+use Rattle.pg_store.specs.Wishes.{is_with_birth}
+use Rattle.pg_contents.specs.Together.{GoTogether}
+use Rattle.pg_contents.proofs.Changes.{Core, core_at, core_of, replica_of_core}
+use Rattle.pg_contents.proofs.Servers.{IsPaired}
+
+none_there : (o : Option Replica) → is_some o ≡ false → o ≡ None
+none_there None h = refl
+none_there (Some x) h = absurd (let z : true ≡ false = h in cc)
+
+one_there : (o : Option Replica) → is_some o ≡ true → (k : Core) × (option_map core_of o ≡ Some k)
+one_there None h = absurd (let z : false ≡ true = h in cc)
+one_there (Some x) h = (core_of x, refl)
+
+wish_there : (o : Option Wish) (birth : ℕ) → is_with_birth o birth ≡ true
+    → (wish : Wish) × (o ≡ Some wish)
+wish_there None birth h = absurd (let z : false ≡ true = h in cc)
+wish_there (Some wish) birth h = (wish, refl)
+
+module _ (a : Store) (k : GoTogether a) where
+  -- of a wish, or of a Fill of what is not held
+  away : (file : FileId) (birth : ℕ) → is_pending a file birth ≡ true → is_held a file ≡ false
+  away file birth h =
+      let wished = is_with_birth (wish_at a file) birth in
+      let filled = is_fill_at (fill_at a file) birth in
+      elim (or_cases wished (not (is_held a file) && filled) h) [
+        | inl wish ↦ (let w = wish_there (wish_at a file) birth wish in
+            (k.births.wished file w.0 w.1).0)
+        | inr fill ↦ not_true (is_held a file) (and_parts (not (is_held a file)) filled fill).0
+      ]
+
+  pending : (file : FileId) (birth : ℕ) → is_pending a file birth ≡ true → core_at a file ≡ None
+  pending file birth h =
+      ap (option_map core_of)
+      (none_there (replica_at a file) (k.together file ∙ away file birth h))
+
+  pub paired : IsPaired a
+  paired = record {
+    pending = pending;
+    both = λ file h. one_there (replica_at a file) (k.together file ∙ h);
+    births = λ file c e.
+        let x = replica_of_core a file c e in
+        let birth = ap (λ (d : Core). d.birth) x.2 in
+        (k.births.replicas file c.birth
+        (ap (option_map (λ (y : Replica). y.birth)) x.1 ∙ ap Some birth)).1;
+  }

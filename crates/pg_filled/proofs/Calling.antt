@@ -1,0 +1,96 @@
+-- What each call keeps of names: new things, places that things get, and versions, which raise the greatest time.
+use Rattle.std.proofs.Common.{ℕ, ◌≡◌, ◌==◌, List, Option, None, Some, Result, Ok, Err, refl}
+use Rattle.pg_base.specs.declared.id.FileId.{FileId}
+use Rattle.pg_base.specs.declared.id.Kind.{Kind}
+use Rattle.pg_base.specs.declared.id.Kind.TheVariants.{Dir, File}
+use Rattle.pg_base.specs.declared.policy.Policy.{Policy}
+use Rattle.pg_base.specs.declared.policy.Policy.TheVariants.{Last}
+use Rattle.pg_patch.specs.Ranges.{RangesValue, cut_to, written}
+use Rattle.pg_register.specs.declared.place.Place.{Place}
+use Rattle.pg_msg.specs.declared.work.Work.{Work}
+use Rattle.pg_call.specs.declared.call.Call.{Call}
+use Rattle.pg_call.specs.declared.call.Call.TheVariants as call
+use Rattle.pg_call.specs.declared.reply.Reply.{Reply}
+use Rattle.pg_names.specs.Names.{NamesValue, raise}
+use Rattle.pg_store.specs.declared.store.Store.{Store}
+use Rattle.pg_store.specs.declared.wishes.Wish.{Wish}
+use Rattle.pg_store.specs.Births.{with_birth, with_wish}
+use Rattle.pg_store.specs.Store.{take_place}
+use Rattle.pg_walk.specs.declared.paths.Found.{Found}
+use Rattle.pg_walk.specs.declared.paths.Stop.{Stop}
+use Rattle.pg_walk.specs.declared.paths.Stop.TheVariants as stop
+use Rattle.pg_cells.specs.Done.{Done, idle}
+use Rattle.pg_calls.specs.declared.checks.NewName.{NewName}
+use Rattle.pg_calls.specs.Answer.{Answer, answered, replied, told}
+use Rattle.pg_calls.specs.Asking.{ask_by, ask_first, fetch, fresh_wish, holder, standing}
+use Rattle.pg_calls.specs.Bodies.{change, change_file, when_fit}
+use Rattle.pg_calls.specs.Calls.{do_call}
+use Rattle.pg_calls.specs.Checks.{dir_at, empty_dir_at, file_at, in_time, move_of, new_name, target_at}
+use Rattle.pg_calls.specs.Making.{drawn}
+use Rattle.pg_calls.specs.Naming.{next_id, with_id, with_thing}
+use Rattle.pg_promises.proofs.Choices.{chosen}
+
+-- a property of names that what a call does keeps, at a server that holds this: a new thing, a place with the stamp that
+-- is drawn now, and a greater time
+pub record CallsKeep (P : NamesValue → Type 0) (a : Store) (work : Work) : Type 0 where
+  pub thing : (kind : Kind) (policy : Policy) (new : NewName) → P a.names → P (with_thing (with_id a) work (next_id a kind) policy new).store.names
+  pub place : (f : FileId) (p : Place) → p.stamp ≡ drawn a work.now → P a.names → P (take_place a f p).names
+  pub raised : (s : NamesValue) (time : ℕ) → P s → P (raise s time)
+
+module _ (P : NamesValue → Type 0) (a : Store) (work : Work) (k : CallsKeep P a work) (h : P a.names) where
+  abbrev OfDone : Done → Type 0
+  OfDone d = P d.store.names
+
+  abbrev OfAnswer : Answer → Type 0
+  OfAnswer b = P b.store.names
+
+  -- ---- what is asked for
+
+  first_kept : (file : FileId) (target : ℕ) → OfDone (ask_first a file target work)
+  first_kept file target =
+      let wish = fresh_wish a target in
+      chosen OfDone (target == 0) (idle a work) (idle (with_wish (with_birth a) file wish) (fetch a file wish work)) h h
+
+  asked_kept : (found : Found) (o : Option Wish) → OfDone (ask_by a found o work)
+  asked_kept found None = first_kept found.file (holder a found)
+  asked_kept found (Some wish) = h
+
+  -- ---- answers
+
+  answered_kept : {A : Type 0} (check : Result A Stop) (next : A → Answer) → ((x : A) → OfAnswer (next x)) → OfAnswer (answered a work check next)
+  answered_kept (Err (stop.Refused why)) next each = h
+  answered_kept (Err (stop.NotYet found)) next each = asked_kept found (standing a found.file)
+  answered_kept (Ok x) next each = each x
+
+  looked_kept : {A : Type 0} (check : Result A Stop) (tell : A → Reply) → OfAnswer (replied a work check tell)
+  looked_kept check tell = answered_kept check (λ x. told a work (tell x)) (λ x. h)
+
+  changed_kept : (text : List ℕ) (ranges : RangesValue) → OfAnswer (change a text ranges work)
+  changed_kept text ranges =
+      answered_kept (file_at a text) (change_file a ranges work)
+      (λ file. answered_kept (when_fit a ranges file) _ (λ fit. k.raised a.names (drawn a work.now).time h))
+
+  timed_kept : (tell : Unit {0} → Reply) → OfAnswer (replied a work (in_time a (tt {0})) tell)
+  timed_kept tell = looked_kept (in_time a (tt {0})) tell
+
+  -- A CALL
+  pub call_kept : (c : Call) → OfAnswer (do_call a c work)
+  call_kept (call.Mkdir text) = answered_kept (new_name a (next_id a Dir) text) _ (λ new. k.thing Dir Last new h)
+  call_kept (call.Create text policy) =
+      answered_kept (new_name a (next_id a File) text) _
+      (λ new. k.raised (with_thing (with_id a) work (next_id a File) policy new).store.names _ (k.thing File policy new h))
+  call_kept (call.Write text offset bytes) = changed_kept text (written offset bytes)
+  call_kept (call.Cut text length) = changed_kept text (cut_to length)
+  call_kept (call.Read text offset count) = looked_kept (file_at a text) _
+  call_kept (call.Fresh text) = looked_kept (file_at a text) _
+  call_kept (call.Ls text from) = looked_kept (dir_at a text) _
+  call_kept (call.Stat target) = looked_kept (target_at a target) _
+  call_kept (call.Rename from to) = answered_kept (move_of a from to) _ (λ move. k.place move.thing _ refl h)
+  call_kept (call.Unlink text) = answered_kept (file_at a text) _ (λ file. k.place file _ refl h)
+  call_kept (call.Rmdir text) = answered_kept (empty_dir_at a text) _ (λ dir. k.place dir _ refl h)
+  call_kept (call.Forget id) = timed_kept _
+  call_kept (call.Demote target) = timed_kept _
+  call_kept (call.Drop target) = timed_kept _
+  call_kept (call.Giveup view server) = timed_kept _
+  call_kept call.Status = timed_kept _
+  call_kept call.Stop = timed_kept _

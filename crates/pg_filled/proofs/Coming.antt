@@ -1,0 +1,152 @@
+-- What each message keeps of names.
+use Rattle.std.proofs.Common.{ℕ, ◌≡◌, ◌&&◌, not, Bool, true, false, cond, refl, ap}
+use Rattle.pg_base.specs.declared.id.FileId.{FileId}
+use Rattle.pg_register.specs.declared.place.Place.{Place}
+use Rattle.pg_entries.specs.declared.cell.Cell.TheVariants as cell
+use Rattle.pg_entries.specs.declared.cell.Cell.{Cell}
+use Rattle.pg_entries.specs.declared.entry.Entry.{Entry}
+use Rattle.pg_house.specs.Work.{is_root}
+use Rattle.pg_intent.specs.Intents.{ended, intent_at}
+use Rattle.pg_intent.specs.declared.key.IntentKey.TheVariants as intent_key
+use Rattle.pg_msg.specs.declared.message.Ends.{Ends}
+use Rattle.pg_msg.specs.declared.message.Granted.{Granted}
+use Rattle.pg_msg.specs.declared.message.Message.{Message}
+use Rattle.pg_msg.specs.declared.message.Message.TheVariants as message
+use Rattle.pg_msg.specs.declared.work.Work.{Work}
+use Rattle.pg_names.specs.declared.own.Own.{Own}
+use Rattle.pg_names.specs.Names.{NamesValue}
+use Rattle.pg_names.specs.Names as names
+use Rattle.pg_store.specs.declared.store.Store.{Store}
+use Rattle.pg_store.specs.Beginning.{with_intents}
+use Rattle.pg_store.specs.Births.{fill_at, has_birth, is_pending, wish_at, with_wishes}
+use Rattle.pg_store.specs.Links.{knows_later}
+use Rattle.pg_store.specs.Servers.{next_target}
+use Rattle.pg_store.specs.Store.{is_full, is_held, with_names}
+use Rattle.pg_store.specs.Wishes.{aim_wish}
+use Rattle.pg_cells.specs.declared.accepting.Manner.{Manner}
+use Rattle.pg_cells.specs.declared.accepting.Manner.TheVariants as manner
+use Rattle.pg_cells.specs.Accepting.{accept, is_accepted, link_peer, met, with_gone}
+use Rattle.pg_cells.specs.Cells.{cell as cell_comes, fits, taken_along}
+use Rattle.pg_cells.specs.Done.{Done, idle}
+use Rattle.pg_cells.specs.Making.{own_next, raise_flag}
+use Rattle.pg_cells.specs.Posting.{reply}
+use Rattle.pg_cells.specs.Taking.{take_entry_noted, take_place_noted}
+use Rattle.pg_repair.specs.Confirming.{confirm, confirmed, is_confirmed, place_is, place_told, take_told_flags, take_told_place}
+use Rattle.pg_repair.specs.Fetching.{answered_fetch, fetch}
+use Rattle.pg_repair.specs.Filling.{fill, full}
+use Rattle.pg_repair.specs.Granting.{aim_fill, begin_granted, begun_by, fill_asks, grant, granted_own, no_grant, turn_wish, wish_asks}
+use Rattle.pg_repair.specs.NoneHere.{asking_key, does_ask}
+use Rattle.pg_repair.specs.Telling.{is_told, tell, told}
+use Rattle.pg_server.specs.Local.{receive}
+use Rattle.pg_promises.proofs.Choices.{chosen}
+use Rattle.pg_filled.proofs.Pieces.{AreKept, begin_kept, entry_kept, flag_kept, flags_kept, link_kept, place_kept, taken_kept, unlink_kept}
+
+-- what a message from a server may bring one that holds this
+pub record MayCome (Places : FileId → Place → Type 0) (Begins : FileId → Own → Bool → Type 0) (Fills : FileId → Type 0) (a : Store) (from : ℕ) (m : Message) : Type 0 where
+  pub cell : (ends : Ends) (tag : ℕ) (p : Place) → m ≡ message.Cell ends tag (cell.Place p) → Places ends.file p
+  pub confirm : (dir : FileId) (e : Entry) → m ≡ message.Confirm dir e → Places e.child e.place
+  pub grant : (ends : Ends) (g : Granted) → m ≡ message.Grant ends g → Begins ends.file (granted_own g) false
+  pub full : (ends : Ends) → m ≡ message.Full ends → Fills ends.file
+
+module _ (P : NamesValue → Type 0) (Places : FileId → Place → Type 0) (Begins : FileId → Own → Bool → Type 0) (Fills : FileId → Type 0) (k : AreKept P Places Begins Fills) (a : Store) (h : P a.names) where
+  abbrev Of : Store → Type 0
+  Of b = P b.names
+
+  abbrev OfDone : Done → Type 0
+  OfDone d = P d.store.names
+
+  met_kept : (ends : Ends) (how : Manner) (work : Work) → OfDone (met a ends how work)
+  met_kept ends manner.Link work = link_kept P Places Begins Fills k a ends.file work.from ends.sender h
+  met_kept ends manner.Ask work = h
+  met_kept ends manner.Answer work = h
+
+  accept_kept : (ends : Ends) (how : Manner) (work : Work) → OfDone (accept a ends how work)
+  accept_kept ends how work =
+      chosen OfDone (has_birth a ends.file ends.receiver)
+      (cond (knows_later a ends.file work.from ends.sender) (idle a work) (met a ends how work)) (idle a (with_gone a ends how work))
+      (chosen OfDone (knows_later a ends.file work.from ends.sender) (idle a work) (met a ends how work) h (met_kept ends how work)) h
+
+  cell_kept : (ends : Ends) (tag : ℕ) (c : Cell) (work : Work) → ((p : Place) → c ≡ cell.Place p → Places ends.file p) → OfDone (cell_comes a ends tag c work)
+  cell_kept ends tag c work may =
+      let met_first = accept a ends manner.Link work in
+      let first = accept_kept ends manner.Link work in
+      chosen OfDone (fits ends.file c) (cond (is_accepted a work.from manner.Link ends) (taken_along ends tag c met_first) met_first) (idle a work)
+      (chosen OfDone (is_accepted a work.from manner.Link ends) (taken_along ends tag c met_first) met_first
+      (taken_kept P Places Begins Fills k met_first.store ends.file c met_first.work may first) first) h
+
+  fetch_kept : (f : FileId) (birth : ℕ) (work : Work) → OfDone (fetch a f birth work)
+  fetch_kept f birth work =
+      let answered = answered_fetch f birth (link_peer a f work.from birth work) in
+      chosen OfDone (is_full a f) (cond (knows_later a f work.from birth) (idle a work) answered)
+      (idle a (reply a (message.NoGrant f birth) work))
+      (chosen OfDone (knows_later a f work.from birth) (idle a work) answered h (link_kept P Places Begins Fills k a f work.from birth h)) h
+
+  grant_kept : (ends : Ends) (g : Granted) (work : Work) → Begins ends.file (granted_own g) false → OfDone (grant a ends g work)
+  grant_kept ends g work may =
+      chosen OfDone (is_pending a ends.file ends.receiver) (begin_granted a ends g work) (accept a ends manner.Link work)
+      (link_kept P Places Begins Fills k (begun_by a ends g) ends.file work.from ends.sender
+      (begin_kept P Places Begins Fills k a ends.file ends.receiver g.policy (granted_own g) false may h))
+      (accept_kept ends manner.Link work)
+
+  no_grant_kept : (f : FileId) (birth : ℕ) (work : Work) → OfDone (no_grant a f birth work)
+  no_grant_kept f birth work =
+      let next = next_target a work.from in
+      let turned = turn_wish a f birth work.from next in
+      chosen Of (fill_asks (fill_at turned f) birth work.from) (aim_fill turned f next) turned
+      (chosen Of (wish_asks (wish_at a f) birth work.from) (with_wishes a (aim_wish a.wishes f next)) a h h)
+      (chosen Of (wish_asks (wish_at a f) birth work.from) (with_wishes a (aim_wish a.wishes f next)) a h h)
+
+  full_kept : (ends : Ends) (work : Work) → Fills ends.file → OfDone (full a ends work)
+  full_kept ends work may =
+      let b = with_names a (names.fill a.names ends.file) in
+      let now = k.filled a.names ends.file may h in
+      chosen OfDone (is_accepted a work.from manner.Answer ends && not (is_full a ends.file)) (fill a ends.file work) (idle a work)
+      (chosen OfDone _ (raise_flag b ends.file work) (idle b work) (flag_kept P Places Begins Fills k b ends.file (own_next b ends.file true) now) now) h
+
+  confirm_kept : (dir : FileId) (e : Entry) (work : Work) → Places e.child e.place → OfDone (confirm a dir e work)
+  confirm_kept dir e work may =
+      let one = take_told_place a e work in
+      let first : OfDone one = chosen OfDone (is_root e.child) (idle a work) (take_place_noted a e.child e.place work) h (place_kept P Places Begins Fills k a e.child e.place may h) in
+      chosen OfDone (is_held a e.child) (place_told dir e.child (take_told_flags e one)) (idle a _)
+      (flags_kept P Places Begins Fills k one.store e.child e.flags one.work first) h
+
+  place_is_kept : (dir : FileId) (e : Entry) (work : Work) → OfDone (place_is a dir e work)
+  place_is_kept dir e work =
+      let b = take_entry_noted a dir e work in
+      let first = entry_kept P Places Begins Fills k a dir e h in
+      chosen OfDone (is_held a dir) (confirmed dir e b) (idle a work)
+      (chosen Of (is_confirmed b.store dir e.child e.place.stamp) (with_intents b.store (ended b.store.intents (intent_key.Confirm dir e.child))) b.store first first) h
+
+  tell_kept : (dir : FileId) (e : Entry) (work : Work) → OfDone (tell a dir e work)
+  tell_kept dir e work = chosen OfDone (is_held a dir) (told dir e (take_entry_noted a dir e work)) (idle a _) (entry_kept P Places Begins Fills k a dir e h) h
+
+  -- A MESSAGE
+  pub receive_kept : (m : Message) (work : Work) → MayCome Places Begins Fills a work.from m → OfDone (receive a m work)
+  receive_kept (message.Cell ends tag c) work may = cell_kept ends tag c work (λ p same. may.cell ends tag p (ap (message.Cell ends tag) same))
+  receive_kept (message.Ack ends q tag) work may = h
+  receive_kept (message.Harbinger ends tag head) work may = h
+  receive_kept (message.Want ends wanted) work may = h
+  receive_kept (message.Delta ends delta) work may = h
+  receive_kept (message.Piece ends piece) work may = h
+  receive_kept (message.Later ends stamp) work may = h
+  receive_kept (message.Fetch file birth) work may = fetch_kept file birth work
+  receive_kept (message.Grant ends granted) work may = grant_kept ends granted work (may.grant ends granted refl)
+  receive_kept (message.NoGrant file birth) work may = no_grant_kept file birth work
+  receive_kept (message.Full ends) work may = full_kept ends work (may.full ends refl)
+  receive_kept (message.Seek file birth) work may = h
+  receive_kept (message.Here ends) work may = h
+  receive_kept (message.NoneHere ask file child) work may =
+      chosen Of (does_ask (intent_at a.intents (asking_key ask file child)) work.from) _ a h h
+  receive_kept (message.Gone file birth) work may = unlink_kept P Places Begins Fills k a file work.from birth h
+  receive_kept (message.Bye ends) work may = h
+  receive_kept (message.ByeOk file birth) work may = h
+  receive_kept (message.Confirm dir entry) work may = confirm_kept dir entry work (may.confirm dir entry refl)
+  receive_kept (message.PlaceIs dir entry) work may = place_is_kept dir entry work
+  receive_kept (message.Tell dir entry) work may = tell_kept dir entry work
+  receive_kept (message.TellOk dir child stamp) work may =
+      chosen Of (is_told (intent_at a.intents (intent_key.Patch dir child)) stamp work.from) _ a h h
+  receive_kept (message.Leave ends stamp) work may = h
+  receive_kept (message.LeaveOk ends stamp) work may = h
+  receive_kept (message.Invite ends) work may = h
+  receive_kept (message.Walk ends origin birth hops word) work may = h
+  receive_kept (message.Meet ends) work may = h

@@ -1,0 +1,13 @@
+pub mod Acting
+pub mod Pieces
+pub mod Coming
+pub mod Calling
+pub mod Effects
+pub mod HousePlaces
+pub mod Works
+pub mod Replies
+pub mod Sends
+pub mod Told
+pub mod Placed
+pub mod Clean
+pub mod Filling

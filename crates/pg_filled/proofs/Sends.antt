@@ -1,0 +1,102 @@
+-- What is sent in an event: replies, what asks for a replica, cells of what is held before, in a tick, and behind, and
+-- what intentions ask.
+use Rattle.std.proofs.Common.{ℕ, ◌≡◌, true, [], ◌++◌, get_or, All, refl, subst}
+use Rattle.std.specs.List.{flat_map}
+use Rattle.std.proofs.lemmas.List.Elements.{All-append, All-nil, All-push}
+use Rattle.pg_base.specs.declared.id.FileId.{FileId}
+use Rattle.pg_intent.specs.declared.intent.Intent.{Intent}
+use Rattle.pg_intent.specs.declared.key.IntentKey.{IntentKey}
+use Rattle.pg_msg.specs.declared.message.Ends.{Ends}
+use Rattle.pg_msg.specs.declared.message.Message.{Message}
+use Rattle.pg_msg.specs.declared.message.Message.TheVariants as message
+use Rattle.pg_msg.specs.declared.message.Packet.{Packet}
+use Rattle.pg_msg.specs.declared.message.Sent.{Sent}
+use Rattle.pg_msg.specs.declared.work.Work.{Work}
+use Rattle.pg_msg.specs.Work.{new_work}
+use Rattle.pg_store.specs.declared.store.Store.{Store}
+use Rattle.pg_names.specs.declared.own.Own.{Own}
+use Rattle.pg_replica.specs.declared.replica.Replica.{Replica}
+use Rattle.pg_store.specs.Links.{is_clean}
+use Rattle.pg_store.specs.Store.{is_full, is_in_time}
+use Rattle.pg_cells.specs.Accepting.{link_peer}
+use Rattle.pg_cells.specs.Posting.{sent_to}
+use Rattle.pg_repair.specs.Fetching.{ends_to, granted_from}
+use Rattle.pg_cells.specs.Done.{Done, idle}
+use Rattle.pg_cells.specs.Sending.{Wanted, cells_where, is_any, is_chosen}
+use Rattle.pg_repair.specs.Requests.{asks, asks_by}
+use Rattle.pg_server.specs.declared.input.Input.{Input}
+use Rattle.pg_server.specs.declared.input.Input.TheVariants as input
+use Rattle.pg_server.specs.Local.{effect, first_effect, is_heard, receive, sent_again}
+use Rattle.pg_promises.proofs.Choices.{All-flat_map, chosen}
+use Rattle.pg_run.proofs.Event.{all_sent, end_of, store_is}
+use Rattle.pg_filled.proofs.Replies.{MayAnswer, call_sends, receive_sends}
+use Rattle.pg_filled.proofs.Works.{IsClosed, is_plain}
+
+-- a property of messages: plain ones have it, what is granted does, and, where a server that holds this is asked for a
+-- replica, what it says is full once it has linked who asks
+pub record MayReply (P : Sent → Type 0) (a : Store) (w : Work) (m : Message) : Type 0 where
+  pub granted : (b : Store) (to : ℕ) (ends : Ends) (own : Own) (x : Replica) → P (sent_to b to (message.Grant ends (granted_from ends.file own x)))
+  pub full : (file : FileId) (birth : ℕ) → m ≡ message.Fetch file birth → is_full a file ≡ true
+      → let d = link_peer a file w.from birth w in is_clean d.store file d.work.from birth ≡ true
+      → P (sent_to d.store d.work.from (message.Full (ends_to d.store file birth)))
+
+-- a property of all that may be sent in an event, from what a server holds to what it holds then
+pub record MaySend (P : Sent → Type 0) (a e : Store) (asked : Input) : Type 0 where
+  pub plain : (x : Sent) → is_plain x.packet.message ≡ true → P x
+  pub replies : (packet : Packet) → asked ≡ input.Arrival packet → MayReply P a (new_work 0 packet.from) packet.message
+  pub cells_before : (wanted : Wanted) → All P (cells_where a wanted)
+  pub cells_behind : (wanted : Wanted) → All P (cells_where e wanted)
+  pub asked_before : All (λ (i : Intent). All P (asks a i)) a.intents
+  pub asked_behind : (q : IntentKey) → All P (asks_by e q)
+
+module _ (P : Sent → Type 0) (a : Store) where
+  abbrev OfWork : Work → Type 0
+  OfWork w = All P w.sent
+
+  abbrev OfDone : Done → Type 0
+  OfDone d = All P d.work.sent
+
+  sent_closed : ((x : Sent) → is_plain x.packet.message ≡ true → P x) → IsClosed OfWork
+  sent_closed plain = record {
+    touched = λ w f q h. h;
+    left = λ w d f h. h;
+    unsure = λ w d f h. h;
+    linked = λ w f peer h. h;
+    flagged = λ w f g h. h;
+    sent = λ w x is h. All-push P w.sent x h (plain x is);
+  }
+
+  sent_answers : (w : Work) (m : Message) → MayReply P a w m → MayAnswer OfWork a w m
+  sent_answers w m may = record {
+    granted = λ v b to ends own x h. All-push P v.sent _ h (may.granted b to ends own x);
+    full = λ file birth is holds clean h. All-push P _ _ h (may.full file birth is holds clean);
+  }
+
+  -- ---- the first effect
+
+  again_sends : (e : Store) (asked : Input) → MaySend P a e asked → (moment : ℕ) → All P (sent_again a (new_work moment 0)).sent
+  again_sends e asked may moment =
+      All-append P ([] ++ cells_where a is_any) (flat_map (asks a) a.intents)
+      (All-append P [] (cells_where a is_any) (All-nil P) (may.cells_before is_any)) (All-flat_map P (asks a) a.intents may.asked_before)
+
+  first_sends : (e : Store) (asked : Input) → MaySend P a e asked → OfDone (first_effect a asked)
+  first_sends e (input.Call moment c) may =
+      call_sends OfWork (sent_closed may.plain) a (new_work moment 0) (record { place = λ f p so h. h; version = λ v u h. h }) (All-nil P) c
+  first_sends e (input.Tick moment word) may =
+      chosen OfWork (is_in_time a) (sent_again a (new_work moment 0)) (new_work moment 0)
+      (again_sends e (input.Tick moment word) may moment) (All-nil P)
+  first_sends e (input.Arrival packet) may =
+      let w = new_work 0 packet.from in
+      chosen OfDone (is_heard a packet) (receive a packet.message w) (idle a w)
+      (receive_sends OfWork (sent_closed may.plain) a w (All-nil P) packet.message (sent_answers w packet.message (may.replies packet refl))) (All-nil P)
+  first_sends e input.Restart may = All-nil P
+
+  -- IN AN EVENT
+  pub effect_sends : (asked : Input) → MaySend P a (effect a asked).store asked → All P (effect a asked).out.sent
+  effect_sends asked may =
+      let d = end_of a asked in
+      let chosen_ones = is_chosen d.work.touched d.work.linked in
+      all_sent P a asked (first_sends (effect a asked).store asked may)
+      (subst (λ (x : Store). All P (cells_where x chosen_ones)) (store_is a asked) (may.cells_behind chosen_ones))
+      (All-flat_map P (asks_by d.store) d.work.begun
+      (λ i q lt. subst (λ (x : Store). All P (asks_by x (get_or d.work.begun i q))) (store_is a asked) (may.asked_behind (get_or d.work.begun i q))))

@@ -1,0 +1,145 @@
+-- Who is asked by the intentions that begin behind an event.
+use Rattle.std.proofs.Common.{ℕ, ◌≡◌, ◌==◌, Bool, true, false, cond, not, find, is_some, List, [], ◌∷◌, Option, None, Some, All, refl, sym, ap, subst, ◌∙◌}
+use Rattle.std.specs.Option.{option_map, unwrap_or}
+use Rattle.std.proofs.lemmas.Bool.{and_parts}
+use Rattle.std.proofs.lemmas.List.Elements.{All-filter, All-head, All-tail}
+use Rattle.std.proofs.lemmas.Option.{none-some, same_Some}
+use Rattle.pg_base.specs.declared.id.FileId.{FileId}
+use Rattle.pg_entries.specs.declared.entry.Entry.{Entry}
+use Rattle.pg_intent.specs.declared.intent.Intent.{Intent}
+use Rattle.pg_intent.specs.declared.intent.Intent.TheVariants as intent
+use Rattle.pg_intent.specs.Intent.{key_of, rejoined, target_of}
+use Rattle.pg_intent.specs.Intents.{stands}
+use Rattle.pg_msg.specs.declared.work.Slot.{Slot}
+use Rattle.pg_msg.specs.declared.work.Work.{Work}
+use Rattle.pg_msg.specs.Work.{with_begun}
+use Rattle.pg_names.specs.Names.{NamesValue, cell_at}
+use Rattle.pg_register.specs.declared.flag.Flag.{Flag}
+use Rattle.pg_register.specs.Flag.{first_other_gold, is_live}
+use Rattle.pg_register.specs.Flag.{is_live_other as is_live_other_flag}
+use Rattle.pg_store.specs.declared.store.Store.{Store}
+use Rattle.pg_store.specs.declared.wishes.Wish.{Wish}
+use Rattle.pg_store.specs.Births.{fill_at, wish_at}
+use Rattle.pg_store.specs.Servers.{next_target}
+use Rattle.pg_store.specs.Store.{is_held}
+use Rattle.pg_cells.specs.Done.{Done, idle}
+use Rattle.pg_repair.specs.Beginning.{begin_end, end_others, still_stands}
+use Rattle.pg_repair.specs.Confirms.{begin_confirm, confirm_of, holder_by, is_doubtful}
+use Rattle.pg_repair.specs.Fills.{begin_fill, begin_fills, fill_of, files_to_fill, to_fill, with_fill_birth, without_wished}
+use Rattle.pg_repair.specs.Intending.{begin_intent, each, in_order, with_begun_if}
+use Rattle.pg_repair.specs.Patches.{begin_patch, begin_patches, patch_of}
+use Rattle.pg_promises.specs.Whole.{IsOther}
+use Rattle.pg_promises.proofs.Choices.{chosen}
+use Rattle.pg_order.specs.Named.{IsOfServer}
+use Rattle.pg_order.proofs.Intended.{all_begun}
+use Rattle.pg_intends.proofs.Aimed.{first_aims, next_aims, not_equal}
+use Rattle.pg_intends.proofs.Far.{Aims, AreAimed}
+
+-- ---- who is asked by what begins
+
+rejoined_target : (held i : Intent) → target_of (rejoined held i) ≡ target_of held
+rejoined_target (intent.Patch d e t) (intent.Patch dir entry target) = refl
+rejoined_target (intent.Patch d e t) i = refl
+rejoined_target (intent.Bye file birth peer peer_birth) i = refl
+rejoined_target (intent.Seek file target) i = refl
+rejoined_target (intent.Fill file birth target) i = refl
+rejoined_target (intent.Confirm dir child target) i = refl
+rejoined_target (intent.Leave file peer peer_birth) i = refl
+
+-- cells tell of flags of the run's servers
+abbrev pub FlagsAreOfServers : ℕ → NamesValue → Type 0
+FlagsAreOfServers n m = (dir child : FileId) (e : Entry) → cell_at m dir child ≡ Some e → All (IsOfServer n) e.flags
+
+pub record IsAiming (n s : ℕ) (b : Store) (w : Work) : Type 0 where
+  pub servers : b.servers ≡ n
+  pub server : b.names.server ≡ s
+  pub from : Aims n s w.from
+  pub flags : FlagsAreOfServers n b.names
+  pub aims : AreAimed n s b.intents
+
+module _ (n s : ℕ) where
+  begun_from : (t : Bool) (w : Work) (i : Intent) → (with_begun_if t w (key_of i)).from ≡ w.from
+  begun_from t w i = chosen (λ (v : Work). v.from ≡ w.from) t (with_begun w (key_of i)) w refl refl
+
+  aiming_begun : (b : Store) (i : Intent) (w : Work) → IsAiming n s b w → Aims n s (target_of i) → IsAiming n s (begin_intent b i w).store (begin_intent b i w).work
+  aiming_begun b i w k here = record {
+    servers = k.servers;
+    server = k.server;
+    from = subst (Aims n s) (sym (begun_from (not (stands b.intents (key_of i))) w i)) k.from;
+    flags = k.flags;
+    aims = all_begun (λ (j : Intent). Aims n s (target_of j)) b.intents i k.aims here
+        (λ held same was. subst (Aims n s) (sym (rejoined_target held i)) was);
+  }
+
+  aiming_either : (t : Bool) (d e : Done) → IsAiming n s d.store d.work → IsAiming n s e.store e.work → IsAiming n s (cond t d e).store (cond t d e).work
+  aiming_either t d e one other = chosen (λ (x : Done). IsAiming n s x.store x.work) t d e one other
+
+  each_aiming : {A : Type 0} (step : Store → A → Work → Done)
+      → ((b : Store) (x : A) (w : Work) → IsAiming n s b w → IsAiming n s (step b x w).store (step b x w).work)
+      → (xs : List A) (b : Store) (w : Work) → IsAiming n s b w → IsAiming n s (each step b xs w).store (each step b xs w).work
+  each_aiming step one [] b w k = k
+  each_aiming step one (x ∷ xs) b w k = each_aiming step one xs (step b x w).store (step b x w).work (one b x w k)
+
+  patch_aiming : (b : Store) (x : Slot) (w : Work) → IsAiming n s b w → IsAiming n s (begin_patch b x w).store (begin_patch b x w).work
+  patch_aiming b x w k =
+      aiming_either (is_held b x.dir) (idle b w) (begin_intent b (patch_of b x w) w) k
+      (aiming_begun b (patch_of b x w) w k (first_aims n s b k.servers k.server w.from k.from))
+
+  wished_aiming : (b : Store) (f : FileId) (o : Option Wish) (w : Work) → IsAiming n s b w → IsAiming n s (without_wished b f o) w
+  wished_aiming b f None w k = record { servers = k.servers; server = k.server; from = k.from; flags = k.flags; aims = k.aims }
+  wished_aiming b f (Some wish) w k = record { servers = k.servers; server = k.server; from = k.from; flags = k.flags; aims = k.aims }
+
+  fill_aiming : (b : Store) (f : FileId) (w : Work) → IsAiming n s b w → IsAiming n s (begin_fill b f w).store (begin_fill b f w).work
+  fill_aiming b f w k =
+      let c = with_fill_birth b f in
+      let ready = chosen (λ (x : Store). IsAiming n s x w) (is_held b f) b (without_wished b f (wish_at b f)) k (wished_aiming b f (wish_at b f) w k) in
+      aiming_either (is_some (fill_at b f)) (idle b w) (begin_intent c (fill_of b f w) w) k
+      (aiming_begun c (fill_of b f w) w ready (first_aims n s c ready.servers ready.server w.from k.from))
+
+  -- the holder of a child
+  found_gold : (removed : List ℕ) (flags : List Flag) (t : ℕ) → All (IsOfServer n) flags → first_other_gold s removed flags ≡ Some t → IsOther n s t
+  found_gold removed [] t all h = absurd (none-some t h)
+  found_gold removed (flag ∷ flags) t all h =
+      by (is_live_other_flag s removed flag) refl (found_gold removed flags t (All-tail (IsOfServer n) flag flags all)) h
+    where
+      by : (u : Bool) → is_live_other_flag s removed flag ≡ u → (first_other_gold s removed flags ≡ Some t → IsOther n s t)
+          → option_map (λ (f : Flag). f.server) (cond u (Some flag) (find (is_live_other_flag s removed) flags)) ≡ Some t → IsOther n s t
+      by true is more e =
+          let here = All-head (IsOfServer n) flag flags all in
+          subst (IsOther n s) (same_Some flag.server t e) (record { least = here.least; most = here.most; apart = not_equal flag.server s (and_parts (is_live removed flag) (not (flag.server == s)) is).1 })
+      by false is more e = more e
+
+  holder_of : (b : Store) (next : ℕ) (flags : List Flag) (o : Option ℕ) → first_other_gold b.names.server b.names.removed flags ≡ o → b.names.server ≡ s → All (IsOfServer n) flags → Aims n s next
+      → Aims n s (unwrap_or o next)
+  holder_of b next flags None at server all here = here
+  holder_of b next flags (Some t) at server all here =
+      λ some. found_gold b.names.removed flags t all (sym (ap (λ (j : ℕ). first_other_gold j b.names.removed flags) server) ∙ at)
+
+  holder_by_aims : (b : Store) (dir child : FileId) (next : ℕ) (o : Option Entry) → cell_at b.names dir child ≡ o → b.names.server ≡ s → FlagsAreOfServers n b.names → Aims n s next
+      → Aims n s (holder_by b next o)
+  holder_by_aims b dir child next None at server all here = here
+  holder_by_aims b dir child next (Some e) at server all here =
+      holder_of b next e.flags (first_other_gold b.names.server b.names.removed e.flags) refl server (all dir child e at) here
+
+  confirm_aiming : (b : Store) (x : Slot) (w : Work) → IsAiming n s b w → IsAiming n s (begin_confirm b x w).store (begin_confirm b x w).work
+  confirm_aiming b x w k =
+      aiming_either (is_doubtful b x.dir x.child) (begin_intent b (confirm_of b x) w) (idle b w)
+      (aiming_begun b (confirm_of b x) w k
+      (holder_by_aims b x.dir x.child (next_target b b.names.server) (cell_at b.names x.dir x.child) refl k.server k.flags
+      (next_aims n s b k.servers k.server b.names.server))) k
+
+  pub end_aiming : (a : Store) (w : Work) → IsAiming n s a w → IsAiming n s (begin_end a w).store (begin_end a w).work
+  end_aiming a w k =
+      let e = end_others a (files_to_fill a.names) in
+      let ended : IsAiming n s e w = record {
+        servers = k.servers;
+        server = k.server;
+        from = k.from;
+        flags = k.flags;
+        aims = All-filter (still_stands a (files_to_fill a.names)) (λ (j : Intent). Aims n s (target_of j)) a.intents k.aims;
+      } in
+      let p = begin_patches e w in
+      let f = begin_fills p.store (to_fill a.names) p.work in
+      each_aiming begin_confirm confirm_aiming (in_order f.work.unsure) f.store f.work
+      (each_aiming begin_fill fill_aiming (to_fill a.names) p.store p.work
+      (each_aiming begin_patch patch_aiming (in_order w.left) e w ended))

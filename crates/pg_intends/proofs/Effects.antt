@@ -1,0 +1,126 @@
+-- An event at a server leaves its intentions in order.
+use Rattle.std.proofs.Common.{ℕ, ◌≡◌, ◌≢◌, ◌==◌, Bool, true, false, cond, refl, sym, ap, subst, ◌∙◌}
+use Rattle.std.proofs.lemmas.Bool.{and_parts, false≢true}
+use Rattle.pg_base.specs.declared.id.Kind.{Kind}
+use Rattle.pg_msg.specs.declared.work.Work.{Work}
+use Rattle.pg_msg.specs.Numbers.{is_in_range}
+use Rattle.pg_msg.specs.Work.{new_work}
+use Rattle.pg_names.specs.Names.{NamesValue}
+use Rattle.pg_store.specs.declared.store.Store.{Store}
+use Rattle.pg_store.specs.Servers.{is_live_other, view_of}
+use Rattle.pg_store.specs.Store.{is_held, is_in_time}
+use Rattle.pg_store.specs.Together.{AreBirths}
+use Rattle.pg_cells.specs.Done.{Done, idle}
+use Rattle.pg_cells.specs.Settling.{settle}
+use Rattle.pg_repair.proofs.Steady.{begin_end_stays}
+use Rattle.pg_calls.specs.Naming.{next_id}
+use Rattle.pg_calls.proofs.Late.{late_does_nothing}
+use Rattle.pg_server.specs.declared.input.Input.{Input}
+use Rattle.pg_server.specs.declared.input.Input.TheVariants as input
+use Rattle.pg_server.specs.Local.{Effect, closed, effect, finished, first_effect, is_heard, receive, reply_to, sent_again, takes_effect}
+use Rattle.pg_promises.specs.Whole.{IsWhole}
+use Rattle.pg_promises.proofs.Choices.{chosen, decided}
+use Rattle.pg_intends.proofs.Aimed.{heard_other}
+use Rattle.pg_intends.proofs.Called.{far_called}
+use Rattle.pg_intends.proofs.Asked.{FlagsAreOfServers}
+use Rattle.pg_intends.proofs.Ends.{IsResting, resting_end}
+use Rattle.pg_intends.proofs.Far.{Aims, Far}
+use Rattle.pg_intends.proofs.Heard.{far_received}
+use Rattle.pg_intends.proofs.Settled.{far_settle}
+
+-- what is known of the server, and of what the input makes of it
+pub record IsGiven (n s : ℕ) (a : Store) (asked : Input) : Type 0 where
+  pub births : AreBirths a
+  pub fresh : (kind : Kind) → is_held a (next_id a kind) ≡ false
+  pub whole : IsWhole n s (first_effect a asked).store
+  pub flags : FlagsAreOfServers n (effect a asked).store.names
+
+module _ (n s : ℕ) (a : Store) (k : IsResting n s a) where
+  abbrev Fine : Done → Type 0
+  Fine d = Far n s d
+
+  begins : (now from : ℕ) → Aims n s from → Fine (idle a (new_work now from))
+  begins now from here = record {
+    servers = k.servers;
+    server = k.server;
+    removed = k.removed;
+    from = here;
+    aims = k.aims;
+    slots = λ x h. absurd h;
+    patches = k.patches;
+  }
+
+  nobody : Aims n s 0
+  nobody h = absurd (h refl)
+
+  -- ---- what takes effect
+
+  first_far : (asked : Input) → AreBirths a → ((kind : Kind) → is_held a (next_id a kind) ≡ false) → takes_effect a asked ≡ true → Fine (first_effect a asked)
+  first_far (input.Call moment x) births fresh going = far_called n s a fresh (new_work moment 0) (begins moment 0 nobody) x
+  first_far (input.Tick moment word) births fresh going =
+      chosen (λ (w : Work). Fine (idle a w)) (is_in_time a) (sent_again a (new_work moment 0)) (new_work moment 0)
+      (record {
+        servers = k.servers;
+        server = k.server;
+        removed = k.removed;
+        from = nobody;
+        aims = k.aims;
+        slots = λ x h. absurd h;
+        patches = k.patches;
+      })
+      (begins moment 0 nobody)
+  first_far (input.Arrival packet) births fresh going =
+      decided Fine (is_heard a packet) (receive a packet.message (new_work 0 packet.from)) (idle a (new_work 0 packet.from))
+      (λ heard.
+      let one = and_parts (is_in_time a) _ heard in
+      let two = and_parts (packet.view == view_of a) _ one.1 in
+      let three = and_parts (is_live_other a packet.from) (is_in_range packet.message) two.1 in
+      far_received n s (idle a (new_work 0 packet.from)) packet.message births
+      (begins 0 packet.from (λ some. heard_other n s packet.from a k.servers k.server three.0)))
+      (λ no. absurd (false≢true (sym no ∙ going)))
+  first_far input.Restart births fresh going = record {
+    servers = k.servers;
+    server = k.server;
+    removed = k.removed;
+    from = nobody;
+    aims = k.aims;
+    slots = λ x h. absurd h;
+    patches = k.patches;
+  }
+
+  abbrev Rests : Effect → Type 0
+  Rests e = IsResting n s e.store
+
+  closed_rests : (asked : Input) → IsGiven n s a asked → takes_effect a asked ≡ true → Rests (closed (reply_to a asked) (first_effect a asked))
+  closed_rests asked given going =
+      let d = first_effect a asked in
+      let far = far_settle n s d (first_far asked given.births given.fresh going) given.whole in
+      let m = settle d.store d.work in
+      let is : effect a asked ≡ closed (reply_to a asked) d = ap (λ (t : Bool). cond t (closed (reply_to a asked) d) (finished (reply_to a asked) d)) going in
+      let ended : FlagsAreOfServers n (closed (reply_to a asked) d).store.names = subst (λ (e : Effect). FlagsAreOfServers n e.store.names) is given.flags in
+      let flags : FlagsAreOfServers n m.store.names = subst (λ (b : NamesValue). FlagsAreOfServers n b) (begin_end_stays m.store m.work).names ended in
+      resting_end n s m.store m.work far flags
+
+  -- ---- what does not
+
+  late_rests : (asked : Input) → takes_effect a asked ≡ false → Rests (finished (reply_to a asked) (first_effect a asked))
+  late_rests (input.Call moment x) late =
+      subst (λ (b : Store). IsResting n s b) (sym (late_does_nothing a x (new_work moment 0) late).0) k
+  late_rests (input.Tick moment word) late = k
+  late_rests (input.Arrival packet) late =
+      let w = new_work 0 packet.from in
+      subst (λ (t : Bool). IsResting n s (cond t (receive a packet.message w) (idle a w)).store) (sym late) k
+  late_rests input.Restart late = record {
+    servers = k.servers;
+    server = k.server;
+    removed = k.removed;
+    aims = k.aims;
+    confirms = k.confirms;
+    patches = k.patches;
+  }
+
+  -- AN EVENT AT A SERVER
+  pub effect_rests : (asked : Input) → IsGiven n s a asked → IsResting n s (effect a asked).store
+  effect_rests asked given =
+      decided Rests (takes_effect a asked) (closed (reply_to a asked) (first_effect a asked)) (finished (reply_to a asked) (first_effect a asked))
+      (closed_rests asked given) (late_rests asked)

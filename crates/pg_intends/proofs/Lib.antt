@@ -1,0 +1,12 @@
+pub mod Goes
+pub mod Far
+pub mod Begun
+pub mod Aimed
+pub mod Heard
+pub mod Called
+pub mod Settled
+pub mod Asked
+pub mod Ends
+pub mod Effects
+pub mod Runs
+pub mod Told

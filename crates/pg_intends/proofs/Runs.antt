@@ -1,0 +1,83 @@
+-- Along every run.
+use Rattle.std.proofs.Common.{ℕ, ◌≡◌, List, refl, subst}
+use Rattle.std.proofs.lemmas.Bool.{false≢true}
+use Rattle.std.proofs.lemmas.List.Elements.{All-nil}
+use Rattle.std.proofs.lemmas.Option.{none-some}
+use Rattle.pg_event.specs.declared.event.Event.{Event}
+use Rattle.pg_intent.specs.declared.intent.Intent.{Intent}
+use Rattle.pg_intent.specs.Intent.{target_of}
+use Rattle.pg_flood.specs.World.{after}
+use Rattle.pg_flood.proofs.Flood.{after_itself}
+use Rattle.pg_store.specs.declared.store.Store.{Store}
+use Rattle.pg_store.specs.Store.{new_store}
+use Rattle.pg_server.specs.Local.{effect}
+use Rattle.pg_run.specs.Run.{World, effect_step, run, world_after}
+use Rattle.pg_run.proofs.Frame.{Acts, each_after, holds_in_runs}
+use Rattle.pg_run.specs.Run.{Taking}
+use Rattle.pg_order.specs.Laws.{files_of}
+use Rattle.pg_order.specs.Named.{naming}
+use Rattle.pg_order.proofs.Ended.{IsAtRest}
+use Rattle.pg_order.proofs.Runs.{AreSound, acted, first_runs, is_away, sound_run}
+use Rattle.pg_intends.proofs.Effects.{IsGiven, effect_rests}
+use Rattle.pg_intends.proofs.Asked.{FlagsAreOfServers}
+use Rattle.pg_intends.proofs.Ends.{IsResting}
+use Rattle.pg_intends.proofs.Far.{Aims}
+
+-- at each server
+abbrev pub AllRest : ℕ → World → Type 0
+AllRest n w = (s : ℕ) → IsResting n s (w.stores s)
+
+first_rests : (n s : ℕ) → IsResting n s (new_store n s)
+first_rests n s = record {
+  servers = refl;
+  server = refl;
+  removed = refl;
+  aims = All-nil (λ (i : Intent). Aims n s (target_of i));
+  confirms = λ dir child there. absurd (false≢true there);
+  patches = λ dir child e h. absurd (none-some e h);
+}
+
+flags_at : (n s : ℕ) (files : ℕ → ℕ) (a : Store) → IsAtRest (naming n files) n s a → FlagsAreOfServers n a.names
+flags_at n s files a k dir child e at = (k.sound.named.said.cells dir child e at).flags
+
+module _ (n : ℕ) (events : List Event) (event : Event) (t : Taking) (act : Acts n (run n events) t) where
+  abbrev Now : World
+  Now = run n events
+
+  abbrev Here : Store
+  Here = Now.stores t.server
+
+  abbrev Then : Store
+  Then = (effect Here t.asked).store
+
+  sound : AreSound n Now
+  sound = sound_run n events
+
+  later : AreSound n (world_after Now (effect_step Now event t.server t.asked))
+  later = acted n Now sound t.server act.least act.most t.asked event act.came
+
+  flags : FlagsAreOfServers n Then.names
+  flags =
+      let at : after Now.stores t.server Then t.server ≡ Then = after_itself Now.stores t.server Then in
+      subst (λ (b : Store). FlagsAreOfServers n b.names) at
+      (flags_at n t.server (files_of (after Now.stores t.server Then)) (after Now.stores t.server Then t.server) (later.servers t.server))
+
+  given : IsGiven n t.server Here t.asked
+  given = record {
+    births = (sound.servers t.server).sound.births;
+    fresh = λ kind. is_away n t.server Here (files_of Now.stores) act.least refl (sound.servers t.server) kind;
+    whole = first_runs n Now sound t.server act.least act.most t.asked act.came;
+    flags = flags;
+  }
+
+  acted_rests : AllRest n Now → AllRest n (world_after Now (effect_step Now event t.server t.asked))
+  acted_rests all = each_after (λ s b. IsResting n s b) Now.stores t.server Then all (effect_rests n t.server Here (all t.server) t.asked given)
+
+-- IN EVERY RUN
+pub all_rest : (n : ℕ) (events : List Event) → AllRest n (run n events)
+all_rest n events =
+    holds_in_runs n (AllRest n) (record {
+      first = λ s. first_rests n s;
+      idle = λ w event cause k. k;
+      acts = λ before event t is act k. acted_rests n before event t act k;
+    }) events

@@ -1,0 +1,96 @@
+-- The house rules run behind the first effect: places go to later ones, and that is noted.
+use Rattle.std.proofs.Common.{ℕ, ◌≡◌, ◌⊎◌, true, false, drop, length, List, [], ◌∷◌, Option, None, Some, inl, inr, refl, sym, ap, subst, ◌∙◌, arith}
+use Rattle.std.proofs.lemmas.Bool.Decides.{nat_tests}
+use Rattle.std.proofs.lemmas.Option.{none-some, same_Some}
+use Rattle.pg_base.specs.declared.id.FileId.{FileId}
+use Rattle.pg_base.specs.Stamp.{is_before}
+use Rattle.pg_msg.specs.declared.work.Slot.{Slot}
+use Rattle.pg_msg.specs.declared.work.Touched.{Touched}
+use Rattle.pg_names.specs.declared.own.Own.{Own}
+use Rattle.pg_names.specs.Names.{NamesValue, own_at}
+use Rattle.pg_register.specs.declared.place.Place.{Place}
+use Rattle.pg_house.specs.Facts.{IsHeld, IsNoted, IsOneOf, IsReplaced}
+use Rattle.pg_house.specs.House.{house}
+use Rattle.pg_house.specs.Work.{State, is_root, state_of}
+use Rattle.pg_house.proofs.Replaced.{noted}
+use Rattle.pg_settled.specs.Listing.{own_place}
+use Rattle.pg_settled.proofs.Given.{nothing_begins, own_places_grow}
+use Rattle.pg_settled.proofs.Seen.{own_is}
+use Rattle.pg_store.specs.declared.store.Store.{Store}
+use Rattle.pg_store.specs.Store.{touch, with_names}
+use Rattle.pg_cells.specs.Done.{Done}
+use Rattle.pg_cells.specs.Settling.{settle, touch_all}
+use Rattle.pg_promises.specs.Whole.{IsWhole}
+use Rattle.pg_promises.proofs.Settling.{whole_settle}
+use Rattle.pg_order.proofs.HouseFrame.{house_frame}
+use Rattle.pg_order.proofs.Sounding.{settle_as_before, settle_intents}
+use Rattle.pg_intends.proofs.Far.{Far, far_on}
+use Rattle.pg_intends.proofs.Goes.{GoesTo, IsLeftIn, IsSlot}
+
+-- ---- the house rules
+
+touched_names : (a : Store) (ts : List Touched) → (touch_all a ts).names ≡ a.names
+touched_names a [] = refl
+touched_names a (t ∷ ts) = touched_names (touch a t.file t.key) ts
+
+before_not : (p : Place) → is_before p.stamp p.stamp ≡ true → ⊥
+before_not p h = grind (arith, nat_tests)
+
+module _ (n s : ℕ) (d : Done) (k : Far n s d) (whole : IsWhole n s d.store) where
+  abbrev Here : State
+  Here = state_of d.store.names d.work
+
+  abbrev Then : State
+  Then = house d.work.now Here
+
+  abbrev Settled : Done
+  Settled = settle d.store d.work
+
+  notes : IsNoted Here Then
+  notes = noted d.work.now Here
+
+  -- where a place goes to
+  goes_by : (f : FileId) (o new : Own) → (is_root f ≡ false → o.place.live ≡ true → (new.place ≡ o.place) ⊎ IsLeftIn Then.work.left o.place.parent f)
+      → (o.place ≡ new.place) ⊎ (is_before o.place.stamp new.place.stamp ≡ true) → GoesTo Then.work.left f o.place new.place
+  goes_by f o new left (inl same) = inl (sym same)
+  goes_by f o new left (inr later) = inr (later, λ inner live. left_by (left inner live))
+    where
+      left_by : (new.place ≡ o.place) ⊎ IsLeftIn Then.work.left o.place.parent f → IsLeftIn Then.work.left o.place.parent f
+      left_by (inl same) = absurd (before_not o.place (subst (λ (p : Place). is_before o.place.stamp p.stamp ≡ true) same later))
+      left_by (inr here) = here
+
+  own_goes : (f : FileId) (o : Own) → own_at d.store.names f ≡ Some o → (x : Own) × (own_at Then.names f ≡ Some x) × GoesTo Then.work.left f o.place x.place
+  own_goes f o h =
+      let grown = own_places_grow d.work.now Here whole.names.dirs whole.names.sorted whole.names.last f o.place (ap own_place h) in
+      let x = own_is (own_at Then.names f) grown.0 grown.1 in
+      let left = notes.all f o h in
+      let same : left.0 ≡ x.0 = same_Some left.0 x.0 (sym left.1 ∙ x.1) in
+      let P : Own → Type 0 = λ y. is_root f ≡ false → o.place.live ≡ true → (y.place ≡ o.place) ⊎ IsLeftIn Then.work.left o.place.parent f in
+      let Q : Place → Type 0 = λ r. (o.place ≡ r) ⊎ (is_before o.place.stamp r.stamp ≡ true) in
+      (x.0, x.1, goes_by f o x.0 (subst P same left.2) (subst Q (sym x.2) grown.2))
+
+  slots_by : (x : Slot) → IsOneOf x d.work.left ⊎ IsReplaced Here Then x → IsOneOf x d.work.left ⊎ IsSlot d.store.names x
+  slots_by x (inl old) = inl old
+  slots_by x (inr new) = inr (new.other, was_held x.child new.held)
+    where
+      was_by : (f : FileId) → IsHeld Then.names f → (o : Option Own) → own_at d.store.names f ≡ o → IsHeld d.store.names f
+      was_by f h None at = absurd (none-some h.0.place (sym (nothing_begins d.work.now Here f (ap own_place at)) ∙ ap own_place h.1))
+      was_by f h (Some o) at = (o, at)
+
+      was_held : (f : FileId) → IsHeld Then.names f → IsHeld d.store.names f
+      was_held f h = was_by f h (own_at d.store.names f) refl
+
+  pub far_settle : Far n s Settled
+  far_settle =
+      let after = whole_settle n s d.store d.work whole in
+      let frame = house_frame [] d.work.from d.work.now Here (record { removed = k.removed; from = refl }) in
+      let names : Settled.store.names ≡ Then.names = touched_names (with_names d.store Then.names) (drop (length d.work.touched) Then.work.touched) in
+      far_on n s d Settled.store Settled.work k (after.servers ∙ sym whole.servers) (settle_intents d.store d.work) frame.from
+      (record {
+        server = after.server ∙ sym whole.server;
+        removed = ap (λ (m : NamesValue). m.removed) names ∙ frame.removed ∙ sym k.removed;
+        held = λ f. (settle_as_before d.store d.work).held f;
+        own = λ f o h. (let to = own_goes f o h in (to.0, ap (λ (m : NamesValue). own_at m f) names ∙ to.1, to.2));
+        stays = notes.stays;
+        slots = λ x h. slots_by x (notes.only x h);
+      })

@@ -1,0 +1,215 @@
+-- What is intended, in the words of the laws.
+use Rattle.std.proofs.Common.{ℕ, ◌≡◌, ◌≢◌, ◌⊎◌, ◌↔◌, ◌≤◌, ◌==◌, ◌&&◌, Bool, true, false, not, nat_le, List, [], ◌∷◌, Option, None, Some, All, inl, inr, refl, sym, ap, subst, ◌∙◌}
+use Rattle.std.specs.List.{IsAmong}
+use Rattle.std.proofs.lemmas.Bool.{and_parts, false≢true, le-leb, ne_eqb}
+use Rattle.std.proofs.lemmas.List.Elements.{All-cons, All-head, All-nil, All-tail}
+use Rattle.std.proofs.lemmas.Option.{none-some}
+use Rattle.pg_base.specs.declared.id.FileId.{FileId}
+use Rattle.pg_base.specs.Id.{is_same_file}
+use Rattle.pg_base.specs.Stamp.{UpTo}
+use Rattle.pg_base.proofs.Orders.{UpTo-refl, is_before-true}
+use Rattle.pg_entries.specs.declared.entry.Entry.{Entry}
+use Rattle.pg_entries.specs.Entry.{is_listed}
+use Rattle.pg_intent.specs.declared.intent.Intent.{Intent}
+use Rattle.pg_intent.specs.declared.intent.Intent.TheVariants as intent
+use Rattle.pg_intent.specs.declared.key.IntentKey.{IntentKey}
+use Rattle.pg_intent.specs.declared.key.IntentKey.TheVariants as key
+use Rattle.pg_intent.specs.Intent.{key_of, target_of}
+use Rattle.pg_intent.specs.Intents.{has_key, intent_at, stands}
+use Rattle.pg_intent.proofs.Found.{stands_is}
+use Rattle.pg_intent.proofs.SameKey.{is_same_key-refl}
+use Rattle.pg_msg.specs.declared.message.Message.TheVariants as message
+use Rattle.pg_names.specs.declared.own.Own.{Own}
+use Rattle.pg_names.specs.Names.{HeldValue, cell_at, known, own_at, own_of}
+use Rattle.pg_register.specs.declared.place.Place.{Place}
+use Rattle.pg_register.specs.Flag.{is_removed}
+use Rattle.pg_register.specs.Place.{root}
+use Rattle.pg_store.specs.declared.store.Store.{Store}
+use Rattle.pg_store.specs.Servers.{is_live_other}
+use Rattle.pg_store.specs.Store.{is_held}
+use Rattle.pg_repair.specs.Confirms.{is_doubtful_cell}
+use Rattle.pg_repair.specs.Fills.{files_to_fill, is_in}
+use Rattle.pg_repair.specs.Needed.{IsToFill as IsNeeded}
+use Rattle.pg_repair.specs.Requests.{confirm_message}
+use Rattle.pg_repair.proofs.Idle.{nothing_to_do}
+use Rattle.pg_repair.proofs.Needs.{first_true, second_true, what_is_needed}
+use Rattle.pg_server.specs.Local.{without_wishes}
+use Rattle.pg_promises.specs.Whole.{IsOther}
+use Rattle.pg_run.specs.Intending.{IntendsInOrder, IntentionsAreInOrder, IsPatchOf, IsToFill}
+use Rattle.pg_run.specs.Run.{run}
+use Rattle.pg_order.specs.Laws.{files_of}
+use Rattle.pg_order.specs.Named.{naming}
+use Rattle.pg_order.specs.Saying.{AreIntended, IsIntended, Saying}
+use Rattle.pg_order.proofs.Ended.{IsAtRest}
+use Rattle.pg_order.proofs.Runs.{sound_run}
+use Rattle.pg_intends.specs.Laws.{HasRequest, IntentionsHaveRequests, IsStill, NothingIsLeftToDo}
+use Rattle.pg_intends.proofs.Ends.{IsResting}
+use Rattle.pg_intends.proofs.Far.{Aims}
+use Rattle.pg_intends.proofs.Goes.{IsToldOf, told_of}
+use Rattle.pg_intends.proofs.Runs.{all_rest}
+
+module _ (p : Saying) (n s : ℕ) (a : Store) (k : IsAtRest p n s a) (r : IsResting n s a) where
+  -- ---- Fills
+
+  known_by : (child : FileId) (own : Own) (o : Option HeldValue) → known a.names child ≡ o → own_of o ≡ Some own → (x : HeldValue) × (known a.names child ≡ Some x) × (x.own ≡ own)
+  known_by child own None at h = absurd (none-some own h)
+  known_by child own (Some x) at h = (x, at, same_own x h)
+    where
+      same_own : (x : HeldValue) → Some x.own ≡ Some own → x.own ≡ own
+      same_own x e = cc
+
+  to_needed : (file : FileId) → IsToFill a file → IsNeeded a.names file
+  to_needed file (inl x) = inl x
+  to_needed file (inr l) =
+      let x = known_by l.child l.own (known a.names l.child) refl l.held in
+      inr (record {
+        away = l.away;
+        child = l.child;
+        x = x.0;
+        held = x.1;
+        inner = l.inner;
+        live = ap (λ (o : Own). o.place.live) x.2 ∙ l.live;
+        parent = ap (λ (o : Own). o.place.parent) x.2 ∙ l.parent;
+      })
+
+  from_needed : (file : FileId) → IsNeeded a.names file → IsToFill a file
+  from_needed file (inl x) = inl x
+  from_needed file (inr l) =
+      inr (record {
+        away = l.away;
+        child = l.child;
+        own = l.x.own;
+        held = ap own_of l.held;
+        inner = l.inner;
+        live = l.live;
+        parent = l.parent;
+      })
+
+  fill_is : (file : FileId) → stands a.intents (key.Fill file) ≡ is_in (files_to_fill a.names) file
+  fill_is file = stands_is a.intents (key.Fill file) ∙ k.fills file
+
+  fills : (file : FileId) → stands a.intents (key.Fill file) ≡ true ↔ IsToFill a file
+  fills file =
+      let needed = what_is_needed a.names file k.sound.named.tidy.keys in
+      (λ there. from_needed file (needed.0 (sym (fill_is file) ∙ there)), λ lacks. fill_is file ∙ needed.1 (to_needed file lacks))
+
+  contained_by : (file : FileId) (own : Own) → own_at a.names file ≡ Some own → is_same_file file root ≡ false → own.place.live ≡ true
+      → (t : Bool) → is_held a own.place.parent ≡ t → (is_held a own.place.parent ≡ true) ⊎ (stands a.intents (key.Fill own.place.parent) ≡ true)
+  contained_by file own held inner live true here = inl here
+  contained_by file own held inner live false away =
+      inr ((fills own.place.parent).1 (inr (record { away = away; child = file; own = own; held = held; inner = inner; live = live; parent = refl })))
+
+  -- ---- Confirms
+
+  doubtful : (dir child : FileId) (o : Option Entry) → cell_at a.names dir child ≡ o → is_doubtful_cell a.names dir child o ≡ true
+      → (cell : Entry) × (cell_at a.names dir child ≡ Some cell) × (is_listed dir cell ≡ true) × (is_held a child ≡ false)
+  doubtful dir child None at h = absurd (false≢true h)
+  doubtful dir child (Some e) at h =
+      let parts = and_parts (is_listed dir e) (not (is_held a child)) h in
+      (e, at, parts.0, not_held (is_held a child) parts.1)
+    where
+      not_held : (t : Bool) → not t ≡ true → t ≡ false
+      not_held true h = absurd (false≢true h)
+      not_held false h = refl
+
+  confirms : (dir child : FileId) → stands a.intents (key.Confirm dir child) ≡ true
+      → (cell : Entry) × (cell_at a.names dir child ≡ Some cell) × (is_listed dir cell ≡ true) × (is_held a child ≡ false)
+  confirms dir child there =
+      doubtful dir child (cell_at a.names dir child) refl (r.confirms dir child (sym (stands_is a.intents (key.Confirm dir child)) ∙ there))
+
+  -- ---- Patches
+
+  up_to : (dir child : FileId) (told own : Place) → IsToldOf [] dir child told own → UpTo told.stamp own.stamp
+  up_to dir child told own (inl same) = subst (λ (x : Place). UpTo told.stamp x.stamp) (sym same) (UpTo-refl told.stamp)
+  up_to dir child told own (inr before) = is_before-true told.stamp own.stamp before.0
+
+  same_place : (dir child : FileId) (told own : Place) → IsToldOf [] dir child told own → told.live ≡ true → told.parent ≡ dir → own ≡ told
+  same_place dir child told own (inl same) live parent = same
+  same_place dir child told own (inr before) live parent = absurd (before.1 live parent)
+
+  patches : (dir child : FileId) (e : Entry) (target : ℕ) → intent_at a.intents (key.Patch dir child) ≡ Some (intent.Patch dir e target) → IsPatchOf a dir e
+  patches dir child e target at =
+      let was = r.patches dir child e (ap told_of at) in
+      record {
+        away = was.away;
+        own = was.own;
+        held = subst (λ (f : FileId). own_at a.names f ≡ Some was.own) (sym was.of) was.held;
+        upto = up_to dir child e.place was.own.place was.place;
+        same = same_place dir child e.place was.own.place was.place;
+      }
+
+  -- ---- targets
+
+  live_other : (t : ℕ) → IsOther n s t → is_live_other a t ≡ true
+  live_other t o =
+      let one : nat_le 1 t ≡ true = le-leb 1 t o.least in
+      let two : nat_le t a.servers ≡ true = le-leb t a.servers (subst (λ (m : ℕ). t ≤ m) (sym r.servers) o.most) in
+      let three : (t == a.names.server) ≡ false = ne_eqb t a.names.server (λ e. o.apart (e ∙ r.server)) in
+      let four : is_removed a.names.removed t ≡ false = ap (λ (ss : List ℕ). is_removed ss t) r.removed in
+      ap (λ (x : Bool). x && (nat_le t a.servers && (not (t == a.names.server) && not (is_removed a.names.removed t)))) one
+      ∙ ap (λ (x : Bool). x && (not (t == a.names.server) && not (is_removed a.names.removed t))) two
+      ∙ ap (λ (x : Bool). not x && not (is_removed a.names.removed t)) three
+      ∙ ap (λ (x : Bool). not x) four
+
+  targets : (i : Intent) → IsAmong a.intents i → target_of i ≢ 0 → is_live_other a (target_of i) ≡ true
+  targets i at some =
+      let here : Aims n s (target_of i) = subst (λ (j : Intent). Aims n s (target_of j)) (sym at.1.1) (r.aims at.0 i at.1.0) in
+      live_other (target_of i) (here some)
+
+  pub intends : IntendsInOrder a
+  intends = record {
+    held = record { together = k.sound.whole.together; births = k.sound.births; root = k.sound.named.tidy.top };
+    keys = k.sound.keys;
+    fills = fills;
+    contained = λ file own held inner live. contained_by file own held inner live (is_held a own.place.parent) refl;
+    confirms = confirms;
+    patches = patches;
+    targets = targets;
+  }
+
+  -- ---- nothing is left to do
+
+  pub still : IsStill a
+  still = (
+    λ work left unsure. nothing_to_do a k.fills r.confirms work left unsure,
+    λ work left unsure. nothing_to_do (without_wishes a) k.fills r.confirms work left unsure,
+  )
+
+  -- ---- requests
+
+  has_request : (i : Intent) → IsIntended p i → stands a.intents (key_of i) ≡ true → HasRequest a i
+  has_request (intent.Bye file birth peer peer_birth) said there = absurd said
+  has_request (intent.Seek file target) said there = absurd said
+  has_request (intent.Fill file birth target) said there = (message.Fetch file birth, refl)
+  has_request (intent.Patch dir entry target) said there = (message.Tell dir entry, refl)
+  has_request (intent.Confirm dir child target) said there =
+      let cell = confirms dir child there in
+      (message.Confirm dir cell.0, ap (confirm_message dir) cell.1)
+  has_request (intent.Leave file peer peer_birth) said there = absurd said
+
+  all_ask : (is : List Intent) → AreIntended p is → ((q : IntentKey) → stands is q ≡ true → stands a.intents q ≡ true) → All (HasRequest a) is
+  all_ask [] all part = All-nil (HasRequest a)
+  all_ask (i ∷ is) all part =
+      All-cons (HasRequest a) i is
+      (has_request i (All-head (IsIntended p) i is all) (part (key_of i) (first_true (has_key (key_of i) i) (stands is (key_of i)) (is_same_key-refl (key_of i)))))
+      (all_ask is (All-tail (IsIntended p) i is all) (λ (q : IntentKey) (h : stands is q ≡ true). part q (second_true (has_key q i) (stands is q) h)))
+
+  pub asked : All (HasRequest a) a.intents
+  asked = all_ask a.intents k.sound.named.intents (λ q h. h)
+
+-- ---- the laws
+
+pub in_order : (n : ℕ) → IntentionsAreInOrder n
+in_order n events s least most =
+    let w = run n events in
+    intends (naming n (files_of w.stores)) n s (w.stores s) ((sound_run n events).servers s) (all_rest n events s)
+
+pub nothing_left : (n : ℕ) → NothingIsLeftToDo n
+nothing_left n events s least most =
+    let w = run n events in
+    still (naming n (files_of w.stores)) n s (w.stores s) ((sound_run n events).servers s) (all_rest n events s)
+
+pub have_requests : (n : ℕ) → IntentionsHaveRequests n
+have_requests n events s least most =
+    let w = run n events in
+    asked (naming n (files_of w.stores)) n s (w.stores s) ((sound_run n events).servers s) (all_rest n events s)

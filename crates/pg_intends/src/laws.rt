@@ -1,0 +1,19 @@
+//! What servers intend along every run. Each law is a clause of a function that does nothing.
+
+ghost use Rattle.std.specs.Prelude.{ℕ};
+ghost use Rattle.pg_run.specs.Intending.{IntentionsAreInOrder};
+ghost use Rattle.pg_intends.specs.Laws.{IntentionsHaveRequests, NothingIsLeftToDo};
+
+/// After every event Fills stand of just what is to be filled, so that the parent of whatever is held is held or to be
+/// filled; Confirms only of children in doubt; each Patch is of a held child, with the place that this has or an earlier
+/// one; and who is asked is another live server.
+pub fn intentions_are_in_order()
+    ensures { (servers : ℕ) → IntentionsAreInOrder servers }
+{}
+
+/// After every event the end of a further one changes nothing, where no place was replaced and no doubtful cell came, be
+/// it with the wishes that the server has or with none. And each intention has a message.
+pub fn nothing_is_left_to_do()
+    ensures still { (servers : ℕ) → NothingIsLeftToDo servers }
+    ensures asked { (servers : ℕ) → IntentionsHaveRequests servers }
+{}

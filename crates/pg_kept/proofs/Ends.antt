@@ -1,0 +1,133 @@
+-- How an event begins and ends: behind the first effect come the house rules, the intentions, and what is
+-- sent.
+use Rattle.std.proofs.Common.{ℕ, Bool, true, false, cond, List, ◌++◌, sym, subst}
+use Rattle.std.proofs.lemmas.List.Elements.{All-append, All-weaker}
+use Rattle.pg_entries.specs.declared.cell.Cell.{Cell}
+use Rattle.pg_flood.specs.Promises.{Saying}
+use Rattle.pg_flood.specs.Promises.Saying.{AckTo, CellFor, Other}
+use Rattle.pg_flood.specs.Server.{Slot}
+use Rattle.pg_flood.proofs.Steps.{AllMay, HasSoundTags, May, Rule, Steps, Steps-refl, by_steps}
+use Rattle.pg_msg.specs.declared.message.Sent.{Sent}
+use Rattle.pg_store.specs.declared.store.Store.{Store}
+use Rattle.pg_cells.specs.Done.{Done}
+use Rattle.pg_cells.specs.Sending.{is_chosen}
+use Rattle.pg_repair.proofs.Steady.{begin_end_stays}
+use Rattle.pg_server.specs.Local.{intended, settled}
+use Rattle.pg_promises.specs.Laws.{AreAlike}
+use Rattle.pg_promises.specs.Seen.{cells, says}
+use Rattle.pg_promises.specs.Whole.{IsWhole, PatchesAreForDirs}
+use Rattle.pg_promises.proofs.Acks.{none_noted}
+use Rattle.pg_promises.specs.Growing.{Grows}
+use Rattle.pg_promises.proofs.Events.{IsGood}
+use Rattle.pg_promises.proofs.Front.{house_sent}
+use Rattle.pg_promises.proofs.Grown.{GoesOn, goes_on_further, goes_on_itself, grown}
+use Rattle.pg_promises.proofs.Sending.{finish_may, others_may}
+use Rattle.pg_promises.proofs.Settling.{settle_steps, whole_settle}
+use Rattle.pg_run.proofs.Event.{asks_by_have, asks_sent, cells_sent}
+use Rattle.pg_kept.proofs.Pieces.{AreGrantsOrdered, Goes, beside_done, on_done}
+use Rattle.pg_kept.proofs.Asked.{IsOrdered, IsUnread, all_ordered, all_unread, cells_ordered}
+
+-- ---- how an event begins: where the server was, or behind an answer that it heard
+
+pub record Begins (n s : ℕ) (a : Store) (heard : Saying Slot Cell) (b : Store) : Type 0 where
+  pub rule : (c : Store) (sent : List Sent) → Steps cells b c → AllMay cells s a c heard sent
+      → Rule cells s a c heard sent
+  pub on : GoesOn a b
+  pub tags : HasSoundTags cells a → HasSoundTags cells b
+  pub whole : IsWhole n s b
+
+pub begins_here : (n s : ℕ) (a : Store) (heard : Saying Slot Cell) → IsWhole n s a → Begins n s a heard a
+begins_here n s a heard k = record {
+  rule = λ c sent f may. by_steps cells s a c heard sent f (none_noted a c heard) may;
+  on = goes_on_itself a;
+  tags = λ tags. tags;
+  whole = k;
+}
+
+-- how it ends: by the rule, and grants have flags by server
+pub record IsKind (n s : ℕ) (a : Store) (heard : Saying Slot Cell) (b : Store) (sent : List Sent) : Type 0 where
+  pub good : IsGood n s a heard b sent
+  pub grants : AreGrantsOrdered sent
+
+-- what comes of an event up to here
+pub record IsFirst (n s : ℕ) (a : Store) (heard : Saying Slot Cell) (d : Done) : Type 0 where
+  pub start : Store
+  pub begins : Begins n s a heard start
+  pub goes : Goes n s start heard d.store d.work.sent
+
+-- nothing that the server held is lost
+pub first_grown : (n s : ℕ) (a : Store) (heard : Saying Slot Cell) (d : Done) → IsWhole n s a
+    → IsFirst n s a heard d → Grows a d.store
+first_grown n s a heard d k f =
+    grown n s a d.store k f.goes.way.whole
+    (goes_on_further a f.start d.store f.begins.on f.goes.way.steps.moves.covers)
+
+module _ (n s : ℕ) (a : Store) (heard : Saying Slot Cell) where
+  -- nothing was noted before, so it may be sent whichever store there was
+  may_from : (b c : Store) (x : Saying Slot Cell) → May cells s b c heard x → May cells s a c heard x
+  may_from b c (CellFor owner at tag held) h = h
+  may_from b c (AckTo owner at tag) h = h
+  may_from b c Other h = tt
+
+  all_from : (b c : Store) (ms : List Sent) → AllMay cells s b c heard ms → AllMay cells s a c heard ms
+  all_from b c ms h =
+      All-weaker (λ m. May cells s b c heard (says m)) (λ m. May cells s a c heard (says m))
+      (λ m may. may_from b c (says m) may) ms h
+
+  -- ---- the house rules and the intentions
+
+  pub settled_first : (d : Done) → IsFirst n s a heard d → IsFirst n s a heard (settled d)
+  settled_first d f = record {
+    start = f.start;
+    begins = f.begins;
+    goes =
+        subst (λ (ms : List Sent). Goes n s f.start heard (settled d).store ms)
+        (sym (house_sent d.work.now d.store.names d.work))
+        (on_done n s f.start heard d.store d.work f.goes (settled d).store
+        (settle_steps n s d.store d.work f.goes.way.whole)
+        (whole_settle n s d.store d.work f.goes.way.whole));
+  }
+
+  intended_first : (d : Done) → PatchesAreForDirs (intended d).store → IsFirst n s a heard d
+      → IsFirst n s a heard (intended d)
+  intended_first d patches f =
+      let stays = begin_end_stays d.store d.work in
+      let alike : AreAlike d.store (intended d).store =
+      record { servers = stays.servers; tags = stays.tags; names = stays.names; replicas = stays.replicas } in
+      record {
+        start = f.start;
+        begins = f.begins;
+        goes =
+            subst (λ (ms : List Sent). Goes n s f.start heard (intended d).store ms) (sym stays.sent)
+            (beside_done n s f.start heard d.store d.work f.goes (intended d).store alike patches);
+      }
+
+  pub end_first : (d : Done) (t : Bool) → PatchesAreForDirs (cond t (intended (settled d)) d).store
+      → IsFirst n s a heard d → IsFirst n s a heard (cond t (intended (settled d)) d)
+  end_first d true patches f = intended_first (settled d) patches (settled_first d f)
+  end_first d false patches f = f
+
+  -- ---- what is sent in the end
+
+  pub ended_good : (d : Done) → IsFirst n s a heard d → HasSoundTags cells a
+      → IsKind n s a heard d.store ((d.work.sent ++ cells_sent d) ++ asks_sent d)
+  ended_good d f tags =
+      let b = d.store in
+      let way = f.goes.way in
+      let all = d.work.sent ++ cells_sent d in
+      let sound = way.steps.tags (f.begins.tags tags) in
+      let sent = all_from f.start b d.work.sent (way.sends b (Steps-refl cells b)) in
+      let may = All-append (λ m. May cells s a b heard (says m)) all (asks_sent d)
+      (finish_may n s a b heard sound way.whole d.work sent)
+      (others_may s a b heard (asks_sent d) (asks_by_have IsUnread b d.work.begun (all_unread b))) in
+      record {
+        good = record {
+          rule = f.begins.rule b (all ++ asks_sent d) way.steps may;
+          tags = sound;
+          whole = way.whole;
+        };
+        grants = All-append IsOrdered all (asks_sent d)
+            (All-append IsOrdered d.work.sent (cells_sent d) f.goes.grants
+            (cells_ordered b (is_chosen d.work.touched d.work.linked)))
+            (asks_by_have IsOrdered b d.work.begun (all_ordered b));
+      }

@@ -1,0 +1,291 @@
+-- What each piece of an event leaves, where all before it kept the rule of the edges.
+use Rattle.std.proofs.Common.{ℕ, ◌≡◌, ◌&&◌, Bool, true, false, cond, not, List, [], ◌∷◌, Option, None, Some, refl, sym, subst, ◌∙◌, All}
+use Rattle.std.proofs.lemmas.List.Elements.{All-cons, All-nil, All-push}
+use Rattle.pg_base.specs.declared.id.FileId.{FileId}
+use Rattle.pg_base.specs.declared.policy.Policy.{Policy}
+use Rattle.pg_base.specs.Version.{VersionValue}
+use Rattle.pg_edges.specs.declared.key.Key.{Key}
+use Rattle.pg_edges.specs.declared.key.Key.TheVariants as key
+use Rattle.pg_entries.specs.declared.cell.Cell.{Cell}
+use Rattle.pg_entries.specs.declared.entry.Entry.{Entry}
+use Rattle.pg_flood.specs.Promises.{Saying}
+use Rattle.pg_flood.specs.Promises.Saying.{Other}
+use Rattle.pg_flood.specs.Server.{Slot}
+use Rattle.pg_flood.proofs.Steps.{AllMay, Steps, Steps-refl}
+use Rattle.pg_msg.specs.declared.message.Message.{Message}
+use Rattle.pg_msg.specs.declared.message.Message.TheVariants as message
+use Rattle.pg_msg.specs.declared.message.Sent.{Sent}
+use Rattle.pg_msg.specs.declared.update.Update.TheVariants as update
+use Rattle.pg_msg.specs.declared.work.Work.{Work}
+use Rattle.pg_msg.specs.Work.{new_work, with_left, with_linked, with_made, with_sent, with_touched, with_unsure}
+use Rattle.pg_names.specs.declared.own.Own.{Own}
+use Rattle.pg_names.specs.Names.{fill, is_dir, is_flag_new, is_place_new, own_at, own_or_blank}
+use Rattle.pg_register.specs.declared.flag.Flag.{Flag}
+use Rattle.pg_register.specs.declared.place.Place.{Place}
+use Rattle.pg_register.specs.Flag.{IsByServer}
+use Rattle.pg_house.specs.Work.{is_root, note_left}
+use Rattle.pg_replica.specs.declared.replica.Replica.{Replica}
+use Rattle.pg_replica.specs.Replicas.{takes_link}
+use Rattle.pg_store.specs.declared.store.Store.{Store}
+use Rattle.pg_store.specs.Beginning.{begin}
+use Rattle.pg_store.specs.Links.{is_new_link, link, put_link}
+use Rattle.pg_store.specs.Store.{entry_news, is_held, is_new_version, is_newer_flag, is_newer_place, put_flag, put_place, replica_at, take_entry, take_flag, take_place, take_version, with_names}
+use Rattle.pg_store.specs.Together.{AreTogether}
+use Rattle.pg_cells.specs.Accepting.{link_peer}
+use Rattle.pg_cells.specs.Done.{Done}
+use Rattle.pg_cells.specs.Making.{own_next, raise_flag}
+use Rattle.pg_cells.specs.Posting.{post, sent_to}
+use Rattle.pg_cells.specs.Taking.{is_any_news, is_place_news, take_entry_cell, take_entry_noted, take_flag_noted, take_flags_noted, take_place_noted, take_version_noted, with_doubt, with_left_if, with_news}
+use Rattle.pg_promises.specs.Laws.{AreAlike}
+use Rattle.pg_promises.specs.Seen.{cells, says, saying}
+use Rattle.pg_promises.specs.Whole.{IsOther, IsWhole, PatchesAreForDirs}
+use Rattle.pg_promises.proofs.Beginning.{begin_steps, entry_steps}
+use Rattle.pg_promises.proofs.Choices.{chosen}
+use Rattle.pg_promises.proofs.Events.{IsUnderWay, begun, goes_on, sends_on}
+use Rattle.pg_promises.proofs.Linking.{alike_steps, fill_steps, held_link_steps}
+use Rattle.pg_promises.proofs.Sending.{others_may}
+use Rattle.pg_promises.proofs.Taking.{flag_taken, place_taken, took_steps}
+use Rattle.pg_promises.proofs.Together.{held_of_replica}
+use Rattle.pg_promises.proofs.Whole.{whole_alike, whole_entry, whole_flag, whole_link, whole_place, whole_version}
+use Rattle.pg_promises.proofs.WholeBeginning.{whole_begun, whole_filled}
+
+-- ---- steps, whatever is held
+
+place_by : (a : Store) (f : FileId) (place : Place) (o : Option Own) → own_at a.names f ≡ o
+    → Steps cells a (take_place a f place)
+place_by a f place None is =
+    subst (λ (o : Option Own). Steps cells a (cond (is_place_new o place) (put_place a f place) a))
+    (sym is) (Steps-refl cells a)
+place_by a f place (Some own) is =
+    let t = place_taken a f own is place in took_steps t.keys a (take_place a f place) t.took
+
+pub place_steps : (a : Store) (f : FileId) (place : Place) → Steps cells a (take_place a f place)
+place_steps a f place = place_by a f place (own_at a.names f) refl
+
+flag_by : (a : Store) (f : FileId) (flag : Flag) (o : Option Own) → own_at a.names f ≡ o
+    → Steps cells a (take_flag a f flag)
+flag_by a f flag None is =
+    subst (λ (o : Option Own). Steps cells a (cond (is_flag_new o flag) (put_flag a f flag) a))
+    (sym is) (Steps-refl cells a)
+flag_by a f flag (Some own) is =
+    let t = flag_taken a f own is flag in took_steps t.keys a (take_flag a f flag) t.took
+
+pub flag_steps : (a : Store) (f : FileId) (flag : Flag) → Steps cells a (take_flag a f flag)
+flag_steps a f flag = flag_by a f flag (own_at a.names f) refl
+
+link_by : (a : Store) (f : FileId) (peer birth : ℕ) → AreTogether a → (o : Option Replica)
+    → replica_at a f ≡ o → Steps cells a (link a f peer birth)
+link_by a f peer birth both None is =
+    subst (λ (o : Option Replica). Steps cells a (cond (takes_link o peer birth) (put_link a f peer birth) a))
+    (sym is) (Steps-refl cells a)
+link_by a f peer birth both (Some x) is =
+    held_link_steps a f peer birth (held_of_replica a both f x is)
+
+pub link_steps : (a : Store) (f : FileId) (peer birth : ℕ) → AreTogether a
+    → Steps cells a (link a f peer birth)
+link_steps a f peer birth both = link_by a f peer birth both (replica_at a f) refl
+
+-- ---- works of which the same was sent, to the same server
+
+pub record IsSame (v w : Work) : Type 0 where
+  pub sent : w.sent ≡ v.sent
+  pub from : w.from ≡ v.from
+
+itself : (w : Work) → IsSame w w
+itself w = record { sent = refl; from = refl }
+
+pub then_same : (u v w : Work) → IsSame u v → IsSame v w → IsSame u w
+then_same u v w one two = record { sent = two.sent ∙ one.sent; from = two.from ∙ one.from }
+
+news_same : (t : Bool) (w : Work) (f : FileId) (k : Key) → IsSame w (with_news t w f k)
+news_same t w f k =
+    chosen (IsSame w) t (with_touched w f k) w (record { sent = refl; from = refl }) (itself w)
+
+left_same : (w : Work) (f : FileId) (old : Place) → IsSame w (note_left w f old)
+left_same w f old =
+    chosen (IsSame w) (old.live && not (is_root f)) (with_left w old.parent f) w
+    (record { sent = refl; from = refl }) (itself w)
+
+left_if_same : (t : Bool) (w : Work) (f : FileId) (old : Place) → IsSame w (with_left_if t w f old)
+left_if_same t w f old =
+    chosen (IsSame w) t (note_left w f old) w (left_same w f old) (itself w)
+
+doubt_same : (t : Bool) (w : Work) (d c : FileId) → IsSame w (with_doubt t w d c)
+doubt_same t w d c =
+    chosen (IsSame w) t (with_unsure w d c) w (record { sent = refl; from = refl }) (itself w)
+
+pub link_same : (b : Store) (f : FileId) (peer birth : ℕ) (w : Work)
+    → IsSame w (link_peer b f peer birth w).work
+link_same b f peer birth w =
+    chosen (IsSame w) (is_new_link b f peer birth) (with_linked w f peer) w
+    (record { sent = refl; from = refl }) (itself w)
+
+pub place_same : (b : Store) (f : FileId) (place : Place) (w : Work)
+    → IsSame w (take_place_noted b f place w).work
+place_same b f place w =
+    let news = is_newer_place b f place in
+    let old = (own_or_blank b.names f).place in
+    then_same w (with_left_if news w f old) (take_place_noted b f place w).work
+    (left_if_same news w f old) (news_same news (with_left_if news w f old) f key.Place)
+
+pub flag_same : (b : Store) (f : FileId) (flag : Flag) (w : Work)
+    → IsSame w (take_flag_noted b f flag w).work
+flag_same b f flag w = news_same (is_newer_flag b f flag) w f (key.Flag flag.server)
+
+pub entry_same : (b : Store) (d : FileId) (e : Entry) (w : Work)
+    → IsSame w (take_entry_noted b d e w).work
+entry_same b d e w = news_same (is_any_news (entry_news b d e)) w d (key.Entry e.child)
+
+pub entry_cell_same : (b : Store) (d : FileId) (e : Entry) (sure : Bool) (w : Work)
+    → IsSame w (take_entry_cell b d e sure w).work
+entry_cell_same b d e sure w =
+    let noted = (take_entry_noted b d e w).work in
+    then_same w noted (take_entry_cell b d e sure w).work (entry_same b d e w)
+    (doubt_same (is_place_news (entry_news b d e) && not sure) noted d e.child)
+
+pub version_same : (b : Store) (f : FileId) (v : VersionValue) (w : Work)
+    → IsSame w (take_version_noted b f v w).work
+version_same b f v w = news_same (is_new_version b f v) w f (key.Version v.head.stamp)
+
+-- ---- Server s of n came from a, having heard this
+
+-- the flags of a grant are by server
+abbrev pub IsGrantOrdered : Message → Type 0
+IsGrantOrdered (message.Grant ends granted) = IsByServer granted.flags
+IsGrantOrdered _ = Unit {0}
+
+abbrev pub AreGrantsOrdered : List Sent → Type 0
+AreGrantsOrdered ms = All (λ m. IsGrantOrdered m.packet.message) ms
+
+-- it came to b so far, by the rule, and these are sent
+pub record Goes (n s : ℕ) (a : Store) (heard : Saying Slot Cell) (b : Store) (sent : List Sent) : Type 0 where
+  pub way : IsUnderWay n s a heard b sent
+  pub grants : AreGrantsOrdered sent
+
+module _ (n s : ℕ) (a : Store) (heard : Saying Slot Cell) where
+  abbrev pub Stands : Store → Work → Type 0
+  Stands b work = Goes n s a heard b work.sent
+
+  abbrev pub IsDone : Done → Type 0
+  IsDone d = Stands d.store d.work
+
+  pub same_done : (b : Store) (v w : Work) → IsSame v w → Stands b v → Stands b w
+  same_done b v w same u = subst (λ (ms : List Sent). Goes n s a heard b ms) (sym same.sent) u
+
+  -- nothing is done yet
+  pub nothing_done : (moment from : ℕ) → IsWhole n s a → Stands a (new_work moment from)
+  nothing_done moment from k = record {
+    way = begun n s a heard k;
+    grants = All-nil (λ (m : Sent). IsGrantOrdered m.packet.message);
+  }
+
+  -- it goes on by steps
+  pub on_done : (b : Store) (work : Work) → Stands b work → (c : Store) → Steps cells b c → IsWhole n s c
+      → Stands c work
+  on_done b work u c steps whole =
+      record { way = goes_on n s a heard b work.sent u.way c steps whole; grants = u.grants }
+
+  -- one message more is sent
+  pub sent_done : (b : Store) (work : Work) → Stands b work → (m : Sent)
+      → ((c : Store) → Steps cells b c → AllMay cells s a c heard (m ∷ [])) → IsGrantOrdered m.packet.message
+      → Stands b (with_sent work m)
+  sent_done b work u m may ordered = record {
+    way = sends_on n s a heard b work.sent u.way (m ∷ []) may;
+    grants = All-push (λ (m : Sent). IsGrantOrdered m.packet.message) work.sent m u.grants ordered;
+  }
+
+  module _ (b : Store) (work : Work) (u : Stands b work) where
+    -- A PLACE COMES
+    pub place_done : (f : FileId) (place : Place) → IsDone (take_place_noted b f place work)
+    place_done f place =
+        same_done (take_place b f place) work (take_place_noted b f place work).work
+        (place_same b f place work)
+        (on_done b work u (take_place b f place) (place_steps b f place)
+        (whole_place n s b u.way.whole f place))
+
+    -- A FLAG
+    pub flag_done : (f : FileId) (flag : Flag) → IsDone (take_flag_noted b f flag work)
+    flag_done f flag =
+        same_done (take_flag b f flag) work (take_flag_noted b f flag work).work
+        (flag_same b f flag work)
+        (on_done b work u (take_flag b f flag) (flag_steps b f flag)
+        (whole_flag n s b u.way.whole f flag))
+
+    -- AN ENTRY OF A DIRECTORY
+    entry_stands : (d : FileId) (e : Entry) → is_dir d ≡ true → Stands (take_entry b d e) work
+    entry_stands d e dir =
+        on_done b work u (take_entry b d e) (entry_steps b d e)
+        (whole_entry n s b u.way.whole d e dir)
+
+    pub entry_done : (d : FileId) (e : Entry) → is_dir d ≡ true → IsDone (take_entry_noted b d e work)
+    entry_done d e dir =
+        same_done (take_entry b d e) work (take_entry_noted b d e work).work (entry_same b d e work)
+        (entry_stands d e dir)
+
+    pub entry_cell_done : (d : FileId) (e : Entry) (sure : Bool) → is_dir d ≡ true
+        → IsDone (take_entry_cell b d e sure work)
+    entry_cell_done d e sure dir =
+        same_done (take_entry b d e) work (take_entry_cell b d e sure work).work
+        (entry_cell_same b d e sure work) (entry_stands d e dir)
+
+    -- A VERSION, where it goes by steps
+    pub version_done : (f : FileId) (v : VersionValue) → Steps cells b (take_version b f v)
+        → IsDone (take_version_noted b f v work)
+    version_done f v steps =
+        same_done (take_version b f v) work (take_version_noted b f v work).work
+        (version_same b f v work)
+        (on_done b work u (take_version b f v) steps (whole_version n s b u.way.whole f v))
+
+    -- A LINK
+    pub link_done : (f : FileId) (peer birth : ℕ) → IsOther n s peer
+        → IsDone (link_peer b f peer birth work)
+    link_done f peer birth other =
+        same_done (link b f peer birth) work (link_peer b f peer birth work).work
+        (link_same b f peer birth work)
+        (on_done b work u (link b f peer birth)
+        (link_steps b f peer birth u.way.whole.together) (whole_link n s b u.way.whole f peer birth other))
+
+    -- A REPLICA BEGINS
+    pub begun_done : (f : FileId) (birth : ℕ) (policy : Policy) (own : Own) (full : Bool)
+        → is_held b f ≡ false → IsByServer own.flags → Stands (begin b f birth policy own full) work
+    begun_done f birth policy own full away sorted =
+        on_done b work u (begin b f birth policy own full)
+        (begin_steps b f birth policy own full u.way.whole.together away)
+        (whole_begun n s b f birth policy own full away sorted u.way.whole)
+
+    -- IT IS FULL
+    pub filled_done : (f : FileId) → Stands (with_names b (fill b.names f)) work
+    filled_done f =
+        on_done b work u (with_names b (fill b.names f)) (fill_steps b f)
+        (whole_filled n s b f u.way.whole)
+
+    -- WHAT STANDS BESIDE CHANGES
+    pub beside_done : (c : Store) → AreAlike b c → PatchesAreForDirs c → Stands c work
+    beside_done c alike patches =
+        on_done b work u c (alike_steps b c alike)
+        (whole_alike n s b u.way.whole c alike patches)
+
+    -- WHAT THE EDGES DO NOT READ IS SENT
+    pub posted : (to : ℕ) (m : Message) → ((from : ℕ) → saying from to m ≡ Other) → IsGrantOrdered m
+        → Stands b (post b to m work)
+    posted to m other ordered =
+        let sent = sent_to b to m in
+        sent_done b work u sent
+        (λ c f. others_may s a c heard (sent ∷ [])
+        (All-cons (λ z. says z ≡ Other) sent [] (other b.names.server) (All-nil (λ z. says z ≡ Other))))
+        ordered
+
+  -- ---- more of these
+
+  pub flags_done : (fs : List Flag) (b : Store) (work : Work) (f : FileId) → Stands b work
+      → IsDone (take_flags_noted b f fs work)
+  flags_done [] b work f u = u
+  flags_done (flag ∷ fs) b work f u =
+      let d = take_flag_noted b f flag work in
+      flags_done fs d.store d.work f (flag_done b work u f flag)
+
+  pub raised_done : (b : Store) (work : Work) (f : FileId) → Stands b work
+      → IsDone (raise_flag b f work)
+  raised_done b work f u =
+      let flag = own_next b f true in
+      flag_done b (with_made work (update.Flag f flag)) u f flag

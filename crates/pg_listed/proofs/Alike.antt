@@ -1,0 +1,139 @@
+-- Stores that directories see alike: places, cells and Patches are the same, and Confirms go on. A first
+-- part of a step may begin and end with such a change.
+use Rattle.std.proofs.Common.{ℕ, ◌≡◌, ◌<◌, ◌≤◌, true, Bool, Option, None, Some, refl, sym, ap, subst, ◌∙◌, inl, inr, ◌⊎◌, arith}
+use Rattle.pg_base.specs.declared.id.FileId.{FileId}
+use Rattle.pg_base.specs.declared.stamp.Stamp.{Stamp}
+use Rattle.pg_house.specs.Holding.{waits}
+use Rattle.pg_intent.specs.declared.key.IntentKey.TheVariants as intent_key
+use Rattle.pg_intent.specs.Intents.{intent_at, stands}
+use Rattle.pg_listing.specs.Protocol.{AtLeast, Lists}
+use Rattle.pg_listing.specs.Parts.{FirstPart, NoneLater}
+use Rattle.pg_listing.specs.Rule.{Holds, IsToldAt}
+use Rattle.pg_listing.proofs.Handlers.{calm_first}
+use Rattle.pg_names.specs.declared.own.Own.{Own}
+use Rattle.pg_names.specs.Names.{cell_at, own_at}
+use Rattle.pg_register.specs.declared.place.Place.{Place}
+use Rattle.pg_store.specs.declared.store.Store.{Store}
+use Rattle.pg_settled.specs.Listing.{cell_place, own_place}
+use Rattle.pg_settled.proofs.Seen.{own_is}
+use Rattle.pg_listed.specs.Letters.{Letter, of_stores, patch_place}
+
+pub record Alike (a b : Store) : Type 0 where
+  pub own : (f : FileId) → of_stores.own b f ≡ of_stores.own a f
+  pub cells : (d c : FileId) → of_stores.cell b d c ≡ of_stores.cell a d c
+  pub patches : (d c : FileId) → of_stores.patch b d c ≡ of_stores.patch a d c
+  pub confirms : (d c : FileId) → of_stores.Confirms a d c → of_stores.Confirms b d c
+  pub removed : b.names.removed ≡ a.names.removed
+
+pub Alike-refl : (a : Store) → Alike a a
+Alike-refl a = record { own = λ f. refl; cells = λ d c. refl; patches = λ d c. refl; confirms = λ d c h. h; removed = refl }
+
+pub Alike-trans : {a b c : Store} → Alike a b → Alike b c → Alike a c
+Alike-trans k l = record {
+  own = λ f. l.own f ∙ k.own f;
+  cells = λ d c. l.cells d c ∙ k.cells d c;
+  patches = λ d c. l.patches d c ∙ k.patches d c;
+  confirms = λ d c h. l.confirms d c (k.confirms d c h);
+  removed = l.removed ∙ k.removed;
+}
+
+-- names and intentions are the same
+pub alike_by : (a b : Store) → b.names ≡ a.names → b.intents ≡ a.intents → Alike a b
+alike_by a b names intents = record {
+  own = λ f. ap (λ n. own_place (own_at n f)) names;
+  cells = λ d c. ap (λ n. cell_place (cell_at n d c)) names;
+  patches = λ d c. ap (λ is. patch_place (intent_at is (intent_key.Patch d c))) intents;
+  confirms = λ d c h. ap (λ is. stands is (intent_key.Confirm d c)) intents ∙ h;
+  removed = ap (λ n. n.removed) names;
+}
+
+module _ (a b : Store) (k : Alike a b) where
+  held_on : (f : FileId) → Holds of_stores a f → Holds of_stores b f
+  held_on f h = (h.0, k.own f ∙ h.1)
+
+  held_back : (f : FileId) → Holds of_stores b f → Holds of_stores a f
+  held_back f h = (h.0, sym (k.own f) ∙ h.1)
+
+  pub lists_on : (d c : FileId) (q : Place) → Lists of_stores a d c q → Lists of_stores b d c q
+  lists_on d c q l = record { cell = k.cells d c ∙ l.cell; is_in = l.is_in }
+
+  pub lists_back : (d c : FileId) (q : Place) → Lists of_stores b d c q → Lists of_stores a d c q
+  lists_back d c q l = record { cell = sym (k.cells d c) ∙ l.cell; is_in = l.is_in }
+
+  told_on : (d c : FileId) (t : Stamp) → IsToldAt of_stores a d c t → IsToldAt of_stores b d c t
+  told_on d c t h = (h.0, k.cells d c ∙ h.1, h.2)
+
+  patch_on : (d c : FileId) (t : Stamp) → AtLeast of_stores t (of_stores.patch a d c) → AtLeast of_stores t (of_stores.patch b d c)
+  patch_on d c t h = (h.0, k.patches d c ∙ h.1, h.2)
+
+  -- a place that is held back is so still
+  back_on : (c : FileId) (r : Place) → of_stores.IsBack a c r → of_stores.IsBack b c r
+  back_on c r back = λ own held.
+      let was = own_is (own_at a.names c) own.place (sym (k.own c) ∙ ap own_place held) in
+      ap (λ rs. waits rs c own.place r) k.removed ∙ sym (ap (λ (x : Place). waits a.names.removed c x r) was.2) ∙ back was.0 was.1
+
+  none_later_on : (c : FileId) (q : Place) → NoneLater of_stores a c q → NoneLater of_stores b c q
+  none_later_on c q none = λ e r cell low. back_on c r (none e r (sym (k.cells e c) ∙ cell) low)
+
+  module _ (least : ℕ) (heard : Letter) where
+    -- what a server does behind such a change
+    pub behind_alike : (m : Store) → FirstPart of_stores least b m heard → FirstPart of_stores least a m heard
+    behind_alike m x = record {
+      views = x.views;
+      hears = x.hears;
+      birth = λ f was now. refl;
+      past = λ f n h. h;
+      own_grows = λ f q r was now. x.own_grows f q r (k.own f ∙ was) now;
+      cells_grow = λ d c q was held. x.cells_grow d c q (k.cells d c ∙ was) held;
+      taken = λ d c q r none held was in_ now. x.taken d c q r (k.own d ∙ none) held (k.own c ∙ was) in_ now;
+      patch_ends = λ d c q was. x.patch_ends d c q (k.patches d c ∙ was);
+      let_go = λ f q was none. x.let_go f q (k.own f ∙ was) none;
+      confirm_ends = λ d c q asks l none. x.confirm_ends d c q (k.confirms d c asks) l none;
+      listed_new = λ d c q l none. elim (x.listed_new d c q l none) [
+        | inl was ↦ inl (sym (k.cells d c) ∙ was)
+        | inr r ↦ inr r
+      ];
+      enters = x.enters;
+    }
+
+    -- and before it
+    pub before_alike : (z : Store) → FirstPart of_stores least z a heard → FirstPart of_stores least z b heard
+    before_alike z x = record {
+      views = x.views;
+      hears = x.hears;
+      birth = λ f was now. refl;
+      past = λ f n h. h;
+      own_grows = λ f q r was now. x.own_grows f q r was (sym (k.own f) ∙ now);
+      cells_grow = λ d c q was held. told_on d c q.stamp (x.cells_grow d c q was (held_back d held));
+      taken = λ d c q r none held was in_ now. elim (x.taken d c q r none (held_back d held) was in_ (sym (k.own c) ∙ now)) [
+        | inl cell ↦ inl (cell.0, k.cells d c ∙ cell.1)
+        | inr rest ↦ inr (rest.0, none_later_on c q rest.1)
+      ];
+      patch_ends = λ d c q was. elim (x.patch_ends d c q was) [
+        | inl more ↦ inl (patch_on d c q.stamp more)
+        | inr rest ↦ elim rest [ inl told ↦ inr (inl (told_on d c q.stamp told)) | inr said ↦ inr (inr said) ]
+      ];
+      let_go = λ f q was none. x.let_go f q was (sym (k.own f) ∙ none);
+      confirm_ends = λ d c q asks l none. elim (x.confirm_ends d c q asks (lists_back d c q l) (sym (k.own c) ∙ none)) [
+        | inl still ↦ inl (k.confirms d c still)
+        | inr said ↦ inr said
+      ];
+      listed_new = λ d c q l none. elim (x.listed_new d c q (lists_back d c q l) (sym (k.own c) ∙ none)) [
+        | inl was ↦ inl was
+        | inr rest ↦ elim rest [ inl asks ↦ inr (inl (k.confirms d c asks)) | inr said ↦ inr (inr said) ]
+      ];
+      enters = λ low up. absurd (let h : 0 < least = low in let g : least ≤ 0 = up in omega arith);
+    }
+
+-- nothing but such a change
+pub alike_first : (a b : Store) (heard : Letter) → heard.view ≡ 0 → Alike a b → FirstPart of_stores 0 a b heard
+alike_first a b heard view k = calm_first of_stores 0 a b heard (record {
+  hears = inr view;
+  view = refl;
+  own = k.own;
+  cells = k.cells;
+  births = λ f was now. refl;
+  past = λ f n h. h;
+  patches = λ d c q h. inl (q, k.patches d c ∙ h, inl refl);
+  confirms = λ d c q asks l none. inl (k.confirms d c asks);
+})

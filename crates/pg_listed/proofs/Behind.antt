@@ -1,0 +1,159 @@
+-- What stands behind the first part of a step is a second part.
+use Rattle.std.proofs.Common.{ℕ, ◌≡◌, ◌&&◌, not, Bool, true, false, drop, length, Option, None, Some, refl, sym, ap, subst, ◌∙◌, inl, inr, ◌⊎◌}
+use Rattle.std.proofs.lemmas.Option.{none-some, same_Some}
+use Rattle.pg_base.specs.declared.id.FileId.{FileId}
+use Rattle.pg_base.specs.Id.{is_same_file}
+use Rattle.pg_base.specs.Stamp.{is_before}
+use Rattle.pg_base.proofs.Orders.{is_same_file-refl}
+use Rattle.pg_entries.specs.declared.entry.Entry.{Entry}
+use Rattle.pg_entries.specs.Entry.{is_listed}
+use Rattle.pg_house.specs.Facts.{AreByServer, IsLast, IsLeft, IsOfDirs, IsOneOf}
+use Rattle.pg_house.specs.House.{house}
+use Rattle.pg_house.specs.Work.{State, state_of}
+use Rattle.pg_house.proofs.Replaced.{noted}
+use Rattle.pg_house.proofs.Truths.{both_true, not_false}
+use Rattle.pg_intent.specs.declared.intent.Intent.TheVariants as intent
+use Rattle.pg_intent.specs.declared.key.IntentKey.TheVariants as intent_key
+use Rattle.pg_intent.specs.Intents.{intent_at, stands}
+use Rattle.pg_listing.specs.Protocol.{Above, AtLeast, IsIn, Lists}
+use Rattle.pg_listing.specs.Parts.{SecondPart}
+use Rattle.pg_listing.specs.Rule.{IsToldAt}
+use Rattle.pg_msg.specs.declared.work.Slot.{Slot}
+use Rattle.pg_names.specs.Names.{NamesValue, own_at, own_or_blank, or_blank}
+use Rattle.pg_names.specs.Names as names
+use Rattle.pg_places.proofs.Behind.{touched_intents, touched_names}
+use Rattle.pg_register.specs.declared.place.Place.{Place}
+use Rattle.pg_repair.specs.Confirms.{is_doubtful, is_doubtful_cell}
+use Rattle.pg_repair.proofs.Steady.{begin_end_stays}
+use Rattle.pg_run.specs.Intending.{IntendsInOrder}
+use Rattle.pg_server.specs.Local.{intended, settled}
+use Rattle.pg_settled.specs.Listing.{cell_place, listing, own_place}
+use Rattle.pg_settled.specs.Second.{Intends}
+use Rattle.pg_settled.proofs.Given.{nothing_begins, replaced_are_noted}
+use Rattle.pg_settled.proofs.Second.{rules_are_second_parts}
+use Rattle.pg_settled.proofs.Seen.{cell_is, own_is}
+use Rattle.pg_settled.proofs.Works.{house_unsure}
+use Rattle.pg_store.specs.declared.store.Store.{Store}
+use Rattle.pg_store.specs.Store.{is_held, with_names}
+use Rattle.pg_cells.specs.Done.{Done}
+use Rattle.pg_listed.specs.Laws.{MaySettle}
+use Rattle.pg_listed.specs.Letters.{Letter, beside, of_stores, patch_place}
+use Rattle.pg_listed.proofs.Heard.{IsFirst}
+use Rattle.pg_listed.proofs.Settling.{newly_asked, patch_begins, patch_found, patch_grows, still_asked}
+use Rattle.pg_listed.proofs.Views.{none_away, patch_is}
+
+module _ (a : Store) (heard : Letter) (d : Done) (k : IsFirst a heard d) (sound : MaySettle d.store.names) (order : IntendsInOrder (intended (settled d)).store) where
+  abbrev St : State
+  St = state_of d.store.names d.work
+
+  abbrev End : State
+  End = house d.work.now St
+
+  abbrev S : Done
+  S = settled d
+
+  abbrev B : Store
+  B = (intended S).store
+
+  s_names : S.store.names ≡ End.names
+  s_names = touched_names (drop (length d.work.touched) End.work.touched) (with_names d.store End.names)
+
+  s_intents : S.store.intents ≡ d.store.intents
+  s_intents = touched_intents (drop (length d.work.touched) End.work.touched) (with_names d.store End.names)
+
+  same_names : B.names ≡ S.store.names
+  same_names = (begin_end_stays S.store S.work).names
+
+  pub b_names : B.names ≡ End.names
+  b_names = same_names ∙ s_names
+
+  mid_names : B.names ≡ (house d.work.now (state_of k.mid.names d.work)).names
+  mid_names = b_names ∙ ap (λ (n : NamesValue). (house d.work.now (state_of n d.work)).names) (sym k.names)
+
+  own_of_mid : (c : FileId) (o : Option Place) → of_stores.own k.mid c ≡ o → of_stores.own d.store c ≡ o
+  own_of_mid c o h = sym (ap (λ (n : NamesValue). own_place (own_at n c)) k.names) ∙ h
+
+  -- ---- Patches
+
+  patch_of : (dir c : FileId) (q : Place) → of_stores.patch B dir c ≡ Some q → IsIn of_stores dir c q → of_stores.own B c ≡ Some q
+  patch_of dir c q h in_ =
+      let f = patch_found (intent_at B.intents (intent_key.Patch dir c)) q h in
+      let is = patch_is B.intents dir c f.0 f.1 f.2 f.3 in
+      let p = order.patches dir c f.1 f.2 (f.3 ∙ ap (λ x. Some (intent.Patch x f.1 f.2)) is.0) in
+      let live : f.1.place.live ≡ true = ap (λ (x : Place). x.live) f.4 ∙ in_.live.0 in
+      let parent : f.1.place.parent ≡ dir = ap (λ (x : Place). x.parent) f.4 ∙ in_.parent in
+      ap (of_stores.own B) (sym is.1) ∙ ap own_place p.held ∙ ap (λ (x : Place). Some x) (p.same live parent ∙ f.4)
+
+  in_list : (dir c : FileId) (q : Place) → IsIn of_stores dir c q → IsIn listing dir c q
+  in_list dir c q i = record { live = i.live; parent = i.parent; inner = i.inner }
+
+  -- it is noted that a live place was replaced, by the rules
+  left_behind : (dir c : FileId) (q r : Place) → of_stores.own d.store c ≡ Some q → IsIn of_stores dir c q → of_stores.own B c ≡ Some r → is_before q.stamp r.stamp ≡ true → IsLeft S.work dir c
+  left_behind dir c q r was in_ now low =
+      replaced_are_noted d.work.now St dir c q r was (in_list dir c q in_) (sym (ap (λ (n : NamesValue). own_place (own_at n c)) b_names) ∙ now) low
+
+  -- or before
+  left_before : (dir c : FileId) (q : Place) → IsIn of_stores dir c q → IsLeft d.work q.parent c → IsLeft S.work dir c
+  left_before dir c q in_ left = (noted d.work.now St).stays (record { dir = dir; child = c }) (subst (λ (x : FileId). IsLeft d.work x c) in_.parent left)
+
+  left_by : (dir c : FileId) (q r : Place) (o : Option Place) → of_stores.own d.store c ≡ o → of_stores.own a c ≡ Some q → IsIn of_stores dir c q → of_stores.own B c ≡ Some r → is_before q.stamp r.stamp ≡ true
+      → IsLeft S.work dir c
+  left_by dir c q r None is was in_ now low =
+      absurd (none-some r (sym (nothing_begins d.work.now St c is) ∙ sym (ap (λ (n : NamesValue). own_place (own_at n c)) b_names) ∙ now))
+  left_by dir c q r (Some x) is was in_ now low = elim (k.noted.noted c q x was is in_.inner in_.live.0) [
+    | inl same ↦ left_behind dir c q r (is ∙ ap (λ (y : Place). Some y) (sym same)) in_ now low
+    | inr left ↦ left_before dir c q in_ left
+  ]
+
+  left_at : (dir c : FileId) (q r : Place) → (of_stores.own a c ≡ Some q) ⊎ (of_stores.own k.mid c ≡ Some q) → IsIn of_stores dir c q → of_stores.own B c ≡ Some r → is_before q.stamp r.stamp ≡ true → IsLeft S.work dir c
+  left_at dir c q r (inl was) in_ now low = left_by dir c q r (of_stores.own d.store c) refl was in_ now low
+  left_at dir c q r (inr mid) in_ now low = left_behind dir c q r (own_of_mid c (Some q) mid) in_ now low
+
+  patch_begun : (dir c : FileId) (q r : Place) → (of_stores.own a c ≡ Some q) ⊎ (of_stores.own k.mid c ≡ Some q) → IsIn of_stores dir c q
+      → of_stores.own B c ≡ Some r → is_before q.stamp r.stamp ≡ true → of_stores.own B dir ≡ None → Above of_stores q.stamp (of_stores.patch B dir c)
+  patch_begun dir c q r either in_ now low none =
+      let away = none_away S.store dir (sym (ap (λ (n : NamesValue). own_place (own_at n dir)) same_names) ∙ none) in
+      let o = own_is (own_at S.store.names c) r (sym (ap (λ (n : NamesValue). own_place (own_at n c)) same_names) ∙ now) in
+      let mine : (own_or_blank S.store.names c).place ≡ r = ap (λ x. (or_blank c x).place) o.1 ∙ o.2 in
+      patch_begins S.store S.work dir c q (left_at dir c q r either in_ now low) away (ap (λ (x : Place). is_before q.stamp x.stamp) mine ∙ low)
+
+  patch_ends : (dir c : FileId) (q : Place) → of_stores.patch k.mid dir c ≡ Some q → AtLeast of_stores q.stamp (of_stores.patch B dir c) ⊎ IsToldAt of_stores B dir c q.stamp
+  patch_ends dir c q h =
+      inl (patch_grows S.store S.work dir c q (ap (λ is. patch_place (intent_at is (intent_key.Patch dir c))) s_intents ∙ sym (k.patches dir c) ∙ h))
+
+  -- ---- Confirms
+
+  doubtful : (dir c : FileId) (q : Place) → Lists of_stores B dir c q → of_stores.own B c ≡ None → is_doubtful S.store dir c ≡ true
+  doubtful dir c q l none =
+      let x = cell_is (names.cell_at S.store.names dir c) q (sym (ap (λ (n : NamesValue). cell_place (names.cell_at n dir c)) same_names) ∙ l.cell) in
+      let away = none_away S.store c (sym (ap (λ (n : NamesValue). own_place (own_at n c)) same_names) ∙ none) in
+      let live : x.0.place.live ≡ true = ap (λ (p : Place). p.live) x.2 ∙ l.is_in.live.0 in
+      let parent : is_same_file x.0.place.parent dir ≡ true = ap (λ (p : Place). is_same_file p.parent dir) x.2 ∙ ap (λ (f : FileId). is_same_file f dir) l.is_in.parent ∙ is_same_file-refl dir in
+      ap (is_doubtful_cell S.store.names dir c) x.1
+      ∙ both_true (is_listed dir x.0) (not (is_held S.store c)) (both_true x.0.place.live (is_same_file x.0.place.parent dir) live parent) (not_false (is_held S.store c) away)
+
+  confirms : (dir c : FileId) (q : Place) → of_stores.Confirms k.mid dir c → Lists of_stores B dir c q → of_stores.own B c ≡ None → of_stores.Confirms B dir c
+  confirms dir c q owes l none =
+      let doubt = doubtful dir c q l none in
+      elim (k.confirms dir c owes) [
+        | inl stood ↦ still_asked S.store S.work dir c doubt (ap (λ is. stands is (intent_key.Confirm dir c)) s_intents ∙ stood)
+        | inr unsure ↦ newly_asked S.store S.work dir c doubt (subst (IsOneOf {A = Slot} (record { dir = dir; child = c })) (sym (house_unsure d.work.now St)) unsure)
+      ]
+
+  intends : Intends (λ (x : Store). x.names) beside a k.mid B
+  intends = record {
+    view = refl;
+    birth = λ f h. refl;
+    past = λ f n h. h;
+    not_past = λ f n h g past. past;
+    patch_of = patch_of;
+    patch_begun = patch_begun;
+    patch_ends = patch_ends;
+    confirms = confirms;
+  }
+
+  -- THE SECOND PART
+  pub second_part : SecondPart of_stores a k.mid B
+  second_part =
+      let back : d.store.names ≡ k.mid.names = sym k.names in
+      rules_are_second_parts (λ (x : Store). x.names) beside d.work.now d.work a k.mid B (subst IsOfDirs back sound.of_dirs) (subst AreByServer back sound.by_server) (subst IsLast back sound.last) mid_names intends

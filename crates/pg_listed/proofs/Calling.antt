@@ -1,0 +1,177 @@
+-- The first part of a step, for each call.
+use Rattle.std.proofs.Common.{ℕ, ◌≡◌, ◌==◌, Bool, true, false, cond, List, [], ◌∷◌, ◌++◌, Option, None, Some, Result, Ok, Err, refl, sym, ap, subst, ◌∙◌, inl, inr, ◌⊎◌}
+use Rattle.pg_base.specs.declared.id.FileId.{FileId}
+use Rattle.pg_base.specs.declared.id.Kind.{Kind}
+use Rattle.pg_base.specs.declared.id.Kind.TheVariants.{Dir, File}
+use Rattle.pg_base.specs.declared.policy.Policy.{Policy}
+use Rattle.pg_base.specs.declared.policy.Policy.TheVariants.{Last}
+use Rattle.pg_base.specs.declared.stamp.Stamp.{Stamp}
+use Rattle.pg_call.specs.declared.call.Call.{Call}
+use Rattle.pg_call.specs.declared.call.Call.TheVariants as call
+use Rattle.pg_call.specs.declared.reply.Reply.{Reply}
+use Rattle.pg_call.specs.declared.reply.Reply.TheVariants as reply
+use Rattle.pg_house.specs.Facts.{IsOneOf}
+use Rattle.pg_listing.specs.Parts.{FirstPart}
+use Rattle.pg_msg.specs.declared.update.Update.TheVariants as update
+use Rattle.pg_msg.specs.declared.work.Work.{Work}
+use Rattle.pg_msg.specs.Work.{new_work, with_made}
+use Rattle.pg_names.specs.Names.{blank_own}
+use Rattle.pg_patch.specs.Ranges.{RangesValue, cut_to, written}
+use Rattle.pg_promises.proofs.Choices.{chosen}
+use Rattle.pg_register.specs.declared.place.Place.{Place}
+use Rattle.pg_run.specs.Intending.{IntendsInOrder, PatchesStand}
+use Rattle.pg_store.specs.declared.store.Store.{Store}
+use Rattle.pg_store.specs.declared.wishes.Wish.{Wish}
+use Rattle.pg_store.specs.Births.{draw_birth, with_birth, with_wish}
+use Rattle.pg_store.specs.Store.{is_held, take_place, write}
+use Rattle.pg_walk.specs.declared.paths.Found.{Found}
+use Rattle.pg_walk.specs.declared.paths.Stop.{Stop}
+use Rattle.pg_walk.specs.declared.paths.Stop.TheVariants as stop
+use Rattle.pg_cells.specs.Done.{Done, idle}
+use Rattle.pg_calls.specs.declared.checks.NewName.{NewName}
+use Rattle.pg_calls.specs.Answer.{Answer, answer, answered, deny, replied, told}
+use Rattle.pg_calls.specs.Asking.{ask_by, fetch, fresh_wish, holder, standing}
+use Rattle.pg_calls.specs.Bodies.{change, change_file, when_fit}
+use Rattle.pg_calls.specs.Calls.{do_call}
+use Rattle.pg_calls.specs.Checks.{dir_at, empty_dir_at, file_at, in_time, move_of, new_name, target_at}
+use Rattle.pg_calls.specs.Making.{drawn, first_ranges, make_place, make_version}
+use Rattle.pg_calls.specs.Naming.{begun, dead_place, next_id, place_in, raised, with_first_version, with_id, with_thing}
+use Rattle.pg_listed.specs.Letters.{Letter, of_stores}
+use Rattle.pg_listed.proofs.Alike.{Alike, Alike-refl, Alike-trans, alike_by, alike_first, before_alike, behind_alike}
+use Rattle.pg_listed.proofs.Heard.{IsBehind, IsFirst, alike_is, idle_first, place_is, plainly}
+use Rattle.pg_listed.proofs.Placed.{IsNoted, noted_from, noted_on, place_first, place_left, place_noted, same_noted}
+use Rattle.pg_listed.proofs.Starting.{IsStarted, kept_own, started, started_first, started_noted, then_placed}
+use Rattle.pg_listed.proofs.Unseen.{later_alike, raised_alike, raised_left}
+
+-- an id, or a birth, that is given out changes nothing else
+given_behind : (a : Store) → IsBehind a → IsBehind (with_birth (with_id a))
+given_behind a k = record { back = k.back }
+
+given_patches : (a : Store) → PatchesStand a → PatchesStand (with_birth (with_id a))
+given_patches a k d c e target h = (let p = k d c e target h in record { away = p.away; own = p.own; held = p.held; upto = p.upto; same = p.same })
+
+module _ (a : Store) (behind : IsBehind a) (order : IntendsInOrder a) (fresh : (kind : Kind) → is_held a (next_id a kind) ≡ false) (heard : Letter) (view : heard.view ≡ 0) (moment : ℕ) where
+  abbrev W : Work
+  W = new_work moment 0
+
+  abbrev First : Answer → Type 0
+  First b = IsFirst a heard (idle b.store b.work)
+
+  idle_is : (work : Work) → IsFirst a heard (idle a work)
+  idle_is work = idle_first a behind heard view work
+
+  -- ---- a call that does not go on
+
+  asked_by : (found : Found) (o : Option Wish) → IsFirst a heard (ask_by a found o W)
+  asked_by found (Some wish) = idle_is (fetch a found.file wish W)
+  asked_by found None =
+      let target = holder a found in
+      let wish = fresh_wish a target in
+      let d = idle (with_wish (with_birth a) found.file wish) (fetch a found.file wish W) in
+      chosen (λ (e : Done). IsFirst a heard e) (target == 0) (idle a W) d (idle_is W) (alike_is a behind heard view d (alike_by a d.store refl refl))
+
+  denied : (why : Stop) → First (deny a why W)
+  denied (stop.Refused why) = idle_is W
+  denied (stop.NotYet found) = asked_by found (standing a found.file)
+
+  going : {A : Type 0} (r : Result A Stop) (next : A → Answer) → ((x : A) → First (next x)) → First (answered a W r next)
+  going (Err why) next each = denied why
+  going (Ok x) next each = each x
+
+  looks : {A : Type 0} (r : Result A Stop) (tell : A → Reply) → First (replied a W r tell)
+  looks r tell = going r (λ x. told a W (tell x)) (λ x. idle_is W)
+
+  -- ---- a new thing
+
+  module _ (kind : Kind) (policy : Policy) (new : NewName) where
+    abbrev Id : FileId
+    Id = next_id a kind
+
+    abbrev At : Place
+    At = place_in (with_id a) moment new
+
+    abbrev Given : Store
+    Given = with_birth (with_id a)
+
+    abbrev Begun : Store
+    Begun = begun (with_id a) Id policy
+
+    abbrev Placed : Done
+    Placed = make_place Id At (idle Begun W)
+
+    abbrev Thing : Done
+    Thing = with_thing (with_id a) W Id policy new
+
+    is_given : Alike a Given
+    is_given = alike_by a Given refl refl
+
+    away : is_held Given Id ≡ false
+    away = fresh kind
+
+    is_started : IsStarted Given Placed.store Id
+    is_started = then_placed Given Begun Id At (started Given Id (draw_birth (with_id a)) policy (blank_own Id) true away)
+
+    given_order : PatchesStand Given
+    given_order = given_patches a order.patches
+
+    placed_first : FirstPart of_stores 0 a Placed.store heard
+    placed_first =
+        behind_alike a Given is_given 0 heard Placed.store (started_first Given Placed.store Id is_started away (given_behind a behind) given_order heard view)
+
+    placed_noted : IsNoted a Placed
+    placed_noted = noted_from a Given Placed is_given.own
+        (noted_on Given (idle Placed.store Placed.work) Placed (started_noted Given Placed.store Id is_started away (given_behind a behind) given_order heard view Placed.work) (λ f. refl) (λ x h. h))
+
+    thing_alike : Alike Placed.store Thing.store
+    thing_alike = raised_alike Placed.store Id Placed.work
+
+    thing_part : FirstPart of_stores 0 a Thing.store heard
+    thing_part = before_alike Placed.store Thing.store thing_alike 0 heard a placed_first
+
+    thing_noted : IsNoted a Thing
+    thing_noted = noted_on a Placed Thing placed_noted thing_alike.own (λ x h. subst (IsOneOf x) (sym (raised_left Placed.store Id Placed.work)) h)
+
+    thing_first : (r : Reply) → First (answer Thing r)
+    thing_first r = plainly a heard Thing thing_part thing_noted
+
+    file_first : (r : Reply) → First (answer (with_first_version Id Thing) r)
+    file_first r =
+        let end = with_first_version Id Thing in
+        let stamp = drawn Thing.store Thing.work.now in
+        let more : Alike Thing.store end.store = later_alike Thing.store end.store stamp.time refl refl in
+        plainly a heard end (before_alike Thing.store end.store more 0 heard a thing_part) (noted_on a Thing end thing_noted more.own (λ x h. h))
+
+  -- ---- a thing gets a place
+
+  moved_first : (f : FileId) (place : Place) (r : Reply) → First (answer (make_place f place (idle a W)) r)
+  moved_first f place r = place_is a behind heard view a f place (with_made W (update.Place f place)) (Alike-refl a)
+
+  -- ---- a version
+
+  change_first : (text : List ℕ) (ranges : RangesValue) → First (change a text ranges W)
+  change_first text ranges =
+      going (file_at a text) (change_file a ranges W)
+      (λ f. going (when_fit a ranges f) _
+      (λ fit. (
+      let d = make_version fit (drawn a moment) ranges (idle a W) in
+      alike_is a behind heard view d (later_alike a d.store (drawn a moment).time refl refl))))
+
+  -- A CALL
+  pub call_first : (x : Call) → First (do_call a x W)
+  call_first (call.Mkdir text) = going (new_name a (next_id a Dir) text) _ (λ new. thing_first Dir Last new (reply.Made (next_id a Dir)))
+  call_first (call.Create text policy) = going (new_name a (next_id a File) text) _ (λ new. file_first File policy new (reply.Made (next_id a File)))
+  call_first (call.Write text offset bytes) = change_first text (written offset bytes)
+  call_first (call.Cut text length) = change_first text (cut_to length)
+  call_first (call.Read text offset count) = looks (file_at a text) _
+  call_first (call.Fresh text) = looks (file_at a text) _
+  call_first (call.Ls text from) = looks (dir_at a text) _
+  call_first (call.Stat target) = looks (target_at a target) _
+  call_first (call.Rename from to) = going (move_of a from to) _ (λ move. moved_first move.thing (place_in a moment move.to) reply.Done)
+  call_first (call.Unlink text) = going (file_at a text) _ (λ f. moved_first f (dead_place a moment f) reply.Done)
+  call_first (call.Rmdir text) = going (empty_dir_at a text) _ (λ d. moved_first d (dead_place a moment d) reply.Done)
+  call_first (call.Forget id) = looks (in_time a (tt {0})) _
+  call_first (call.Demote target) = looks (in_time a (tt {0})) _
+  call_first (call.Drop target) = looks (in_time a (tt {0})) _
+  call_first (call.Giveup view server) = looks (in_time a (tt {0})) _
+  call_first call.Status = looks (in_time a (tt {0})) _
+  call_first call.Stop = looks (in_time a (tt {0})) _

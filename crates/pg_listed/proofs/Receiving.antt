@@ -1,0 +1,264 @@
+-- The first part of a step, for each kind of message.
+use Rattle.std.proofs.Common.{ℕ, ◌≡◌, ◌==◌, ◌&&◌, not, Bool, true, false, cond, List, [], ◌∷◌, Option, None, Some, is_some, refl, sym, ap, subst, ◌∙◌, inl, inr, ◌⊎◌}
+use Rattle.std.proofs.lemmas.Bool.{and_parts, false≢true}
+use Rattle.std.proofs.lemmas.Option.{none-some, same_Some}
+use Rattle.pg_base.specs.declared.id.FileId.{FileId}
+use Rattle.pg_base.specs.declared.stamp.Stamp.{Stamp}
+use Rattle.pg_base.specs.Id.{is_same_file}
+use Rattle.pg_base.proofs.Orders.{is_same_file-true}
+use Rattle.pg_content.specs.History.{is_same_stamp}
+use Rattle.pg_content.proofs.Stamps.{same_stamp}
+use Rattle.pg_entries.specs.declared.cell.Cell.{Cell}
+use Rattle.pg_entries.specs.declared.cell.Cell.TheVariants as cells
+use Rattle.pg_entries.specs.declared.entry.Entry.{Entry}
+use Rattle.pg_house.specs.Facts.{IsOneOf}
+use Rattle.pg_house.specs.Work.{is_root}
+use Rattle.pg_intent.specs.declared.intent.Intent.{Intent}
+use Rattle.pg_intent.specs.declared.intent.Intent.TheVariants as intent
+use Rattle.pg_intent.specs.declared.key.IntentKey.{IntentKey}
+use Rattle.pg_intent.specs.declared.key.IntentKey.TheVariants as intent_key
+use Rattle.pg_intent.specs.Intents.{aimed, ended, intent_at, stands}
+use Rattle.pg_intent.specs.Key.{is_same_key}
+use Rattle.pg_intent.proofs.Found.{ended_found, stands_is}
+use Rattle.pg_listing.specs.Protocol.{AtLeast}
+use Rattle.pg_listing.specs.Parts.{FirstPart}
+use Rattle.pg_listing.specs.World.Saying.{TellOk, Told}
+use Rattle.pg_listing.specs.World.Way.{PlaceIs, SureCell, Tell}
+use Rattle.pg_listing.proofs.Handlers.{calm_first}
+use Rattle.pg_msg.specs.declared.message.Ask.{Ask}
+use Rattle.pg_msg.specs.declared.message.Ends.{Ends}
+use Rattle.pg_msg.specs.declared.message.Granted.{Granted}
+use Rattle.pg_msg.specs.declared.message.Message.{Message}
+use Rattle.pg_msg.specs.declared.message.Message.TheVariants as message
+use Rattle.pg_msg.specs.declared.work.Slot.{Slot}
+use Rattle.pg_msg.specs.declared.work.Work.{Work}
+use Rattle.pg_promises.proofs.Choices.{chosen, decided}
+use Rattle.pg_register.specs.declared.place.Place.{Place}
+use Rattle.pg_run.specs.Intending.{IntendsInOrder}
+use Rattle.pg_server.specs.Local.{receive}
+use Rattle.pg_store.specs.declared.store.Store.{Store}
+use Rattle.pg_store.specs.Beginning.{with_intents}
+use Rattle.pg_store.specs.Births.{is_pending}
+use Rattle.pg_store.specs.Links.{knows_later, link}
+use Rattle.pg_store.specs.Servers.{next_target}
+use Rattle.pg_store.specs.Store.{is_full, is_held, take_entry}
+use Rattle.pg_store.proofs.Given.{pending_may}
+use Rattle.pg_cells.specs.declared.accepting.Manner.TheVariants as manner
+use Rattle.pg_cells.specs.Accepting.{accept, is_accepted, link_peer}
+use Rattle.pg_cells.specs.Cells.{cell as take_cell, fits, taken, taken_along}
+use Rattle.pg_cells.specs.Done.{Done, idle}
+use Rattle.pg_cells.specs.Posting.{reply}
+use Rattle.pg_cells.specs.Taking.{take_entry_noted, take_place_noted}
+use Rattle.pg_repair.specs.Confirming.{confirm, confirmed, end_confirmed, own_entry, place_is, place_told, take_told_flags, take_told_place}
+use Rattle.pg_repair.specs.Fetching.{answer_fetch, fetch}
+use Rattle.pg_repair.specs.Filling.{fill, full}
+use Rattle.pg_repair.specs.Granting.{aim_fill, begin_granted, begun_by, grant, granted_own, no_grant, turn_fill, turn_wish}
+use Rattle.pg_repair.specs.NoneHere.{asking_key, does_ask, none_here}
+use Rattle.pg_repair.specs.Telling.{end_told, is_told, tell, tell_ok, told}
+use Rattle.pg_listed.specs.Letters.{Letter, of_stores, patch_place, says, told_by}
+use Rattle.pg_listed.proofs.Alike.{Alike, Alike-refl, Alike-trans, alike_by, alike_first, before_alike}
+use Rattle.pg_listed.proofs.Heard.{IsBehind, IsFirst, alike_is, entry_cell_is, idle_first, place_told_is, place_is as placed, plainly, told_entry, with_work}
+use Rattle.pg_listed.proofs.Placed.{IsNoted, noted_on, place_first, place_noted, same_noted}
+use Rattle.pg_listed.proofs.Starting.{started, started_first, started_noted}
+use Rattle.pg_listed.proofs.Unseen.{accept_alike, aimed_alike, fill_alike, flag_alike, flags_alike, flags_left, link_alike, link_left, turn_fill_alike, turn_wish_alike, unlink_alike, version_alike}
+
+module _ (a : Store) (behind : IsBehind a) (order : IntendsInOrder a) (heard : Letter) (view : heard.view ≡ 0) where
+  abbrev First : Done → Type 0
+  First d = IsFirst a heard d
+
+  alike : (d : Done) → Alike a d.store → First d
+  alike d k = alike_is a behind heard view d k
+
+  -- ---- a cell
+
+  taken_first : (f : FileId) (c : Cell) (d : Done) → Alike a d.store → heard.says ≡ told_by f c → First (taken d.store f c d.work)
+  taken_first f (cells.Place place) d k said = placed a behind heard view d.store f place d.work k
+  taken_first f (cells.Flag flag) d k said = alike (taken d.store f (cells.Flag flag) d.work) (Alike-trans k (flag_alike d.store f flag))
+  taken_first f (cells.Version v) d k said = alike (taken d.store f (cells.Version v) d.work) (Alike-trans k (version_alike d.store f v))
+  taken_first f (cells.Entry e true) d k said = entry_cell_is a behind heard view d.store f e k d.work true (λ sure. (SureCell, said))
+  taken_first f (cells.Entry e false) d k said = entry_cell_is a behind heard view d.store f e k d.work false (λ sure. absurd (false≢true sure))
+
+  cell_first : (ends : Ends) (tag : ℕ) (c : Cell) (work : Work) → heard.says ≡ told_by ends.file c → First (take_cell a ends tag c work)
+  cell_first ends tag c work said =
+      let met = accept a ends manner.Link work in
+      let k = accept_alike a ends manner.Link work in
+      chosen First (fits ends.file c) _ (idle a work)
+      (chosen First (is_accepted a work.from manner.Link ends) (taken_along ends tag c met) met
+      (with_work a heard (taken met.store ends.file c met.work) (taken_along ends tag c met) refl refl refl (taken_first ends.file c met k said)) (alike met k))
+      (idle_first a behind heard view work)
+
+  -- ---- replicas
+
+  fetch_first : (f : FileId) (birth : ℕ) (work : Work) → First (fetch a f birth work)
+  fetch_first f birth work =
+      let link = link_peer a f work.from birth work in
+      chosen First (is_full a f) _ _
+      (chosen First (knows_later a f work.from birth) (idle a work) (idle link.store (answer_fetch link.store f birth link.work)) (idle_first a behind heard view work)
+      (alike (idle link.store (answer_fetch link.store f birth link.work)) (link_alike a f work.from birth)))
+      (idle_first a behind heard view _)
+
+  granted_first : (ends : Ends) (g : Granted) (work : Work) → is_pending a ends.file ends.receiver ≡ true → First (begin_granted a ends g work)
+  granted_first ends g work pending =
+      let may = pending_may a ends.file ends.receiver order.held.births pending in
+      let b = begun_by a ends g in
+      let k = started a ends.file ends.receiver g.policy (granted_own g) false may.away in
+      let linked = link_peer b ends.file work.from ends.sender work in
+      let more : Alike b (aim_fill linked.store ends.file linked.work.from) =
+      Alike-trans (link_alike b ends.file work.from ends.sender) (aimed_alike linked.store (intent_key.Fill ends.file) linked.work.from) in
+      let end = begin_granted a ends g work in
+      plainly a heard end
+      (before_alike b end.store more 0 heard a (started_first a b ends.file k may.away behind order.patches heard view))
+      (noted_on a (idle b work) end (started_noted a b ends.file k may.away behind order.patches heard view work) more.own
+      (λ x h. subst (IsOneOf x) (sym (link_left b ends.file work.from ends.sender work)) h))
+
+  grant_first : (ends : Ends) (g : Granted) (work : Work) → First (grant a ends g work)
+  grant_first ends g work =
+      decided First (is_pending a ends.file ends.receiver) (begin_granted a ends g work) (accept a ends manner.Link work)
+      (granted_first ends g work) (λ none. alike (accept a ends manner.Link work) (accept_alike a ends manner.Link work))
+
+  no_grant_first : (f : FileId) (birth : ℕ) (work : Work) → First (no_grant a f birth work)
+  no_grant_first f birth work =
+      let next = next_target a work.from in
+      alike (no_grant a f birth work) (Alike-trans (turn_wish_alike a f birth work.from next) (turn_fill_alike (turn_wish a f birth work.from next) f birth work.from next))
+
+  full_first : (ends : Ends) (work : Work) → First (full a ends work)
+  full_first ends work =
+      chosen First (is_accepted a work.from manner.Answer ends && not (is_full a ends.file)) (fill a ends.file work) (idle a work)
+      (alike (fill a ends.file work) (fill_alike a ends.file work)) (idle_first a behind heard view work)
+
+  -- ---- children and directories
+
+  abbrev Plain : Done → Type 0
+  Plain d = FirstPart of_stores 0 a d.store heard × IsNoted a d
+
+  told_place : (e : Entry) (work : Work) → Plain (take_told_place a e work)
+  told_place e work =
+      chosen Plain (is_root e.child) (idle a work) (take_place_noted a e.child e.place work)
+      (alike_first a a heard view (Alike-refl a), same_noted a (idle a work) (λ f. refl))
+      (place_first a e.child e.place heard view, place_noted a e.child e.place work)
+
+  told_flags : (e : Entry) (d : Done) → Plain d → Plain (take_told_flags e d)
+  told_flags e d k =
+      let end = take_told_flags e d in
+      let more = flags_alike e.flags d.store e.child d.work in (
+        before_alike d.store end.store more 0 heard a k.0,
+        noted_on a d end k.1 more.own (λ x h. subst (IsOneOf x) (sym (flags_left e.flags d.store e.child d.work)) h),
+      )
+
+  confirm_first : (dir : FileId) (e : Entry) (work : Work) → First (confirm a dir e work)
+  confirm_first dir e work =
+      let put = take_told_place a e work in
+      let end = take_told_flags e put in
+      let k = told_flags e put (told_place e work) in
+      chosen First (is_held a e.child) (place_told dir e.child end) _
+      (plainly a heard (place_told dir e.child end) k.0 (noted_on a end (place_told dir e.child end) k.1 (λ f. refl) (λ x h. h))) (idle_first a behind heard view _)
+
+  place_is_first : (dir : FileId) (e : Entry) (work : Work) → heard.says ≡ Told PlaceIs dir e.child e.place
+      → ((q : Place) → of_stores.cell a dir e.child ≡ Some q → q.stamp ≡ e.place.stamp → q ≡ e.place) → First (place_is a dir e work)
+  place_is_first dir e work said one =
+      let took = take_entry_noted a dir e work in
+      chosen First (is_held a dir) (confirmed dir e took) (idle a work)
+      (place_told_is a behind heard view a dir e (Alike-refl a) work (PlaceIs, said) one) (idle_first a behind heard view work)
+
+  tell_first : (dir : FileId) (e : Entry) (work : Work) → heard.says ≡ Told Tell dir e.child e.place → First (tell a dir e work)
+  tell_first dir e work said =
+      let took = take_entry_noted a dir e work in
+      chosen First (is_held a dir) (told dir e took) _
+      (with_work a heard took (told dir e took) refl refl refl (told_entry a behind heard view a dir e (Alike-refl a) work (Tell, said))) (idle_first a behind heard view _)
+
+  -- ---- a Patch ends
+
+  module _ (dir child : FileId) (stamp : Stamp) (work : Work) (said : heard.says ≡ TellOk dir child stamp) where
+    abbrev Key : IntentKey
+    Key = intent_key.Patch dir child
+
+    abbrev Ended : Store
+    Ended = with_intents a (ended a.intents Key)
+
+    told_of : (i : Intent) → is_told (Some i) stamp work.from ≡ true → (q : Place) → patch_place (Some i) ≡ Some q → q.stamp ≡ stamp
+    told_of (intent.Patch d e target) is q h =
+        ap (λ (p : Place). p.stamp) (sym (same_Some e.place q h)) ∙ same_stamp e.place.stamp stamp (and_parts (target == work.from) (is_same_stamp e.place.stamp stamp) is).1
+    told_of (intent.Bye f b p c) is q h = absurd (false≢true is)
+    told_of (intent.Seek f t) is q h = absurd (false≢true is)
+    told_of (intent.Fill f b t) is q h = absurd (false≢true is)
+    told_of (intent.Confirm d c t) is q h = absurd (false≢true is)
+    told_of (intent.Leave f p b) is q h = absurd (false≢true is)
+
+    told_at : (o : Option Intent) → is_told o stamp work.from ≡ true → (q : Place) → patch_place o ≡ Some q → q.stamp ≡ stamp
+    told_at None is q h = absurd (false≢true is)
+    told_at (Some i) is q h = told_of i is q h
+
+    patch_by : (d c : FileId) (q : Place) (t : Bool) → (is_same_file d dir && is_same_file c child) ≡ t → of_stores.patch a d c ≡ Some q → is_told (intent_at a.intents Key) stamp work.from ≡ true
+        → AtLeast of_stores q.stamp (of_stores.patch Ended d c) ⊎ (heard.says ≡ TellOk d c q.stamp)
+    patch_by d c q false s h is =
+        inl (q, ap patch_place (ended_found a.intents Key (intent_key.Patch d c)) ∙ ap (λ t. patch_place (cond t None (intent_at a.intents (intent_key.Patch d c)))) s ∙ h, inl refl)
+    patch_by d c q true s h is =
+        let both = and_parts (is_same_file d dir) (is_same_file c child) s in
+        let dir_is = is_same_file-true d dir both.0 in
+        let child_is = is_same_file-true c child both.1 in
+        let here : of_stores.patch a dir child ≡ Some q = sym (ap (λ x. of_stores.patch a x child) dir_is) ∙ sym (ap (of_stores.patch a d) child_is) ∙ h in
+        let stamp_is = told_at (intent_at a.intents Key) is q here in
+        inr (said ∙ ap (λ t. TellOk dir child t) (sym stamp_is) ∙ ap (λ x. TellOk dir x q.stamp) (sym child_is) ∙ ap (λ x. TellOk x c q.stamp) (sym dir_is))
+
+    confirms_on : (d c : FileId) → of_stores.Confirms a d c → of_stores.Confirms Ended d c
+    confirms_on d c h =
+        let q = intent_key.Confirm d c in
+        stands_is (ended a.intents Key) q ∙ ap is_some (ended_found a.intents Key q) ∙ sym (stands_is a.intents q) ∙ h
+
+    ended_first : is_told (intent_at a.intents Key) stamp work.from ≡ true → First (idle Ended work)
+    ended_first is =
+        plainly a heard (idle Ended work)
+        (calm_first of_stores 0 a Ended heard (record {
+          hears = inr view;
+          view = refl;
+          own = λ f. refl;
+          cells = λ d c. refl;
+          births = λ f was now. refl;
+          past = λ f n h. h;
+          patches = λ d c q h. patch_by d c q (is_same_file d dir && is_same_file c child) refl h is;
+          confirms = λ d c q owes l none. inl (confirms_on d c owes);
+        })) (same_noted a (idle Ended work) (λ f. refl))
+
+    tell_ok_first : First (tell_ok a dir child stamp work)
+    tell_ok_first =
+        decided (λ (b : Store). First (idle b work)) (is_told (intent_at a.intents Key) stamp work.from) Ended a ended_first (λ none. idle_first a behind heard view work)
+
+  none_here_first : (what : Ask) (f c : FileId) (work : Work) → First (none_here a what f c work)
+  none_here_first what f c work =
+      let q = asking_key what f c in
+      let b = with_intents a (aimed a.intents q (next_target a work.from)) in
+      chosen (λ (x : Store). First (idle x work)) (does_ask (intent_at a.intents q) work.from) b a (alike (idle b work) (aimed_alike a q (next_target a work.from))) (idle_first a behind heard view work)
+
+  -- what PlaceIs says is the place that the directory has with that stamp
+  abbrev pub IsOne : Message → Type 0
+  IsOne (message.PlaceIs dir e) = (q : Place) → of_stores.cell a dir e.child ≡ Some q → q.stamp ≡ e.place.stamp → q ≡ e.place
+  IsOne _ = Unit {0}
+
+  -- A MESSAGE
+  pub receive_first : (m : Message) (work : Work) → heard.says ≡ says m → IsOne m → First (receive a m work)
+  receive_first (message.Cell ends tag c) work said one = cell_first ends tag c work said
+  receive_first (message.Ack ends key tag) work said one = alike _ (alike_by a _ refl refl)
+  receive_first (message.Harbinger ends tag head) work said one = idle_first a behind heard view work
+  receive_first (message.Want ends wanted) work said one = idle_first a behind heard view work
+  receive_first (message.Delta ends delta) work said one = idle_first a behind heard view work
+  receive_first (message.Piece ends piece) work said one = idle_first a behind heard view work
+  receive_first (message.Later ends stamp) work said one = idle_first a behind heard view work
+  receive_first (message.Fetch file birth) work said one = fetch_first file birth work
+  receive_first (message.Grant ends granted) work said one = grant_first ends granted work
+  receive_first (message.NoGrant file birth) work said one = no_grant_first file birth work
+  receive_first (message.Full ends) work said one = full_first ends work
+  receive_first (message.Seek file birth) work said one = idle_first a behind heard view work
+  receive_first (message.Here ends) work said one = idle_first a behind heard view work
+  receive_first (message.NoneHere what file child) work said one = none_here_first what file child work
+  receive_first (message.Gone file birth) work said one = alike _ (unlink_alike a file work.from birth)
+  receive_first (message.Bye ends) work said one = idle_first a behind heard view work
+  receive_first (message.ByeOk file birth) work said one = idle_first a behind heard view work
+  receive_first (message.Confirm dir e) work said one = confirm_first dir e work
+  receive_first (message.PlaceIs dir e) work said one = place_is_first dir e work said one
+  receive_first (message.Tell dir e) work said one = tell_first dir e work said
+  receive_first (message.TellOk dir child stamp) work said one = tell_ok_first dir child stamp work said
+  receive_first (message.Leave ends stamp) work said one = idle_first a behind heard view work
+  receive_first (message.LeaveOk ends stamp) work said one = idle_first a behind heard view work
+  receive_first (message.Invite ends) work said one = idle_first a behind heard view work
+  receive_first (message.Walk ends origin birth hops word) work said one = idle_first a behind heard view work
+  receive_first (message.Meet ends) work said one = idle_first a behind heard view work

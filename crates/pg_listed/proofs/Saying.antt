@@ -1,0 +1,138 @@
+-- What each handler says, it may say: the place that a child has, and that a directory was told.
+use Rattle.std.proofs.Common.{ℕ, ◌≡◌, true, List, [], ◌∷◌, ◌++◌, Some, refl, sym, ap, subst, ◌∙◌, inl, inr, All}
+use Rattle.std.proofs.lemmas.List.Elements.{All-append, All-cons, All-nil}
+use Rattle.pg_base.specs.declared.id.FileId.{FileId}
+use Rattle.pg_entries.specs.declared.entry.Entry.{Entry}
+use Rattle.pg_house.specs.Work.{is_root}
+use Rattle.pg_listing.specs.Protocol.{IsUpTo}
+use Rattle.pg_listing.specs.World.Saying.{Told}
+use Rattle.pg_listing.specs.World.Way.{PlaceIs}
+use Rattle.pg_msg.specs.declared.message.Message.{Message}
+use Rattle.pg_msg.specs.declared.message.Message.TheVariants as message
+use Rattle.pg_msg.specs.declared.message.Sent.{Sent}
+use Rattle.pg_msg.specs.declared.work.Work.{Work}
+use Rattle.pg_msg.specs.Work.{new_work}
+use Rattle.pg_names.specs.Names.{or_blank, own_at, own_or_blank}
+use Rattle.pg_promises.proofs.Choices.{chosen, decided}
+use Rattle.pg_register.specs.declared.place.Place.{Place}
+use Rattle.pg_server.specs.Local.{receive}
+use Rattle.pg_settled.specs.Listing.{cell_place}
+use Rattle.pg_settled.proofs.Seen.{own_is}
+use Rattle.pg_store.specs.declared.store.Store.{Store}
+use Rattle.pg_store.specs.Store.{is_held}
+use Rattle.pg_cells.specs.Done.{Done, idle}
+use Rattle.pg_cells.specs.Posting.{sent_to}
+use Rattle.pg_cells.specs.Taking.{take_entry_noted, take_place_noted}
+use Rattle.pg_repair.specs.Confirming.{confirm, own_entry, place_told, take_told_flags, take_told_place}
+use Rattle.pg_repair.specs.Telling.{tell, told}
+use Rattle.pg_listed.specs.Letters.{Letter, of_stores, says}
+use Rattle.pg_listed.proofs.Heard.{IsBehind, none_later}
+use Rattle.pg_listed.proofs.Joined.{told_then}
+use Rattle.pg_listed.proofs.Others.{IsOther, Others, cell_others, fetch_others, full_others, grant_others, entry_others, place_is_others, told_same}
+use Rattle.pg_listed.proofs.Placed.{cell_then, grows_then, removed_then}
+use Rattle.pg_listed.proofs.Steps.{AllSay, MaySay, others_say}
+use Rattle.pg_listed.proofs.Unseen.{flags_alike}
+use Rattle.pg_listed.proofs.Views.{held_holds}
+
+abbrev Says : Store → Sent → Type 0
+Says m x = MaySay m (says x.packet.message)
+
+-- one message behind others
+one_more : (a m : Store) (ms : List Sent) (to : ℕ) (x : Message) → Others ms → MaySay m (says x) → AllSay m (ms ++ sent_to a to x ∷ [])
+one_more a m ms to x others h = All-append (Says m) ms (sent_to a to x ∷ []) (others_say m ms others) (All-cons (Says m) (sent_to a to x) [] h (All-nil (Says m)))
+
+module _ (a : Store) (behind : IsBehind a) (heard : Letter) (view : heard.view ≡ 0) (from : ℕ) where
+  abbrev W : Work
+  W = new_work 0 from
+
+  none : Others W.sent
+  none = All-nil IsOther
+
+  -- ---- what a child has
+
+  -- cells, removed: as before
+  -- grows: own places are no earlier
+  record IsToldFrom (d : Done) : Type 0 where
+    cells : (e c : FileId) → of_stores.cell d.store e c ≡ of_stores.cell a e c
+    removed : d.store.names.removed ≡ a.names.removed
+    grows : (c : FileId) (q : Place) → of_stores.own a c ≡ Some q → (r : Place) × (of_stores.own d.store c ≡ Some r) × IsUpTo of_stores q r
+
+  placed_from : (e : Entry) → IsToldFrom (take_told_place a e W)
+  placed_from e =
+      chosen IsToldFrom (is_root e.child) (idle a W) (take_place_noted a e.child e.place W)
+      (record { cells = λ x c. refl; removed = refl; grows = λ c q h. (q, h, inl refl) })
+      (record { cells = λ x c. ap cell_place (cell_then a e.child e.place x c); removed = removed_then a e.child e.place; grows = grows_then a e.child e.place })
+
+  flagged_from : (e : Entry) (d : Done) → IsToldFrom d → IsToldFrom (take_told_flags e d)
+  flagged_from e d k =
+      let more = flags_alike e.flags d.store e.child d.work in
+      record {
+        cells = λ x c. more.cells x c ∙ k.cells x c;
+        removed = more.removed ∙ k.removed;
+        grows = λ c q h. (let r = k.grows c q h in (r.0, more.own c ∙ r.1, r.2));
+      }
+
+  module _ (dir : FileId) (e : Entry) (held : is_held a e.child ≡ true) where
+    abbrev End : Done
+    End = take_told_flags e (take_told_place a e W)
+
+    told_from : IsToldFrom End
+    told_from = flagged_from e (take_told_place a e W) (placed_from e)
+
+    -- its place, and that none is known of it that is later and that it takes
+    child_says : MaySay End.store (Told PlaceIs dir e.child (own_entry End.store e.child).place)
+    child_says = λ in_.
+        let q = held_holds a e.child held in
+        let r = told_from.grows e.child q.0 q.1 in
+        let o = own_is (own_at End.store.names e.child) r.0 r.1 in
+        let is : (own_or_blank End.store.names e.child).place ≡ r.0 = ap (λ x. (or_blank e.child x).place) o.1 ∙ o.2 in
+        let now = r.1 ∙ ap (λ (p : Place). Some p) (sym is) in (
+          now,
+          inr (none_later a behind heard view End.store e.child q.0 (own_or_blank End.store.names e.child).place told_from.removed
+              (λ x p cell. sym (told_from.cells x e.child) ∙ cell) q.1 (subst (IsUpTo of_stores q.0) (sym is) r.2) now),
+        )
+
+    confirm_held : AllSay (place_told dir e.child End).store (place_told dir e.child End).work.sent
+    confirm_held =
+        one_more End.store End.store End.work.sent End.work.from (message.PlaceIs dir (own_entry End.store e.child)) (subst Others (sym (told_same a e W)) none) child_says
+
+  confirm_says : (dir : FileId) (e : Entry) → AllSay (confirm a dir e W).store (confirm a dir e W).work.sent
+  confirm_says dir e =
+      decided (λ (d : Done). AllSay d.store d.work.sent) (is_held a e.child) (place_told dir e.child (take_told_flags e (take_told_place a e W))) _
+      (confirm_held dir e) (λ away. one_more a a W.sent from _ none tt)
+
+  tell_says : (dir : FileId) (e : Entry) → AllSay (tell a dir e W).store (tell a dir e W).work.sent
+  tell_says dir e =
+      let took = take_entry_noted a dir e W in
+      decided (λ (d : Done). AllSay d.store d.work.sent) (is_held a dir) (told dir e took) _
+      (λ held. one_more took.store took.store took.work.sent took.work.from (message.TellOk dir e.child e.place.stamp) (entry_others a dir e W none) (told_then a dir e held))
+      (λ away. one_more a a W.sent from _ none tt)
+
+  -- A MESSAGE
+  pub receive_says : (m : Message) → AllSay (receive a m W).store (receive a m W).work.sent
+  receive_says (message.Cell ends tag c) = (let d = receive a (message.Cell ends tag c) W in others_say d.store d.work.sent (cell_others a ends tag c W none))
+  receive_says (message.Ack ends key tag) = (let d = receive a (message.Ack ends key tag) W in others_say d.store d.work.sent none)
+  receive_says (message.Harbinger ends tag head) = (let d = receive a (message.Harbinger ends tag head) W in others_say d.store d.work.sent none)
+  receive_says (message.Want ends wanted) = (let d = receive a (message.Want ends wanted) W in others_say d.store d.work.sent none)
+  receive_says (message.Delta ends delta) = (let d = receive a (message.Delta ends delta) W in others_say d.store d.work.sent none)
+  receive_says (message.Piece ends piece) = (let d = receive a (message.Piece ends piece) W in others_say d.store d.work.sent none)
+  receive_says (message.Later ends stamp) = (let d = receive a (message.Later ends stamp) W in others_say d.store d.work.sent none)
+  receive_says (message.Fetch file birth) = (let d = receive a (message.Fetch file birth) W in others_say d.store d.work.sent (fetch_others a file birth W none))
+  receive_says (message.Grant ends granted) = (let d = receive a (message.Grant ends granted) W in others_say d.store d.work.sent (grant_others a ends granted W none))
+  receive_says (message.NoGrant file birth) = (let d = receive a (message.NoGrant file birth) W in others_say d.store d.work.sent none)
+  receive_says (message.Full ends) = (let d = receive a (message.Full ends) W in others_say d.store d.work.sent (full_others a ends W none))
+  receive_says (message.Seek file birth) = (let d = receive a (message.Seek file birth) W in others_say d.store d.work.sent none)
+  receive_says (message.Here ends) = (let d = receive a (message.Here ends) W in others_say d.store d.work.sent none)
+  receive_says (message.NoneHere what file child) = (let d = receive a (message.NoneHere what file child) W in others_say d.store d.work.sent none)
+  receive_says (message.Gone file birth) = (let d = receive a (message.Gone file birth) W in others_say d.store d.work.sent none)
+  receive_says (message.Bye ends) = (let d = receive a (message.Bye ends) W in others_say d.store d.work.sent none)
+  receive_says (message.ByeOk file birth) = (let d = receive a (message.ByeOk file birth) W in others_say d.store d.work.sent none)
+  receive_says (message.Confirm dir e) = confirm_says dir e
+  receive_says (message.PlaceIs dir e) = (let d = receive a (message.PlaceIs dir e) W in others_say d.store d.work.sent (place_is_others a dir e W none))
+  receive_says (message.Tell dir e) = tell_says dir e
+  receive_says (message.TellOk dir child stamp) = (let d = receive a (message.TellOk dir child stamp) W in others_say d.store d.work.sent none)
+  receive_says (message.Leave ends stamp) = (let d = receive a (message.Leave ends stamp) W in others_say d.store d.work.sent none)
+  receive_says (message.LeaveOk ends stamp) = (let d = receive a (message.LeaveOk ends stamp) W in others_say d.store d.work.sent none)
+  receive_says (message.Invite ends) = (let d = receive a (message.Invite ends) W in others_say d.store d.work.sent none)
+  receive_says (message.Walk ends origin birth hops word) = (let d = receive a (message.Walk ends origin birth hops word) W in others_say d.store d.work.sent none)
+  receive_says (message.Meet ends) = (let d = receive a (message.Meet ends) W in others_say d.store d.work.sent none)

@@ -1,0 +1,148 @@
+-- Each event is a step by the rule of listings.
+use Rattle.std.proofs.Common.{ℕ, ◌≡◌, ◌<◌, true, List, [], ◌∷◌, ◌++◌, ◌≤◌, map, Option, None, Some, refl, sym, ap, subst, ◌∙◌, inl, inr, ◌⊎◌, All, arith}
+use Rattle.std.specs.List.{flat_map}
+use Rattle.std.proofs.lemmas.List.Elements.{All-append, All-cons, All-head, All-nil, All-tail, All-weaker}
+use Rattle.std.proofs.lemmas.Option.{none-some, same_Some}
+use Rattle.pg_base.specs.declared.id.FileId.{FileId}
+use Rattle.pg_base.specs.Stamp.{is_before}
+use Rattle.pg_call.specs.declared.reply.Reply.{Reply}
+use Rattle.pg_house.specs.Holding.{waits}
+use Rattle.pg_house.proofs.Going.{HaveChildren}
+use Rattle.pg_listing.specs.Protocol.{IsIn}
+use Rattle.pg_listing.specs.Parts.{NoneLater, SecondPart}
+use Rattle.pg_listing.specs.Rule.{HasCell, IsSettled, IsToldAt, MaySend, MayStep}
+use Rattle.pg_listing.specs.World.Saying.{LeaveOk, Other, TellOk, Told}
+use Rattle.pg_listing.specs.World.Way.{PlaceIs, SureCell, Tell}
+use Rattle.pg_listing.proofs.Parts.{parts_are_steps, places_are_known}
+use Rattle.pg_msg.specs.declared.message.Sent.{Sent}
+use Rattle.pg_names.specs.declared.own.Own.{Own}
+use Rattle.pg_names.specs.Names.{NamesValue, own_at}
+use Rattle.pg_names.specs.Names as names
+use Rattle.pg_promises.proofs.Front.{house_sent}
+use Rattle.pg_register.specs.declared.place.Place.{Place}
+use Rattle.pg_repair.proofs.Steady.{begin_end_stays}
+use Rattle.pg_run.specs.Intending.{IntendsInOrder}
+use Rattle.pg_server.specs.Local.{closed, intended, settled, sent_at_end}
+use Rattle.pg_settled.specs.Listing.{cell_place, own_place}
+use Rattle.pg_store.specs.declared.store.Store.{Store}
+use Rattle.pg_cells.specs.Done.{Done}
+use Rattle.pg_cells.specs.Sending.{cells_where, is_chosen}
+use Rattle.pg_repair.specs.Requests.{asks_by}
+use Rattle.pg_listed.specs.Laws.{MaySettle}
+use Rattle.pg_listed.specs.Letters.{Letter, Saying, of_stores, says}
+use Rattle.pg_listed.proofs.Alike.{Alike, alike_by}
+use Rattle.pg_listed.proofs.Behind.{second_part}
+use Rattle.pg_listed.proofs.Heard.{IsFirst}
+use Rattle.pg_listed.proofs.Others.{IsOther, Others}
+use Rattle.pg_listed.proofs.Sends.{AllMay, MaySent, begun_may, cells_may}
+use Rattle.pg_listed.proofs.Views.{ordered, told_earlier}
+
+-- what a handler may say, by what the server is behind it
+abbrev pub MaySay : Store → Saying → Type 0
+MaySay m (Told SureCell d c q) = ⊥
+MaySay m (Told Tell d c q) = ⊥
+MaySay m (Told PlaceIs d c q) = IsIn of_stores d c q → (of_stores.own m c ≡ Some q) × (HasCell of_stores m d c ⊎ NoneLater of_stores m c q)
+MaySay m (TellOk d c t) = IsToldAt of_stores m d c t
+MaySay m (LeaveOk f n q) = ⊥
+MaySay m Other = Unit {0}
+
+abbrev pub AllSay : Store → List Sent → Type 0
+AllSay m ms = All (λ (x : Sent). MaySay m (says x.packet.message)) ms
+
+pub others_say : (m : Store) (ms : List Sent) → Others ms → AllSay m ms
+others_say m ms h = All-weaker IsOther (λ (x : Sent). MaySay m (says x.packet.message)) (λ x other. subst (MaySay m) (sym other) tt) ms h
+
+said_of : (b : Store) (ms : List Sent) → AllMay b ms → All (MaySend of_stores b) (map (λ (x : Sent). says x.packet.message) ms)
+said_of b [] h = All-nil (MaySend of_stores b)
+said_of b (m ∷ ms) h =
+    All-cons (MaySend of_stores b) (says m.packet.message) (map (λ (x : Sent). says x.packet.message) ms) (All-head (MaySent b) m ms h) (said_of b ms (All-tail (MaySent b) m ms h))
+
+-- ---- an event that takes effect
+
+module _ (a : Store) (heard : Letter) (d : Done) (k : IsFirst a heard d) (sound : MaySettle d.store.names) (order : IntendsInOrder (intended (settled d)).store)
+    (children : HaveChildren (intended (settled d)).store.names) (says_well : AllSay d.store d.work.sent) where
+  abbrev B : Done
+  B = intended (settled d)
+
+  second : SecondPart of_stores a k.mid B.store
+  second = second_part a heard d k sound order
+
+  own_of : (f : FileId) → of_stores.own k.mid f ≡ of_stores.own d.store f
+  own_of f = ap (λ (n : NamesValue). own_place (own_at n f)) k.names
+
+  cell_of : (e f : FileId) → of_stores.cell k.mid e f ≡ of_stores.cell d.store e f
+  cell_of e f = ap (λ (n : NamesValue). cell_place (names.cell_at n e f)) k.names
+
+  none_later_of : (c : FileId) (q : Place) → NoneLater of_stores d.store c q → NoneLater of_stores k.mid c q
+  none_later_of c q none = λ e r cell low.
+      let P : NamesValue → Type 0 = λ n. (own : Own) → own_at n c ≡ Some own → waits n.removed c own.place r ≡ true in
+      subst P (sym k.names) (none e r (sym (cell_of e c) ∙ cell) low)
+
+  either_of : (e c : FileId) (q : Place) → HasCell of_stores d.store e c ⊎ NoneLater of_stores d.store c q → HasCell of_stores k.mid e c ⊎ NoneLater of_stores k.mid c q
+  either_of e c q (inl cell) = inl (cell.0, cell_of e c ∙ cell.1)
+  either_of e c q (inr none) = inr (none_later_of c q none)
+
+  -- what the handler said may be sent in the end
+  still_says : (x : Saying) → MaySay d.store x → MaySend of_stores B.store x
+  still_says (Told SureCell e c q) h = absurd h
+  still_says (Told Tell e c q) h = absurd h
+  still_says (Told PlaceIs e c q) h = λ in_.
+      let r = h in_ in
+      places_are_known of_stores ordered 0 a k.mid B.store heard k.first second e c q (own_of c ∙ r.0) in_ (either_of e c q r.1)
+  still_says (TellOk e c t) h =
+      let more = second.cells_grow e c h.0 (cell_of e c ∙ h.1) in
+      told_earlier B.store e c t h.0.stamp h.2 more
+  still_says (LeaveOk f n q) h = absurd h
+  still_says Other h = tt
+
+  first_sent : B.work.sent ≡ d.work.sent
+  first_sent = (begin_end_stays (settled d).store (settled d).work).sent ∙ house_sent d.work.now d.store.names d.work
+
+  all_sent : AllMay B.store (sent_at_end B).sent
+  all_sent =
+      let b = B.store in
+      let wanted = is_chosen B.work.touched B.work.linked in
+      let first = All-weaker (λ (x : Sent). MaySay d.store (says x.packet.message)) (MaySent b) (λ x h. still_says (says x.packet.message) h) d.work.sent says_well in
+      All-append (MaySent b) (B.work.sent ++ cells_where b wanted) (flat_map (asks_by b) B.work.begun)
+      (All-append (MaySent b) B.work.sent (cells_where b wanted) (subst (AllMay b) (sym first_sent) first) (cells_may b children wanted)) (begun_may b B.work.begun)
+
+  -- A STEP
+  pub closed_step : (r : Option Reply) → MayStep of_stores 0 a (closed r d).store heard (map (λ (x : Sent). says x.packet.message) (closed r d).out.sent)
+  closed_step r = parts_are_steps of_stores ordered 0 a k.mid B.store heard _ k.first second (said_of B.store (sent_at_end B).sent all_sent)
+
+-- ---- an event at which nothing changes
+
+settled_on : (a b : Store) → Alike a b → IsSettled of_stores a → IsSettled of_stores b
+settled_on a b k s = record {
+  cells = λ d c q h. (let r = s.cells d c q (sym (k.cells d c) ∙ h) in (r.0, k.own d ∙ r.1));
+  passing = λ d c q r other own cell. s.passing d c q r other (sym (k.own c) ∙ own) (sym (k.cells d c) ∙ cell);
+  own_parent = λ d c q own in_ held. (let r = s.own_parent d c q (sym (k.own c) ∙ own) in_ (held.0, sym (k.own d) ∙ held.1) in (r.0, k.cells d c ∙ r.1));
+  patch_of = λ d c q h in_. k.own c ∙ s.patch_of d c q (sym (k.patches d c) ∙ h) in_;
+  not_past = λ f n h e past. past;
+}
+
+never_same : (q r : Place) → q ≡ r → is_before q.stamp r.stamp ≡ true → ⊥
+never_same q r e low = ordered.never q.stamp (subst (λ (x : Place). is_before q.stamp x.stamp ≡ true) (sym e) low)
+
+-- what a server without anything heard does, where it stays as it is
+pub still_step : (a b : Store) (heard : Letter) (ms : List Sent) → heard.says ≡ Other → heard.view ≡ 0 → b.names ≡ a.names → b.intents ≡ a.intents
+    → IsSettled of_stores a → AllMay b ms → MayStep of_stores 0 a b heard (map (λ (x : Sent). says x.packet.message) ms)
+still_step a b heard ms quiet view names intents settled sends =
+    let k = alike_by a b names intents in
+    record {
+      settled = settled_on a b k settled;
+      views = omega arith;
+      hears = inr view;
+      birth = λ f was now. refl;
+      past = λ f n h. h;
+      own_grows = λ f q r was now. inl (same_Some q r (sym was ∙ sym (k.own f) ∙ now));
+      cells_grow = λ d c q was held. (q, k.cells d c ∙ was, inl refl);
+      taken = λ d c q r none held was in_ now low. absurd (none-some held.0 (sym none ∙ sym (k.own d) ∙ held.1));
+      patch_begun = λ d c q r was in_ now low none. absurd (never_same q r (same_Some q r (sym was ∙ sym (k.own c) ∙ now)) low);
+      patch_ends = λ d c q was. inl (q, k.patches d c ∙ was, inl refl);
+      let_go = λ f q was none. absurd (none-some q (sym none ∙ k.own f ∙ was));
+      confirm_ends = λ d c q asks l none. inl (k.confirms d c asks);
+      listed_new = λ d c q l none. inl (sym (k.cells d c) ∙ l.cell);
+      enters = λ low up. absurd (let h : 0 < 0 = low in omega arith);
+      sends = said_of b ms sends;
+    }

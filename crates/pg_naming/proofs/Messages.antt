@@ -1,0 +1,342 @@
+-- A message comes: what it carries is what the server knows more then.
+use Rattle.std.proofs.Common.{ℕ, ◌≡◌, ◌&&◌, not, Bool, true, false, cond, List, [], ◌∷◌, ◌++◌, map, Option, None, Some, refl, sym, ap, subst, ◌∙◌, inr, arith}
+use Rattle.std.specs.Option.{is_some}
+use Rattle.std.proofs.lemmas.Bool.{false≢true, or_parts}
+use Rattle.std.proofs.lemmas.Bool.Decides.{nat_tests}
+use Rattle.std.specs.Prelude.{nat_lt}
+use Rattle.pg_base.specs.declared.id.FileId.{FileId}
+use Rattle.pg_base.specs.declared.stamp.Stamp.{Stamp}
+use Rattle.pg_base.specs.Id.{is_same_file}
+use Rattle.pg_base.specs.Stamp.{is_before}
+use Rattle.pg_base.proofs.Orders.{is_same_file-true}
+use Rattle.pg_content.specs.Content.{Among}
+use Rattle.pg_register.specs.declared.flag.Flag.{Flag}
+use Rattle.pg_register.specs.declared.place.Place.{Place}
+use Rattle.pg_register.specs.Flag.{IsByServer}
+use Rattle.pg_register.specs.Place.{blank_place, first_stamp, root, root_place}
+use Rattle.pg_entries.specs.declared.cell.Cell.{Cell}
+use Rattle.pg_entries.specs.declared.cell.Cell.TheVariants as cell
+use Rattle.pg_entries.specs.declared.entry.Entry.{Entry}
+use Rattle.pg_intent.specs.declared.intent.Intent.TheVariants as intent
+use Rattle.pg_msg.specs.declared.message.Ask.TheVariants as ask
+use Rattle.pg_msg.specs.declared.message.Ends.{Ends}
+use Rattle.pg_msg.specs.declared.message.Granted.{Granted}
+use Rattle.pg_msg.specs.declared.message.Message.{Message}
+use Rattle.pg_msg.specs.declared.message.Message.TheVariants as message
+use Rattle.pg_msg.specs.declared.update.Update.{Update}
+use Rattle.pg_msg.specs.declared.update.Update.TheVariants as update
+use Rattle.pg_msg.specs.declared.work.Work.{Work}
+use Rattle.pg_msg.specs.Work.{new_work, with_made}
+use Rattle.pg_names.specs.Names.{HeldValue, NamesValue, fill as names_fill, filled, is_dir, is_full_of, is_place_new, known}
+use Rattle.pg_names.proofs.Holding.{fill_cells, fill_own}
+use Rattle.pg_names.proofs.Lookups.{update_frame}
+use Rattle.pg_house.specs.Facts.{IsHeld}
+use Rattle.pg_house.specs.Passing.{is_update}
+use Rattle.pg_house.specs.Returning.{is_root}
+use Rattle.pg_house.proofs.Truths.{and_true, chosen_false}
+use Rattle.pg_promises.proofs.Choices.{chosen}
+use Rattle.pg_promises.proofs.Together.{held_of_replica, own_of_held}
+use Rattle.pg_replica.specs.declared.replica.Replica.{Replica}
+use Rattle.pg_replica.specs.Replicas.{is_of_birth}
+use Rattle.pg_store.specs.declared.store.Store.{Store}
+use Rattle.pg_store.specs.Births.{has_birth, is_pending}
+use Rattle.pg_store.specs.Links.{knows_later}
+use Rattle.pg_store.specs.Servers.{next_target}
+use Rattle.pg_store.specs.Store.{is_full, is_held, is_newer_place, put_place, replica_at, take_flag, take_place, with_names}
+use Rattle.pg_store.specs.Together.{AreTogether}
+use Rattle.pg_store.proofs.Given.{pending_may}
+use Rattle.pg_cells.specs.declared.accepting.Manner.TheVariants as manner
+use Rattle.pg_cells.specs.Accepting.{accept, is_accepted, is_current}
+use Rattle.pg_cells.specs.Cells.{cell as cell_done, fits, taken, taken_along}
+use Rattle.pg_cells.specs.Done.{Done, idle}
+use Rattle.pg_cells.specs.Making.{own_next, raise_flag}
+use Rattle.pg_cells.specs.Posting.{reply}
+use Rattle.pg_cells.specs.Taking.{take_entry_noted, take_flag_noted, take_flags_noted, take_place_noted}
+use Rattle.pg_repair.specs.Confirming.{confirmed, place_told, take_told_flags, take_told_place}
+use Rattle.pg_repair.specs.Filling.{few_golds, fill, live_golds}
+use Rattle.pg_repair.specs.Granting.{begin_granted, begun_by, granted_own}
+use Rattle.pg_repair.specs.NoneHere.{asking_key}
+use Rattle.pg_repair.specs.Telling.{told}
+use Rattle.pg_server.specs.Local.{receive}
+use Rattle.pg_run.specs.Carried.{carried, granted_takes}
+use Rattle.pg_run.specs.Intending.{IntendsInOrder}
+use Rattle.pg_run.specs.Known.{AreTold, IsCellTold, IsMessageTold, Told}
+use Rattle.pg_run.specs.Took.{Take, entry_takes, first_place, flags_of, places_of, take_of, takes_in}
+use Rattle.pg_run.specs.Took.Take.{TookFlag, TookPlace}
+use Rattle.pg_run.specs.Took.Taker.{Itself}
+use Rattle.pg_run.proofs.Lists.{among_back}
+use Rattle.pg_naming.specs.Goes.{Goes}
+use Rattle.pg_naming.proofs.Going.{goes_entry, goes_flag, goes_on, goes_place, goes_reordered, goes_same, goes_version, still_held}
+use Rattle.pg_naming.proofs.Notes.{accepted_still, confirmed_names, entry_noted_made, fetched_still, flag_noted_made, flags_noted_made, linked_still, none_here_names, place_noted_made, taken_made, told_names, turned_names, unlink_names}
+use Rattle.pg_naming.proofs.Patched.{from_front, goes_with_patches, to_front}
+
+-- ---- held or not
+
+birth_held : (a : Store) → AreTogether a → (f : FileId) (birth : ℕ) (o : Option Replica) → replica_at a f ≡ o → is_of_birth o birth ≡ true → IsHeld a.names f
+birth_held a together f birth None e h = absurd (false≢true h)
+birth_held a together f birth (Some x) e h = own_of_held a.names f (held_of_replica a together f x e)
+
+current_held : (a : Store) → AreTogether a → (from : ℕ) (ends : Ends) → is_current a from ends ≡ true → IsHeld a.names ends.file
+current_held a together from ends h =
+    birth_held a together ends.file ends.receiver (replica_at a ends.file) refl
+    (and_true (has_birth a ends.file ends.receiver) (not (knows_later a ends.file from ends.sender)) h).0
+
+pub none_of : (o : Option HeldValue) → is_some o ≡ false → o ≡ None
+none_of None h = refl
+none_of (Some x) h = absurd (false≢true (sym h))
+
+full_held : (o : Option HeldValue) (t : Bool) → is_some o ≡ false → is_full_of o ≡ true → ⊥
+full_held None t none h = false≢true h
+full_held (Some x) t none h = false≢true (sym none)
+
+-- what is not held is not the root, which is
+pub away_inner : (a : Store) (f : FileId) → is_full a root ≡ true → is_held a f ≡ false → (t : Bool) → is_same_file f root ≡ t → t ≡ false
+away_inner a f top away false e = refl
+away_inner a f top away true e =
+    let P : FileId → Type 0 = λ x. is_held a x ≡ false in
+    absurd (full_held (known a.names root) true (subst P (is_same_file-true f root e) away) top)
+
+-- ---- places that are no news
+
+never_newer : (s t : Stamp) → is_before first_stamp t ≡ false → is_before s t ≡ false
+never_newer s t h = grind (arith, nat_tests)
+
+-- what is said of places: one with the first stamp is the one of which none came
+abbrev pub AreFirst : Told → Type 0
+AreFirst p = (f : FileId) (q : Place) → p.IsPlace f q → is_before first_stamp q.stamp ≡ false → q ≡ first_place f
+
+-- what a server holds besides names, in the order that messages need
+pub record IsReady (p : Told) (a : Store) : Type 0 where
+  pub first : AreFirst p
+  pub intends : IntendsInOrder a
+  pub patches : (dir : FileId) (e : Entry) (target : ℕ) → Among (intent.Patch dir e target) a.intents
+      → (is_dir dir ≡ true) × IsByServer e.flags
+
+module _ (removed : List ℕ) (p : Told) (a : Store) (now : List Take) (k : Goes removed a.names now) (ready : IsReady p a) where
+  abbrev Is : NamesValue → List Take → Type 0
+  Is = Goes removed
+
+  together : AreTogether a
+  together = ready.intends.held.together
+
+  -- ---- one cell
+
+  cell_goes : (s : Store) → s.names ≡ a.names → (f : FileId) → IsHeld a.names f → (c : Cell) (w : Work) → fits f c ≡ true → IsCellTold p f c
+      → Is (taken s f c w).store.names (takes_in f c ++ now)
+  cell_goes s e f held (cell.Place q) w fit good =
+      goes_place removed s now (goes_on removed a.names s.names now e k) f (subst (λ (x : NamesValue). IsHeld x f) (sym e) held) q
+  cell_goes s e f held (cell.Flag g) w fit good =
+      goes_flag removed s now (goes_on removed a.names s.names now e k) f (subst (λ (x : NamesValue). IsHeld x f) (sym e) held) g
+  cell_goes s e f held (cell.Entry c sure) w fit good =
+      goes_entry removed s now (goes_on removed a.names s.names now e k) f (subst (λ (x : NamesValue). IsHeld x f) (sym e) held) fit c good.sorted
+  cell_goes s e f held (cell.Version v) w fit good =
+      goes_version removed s now (goes_on removed a.names s.names now e k) f v
+
+  -- the names that are left, and that nothing is made
+  abbrev pub Leaves : List Take → Done → Type 0
+  Leaves xs d = Is d.store.names (xs ++ now) × (d.work.made ≡ [])
+
+  module _ (from : ℕ) where
+    abbrev W : Work
+    W = new_work 0 from
+
+    still_leaves : (d : Done) → d.store.names ≡ a.names → d.work.made ≡ [] → Leaves [] d
+    still_leaves d e m = (goes_on removed a.names d.store.names now e k, m)
+
+    module _ (ends : Ends) (tag : ℕ) (c : Cell) where
+      abbrev Met : Done
+      Met = accept a ends manner.Link W
+
+      met : (Met.store.names ≡ a.names) × (Met.work.made ≡ [])
+      met = accepted_still a ends W
+
+      came_by : (t u : Bool) → fits ends.file c ≡ t → is_current a from ends ≡ u → IsCellTold p ends.file c
+          → Leaves (cond (u && t) (takes_in ends.file c) [])
+          (cond t (cond (u && true) (taken_along ends tag c Met) Met) (idle a W))
+      came_by true true fit current good = (
+        cell_goes Met.store met.0 ends.file (current_held a together from ends current) c Met.work fit good,
+        taken_made Met.store ends.file c Met.work ∙ met.1,
+      )
+      came_by true false fit current good = still_leaves Met met.0 met.1
+      came_by false true fit current good = still_leaves (idle a W) refl refl
+      came_by false false fit current good = still_leaves (idle a W) refl refl
+
+      cell_came : IsCellTold p ends.file c → Leaves (carried a from (message.Cell ends tag c)) (cell_done a ends tag c W)
+      cell_came good = came_by (fits ends.file c) (is_current a from ends) refl refl good
+
+    -- ---- a replica is granted
+
+    module _ (ends : Ends) (g : Granted) (good : AreTold p ends.file g.place g.flags) (pending : is_pending a ends.file ends.receiver ≡ true) where
+      abbrev F : FileId
+      F = ends.file
+
+      away : is_held a F ≡ false
+      away = (pending_may a F ends.receiver ready.intends.held.births pending).away
+
+      inner : is_same_file F root ≡ false
+      inner = away_inner a F ready.intends.held.root away (is_same_file F root) refl
+
+      first : is_before first_stamp g.place.stamp ≡ false → g.place ≡ blank_place F
+      first h = ready.first F g.place good.place_is h ∙ chosen_false (is_same_file F root) root_place (blank_place F) inner
+
+      abbrev Begun : Store
+      Begun = begun_by a ends g
+
+      begun_goes : Is Begun.names (granted_takes a F g ++ now)
+      begun_goes =
+          goes_with_patches removed a now k F (none_of (known a.names F) away) inner ends.receiver g.policy (granted_own g) false good.sorted first
+          ready.intends.keys (λ e target h. ready.patches F e target h)
+
+      granted_leaves : Leaves (granted_takes a F g) (begin_granted a ends g W)
+      granted_leaves =
+          let l = linked_still Begun F from ends.sender W in
+          (goes_on removed Begun.names (begin_granted a ends g W).store.names (granted_takes a F g ++ now) l.0 begun_goes, l.1)
+
+    grant_by : (t : Bool) (ends : Ends) (g : Granted) → is_pending a ends.file ends.receiver ≡ t → AreTold p ends.file g.place g.flags
+        → Leaves (cond t (granted_takes a ends.file g) []) (cond t (begin_granted a ends g W) (accept a ends manner.Link W))
+    grant_by true ends g e good = granted_leaves ends g good e
+    grant_by false ends g e good = let m = accepted_still a ends W in still_leaves (accept a ends manner.Link W) m.0 m.1
+
+    -- ---- a child is confirmed
+
+    -- a place that is no update is no news
+    place_by : (f : FileId) → IsHeld a.names f → (q : Place) (t : Bool) → is_update q ≡ t → Is (take_place a f q).names (cond t (TookPlace Itself f q ∷ []) [] ++ now)
+    place_by f held q true e = goes_place removed a now k f held q
+    place_by f held q false e =
+        let old : is_newer_place a f q ≡ false =
+        ap (λ o. is_place_new o q) held.1 ∙ never_newer held.0.place.stamp q.stamp (or_parts q.live (is_before first_stamp q.stamp) e).1 in
+        subst (λ (b : Store). Is b.names now) (sym (chosen_false (is_newer_place a f q) (put_place a f q) a old)) k
+
+    -- flags, one behind another
+    flags_goes : (gs : List Flag) (s : Store) (w : Work) (f : FileId) (xs : List Take) → Is s.names xs → IsHeld s.names f
+        → Is (take_flags_noted s f gs w).store.names (flags_of Itself f gs ++ xs)
+    flags_goes [] s w f xs h held = h
+    flags_goes (g ∷ gs) s w f xs h held =
+        let d = take_flag_noted s f g w in
+        let one = TookFlag Itself f g ∷ [] in
+        let rest = flags_of Itself f gs in
+        let next = goes_flag removed s xs h f held g in
+        goes_reordered removed (take_flags_noted s f (g ∷ gs) w).store.names (rest ++ (one ++ xs)) ((one ++ rest) ++ xs)
+        (flags_goes gs d.store d.work f (TookFlag Itself f g ∷ xs) next (still_held removed s.names d.store.names xs (TookFlag Itself f g ∷ xs) h next (λ x j. inr j) f held))
+        (to_front one rest xs) (from_front one rest xs)
+
+    module _ (dir : FileId) (e : Entry) where
+      abbrev C : FileId
+      C = e.child
+
+      abbrev Placed : Done
+      Placed = take_told_place a e W
+
+      abbrev Places : Bool → List Take
+      Places t = cond t [] (places_of Itself C e.place)
+
+      told_by : IsHeld a.names C → (t : Bool) → is_root C ≡ t → Is (cond t (idle a W) (take_place_noted a C e.place W)).store.names (Places t ++ now)
+      told_by held true r = k
+      told_by held false r = place_by C held e.place (is_update e.place) refl
+
+      placed_made : (t : Bool) → (cond t (idle a W) (take_place_noted a C e.place W)).work.made ≡ []
+      placed_made true = refl
+      placed_made false = place_noted_made a C e.place W
+
+      confirmed_leaves : IsHeld a.names C → Leaves (Places (is_root C) ++ flags_of Itself C e.flags) (place_told dir C (take_told_flags e Placed))
+      confirmed_leaves held =
+          let places = Places (is_root C) in
+          let flags = flags_of Itself C e.flags in
+          let one : Is Placed.store.names (places ++ now) = told_by held (is_root C) refl in
+          let here = still_held removed a.names Placed.store.names now (places ++ now) k one (λ x. among_back x places now) C held in (
+            goes_reordered removed (take_told_flags e Placed).store.names (flags ++ (places ++ now)) ((places ++ flags) ++ now)
+                (flags_goes e.flags Placed.store Placed.work C (places ++ now) one here) (to_front places flags now) (from_front places flags now),
+            flags_noted_made e.flags Placed.store C Placed.work ∙ placed_made (is_root C),
+          )
+
+      confirm_by : (t : Bool) → is_held a C ≡ t
+          → Leaves (cond t (Places (is_root C) ++ flags_of Itself C e.flags) []) (cond t (place_told dir C (take_told_flags e Placed)) (idle a (reply a (message.NoneHere ask.Confirm dir C) W)))
+      confirm_by true h = confirmed_leaves (own_of_held a.names C h)
+      confirm_by false h = still_leaves (idle a (reply a (message.NoneHere ask.Confirm dir C) W)) refl refl
+
+      -- ---- a directory is told
+
+      entry_leaves : is_dir dir ≡ true → IsByServer e.flags → IsHeld a.names dir → Leaves (entry_takes dir e) (take_entry_noted a dir e W)
+      entry_leaves is sorted held = (goes_entry removed a now k dir held is e sorted, entry_noted_made a dir e W)
+
+      place_is_by : is_dir dir ≡ true → IsByServer e.flags → (t : Bool) → is_held a dir ≡ t
+          → Leaves (cond t (entry_takes dir e) []) (cond t (confirmed dir e (take_entry_noted a dir e W)) (idle a W))
+      place_is_by is sorted true h =
+          let l = entry_leaves is sorted (own_of_held a.names dir h) in
+          let s = (take_entry_noted a dir e W).store in
+          (goes_on removed s.names (confirmed dir e (take_entry_noted a dir e W)).store.names (entry_takes dir e ++ now) (confirmed_names s dir e) l.0, l.1)
+      place_is_by is sorted false h = still_leaves (idle a W) refl refl
+
+      tell_by : is_dir dir ≡ true → IsByServer e.flags → (t : Bool) → is_held a dir ≡ t
+          → Leaves (cond t (entry_takes dir e) []) (cond t (told dir e (take_entry_noted a dir e W)) (idle a (reply a (message.NoneHere ask.Patch dir C) W)))
+      tell_by is sorted true h = entry_leaves is sorted (own_of_held a.names dir h)
+      tell_by is sorted false h = still_leaves (idle a (reply a (message.NoneHere ask.Patch dir C) W)) refl refl
+
+    -- ---- a filling thing is full
+
+    abbrev pub With : List Take → Done → Type 0
+    With xs d = Is d.store.names (map take_of d.work.made ++ (xs ++ now))
+
+    filled_goes : (f : FileId) → Is (names_fill a.names f) now
+    filled_goes f =
+        let frame = update_frame a.names f filled in
+        goes_same removed a.names (names_fill a.names f) now k (record { own = fill_own a.names f; cells = fill_cells a.names f }) frame.last frame.removed
+
+    full_with : (f : FileId) → IsHeld a.names f → With [] (fill a f W)
+    full_with f held =
+        let b = with_names a (names_fill a.names f) in
+        let g = own_next b f true in
+        let filled_is = filled_goes f in
+        let here = still_held removed a.names b.names now now k filled_is (λ x h. h) f held in
+        let made = with_made W (update.Flag f g) in
+        chosen (With []) (nat_lt (live_golds b f) few_golds) (raise_flag b f W) (idle b W)
+        (let P : List Update → Type 0 = λ us. Is (take_flag b f g).names (map take_of us ++ now) in
+        subst P (sym (flag_noted_made b f g made)) (goes_flag removed b now filled_is f here g))
+        filled_is
+
+    full_by : (t : Bool) (ends : Ends) → (is_accepted a from manner.Answer ends && not (is_full a ends.file)) ≡ t → With [] (cond t (fill a ends.file W) (idle a W))
+    full_by true ends h =
+        let accepted = (and_true (is_accepted a from manner.Answer ends) (not (is_full a ends.file)) h).0 in
+        full_with ends.file (current_held a together from ends (and_true (is_current a from ends) _ accepted).0)
+    full_by false ends h = k
+
+    -- ---- any message
+
+    leaves_with : (m : Message) → Leaves (carried a from m) (receive a m W) → With (carried a from m) (receive a m W)
+    leaves_with m l =
+        let P : List Update → Type 0 = λ us. Is (receive a m W).store.names (map take_of us ++ (carried a from m ++ now)) in
+        subst P (sym l.1) l.0
+
+    -- A MESSAGE COMES
+    pub message_goes : (m : Message) → IsMessageTold p m → With (carried a from m) (receive a m W)
+    message_goes (message.Cell ends tag c) good = leaves_with (message.Cell ends tag c) (cell_came ends tag c good)
+    message_goes (message.Ack ends kk tag) good = k
+    message_goes (message.Harbinger ends tag head) good = k
+    message_goes (message.Want ends wanted) good = k
+    message_goes (message.Delta ends delta) good = k
+    message_goes (message.Piece ends piece) good = k
+    message_goes (message.Later ends stamp) good = k
+    message_goes (message.Fetch file birth) good =
+        let s = fetched_still a file birth W in leaves_with (message.Fetch file birth) (still_leaves (receive a (message.Fetch file birth) W) s.0 s.1)
+    message_goes (message.Grant ends g) good = leaves_with (message.Grant ends g) (grant_by (is_pending a ends.file ends.receiver) ends g refl good)
+    message_goes (message.NoGrant file birth) good =
+        leaves_with (message.NoGrant file birth) (still_leaves (receive a (message.NoGrant file birth) W) (turned_names a file birth from (next_target a from)) refl)
+    message_goes (message.Full ends) good = full_by (is_accepted a from manner.Answer ends && not (is_full a ends.file)) ends refl
+    message_goes (message.Seek file birth) good = k
+    message_goes (message.Here ends) good = k
+    message_goes (message.NoneHere what file child) good =
+        leaves_with (message.NoneHere what file child) (still_leaves (receive a (message.NoneHere what file child) W) (none_here_names a (asking_key what file child) from) refl)
+    message_goes (message.Gone file birth) good =
+        leaves_with (message.Gone file birth) (still_leaves (receive a (message.Gone file birth) W) (unlink_names a file from birth) refl)
+    message_goes (message.Bye ends) good = k
+    message_goes (message.ByeOk file birth) good = k
+    message_goes (message.Confirm dir e) good = leaves_with (message.Confirm dir e) (confirm_by dir e (is_held a e.child) refl)
+    message_goes (message.PlaceIs dir e) good = leaves_with (message.PlaceIs dir e) (place_is_by dir e good.0 good.1.sorted (is_held a dir) refl)
+    message_goes (message.Tell dir e) good = leaves_with (message.Tell dir e) (tell_by dir e good.0 good.1.sorted (is_held a dir) refl)
+    message_goes (message.TellOk dir child stamp) good =
+        leaves_with (message.TellOk dir child stamp) (still_leaves (receive a (message.TellOk dir child stamp) W) (told_names a dir child stamp from) refl)
+    message_goes (message.Leave ends stamp) good = k
+    message_goes (message.LeaveOk ends stamp) good = k
+    message_goes (message.Invite ends) good = k
+    message_goes (message.Walk ends origin birth hops word) good = k
+    message_goes (message.Meet ends) good = k

@@ -1,0 +1,150 @@
+-- What the pieces of handlers make, and what names they leave: most make nothing, and leave names as they were.
+use Rattle.std.proofs.Common.{ℕ, ◌≡◌, Bool, true, false, List, [], ◌∷◌, Option, None, Some, refl, ◌∙◌}
+use Rattle.pg_base.specs.declared.id.FileId.{FileId}
+use Rattle.pg_base.specs.declared.stamp.Stamp.{Stamp}
+use Rattle.pg_edges.specs.declared.key.Key.TheVariants as key
+use Rattle.pg_register.specs.declared.flag.Flag.{Flag}
+use Rattle.pg_register.specs.declared.place.Place.{Place}
+use Rattle.pg_entries.specs.declared.cell.Cell.{Cell}
+use Rattle.pg_entries.specs.declared.cell.Cell.TheVariants as cell
+use Rattle.pg_entries.specs.declared.entry.Entry.{Entry}
+use Rattle.pg_intent.specs.declared.key.IntentKey.{IntentKey}
+use Rattle.pg_intent.specs.declared.key.IntentKey.TheVariants as intent_key
+use Rattle.pg_intent.specs.Intents.{aimed, ended, intent_at}
+use Rattle.pg_cells.specs.declared.accepting.Manner.TheVariants as manner
+use Rattle.pg_msg.specs.declared.message.Ends.{Ends}
+use Rattle.pg_msg.specs.declared.message.Message.TheVariants as message
+use Rattle.pg_msg.specs.declared.work.Work.{Work}
+use Rattle.pg_names.specs.Names.{own_or_blank}
+use Rattle.pg_house.specs.Work.{note_left}
+use Rattle.pg_house.proofs.Made.{left_made}
+use Rattle.pg_promises.proofs.Choices.{chosen}
+use Rattle.pg_replica.specs.declared.replica.Replica.{Replica}
+use Rattle.pg_store.specs.declared.store.Store.{Store}
+use Rattle.pg_store.specs.Beginning.{with_intents}
+use Rattle.pg_store.specs.Births.{fill_at, has_birth, is_pending, wish_at, with_wishes}
+use Rattle.pg_store.specs.Links.{is_clean, is_linked, is_new_link, knows_later, link, put_link, unlink}
+use Rattle.pg_store.specs.Servers.{next_target}
+use Rattle.pg_store.specs.Store.{entry_news, is_full, is_new_version, is_newer_flag, is_newer_place, replica_at}
+use Rattle.pg_store.specs.Wishes.{aim_wish}
+use Rattle.pg_cells.specs.Accepting.{accept, link_peer, with_gone, with_link}
+use Rattle.pg_cells.specs.Cells.{taken}
+use Rattle.pg_cells.specs.Done.{Done, idle}
+use Rattle.pg_cells.specs.Posting.{reply}
+use Rattle.pg_cells.specs.Taking.{is_any_news, take_entry_noted, take_flag_noted, take_flags_noted, take_place_noted, with_doubt, with_left_if}
+use Rattle.pg_cells.proofs.News.{news_made}
+use Rattle.pg_repair.specs.Confirming.{end_confirmed, is_confirmed}
+use Rattle.pg_repair.specs.Fetching.{answered_fetch, ends_to, fetch, give, given}
+use Rattle.pg_repair.specs.Granting.{aim_fill, fill_asks, turn_fill, turn_wish, wish_asks}
+use Rattle.pg_repair.specs.NoneHere.{does_ask, turn}
+use Rattle.pg_repair.specs.Telling.{end_told, is_told}
+
+-- ---- names that stay
+
+abbrev KeepsNames : Store → Store → Type 0
+KeepsNames a b = b.names ≡ a.names
+
+pub link_names : (a : Store) (file : FileId) (peer birth : ℕ) → (link a file peer birth).names ≡ a.names
+link_names a file peer birth =
+    chosen (KeepsNames a) (is_new_link a file peer birth) (put_link a file peer birth) a refl refl
+
+pub unlink_names : (a : Store) (file : FileId) (peer birth : ℕ) → (unlink a file peer birth).names ≡ a.names
+unlink_names a file peer birth = chosen (KeepsNames a) (is_linked a file peer birth) _ a refl refl
+
+pub turned_names : (a : Store) (file : FileId) (birth from next : ℕ) → (turn_fill (turn_wish a file birth from next) file birth from next).names ≡ a.names
+turned_names a file birth from next =
+    let b = turn_wish a file birth from next in
+    chosen (λ (c : Store). c.names ≡ b.names) (fill_asks (fill_at b file) birth from) (aim_fill b file next) b refl refl
+    ∙ chosen (KeepsNames a) (wish_asks (wish_at a file) birth from) (with_wishes a (aim_wish a.wishes file next)) a refl refl
+
+pub none_here_names : (a : Store) (k : IntentKey) (from : ℕ) → (turn a k from).names ≡ a.names
+none_here_names a k from =
+    chosen (KeepsNames a) (does_ask (intent_at a.intents k) from) (with_intents a (aimed a.intents k (next_target a from))) a refl refl
+
+pub told_names : (a : Store) (dir child : FileId) (stamp : Stamp) (from : ℕ) → (end_told a dir child stamp from).names ≡ a.names
+told_names a dir child stamp from =
+    let k = intent_key.Patch dir child in
+    chosen (KeepsNames a) (is_told (intent_at a.intents k) stamp from) (with_intents a (ended a.intents k)) a refl refl
+
+pub confirmed_names : (a : Store) (dir : FileId) (e : Entry) → (end_confirmed a dir e).names ≡ a.names
+confirmed_names a dir e =
+    chosen (KeepsNames a) (is_confirmed a dir e.child e.place.stamp) (with_intents a (ended a.intents (intent_key.Confirm dir e.child))) a refl refl
+
+-- ---- what is made
+
+abbrev MakesNo : Work → Work → Type 0
+MakesNo v w = w.made ≡ v.made
+
+left_if_made : (t : Bool) (w : Work) (file : FileId) (old : Place) → (with_left_if t w file old).made ≡ w.made
+left_if_made t w file old = chosen (MakesNo w) t (note_left w file old) w (left_made w file old) refl
+
+pub place_noted_made : (a : Store) (file : FileId) (p : Place) (w : Work) → (take_place_noted a file p w).work.made ≡ w.made
+place_noted_made a file p w =
+    let news = is_newer_place a file p in
+    let old = (own_or_blank a.names file).place in
+    news_made news (with_left_if news w file old) file key.Place ∙ left_if_made news w file old
+
+pub flag_noted_made : (a : Store) (file : FileId) (g : Flag) (w : Work) → (take_flag_noted a file g w).work.made ≡ w.made
+flag_noted_made a file g w = news_made (is_newer_flag a file g) w file (key.Flag g.server)
+
+pub flags_noted_made : (gs : List Flag) (a : Store) (file : FileId) (w : Work) → (take_flags_noted a file gs w).work.made ≡ w.made
+flags_noted_made [] a file w = refl
+flags_noted_made (g ∷ gs) a file w =
+    let d = take_flag_noted a file g w in
+    flags_noted_made gs d.store file d.work ∙ flag_noted_made a file g w
+
+pub entry_noted_made : (a : Store) (dir : FileId) (e : Entry) (w : Work) → (take_entry_noted a dir e w).work.made ≡ w.made
+entry_noted_made a dir e w = news_made (is_any_news (entry_news a dir e)) w dir (key.Entry e.child)
+
+doubt_made : (t : Bool) (w : Work) (dir child : FileId) → (with_doubt t w dir child).made ≡ w.made
+doubt_made true w dir child = refl
+doubt_made false w dir child = refl
+
+pub taken_made : (a : Store) (file : FileId) (c : Cell) (w : Work) → (taken a file c w).work.made ≡ w.made
+taken_made a file (cell.Place p) w = place_noted_made a file p w
+taken_made a file (cell.Flag g) w = flag_noted_made a file g w
+taken_made a file (cell.Entry e sure) w =
+    doubt_made _ (take_entry_noted a file e w).work file e.child ∙ entry_noted_made a file e w
+taken_made a file (cell.Version v) w = news_made (is_new_version a file v) w file (key.Version v.head.stamp)
+
+-- ---- messages along edges
+
+link_made : (t : Bool) (w : Work) (file : FileId) (peer : ℕ) → (with_link t w file peer).made ≡ w.made
+link_made true w file peer = refl
+link_made false w file peer = refl
+
+abbrev pub IsStill : Store → Work → Done → Type 0
+IsStill a w d = (d.store.names ≡ a.names) × (d.work.made ≡ w.made)
+
+pub linked_still : (a : Store) (file : FileId) (peer birth : ℕ) (w : Work) → IsStill a w (link_peer a file peer birth w)
+linked_still a file peer birth w = (link_names a file peer birth, link_made (is_new_link a file peer birth) w file peer)
+
+gone_made : (a : Store) (ends : Ends) (w : Work) → (with_gone a ends manner.Link w).made ≡ w.made
+gone_made a ends w =
+    chosen (MakesNo w) (is_pending a ends.file ends.receiver) w (reply a (message.Gone ends.file ends.receiver) w) refl refl
+
+pub accepted_still : (a : Store) (ends : Ends) (w : Work) → IsStill a w (accept a ends manner.Link w)
+accepted_still a ends w =
+    chosen (IsStill a w) (has_birth a ends.file ends.receiver) _ (idle a (with_gone a ends manner.Link w))
+    (chosen (IsStill a w) (knows_later a ends.file w.from ends.sender) (idle a w) (link_peer a ends.file w.from ends.sender w) (refl, refl)
+    (linked_still a ends.file w.from ends.sender w))
+    (refl, gone_made a ends w)
+
+given_made : (a : Store) (ends : Ends) (w : Work) (o : Option Replica) → (given a ends o w).made ≡ w.made
+given_made a ends w None = refl
+given_made a ends w (Some x) = refl
+
+answered_still : (a b : Store) (file : FileId) (birth : ℕ) (w v : Work) → IsStill a w (idle b v) → IsStill a w (answered_fetch file birth (idle b v))
+answered_still a b file birth w v h = (
+  h.0,
+  chosen (MakesNo v) (is_clean b file v.from birth) (reply b (message.Full (ends_to b file birth)) v) (give b (ends_to b file birth) v) refl
+      (given_made b (ends_to b file birth) v (replica_at b file)) ∙ h.1,
+)
+
+pub fetched_still : (a : Store) (file : FileId) (birth : ℕ) (w : Work) → IsStill a w (fetch a file birth w)
+fetched_still a file birth w =
+    let l = link_peer a file w.from birth w in
+    chosen (IsStill a w) (is_full a file) _ (idle a (reply a (message.NoGrant file birth) w))
+    (chosen (IsStill a w) (knows_later a file w.from birth) (idle a w) (answered_fetch file birth l) (refl, refl)
+    (answered_still a l.store file birth w l.work (linked_still a file w.from birth w)))
+    (refl, refl)

@@ -1,0 +1,275 @@
+-- How many ids a server gave out: a call that makes a thing gives out one, and nothing else does.
+use Rattle.std.proofs.Common.{ℕ, ◌≤◌, ◌+◌, ◌==◌, arith, Result, Ok, Err, ◌≡◌, ◌&&◌, Bool, not, cond, List, [], ◌∷◌, drop, length, Option, None, Some, nat_lt, true, false, refl, ◌∙◌}
+use Rattle.pg_base.specs.declared.id.FileId.{FileId}
+use Rattle.pg_base.specs.declared.policy.Policy.{Policy}
+use Rattle.pg_base.specs.Version.{VersionValue}
+use Rattle.pg_entries.specs.declared.cell.Cell.{Cell}
+use Rattle.pg_entries.specs.declared.cell.Cell.TheVariants as cells
+use Rattle.pg_entries.specs.declared.entry.Entry.{Entry}
+use Rattle.pg_intent.specs.declared.intent.Intent.{Intent}
+use Rattle.pg_intent.specs.declared.intent.Intent.TheVariants as intent
+use Rattle.pg_intent.specs.declared.key.IntentKey.{IntentKey}
+use Rattle.pg_intent.specs.declared.key.IntentKey.TheVariants as intent_key
+use Rattle.pg_intent.specs.Intents.{ended, intent_at}
+use Rattle.pg_msg.specs.declared.message.Ends.{Ends}
+use Rattle.pg_msg.specs.declared.message.Message.{Message}
+use Rattle.pg_msg.specs.declared.message.Message.TheVariants as message
+use Rattle.pg_msg.specs.declared.work.Touched.{Touched}
+use Rattle.pg_msg.specs.declared.work.Work.{Work}
+use Rattle.pg_names.specs.declared.own.Own.{Own}
+use Rattle.pg_names.specs.Names.{fill as fill_names}
+use Rattle.pg_register.specs.declared.flag.Flag.{Flag}
+use Rattle.pg_register.specs.declared.place.Place.{Place}
+use Rattle.pg_house.specs.House.{house}
+use Rattle.pg_house.specs.Work.{is_root, state_of}
+use Rattle.pg_store.specs.declared.store.Store.{Store}
+use Rattle.pg_store.specs.Beginning.{begin, patches_of, put_new, take_patch, take_patches, take_told, take_told_in, with_intents}
+use Rattle.pg_store.specs.Births.{fill_at, has_birth, is_pending, wish_at, with_birth}
+use Rattle.pg_store.specs.Links.{is_linked, is_new_link, knows_later, link, put_link, unlink}
+use Rattle.pg_store.specs.Servers.{next_target}
+use Rattle.pg_store.specs.Store.{is_full, is_held, is_new_version, is_newer_entry, is_newer_flag, is_newer_place, put_entry, put_flag, put_place, put_version, take_entry, take_flag, take_place, take_version, touch, with_names}
+use Rattle.pg_cells.specs.declared.accepting.Manner.{Manner}
+use Rattle.pg_cells.specs.declared.accepting.Manner.TheVariants as manner
+use Rattle.pg_cells.specs.Accepting.{accept, is_accepted, met}
+use Rattle.pg_cells.specs.Cells.{fits, taken}
+use Rattle.pg_cells.specs.Done.{Done, idle}
+use Rattle.pg_cells.specs.Settling.{settle, touch_all}
+use Rattle.pg_cells.specs.Taking.{take_flag_noted, take_flags_noted}
+use Rattle.pg_repair.specs.Confirming.{is_confirmed, take_told_place}
+use Rattle.pg_repair.specs.Filling.{few_golds, live_golds}
+use Rattle.pg_repair.specs.Granting.{begun_by, fill_asks, turn_wish, wish_asks}
+use Rattle.pg_repair.specs.NoneHere.{asking_key, does_ask}
+use Rattle.pg_repair.specs.Telling.{is_told}
+use Rattle.pg_repair.proofs.Steady.{begin_end_stays}
+use Rattle.pg_calls.specs.declared.checks.NewName.{NewName}
+use Rattle.pg_calls.specs.Making.{make_place}
+use Rattle.pg_calls.specs.Naming.{begun, dead_place, next_id, place_in, with_id, with_thing}
+use Rattle.pg_server.specs.Local.{closed, receive}
+use Rattle.pg_call.specs.declared.reply.Reply.{Reply}
+use Rattle.pg_promises.proofs.Choices.{chosen}
+use Rattle.pg_base.specs.declared.id.Kind.TheVariants.{Dir, File}
+use Rattle.pg_base.specs.declared.policy.Policy.TheVariants.{Last}
+use Rattle.pg_patch.specs.Ranges.{RangesValue, cut_to, written}
+use Rattle.pg_call.specs.declared.call.Call.{Call}
+use Rattle.pg_call.specs.declared.call.Call.TheVariants as call
+use Rattle.pg_msg.specs.Work.{new_work}
+use Rattle.pg_walk.specs.declared.paths.Found.{Found}
+use Rattle.pg_walk.specs.declared.paths.Stop.{Stop}
+use Rattle.pg_walk.specs.declared.paths.Stop.TheVariants as stop
+use Rattle.pg_store.specs.declared.wishes.Wish.{Wish}
+use Rattle.pg_calls.specs.Answer.{Answer, answered, replied}
+use Rattle.pg_calls.specs.Asking.{ask_by, ask_first, holder, standing}
+use Rattle.pg_calls.specs.Bodies.{change, change_file, when_fit}
+use Rattle.pg_calls.specs.Calls.{do_call}
+use Rattle.pg_calls.specs.Checks.{dir_at, empty_dir_at, file_at, in_time, move_of, new_name, target_at}
+use Rattle.pg_server.specs.declared.input.Input.{Input}
+use Rattle.pg_server.specs.declared.input.Input.TheVariants as input
+use Rattle.pg_server.specs.Local.{Effect, effect, finished, first_effect, is_heard, reply_to, takes_effect}
+
+-- ---- the pieces
+
+-- of two
+either_files : (a : Store) (t : Bool) (b d : Store) → b.files ≡ a.files → d.files ≡ a.files → (cond t b d).files ≡ a.files
+either_files a t b d one other = chosen (λ (x : Store). x.files ≡ a.files) t b d one other
+
+either_done : (a : Store) (t : Bool) (d e : Done) → d.store.files ≡ a.files → e.store.files ≡ a.files → (cond t d e).store.files ≡ a.files
+either_done a t d e one other = chosen (λ (x : Done). x.store.files ≡ a.files) t d e one other
+
+place_files : (a : Store) (f : FileId) (place : Place) → (take_place a f place).files ≡ a.files
+place_files a f place = either_files a (is_newer_place a f place) (put_place a f place) a refl refl
+
+flag_files : (a : Store) (f : FileId) (flag : Flag) → (take_flag a f flag).files ≡ a.files
+flag_files a f flag = either_files a (is_newer_flag a f flag) (put_flag a f flag) a refl refl
+
+entry_files : (a : Store) (d : FileId) (e : Entry) → (take_entry a d e).files ≡ a.files
+entry_files a d e = either_files a (is_newer_entry a d e) (put_entry a d e) a refl refl
+
+version_files : (a : Store) (f : FileId) (v : VersionValue) → (take_version a f v).files ≡ a.files
+version_files a f v = either_files a (is_new_version a f v) (put_version a f v) a refl refl
+
+link_files : (a : Store) (f : FileId) (peer birth : ℕ) → (link a f peer birth).files ≡ a.files
+link_files a f peer birth = either_files a (is_new_link a f peer birth) (put_link a f peer birth) a refl refl
+
+unlink_files : (a : Store) (f : FileId) (peer birth : ℕ) → (unlink a f peer birth).files ≡ a.files
+unlink_files a f peer birth = either_files a (is_linked a f peer birth) _ a refl refl
+
+flags_files : (a : Store) (f : FileId) (flags : List Flag) (w : Work) → (take_flags_noted a f flags w).store.files ≡ a.files
+flags_files a f [] w = refl
+flags_files a f (flag ∷ flags) w =
+    let d = take_flag_noted a f flag w in
+    flags_files d.store f flags d.work ∙ flag_files a f flag
+
+-- ---- a replica begins
+
+told_files : (a : Store) (d : FileId) (i : Intent) → (take_told a d i).files ≡ a.files
+told_files a d (intent.Bye file birth peer peer_birth) = refl
+told_files a d (intent.Seek file target) = refl
+told_files a d (intent.Fill file birth target) = refl
+told_files a d (intent.Patch to entry target) = entry_files a d entry
+told_files a d (intent.Confirm to child target) = refl
+told_files a d (intent.Leave file peer peer_birth) = refl
+
+told_in_files : (a : Store) (d : FileId) (o : Option Intent) → (take_told_in a d o).files ≡ a.files
+told_in_files a d None = refl
+told_in_files a d (Some i) = told_files a d i
+
+patches_files : (d : FileId) (qs : List IntentKey) (a : Store) → (take_patches a d qs).files ≡ a.files
+patches_files d [] a = refl
+patches_files d (q ∷ qs) a =
+    patches_files d qs (take_patch a d q) ∙ told_in_files (with_intents a (ended a.intents q)) d (intent_at a.intents q)
+
+begin_files : (a : Store) (f : FileId) (birth : ℕ) (policy : Policy) (own : Own) (full : Bool) → (begin a f birth policy own full).files ≡ a.files
+begin_files a f birth policy own full = patches_files f (patches_of f a.intents) (put_new a f birth policy own full)
+
+-- of a new thing
+pub thing_files : (a : Store) (w : Work) (id : FileId) (policy : Policy) (new : NewName) → (with_thing a w id policy new).store.files ≡ a.files
+thing_files a w id policy new =
+    let b = begun a id policy in
+    let d = make_place id (place_in a w.now new) (idle b w) in
+    flag_files d.store id _ ∙ place_files b id (place_in a w.now new) ∙ begin_files (with_birth a) id _ policy _ true
+
+-- ---- messages
+
+met_files : (a : Store) (ends : Ends) (m : Manner) (w : Work) → (met a ends m w).store.files ≡ a.files
+met_files a ends manner.Link w = link_files a ends.file w.from ends.sender
+met_files a ends manner.Ask w = refl
+met_files a ends manner.Answer w = refl
+
+accept_files : (a : Store) (ends : Ends) (m : Manner) (w : Work) → (accept a ends m w).store.files ≡ a.files
+accept_files a ends m w =
+    either_done a (has_birth a ends.file ends.receiver) (cond (knows_later a ends.file w.from ends.sender) (idle a w) (met a ends m w)) _
+    (either_done a (knows_later a ends.file w.from ends.sender) (idle a w) (met a ends m w) refl (met_files a ends m w)) refl
+
+taken_files : (a : Store) (f : FileId) (x : Cell) (w : Work) → (taken a f x w).store.files ≡ a.files
+taken_files a f (cells.Place place) w = place_files a f place
+taken_files a f (cells.Flag flag) w = flag_files a f flag
+taken_files a f (cells.Entry e sure) w = entry_files a f e
+taken_files a f (cells.Version v) w = version_files a f v
+
+-- A MESSAGE gives out no id
+pub receive_files : (a : Store) (m : Message) (w : Work) → (receive a m w).store.files ≡ a.files
+receive_files a (message.Cell ends tag x) w =
+    let e = accept a ends manner.Link w in
+    either_done a (fits ends.file x) (cond (is_accepted a w.from manner.Link ends) _ e) (idle a w)
+    (either_done a (is_accepted a w.from manner.Link ends) _ e (taken_files e.store ends.file x e.work ∙ accept_files a ends manner.Link w) (accept_files a ends manner.Link w)) refl
+receive_files a (message.Ack ends q tag) w = refl
+receive_files a (message.Fetch file birth) w =
+    either_done a (is_full a file) (cond (knows_later a file w.from birth) (idle a w) _) _
+    (either_done a (knows_later a file w.from birth) (idle a w) _ refl (link_files a file w.from birth)) refl
+receive_files a (message.Grant ends granted) w =
+    either_done a (is_pending a ends.file ends.receiver) _ (accept a ends manner.Link w)
+    (link_files (begun_by a ends granted) ends.file w.from ends.sender ∙ begin_files a ends.file ends.receiver granted.policy _ false)
+    (accept_files a ends manner.Link w)
+receive_files a (message.NoGrant file birth) w =
+    let b = turn_wish a file birth w.from (next_target a w.from) in
+    either_files b (fill_asks (fill_at b file) birth w.from) _ b refl refl ∙ either_files a (wish_asks (wish_at a file) birth w.from) _ a refl refl
+receive_files a (message.Full ends) w =
+    let b = with_names a (fill_names a.names ends.file) in
+    either_done a (is_accepted a w.from manner.Answer ends && not (is_full a ends.file)) _ (idle a w)
+    (either_done a (nat_lt (live_golds b ends.file) few_golds) _ (idle b w) (flag_files b ends.file _) refl) refl
+receive_files a (message.NoneHere what file child) w =
+    either_files a (does_ask (intent_at a.intents (asking_key what file child)) w.from) _ a refl refl
+receive_files a (message.Gone file birth) w = unlink_files a file w.from birth
+receive_files a (message.Confirm dir e) w =
+    let placed = take_told_place a e w in
+    either_done a (is_held a e.child) _ _
+    (flags_files placed.store e.child e.flags placed.work ∙ either_done a (is_root e.child) (idle a w) _ refl (place_files a e.child e.place)) refl
+receive_files a (message.PlaceIs dir e) w =
+    let t = take_entry a dir e in
+    either_done a (is_held a dir) _ (idle a w)
+    (either_files t (is_confirmed t dir e.child e.place.stamp) _ t refl refl ∙ entry_files a dir e) refl
+receive_files a (message.Tell dir e) w = either_done a (is_held a dir) _ _ (entry_files a dir e) refl
+receive_files a (message.TellOk dir child stamp) w =
+    either_files a (is_told (intent_at a.intents (intent_key.Patch dir child)) stamp w.from) _ a refl refl
+receive_files a m w = refl
+
+-- ---- the end of an event
+
+touches_files : (a : Store) (ts : List Touched) → (touch_all a ts).files ≡ a.files
+touches_files a [] = refl
+touches_files a (t ∷ ts) = touches_files (touch a t.file t.key) ts
+
+pub closed_files : (answer : Option Reply) (d : Done) → (closed answer d).store.files ≡ d.store.files
+closed_files answer d =
+    let m = settle d.store d.work in
+    let st = house d.work.now (state_of d.store.names d.work) in
+    (begin_end_stays m.store m.work).files
+    ∙ touches_files (with_names d.store st.names) (drop (length d.work.touched) st.work.touched)
+
+-- ---- calls
+
+up_same : (m n : ℕ) → n ≡ m → m ≤ n
+up_same m n e = omega arith
+
+up_one : (m n : ℕ) → n ≡ m + 1 → m ≤ n
+up_one m n e = omega arith
+
+module _ (a : Store) (w : Work) where
+  abbrev GoesUp : Answer → Type 0
+  GoesUp b = a.files ≤ b.store.files
+
+  up_first : (f : FileId) (target : ℕ) → (ask_first a f target w).store.files ≡ a.files
+  up_first f target = either_done a (target == 0) (idle a w) _ refl refl
+
+  up_asked : (found : Found) (o : Option Wish) → (ask_by a found o w).store.files ≡ a.files
+  up_asked found None = up_first found.file (holder a found)
+  up_asked found (Some wish) = refl
+
+  up_answered : {A : Type 0} (check : Result A Stop) (next : A → Answer) → ((x : A) → GoesUp (next x)) → GoesUp (answered a w check next)
+  up_answered (Err (stop.Refused why)) next each = up_same a.files a.files refl
+  up_answered (Err (stop.NotYet found)) next each = up_same a.files _ (up_asked found (standing a found.file))
+  up_answered (Ok x) next each = each x
+
+  up_looked : {A : Type 0} (check : Result A Stop) (tell : A → Reply) → GoesUp (replied a w check tell)
+  up_looked check tell = up_answered check _ (λ x. up_same a.files a.files refl)
+
+  up_changed : (text : List ℕ) (ranges : RangesValue) → GoesUp (change a text ranges w)
+  up_changed text ranges =
+      up_answered (file_at a text) (change_file a ranges w)
+      (λ f. up_answered (when_fit a ranges f) _ (λ fit. up_same a.files a.files refl))
+
+  -- A CALL never takes an id back
+  pub call_files : (x : Call) → GoesUp (do_call a x w)
+  call_files (call.Mkdir path) =
+      up_answered (new_name a (next_id a Dir) path) _ (λ new. up_one a.files _ (thing_files (with_id a) w (next_id a Dir) Last new))
+  call_files (call.Create path policy) =
+      up_answered (new_name a (next_id a File) path) _ (λ new. up_one a.files _ (thing_files (with_id a) w (next_id a File) policy new))
+  call_files (call.Write path offset bytes) = up_changed path (written offset bytes)
+  call_files (call.Cut path length) = up_changed path (cut_to length)
+  call_files (call.Read path offset count) = up_looked (file_at a path) _
+  call_files (call.Fresh path) = up_looked (file_at a path) _
+  call_files (call.Ls path from) = up_looked (dir_at a path) _
+  call_files (call.Stat target) = up_looked (target_at a target) _
+  call_files (call.Rename from to) =
+      up_answered (move_of a from to) _ (λ move. up_same a.files _ (place_files a move.thing (place_in a w.now move.to)))
+  call_files (call.Unlink path) = up_answered (file_at a path) _ (λ f. up_same a.files _ (place_files a f (dead_place a w.now f)))
+  call_files (call.Rmdir path) = up_answered (empty_dir_at a path) _ (λ d. up_same a.files _ (place_files a d (dead_place a w.now d)))
+  call_files (call.Forget id) = up_looked (in_time a (tt {0})) _
+  call_files (call.Demote target) = up_looked (in_time a (tt {0})) _
+  call_files (call.Drop target) = up_looked (in_time a (tt {0})) _
+  call_files (call.Giveup view server) = up_looked (in_time a (tt {0})) _
+  call_files call.Status = up_looked (in_time a (tt {0})) _
+  call_files call.Stop = up_looked (in_time a (tt {0})) _
+
+-- ---- any event
+
+first_files : (a : Store) (asked : Input) → a.files ≤ (first_effect a asked).store.files
+first_files a (input.Call moment x) = call_files a (new_work moment 0) x
+first_files a (input.Tick moment word) = up_same a.files a.files refl
+first_files a (input.Arrival packet) =
+    let w = new_work 0 packet.from in
+    up_same a.files _ (either_done a (is_heard a packet) (receive a packet.message w) (idle a w) (receive_files a packet.message w) refl)
+first_files a input.Restart = up_same a.files a.files refl
+
+-- behind the first effect no id is given out
+pub effect_same : (a : Store) (asked : Input) → (effect a asked).store.files ≡ (first_effect a asked).store.files
+effect_same a asked =
+    let d = first_effect a asked in
+    let r = reply_to a asked in
+    chosen (λ (e : Effect). e.store.files ≡ d.store.files) (takes_effect a asked) (closed r d) (finished r d) (closed_files r d) refl
+
+up_to : (m n k : ℕ) → m ≤ n → k ≡ n → m ≤ k
+up_to m n k h e = omega arith
+
+pub effect_files : (a : Store) (asked : Input) → a.files ≤ (effect a asked).store.files
+effect_files a asked = up_to a.files (first_effect a asked).store.files _ (first_files a asked) (effect_same a asked)

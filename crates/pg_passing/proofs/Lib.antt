@@ -1,0 +1,16 @@
+pub mod Latest
+pub mod Newest
+pub mod Lists
+pub mod Takes
+pub mod States
+pub mod Top
+pub mod Brought
+pub mod Coming
+pub mod PassedAll
+pub mod Movable
+pub mod Pieces
+pub mod Singles
+pub mod Times
+pub mod Rules
+pub mod House
+pub mod Midst

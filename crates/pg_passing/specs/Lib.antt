@@ -1,0 +1,4 @@
+pub mod Newest
+pub mod Tells
+pub mod Gets
+pub mod Passing

@@ -1,0 +1,111 @@
+-- What an event does at a server: each place that is known then, and each that is told, may stand, where
+-- those that it makes may; and what these are.
+use Rattle.std.proofs.Common.{ℕ, ◌≡◌, ◌≤◌, Bool, true, false, cond, List, [], Option, None, Some, refl, sym, ap, subst, ◌∙◌, All, arith}
+use Rattle.std.proofs.lemmas.List.Elements.{All-nil}
+use Rattle.pg_base.specs.declared.id.FileId.{FileId}
+use Rattle.pg_base.specs.Id.{is_same_file}
+use Rattle.pg_call.specs.declared.reply.Reply.{Reply}
+use Rattle.pg_house.specs.Work.{State, state_of}
+use Rattle.pg_house.proofs.Drawn.{IsDrawn, drawn_on}
+use Rattle.pg_house.proofs.Replaced.{made_stays}
+use Rattle.pg_msg.specs.declared.update.Update.TheVariants as update
+use Rattle.pg_msg.specs.declared.work.Work.{Work}
+use Rattle.pg_msg.specs.Work.{new_work}
+use Rattle.pg_promises.proofs.Choices.{chosen}
+use Rattle.pg_register.specs.declared.place.Place.{Place}
+use Rattle.pg_register.specs.Place.{blank_place, root}
+use Rattle.pg_repair.proofs.Steady.{begin_end_stays}
+use Rattle.pg_server.specs.declared.input.Input.{Input}
+use Rattle.pg_server.specs.declared.input.Input.TheVariants as input
+use Rattle.pg_server.specs.Local.{Effect, closed, effect, finished, first_effect, intended, is_heard, receive, reply_to, sent_again, settled, takes_effect, without_wishes}
+use Rattle.pg_store.specs.declared.store.Store.{Store}
+use Rattle.pg_store.specs.Births.{is_pending}
+use Rattle.pg_store.specs.Store.{is_in_time}
+use Rattle.pg_cells.specs.Done.{Done, idle}
+use Rattle.pg_places.proofs.Origins.{IsMade}
+use Rattle.pg_places.proofs.Behind.{MayMake, again_fine, ends_told, intended_fine, settle_fine}
+use Rattle.pg_places.proofs.Called.{called}
+use Rattle.pg_places.proofs.Fine.{AreKnown, AreTimed, IsFine, OfMessage, OfSent, as_before, message_further}
+use Rattle.pg_places.proofs.Handled.{receive_fine}
+
+-- a message tells of places that may stand
+abbrev pub OfInput : (FileId → Place → Type 0) → Input → Type 0
+OfInput P (input.Arrival packet) = OfMessage P packet.message
+OfInput P _ = Unit {0}
+
+pub input_further : (P Q : FileId → Place → Type 0) → ((f : FileId) (p : Place) → P f p → Q f p) → (asked : Input) → OfInput P asked → OfInput Q asked
+input_further P Q up (input.Arrival packet) h = message_further P Q up packet.message h
+input_further P Q up (input.Call moment call) h = tt
+input_further P Q up (input.Tick moment word) h = tt
+input_further P Q up input.Restart h = tt
+
+module _ (P : FileId → Place → Type 0) (blanks : (f : FileId) → is_same_file f root ≡ false → P f (blank_place f)) (s : ℕ) (some : 1 ≤ s) (a : Store) where
+  abbrev Fine : Done → Type 0
+  Fine d = IsFine P s a.names.last d
+
+  abbrev May : Effect → Type 0
+  May e = MayMake P blanks s a.names.last e.out.made
+
+  abbrev pub ended : Effect → State
+  ended e = state_of e.store.names (record (new_work 0 0) { made = e.out.made })
+
+  -- what an event leaves
+  pub record Leaves (e : Effect) : Type 0 where
+    pub known : AreKnown P e.store
+    pub timed : AreTimed e.store.names
+    pub sent : All (OfSent P) e.out.sent
+    pub drawn : IsDrawn s a.names.last (ended e)
+
+  -- ---- the end
+
+  finished_leaves : (r : Option Reply) (d : Done) → Fine d → Leaves (finished r d)
+  finished_leaves r d k = record {
+    known = k.known;
+    timed = k.timed;
+    sent = ends_told P blanks s a.names.last d k;
+    drawn = drawn_on s a.names.last (state_of d.store.names d.work) (ended (finished r d)) k.drawn refl (omega arith) (λ f p h. h);
+  }
+
+  -- what was made stays made
+  closed_made : (r : Option Reply) (d : Done) (f : FileId) (p : Place) → IsMade d.work.made f p → IsMade (closed r d).out.made f p
+  closed_made r d f p h =
+      let mid = settled d in
+      subst (λ us. IsMade us f p) (sym (begin_end_stays mid.store mid.work).made) (made_stays d.work.now (state_of d.store.names d.work) (update.Place f p) h)
+
+  closed_leaves : (r : Option Reply) (d : Done) → Fine d → May (closed r d) → Leaves (closed r d)
+  closed_leaves r d k may =
+      let mid = settled d in
+      let first = settle_fine P blanks s a.names.last d k (λ f p h. may f p (subst (λ us. IsMade us f p) (sym (begin_end_stays mid.store mid.work).made) h)) in
+      finished_leaves r (intended mid) (intended_fine P blanks s a.names.last mid first)
+
+  -- ---- an input
+
+  module _ (known : AreKnown P a) (timed : AreTimed a.names) (server : a.names.server ≡ s) (apart : (f : FileId) (birth : ℕ) → is_pending a f birth ≡ true → is_same_file f root ≡ false) where
+    begins : (now from : ℕ) → Fine (idle a (new_work now from))
+    begins now from = record {
+      known = known;
+      timed = timed;
+      sent = All-nil (OfSent P);
+      drawn = record { server = server; low = omega arith; each = λ f p h. absurd h; one = λ f g p q h i e. absurd h };
+    }
+
+    first_fine : (asked : Input) → OfInput P asked → MayMake P blanks s a.names.last (first_effect a asked).work.made → Fine (first_effect a asked)
+    first_fine (input.Call moment call) asks may = called P blanks s a.names.last some a moment call (begins moment 0) may
+    first_fine (input.Tick moment word) asks may =
+        let work = new_work moment 0 in
+        chosen (λ (w : Work). Fine (idle a w)) (is_in_time a) (sent_again a work) work (again_fine P blanks s a.names.last (idle a work) (begins moment 0)) (begins moment 0)
+    first_fine (input.Arrival packet) asks may =
+        let work = new_work 0 packet.from in
+        chosen Fine (is_heard a packet) (receive a packet.message work) (idle a work)
+        (receive_fine P blanks s a.names.last packet.message (idle a work) apart asks (begins 0 packet.from)) (begins 0 packet.from)
+    first_fine input.Restart asks may =
+        as_before P s a.names.last (idle a (new_work 0 0)) (idle (without_wishes a) (new_work 0 0)) refl refl refl refl (begins 0 0)
+
+    -- AN EVENT
+    pub effect_leaves : (asked : Input) → OfInput P asked → May (effect a asked) → Leaves (effect a asked)
+    effect_leaves asked asks =
+        let d = first_effect a asked in
+        let r = reply_to a asked in
+        chosen (λ (e : Effect). May e → Leaves e) (takes_effect a asked) (closed r d) (finished r d)
+        (λ may. closed_leaves r d (first_fine asked asks (λ f p h. may f p (closed_made r d f p h))) may)
+        (λ may. finished_leaves r d (first_fine asked asks may))

@@ -1,0 +1,31 @@
+-- Versions of what is held, by what the law is said of.
+use Rattle.std.proofs.Common.{◌≡◌, List, Option, Some, sym, ap, subst}
+use Rattle.pg_base.specs.declared.id.FileId.{FileId}
+use Rattle.pg_base.specs.declared.stamp.Stamp.{Stamp}
+use Rattle.pg_patch.specs.Ranges.{RangesValue}
+use Rattle.pg_content.specs.Content.{Among, ContentValue}
+use Rattle.pg_content.specs.History.{Made, version_of}
+use Rattle.pg_flood.proofs.Steps.{Steps}
+use Rattle.pg_entries.specs.declared.cell.Cell.TheVariants as cell
+use Rattle.pg_replica.specs.declared.replica.Replica.{Replica}
+use Rattle.pg_replica.specs.Replicas.{or_nothing}
+use Rattle.pg_store.specs.declared.store.Store.{Store}
+use Rattle.pg_store.specs.Store.{content_of, replica_at, take_version, write}
+use Rattle.pg_promises.specs.Histories.{IsOfHistory}
+use Rattle.pg_promises.specs.Laws.{IsTaken, coming}
+use Rattle.pg_promises.specs.Seen.{cells}
+use Rattle.pg_promises.proofs.Versions.{version_put, write_steps}
+
+module _ (a : Store) (file : FileId) (here : (x : Replica) × (replica_at a file ≡ Some x)) (h : List Made) where
+  content_is : content_of a file ≡ here.0.content
+  content_is = ap (λ (o : Option Replica). (or_nothing o).content) here.1
+
+  pub version_of_held : (m : Made) → IsOfHistory h (content_of a file) → Among m h
+      → IsTaken a (take_version a file (coming a file h m)) file (cell.Version (coming a file h m))
+  version_of_held m of is =
+      let t = version_put a file here.0 here.1 h (subst (IsOfHistory h) content_is of) m is in
+      let P : ContentValue → Type 0 = λ c. IsTaken a (take_version a file (version_of c.policy h m)) file (cell.Version (version_of c.policy h m)) in
+      subst P (sym content_is) (t.steps, t.holds)
+
+  pub write_of_held : (stamp : Stamp) (ranges : RangesValue) → IsOfHistory h (content_of a file) → Steps cells a (write a file stamp ranges)
+  write_of_held stamp ranges of = write_steps a file here.0 here.1 h (subst (IsOfHistory h) content_is of) stamp ranges

@@ -1,0 +1,111 @@
+-- What is known of a quiet world whose things are connected: each server, and that servers which hold a thing hold the
+-- same of it.
+use Rattle.std.proofs.Common.{ℕ, ◌≡◌, ◌≤◌, ◌⊎◌, Bool, true, false, List, [], Option, None, Some, is_some, refl, sym, ap, subst, ◌∙◌, inl, inr}
+use Rattle.std.proofs.lemmas.Bool.{false≢true}
+use Rattle.pg_base.specs.declared.id.FileId.{FileId}
+use Rattle.pg_base.specs.Id.{is_same_file}
+use Rattle.pg_event.specs.declared.event.Event.{Event}
+use Rattle.pg_intent.specs.declared.key.IntentKey.{IntentKey}
+use Rattle.pg_intent.specs.Intents.{stands}
+use Rattle.pg_names.specs.declared.own.Own.{Own}
+use Rattle.pg_names.specs.Names.{HeldValue, NamesValue, is_full_of, known, own_at, own_of}
+use Rattle.pg_register.specs.Place.{root}
+use Rattle.pg_replica.specs.declared.replica.Replica.{Replica}
+use Rattle.pg_store.specs.declared.store.Store.{Store}
+use Rattle.pg_store.specs.Store.{is_full, is_held, replica_at}
+use Rattle.pg_promises.specs.Whole.{IsWhole}
+use Rattle.pg_run.specs.Graphs.{AreConnected, Holds}
+use Rattle.pg_run.specs.Intending.{IntendsInOrder}
+use Rattle.pg_run.specs.Laws.{AtEach, IsInOrder}
+use Rattle.pg_run.specs.Quiet.{IsQuiet}
+use Rattle.pg_run.specs.Run.{World, run}
+use Rattle.pg_intent.specs.declared.key.IntentKey.TheVariants as intent_key
+use Rattle.pg_quiet.specs.Given.{AreNamedWell, ArePlaced, TreeIsGiven}
+use Rattle.pg_quiet.specs.Laws.{HoldTheSame}
+use Rattle.pg_quiet.proofs.Across.{nothing_intended}
+use Rattle.pg_quiet.proofs.Agreement.{joined_same, own_by}
+
+pub record Facts (n : ℕ) (w : World) : Type 0 where
+  pub quiet : IsQuiet n w
+  pub order : AtEach n (λ s. IsInOrder (w.stores s).names)
+  pub intends : AtEach n (λ s. IntendsInOrder (w.stores s))
+  pub named : AtEach n (λ s. AreNamedWell (w.stores s).names)
+  pub placed : AtEach n (λ s. ArePlaced (w.stores s))
+  pub whole : AtEach n (λ s. IsWhole n s (w.stores s))
+  pub agreed : (file : FileId) → AtEach n (λ s. AtEach n (λ t. Holds w file s → Holds w file t
+      → HoldTheSame (w.stores s) (w.stores t) file))
+
+-- ---- in every run
+
+itself : (w : World) (file : FileId) (s t : ℕ) → s ≡ t → HoldTheSame (w.stores s) (w.stores t) file
+itself w file s t e =
+    let P : ℕ → Type 0 = λ i. HoldTheSame (w.stores s) (w.stores i) file in
+    subst P e (record { own = refl; entries = λ child. refl; content = refl })
+
+pub facts_of : (n : ℕ) → TreeIsGiven n → (events : List Event) → IsQuiet n (run n events) → AreConnected n (run n events) → Facts n (run n events)
+facts_of n g events quiet connected =
+    let w = run n events in
+    record {
+      quiet = quiet;
+      order = g.order events;
+      intends = g.intends events;
+      named = g.names events;
+      placed = g.placed events;
+      whole = g.agree.whole events;
+      agreed = λ file s ls ms t lt mt a b. elim (connected file s t ls ms lt mt a b) [
+        | inl same ↦ itself w file s t same
+        | inr joined ↦ joined_same n g.agree events quiet file s t ls ms lt mt joined
+      ];
+    }
+
+-- ---- what is held
+
+-- what names hold has a replica
+replica_by : (a : Store) (file : FileId) (own : Own) (o : Option Replica) → replica_at a file ≡ o → is_some o ≡ true
+    → (x : Replica) × (replica_at a file ≡ Some x)
+replica_by a file own None e h = absurd (false≢true h)
+replica_by a file own (Some x) e h = (x, e)
+
+held_by : (o : Option HeldValue) (own : Own) → own_of o ≡ Some own → is_some o ≡ true
+held_by None own h = absurd (let z : None ≡ Some own = h in cc)
+held_by (Some x) own h = refl
+
+pub holds_of : (n s : ℕ) (w : World) (file : FileId) (own : Own) → IsWhole n s (w.stores s) → own_at (w.stores s).names file ≡ Some own
+    → Holds w file s
+holds_of n s w file own whole held =
+    let a = w.stores s in
+    let x = replica_by a file own (replica_at a file) refl (whole.together file ∙ held_by (known a.names file) own held) in
+    record { replica = x.0; is = x.1 }
+
+-- what is held has a place
+pub own_held : (names : NamesValue) (file : FileId) → is_some (known names file) ≡ true → (own : Own) × (own_at names file ≡ Some own)
+own_held names file h = let x = own_by (known names file) h in (x.0.own, ap own_of x.1)
+
+module _ (n : ℕ) (w : World) (k : Facts n w) (s : ℕ) (least : 1 ≤ s) (most : s ≤ n) where
+  abbrev A : Store
+  A = w.stores s
+
+  pub no_intents : A.intents ≡ []
+  no_intents = nothing_intended A (k.quiet.nothing s least most)
+
+  -- no intention stands
+  pub none_stands : (key : IntentKey) → stands A.intents key ≡ true → ⊥
+  none_stands key h = false≢true (sym (ap (λ is. stands is key) no_intents) ∙ h)
+
+  -- so the parent in a live place is held
+  pub parent_held : (file : FileId) (own : Own) → own_at A.names file ≡ Some own → is_same_file file root ≡ false → own.place.live ≡ true
+      → (above : Own) × (own_at A.names own.place.parent ≡ Some above)
+  parent_held file own held apart live = elim ((k.intends s least most).contained file own held apart live) [
+    | inl there ↦ own_held A.names own.place.parent there
+    | inr fills ↦ absurd (none_stands (intent_key.Fill own.place.parent) fills)
+  ]
+
+  -- and all that is held is full
+  full_by : (file : FileId) (o : Option HeldValue) (own : Own) → known A.names file ≡ o → own_of o ≡ Some own → (t : Bool) → is_full_of o ≡ t → t ≡ true
+  full_by file None own e h t f = absurd (let z : None ≡ Some own = h in cc)
+  full_by file (Some x) own e h true f = refl
+  full_by file (Some x) own e h false f =
+      absurd (none_stands (intent_key.Fill file) (((k.intends s least most).fills file).1 (inl (x, e, f))))
+
+  pub all_full : (file : FileId) (own : Own) → own_at A.names file ≡ Some own → is_full A file ≡ true
+  all_full file own held = full_by file (known A.names file) own refl held (is_full A file) refl

@@ -1,0 +1,12 @@
+use Rattle.pg_repair.proofs.Idle.{leaves_nothing}
+use Rattle.pg_repair.proofs.Standing.{confirmed_in_doubt, has_its_fill}
+use Rattle.pg_repair.proofs.laws.intentions_follow_what_is_held.Goals as goal
+
+pub returns-clause-fills : goal.returns-clause-fills
+returns-clause-fills c = has_its_fill
+
+pub returns-clause-confirms : goal.returns-clause-confirms
+returns-clause-confirms c = confirmed_in_doubt
+
+pub returns-clause-rest : goal.returns-clause-rest
+returns-clause-rest c = leaves_nothing

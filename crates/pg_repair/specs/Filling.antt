@@ -1,0 +1,45 @@
+-- A filling replica becomes full.
+use Rattle.std.specs.Prelude.{ℕ, ◌&&◌, not, nat_lt, count_by, if◌then◌else◌, List, Option, None, Some}
+use Rattle.pg_base.specs.declared.id.FileId.{FileId}
+use Rattle.pg_register.specs.Flag.{is_live}
+use Rattle.pg_msg.specs.declared.message.Ends.{Ends}
+use Rattle.pg_msg.specs.declared.work.Work.{Work}
+use Rattle.pg_names.specs.declared.own.Own.{Own}
+use Rattle.pg_names.specs.Names.{own_at}
+use Rattle.pg_names.specs.Names as names
+use Rattle.pg_store.specs.declared.store.Store.{Store}
+use Rattle.pg_store.specs.Store.{is_full, with_names}
+use Rattle.pg_cells.specs.declared.accepting.Manner.TheVariants as manner
+use Rattle.pg_cells.specs.Accepting.{is_accepted}
+use Rattle.pg_cells.specs.Done.{Done, idle}
+use Rattle.pg_cells.specs.Making.{raise_flag}
+
+abbrev pub golds_of : List ℕ → Option Own → ℕ
+golds_of removed None = 0
+golds_of removed (Some own) = count_by (is_live removed) own.flags
+
+-- how many live golds a thing sees
+abbrev pub live_golds : Store → FileId → ℕ
+live_golds store file = golds_of store.names.removed (own_at store.names file)
+
+-- a thing that sees fewer live golds than this becomes one when it is full
+abbrev pub few_golds : ℕ
+few_golds = 3
+
+abbrev pub raise_if_few : Store → FileId → Work → Done
+raise_if_few store file work =
+    if nat_lt (live_golds store file) few_golds then raise_flag store file work
+    else idle store work
+
+-- the thing is full, and the server raises its flag where it sees few golds
+abbrev pub fill : Store → FileId → Work → Done
+fill store file work =
+    raise_if_few (with_names store (names.fill store.names file)) file work
+
+-- the sender has nothing that a replica here has not: where the message is accepted, a filling one
+-- is full
+abbrev pub full : Store → Ends → Work → Done
+full store ends work =
+    if is_accepted store work.from manner.Answer ends && not (is_full store ends.file)
+    then fill store ends.file work
+    else idle store work

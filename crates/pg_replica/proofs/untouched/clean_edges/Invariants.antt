@@ -1,6 +1,0 @@
-use Rattle.std.proofs.Common.{◌≡◌}
-use Rattle.pg_replica.specs.Untouched.{clean_edges}
-use Rattle.pg_replica.proofs.untouched.clean_edges.Given as goal
-
-abbrev pub invariant-loop-k : goal.invariant-loop-k
-invariant-loop-k l = l.edges ≡ clean_edges l.server l.k

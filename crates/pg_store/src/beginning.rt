@@ -1,0 +1,159 @@
+//! Replicas that begin.
+
+ghost use Rattle.std.specs.Prelude.{◌≡◌, ◌++◌, IfOk, OnErr, OnOk};
+ghost use Rattle.pg_store.specs.Births.{draw_birth, fill_at, is_fill_at, is_fill_with, is_pending, wish_at, with_birth};
+ghost use Rattle.pg_store.specs.Wishes.{is_with_birth};
+ghost use Rattle.pg_store.specs.Beginning.{begin, patch_key, patch_key_if, patches_of, take_patch, take_patches, take_told};
+
+use crate::store::{MOST_TAGS, Store};
+use pg_base::{FileId, Items, Policy};
+use pg_intent::{Intent, IntentKey};
+use pg_names::Own;
+use pg_replica::Replica;
+use std::alloc::AllocError;
+
+impl Store {
+    /// The server gives out its next birth. Where it gave out more than 2^63 memory ends before, and nothing changes.
+    pub fn draw_birth(&mut self) -> Result<u64, AllocError>
+        ensures birth { IfOk result (λ birth. birth ≡ draw_birth self.old) }
+        ensures store { OnOk result (self.new ≡ with_birth self.old) }
+        ensures err { OnErr result (self.new ≡ self.old) }
+    {
+        if self.births > MOST_TAGS {
+            return Err(AllocError);
+        }
+        self.births += 1;
+        Ok(self.births)
+    }
+
+    /// Whether the birth was given out for a replica that is not here yet: it is that of the wish for the thing, or of a
+    /// Fill of it where it is not held.
+    pub fn is_pending(&self, file: FileId, birth: u64) -> bool
+        ensures { result ≡ is_pending self.now file birth }
+    {
+        self.is_wished(file, birth) || (!self.names.is_held(&file) && self.is_to_fill(file, birth))
+    }
+
+    /// Whether the wish for the thing has this birth.
+    fn is_wished(&self, file: FileId, birth: u64) -> bool
+        ensures { result ≡ is_with_birth (wish_at self.now file) birth }
+    {
+        match self.wishes.get(&file) {
+            Some(wish) => wish.birth == birth,
+            None => false,
+        }
+    }
+
+    /// Whether the Fill of the thing has this birth.
+    fn is_to_fill(&self, file: FileId, birth: u64) -> bool
+        ensures { result ≡ is_fill_at (fill_at self.now file) birth }
+    {
+        match self.intents.get(&IntentKey::Fill { file }) {
+            Some(intent) => is_fill_with(intent, birth),
+            None => false,
+        }
+    }
+
+    /// A replica of this birth begins, full or filling, with this place and these flags, no version and no edge. The wish
+    /// for the thing ends. Of a directory, the entries of its Patches are taken, and these end.
+    pub fn begin(
+        &mut self,
+        file: FileId,
+        birth: u64,
+        policy: Policy,
+        own: Own,
+        full: bool,
+    ) -> Result<(), AllocError>
+        ensures { OnOk result (self.new ≡ begin self.old file birth policy own full) }
+    {
+        let time = own.place.stamp.time;
+        self.names.begin(file, own, full)?;
+        self.names.raise(time);
+        let replica = Replica::new(self.allocator(), birth, policy);
+        self.replicas.add(file, replica)?;
+        self.wishes.take(&file);
+        self.take_patches(file)?;
+        Ok(())
+    }
+
+    /// The entries of a directory's Patches are taken, and these end.
+    fn take_patches(&mut self, dir: FileId) -> Result<(), AllocError>
+        ensures { OnOk result
+            (self.new ≡ take_patches self.old dir (patches_of dir self.old.intents)) }
+    {
+        let patches = self.patches_of(dir)?;
+        for key in patches.as_slice() {
+            self.take_patch(dir, key)?;
+        }
+        Ok(())
+    }
+
+    /// The keys of a directory's Patches, in the order in which these began.
+    fn patches_of(&self, dir: FileId) -> Result<Items<IntentKey>, AllocError>
+        ensures { IfOk result (λ keys. keys ≡ patches_of dir self.now.intents) }
+    {
+        let mut keys = Items::new(self.allocator());
+        for intent in self.intents.iter() {
+            push_patch(dir, intent, &mut keys)?;
+        }
+        Ok(keys)
+    }
+
+    /// The entry of a Patch is taken, and this ends.
+    fn take_patch(&mut self, dir: FileId, key: &IntentKey) -> Result<(), AllocError>
+        ensures { OnOk result (self.new ≡ take_patch self.old dir key.now) }
+    {
+        let Some(patch) = self.intents.take(key) else {
+            return Ok(());
+        };
+        self.take_told(dir, patch)
+    }
+
+    /// The entry of a Patch is taken.
+    fn take_told(&mut self, dir: FileId, patch: Intent) -> Result<(), AllocError>
+        ensures { OnOk result (self.new ≡ take_told self.old dir patch) }
+    {
+        match patch {
+            Intent::Patch { entry, .. } => {
+                self.take_entry(dir, entry)?;
+                Ok(())
+            }
+            _ => Ok(()),
+        }
+    }
+}
+
+/// Whether it is a Fill with this birth.
+fn is_fill_with(intent: &Intent, birth: u64) -> bool
+    ensures { result ≡ is_fill_with intent.now birth }
+{
+    match intent {
+        Intent::Fill { birth: to_fill, .. } => *to_fill == birth,
+        _ => false,
+    }
+}
+
+/// The key of an intention, where it is a Patch of this directory.
+fn push_patch(dir: FileId, intent: &Intent, keys: &mut Items<IntentKey>) -> Result<(), AllocError>
+    ensures { OnOk result (keys.new ≡ keys.old ++ patch_key dir intent.now) }
+{
+    match intent {
+        Intent::Patch { dir: to, entry, .. } => push_if_of(dir, to, entry.child, keys),
+        _ => Ok(()),
+    }
+}
+
+/// The key of a Patch of the second directory, where it is the first.
+fn push_if_of(
+    dir: FileId,
+    to: &FileId,
+    child: FileId,
+    keys: &mut Items<IntentKey>,
+) -> Result<(), AllocError>
+    ensures { OnOk result (keys.new ≡ keys.old ++ patch_key_if dir to.now child) }
+{
+    if to.compare(&dir).is_eq() {
+        keys.push(IntentKey::Patch { dir, child })?;
+    }
+    Ok(())
+}

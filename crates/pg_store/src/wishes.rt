@@ -1,0 +1,99 @@
+//! What clients asked for that is not held.
+
+ghost use Rattle.std.specs.Prelude.{◌≡◌, [], OnErr, OnOk, option_copied};
+ghost use Rattle.pg_store.specs.Wishes.{aim_wish, aimed_at, put_wish, wish_in, without_wish};
+
+use pg_base::{FileId, NodeId};
+use std::alloc::{AllocError, Global};
+use std::collections::BTreeMap;
+use std::marker::Model;
+
+/// A thing is to be fetched, since a client asked for it: the birth that its replica will have, and the server that is
+/// asked.
+#[derive(Clone, Copy, Debug, PartialEq, Eq)]
+pub struct Wish {
+    pub birth: u64,
+    pub target: NodeId,
+}
+
+impl Wish {
+    fn aim(&mut self, target: NodeId)
+        ensures { self.new ≡ aimed_at target self.old }
+    {
+        self.target = target;
+    }
+}
+
+/// The wishes of a server, at most one for each thing.
+#[derive(Debug, Drop)]
+pub struct Wishes {
+    alloc: Global,
+    by_file: BTreeMap<FileId, Wish>,
+}
+
+impl Model for Wishes {
+    ghost use Rattle.pg_store.specs.Wishes.{WishesValue};
+
+    ghost Value = { WishesValue };
+
+    ghost view = { λ w. w.by_file.entries };
+
+    ghost use Rattle.std.specs.List.Sorted.{IsStrictlySortedBy};
+    ghost use Rattle.std.specs.Map.{keys_of};
+    ghost use Rattle.pg_base.specs.Id.{file_cmp};
+
+    ghost invariant = { λ w. IsStrictlySortedBy file_cmp (keys_of w.by_file.entries) };
+}
+
+impl Wishes {
+    /// No wish. It takes no memory.
+    pub fn new(alloc: Global) -> Wishes
+        ensures { result ≡ [] }
+    {
+        Wishes {
+            alloc,
+            by_file: BTreeMap::new(alloc),
+        }
+    }
+
+    /// The wish for a thing.
+    pub fn get(&self, file: &FileId) -> Option<&Wish>
+        ensures { option_copied result ≡ wish_in self.now file.now }
+    {
+        self.by_file.get(file)
+    }
+
+    /// This is the wish for the thing from now on.
+    pub fn put(&mut self, file: FileId, wish: Wish) -> Result<(), AllocError>
+        ensures ok { OnOk result (self.new ≡ put_wish self.old file wish) }
+        ensures err { OnErr result (self.new ≡ self.old) }
+    {
+        self.by_file.insert(file, wish)?;
+        Ok(())
+    }
+
+    /// The wish for the thing ends, if there is one.
+    pub fn take(&mut self, file: &FileId) -> Option<Wish>
+        ensures taken { result ≡ wish_in self.old file.now }
+        ensures wishes { self.new ≡ without_wish self.old file.now }
+    {
+        self.by_file.remove(file)
+    }
+
+    /// The wish for the thing asks this server from now on, if there is one.
+    pub fn aim(&mut self, file: &FileId, target: NodeId)
+        ensures { self.new ≡ aim_wish self.old file.now target }
+    {
+        let Some(wish) = self.by_file.get_mut(file) else {
+            return;
+        };
+        wish.aim(target);
+    }
+
+    /// All wishes are lost.
+    pub fn clear(&mut self)
+        ensures { self.new ≡ [] }
+    {
+        self.by_file = BTreeMap::new(self.alloc);
+    }
+}

@@ -1,0 +1,46 @@
+-- What other laws say of every run, on which those of ticks and restarts rest.
+use Rattle.std.specs.Prelude.{ℕ, ◌≡◌, [], All, List, Some}
+use Rattle.pg_event.specs.declared.event.Event.{Event}
+use Rattle.pg_house.specs.Facts.{AreOrdered}
+use Rattle.pg_msg.specs.declared.message.Message.{Message}
+use Rattle.pg_msg.specs.declared.work.Work.{Work}
+use Rattle.pg_store.specs.declared.store.Store.{Store}
+use Rattle.pg_cells.specs.Done.{idle}
+use Rattle.pg_promises.specs.Whole.{IsWhole}
+use Rattle.pg_repair.specs.Beginning.{begin_end}
+use Rattle.pg_repair.specs.Requests.{request}
+use Rattle.pg_server.specs.Local.{without_wishes}
+use Rattle.pg_run.specs.Laws.{AtEach, HouseIsInOrder, names_after, store_after}
+
+-- entries are by child
+abbrev pub NamesAreOrdered : ℕ → Type 0
+NamesAreOrdered servers = (events : List Event)
+    → AtEach servers (λ s. AreOrdered (names_after servers events s))
+
+-- no intention ends or begins, where no place was replaced and no doubtful cell came
+abbrev pub StaysIntended : Store → Type 0
+StaysIntended a = (work : Work) → work.left ≡ [] → work.unsure ≡ [] → begin_end a work ≡ idle a work
+
+-- what an intention is about is here, so it has a message
+abbrev pub HaveRequests : Store → Type 0
+HaveRequests a = All (λ i. (m : Message) × (request a i ≡ Some m)) a.intents
+
+-- intentions are as what is held asks, also without wishes
+pub record IntentionsAreStill (servers : ℕ) : Type 0 where
+  pub still : (events : List Event)
+      → AtEach servers (λ s. StaysIntended (store_after servers events s))
+  pub still_without : (events : List Event)
+      → AtEach servers (λ s. StaysIntended (without_wishes (store_after servers events s)))
+  pub asked : (events : List Event)
+      → AtEach servers (λ s. HaveRequests (store_after servers events s))
+
+-- each server of a run is whole
+abbrev pub ServersAreWhole : ℕ → Type 0
+ServersAreWhole servers = (events : List Event)
+    → AtEach servers (λ s. IsWhole servers s (store_after servers events s))
+
+pub record TidinessIsGiven (servers : ℕ) : Type 0 where
+  pub order : HouseIsInOrder servers
+  pub ordered : NamesAreOrdered servers
+  pub intends : IntentionsAreStill servers
+  pub whole : ServersAreWhole servers
