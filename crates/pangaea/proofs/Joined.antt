@@ -4,7 +4,7 @@ use Rattle.pg_contents.specs.Together.{HoldBoth}
 use Rattle.pg_entries.specs.declared.entry.Entry.{Entry}
 use Rattle.pg_filled.specs.Filled.{FullPlaced}
 use Rattle.pg_flags.specs.Laws.{FlagsAreKnown}
-use Rattle.pg_flags.specs.Premises.{NextIdsAreAway, ThingsAreById}
+use Rattle.pg_flags.specs.Premises.{NextIdsAreAway}
 use Rattle.pg_gate.specs.Gate.{EdgesAreKept}
 use Rattle.pg_kept.specs.Histories.{HaveHistories}
 use Rattle.pg_kept.specs.Laws.{StandOn}
@@ -16,10 +16,12 @@ use Rattle.pg_quiet.specs.Given.{AgreementIsGiven, NamesAreWell, TreeIsGiven}
 use Rattle.pg_register.specs.Place.{root}
 use Rattle.pg_run.specs.Acknowledged.{AcknowledgedKeysAreHad}
 use Rattle.pg_run.specs.Births.{BirthsAreAlone, BirthsAreKnown, BirthsAreOfOneThing, GreaterBirthsReplaceEdges, LinksNameTheSender}
+use Rattle.pg_run.specs.Golds.{FullReplicasSeeGold, ReplicasNameGolds}
 use Rattle.pg_run.specs.Grown.{EventsGrow}
 use Rattle.pg_run.specs.Histories.{AncestryByVectors, CarriesHistory, ClockEndsFirst, MakesHistories, OneVersionAStamp, StateIsDetermined, StateIsItsHeads}
-use Rattle.pg_run.specs.Known.{CarriedIsKnown, FlagsAreOwn, PlacesHaveOwnStamps}
+use Rattle.pg_run.specs.Known.{CarriedIsKnown, FlagsHaveOwnNumbers, PlacesHaveOwnStamps}
 use Rattle.pg_run.specs.Laws.{HoldsWhatItTook, NamesMerge, QuietDirectoriesAreBroughtBack, QuietJoinedServersAgree, QuietNamesFormATree, QuietServersAgree, QuietThingsAreListedOnlyWhereTheyStand, ReturnsAreJustified, names_after}
+use Rattle.pg_run.specs.Run.{Taking}
 use Rattle.pg_run.specs.Ticks.{RestartsLoseWishes, TicksSendWhatIsOwed}
 use Rattle.pg_ticks.specs.Given.{IntentionsAreStill, TidinessIsGiven}
 use Rattle.pangaea.specs.Joined.{AreCited}
@@ -46,13 +48,16 @@ module _ (n : ℕ) (c : AreCited n) where
   away : NextIdsAreAway n
   away events s least most kind = (c.order.ids events s least most kind).away
 
-  by_id : ThingsAreById n
-  by_id events s least most = (c.order.by_id events s least most).things
-
   sound : FirstEffectsAreSound n
   sound events event s asked taken =
-      let whole = c.order.first events event (record { server = s; asked = asked }) taken in
-      record { of_dirs = whole.names.dirs; by_server = whole.names.sorted; last = whole.names.last }
+      let takes : Taking = record { server = s; asked = asked } in
+      let whole = c.order.first events event takes taken in
+      record {
+        of_dirs = whole.names.dirs;
+        by_server = whole.names.sorted;
+        last = whole.names.last;
+        ordered = c.order.ordered events event takes taken;
+      }
 
   unlisted : RootIsUnlisted n
   unlisted events s least most dir =
@@ -79,6 +84,12 @@ module _ (n : ℕ) (c : AreCited n) where
   own_stamps : PlacesHaveOwnStamps n
   own_stamps = c.names.own c.intents.order
 
+  pub golds : FullReplicasSeeGold n
+  golds = c.flags.golds births alone
+
+  pub named_golds : ReplicasNameGolds n
+  named_golds = c.flags.named c.intents.order
+
   stills : IntentionsAreStill n
   stills = record {
     still = λ events s least most. (c.intents.still events s least most).0;
@@ -90,6 +101,8 @@ module _ (n : ℕ) (c : AreCited n) where
   tidy = record {
     order = c.order.order;
     ordered = λ events s least most. (c.order.by_id events s least most).entries;
+    things = λ events s least most. (c.order.by_id events s least most).things;
+    golds = golds;
     intends = stills;
     whole = c.order.whole;
   }
@@ -139,14 +152,14 @@ module _ (n : ℕ) (c : AreCited n) where
     grow : EventsGrow n
     grow = c.edges.grow stand
 
-    flags : FlagsAreOwn n
-    flags = c.flags.own few both (c.edges.runs stand) c.order.first away
+    numbers : FlagsHaveOwnNumbers n
+    numbers = c.flags.numbers both grow c.order.first away
 
     flags_known : FlagsAreKnown n
-    flags_known = c.flags.known few both (c.edges.runs stand) c.order.first away
+    flags_known = c.flags.known both grow c.order.first away
 
     pub clock : ClockEndsFirst n
-    clock = c.contents.clock few both (c.flags.first few both (c.edges.runs stand) c.order.first away by_id)
+    clock = c.contents.clock few both
 
     placed : FullPlaced n
     placed = c.edges.placed had grow
@@ -171,7 +184,7 @@ module _ (n : ℕ) (c : AreCited n) where
     on = record {
       known = carried_known;
       stamps = own_stamps;
-      flags = flags;
+      flags = numbers;
       intends = c.intents.order;
       ids = new_ids;
     }
@@ -195,7 +208,7 @@ module _ (n : ℕ) (c : AreCited n) where
       acknowledged = had;
       known = carried_known;
       stamps = own_stamps;
-      flags = flags;
+      flags = numbers;
       whole = c.order.whole;
       histories = histories;
       heads = heads;

@@ -1,25 +1,26 @@
 -- The laws of runs, as they are cited, each with what it stands on.
 use Rattle.std.specs.Prelude.{ℕ, ◌<◌, ◌^◌}
-use Rattle.pg_contents.specs.Together.{HoldBoth, OwnFlagsAreFirst}
+use Rattle.pg_contents.specs.Together.{HoldBoth}
 use Rattle.pg_filled.specs.Filled.{FullPlaced}
 use Rattle.pg_flags.specs.Laws.{FlagsAreKnown}
 use Rattle.pg_flags.specs.Premises as flagging
-use Rattle.pg_flags.specs.Premises.{NextIdsAreAway, ThingsAreById}
+use Rattle.pg_flags.specs.Premises.{NextIdsAreAway}
 use Rattle.pg_gate.specs.Gate.{EdgesAreKept}
 use Rattle.pg_intends.specs.Laws.{IntentionsHaveRequests, NothingIsLeftToDo}
 use Rattle.pg_kept.specs.Laws.{RunsStayWhole, StandOn}
 use Rattle.pg_listed.specs.Laws.{FirstEffectsAreSound, ListingsAreKept, RootIsUnlisted}
 use Rattle.pg_naming.specs.Merged.{NamesStandOn}
-use Rattle.pg_order.specs.Laws.{AllIsNamed, BirthsAreGiven, FirstEffectsAreWhole, NamesAreById, NamesAreDistinct, NextIdsAreNew, ServersAreWhole, ThingsArePlacedWell}
+use Rattle.pg_order.specs.Laws.{AllIsNamed, BirthsAreGiven, FirstEffectsAreOrdered, FirstEffectsAreWhole, NamesAreById, NamesAreDistinct, NextIdsAreNew, ServersAreWhole, ThingsArePlacedWell}
 use Rattle.pg_places.specs.Laws.{OnePlaceAStamp, PlacesWereMade}
 use Rattle.pg_quiet.specs.Given.{AgreementIsGiven, TreeIsGiven}
 use Rattle.pg_run.specs.Acknowledged.{AcknowledgedKeysAreHad}
 use Rattle.pg_run.specs.Away.{DirectoriesAreTold, WhatBeginsIsAway}
 use Rattle.pg_run.specs.Births.{BirthsAreAlone, BirthsAreKnown, BirthsAreOfOneThing, GreaterBirthsReplaceEdges, LinksNameTheSender}
+use Rattle.pg_run.specs.Golds.{FullReplicasSeeGold, ReplicasNameGolds}
 use Rattle.pg_run.specs.Grown.{EventsGrow, RunsGrow}
 use Rattle.pg_run.specs.Histories.{AncestryByVectors, CarriesHistory, ClockEndsFirst, MakesHistories, OneVersionAStamp, StateIsDetermined, StateIsItsHeads}
 use Rattle.pg_run.specs.Intending.{IntentionsAreInOrder}
-use Rattle.pg_run.specs.Known.{CarriedIsKnown, FlagsAreOwn, PlacesHaveOwnStamps}
+use Rattle.pg_run.specs.Known.{CarriedIsKnown, FlagsHaveOwnNumbers, PlacesHaveOwnStamps}
 use Rattle.pg_run.specs.Laws.{HoldsWhatItTook, HouseIsInOrder, NamesMerge, QuietDirectoriesAreBroughtBack, QuietJoinedServersAgree, QuietNamesFormATree, QuietServersAgree, QuietThingsAreListedOnlyWhereTheyStand, ReturnsAreJustified}
 use Rattle.pg_run.specs.Ticks.{RestartsLoseWishes, TicksSendWhatIsOwed}
 use Rattle.pg_ticks.specs.Given.{TidinessIsGiven}
@@ -29,6 +30,7 @@ pub record OrderIsCited (servers : ℕ) : Type 0 where
   pub order : HouseIsInOrder servers
   pub whole : ServersAreWhole servers
   pub first : FirstEffectsAreWhole servers
+  pub ordered : FirstEffectsAreOrdered servers
   pub by_id : NamesAreById servers
   pub named : AllIsNamed servers
   pub placed : ThingsArePlacedWell servers
@@ -53,8 +55,7 @@ pub record ContentsAreCited (servers : ℕ) : Type 0 where
   pub one : servers < 2 ^ 32 → HoldBoth servers → OneVersionAStamp servers
   pub ancestry : servers < 2 ^ 32 → HoldBoth servers → AncestryByVectors servers
   pub carried : servers < 2 ^ 32 → HoldBoth servers → CarriesHistory servers
-  pub clock : servers < 2 ^ 32 → HoldBoth servers → OwnFlagsAreFirst servers
-      → ClockEndsFirst servers
+  pub clock : servers < 2 ^ 32 → HoldBoth servers → ClockEndsFirst servers
 
 -- of what edges keep, and of births
 pub record EdgesAreCited (servers : ℕ) : Type 0 where
@@ -69,15 +70,14 @@ pub record EdgesAreCited (servers : ℕ) : Type 0 where
   pub linked : IntentionsAreInOrder servers → LinksNameTheSender servers
   pub known : IntentionsAreInOrder servers → BirthsAreKnown servers
 
--- of flags
+-- of flags, and of gold replicas
 pub record FlagsAreCited (servers : ℕ) : Type 0 where
-  pub own : servers < 2 ^ 32 → HoldBoth servers → RunsGrow servers
-      → flagging.FirstEffectsAreWhole servers → NextIdsAreAway servers → FlagsAreOwn servers
-  pub known : servers < 2 ^ 32 → HoldBoth servers → RunsGrow servers
-      → flagging.FirstEffectsAreWhole servers → NextIdsAreAway servers → FlagsAreKnown servers
-  pub first : servers < 2 ^ 32 → HoldBoth servers → RunsGrow servers
-      → flagging.FirstEffectsAreWhole servers → NextIdsAreAway servers → ThingsAreById servers
-      → OwnFlagsAreFirst servers
+  pub numbers : HoldBoth servers → EventsGrow servers → flagging.FirstEffectsAreWhole servers
+      → NextIdsAreAway servers → FlagsHaveOwnNumbers servers
+  pub known : HoldBoth servers → EventsGrow servers → flagging.FirstEffectsAreWhole servers
+      → NextIdsAreAway servers → FlagsAreKnown servers
+  pub golds : BirthsAreKnown servers → BirthsAreAlone servers → FullReplicasSeeGold servers
+  pub named : IntentionsAreInOrder servers → ReplicasNameGolds servers
 
 -- of what was taken of names, of ticks and of listings
 pub record NamesAreCited (servers : ℕ) : Type 0 where

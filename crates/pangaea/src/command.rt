@@ -9,6 +9,7 @@ ghost use Rattle.pg_places.specs.Laws.{OnePlaceAStamp};
 ghost use Rattle.pg_run.specs.Acknowledged.{AcknowledgedKeysAreHad};
 ghost use Rattle.pg_run.specs.Births.{BirthsAreAlone, BirthsAreKnown, BirthsAreOfOneThing, GreaterBirthsReplaceEdges, LinksNameTheSender};
 ghost use Rattle.pg_run.specs.Came.{TakesWhatCame};
+ghost use Rattle.pg_run.specs.Golds.{FullReplicasSeeGold, ReplicasNameGolds};
 ghost use Rattle.pg_run.specs.Histories.{AncestryByVectors, CarriesHistory, ClockEndsFirst, MakesHistories, OneVersionAStamp, StateIsDetermined, StateIsItsHeads};
 ghost use Rattle.pg_run.specs.Intending.{IntentionsAreInOrder};
 ghost use Rattle.pg_run.specs.Laws.{HoldsWhatItTook, HouseIsInOrder, NamesMerge, QuietDirectoriesAreBroughtBack, QuietIsTold, QuietJoinedServersAgree, QuietNamesFormATree, QuietServersAgree, QuietThingsAreListedOnlyWhereTheyStand, ReturnsAreJustified};
@@ -121,12 +122,17 @@ pub fn run<S: Source, K: Sink>(
     ensures clock { (servers : ℕ) → servers < 2 ^ 32 → ClockEndsFirst servers }
 
     // Behind every event names are as the house rules ask, and each server intends what it is to. Each
-    // line is events of the run, those of a settling among them. A tick sends what is owed, and is
-    // refused exactly at the clock's end.
+    // line is events of the run, those of a settling among them. A tick sends what is owed and the walk
+    // that its word chooses, and is refused exactly at the clock's end.
     ensures order { (servers : ℕ) → HouseIsInOrder servers }
     ensures events { (servers : ℕ) → LinesAreEvents servers }
     ensures intends { (servers : ℕ) → IntentionsAreInOrder servers }
     ensures owed { (servers : ℕ) → TicksSendWhatIsOwed servers }
+
+    // After every event each full replica sees a live gold. A gold replica names with an edge each other
+    // live gold that it sees, or seeks one; any other replica names one, or seeks one.
+    ensures golds { (servers : ℕ) → FullReplicasSeeGold servers }
+    ensures named { (servers : ℕ) → ReplicasNameGolds servers }
 
     // A server has one birth of a thing at a time, which was given out for nothing else, and whoever
     // names one names one that was given out. The greater has the edge; who accepts a message that

@@ -5,6 +5,7 @@ ghost use Rattle.pg_places.specs.Laws.{OnePlaceAStamp};
 ghost use Rattle.pg_run.specs.Acknowledged.{AcknowledgedKeysAreHad};
 ghost use Rattle.pg_run.specs.Births.{BirthsAreAlone, BirthsAreKnown, BirthsAreOfOneThing, GreaterBirthsReplaceEdges, LinksNameTheSender};
 ghost use Rattle.pg_run.specs.Came.{TakesWhatCame};
+ghost use Rattle.pg_run.specs.Golds.{FullReplicasSeeGold, ReplicasNameGolds};
 ghost use Rattle.pg_run.specs.Histories.{AncestryByVectors, CarriesHistory, ClockEndsFirst, MakesHistories, OneVersionAStamp, StateIsDetermined, StateIsItsHeads};
 ghost use Rattle.pg_run.specs.Intending.{IntentionsAreInOrder};
 ghost use Rattle.pg_run.specs.Laws.{HoldsWhatItTook, HouseIsInOrder, NamesMerge, QuietDirectoriesAreBroughtBack, QuietIsTold, QuietJoinedServersAgree, QuietNamesFormATree, QuietServersAgree, QuietThingsAreListedOnlyWhereTheyStand, ReturnsAreJustified};
@@ -16,6 +17,7 @@ use pg_births::{births_are_alone, births_are_known, edges_follow_births};
 use pg_contents::{clocks_end_first, contents_are_states, runs_make_histories, states_are_heads};
 use pg_filled::full_replicas_have_places;
 use pg_flags::flags_are_own;
+use pg_golds::{golds_are_named, golds_are_seen};
 use pg_intends::{intentions_are_in_order, nothing_is_left_to_do};
 use pg_kept::{runs_grow, runs_keep_edges};
 use pg_known::what_is_carried_is_known;
@@ -55,6 +57,8 @@ fn laws_are_cited()
     births_are_known();
     edges_follow_births();
     flags_are_own();
+    golds_are_seen();
+    golds_are_named();
     one_place_a_stamp();
     places_were_made();
     what_is_carried_is_known();
@@ -87,10 +91,15 @@ pub fn laws_of_runs()
     ensures clock { (servers : ℕ) → servers < 2 ^ 32 → ClockEndsFirst servers }
 
     // Behind every event names are as the house rules ask, and each server intends what it is to. A tick
-    // sends what is owed, and is refused exactly at the clock's end.
+    // sends what is owed and the walk that its word chooses, and is refused exactly at the clock's end.
     ensures order { (servers : ℕ) → HouseIsInOrder servers }
     ensures intends { (servers : ℕ) → IntentionsAreInOrder servers }
     ensures owed { (servers : ℕ) → TicksSendWhatIsOwed servers }
+
+    // After every event each full replica sees a live gold. A gold replica names with an edge each other
+    // live gold that it sees, or seeks one; any other replica names one, or seeks one.
+    ensures golds { (servers : ℕ) → FullReplicasSeeGold servers }
+    ensures named { (servers : ℕ) → ReplicasNameGolds servers }
 
     // A server has one birth of a thing at a time, which was given out for nothing else, and whoever
     // names one names one that was given out. The greater has the edge; who accepts a message that

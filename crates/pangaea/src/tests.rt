@@ -258,6 +258,101 @@ fn writes_the_journal_of_the_run(rt: HostRuntime) -> Result<(), Fail> {
     Ok(())
 }
 
+/// Of three gold replicas the third seeks the second; a walk comes back to where it began; and all are bronze at once, and so
+/// gold again.
+#[test]
+fn gold_replicas_are_linked(rt: HostRuntime) -> Result<(), Fail> {
+    let rows: [(&[u8], &[u8]); 3] = [
+        (
+            b"pangaea 1 3\n\
+              call 1 10 create /x last\n\
+              settle 9 20\n\
+              call 2 20 read /x 0 1\n\
+              settle 9 30\n\
+              call 3 30 read /x 0 1\n\
+              settle 9 40\n\
+              call 3 41 stat f1.1\n",
+            b"call 1 create -> made f1.1\n\
+              settle quiet\n\
+              call 2 read -> refused 3 NotYet f1.1\n\
+              settle quiet\n\
+              call 3 read -> refused 3 NotYet f1.1\n\
+              settle quiet\n\
+              call 3 stat -> stat f1.1 10@1 d0.0 x live gold golds 3 heads 1 length 0 edges 2\n\
+              end quiet\n",
+        ),
+        (
+            b"pangaea 1 3\n\
+              call 1 10 create /x last\n\
+              settle 9 20\n\
+              call 2 20 read /x 0 1\n\
+              settle 9 30\n\
+              call 3 30 read /x 0 1\n\
+              settle 9 40\n\
+              trace full\n\
+              tick 3 50 1\n\
+              deliver 1\n\
+              deliver 1\n\
+              deliver 1\n",
+            b"call 1 create -> made f1.1\n\
+              settle quiet\n\
+              call 2 read -> refused 3 NotYet f1.1\n\
+              settle quiet\n\
+              call 3 read -> refused 3 NotYet f1.1\n\
+              settle quiet\n\
+              event 9 tick 3 50 1\n\
+              tick 3 -> done\n\
+              sent 3 2 walk f1.1 -\n\
+              event 10 deliver 1\n\
+              sent 2 1 walk f1.1 -\n\
+              event 11 deliver 1\n\
+              sent 1 3 meet f1.1 -\n\
+              event 12 deliver 1\n\
+              end quiet\n",
+        ),
+        (
+            b"pangaea 1 2\n\
+              call 1 10 create /x last\n\
+              settle 9 20\n\
+              call 1 20 demote /x\n\
+              call 2 20 read /x 0 1\n\
+              settle 9 30\n\
+              call 1 40 demote f1.1\n\
+              call 2 40 demote f1.1\n\
+              show f1.1\n\
+              settle 9 50\n\
+              show f1.1\n\
+              call 1 60 demote f1.1\n\
+              settle 9 70\n\
+              call 2 71 demote f1.1\n\
+              call 2 72 stat f1.1\n",
+            b"call 1 create -> made f1.1\n\
+              settle quiet\n\
+              call 1 demote -> refused 15 LastGold\n\
+              call 2 read -> refused 3 NotYet f1.1\n\
+              settle quiet\n\
+              call 1 demote -> done\n\
+              call 2 demote -> done\n\
+              at 1 f1.1 bronze full place 10@1 d0.0 x live heads 11@1 shown 0 -\n\
+              at 2 f1.1 bronze full place 10@1 d0.0 x live heads 11@1 shown 0 -\n\
+              settle quiet\n\
+              at 1 f1.1 gold full place 10@1 d0.0 x live heads 11@1 shown 0 -\n\
+              at 2 f1.1 gold full place 10@1 d0.0 x live heads 11@1 shown 0 -\n\
+              call 1 demote -> done\n\
+              settle quiet\n\
+              call 2 demote -> refused 15 LastGold\n\
+              call 2 stat -> stat f1.1 10@1 d0.0 x live gold golds 1 heads 1 length 0 edges 1\n\
+              end quiet\n",
+        ),
+    ];
+    for (schedule, journal) in rows {
+        let ended = outcome(rt.alloc(), &["replay"], schedule, &[], &[])?;
+        assert_eq!(rt; ended.status, Status::Done);
+        assert_eq!(rt; ended.written.as_slice(), journal);
+    }
+    Ok(())
+}
+
 #[test]
 fn says_why_it_ends(rt: HostRuntime) -> Result<(), Fail> {
     let good = b"pangaea 1 1\ncall 1 1 mkdir /a\n".as_slice();

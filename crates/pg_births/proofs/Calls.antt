@@ -29,11 +29,13 @@ use Rattle.pg_store.specs.declared.wishes.Wish.{Wish}
 use Rattle.pg_store.specs.Beginning.{begin}
 use Rattle.pg_store.specs.Births.{draw_birth, fill_at, wish_at, with_birth}
 use Rattle.pg_store.specs.Store.{is_full, is_held}
-use Rattle.pg_cells.specs.Done.{idle}
-use Rattle.pg_cells.specs.Making.{own_next}
+use Rattle.pg_cells.specs.Done.{Done, idle}
+use Rattle.pg_cells.specs.Making.{lower_flag, own_next}
 use Rattle.pg_calls.specs.Answer.{Answer, answer, answered, replied, told}
 use Rattle.pg_calls.specs.Asking.{fresh_wish, standing, wish_by}
 use Rattle.pg_calls.specs.Bodies.{change_file, shown_part, when_fit}
+use Rattle.pg_cells.specs.Golds.{is_gold}
+use Rattle.pg_calls.specs.Demoting.{demoted_at, lowered}
 use Rattle.pg_calls.specs.Looks.{counts, listing, page, stat_of}
 use Rattle.pg_calls.specs.Calls.{do_call}
 use Rattle.pg_calls.specs.Checks.{dir_at, empty_dir_at, file_at, in_time, move_of, new_name, target_at}
@@ -43,6 +45,7 @@ use Rattle.pg_calls.specs.declared.checks.Move.{Move}
 use Rattle.pg_calls.specs.declared.checks.NewName.{NewName}
 use Rattle.pg_calls.specs.Refused.{OnlyAsks}
 use Rattle.pg_calls.proofs.Refused.{refused_only_asks}
+use Rattle.pg_promises.proofs.Choices.{chosen}
 use Rattle.pg_run.specs.Intending.{FillsStand, IsFilling}
 use Rattle.pg_births.specs.Premises.{IsFree}
 use Rattle.pg_births.proofs.Begins.{made_goes, wish_goes}
@@ -189,7 +192,10 @@ module _ (a : Store) (fills : FillsStand a) (free : (kind : Kind) → IsFree a (
       goes_on (empty_dir_at a path) (λ (dir : FileId). answer (taken_away a work dir) reply.Done) (may_refuse (call.Rmdir path))
       (λ dir is m. stays_moves (place_stays a dir (dead_place a work.now dir)))
   call_moves (call.Forget id) = looks Timed (λ found. reply.Done) (may_refuse (call.Forget id))
-  call_moves (call.Demote target) = looks Timed (λ found. reply.Done) (may_refuse (call.Demote target))
+  call_moves (call.Demote target) =
+      goes_on (demoted_at a target) (λ (file : FileId). answer (lowered a file work) reply.Done) (may_refuse (call.Demote target))
+      (λ file is m. chosen (λ (d : Done). Moves a d.store) (is_gold a file) (lower_flag a file work) (idle a work)
+      (stays_moves (flag_stays a file (own_next a file false))) (moves_itself a))
   call_moves (call.Drop target) = looks Timed (λ found. reply.Done) (may_refuse (call.Drop target))
   call_moves (call.Giveup view server) = looks Timed (λ found. reply.Done) (may_refuse (call.Giveup view server))
   call_moves call.Status = looks Timed (λ found. reply.Status (counts a)) (may_refuse call.Status)

@@ -168,9 +168,16 @@ module _ (a : Store) (k : IsAlone a) (work : Work) (ends : Ends) (current : is_c
       let P : Ends → Type 0 = λ z. is_current a work.from z ≡ true → After (grant a x g work).store z in
       subst P (same_ends x ends e) (λ cur. grant_listed a x work cur k g) current
 
+  here_by : (x : Ends) → ◌≡◌ {A = Option Ends} (Some x) (Some ends) → After (accept a x manner.Link work).store ends
+  here_by x e =
+      let P : Ends → Type 0 = λ z. is_current a work.from z ≡ true → After (accept a x manner.Link work).store z in
+      subst P (same_ends x ends e) (λ cur. accept_listed a x work cur) current
+
   pub received_lists : (m : Message) → linking m ≡ Some ends → After (receive a m work).store ends
   received_lists (message.Cell x tag c) e = cell_by x tag c (fits x.file c) refl e
   received_lists (message.Grant x g) e = grant_by x g e
+  received_lists (message.Here x) e = here_by x e
+  received_lists (message.Meet x) e = here_by x e
   received_lists m e = no_ends e (receive a m work).store
 
 -- behind the whole event

@@ -1,8 +1,9 @@
 -- What is said of the ends of edges is said of them behind each change.
-use Rattle.std.proofs.Common.{ℕ, ◌≡◌, Bool, true, false, cond, List, [], ◌∷◌, filter, Option, None, Some, refl, sym, ap, subst, ◌∙◌, Less, Equal, Greater}
+use Rattle.std.proofs.Common.{ℕ, ◌≡◌, Bool, true, false, cond, List, [], ◌∷◌, filter, Option, None, Some, All, refl, sym, ap, subst, ◌∙◌, Less, Equal, Greater}
 use Rattle.std.specs.declared.cmp.Ordering.{Ordering}
 use Rattle.std.specs.Ordering.{match_ordering, nat_cmp}
 use Rattle.std.specs.Option.{option_map}
+use Rattle.std.proofs.lemmas.List.Elements.{All-cons, All-nil}
 use Rattle.pg_base.specs.declared.id.FileId.{FileId}
 use Rattle.pg_base.specs.declared.policy.Policy.{Policy}
 use Rattle.pg_base.specs.Id.{file_cmp, is_same_file}
@@ -32,6 +33,11 @@ abbrev pub SaysEnds : (FileId → ℕ → ℕ → Type 0) → Store → Type 0
 SaysEnds P a = (file : FileId) (n : ℕ) (es : List (ℕ × ℕ)) → shape_at a file ≡ Some (n, es) → AllEnds P file es
 
 module _ (P : FileId → ℕ → ℕ → Type 0) where
+  -- of a list of edges
+  pub edges_all : (f : FileId) (es : List Edge) → AllEnds P f (ends es) → All (λ (e : Edge). P f e.peer e.birth) es
+  edges_all f [] all = All-nil (λ (e : Edge). P f e.peer e.birth)
+  edges_all f (e ∷ es) all = All-cons (λ (x : Edge). P f x.peer x.birth) e es all.0 (edges_all f es all.1)
+
   pub ends_stay : {a b : Store} → Stays a b → SaysEnds P a → SaysEnds P b
   ends_stay s k file n es there = k file n es (sym (s.shapes file) ∙ there)
 

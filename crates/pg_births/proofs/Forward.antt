@@ -7,26 +7,31 @@ use Rattle.pg_intent.specs.declared.intent.Intent.{Intent}
 use Rattle.pg_intent.specs.declared.intent.Intent.TheVariants as intent
 use Rattle.pg_intent.specs.declared.key.IntentKey.TheVariants as intent_key
 use Rattle.pg_intent.specs.Intents.{begun_on}
+use Rattle.pg_intent.proofs.Found.{aimed_found}
 use Rattle.pg_msg.specs.declared.work.Slot.{Slot}
 use Rattle.pg_msg.specs.declared.work.Touched.{Touched}
 use Rattle.pg_msg.specs.declared.work.Work.{Work}
+use Rattle.pg_register.specs.declared.flag.Flag.{Flag}
 use Rattle.pg_house.specs.House.{house}
 use Rattle.pg_house.specs.Work.{state_of}
 use Rattle.pg_store.specs.declared.store.Store.{Store}
 use Rattle.pg_store.specs.declared.wishes.Wish.{Wish}
 use Rattle.pg_store.specs.Births.{birth_of, fill_at, wish_at, with_wishes}
 use Rattle.pg_store.specs.Servers.{first_target}
-use Rattle.pg_store.specs.Store.{is_held, touch, with_names}
+use Rattle.pg_store.specs.Store.{is_held, is_newer_flag, put_flag, take_flag, touch, with_names}
 use Rattle.pg_store.specs.Wishes.{without_wish}
 use Rattle.pg_store.proofs.Wanted.{wish_behind}
 use Rattle.pg_store.proofs.Wishing.{fill_behind}
 use Rattle.pg_cells.specs.Done.{Done, idle}
-use Rattle.pg_cells.specs.Settling.{settle, touch_all}
+use Rattle.pg_cells.specs.Making.{own_next}
+use Rattle.pg_cells.specs.Settling.{rules, settle, touch_all}
+use Rattle.pg_cells.proofs.Settled.{settle_keeps}
 use Rattle.pg_repair.specs.Beginning.{begin_end, end_others}
 use Rattle.pg_repair.specs.Confirms.{begin_confirm, confirm_of, is_doubtful}
 use Rattle.pg_repair.specs.Fills.{begin_fill, begin_fills, fill_of, files_to_fill, to_fill, with_fill_birth, wished_birth, without_wished}
 use Rattle.pg_repair.specs.Intending.{begin_intent, each, in_order}
 use Rattle.pg_repair.specs.Patches.{begin_patch, begin_patches, patch_of}
+use Rattle.pg_graph.specs.Seeks.{aim_seek, begin_seek, begin_seeks, has_seek, seek_again, seek_target, to_seek, was_linked}
 use Rattle.pg_repair.proofs.Standing.{begun_other}
 use Rattle.pg_promises.proofs.Choices.{chosen}
 use Rattle.pg_births.proofs.Has.{IsFilled, IsWished}
@@ -50,10 +55,19 @@ module _ (f : FileId) (n : ℕ) where
   touches_wish [] a = refl
   touches_wish (t ∷ ts) a = touches_wish ts (touch a t.file t.key)
 
-  pub settle_wish : (a : Store) (work : Work) → IsWished a f n → IsWished (settle a work).store f n
-  settle_wish a work k =
+  rules_wish : (a : Store) (work : Work) → IsWished a f n → IsWished (rules a work).store f n
+  rules_wish a work k =
       let st = house work.now (state_of a.names work) in
       (k.0, touches_wish (drop (length work.touched) st.work.touched) (with_names a st.names) ∙ k.1, k.2)
+
+  flag_wish : (a : Store) (file : FileId) (flag : Flag) → IsWished a f n → IsWished (take_flag a file flag) f n
+  flag_wish a file flag k =
+      chosen (λ (b : Store). IsWished b f n) (is_newer_flag a file flag) (put_flag a file flag) a k k
+
+  pub settle_wish : (a : Store) (work : Work) → IsWished a f n → IsWished (settle a work).store f n
+  settle_wish a work k =
+      settle_keeps (λ (b : Store) (w : Work). IsWished b f n) rules_wish
+      (λ b file w is h. flag_wish b file (own_next b file true) h) a work k
 
   -- ---- a Fill begins
 
@@ -139,6 +153,15 @@ module _ (f : FileId) (n : ℕ) where
       chosen (λ (d : Done). Comes d.store f n) (is_doubtful s slot.dir slot.child) (begin_intent s i w) (idle s w)
       (same_comes s (begin_intent s i w).store refl refl (begun_other s i w (intent_key.Fill f) refl) k) k
 
+  seek_comes : (s : Store) (g : FileId) (w : Work) → Comes s f n → Comes (begin_seek s g w).store f n
+  seek_comes s g w k =
+      let i = intent.Seek g (seek_target s g) in
+      let again = aim_seek s g in
+      chosen (λ (d : Done). Comes d.store f n) (has_seek s g) (idle (seek_again s g w) w) (begin_intent s i w)
+      (chosen (λ (b : Store). Comes b f n) (was_linked w.linked g) again s
+      (same_comes s again refl refl (aimed_found s.intents (intent_key.Seek g) (seek_target s g) (intent_key.Fill f)) k) k)
+      (same_comes s (begin_intent s i w).store refl refl (begun_other s i w (intent_key.Fill f) refl) k)
+
   each_comes : {A : Type 0} (step : Store → A → Work → Done) → ((s : Store) (x : A) (w : Work) → Comes s f n → Comes (step s x w).store f n)
       → (xs : List A) (s : Store) (w : Work) → Comes s f n → Comes (each step s xs w).store f n
   each_comes step one [] s w k = k
@@ -151,6 +174,8 @@ module _ (f : FileId) (n : ℕ) where
       let a = end_others s files in
       let p = begin_patches a w in
       let q = begin_fills p.store (to_fill s.names) p.work in
-      each_comes begin_confirm confirm_comes (in_order q.work.unsure) q.store q.work
+      let r = begin_seeks q.store (to_seek s) q.work in
+      each_comes begin_confirm confirm_comes (in_order r.work.unsure) r.store r.work
+      (each_comes begin_seek seek_comes (to_seek s) q.store q.work
       (each_comes begin_fill fill_comes (to_fill s.names) p.store p.work
-      (each_comes begin_patch patch_comes (in_order w.left) a w (inl k)))
+      (each_comes begin_patch patch_comes (in_order w.left) a w (inl k))))

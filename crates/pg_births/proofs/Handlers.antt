@@ -1,7 +1,8 @@
 -- What each message does to births and edges.
-use Rattle.std.proofs.Common.{ℕ, ◌≡◌, ◌&&◌, Bool, true, false, cond, not, List, [], ◌∷◌, refl, ◌∙◌}
+use Rattle.std.proofs.Common.{ℕ, ◌≡◌, ◌==◌, ◌&&◌, Bool, true, false, cond, not, List, [], ◌∷◌, refl, ◌∙◌}
 use Rattle.pg_base.specs.declared.id.FileId.{FileId}
 use Rattle.pg_base.specs.declared.stamp.Stamp.{Stamp}
+use Rattle.pg_edges.specs.declared.edge.Edge.{Edge}
 use Rattle.pg_entries.specs.declared.cell.Cell.{Cell}
 use Rattle.pg_entries.specs.declared.cell.Cell.TheVariants as cells
 use Rattle.pg_entries.specs.declared.entry.Entry.{Entry}
@@ -37,7 +38,9 @@ use Rattle.pg_repair.specs.Fetching.{answered_fetch, fetch}
 use Rattle.pg_repair.specs.Filling.{few_golds, fill, full, live_golds}
 use Rattle.pg_repair.specs.Granting.{aim_fill, begin_granted, begun_by, fill_asks, gone, grant, granted_own, no_grant, turn_wish, wish_asks}
 use Rattle.pg_repair.specs.NoneHere.{asking_key, does_ask, none_here}
+use Rattle.pg_graph.specs.Seeking.{answered_seek, seek}
 use Rattle.pg_repair.specs.Telling.{is_told, tell, tell_ok, told}
+use Rattle.pg_graph.specs.Walks.{goes_on, meet_origin, onward, walk, walk_on, walked}
 use Rattle.pg_server.specs.Local.{receive}
 use Rattle.std.specs.Prelude.{nat_lt}
 use Rattle.pg_promises.proofs.Choices.{chosen, decided}
@@ -65,6 +68,37 @@ module _ (a : Store) where
   accept_moves ends work =
       met_moves ends.file work.from ends.sender (has_birth a ends.file ends.receiver) (knows_later a ends.file work.from ends.sender)
       (idle a (with_gone a ends manner.Link work)) work (moves_itself a)
+
+  -- a message that links nobody
+  asked_moves : (ends : Ends) (work : Work) → To (accept a ends manner.Ask work)
+  asked_moves ends work =
+      chosen To (has_birth a ends.file ends.receiver)
+      (cond (knows_later a ends.file work.from ends.sender) (idle a work) (idle a work)) (idle a (with_gone a ends manner.Ask work))
+      (chosen To (knows_later a ends.file work.from ends.sender) (idle a work) (idle a work) (moves_itself a) (moves_itself a))
+      (moves_itself a)
+
+  -- ---- who seeks, and who walks
+
+  pub seek_moves : (file : FileId) (birth : ℕ) (work : Work) → To (seek a file birth work)
+  seek_moves file birth work =
+      let linked = answered_seek file birth (link_peer a file work.from birth work) in
+      chosen To (is_held a file)
+      (cond (knows_later a file work.from birth) (idle a work) linked) (idle a (reply a (message.NoneHere ask.Seek file file) work))
+      (chosen To (knows_later a file work.from birth) (idle a work) linked (moves_itself a) (link_moves a file work.from birth))
+      (moves_itself a)
+
+  walked_moves : (ends : Ends) (origin birth hops word : ℕ) (es : List Edge) (work : Work) → To (walked a ends origin birth hops word es work)
+  walked_moves ends origin birth hops word es work =
+      chosen To (goes_on hops es) (idle a (walk_on a ends.file origin birth hops word es work)) (meet_origin a ends.file origin birth work)
+      (moves_itself a) (link_moves a ends.file origin birth)
+
+  pub walk_moves : (ends : Ends) (origin birth hops word : ℕ) (work : Work) → To (walk a ends origin birth hops word work)
+  walk_moves ends origin birth hops word work =
+      let es = onward a ends.file work.from origin in
+      let on = walked a ends origin birth hops word es work in
+      chosen To (is_accepted a work.from manner.Ask ends) (cond (origin == a.names.server) (idle a work) on) (accept a ends manner.Ask work)
+      (chosen To (origin == a.names.server) (idle a work) on (moves_itself a) (walked_moves ends origin birth hops word es work))
+      (asked_moves ends work)
 
   -- ---- cells
 
@@ -210,8 +244,8 @@ module _ (a : Store) where
   received_moves (message.Grant ends g) work = grant_moves ends g work
   received_moves (message.NoGrant file birth) work = no_grant_moves file birth work
   received_moves (message.Full ends) work = full_moves ends work
-  received_moves (message.Seek file birth) work = moves_itself a
-  received_moves (message.Here ends) work = moves_itself a
+  received_moves (message.Seek file birth) work = seek_moves file birth work
+  received_moves (message.Here ends) work = accept_moves ends work
   received_moves (message.NoneHere what file child) work = none_here_moves what file child work
   received_moves (message.Gone file birth) work = unlink_moves a file work.from birth
   received_moves (message.Bye ends) work = moves_itself a
@@ -223,5 +257,5 @@ module _ (a : Store) where
   received_moves (message.Leave ends stamp) work = moves_itself a
   received_moves (message.LeaveOk ends stamp) work = moves_itself a
   received_moves (message.Invite ends) work = moves_itself a
-  received_moves (message.Walk ends origin birth hops word) work = moves_itself a
-  received_moves (message.Meet ends) work = moves_itself a
+  received_moves (message.Walk ends origin birth hops word) work = walk_moves ends origin birth hops word work
+  received_moves (message.Meet ends) work = accept_moves ends work

@@ -33,10 +33,11 @@ use Rattle.pg_repair.specs.Confirms.{begin_confirm, confirm_of, is_doubtful}
 use Rattle.pg_repair.specs.Fills.{begin_fill, begin_fills, fill_of, files_to_fill, is_in, to_fill, wished_birth, with_fill_birth, without_wished}
 use Rattle.pg_repair.specs.Intending.{begin_intent, each, in_order}
 use Rattle.pg_repair.specs.Patches.{begin_patch, begin_patches, patch_of}
+use Rattle.pg_graph.specs.Seeks.{aim_seek, begin_seek, begin_seeks, has_seek, seek_again, seek_target, to_seek, was_linked}
 use Rattle.pg_repair.proofs.Standing.{begun_other, filtered}
 use Rattle.pg_promises.proofs.Choices.{chosen}
 use Rattle.pg_births.proofs.Has.{Goes, Has, IsAlone, before_goes, goes_itself, goes_then, has_given, none_new, one_new}
-use Rattle.pg_births.proofs.Begins.{behind_birth, fresh_given}
+use Rattle.pg_births.proofs.Begins.{aim_goes, behind_birth, fresh_given}
 
 -- ---- some end
 
@@ -81,6 +82,17 @@ each_goes : {A : Type 0} (step : Store → A → Work → Done) → ((s : Store)
     → (xs : List A) (s : Store) (w : Work) → Goes s (each step s xs w).store
 each_goes step one [] s w = goes_itself s
 each_goes step one (x ∷ xs) s w = goes_then (one s x w) (each_goes step one xs (step s x w).store (step s x w).work)
+
+-- ---- Seeks begin, or are aimed anew
+
+seek_goes : (s : Store) (file : FileId) (w : Work) → Goes s (begin_seek s file w).store
+seek_goes s file w =
+    let i = intent.Seek file (seek_target s file) in
+    chosen (λ (d : Done). Goes s d.store) (has_seek s file) (idle (seek_again s file w) w) (begin_intent s i w)
+    (chosen (λ (b : Store). Goes s b) (was_linked w.linked file) (aim_seek s file) s
+    (aim_goes s (intent_key.Seek file) (seek_target s file)) (goes_itself s))
+    (before_goes s (with_intents s (begun s.intents i)) (intents_as_before s (begun s.intents i) (λ q j there.
+    sym (begun_other s i w (intent_key.Fill q) refl) ∙ there)))
 
 -- ---- a Fill begins
 
@@ -208,7 +220,9 @@ begin_end_goes s w =
     let a = end_others s files in
     let p = begin_patches a w in
     let q = begin_fills p.store (to_fill s.names) p.work in
+    let r = begin_seeks q.store (to_seek s) q.work in
     goes_then (ended_goes s files)
     (goes_then (each_goes begin_patch patch_goes (in_order w.left) a w)
     (goes_then (each_goes begin_fill fill_goes (to_fill s.names) p.store p.work)
-    (each_goes begin_confirm confirm_goes (in_order q.work.unsure) q.store q.work)))
+    (goes_then (each_goes begin_seek seek_goes (to_seek s) q.store q.work)
+    (each_goes begin_confirm confirm_goes (in_order r.work.unsure) r.store r.work))))

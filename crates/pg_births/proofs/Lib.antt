@@ -1,4 +1,5 @@
 mod Going
+pub mod Here
 mod Ends
 pub mod Pieces
 mod Has
@@ -16,6 +17,7 @@ pub mod StoreSays
 mod EndsSay
 mod Mails
 mod Saying
+mod Walking
 mod Received
 mod Forward
 mod Sends

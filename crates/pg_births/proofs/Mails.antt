@@ -29,10 +29,13 @@ SaysAll Q G m = SaysMessage Q m
 abbrev pub SaysSent : (FileId → ℕ → ℕ → Type 0) → (FileId → Flag → Type 0) → (FileId → ℕ → Type 0) → ℕ → Sent → Type 0
 SaysSent P Q G s m = AllNamed P s m.to m.packet.message × (SaysAll Q G m.packet.message × (m.packet.from ≡ s))
 
--- whom a message links, that may be answered that a replica is gone
+-- a message along an edge, that may be answered that a replica is gone
 abbrev pub linking_to : Message → Option Ends
 linking_to (message.Cell ends tag c) = Some ends
 linking_to (message.Grant ends granted) = Some ends
+linking_to (message.Here ends) = Some ends
+linking_to (message.Walk ends origin birth hops word) = Some ends
+linking_to (message.Meet ends) = Some ends
 linking_to _ = None
 
 -- so all is said that is said of flags
@@ -79,7 +82,8 @@ named_by P (message.Grant x g) from to named ends links = subst (λ (z : Ends). 
 named_by P (message.NoGrant file birth) from to named ends links = cc
 named_by P (message.Full x) from to named ends links = cc
 named_by P (message.Seek file birth) from to named ends links = cc
-named_by P (message.Here x) from to named ends links = cc
+named_by P (message.Here x) from to named ends links =
+    subst (λ (z : Ends). P z.file to z.receiver) (let same : x ≡ ends = cc in same) named.1
 named_by P (message.NoneHere what file child) from to named ends links = cc
 named_by P (message.Gone file birth) from to named ends links = cc
 named_by P (message.Bye x) from to named ends links = cc
@@ -91,37 +95,40 @@ named_by P (message.TellOk dir child stamp) from to named ends links = cc
 named_by P (message.Leave x stamp) from to named ends links = cc
 named_by P (message.LeaveOk x stamp) from to named ends links = cc
 named_by P (message.Invite x) from to named ends links = cc
-named_by P (message.Walk x origin birth hops word) from to named ends links = cc
-named_by P (message.Meet x) from to named ends links = cc
+named_by P (message.Walk x origin birth hops word) from to named ends links =
+    subst (λ (z : Ends). P z.file to z.receiver) (let same : x ≡ ends = cc in same) named.0.1
+named_by P (message.Meet x) from to named ends links =
+    subst (λ (z : Ends). P z.file to z.receiver) (let same : x ≡ ends = cc in same) named.1
 
 -- ---- a work that sends nothing more
 
 pub record SameMail (w v : Work) : Type 0 where
   pub sent : v.sent ≡ w.sent
+  pub tail : v.tail ≡ w.tail
   pub asker : v.from ≡ w.from
 
 pub same_mail : (w : Work) → SameMail w w
-same_mail w = record { sent = refl; asker = refl }
+same_mail w = record { sent = refl; tail = refl; asker = refl }
 
 pub either_mail : (w x y : Work) (t : Bool) → SameMail w x → SameMail w y → SameMail w (cond t x y)
 either_mail w x y true one two = one
 either_mail w x y false one two = two
 
 pub then_mail : (w x y : Work) → SameMail w x → SameMail x y → SameMail w y
-then_mail w x y one two = record { sent = two.sent ∙ one.sent; asker = two.asker ∙ one.asker }
+then_mail w x y one two = record { sent = two.sent ∙ one.sent; tail = two.tail ∙ one.tail; asker = two.asker ∙ one.asker }
 
 pub news_mail : (t : Bool) (w : Work) (f : FileId) (q : Key) → SameMail w (with_news t w f q)
-news_mail t w f q = either_mail w (with_touched w f q) w t (record { sent = refl; asker = refl }) (same_mail w)
+news_mail t w f q = either_mail w (with_touched w f q) w t (record { sent = refl; tail = refl; asker = refl }) (same_mail w)
 
 pub note_mail : (w : Work) (f : FileId) (old : Place) → SameMail w (note_left w f old)
 note_mail w f old =
-    either_mail w (with_left w old.parent f) w (old.live && not (is_root f)) (record { sent = refl; asker = refl }) (same_mail w)
+    either_mail w (with_left w old.parent f) w (old.live && not (is_root f)) (record { sent = refl; tail = refl; asker = refl }) (same_mail w)
 
 pub left_mail : (t : Bool) (w : Work) (f : FileId) (old : Place) → SameMail w (with_left_if t w f old)
 left_mail t w f old = either_mail w (note_left w f old) w t (note_mail w f old) (same_mail w)
 
 pub link_mail : (t : Bool) (w : Work) (f : FileId) (p : ℕ) → SameMail w (with_link t w f p)
-link_mail t w f p = either_mail w (with_linked w f p) w t (record { sent = refl; asker = refl }) (same_mail w)
+link_mail t w f p = either_mail w (with_linked w f p) w t (record { sent = refl; tail = refl; asker = refl }) (same_mail w)
 
 pub doubt_mail : (t : Bool) (w : Work) (d c : FileId) → SameMail w (with_doubt t w d c)
-doubt_mail t w d c = either_mail w (with_unsure w d c) w t (record { sent = refl; asker = refl }) (same_mail w)
+doubt_mail t w d c = either_mail w (with_unsure w d c) w t (record { sent = refl; tail = refl; asker = refl }) (same_mail w)

@@ -36,6 +36,8 @@ use Rattle.pg_store.proofs.Pairs.{write_as_before}
 use Rattle.pg_cells.specs.Done.{Done, idle}
 use Rattle.pg_cells.specs.Making.{own_next}
 use Rattle.pg_cells.specs.Posting.{post}
+use Rattle.pg_cells.specs.Ticks.{tick}
+use Rattle.pg_repair.specs.Requests.{ask_all}
 use Rattle.pg_repair.proofs.Steady.{begin_end_stays}
 use Rattle.pg_walk.specs.declared.paths.Found.{Found}
 use Rattle.pg_walk.specs.declared.paths.Stop.{Stop}
@@ -46,6 +48,7 @@ use Rattle.pg_calls.specs.Asking.{ask_by, fetch, fresh_wish, holder, standing}
 use Rattle.pg_calls.specs.Bodies.{change, change_file, when_fit}
 use Rattle.pg_calls.specs.Calls.{do_call}
 use Rattle.pg_calls.specs.Checks.{dir_at, empty_dir_at, file_at, in_time, move_of, new_name, target_at}
+use Rattle.pg_calls.specs.Demoting.{demoted_at, lowered}
 use Rattle.pg_calls.specs.Making.{drawn, first_ranges, make_place, make_version, version_of}
 use Rattle.pg_calls.specs.Naming.{begun, dead_place, next_id, place_in, with_first_version, with_id, with_thing}
 use Rattle.pg_calls.proofs.Checked.{fit_found}
@@ -60,10 +63,9 @@ use Rattle.pg_run.specs.Journal.{versions_in}
 use Rattle.pg_run.specs.Run.{run}
 use Rattle.pg_run.proofs.Event.{Comes, FirstHas, effect_is, end_has, first_has}
 use Rattle.pg_run.proofs.Frame.{acts_is}
-use Rattle.pg_run.proofs.Makes.{intended_made}
 use Rattle.pg_births.specs.Premises.{IsMadeHere, MakersHold, StoresAreWhole}
 use Rattle.pg_births.proofs.Pieces.{settle_stays}
-use Rattle.pg_births.proofs.Unmade.{MakesNone, house_none, placed_none, raised_none, received_none, versions_after}
+use Rattle.pg_births.proofs.Unmade.{MakesNone, lowered_none, placed_none, raised_none, received_none, settle_none, versions_after, walk_of_none}
 
 -- ---- a server is itself whatever it takes
 
@@ -230,7 +232,8 @@ module _ (s : ℕ) (a : Store) (server : a.names.server ≡ s) (both : AreTogeth
   call_made (call.Unlink path) = answered_by (file_at a path) _ (λ f found. moved_by f (dead_place a moment f))
   call_made (call.Rmdir path) = answered_by (empty_dir_at a path) _ (λ f found. moved_by f (dead_place a moment f))
   call_made (call.Forget id) = replied_by (in_time a (tt {0})) _
-  call_made (call.Demote target) = replied_by (in_time a (tt {0})) _
+  call_made (call.Demote target) =
+      answered_by (demoted_at a target) _ (λ f found. none_made s (lowered a f W) (lowered_none a f W))
   call_made (call.Drop target) = replied_by (in_time a (tt {0})) _
   call_made (call.Giveup view server) = replied_by (in_time a (tt {0})) _
   call_made call.Status = replied_by (in_time a (tt {0})) _
@@ -248,19 +251,20 @@ same_made s d e none births h =
 
 settled_made : (s : ℕ) (d : Done) → IsMade s d → IsMade s (settled d)
 settled_made s d h =
-    same_made s d (settled d) (house_none d.work.now (record { names = d.store.names; work = d.work }))
+    same_made s d (settled d) (settle_none d.store d.work)
     (settle_stays d.store d.work).before.births h
 
 intended_here : (s : ℕ) (d : Done) → IsMade s d → IsMade s (intended d)
 intended_here s d h =
-    same_made s d (intended d) (ap versions_in (intended_made d.store d.work))
+    same_made s d (intended d) (ap versions_in (begin_end_stays d.store d.work).made)
     (λ file. ap (λ rs. option_map (λ (x : Replica). x.birth) (replica_in rs file)) (begin_end_stays d.store d.work).replicas) h
 
 module _ (s : ℕ) (a : Store) (server : a.names.server ≡ s) (both : AreTogether a) where
   first_is : FirstHas (λ packet. Unit {0}) a (IsMade s)
   first_is = record {
     calls = λ moment c. call_made s a server both moment c;
-    ticks = λ moment going. none_made s (idle a (sent_again a (new_work moment 0))) refl;
+    ticks = λ moment word going.
+        none_made s (idle a (sent_again a word (new_work moment 0))) (walk_of_none a word (ask_all a (tick a (new_work moment 0))));
     arrivals = λ packet heard known.
         none_made s (receive a packet.message (new_work 0 packet.from))
         (received_none a packet.message (new_work 0 packet.from));

@@ -3,6 +3,7 @@ use Rattle.std.proofs.Common.{ℕ, ◌≡◌, ◌≤◌, ◌==◌, ◌++◌, Boo
 use Rattle.std.specs.Prelude.{Contains}
 use Rattle.std.specs.Option.{option_map}
 use Rattle.std.specs.List.{IsAmong}
+use Rattle.std.proofs.lemmas.Bool.{and_parts}
 use Rattle.std.proofs.lemmas.List.{append-nil}
 use Rattle.std.proofs.lemmas.List.Elements.{All-append, All-cons, All-head, All-nil, All-tail, All-weaker}
 use Rattle.pg_base.specs.declared.id.FileId.{FileId}
@@ -29,7 +30,7 @@ use Rattle.pg_server.specs.Local.{effect}
 use Rattle.pg_store.specs.declared.store.Store.{Store}
 use Rattle.pg_store.specs.Start.{first_flag, first_flags, root_own}
 use Rattle.pg_store.specs.Births.{birth_of}
-use Rattle.pg_store.specs.Store.{new_store}
+use Rattle.pg_store.specs.Store.{is_held, new_store}
 use Rattle.pg_store.specs.Together.{birth_at}
 use Rattle.pg_run.specs.Births.{BirthsAreKnown, BirthsWereGivenOut, WasGivenOut}
 use Rattle.pg_run.specs.Intending.{IntentionsAreInOrder}
@@ -41,14 +42,14 @@ use Rattle.pg_run.proofs.Lists.{contained_among}
 use Rattle.pg_births.specs.Flags.{SaysIntent}
 use Rattle.pg_births.specs.Premises.{IsMadeHere, MakersHold, StoresAreWhole}
 use Rattle.pg_births.proofs.Ends.{ends}
-use Rattle.pg_births.proofs.EndsSay.{AllEnds, put_all, put_says}
+use Rattle.pg_births.proofs.EndsSay.{AllEnds, edges_all, put_all, put_says}
 use Rattle.pg_births.proofs.Has.{Has, from_has}
+use Rattle.pg_births.proofs.Here.{birth_is}
 use Rattle.pg_births.proofs.Joined.{join_all}
 use Rattle.pg_births.proofs.NamesSay.{says_begin}
 use Rattle.pg_births.proofs.Pieces.{Shape, shape}
-use Rattle.pg_births.proofs.Received.{birth_is}
 use Rattle.pg_births.proofs.Mails.{OfBirths, SaysAll, SaysSent, says_of}
-use Rattle.pg_births.proofs.Sends.{Sorted, edges_all}
+use Rattle.pg_births.proofs.Sends.{Sorted}
 use Rattle.pg_births.proofs.Spoken.{Freshly, IsKnownAt, Known, end_known, end_sent}
 
 -- what holds of all holds of one of them
@@ -84,7 +85,13 @@ module _ (n : ℕ) (intends : IntentionsAreInOrder n) (whole : StoresAreWhole n)
   sorted_at : (es : List Event) (s : ℕ) → 1 ≤ s → s ≤ n → Sorted (At es s)
   sorted_at es s least most =
       let i = intends es s least most in
-      record { order = (whole es s least most).order; keys = i.keys; own = i.held.births.own }
+      record {
+        order = (whole es s least most).order;
+        together = i.held.together;
+        keys = i.keys;
+        own = i.held.births.own;
+        sought = λ f there. (and_parts (is_held (At es s) f) _ (sym (i.seeks f) ∙ there)).0;
+      }
 
   -- what is known of a world
   pub record IsNamed (w : World) : Type 0 where

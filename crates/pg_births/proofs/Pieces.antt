@@ -34,7 +34,9 @@ use Rattle.pg_store.specs.Births.{with_birth}
 use Rattle.pg_store.specs.Store.{acknowledge, is_new_version, is_newer_entry, is_newer_flag, is_newer_place, put_entry, put_flag, put_place, put_version, replica_at, take_entry, take_flag, take_place, take_version, touch, with_names, write}
 use Rattle.pg_store.specs.Together.{HoldsAsBefore}
 use Rattle.pg_store.proofs.Pairs.{acked_seen, acknowledge_as_before, as_before, birth_as_before, ended_as_before, entry_as_before, flag_as_before, made_seen, names_as_before, place_as_before, replicas_only, then_as_before, touch_as_before, update_held, version_as_before, write_as_before}
-use Rattle.pg_cells.specs.Settling.{settle, touch_all}
+use Rattle.pg_cells.specs.Making.{own_next}
+use Rattle.pg_cells.specs.Settling.{rules, settle, touch_all}
+use Rattle.pg_cells.proofs.Settled.{settle_keeps}
 use Rattle.pg_calls.specs.Naming.{with_id}
 use Rattle.pg_births.proofs.Ends.{ends, ends-acked, ends-touched, ends-without}
 
@@ -174,11 +176,17 @@ touches_stay : (a : Store) (ts : List Touched) → Stays a (touch_all a ts)
 touches_stay a [] = stays_itself a
 touches_stay a (t ∷ ts) = stays_then (touch_stays a t.file t.key) (touches_stay (touch a t.file t.key) ts)
 
-pub settle_stays : (a : Store) (work : Work) → Stays a (settle a work).store
-settle_stays a work =
+pub rules_stay : (a : Store) (work : Work) → Stays a (rules a work).store
+rules_stay a work =
     let st = house work.now (state_of a.names work) in
     stays_then (names_stay a st.names (house_holds work.now a.names work))
     (touches_stay (with_names a st.names) (drop (length work.touched) st.work.touched))
+
+-- and golds are raised
+pub settle_stays : (a : Store) (work : Work) → Stays a (settle a work).store
+settle_stays a work =
+    settle_keeps (λ (b : Store) (w : Work). Stays a b) (λ b w k. stays_then k (rules_stay b w))
+    (λ b file w is k. stays_then k (flag_stays b file (own_next b file true))) a work (stays_itself a)
 
 -- ---- Patches that a directory takes
 

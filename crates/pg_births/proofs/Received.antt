@@ -1,7 +1,6 @@
 -- What is said of births and flags is said behind each message and each call.
 use Rattle.std.proofs.Common.{ℕ, ◌≡◌, ◌==◌, ◌&&◌, Bool, true, false, cond, not, Option, None, Some, Result, Ok, Err, refl, sym, ap, subst, ◌∙◌}
 use Rattle.std.specs.Prelude.{nat_lt}
-use Rattle.std.specs.Option.{option_map}
 use Rattle.std.proofs.lemmas.Bool.{and_parts, eqb-true}
 use Rattle.std.proofs.lemmas.List.Elements.{All-nil, All-push}
 use Rattle.pg_base.specs.declared.id.FileId.{FileId}
@@ -9,9 +8,6 @@ use Rattle.pg_base.specs.declared.id.Kind.TheVariants.{Dir, File}
 use Rattle.pg_base.specs.declared.policy.Policy.{Policy}
 use Rattle.pg_base.specs.declared.stamp.Stamp.{Stamp}
 use Rattle.pg_base.specs.declared.policy.Policy.TheVariants.{Last}
-use Rattle.pg_base.specs.Id.{file_cmp}
-use Rattle.pg_base.proofs.Maps.{lookup-insert_entry}
-use Rattle.pg_base.proofs.Orders.{file_total, is_same_file-refl}
 use Rattle.pg_patch.specs.Ranges.{RangesValue, cut_to, written}
 use Rattle.pg_call.specs.declared.call.Call.{Call}
 use Rattle.pg_call.specs.declared.call.Call.TheVariants as call
@@ -24,27 +20,24 @@ use Rattle.pg_msg.specs.declared.message.Message.TheVariants as message
 use Rattle.pg_msg.specs.declared.update.Update.TheVariants as update
 use Rattle.pg_msg.specs.declared.work.Work.{Work}
 use Rattle.pg_msg.specs.Work.{with_made}
-use Rattle.pg_names.specs.Names.{blank_own, fill as fill_names, known}
-use Rattle.pg_names.specs.declared.own.Own.{Own}
+use Rattle.pg_names.specs.Names.{blank_own, fill as fill_names, known, own_or_blank}
 use Rattle.pg_register.specs.declared.flag.Flag.{Flag}
 use Rattle.pg_register.specs.declared.place.Place.{Place}
-use Rattle.pg_replica.specs.declared.replica.Replica.{Replica}
-use Rattle.pg_replica.specs.Replica.{has_many_actors, is_too_long, new_replica}
-use Rattle.pg_replica.specs.Replicas.{is_of_birth, or_nothing}
+use Rattle.pg_register.specs.Flag.{flag_of, is_raised_with}
+use Rattle.pg_replica.specs.Replica.{has_many_actors, is_too_long}
 use Rattle.pg_walk.specs.declared.paths.Found.{Found}
 use Rattle.pg_walk.specs.declared.paths.Stop.{Stop}
 use Rattle.pg_walk.specs.declared.paths.Stop.TheVariants as stop
 use Rattle.pg_store.specs.declared.store.Store.{Store}
 use Rattle.pg_store.specs.declared.wishes.Wish.{Wish}
-use Rattle.pg_store.specs.Beginning.{begin, patches_of, put_new}
+use Rattle.pg_store.specs.Beginning.{begin}
 use Rattle.pg_store.specs.Births.{birth_of, draw_birth, has_birth, with_birth, with_wish}
 use Rattle.pg_store.specs.Store.{is_full, replica_at, replica_of, with_names}
-use Rattle.pg_store.specs.Together.{birth_at}
-use Rattle.pg_store.proofs.Pairs.{patches_as_before}
+use Rattle.pg_store.specs.Together.{AreTogether, birth_at}
 use Rattle.pg_cells.specs.declared.accepting.Manner.TheVariants as manner
 use Rattle.pg_cells.specs.Accepting.{is_accepted, is_current}
 use Rattle.pg_cells.specs.Done.{Done, idle}
-use Rattle.pg_cells.specs.Making.{own_next, raise_flag}
+use Rattle.pg_cells.specs.Making.{lower_flag, make_flag, own_next, raise_flag}
 use Rattle.pg_cells.specs.Posting.{post, sent_to}
 use Rattle.pg_repair.specs.Filling.{few_golds, fill, full, live_golds}
 use Rattle.pg_calls.specs.Answer.{Answer, answer, answered, replied, told, unless}
@@ -52,38 +45,28 @@ use Rattle.pg_calls.specs.Asking.{ask_by, ask_first, ask_for, fetch, fresh_wish,
 use Rattle.pg_calls.specs.Bodies.{change_file, shown_part, when_fit}
 use Rattle.pg_calls.specs.Calls.{do_call}
 use Rattle.pg_calls.specs.Checks.{dir_at, empty_dir_at, file_at, in_time, move_of, new_name, target_at}
+use Rattle.pg_cells.specs.Golds.{is_gold}
+use Rattle.pg_calls.specs.Demoting.{demoted_at, lowered}
 use Rattle.pg_calls.specs.Looks.{counts, listing, page, stat_of}
 use Rattle.pg_calls.specs.Making.{drawn, first_ranges, make_place, make_version}
 use Rattle.pg_calls.specs.Naming.{dead_place, moved, next_id, place_in, taken_away, with_first_version, with_id, with_thing}
 use Rattle.pg_calls.specs.declared.checks.Move.{Move}
 use Rattle.pg_calls.specs.declared.checks.NewName.{NewName}
-use Rattle.pg_calls.proofs.Missing.{IsMissing, dir_missing, empty_missing, file_missing, move_missing, name_missing, target_missing}
+use Rattle.pg_calls.proofs.Missing.{IsMissing, demoted_missing, dir_missing, empty_missing, file_missing, move_missing, name_missing, target_missing}
 use Rattle.pg_calls.proofs.Stopping.{StopsAt, stops_then, stops_time, stops_unless}
 use Rattle.pg_server.specs.Local.{receive}
 use Rattle.pg_promises.proofs.Choices.{chosen, decided}
+use Rattle.pg_promises.proofs.Flags.{server_of}
 use Rattle.pg_run.specs.Births.{AllNamed}
-use Rattle.pg_births.specs.Flags.{SaysMessage}
+use Rattle.pg_births.specs.Flags.{SaysMessage, SaysStore}
 use Rattle.pg_births.proofs.EndsSay.{ends_begin, ends_stay}
+use Rattle.pg_births.proofs.Here.{birth_is, born_here, of_birth}
+use Rattle.pg_births.proofs.Joined.{found_says}
 use Rattle.pg_births.proofs.Pieces.{fill_stays, flag_stays, place_stays, write_stays}
 use Rattle.pg_births.proofs.Mails.{linking_to, OfBirths, SaysSent, same_mail}
-use Rattle.pg_births.proofs.Saying.{Born, Fresh, IsSaid, said_ack, said_cell, said_confirm, said_fetch, said_flag, said_gone, said_grant, said_no_grant, said_none_here, said_on, said_place, said_place_is, said_tell, said_tell_ok}
-use Rattle.pg_births.proofs.StoreSays.{say_begin, say_fill, say_write}
-
--- ---- births that are found
-
-born_is : (o : Option Replica) (n : ℕ) → option_map (λ (x : Replica). x.birth) o ≡ Some n → (or_nothing o).birth ≡ n
-born_is None n there = cc
-born_is (Some x) n there = (let same : x.birth ≡ n = cc in same)
-
-pub birth_is : (a : Store) (f : FileId) (n : ℕ) → birth_at a f ≡ Some n → birth_of a f ≡ n
-birth_is a f n there = born_is (replica_at a f) n there
-
-pub born_here : (a : Store) (f : FileId) (birth : ℕ) (policy : Policy) (own : Own) (full : Bool)
-    → birth_at (begin a f birth policy own full) f ≡ Some birth
-born_here a f birth policy own full =
-    (patches_as_before (put_new a f birth policy own full) f (patches_of f a.intents)).births f
-    ∙ ap (option_map (λ (x : Replica). x.birth)) (lookup-insert_entry file_cmp file_total f f (new_replica birth policy) a.replicas)
-    ∙ ap (λ t. option_map (λ (x : Replica). x.birth) (cond t (Some (new_replica birth policy)) (replica_at a f))) (is_same_file-refl f)
+use Rattle.pg_births.proofs.Saying.{Born, Fresh, IsSaid, said_accept, said_ack, said_cell, said_confirm, said_fetch, said_flag, said_gone, said_grant, said_no_grant, said_none_here, said_on, said_place, said_place_is, said_tell, said_tell_ok}
+use Rattle.pg_births.proofs.StoreSays.{own_says, say_begin, say_fill, say_write}
+use Rattle.pg_births.proofs.Walking.{said_seek, said_walk}
 
 module _ (P : FileId → ℕ → ℕ → Type 0) (G : FileId → ℕ → Type 0) (s from : ℕ) where
   -- flags are of births that were given out
@@ -94,23 +77,21 @@ module _ (P : FileId → ℕ → ℕ → Type 0) (G : FileId → ℕ → Type 0)
   Fine d = IsSaid P (OfBirths P) G s from d
 
   -- a server's own flag is one, where its birth was given out
-  own_fine : (b : Store) (f : FileId) (n : ℕ) → b.names.server ≡ s → birth_at b f ≡ Some n → P f s n → Q f (own_next b f true)
-  own_fine b f n server there one =
-      let R : ℕ → Type 0 = λ z. P f z (birth_of b f) in
-      subst R (sym server) (subst (P f s) (sym (birth_is b f n there)) one)
+  own_fine : (b : Store) (f : FileId) (raised : Bool) → b.names.server ≡ s → P f s (birth_of b f) → Q f (own_next b f raised)
+  own_fine b f raised server one = let R : ℕ → Type 0 = λ z. P f z (birth_of b f) in subst R (sym server) one
+
+  fine_flag : (b : Store) (f : FileId) (raised : Bool) (w : Work) → Fine (idle b w) → P f s (birth_of b f)
+      → Fine (make_flag b f (own_next b f raised) w)
+  fine_flag b f raised w k one =
+      let flag = own_next b f raised in
+      let v = with_made w (update.Flag f flag) in
+      said_flag P Q G s from b f flag v (own_fine b f raised k.store.names.server one)
+      (said_on P Q G s from (idle b w) (idle b v) k k.store k.edges (record { sent = refl; tail = refl; asker = refl }))
 
   fine_raise : (b : Store) (f : FileId) (n : ℕ) (w : Work) → Fine (idle b w) → birth_at b f ≡ Some n → P f s n → Fine (raise_flag b f w)
-  fine_raise b f n w k there one =
-      let flag = own_next b f true in
-      let v = with_made w (update.Flag f flag) in
-      said_flag P Q G s from b f flag v (own_fine b f n k.store.names.server there one)
-      (said_on P Q G s from (idle b w) (idle b v) k k.store k.edges (record { sent = refl; asker = refl }))
+  fine_raise b f n w k there one = fine_flag b f true w k (subst (P f s) (sym (birth_is b f n there)) one)
 
   -- ---- what is full
-
-  of_birth : (o : Option Replica) (n : ℕ) → is_of_birth o n ≡ true → option_map (λ (x : Replica). x.birth) o ≡ Some n
-  of_birth None n e = cc
-  of_birth (Some x) n e = ap (λ (m : ℕ). Some m) (eqb-true x.birth n e)
 
   fine_fill : (a : Store) (f : FileId) (n : ℕ) (w : Work) → Fine (idle a w) → birth_at a f ≡ Some n → P f s n → Fine (fill a f w)
   fine_fill a f n w k there one =
@@ -130,36 +111,56 @@ module _ (P : FileId → ℕ → ℕ → Type 0) (G : FileId → ℕ → Type 0)
 
   -- ANY MESSAGE
   pub fine_received : (a : Store) (m : Message) (w : Work) → AllNamed P from s m → SaysMessage (OfBirths P) m
-      → ((ends : Ends) → linking_to m ≡ Some ends → Fresh P (OfBirths P) G s from a ends) → Born P (OfBirths P) G s from a → Fine (idle a w)
+      → ((ends : Ends) → linking_to m ≡ Some ends → Fresh P (OfBirths P) G s from a ends) → Born P (OfBirths P) G s from a → AreTogether a
+      → Fine (idle a w)
       → Fine (receive a m w)
-  fine_received a (message.Cell ends tag c) w named says fresh born k = said_cell P Q G s from a ends tag c w named says (fresh ends refl) k
-  fine_received a (message.Ack ends q tag) w named says fresh born k = said_ack P Q G s from a ends q tag w k
-  fine_received a (message.Harbinger ends tag head) w named says fresh born k = k
-  fine_received a (message.Want ends wanted) w named says fresh born k = k
-  fine_received a (message.Delta ends delta) w named says fresh born k = k
-  fine_received a (message.Piece ends piece) w named says fresh born k = k
-  fine_received a (message.Later ends stamp) w named says fresh born k = k
-  fine_received a (message.Fetch file birth) w named says fresh born k = said_fetch P Q G s from a file birth w named born k
-  fine_received a (message.Grant ends g) w named says fresh born k = said_grant P Q G s from a ends g w named says (fresh ends refl) k
-  fine_received a (message.NoGrant file birth) w named says fresh born k = said_no_grant P Q G s from a file birth w k
-  fine_received a (message.Full ends) w named says fresh born k = fine_full a ends w named.1 k
-  fine_received a (message.Seek file birth) w named says fresh born k = k
-  fine_received a (message.Here ends) w named says fresh born k = k
-  fine_received a (message.NoneHere what file child) w named says fresh born k = said_none_here P Q G s from a what file child w k
-  fine_received a (message.Gone file birth) w named says fresh born k = said_gone P Q G s from a file birth w k
-  fine_received a (message.Bye ends) w named says fresh born k = k
-  fine_received a (message.ByeOk file birth) w named says fresh born k = k
-  fine_received a (message.Confirm dir e) w named says fresh born k = said_confirm P Q G s from a dir e w says k
-  fine_received a (message.PlaceIs dir e) w named says fresh born k = said_place_is P Q G s from a dir e w says k
-  fine_received a (message.Tell dir e) w named says fresh born k = said_tell P Q G s from a dir e w says k
-  fine_received a (message.TellOk dir child stamp) w named says fresh born k = said_tell_ok P Q G s from a dir child stamp w k
-  fine_received a (message.Leave ends stamp) w named says fresh born k = k
-  fine_received a (message.LeaveOk ends stamp) w named says fresh born k = k
-  fine_received a (message.Invite ends) w named says fresh born k = k
-  fine_received a (message.Walk ends origin birth hops word) w named says fresh born k = k
-  fine_received a (message.Meet ends) w named says fresh born k = k
+  fine_received a (message.Cell ends tag c) w named says fresh born both k = said_cell P Q G s from a ends tag c w named says (fresh ends refl) k
+  fine_received a (message.Ack ends q tag) w named says fresh born both k = said_ack P Q G s from a ends q tag w k
+  fine_received a (message.Harbinger ends tag head) w named says fresh born both k = k
+  fine_received a (message.Want ends wanted) w named says fresh born both k = k
+  fine_received a (message.Delta ends delta) w named says fresh born both k = k
+  fine_received a (message.Piece ends piece) w named says fresh born both k = k
+  fine_received a (message.Later ends stamp) w named says fresh born both k = k
+  fine_received a (message.Fetch file birth) w named says fresh born both k = said_fetch P Q G s from a file birth w named born k
+  fine_received a (message.Grant ends g) w named says fresh born both k = said_grant P Q G s from a ends g w named says (fresh ends refl) k
+  fine_received a (message.NoGrant file birth) w named says fresh born both k = said_no_grant P Q G s from a file birth w k
+  fine_received a (message.Full ends) w named says fresh born both k = fine_full a ends w named.1 k
+  fine_received a (message.Seek file birth) w named says fresh born both k = said_seek P Q G s from a file birth w both named born k
+  fine_received a (message.Here ends) w named says fresh born both k = said_accept P Q G s from a ends w named (fresh ends refl) k
+  fine_received a (message.NoneHere what file child) w named says fresh born both k = said_none_here P Q G s from a what file child w k
+  fine_received a (message.Gone file birth) w named says fresh born both k = said_gone P Q G s from a file birth w k
+  fine_received a (message.Bye ends) w named says fresh born both k = k
+  fine_received a (message.ByeOk file birth) w named says fresh born both k = k
+  fine_received a (message.Confirm dir e) w named says fresh born both k = said_confirm P Q G s from a dir e w says k
+  fine_received a (message.PlaceIs dir e) w named says fresh born both k = said_place_is P Q G s from a dir e w says k
+  fine_received a (message.Tell dir e) w named says fresh born both k = said_tell P Q G s from a dir e w says k
+  fine_received a (message.TellOk dir child stamp) w named says fresh born both k = said_tell_ok P Q G s from a dir child stamp w k
+  fine_received a (message.Leave ends stamp) w named says fresh born both k = k
+  fine_received a (message.LeaveOk ends stamp) w named says fresh born both k = k
+  fine_received a (message.Invite ends) w named says fresh born both k = k
+  fine_received a (message.Walk ends origin birth hops word) w named says fresh born both k =
+      said_walk P Q G s from a ends origin birth hops word w named.0 named.1 (fresh ends refl) born k
+  fine_received a (message.Meet ends) w named says fresh born both k = said_accept P Q G s from a ends w named (fresh ends refl) k
 
   -- ---- calls
+
+  -- what is gold has a flag, of a birth that was given out
+  gold_by : (b : Store) (f : FileId) (o : Option Flag) → flag_of (own_or_blank b.names f).flags b.names.server ≡ o
+      → is_raised_with o (birth_of b f) ≡ true → SaysStore Q s b → P f s (birth_of b f)
+  gold_by b f None there gold k = absurd (let z : false ≡ true = gold in cc)
+  gold_by b f (Some g) there gold k =
+      let fs = (own_or_blank b.names f).flags in
+      let server : g.server ≡ s = server_of fs b.names.server g there ∙ k.names.server in
+      let birth = eqb-true g.birth (birth_of b f) (and_parts g.raised (g.birth == birth_of b f) gold).1 in
+      let one : P f g.server g.birth = found_says (Q f) fs b.names.server g (own_says Q s b f k) there in
+      let R : ℕ → Type 0 = λ z. P f z g.birth in
+      subst (P f s) birth (subst R server one)
+
+  fine_lowered : (b : Store) (f : FileId) (w : Work) → Fine (idle b w) → Fine (lowered b f w)
+  fine_lowered b f w k =
+      decided Fine (is_gold b f) (lower_flag b f w) (idle b w)
+      (λ gold. fine_flag b f false w k (gold_by b f (flag_of (own_or_blank b.names f).flags b.names.server) refl gold k.store))
+      (λ bronze. k)
 
   -- what is known of the births that a call gives out: of the replica that it begins, and of the wish that it leaves
   pub record Allows (a : Store) (left : Answer) : Type 0 where
@@ -179,11 +180,12 @@ module _ (P : FileId → ℕ → ℕ → Type 0) (G : FileId → ℕ → Type 0)
           store = h.store;
           edges = h.edges;
           sent = All-push (SaysSent P Q G s) w.sent (sent_to a wish.target (message.Fetch f wish.birth)) h.sent (one, (tt, sym server ∙ h.store.names.server));
+          tail = h.tail;
           asker = h.asker;
         })
 
     fresh_fine : (f : FileId) (t : ℕ) → Fine (idle (with_wish (with_birth a) f (fresh_wish a t)) w)
-    fresh_fine f t = record { store = record { names = k.store.names; intents = k.store.intents }; edges = k.edges; sent = k.sent; asker = k.asker }
+    fresh_fine f t = record { store = record { names = k.store.names; intents = k.store.intents }; edges = k.edges; sent = k.sent; tail = k.tail; asker = k.asker }
 
     asked_first : (f : FileId) (t : ℕ) (zero_is : Bool) → (t == 0) ≡ zero_is
         → ((ask_first a f t w).store ≡ with_wish (with_birth a) f (fresh_wish a t) → P f s (draw_birth a))
@@ -232,10 +234,10 @@ module _ (P : FileId → ℕ → ℕ → Type 0) (G : FileId → ℕ → Type 0)
         let c = begin (with_birth b) id (draw_birth b) policy own true in
         let place = place_in b w.now new in
         let v = with_made w (update.Place id place) in
-        let none : Fine (idle (with_birth b) w) = record { store = record { names = k.store.names; intents = k.store.intents }; edges = k.edges; sent = k.sent; asker = k.asker } in
+        let none : Fine (idle (with_birth b) w) = record { store = record { names = k.store.names; intents = k.store.intents }; edges = k.edges; sent = k.sent; tail = k.tail; asker = k.asker } in
         let to_c : Fine (idle c v) = said_on P Q G s from (idle (with_birth b) w) (idle c v) none
         (say_begin Q s (with_birth b) id (draw_birth b) policy own true (All-nil (Q id)) none.store)
-        (ends_begin P (with_birth b) id (draw_birth b) policy own true none.edges) (record { sent = refl; asker = refl }) in
+        (ends_begin P (with_birth b) id (draw_birth b) policy own true none.edges) (record { sent = refl; tail = refl; asker = refl }) in
         let d = make_place id place (idle c w) in
         let to_d = said_place P Q G s from c id place v to_c in
         let here : birth_at d.store id ≡ Some (draw_birth b) =
@@ -247,12 +249,12 @@ module _ (P : FileId → ℕ → ℕ → Type 0) (G : FileId → ℕ → Type 0)
     fine_write : (b : Store) (f : FileId) (stamp : Stamp) (ranges : RangesValue) (v : Work) → Fine (idle b v) → Fine (make_version f stamp ranges (idle b v))
     fine_write b f stamp ranges v h =
         said_on P Q G s from (idle b v) (make_version f stamp ranges (idle b v)) h (say_write Q s b f stamp ranges h.store)
-        (ends_stay P (write_stays b f stamp ranges) h.edges) (record { sent = refl; asker = refl })
+        (ends_stay P (write_stays b f stamp ranges) h.edges) (record { sent = refl; tail = refl; asker = refl })
 
     fine_place : (f : FileId) (place : Place) → Fine (make_place f place (idle a w))
     fine_place f place =
         let v = with_made w (update.Place f place) in
-        said_place P Q G s from a f place v (said_on P Q G s from (idle a w) (idle a v) k k.store k.edges (record { sent = refl; asker = refl }))
+        said_place P Q G s from a f place v (said_on P Q G s from (idle a w) (idle a v) k k.store k.edges (record { sent = refl; tail = refl; asker = refl }))
 
     fits_missing : (ranges : RangesValue) (file : FileId) → StopsAt (IsMissing a.names) (when_fit a ranges file)
     fits_missing ranges file =
@@ -308,7 +310,9 @@ module _ (P : FileId → ℕ → ℕ → Type 0) (G : FileId → ℕ → Type 0)
         goes_on (empty_dir_at a path) (λ (dir : FileId). answer (taken_away a w dir) reply.Done) (empty_missing a path) m
         (λ dir is h. fine_place dir (dead_place a w.now dir))
     fine_call (call.Forget id) m = timed (λ found. reply.Done) m
-    fine_call (call.Demote target) m = timed (λ found. reply.Done) m
+    fine_call (call.Demote target) m =
+        goes_on (demoted_at a target) (λ (file : FileId). answer (lowered a file w) reply.Done) (demoted_missing a target) m
+        (λ file is h. fine_lowered a file w k)
     fine_call (call.Drop target) m = timed (λ found. reply.Done) m
     fine_call (call.Giveup view server) m = timed (λ found. reply.Done) m
     fine_call call.Status m = timed (λ found. reply.Status (counts a)) m

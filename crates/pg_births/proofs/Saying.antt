@@ -19,6 +19,7 @@ use Rattle.pg_msg.specs.declared.message.Granted.{Granted}
 use Rattle.pg_msg.specs.declared.message.Message.{Message}
 use Rattle.pg_msg.specs.declared.message.Message.TheVariants as message
 use Rattle.pg_msg.specs.declared.work.Work.{Work}
+use Rattle.pg_msg.specs.Work.{with_tail}
 use Rattle.pg_msg.specs.Ends.{back}
 use Rattle.pg_msg.specs.Sent.{cell_key}
 use Rattle.pg_names.specs.Names.{own_or_blank}
@@ -31,13 +32,14 @@ use Rattle.pg_replica.specs.Replicas.{or_nothing}
 use Rattle.pg_edges.specs.Edges.{keys_at}
 use Rattle.pg_store.specs.declared.store.Store.{Store}
 use Rattle.pg_store.specs.Beginning.{with_intents}
-use Rattle.pg_store.specs.Births.{fill_at, has_birth, is_pending, wish_at, with_wishes}
+use Rattle.pg_store.specs.Births.{birth_of, fill_at, has_birth, is_pending, wish_at, with_wishes}
 use Rattle.pg_store.specs.Links.{is_new_link, knows_later, link}
 use Rattle.pg_store.specs.Servers.{next_target}
 use Rattle.pg_store.specs.Store.{entry_news, is_full, is_held, is_new_version, is_newer_flag, is_newer_place, replica_at}
 use Rattle.pg_store.specs.Together.{birth_at}
 use Rattle.pg_store.proofs.Pairs.{link_as_before}
 use Rattle.pg_store.specs.Wishes.{aim_wish}
+use Rattle.pg_cells.specs.declared.accepting.Manner.{Manner}
 use Rattle.pg_cells.specs.declared.accepting.Manner.TheVariants as manner
 use Rattle.pg_cells.specs.Accepting.{accept, is_accepted, is_answer, link_peer, with_gone}
 use Rattle.pg_cells.specs.Acks.{ack}
@@ -53,7 +55,9 @@ use Rattle.pg_repair.specs.Telling.{is_told, tell, tell_ok, told}
 use Rattle.pg_promises.proofs.Choices.{chosen, decided}
 use Rattle.pg_run.specs.Births.{AllNamed}
 use Rattle.pg_births.specs.Flags.{SaysCell, SaysEntry, SaysStore}
+use Rattle.pg_births.proofs.Ends.{ends}
 use Rattle.pg_births.proofs.EndsSay.{SaysEnds, ends_begin, ends_link, ends_stay, ends_unlink}
+use Rattle.pg_births.proofs.Here.{birth_is}
 use Rattle.pg_births.proofs.Pieces.{acknowledge_stays, entry_stays, flag_stays, place_stays, version_stays}
 use Rattle.pg_births.proofs.StoreSays.{entry_says, own_says, say_acknowledge, say_aimed, say_begin, say_ended, say_entry, say_flag, say_link, say_place, say_unlink, say_version}
 use Rattle.pg_births.proofs.Mails.{SameMail, SaysAll, SaysSent, doubt_mail, left_mail, link_mail, news_mail, same_mail, then_mail}
@@ -63,6 +67,7 @@ pub record IsSaid (P : FileId → ℕ → ℕ → Type 0) (Q : FileId → Flag �
   pub store : SaysStore Q s d.store
   pub edges : SaysEnds P d.store
   pub sent : All (SaysSent P Q G s) d.work.sent
+  pub tail : All (SaysSent P Q G s) d.work.tail
   pub asker : d.work.from ≡ from
 
 module _ (P : FileId → ℕ → ℕ → Type 0) (Q : FileId → Flag → Type 0) (G : FileId → ℕ → Type 0) (s from : ℕ) where
@@ -74,6 +79,7 @@ module _ (P : FileId → ℕ → ℕ → Type 0) (Q : FileId → Flag → Type 0
     store = store;
     edges = edges;
     sent = subst (All (SaysSent P Q G s)) (sym mail.sent) k.sent;
+    tail = subst (All (SaysSent P Q G s)) (sym mail.tail) k.tail;
     asker = mail.asker ∙ k.asker;
   }
 
@@ -116,7 +122,7 @@ module _ (P : FileId → ℕ → ℕ → Type 0) (Q : FileId → Flag → Type 0
       said_on (idle a w) (take_version_noted a f v w) k (say_version Q s a f v k.store) (ends_stay P (version_stays a f v) k.edges)
       (news_mail (is_new_version a f v) w f (key.Version v.head.stamp))
 
-  said_link : (a : Store) (f : FileId) (p b : ℕ) (w : Work) → P f p b → Said (idle a w) → Said (link_peer a f p b w)
+  pub said_link : (a : Store) (f : FileId) (p b : ℕ) (w : Work) → P f p b → Said (idle a w) → Said (link_peer a f p b w)
   said_link a f p b w one k =
       said_on (idle a w) (link_peer a f p b w) k (say_link Q s a f p b k.store) (ends_link P a f p b one k.edges)
       (link_mail (is_new_link a f p b) w f p)
@@ -127,10 +133,22 @@ module _ (P : FileId → ℕ → ℕ → Type 0) (Q : FileId → Flag → Type 0
     store = k.store;
     edges = k.edges;
     sent = All-push (SaysSent P Q G s) w.sent (sent_to a to m) k.sent (named, (says, k.store.names.server));
+    tail = k.tail;
     asker = k.asker;
   }
 
-  said_reply : (a : Store) (m : Message) (w : Work) → AllNamed P s from m → SaysAll Q G m → Said (idle a w) → Said (idle a (reply a m w))
+  -- and one that goes last
+  pub said_last : (a : Store) (to : ℕ) (m : Message) (w : Work) → AllNamed P s to m → SaysAll Q G m → Said (idle a w)
+      → Said (idle a (with_tail w (sent_to a to m)))
+  said_last a to m w named says k = record {
+    store = k.store;
+    edges = k.edges;
+    sent = k.sent;
+    tail = All-push (SaysSent P Q G s) w.tail (sent_to a to m) k.tail (named, (says, k.store.names.server));
+    asker = k.asker;
+  }
+
+  pub said_reply : (a : Store) (m : Message) (w : Work) → AllNamed P s from m → SaysAll Q G m → Said (idle a w) → Said (idle a (reply a m w))
   said_reply a m w named says k =
       let N : ℕ → Type 0 = λ z. AllNamed P s z m in
       said_post a w.from m w (subst N (sym k.asker) named) says k
@@ -148,12 +166,12 @@ module _ (P : FileId → ℕ → ℕ → Type 0) (Q : FileId → Flag → Type 0
   or_none true u e = absurd (let z : true ≡ false = e in cc)
   or_none false u e = e
 
-  gone_says : (a : Store) (ends : Ends) (w : Work) → P ends.file s ends.receiver → (is_pending a ends.file ends.receiver ≡ false → G ends.file ends.receiver)
-      → Said (idle a w) → Said (idle a (with_gone a ends manner.Link w))
-  gone_says a ends w one fresh k =
-      decided (λ (v : Work). Said (idle a v)) (is_answer manner.Link || is_pending a ends.file ends.receiver) w
+  gone_says : (a : Store) (ends : Ends) (man : Manner) (w : Work) → P ends.file s ends.receiver
+      → (is_pending a ends.file ends.receiver ≡ false → G ends.file ends.receiver) → Said (idle a w) → Said (idle a (with_gone a ends man w))
+  gone_says a ends man w one fresh k =
+      decided (λ (v : Work). Said (idle a v)) (is_answer man || is_pending a ends.file ends.receiver) w
       (reply a (message.Gone ends.file ends.receiver) w) (λ t. k)
-      (λ f. said_reply a (message.Gone ends.file ends.receiver) w one (fresh (or_none (is_answer manner.Link) _ f)) k)
+      (λ f. said_reply a (message.Gone ends.file ends.receiver) w one (fresh (or_none (is_answer man) _ f)) k)
 
   accept_by : (a : Store) (ends : Ends) (w : Work) (born later : Bool) → has_birth a ends.file ends.receiver ≡ born → Heard ends → Fresh a ends
       → Said (idle a w)
@@ -162,9 +180,16 @@ module _ (P : FileId → ℕ → ℕ → Type 0) (Q : FileId → Flag → Type 0
   accept_by a ends w true false is heard fresh k =
       let N : ℕ → Type 0 = λ z. P ends.file z ends.sender in
       said_link a ends.file w.from ends.sender w (subst N (sym k.asker) heard.0) k
-  accept_by a ends w false later is heard fresh k = gone_says a ends w heard.1 (fresh is) k
+  accept_by a ends w false later is heard fresh k = gone_says a ends manner.Link w heard.1 (fresh is) k
 
-  said_accept : (a : Store) (ends : Ends) (w : Work) → Heard ends → Fresh a ends → Said (idle a w) → Said (accept a ends manner.Link w)
+  -- where a message links nobody
+  pub asked_by : (a : Store) (ends : Ends) (w : Work) (born later : Bool) → has_birth a ends.file ends.receiver ≡ born → P ends.file s ends.receiver
+      → Fresh a ends → Said (idle a w) → Said (cond born (cond later (idle a w) (idle a w)) (idle a (with_gone a ends manner.Ask w)))
+  asked_by a ends w true true is one fresh k = k
+  asked_by a ends w true false is one fresh k = k
+  asked_by a ends w false later is one fresh k = gone_says a ends manner.Ask w one (fresh is) k
+
+  pub said_accept : (a : Store) (ends : Ends) (w : Work) → Heard ends → Fresh a ends → Said (idle a w) → Said (accept a ends manner.Link w)
   said_accept a ends w heard fresh k =
       accept_by a ends w (has_birth a ends.file ends.receiver) (knows_later a ends.file w.from ends.sender) refl heard fresh k
 
@@ -217,8 +242,17 @@ module _ (P : FileId → ℕ → ℕ → Type 0) (Q : FileId → Flag → Type 0
   said_answer : (a : Store) (f : FileId) (birth : ℕ) (w : Work) → P f from birth → Born a → Said (idle a w) → Said (idle a (answer_fetch a f birth w))
   said_answer a f birth w one born k = full_by a f birth w (replica_at a f) refl one born k _ refl
 
+  pub own_named : (a : Store) (f : FileId) → Born a → (n : ℕ) × (birth_at a f ≡ Some n) → P f s (birth_of a f)
+  own_named a f born here = subst (P f s) (sym (birth_is a f here.0 here.1)) (born f here.0 here.1)
+
   born_link : (a : Store) (f : FileId) (p b : ℕ) → Born a → Born (link a f p b)
   born_link a f p b born q n there = born q n (sym ((link_as_before a f p b).births q) ∙ there)
+
+  pub linked_named : (a : Store) (f : FileId) (p b : ℕ) → Born a → (n : ℕ) × (birth_at a f ≡ Some n) → P f s (birth_of (link a f p b) f)
+  linked_named a f p b born here =
+      own_named (link a f p b) f (born_link a f p b born) (here.0, (link_as_before a f p b).births f ∙ here.1)
+
+  -- ---- what is granted
 
   pub said_fetch : (a : Store) (f : FileId) (birth : ℕ) (w : Work) → P f from birth → Born a → Said (idle a w) → Said (fetch a f birth w)
   said_fetch a f birth w one born k =

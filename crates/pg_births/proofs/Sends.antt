@@ -1,10 +1,10 @@
 -- What is said of births and flags is said of the cells and the requests that a server sends.
-use Rattle.std.proofs.Common.{ℕ, ◌≡◌, Bool, true, false, cond, List, [], ◌∷◌, map, Option, None, Some, All, get_or, inl, inr, refl, sym, ap, subst, ◌∙◌}
+use Rattle.std.proofs.Common.{ℕ, ◌≡◌, Bool, true, false, cond, List, [], ◌∷◌, map, Option, None, Some, is_some, All, get_or, inl, inr, refl, sym, ap, subst, ◌∙◌}
 use Rattle.std.specs.Option.{option_map}
 use Rattle.std.specs.List.{AllByRecursion, IsDistinct, flat_map}
 use Rattle.std.specs.List.Sorted.{IsStrictlySortedBy}
 use Rattle.std.specs.Map.{keys_of}
-use Rattle.std.proofs.lemmas.List.Elements.{All-cons, All-from_recursion, All-nil, All-weaker}
+use Rattle.std.proofs.lemmas.List.Elements.{All-from_recursion, All-weaker}
 use Rattle.pg_base.specs.declared.id.FileId.{FileId}
 use Rattle.pg_base.specs.Id.{file_cmp}
 use Rattle.pg_base.specs.Version.{VersionValue}
@@ -17,9 +17,11 @@ use Rattle.pg_entries.specs.declared.entry.Entry.{Entry}
 use Rattle.pg_intent.specs.declared.intent.Intent.{Intent}
 use Rattle.pg_intent.specs.declared.intent.Intent.TheVariants as intent
 use Rattle.pg_intent.specs.Intent.{key_of}
-use Rattle.pg_intent.specs.Intents.{HaveOwnKeys, intent_at}
+use Rattle.pg_intent.specs.Intents.{HaveOwnKeys, intent_at, stands}
 use Rattle.pg_intent.specs.Key.{is_same_key}
 use Rattle.pg_intent.specs.declared.key.IntentKey.{IntentKey}
+use Rattle.pg_intent.specs.declared.key.IntentKey.TheVariants as intent_key
+use Rattle.pg_intent.proofs.Found.{stands_is}
 use Rattle.pg_intent.proofs.SameKey.{is_same_key-refl, is_same_key-symm}
 use Rattle.pg_msg.specs.declared.message.Message.{Message}
 use Rattle.pg_msg.specs.declared.message.Message.TheVariants as message
@@ -29,10 +31,10 @@ use Rattle.pg_register.specs.declared.flag.Flag.{Flag}
 use Rattle.pg_register.specs.Flag.{flag_of}
 use Rattle.pg_replica.specs.declared.replica.Replica.{Replica}
 use Rattle.pg_store.specs.declared.store.Store.{Store}
-use Rattle.pg_store.specs.Births.{fill_at}
+use Rattle.pg_store.specs.Births.{birth_of, fill_at}
 use Rattle.pg_store.specs.Cells.{cell_at, entry_cell, flag_cell, is_sure, version_cell}
 use Rattle.pg_store.specs.Store.{is_held, replica_at}
-use Rattle.pg_store.specs.Together.{birth_at}
+use Rattle.pg_store.specs.Together.{AreTogether, birth_at}
 use Rattle.pg_cells.specs.Sending.{Wanted, cells_where}
 use Rattle.pg_repair.specs.Requests.{asks, asks_by, confirm_message}
 use Rattle.pg_cells.specs.Posting.{sent_to}
@@ -40,21 +42,24 @@ use Rattle.pg_promises.proofs.Found.{entries_known}
 use Rattle.pg_run.proofs.Bags.{All-every}
 use Rattle.pg_run.proofs.Event.{AskHas, CellHas, asks_by_have, asks_have, cells_have}
 use Rattle.pg_births.specs.Flags.{SaysCell, SaysEntry, SaysIntent, SaysStore}
-use Rattle.pg_births.proofs.EndsSay.{AllEnds, SaysEnds}
+use Rattle.pg_births.proofs.EndsSay.{SaysEnds, edges_all}
 use Rattle.pg_births.proofs.Ends.{ends}
 use Rattle.pg_births.proofs.Has.{Has}
+use Rattle.pg_births.proofs.Here.{birth_is, birth_of_held}
 use Rattle.pg_births.proofs.Joined.{found_says}
 use Rattle.pg_births.proofs.Pieces.{shape}
 use Rattle.pg_births.proofs.Mails.{OfBirths, SaysSent}
 use Rattle.pg_births.proofs.StoreSays.{own_says}
 
--- what other laws say of a server: its replicas are by file, its intentions each of a key of its own, and a Fill of what is held
--- has the birth of the replica
+-- what other laws say of a server: its replicas are by file, just what is held has one, its intentions are each of a key of its own,
+-- a Fill of what is held has the birth of the replica, and what is sought is held
 pub record Sorted (b : Store) : Type 0 where
   pub order : IsStrictlySortedBy file_cmp (keys_of b.replicas)
+  pub together : AreTogether b
   pub keys : HaveOwnKeys b.intents
   pub own : (file f : FileId) (birth target : ℕ) → fill_at b file ≡ Some (intent.Fill f birth target) → is_held b file ≡ true
       → birth_at b file ≡ Some birth
+  pub sought : (file : FileId) → stands b.intents (intent_key.Seek file) ≡ true → is_held b file ≡ true
 
 -- ---- each intention is found with its key
 
@@ -73,13 +78,6 @@ each_found (i ∷ is) own =
 
 pub all_found : (is : List Intent) → HaveOwnKeys is → All (λ (i : Intent). intent_at is (key_of i) ≡ Some i) is
 all_found is own = All-from_recursion (λ (i : Intent). intent_at is (key_of i) ≡ Some i) is (each_found is own)
-
--- ---- of a list of edges
-
-module _ (P : FileId → ℕ → ℕ → Type 0) where
-  pub edges_all : (f : FileId) (es : List Edge) → AllEnds P f (ends es) → All (λ (e : Edge). P f e.peer e.birth) es
-  edges_all f [] all = All-nil (λ (e : Edge). P f e.peer e.birth)
-  edges_all f (e ∷ es) all = All-cons (λ (x : Edge). P f x.peer x.birth) e es all.0 (edges_all f es all.1)
 
 module _ (P : FileId → ℕ → ℕ → Type 0) (G : FileId → ℕ → Type 0) (s : ℕ) where
   abbrev pub Of : FileId → Flag → Type 0
@@ -153,7 +151,11 @@ module _ (P : FileId → ℕ → ℕ → Type 0) (G : FileId → ℕ → Type 0)
 
     ask_says : (i : Intent) → SaysIntent Of i → intent_at b.intents (key_of i) ≡ Some i → AskHas Sends b i
     ask_says (intent.Bye f n p m) says found q is some = absurd says
-    ask_says (intent.Seek f t) says found q is some = absurd says
+    ask_says (intent.Seek f t) says found q is some =
+        let stood : stands b.intents (intent_key.Seek f) ≡ true = stands_is b.intents (intent_key.Seek f) ∙ ap (λ (o : Option Intent). is_some o) found in
+        let n = birth_of_held b whole.together f (whole.sought f stood) in
+        let one : P f s (birth_of b f) = subst (P f s) (sym (birth_is b f n.0 n.1)) (born f n.0 (inl n.1)) in
+        subst (λ (z : Message). Sends (sent_to b t z)) (let same : message.Seek f (birth_of b f) ≡ q = cc in same) (one, (tt, k.names.server))
     ask_says (intent.Fill f n t) says found q is some =
         subst (λ (z : Message). Sends (sent_to b t z)) (let same : message.Fetch f n ≡ q = cc in same)
         (fill_born f n t found (is_held b f) refl, (tt, k.names.server))

@@ -1,5 +1,5 @@
 -- What is said of births and flags is said of what a server holds and sends behind any event.
-use Rattle.std.proofs.Common.{ℕ, ◌≡◌, ◌++◌, Bool, true, false, cond, List, [], Option, None, Some, All, inl, inr, refl, sym, ap, subst, ◌∙◌}
+use Rattle.std.proofs.Common.{ℕ, ◌≡◌, ◌++◌, Bool, true, false, cond, List, [], Option, None, Some, is_some, All, inl, inr, refl, sym, ap, subst, ◌∙◌}
 use Rattle.std.specs.Option.{option_map, option_or}
 use Rattle.std.specs.List.{flat_map}
 use Rattle.std.proofs.lemmas.List.Elements.{All-append, All-nil}
@@ -12,6 +12,7 @@ use Rattle.pg_intent.specs.declared.intent.Intent.TheVariants as intent
 use Rattle.pg_msg.specs.declared.message.Ends.{Ends}
 use Rattle.pg_msg.specs.declared.work.Work.{Work}
 use Rattle.pg_msg.specs.Work.{new_work}
+use Rattle.pg_names.specs.Names.{HeldValue, NamesValue, is_held as names_hold, known as names_known}
 use Rattle.pg_register.specs.declared.flag.Flag.{Flag}
 use Rattle.pg_replica.specs.declared.replica.Replica.{Replica}
 use Rattle.pg_server.specs.declared.input.Input.{Input}
@@ -19,13 +20,18 @@ use Rattle.pg_server.specs.declared.input.Input.TheVariants as input
 use Rattle.pg_server.specs.Local.{Effect, closed, effect, finished, first_effect, is_heard, receive, reply_to, sent_again, settled, takes_effect}
 use Rattle.pg_store.specs.declared.store.Store.{Store}
 use Rattle.pg_store.specs.declared.wishes.Wish.{Wish}
-use Rattle.pg_store.specs.Births.{draw_birth, fill_at, has_birth, is_pending, wish_at, with_birth, with_wish}
+use Rattle.pg_store.specs.Births.{birth_of, draw_birth, fill_at, has_birth, is_pending, wish_at, with_birth, with_wish}
 use Rattle.pg_store.specs.Store.{is_held, is_in_time, replica_at}
 use Rattle.pg_store.specs.Together.{birth_at}
 use Rattle.pg_cells.specs.Done.{Done, idle}
+use Rattle.pg_cells.specs.Golds.{is_goldless, is_goldless_held}
+use Rattle.pg_cells.specs.Making.{own_next, raise_flag}
+use Rattle.pg_cells.specs.Ticks.{tick}
+use Rattle.pg_cells.proofs.Settled.{settle_keeps}
 use Rattle.pg_cells.specs.Sending.{Wanted, cells_where, is_any, is_chosen}
 use Rattle.pg_calls.specs.Asking.{fresh_wish, standing, wish_by}
-use Rattle.pg_repair.specs.Requests.{asks, asks_by}
+use Rattle.pg_repair.specs.Requests.{ask_all, asks, asks_by}
+use Rattle.pg_repair.proofs.Steady.{begin_end_stays}
 use Rattle.pg_intent.specs.declared.key.IntentKey.{IntentKey}
 use Rattle.pg_promises.proofs.Choices.{chosen}
 use Rattle.pg_run.specs.Births.{AllNamed}
@@ -36,12 +42,14 @@ use Rattle.pg_births.proofs.EndsSay.{SaysEnds, ends_same}
 use Rattle.pg_births.proofs.Effects.{intended_shapes}
 use Rattle.pg_births.proofs.Forward.{settle_wish, wish_comes}
 use Rattle.pg_births.proofs.Has.{Has, IsWished}
-use Rattle.pg_births.proofs.Pieces.{Shape, settle_stays, shape, shape_at}
+use Rattle.pg_births.proofs.Here.{birth_is, birth_of_held}
+use Rattle.pg_births.proofs.Pieces.{Shape, Stays, flag_stays, rules_stay, settle_stays, shape, shape_at, stays_itself, stays_then}
 use Rattle.pg_births.proofs.Received.{fine_call, fine_received}
 use Rattle.pg_births.proofs.Mails.{OfBirths, SaysSent, linking_to}
 use Rattle.pg_births.proofs.Saying.{IsSaid}
 use Rattle.pg_births.proofs.Sends.{Sorted, asks_all, asks_some, cells_say}
-use Rattle.pg_births.proofs.StoreSays.{say_begin_end, say_settle}
+use Rattle.pg_births.proofs.StoreSays.{say_begin_end, say_flag, say_rules}
+use Rattle.pg_births.proofs.Walking.{said_walk_of_tick}
 
 -- what is known of an input that comes
 abbrev pub Known : (FileId → ℕ → ℕ → Type 0) → ℕ → Input → Type 0
@@ -60,6 +68,14 @@ Freshly G a input.Restart = Unit {0}
 
 wish_birth : (v w : Wish) → ◌≡◌ {A = Option Wish} (Some v) (Some w) → v.birth ≡ w.birth
 wish_birth v w e = (let z : v ≡ w = cc in ap (λ (x : Wish). x.birth) z)
+
+-- what sees no gold is held
+goldless_by : (removed : List ℕ) (server birth : ℕ) (o : Option HeldValue) → is_goldless_held removed server birth o ≡ true → is_some o ≡ true
+goldless_by removed server birth None h = absurd (let z : false ≡ true = h in cc)
+goldless_by removed server birth (Some x) h = refl
+
+goldless_there : (b : Store) (f : FileId) → is_goldless b f ≡ true → is_held b f ≡ true
+goldless_there b f h = goldless_by b.names.removed b.names.server (birth_of b f) (names_known b.names f) h
 
 -- ---- births that go on to the end of the event
 
@@ -89,6 +105,14 @@ module _ (a : Store) (asked : Input) where
       (finished (reply_to a asked) First)
       (intended_shapes (settled First) q ∙ (settle_stays First.store First.work).shapes q) refl
 
+  end_held : (q : FileId) → is_held End q ≡ is_held First.store q
+  end_held q =
+      let s = settled First in
+      chosen (λ (e : Effect). is_held e.store q ≡ is_held First.store q) (takes_effect a asked) (closed (reply_to a asked) First)
+      (finished (reply_to a asked) First)
+      (ap (λ (names : NamesValue). names_hold names q) (begin_end_stays s.store s.work).names
+      ∙ (settle_stays First.store First.work).before.held q) refl
+
   pub born_on : (q : FileId) (n : ℕ) → birth_at First.store q ≡ Some n → birth_at End q ≡ Some n
   born_on q n there = birth_same First.store End q (end_shapes q) ∙ there
 
@@ -111,7 +135,7 @@ module _ (P : FileId → ℕ → ℕ → Type 0) (G : FileId → ℕ → Type 0)
 
   module _ (a : Store) (k : IsKnownAt P s a) (before : Knows a) (sorted : Sorted a) where
     start_said : (moment from : ℕ) → IsSaid P Of G s from (idle a (new_work moment from))
-    start_said moment from = record { store = k.store; edges = k.edges; sent = All-nil (SaysSent P Of G s); asker = refl }
+    start_said moment from = record { store = k.store; edges = k.edges; sent = All-nil (SaysSent P Of G s); tail = All-nil (SaysSent P Of G s); asker = refl }
 
     -- what is asked for already was given out
     fill_given : (q : FileId) (b u : ℕ) → fill_at a q ≡ Some (intent.Fill q b u) → (h : Bool) → is_held a q ≡ h → P q s b
@@ -144,17 +168,23 @@ module _ (P : FileId → ℕ → ℕ → Type 0) (G : FileId → ℕ → Type 0)
     Said0 d = IsSaid P Of G s d.work.from d
 
     said_from : (from : ℕ) (d : Done) → IsSaid P Of G s from d → Said0 d
-    said_from from d h = record { store = h.store; edges = h.edges; sent = h.sent; asker = refl }
+    said_from from d h = record { store = h.store; edges = h.edges; sent = h.sent; tail = h.tail; asker = refl }
 
-    ticked : (moment : ℕ) → Said0 (idle a (sent_again a (new_work moment 0)))
-    ticked moment = record {
+    asked_again : (moment : ℕ) → Said0 (idle a (ask_all a (tick a (new_work moment 0))))
+    asked_again moment = record {
       store = k.store;
       edges = k.edges;
       sent = All-append (SaysSent P Of G s) ([] ++ cells_where a is_any) (flat_map (asks a) a.intents)
           (All-append (SaysSent P Of G s) [] (cells_where a is_any) (All-nil (SaysSent P Of G s)) (cells_say P G s a k.store k.edges before sorted is_any))
           (asks_all P G s a k.store k.edges before sorted);
+      tail = All-nil (SaysSent P Of G s);
       asker = refl;
     }
+
+    ticked : (moment word : ℕ) → Said0 (idle a (sent_again a word (new_work moment 0)))
+    ticked moment word =
+        said_from 0 (idle a (sent_again a word (new_work moment 0)))
+        (said_walk_of_tick P Of G s 0 a word (ask_all a (tick a (new_work moment 0))) (λ f n there. before f n (inl there)) (asked_again moment))
 
     first_said : (asked : Input) → Knows (effect a asked).store → Known P s asked → Freshly G a asked → Said0 (first_effect a asked)
     first_said (input.Call moment c) behind came new =
@@ -164,18 +194,19 @@ module _ (P : FileId → ℕ → ℕ → Type 0) (G : FileId → ℕ → Type 0)
           fresh = λ f t same none full. behind f (draw_birth a) (wish_on a asked f (draw_birth a) (wished_now f t _ same));
         }))
     first_said (input.Tick moment word) behind came new =
-        chosen (λ (w : Work). Said0 (idle a w)) (is_in_time a) (sent_again a (new_work moment 0)) (new_work moment 0)
-        (ticked moment) (said_from 0 (idle a (new_work moment 0)) (start_said moment 0))
+        chosen (λ (w : Work). Said0 (idle a w)) (is_in_time a) (sent_again a word (new_work moment 0)) (new_work moment 0)
+        (ticked moment word) (said_from 0 (idle a (new_work moment 0)) (start_said moment 0))
     first_said (input.Arrival packet) behind came new =
         let w = new_work 0 packet.from in
         chosen Said0 (is_heard a packet) (receive a packet.message w) (idle a w)
         (said_from packet.from (receive a packet.message w)
-        (fine_received P G s packet.from a packet.message w came.0 came.1 new (λ f n there. before f n (inl there)) (start_said 0 packet.from)))
+        (fine_received P G s packet.from a packet.message w came.0 came.1 new (λ f n there. before f n (inl there)) sorted.together (start_said 0 packet.from)))
         (said_from packet.from (idle a w) (start_said 0 packet.from))
     first_said input.Restart behind came new = record {
       store = record { names = k.store.names; intents = k.store.intents };
       edges = k.edges;
       sent = All-nil (SaysSent P Of G s);
+      tail = All-nil (SaysSent P Of G s);
       asker = refl;
     }
 
@@ -185,11 +216,36 @@ module _ (P : FileId → ℕ → ℕ → Type 0) (G : FileId → ℕ → Type 0)
       first_is : Said0 (first_effect a asked)
       first_is = first_said asked behind came new
 
+      -- the rules run and golds are raised: the same is held, and it is said of all flags
+      abbrev Settles : Store → Work → Type 0
+      Settles b w = Stays (first_effect a asked).store b × SaysStore Of s b
+
+      own_given : (b : Store) → Stays (first_effect a asked).store b → (f : FileId) → is_held b f ≡ true → P f s (birth_of b f)
+      own_given b stays f held =
+          let there : is_held (effect a asked).store f ≡ true = end_held a asked f ∙ sym (stays.before.held f) ∙ held in
+          let n = birth_of_held (effect a asked).store then.together f there in
+          let here : birth_at b f ≡ Some n.0 =
+          stays.before.births f ∙ sym (birth_same (first_effect a asked).store (effect a asked).store f (end_shapes a asked f)) ∙ n.1 in
+          subst (P f s) (sym (birth_is b f n.0 here)) (behind f n.0 (inl n.1))
+
+      raised_said : (b : Store) (f : FileId) (w : Work) → is_goldless b f ≡ true → Settles b w → Settles (raise_flag b f w).store (raise_flag b f w).work
+      raised_said b f w is h =
+          let flag = own_next b f true in
+          let R : ℕ → Type 0 = λ z. P f z (birth_of b f) in
+          let one : Of f flag = subst R (sym h.1.names.server) (own_given b h.0 f (goldless_there b f is)) in
+          (stays_then h.0 (flag_stays b f flag), say_flag Of s b f flag one h.1)
+
+      settled_said : SaysStore Of s (settled (first_effect a asked)).store
+      settled_said =
+          let d = first_effect a asked in
+          (settle_keeps Settles (λ b w h. (stays_then h.0 (rules_stay b w), say_rules Of s b w h.1)) raised_said d.store d.work
+          (stays_itself d.store, first_is.store)).1
+
       end_store : SaysStore Of s (effect a asked).store
       end_store =
           let d = first_effect a asked in
           chosen (λ (e : Effect). SaysStore Of s e.store) (takes_effect a asked) (closed (reply_to a asked) d) (finished (reply_to a asked) d)
-          (say_begin_end Of s (settled d).store (settled d).work (say_settle Of s d.store d.work first_is.store)) first_is.store
+          (say_begin_end Of s (settled d).store (settled d).work settled_said) first_is.store
 
       pub end_known : IsKnownAt P s (effect a asked).store
       end_known = record {
@@ -211,3 +267,4 @@ module _ (P : FileId → ℕ → ℕ → Type 0) (G : FileId → ℕ → Type 0)
           let d = end_of a asked in
           let all : AtEnd d.store = subst AtEnd (store_is a asked) at_end in
           all_sent (SaysSent P Of G s) a asked first_is.sent (all (is_chosen d.work.touched d.work.linked) []).0 (all is_any d.work.begun).1
+          first_is.tail

@@ -17,6 +17,7 @@ use Rattle.pg_entries.specs.Entry.{joined}
 use Rattle.pg_intent.specs.declared.intent.Intent.{Intent}
 use Rattle.pg_intent.specs.declared.intent.Intent.TheVariants as intent
 use Rattle.pg_intent.specs.declared.key.IntentKey.{IntentKey}
+use Rattle.pg_intent.specs.declared.key.IntentKey.TheVariants as intent_key
 use Rattle.pg_intent.specs.Intent.{aimed_at, key_of, rejoined}
 use Rattle.pg_intent.specs.Intents.{aimed, begun, changed, ended, has_key, intent_at, stands}
 use Rattle.pg_msg.specs.declared.work.Slot.{Slot}
@@ -34,13 +35,14 @@ use Rattle.pg_store.specs.Births.{fill_at, wish_at}
 use Rattle.pg_store.specs.Links.{is_linked, is_new_link, link, put_link, unlink}
 use Rattle.pg_store.specs.Store.{acknowledge, is_held, is_new_version, is_newer_entry, is_newer_flag, is_newer_place, put_entry, put_flag, put_place, put_version, take_entry, take_flag, take_place, take_version, touch, with_names, write}
 use Rattle.pg_cells.specs.Done.{Done, idle}
-use Rattle.pg_cells.specs.Settling.{settle, touch_all}
+use Rattle.pg_cells.specs.Settling.{rules, touch_all}
 use Rattle.pg_repair.specs.Beginning.{begin_end, end_others, still_stands}
 use Rattle.pg_repair.specs.Confirming.{own_entry}
 use Rattle.pg_repair.specs.Confirms.{begin_confirm, confirm_of, is_doubtful}
 use Rattle.pg_repair.specs.Fills.{begin_fill, begin_fills, fill_of, files_to_fill, to_fill, with_fill_birth, without_wished}
 use Rattle.pg_repair.specs.Intending.{begin_intent, each, in_order}
 use Rattle.pg_repair.specs.Patches.{begin_patch, begin_patches, patch_of}
+use Rattle.pg_graph.specs.Seeks.{aim_seek, begin_seek, begin_seeks, has_seek, seek_again, seek_target, to_seek, was_linked}
 use Rattle.pg_promises.proofs.Choices.{chosen}
 use Rattle.pg_births.specs.Flags.{SaysEntry, SaysIntent, SaysNames, SaysStore}
 use Rattle.pg_births.proofs.Joined.{joins_all}
@@ -199,8 +201,8 @@ module _ (Q : FileId → Flag → Type 0) (n : ℕ) where
   touches_say [] a k = k
   touches_say (t ∷ ts) a k = touches_say ts (touch a t.file t.key) (say_touch a t.file t.key k)
 
-  pub say_settle : (a : Store) (work : Work) → Says a → Says (settle a work).store
-  say_settle a work k =
+  pub say_rules : (a : Store) (work : Work) → Says a → Says (rules a work).store
+  say_rules a work k =
       let st = house work.now (state_of a.names work) in
       touches_say (drop (length work.touched) st.work.touched) (with_names a st.names)
       (say_names a st.names (house_says Q n work.now (state_of a.names work) k.names) k)
@@ -247,6 +249,14 @@ module _ (Q : FileId → Flag → Type 0) (n : ℕ) where
       chosen (λ (d : Done). Says d.store) (is_some (fill_at s file)) (idle s w) (begin_intent b (fill_of s file w) w) k
       (intends_says b (fill_of s file w) w tt to_b)
 
+  -- a Seek names no flag
+  seek_says : (s : Store) (file : FileId) (w : Work) → Says s → Says (begin_seek s file w).store
+  seek_says s file w k =
+      let i = intent.Seek file (seek_target s file) in
+      chosen (λ (d : Done). Says d.store) (has_seek s file) (idle (seek_again s file w) w) (begin_intent s i w)
+      (chosen Says (was_linked w.linked file) (aim_seek s file) s (say_aimed s (intent_key.Seek file) (seek_target s file) k) k)
+      (intends_says s i w tt k)
+
   pub say_begin_end : (s : Store) (w : Work) → Says s → Says (begin_end s w).store
   say_begin_end s w k =
       let files = files_to_fill s.names in
@@ -254,5 +264,7 @@ module _ (Q : FileId → Flag → Type 0) (n : ℕ) where
       let p = begin_patches a w in
       let q = begin_fills p.store (to_fill s.names) p.work in
       let one = say_intents s (filter (still_stands s files) s.intents) (All-filter (still_stands s files) (SaysIntent Q) s.intents k.intents) k in
-      each_says begin_confirm confirm_says (in_order q.work.unsure) q.store q.work
-      (each_says begin_fill fill_says (to_fill s.names) p.store p.work (each_says begin_patch patch_says (in_order w.left) a w one))
+      let r = begin_seeks q.store (to_seek s) q.work in
+      each_says begin_confirm confirm_says (in_order r.work.unsure) r.store r.work
+      (each_says begin_seek seek_says (to_seek s) q.store q.work
+      (each_says begin_fill fill_says (to_fill s.names) p.store p.work (each_says begin_patch patch_says (in_order w.left) a w one)))

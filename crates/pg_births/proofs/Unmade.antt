@@ -1,8 +1,9 @@
 -- Messages, house rules and intentions make no versions.
-use Rattle.std.proofs.Common.{ℕ, zero, suc, ◌≡◌, ◌&&◌, ◌||◌, Bool, true, cond, not, List, [], ◌∷◌, ◌++◌, length, Option, None, Some, refl, ap, ◌∙◌}
+use Rattle.std.proofs.Common.{ℕ, zero, suc, ◌≡◌, ◌==◌, ◌-◌, ◌/◌, ◌%◌, ◌&&◌, ◌||◌, Bool, true, false, cond, not, List, [], ◌∷◌, ◌++◌, length, slice_get, Option, None, Some, refl, ap, ◌∙◌}
 use Rattle.std.specs.Prelude.{nat_lt}
 use Rattle.std.proofs.lemmas.List.{append-nil}
 use Rattle.pg_base.specs.declared.id.FileId.{FileId}
+use Rattle.pg_edges.specs.declared.edge.Edge.{Edge}
 use Rattle.pg_edges.specs.declared.key.Key.{Key}
 use Rattle.pg_edges.specs.declared.key.Key.TheVariants as key
 use Rattle.pg_entries.specs.declared.cell.Cell.{Cell}
@@ -31,7 +32,7 @@ use Rattle.pg_house.specs.Returning.{first_returning, return_first, returned}
 use Rattle.pg_house.proofs.Made.{all_made, left_made, pass_made}
 use Rattle.pg_replica.specs.declared.replica.Replica.{Replica}
 use Rattle.pg_store.specs.declared.store.Store.{Store}
-use Rattle.pg_store.specs.Births.{has_birth, is_pending}
+use Rattle.pg_store.specs.Births.{birth_of, has_birth, is_pending}
 use Rattle.pg_store.specs.Links.{is_clean, is_new_link, knows_later}
 use Rattle.pg_store.specs.Store.{entry_news, is_full, is_held, is_new_version, is_newer_flag, is_newer_place, replica_at, with_names}
 use Rattle.pg_cells.specs.declared.accepting.Manner.{Manner}
@@ -39,14 +40,21 @@ use Rattle.pg_cells.specs.declared.accepting.Manner.TheVariants as manner
 use Rattle.pg_cells.specs.Accepting.{accept, is_accepted, is_answer, link_peer, met, with_gone}
 use Rattle.pg_cells.specs.Cells.{cell, fits, taken, taken_along}
 use Rattle.pg_cells.specs.Done.{Done, idle}
-use Rattle.pg_cells.specs.Making.{own_next, raise_flag}
+use Rattle.pg_cells.specs.Making.{lower_flag, own_next, raise_flag}
 use Rattle.pg_cells.specs.Posting.{reply}
+use Rattle.pg_cells.specs.Settling.{settle}
+use Rattle.pg_cells.proofs.Settled.{settle_keeps}
 use Rattle.pg_cells.specs.Taking.{is_any_news, is_place_news, take_entry_cell, take_entry_noted, take_flag_noted, take_flags_noted, take_place_noted, with_left_if, with_news}
 use Rattle.pg_repair.specs.Confirming.{confirm, confirmed, place_is, place_told, take_told_flags, take_told_place}
 use Rattle.pg_repair.specs.Fetching.{answered_fetch, ends_to, fetch, give, given}
 use Rattle.pg_repair.specs.Filling.{few_golds, fill, full, live_golds}
 use Rattle.pg_repair.specs.Granting.{begin_granted, begun_by, grant}
+use Rattle.pg_graph.specs.Seeking.{answered_seek, seek}
+use Rattle.pg_graph.specs.Seeks.{edges_of}
 use Rattle.pg_repair.specs.Telling.{tell, told}
+use Rattle.pg_graph.specs.Walks.{goes_on, meet_origin, most_hops, onward, walk, walk_along, walk_from, walk_of, walk_of_tick, walk_on, walked, with_few_edges}
+use Rattle.pg_cells.specs.Golds.{is_gold}
+use Rattle.pg_calls.specs.Demoting.{lowered}
 use Rattle.pg_server.specs.Local.{receive}
 use Rattle.pg_promises.proofs.Choices.{chosen}
 use Rattle.pg_run.specs.Journal.{versions_in}
@@ -108,6 +116,13 @@ pub raised_none : (b : Store) (f : FileId) (w : Work) → MakesNone w (raise_fla
 raised_none b f w =
     let flag = own_next b f true in
     flag_none b f flag (with_made w (update.Flag f flag)) ∙ name_after w.made (update.Flag f flag) refl
+
+-- or lowered
+pub lowered_none : (b : Store) (f : FileId) (w : Work) → MakesNone w (lowered b f w).work
+lowered_none b f w =
+    let flag = own_next b f false in
+    chosen (λ (d : Done). MakesNone w d.work) (is_gold b f) (lower_flag b f w) (idle b w)
+    (flag_none b f flag (with_made w (update.Flag f flag)) ∙ name_after w.made (update.Flag f flag) refl) refl
 
 -- a place
 pub placed_none : (b : Store) (f : FileId) (place : Place) (w : Work)
@@ -185,6 +200,45 @@ full_none b ends w =
     (raise_flag whole ends.file w) (idle whole w) (raised_none whole ends.file w) refl)
     refl
 
+seek_none : (b : Store) (file : FileId) (birth : ℕ) (w : Work) → MakesNone w (seek b file birth w).work
+seek_none b file birth w =
+    let later = knows_later b file w.from birth in
+    let linked = link_peer b file w.from birth w in
+    chosen (λ (d : Done). MakesNone w d.work) (is_held b file)
+    (cond later (idle b w) (answered_seek file birth linked)) (idle b (reply b (message.NoneHere ask.Seek file file) w))
+    (chosen (λ (d : Done). MakesNone w d.work) later (idle b w) (answered_seek file birth linked) refl (link_none b file w.from birth w))
+    refl
+
+along_none : (b : Store) (file : FileId) (origin birth hops word : ℕ) (w : Work) (o : Option Edge)
+    → MakesNone w (walk_along b file origin birth hops word w o)
+along_none b file origin birth hops word w None = refl
+along_none b file origin birth hops word w (Some e) = refl
+
+walk_none : (b : Store) (ends : Ends) (origin birth hops word : ℕ) (w : Work) → MakesNone w (walk b ends origin birth hops word w).work
+walk_none b ends origin birth hops word w =
+    let es = onward b ends.file w.from origin in
+    let on = walked b ends origin birth hops word es w in
+    chosen (λ (d : Done). MakesNone w d.work) (is_accepted b w.from manner.Ask ends) (cond (origin == b.names.server) (idle b w) on)
+    (accept b ends manner.Ask w)
+    (chosen (λ (d : Done). MakesNone w d.work) (origin == b.names.server) (idle b w) on refl
+    (chosen (λ (d : Done). MakesNone w d.work) (goes_on hops es) (idle b (walk_on b ends.file origin birth hops word es w))
+    (meet_origin b ends.file origin birth w)
+    (along_none b ends.file origin birth (hops - 1) (word / length es) w (slice_get es (word % length es)))
+    (link_none b ends.file origin birth w)))
+    (accept_none b ends manner.Ask w)
+
+from_none : (b : Store) (word : ℕ) (w : Work) (o : Option FileId) → MakesNone w (walk_from b word w o)
+from_none b word w None = refl
+from_none b word w (Some f) =
+    let es = edges_of b f in
+    along_none b f b.names.server (birth_of b f) most_hops (word / length es) w (slice_get es (word % length es))
+
+pub walk_of_none : (b : Store) (word : ℕ) (w : Work) → MakesNone w (walk_of_tick b word w)
+walk_of_none b word w =
+    let files = with_few_edges b in
+    chosen (MakesNone w) (word == 0) w (walk_of b word files w) refl
+    (from_none b (word / length files) w (slice_get files (word % length files)))
+
 confirm_none : (b : Store) (dir : FileId) (e : Entry) (w : Work) → MakesNone w (confirm b dir e w).work
 confirm_none b dir e w =
     let placed = take_told_place b e w in
@@ -210,6 +264,10 @@ received_none b (message.Cell ends tag c) w = cell_none b ends tag c w
 received_none b (message.Fetch file birth) w = fetch_none b file birth w
 received_none b (message.Grant ends g) w = grant_none b ends g w
 received_none b (message.Full ends) w = full_none b ends w
+received_none b (message.Seek file birth) w = seek_none b file birth w
+received_none b (message.Here ends) w = accept_none b ends manner.Link w
+received_none b (message.Walk ends origin birth hops word) w = walk_none b ends origin birth hops word w
+received_none b (message.Meet ends) w = accept_none b ends manner.Link w
 received_none b (message.Confirm dir e) w = confirm_none b dir e w
 received_none b (message.PlaceIs dir e) w = place_is_none b dir e w
 received_none b (message.Tell dir e) w = tell_none b dir e w
@@ -249,3 +307,9 @@ house_none moment st =
     repeated_none moment ds (break_first moment ds) (λ t. moved_none moment ds t (first_moving t.names (length ds) None ds)) (length ds) two
     ∙ repeated_none moment ds (return_first moment ds) (λ t. returned_none moment ds t (first_returning t.names ds)) (length ds) one
     ∙ ap versions_in (all_made st ds (movable st.names))
+
+-- and no flag that is raised behind them does
+pub settle_none : (b : Store) (w : Work) → MakesNone w (settle b w).work
+settle_none b w =
+    settle_keeps (λ (c : Store) (v : Work). MakesNone w v) (λ c v h. house_none v.now (record { names = c.names; work = v }) ∙ h)
+    (λ c f v is h. raised_none c f v ∙ h) b w refl

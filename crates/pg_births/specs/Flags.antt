@@ -28,10 +28,10 @@ pub record SaysNames (Q : FileId → Flag → Type 0) (s : ℕ) (names : NamesVa
   pub cells : (dir child : FileId) (e : Entry) → cell_at names dir child ≡ Some e
       → (e.child ≡ child) × All (Q child) e.flags
 
--- and of those that are to be told. No replica leaves and none is sought yet
+-- and of those that are to be told. No replica leaves yet
 abbrev pub SaysIntent : OfFlags → Intent → Type 0
 SaysIntent Q (intent.Bye file birth peer peer_birth) = ⊥
-SaysIntent Q (intent.Seek file target) = ⊥
+SaysIntent Q (intent.Seek file target) = Unit {0}
 SaysIntent Q (intent.Fill file birth target) = Unit {0}
 SaysIntent Q (intent.Patch dir e target) = SaysEntry Q e
 SaysIntent Q (intent.Confirm dir child target) = Unit {0}

@@ -21,6 +21,7 @@ use Rattle.pg_store.specs.Store.{is_in_time}
 use Rattle.pg_calls.specs.Answer.{Answer, answered, unless}
 use Rattle.pg_calls.specs.Bodies.{change_file}
 use Rattle.pg_calls.specs.Checks.{dir_at, empty_dir_at, file_at, first_child, in_time, move_along, move_of, new_name, target_at, thing_at, unless_child}
+use Rattle.pg_calls.specs.Demoting.{demoted_at, unless_last, unless_root}
 use Rattle.pg_calls.specs.Naming.{next_id}
 use Rattle.pg_calls.specs.Paths.{new_path_of, path_of, paths_of}
 use Rattle.pg_calls.specs.Refused.{LateDoesNothing}
@@ -62,6 +63,11 @@ module _ (store : Store) (late : is_in_time store ≡ false) where
   target_refused : (t : Target) → IsRefused (target_at store t)
   target_refused (target.Path text) = thing_refused false text
   target_refused (target.Id id) = refused_then (in_time store id) _ (time_refused id)
+
+  demoted_refused : (t : Target) → IsRefused (demoted_at store t)
+  demoted_refused t =
+      refused_then (and_then (target_at store t) unless_root) (unless_last store)
+      (refused_then (target_at store t) unless_root (target_refused t))
 
   name_refused : (child : FileId) (text : List ℕ) → IsRefused (new_name store child text)
   name_refused child text =
@@ -109,8 +115,7 @@ late_does_nothing store (call.Rmdir path) work late =
     idle_by store work (empty_dir_at store path) _ (empty_refused store late path)
 late_does_nothing store (call.Forget id) work late =
     idle_by store work (in_time store (tt {0})) _ (time_refused store late (tt {0}))
-late_does_nothing store (call.Demote t) work late =
-    idle_by store work (in_time store (tt {0})) _ (time_refused store late (tt {0}))
+late_does_nothing store (call.Demote t) work late = idle_by store work (demoted_at store t) _ (demoted_refused store late t)
 late_does_nothing store (call.Drop t) work late =
     idle_by store work (in_time store (tt {0})) _ (time_refused store late (tt {0}))
 late_does_nothing store (call.Giveup view server) work late =

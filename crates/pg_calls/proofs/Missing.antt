@@ -4,7 +4,7 @@ use Rattle.pg_base.specs.declared.id.FileId.{FileId}
 use Rattle.pg_register.specs.Place.{root}
 use Rattle.pg_call.specs.declared.call.Target.{Target}
 use Rattle.pg_call.specs.declared.call.Target.TheVariants as target
-use Rattle.pg_call.specs.declared.refusal.Refusal.TheVariants.{DirFull, Exists, IsDir, Loop, NotDir, Root}
+use Rattle.pg_call.specs.declared.refusal.Refusal.TheVariants.{DirFull, Exists, IsDir, LastGold, Loop, NotDir, Root}
 use Rattle.pg_names.specs.Names.{NamesValue, is_dir, is_full, known}
 use Rattle.pg_house.specs.Returning.{is_root}
 use Rattle.pg_walk.specs.declared.paths.Found.{Found}
@@ -17,6 +17,7 @@ use Rattle.pg_calls.specs.declared.checks.NewName.{NewName}
 use Rattle.pg_calls.specs.declared.paths.Paths.{Paths}
 use Rattle.pg_calls.specs.Answer.{unless}
 use Rattle.pg_calls.specs.Checks.{dir_at, empty_dir_at, file_at, first_child, in_time, move_along, move_of, move_to, new_name, new_name_in, target_at, thing_at, unless_child, unless_shown, when_free}
+use Rattle.pg_calls.specs.Demoting.{demoted_at, has_clean_gold, unless_last, unless_root}
 use Rattle.pg_calls.specs.Paths.{is_none, last_of, new_path_of, path_of, paths_of}
 use Rattle.pg_calls.proofs.Stopping.{StopsAt, stops_new_path, stops_path, stops_paths, stops_then, stops_time, stops_unless}
 
@@ -83,6 +84,13 @@ module _ (store : Store) where
   target_missing (target.Id id) =
       stops_then (IsMissing store.names) (in_time store id) _ (stops_time (IsMissing store.names) store id)
       (λ f. reached_missing store.names (record { file = f; way = way.Id }))
+
+  pub demoted_missing : (t : Target) → StopsAt (IsMissing store.names) (demoted_at store t)
+  demoted_missing t =
+      stops_then (IsMissing store.names) (and_then (target_at store t) unless_root) (unless_last store)
+      (stops_then (IsMissing store.names) (target_at store t) unless_root (target_missing t)
+      (λ f. stops_unless (IsMissing store.names) (is_root f) Root f refl))
+      (λ f. stops_unless (IsMissing store.names) (not (has_clean_gold store f)) LastGold f refl)
 
   -- ---- new names
 

@@ -27,9 +27,10 @@ use Rattle.pg_calls.specs.Answer.{Answer, answer, answered, deny, replied, told,
 use Rattle.pg_calls.specs.Asking.{ask_by, ask_first, fetch, fresh_wish, holder, standing}
 use Rattle.pg_calls.specs.Bodies.{change, change_file, when_fit}
 use Rattle.pg_calls.specs.Checks.{dir_at, empty_dir_at, file_at, in_time, move_of, new_name, target_at}
+use Rattle.pg_calls.specs.Demoting.{demoted_at}
 use Rattle.pg_calls.specs.Naming.{next_id}
 use Rattle.pg_calls.specs.Refused.{OnlyAsks, RefusedOnlyAsks, SendsFetch}
-use Rattle.pg_calls.proofs.Missing.{IsMissing, dir_missing, empty_missing, file_missing, move_missing, name_missing, target_missing}
+use Rattle.pg_calls.proofs.Missing.{IsMissing, demoted_missing, dir_missing, empty_missing, file_missing, move_missing, name_missing, target_missing}
 use Rattle.pg_calls.proofs.Stopping.{StopsAt, is_not_yet, stops_then, stops_time, stops_unless}
 
 -- ---- what is asked for
@@ -164,7 +165,8 @@ refused_only_asks store (call.Unlink path) work why =
 refused_only_asks store (call.Rmdir path) work why =
     passes store work why (empty_dir_at store path) _ (empty_missing store path) (λ x h. absurd (no_refusal _ why h refl))
 refused_only_asks store (call.Forget id) work why = stops store work why
-refused_only_asks store (call.Demote target) work why = stops store work why
+refused_only_asks store (call.Demote target) work why =
+    passes store work why (demoted_at store target) _ (demoted_missing store target) (λ x h. absurd (no_refusal _ why h refl))
 refused_only_asks store (call.Drop target) work why = stops store work why
 refused_only_asks store (call.Giveup view server) work why = stops store work why
 refused_only_asks store call.Status work why =

@@ -7,6 +7,7 @@ use Rattle.pg_store.specs.declared.store.Store.{Store}
 use Rattle.pg_calls.specs.Answer.{Answer}
 use Rattle.pg_calls.specs.Naming.{create, mkdir, rename, rmdir, unlink}
 use Rattle.pg_calls.specs.Bodies.{cut, read, write}
+use Rattle.pg_calls.specs.Demoting.{demote}
 use Rattle.pg_calls.specs.Looks.{fresh, ls, stat, status, stop}
 
 -- the calls that are built
@@ -23,7 +24,7 @@ is_built (call.Rename from to) = true
 is_built (call.Unlink path) = true
 is_built (call.Rmdir path) = true
 is_built (call.Forget id) = false
-is_built (call.Demote target) = false
+is_built (call.Demote target) = true
 is_built (call.Drop target) = false
 is_built (call.Giveup view server) = false
 is_built call.Status = true
@@ -43,7 +44,7 @@ do_call store (call.Rename from to) work = rename store from to work
 do_call store (call.Unlink path) work = unlink store path work
 do_call store (call.Rmdir path) work = rmdir store path work
 do_call store (call.Forget id) work = stop store work
-do_call store (call.Demote target) work = stop store work
+do_call store (call.Demote target) work = demote store target work
 do_call store (call.Drop target) work = stop store work
 do_call store (call.Giveup view server) work = stop store work
 do_call store call.Status work = status store work

@@ -6,5 +6,6 @@ pub mod Making
 pub mod Naming
 pub mod Bodies
 pub mod Looks
+pub mod Demoting
 pub mod Calls
 pub mod Refused

@@ -4,6 +4,7 @@ ghost use Rattle.std.specs.Prelude.{◌≡◌, IfOk, OnOk};
 ghost use Rattle.pg_calls.specs.Calls.{do_call, is_built};
 
 use crate::bodies::{cut, read, write};
+use crate::demoting::demote;
 use crate::looks::{fresh, ls, stat, status, stop};
 use crate::naming::{create, mkdir, rename, rmdir, unlink};
 use pg_call::{Call, Reply};
@@ -27,11 +28,10 @@ pub fn is_built(call: &Call) -> bool
         | Call::Rename { .. }
         | Call::Unlink { .. }
         | Call::Rmdir { .. }
+        | Call::Demote { .. }
         | Call::Status
         | Call::Stop => true,
-        Call::Forget { .. } | Call::Demote { .. } | Call::Drop { .. } | Call::Giveup { .. } => {
-            false
-        }
+        Call::Forget { .. } | Call::Drop { .. } | Call::Giveup { .. } => false,
     }
 }
 
@@ -62,11 +62,10 @@ pub fn do_call(store: &mut Store, call: &Call, work: &mut Work) -> Result<Reply,
         Call::Rename { from, to } => rename(store, from.as_slice(), to.as_slice(), work)?,
         Call::Unlink { path } => unlink(store, path.as_slice(), work)?,
         Call::Rmdir { path } => rmdir(store, path.as_slice(), work)?,
+        Call::Demote { target } => demote(store, target, work)?,
         Call::Status => status(store, work)?,
-        Call::Forget { .. }
-        | Call::Demote { .. }
-        | Call::Drop { .. }
-        | Call::Giveup { .. }
-        | Call::Stop => stop(store, work)?,
+        Call::Forget { .. } | Call::Drop { .. } | Call::Giveup { .. } | Call::Stop => {
+            stop(store, work)?
+        }
     })
 }

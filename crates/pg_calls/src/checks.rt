@@ -156,7 +156,7 @@ fn move_to(names: &Names, thing: FileId, path: &Path, dir: FileId) -> Result<Mov
     Ok(Move { thing, to })
 }
 
-fn is_root(file: &FileId) -> bool
+pub(crate) fn is_root(file: &FileId) -> bool
     ensures { result ≡ is_root file.now }
 {
     file.compare(&ROOT).is_eq()

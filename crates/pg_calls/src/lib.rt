@@ -5,6 +5,7 @@ mod asking;
 mod bodies;
 mod calls;
 mod checks;
+mod demoting;
 mod denied;
 mod laws;
 mod looks;

@@ -8,4 +8,6 @@ mod calls;
 #[cfg(test)]
 mod checks;
 #[cfg(test)]
+mod demoting;
+#[cfg(test)]
 mod servers;

@@ -1,11 +1,12 @@
--- Flags that a thing takes, one after another.
+-- Flags that a thing takes, one after another, and things that become gold.
 use Rattle.std.proofs.Common.{◌≡◌, ℕ, ◌+◌, ◌<◌, drop, get_or, length, List, sym, ap, ◌∙◌}
 use Rattle.std.proofs.lemmas.List.{at_drop_more}
 use Rattle.pg_base.specs.declared.id.FileId.{FileId}
 use Rattle.pg_register.specs.declared.flag.Flag.{Flag}
 use Rattle.pg_msg.specs.declared.work.Work.{Work}
 use Rattle.pg_store.specs.declared.store.Store.{Store}
-use Rattle.pg_cells.specs.Done.{Done}
+use Rattle.pg_cells.specs.Done.{Done, idle}
+use Rattle.pg_cells.specs.Settling.{raise_gold, raise_golds}
 use Rattle.pg_cells.specs.Taking.{take_flag_noted, take_flags_noted}
 
 -- one more
@@ -19,3 +20,14 @@ one_flag s t v w file flags i d r lt store work left =
     ap (λ (x : Store). take_flags_noted x file rest w) store
     ∙ ap (λ (x : Work). take_flags_noted (take_flag_noted s file (get_or flags i d) v).store file rest x) work
     ∙ sym (at_drop_more (λ (fs : List Flag). take_flags_noted s file fs v) flags i d lt) ∙ left
+
+-- ---- a loop over things
+
+pub one_gold : (s t : Store) (v w : Work) (files : List FileId) (i : ℕ) (f : FileId) (r : Done) → i < length files
+    → t ≡ (raise_gold s (get_or files i f) v).store → w ≡ (raise_gold s (get_or files i f) v).work
+    → raise_golds (drop i files) (idle s v) ≡ r → raise_golds (drop (i + 1) files) (idle t w) ≡ r
+one_gold s t v w files i f r lt store work left =
+    let rest = drop (i + 1) files in
+    ap (λ (x : Store). raise_golds rest (idle x w)) store
+    ∙ ap (λ (x : Work). raise_golds rest (idle (raise_gold s (get_or files i f) v).store x)) work
+    ∙ sym (at_drop_more (λ (fs : List FileId). raise_golds fs (idle s v)) files i f lt) ∙ left

@@ -7,13 +7,18 @@ use Rattle.pg_msg.specs.declared.message.Message.TheVariants as message
 use Rattle.pg_msg.specs.declared.work.Work.{Work}
 use Rattle.pg_msg.specs.Work.{with_linked}
 use Rattle.pg_store.specs.declared.store.Store.{Store}
-use Rattle.pg_store.specs.Births.{has_birth, is_pending}
+use Rattle.pg_store.specs.Births.{birth_of, has_birth, is_pending}
 use Rattle.pg_store.specs.Links.{is_new_link, knows_later, link}
 use Rattle.pg_store.specs.Store.{replica_of}
 use Rattle.pg_cells.specs.declared.accepting.Manner.{Manner}
 use Rattle.pg_cells.specs.declared.accepting.Manner.TheVariants as manner
 use Rattle.pg_cells.specs.Done.{Done, idle, link_of}
 use Rattle.pg_cells.specs.Posting.{reply}
+
+-- the edge from the replica here to one of this birth
+abbrev pub ends_to : Store → FileId → ℕ → Ends
+ends_to store file birth =
+    record { file = file; sender = birth_of store file; receiver = birth }
 
 -- ---- links
 

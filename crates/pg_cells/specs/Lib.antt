@@ -1,13 +1,16 @@
 pub mod Done
 pub mod Posting
 pub mod Accepting
+pub mod Intending
 pub mod Taking
 pub mod Making
 pub mod Sending
 pub mod Cells
 pub mod Acks
 pub mod Ticks
+pub mod Golds
 pub mod Finish
 pub mod Settling
+pub mod Raised
 pub mod Counts
 pub mod Choice

@@ -1,5 +1,5 @@
 -- Flags that a server makes. It takes them as it takes what comes.
-use Rattle.std.specs.Prelude.{Bool, true}
+use Rattle.std.specs.Prelude.{Bool, true, false}
 use Rattle.pg_base.specs.declared.id.FileId.{FileId}
 use Rattle.pg_register.specs.declared.flag.Flag.{Flag}
 use Rattle.pg_register.specs.Flag.{next_flag}
@@ -25,3 +25,7 @@ make_flag store file flag work =
 -- it raises it
 abbrev pub raise_flag : Store → FileId → Work → Done
 raise_flag store file work = make_flag store file (own_next store file true) work
+
+-- it lowers it
+abbrev pub lower_flag : Store → FileId → Work → Done
+lower_flag store file work = make_flag store file (own_next store file false) work

@@ -1,7 +1,7 @@
 //! Messages along edges: which are accepted, and what the others come to.
 
 ghost use Rattle.std.specs.Prelude.{◌≡◌, IfOk, OnOk};
-ghost use Rattle.pg_cells.specs.Accepting.{accept, is_accepted, is_answer, is_current, link_peer, meets, met, with_gone, with_link};
+ghost use Rattle.pg_cells.specs.Accepting.{accept, ends_to, is_accepted, is_answer, is_current, link_peer, meets, met, with_gone, with_link};
 ghost use Rattle.pg_cells.specs.Done.{link_of};
 
 use crate::posting::post;
@@ -32,6 +32,17 @@ pub(crate) fn link_of(from: NodeId, ends: &Ends) -> Link
         own: ends.receiver,
         peer: from,
         birth: ends.sender,
+    }
+}
+
+/// The edge from the replica here to one of this birth.
+pub fn ends_to(store: &Store, file: FileId, birth: u64) -> Ends
+    ensures { result ≡ ends_to store.now file birth }
+{
+    Ends {
+        file,
+        sender: store.birth(&file),
+        receiver: birth,
     }
 }
 

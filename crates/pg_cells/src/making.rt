@@ -1,7 +1,7 @@
 //! Flags that a server makes. It takes them as it takes what comes.
 
 ghost use Rattle.std.specs.Prelude.{◌≡◌, IfOk, OnOk};
-ghost use Rattle.pg_cells.specs.Making.{make_flag, own_next, raise_flag};
+ghost use Rattle.pg_cells.specs.Making.{lower_flag, make_flag, own_next, raise_flag};
 
 use crate::taking::take_flag;
 use pg_base::{FileId, Stamp};
@@ -41,6 +41,16 @@ pub fn raise_flag(store: &mut Store, file: FileId, work: &mut Work) -> Result<()
     ensures work { OnOk result (work.new ≡ (raise_flag store.old file work.old).work) }
 {
     let flag = next_flag(store, file, true)?;
+    make_flag(store, file, flag, work)?;
+    Ok(())
+}
+
+/// The server lowers its flag of a held thing. After out of memory a part may be done.
+pub fn lower_flag(store: &mut Store, file: FileId, work: &mut Work) -> Result<(), AllocError>
+    ensures store { OnOk result (store.new ≡ (lower_flag store.old file work.old).store) }
+    ensures work { OnOk result (work.new ≡ (lower_flag store.old file work.old).work) }
+{
+    let flag = next_flag(store, file, false)?;
     make_flag(store, file, flag, work)?;
     Ok(())
 }

@@ -1,7 +1,7 @@
 //! What comes of messages and ticks at a server that has one peer.
 
 use pg_base::{FileId, Kind, Policy, Shared, SharedBytes, Stamp};
-use pg_cells::{ack, cell, finish, key_count, settle, tick};
+use pg_cells::{ack, cell, finish, is_gold, key_count, settle, tick};
 use pg_edges::Key;
 use pg_entries::Cell;
 use pg_msg::{Ends, Work};
@@ -92,20 +92,36 @@ fn cells_are_answered_and_sent_on(rt: HostRuntime) -> Result<(), Fail> {
     store.link(DIR, 2, 1)?;
     store.acknowledge(DIR, &LINK, Key::Place, 1);
     let events = [
-        // The place is answered, and goes back with the entry that the root gets.
-        (Given::Place(40), (3, 2, 2)),
-        (Given::Place(40), (1, 0, 2)),
-        (Given::Tick, (2, 0, 2)),
-        (Given::Ack(DIR, Key::Place, 2), (0, 0, 1)),
+        // The place is answered, and goes back with the entry that the root gets. The directory sees no gold: the
+        // server raises its flag, by which the entry is touched anew.
+        (Given::Place(40), (4, 4, 3)),
+        (Given::Place(40), (1, 0, 3)),
+        (Given::Tick, (3, 0, 3)),
+        (Given::Ack(ROOT, Key::Entry(DIR), 3), (0, 0, 3)),
+        (Given::Ack(DIR, Key::Place, 2), (0, 0, 2)),
         // A later place is touched anew, and so is the entry: the answers to the earlier cells are late.
-        (Given::Place(41), (3, 2, 2)),
-        (Given::Ack(ROOT, Key::Entry(DIR), 3), (0, 0, 2)),
-        (Given::Ack(DIR, Key::Place, 4), (0, 0, 1)),
-        (Given::Ack(ROOT, Key::Entry(DIR), 5), (0, 0, 0)),
+        (Given::Place(41), (3, 2, 3)),
+        (Given::Ack(ROOT, Key::Entry(DIR), 5), (0, 0, 3)),
+        (Given::Ack(DIR, Key::Place, 6), (0, 0, 2)),
+        (Given::Ack(ROOT, Key::Entry(DIR), 7), (0, 0, 1)),
+        (Given::Ack(DIR, Key::Flag(1), 4), (0, 0, 0)),
         (Given::Tick, (0, 0, 0)),
     ];
     for (given, counts) in events {
         assert_eq!(rt; happen(&mut store, alloc, given)?, counts);
     }
+    assert!(rt; is_gold(&store, &DIR));
+    Ok(())
+}
+
+#[test]
+fn filling_things_are_not_raised(rt: HostRuntime) -> Result<(), Fail> {
+    let alloc = rt.alloc();
+    let mut store = Store::new(alloc, 1, 2)?;
+    store.begin(DIR, 1, Policy::Last, Own::blank(alloc, DIR)?, false)?;
+    store.link(DIR, 2, 1)?;
+    store.acknowledge(DIR, &LINK, Key::Place, 1);
+    assert_eq!(rt; happen(&mut store, alloc, Given::Place(40))?, (3, 2, 2));
+    assert!(rt; !is_gold(&store, &DIR));
     Ok(())
 }

@@ -143,8 +143,9 @@ fn what_is_granted_is_filled(rt: HostRuntime) -> Result<(), Fail> {
     no_grant(&mut store, DIR, 4, &work);
     take_grant(&mut store, alloc, &mut work)?;
     assert!(rt; store.names.is_held(&DIR) && !store.names.is_full(&DIR));
+    // No edge of it reaches a gold, so it seeks.
     begin_end(&mut store, &mut work)?;
-    assert_eq!(rt; store.intents.len(), 1);
+    assert_eq!(rt; store.intents.len(), 2);
     // It sees no gold, so it raises its own flag.
     full(&mut store, ENDS, &mut work)?;
     assert_eq!(rt; (store.names.is_full(&DIR), work.made.len()), (true, 1));

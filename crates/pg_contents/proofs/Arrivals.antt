@@ -27,7 +27,7 @@ use Rattle.pg_store.specs.declared.store.Store.{Store}
 use Rattle.pg_store.specs.Store.{is_held, replica_at, take_version}
 use Rattle.pg_cells.specs.Done.{Done}
 use Rattle.pg_promises.proofs.Choices.{chosen}
-use Rattle.pg_contents.proofs.Changes.{Core, IsOrdered, Keeps, StaysFull, by_altered, core_at, core_of}
+use Rattle.pg_contents.proofs.Changes.{Core, IsOrdered, Keeps, by_altered, core_at, core_of}
 use Rattle.pg_contents.proofs.Files.{HoldsFile, covered_upto, file_came}
 use Rattle.pg_contents.proofs.Quiet.{Quiet}
 use Rattle.pg_contents.proofs.Sending.{AllCarry, none_carry}
@@ -47,12 +47,12 @@ pub record Arrives (s : ℕ) (a : Store) (us : List Born) (p : FileId → Policy
   pub last : a.names.last ≤ d.store.names.last
   pub files : a.files ≤ d.store.files
   pub order : IsOrdered a.replicas → IsOrdered d.store.replicas
-  pub full : StaysFull a d.store
   pub held : (file : FileId) (k : Core) → core_at d.store file ≡ Some k
       → IsNamedBy s d.store N file
   pub stands : Stands s d.store us p (more_came more came)
   pub none : versions_in d.work.made ≡ []
   pub sent : AllCarry us p N d.work.sent
+  pub tail : AllCarry us p N d.work.tail
 
 -- ---- no version is among what comes
 
@@ -115,7 +115,6 @@ module _ {s : ℕ} {a : Store} {us : List Born} {p : FileId → Policy} {N : Fil
     last = h.keeps.last;
     files = h.keeps.files;
     order = h.keeps.order;
-    full = h.keeps.full;
     held = λ f c e. inl (k.held f c (sym (h.keeps.each f) ∙ e));
     stands = stands_same (stands_kept k.stands d.store h.keeps)
         (more_came (map take_of d.work.made ++ more) came)
@@ -123,6 +122,7 @@ module _ {s : ℕ} {a : Store} {us : List Born} {p : FileId → Policy} {N : Fil
         (both_none q (map take_of d.work.made) more (h.takes q) (none q)));
     none = h.none;
     sent = h.sent (none_carry us p N);
+    tail = h.tail (none_carry us p N);
   }
 
   -- ---- a version

@@ -12,6 +12,7 @@ use Rattle.pg_intent.specs.Intents.{intent_at}
 use Rattle.pg_msg.specs.declared.message.Message.{Message}
 use Rattle.pg_msg.specs.declared.message.Sent.{Sent}
 use Rattle.pg_msg.specs.declared.work.Work.{Work}
+use Rattle.pg_msg.specs.Work.{with_tail}
 use Rattle.pg_names.specs.declared.own.Own.{Own}
 use Rattle.pg_names.specs.Names.{cell_at, own_at}
 use Rattle.pg_run.specs.Journal.{Born}
@@ -32,6 +33,13 @@ module _ (us : List Born) (p : FileId → Policy) (N : FileId → Type 0) where
       → AllCarry us p N work.sent → AllCarry us p N (post store to m work).sent
   post_carry store to m work h sent =
       All-append IsSent work.sent (sent_to store to m ∷ []) sent
+      (All-cons IsSent (sent_to store to m) [] h (All-nil IsSent))
+
+  -- and one that goes last
+  pub last_carry : (store : Store) (to : ℕ) (m : Message) (work : Work) → Carries us p N m
+      → AllCarry us p N work.tail → AllCarry us p N (with_tail work (sent_to store to m)).tail
+  last_carry store to m work h tail =
+      All-append IsSent work.tail (sent_to store to m ∷ []) tail
       (All-cons IsSent (sent_to store to m) [] h (All-nil IsSent))
 
   module _ (store : Store) where

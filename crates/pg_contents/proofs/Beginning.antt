@@ -140,7 +140,6 @@ module _ {s : ℕ} {a : Store} {us : List Born} {p : FileId → Policy} {N : Fil
         last = all_alters.last;
         files = all_alters.files;
         order = all_alters.order;
-        full = all_alters.full;
         held = thing_held Thing.store (omega arith);
         stands = stands_same
             (stands_begun k.stands Thing.store id (a.births + 1) policy all_alters not_held same)
@@ -149,6 +148,7 @@ module _ {s : ℕ} {a : Store} {us : List Born} {p : FileId → Policy} {N : Fil
             (dir_none f));
         none = q.none;
         sent = q.sent (none_carry us p N);
+        tail = q.tail (none_carry us p N);
       }
 
   -- ---- a file
@@ -256,12 +256,13 @@ module _ {s : ℕ} {a : Store} {us : List Born} {p : FileId → Policy} {N : Fil
           last = omega arith;
           files = omega arith;
           order = λ z. alters.order (all_alters.order z);
-          full = λ f z. alters.full f (all_alters.full f z);
           dated = write_last Thing.store id x is stamp first_ranges;
           held = wrote_held;
           stands = made_stands thing_stands k.made k.few id x is few_births no_head stamp own later
               fresh first_ranges;
           sent = (thing_quiet (version ∷ us) policies_with N).sent
+              (none_carry (version ∷ us) policies_with N);
+          tail = (thing_quiet (version ∷ us) policies_with N).tail
               (none_carry (version ∷ us) policies_with N);
           same = same_named;
           rest = λ f. rest_by f (is_same_file id f) refl;

@@ -23,13 +23,13 @@ use Rattle.pg_calls.specs.Calls.{do_call}
 use Rattle.pg_server.specs.declared.input.Input.TheVariants as input
 use Rattle.pg_server.specs.Local.{Effect, closed, done_of, effect, finished}
 use Rattle.pg_contents.proofs.Arrivals.{Arrives, more_came, quiet_arrives}
-use Rattle.pg_contents.proofs.Changes.{Core, IsOrdered, StaysFull, birth_in, birth_is, core_at}
+use Rattle.pg_contents.proofs.Changes.{Core, IsOrdered, birth_in, birth_is, core_at}
 use Rattle.pg_contents.proofs.Ends.{Ends, closed_ends, finished_ends}
 use Rattle.pg_contents.proofs.Histories.{IsNextUpdate}
 use Rattle.pg_contents.proofs.Making.{Makes}
 use Rattle.pg_contents.proofs.Outcomes.{begun_none, brought_by, call_comes, policies_then}
 use Rattle.pg_contents.proofs.Quiet.{Quiet}
-use Rattle.pg_contents.proofs.Rules.{ArePlaces}
+use Rattle.pg_contents.proofs.Rules.{AreNames}
 use Rattle.pg_contents.proofs.Sending.{AllCarry}
 use Rattle.pg_contents.proofs.Servers.{IsNamedBy, IsServer, Stands, came_of, stands_kept, stands_same}
 use Rattle.pg_contents.proofs.Takes.{HasNone, both_none, stamps_after, stamps_joined}
@@ -43,7 +43,6 @@ pub record IsPassive (s : ℕ) (a : Store) (us : List Born) (p : FileId → Poli
   pub last : a.names.last ≤ done.store.names.last
   pub files : a.files ≤ done.store.files
   pub order : IsOrdered a.replicas → IsOrdered done.store.replicas
-  pub full : StaysFull a done.store
   pub held : (f : FileId) (k : Core) → core_at done.store f ≡ Some k → IsNamedBy s done.store N f
   pub stands : Stands s done.store us p (came_of takes)
   pub sent : AllCarry us p N done.out.sent
@@ -58,7 +57,6 @@ pub record IsMaking (s : ℕ) (a : Store) (us : List Born) (p q : FileId → Pol
   pub last : a.names.last ≤ done.store.names.last
   pub files : a.files ≤ done.store.files
   pub order : IsOrdered a.replicas → IsOrdered done.store.replicas
-  pub full : StaysFull a done.store
   pub dated : version.made.stamp.time ≤ done.store.names.last
   pub named : IsNamedBy s done.store N version.made.file
   pub held : (f : FileId) (k : Core) → core_at done.store f ≡ Some k → IsNamedBy s done.store N f
@@ -110,15 +108,14 @@ module _ {s : ℕ} {a : Store} {us : List Born} {p : FileId → Policy} {N : Fil
         last = omega arith;
         files = omega arith;
         order = λ z. e.keeps.order (h.order z);
-        full = λ f z. e.keeps.full f (h.full f z);
         held = λ f c is. named_later s d.store done.store N f many
             (h.held f c (sym (e.keeps.each f) ∙ is));
         stands = stands;
-        sent = e.sends s us p N (came_of takes) stands h.sent;
+        sent = e.sends s us p N (came_of takes) stands h.sent h.tail;
       }
 
   came_then : (reply : Option Reply) (d : Done) (more : List Take)
-      → ArePlaces (drop (length d.work.made) (closed reply d).out.made) → (q : FileId)
+      → AreNames (drop (length d.work.made) (closed reply d).out.made) → (q : FileId)
       → stamps_taken q (passed_with a.names.removed (passed a.names.removed (more ++ before))
       (drop (length d.work.made) (closed reply d).out.made))
       ≡ stamps_taken q more ++ stamps_taken q before
@@ -156,12 +153,12 @@ module _ {s : ℕ} {a : Store} {us : List Born} {p : FileId → Policy} {N : Fil
     last = h.last;
     files = h.files;
     order = h.order;
-    full = h.full;
     held = h.held;
     stands = stands_same h.stands (more_came [] (came_of before))
         (λ q. sym (ap (λ (ts : List Stamp). ts ++ stamps_taken q before) (none q)));
     none = h.none;
     sent = h.sent;
+    tail = h.tail;
   }
 
   pub quiet_both : (now from : ℕ) (d : Done) → Quiet us p N a (new_work now from) d
@@ -219,14 +216,13 @@ module _ {s : ℕ} {a : Store} {us : List Born} {p : FileId → Policy} {N : Fil
           last = omega arith;
           files = omega arith;
           order = λ z. e.keeps.order (m.order z);
-          full = λ f z. e.keeps.full f (m.full f z);
           dated = omega arith;
           named = named_later s d.store done.store N u.made.file many
               (m.held u.made.file m.core m.here);
           held = λ f c is. named_later s d.store done.store N f many
               (m.held f c (sym (e.keeps.each f) ∙ is));
           stands = stands;
-          sent = e.sends s (u ∷ us) q N (came_of (CallTakes true)) stands m.sent;
+          sent = e.sends s (u ∷ us) q N (came_of (CallTakes true)) stands m.sent m.tail;
           same = m.same;
           rest = λ f. rest_later s d.store done.store N f (q f ≡ p f) many (m.rest f);
         }

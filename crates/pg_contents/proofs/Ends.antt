@@ -1,13 +1,17 @@
 -- How an event ends: the house rules run, intentions end and begin, and what was touched or linked
 -- is sent. No content changes then.
-use Rattle.std.proofs.Common.{ℕ, ◌≡◌, List, [], ◌∷◌, ◌++◌, drop, length, option_map, Option, refl, sym, ap, subst, ◌∙◌, arith}
+use Rattle.std.proofs.Common.{ℕ, ◌≡◌, true, List, [], ◌∷◌, ◌++◌, drop, length, option_map, Option, refl, sym, ap, subst, ◌∙◌, arith}
+use Rattle.std.proofs.lemmas.List.{append-nil, append_assoc}
+use Rattle.std.proofs.lemmas.List.Elements.{All-append}
 use Rattle.std.proofs.Math.Seq.{drop-append_seam}
 use Rattle.pg_base.specs.declared.id.FileId.{FileId}
 use Rattle.pg_base.specs.declared.policy.Policy.{Policy}
 use Rattle.pg_call.specs.declared.reply.Reply.{Reply}
+use Rattle.pg_edges.specs.declared.key.Key.TheVariants as key
 use Rattle.pg_msg.specs.declared.update.Update.{Update}
-use Rattle.pg_msg.specs.declared.work.Touched.{Touched}
+use Rattle.pg_msg.specs.declared.update.Update.TheVariants as update
 use Rattle.pg_msg.specs.declared.work.Work.{Work}
+use Rattle.pg_msg.specs.Work.{with_made}
 use Rattle.pg_names.specs.Names.{NamesValue, is_full}
 use Rattle.pg_house.specs.House.{house}
 use Rattle.pg_house.proofs.Fullness.{rules_full}
@@ -15,20 +19,26 @@ use Rattle.pg_house.specs.Work.{state_of}
 use Rattle.pg_replica.specs.Replicas.{ByFile, replica_in}
 use Rattle.pg_run.specs.Journal.{Born, versions_in}
 use Rattle.pg_store.specs.declared.store.Store.{Store}
-use Rattle.pg_store.specs.Store.{with_names}
+use Rattle.pg_store.specs.Store.{is_newer_flag, with_names}
 use Rattle.pg_cells.specs.Done.{Done, idle}
 use Rattle.pg_cells.specs.Finish.{finish}
+use Rattle.pg_cells.specs.Golds.{is_goldless}
+use Rattle.pg_cells.specs.Making.{own_next, raise_flag}
 use Rattle.pg_cells.specs.Sending.{is_chosen}
-use Rattle.pg_cells.specs.Settling.{settle}
+use Rattle.pg_cells.specs.Settling.{rules, settle}
+use Rattle.pg_cells.proofs.News.{news_made}
+use Rattle.pg_cells.proofs.Settled.{settle_keeps}
 use Rattle.pg_repair.specs.Beginning.{begin_end}
+use Rattle.pg_repair.specs.Requests.{ask_begun}
 use Rattle.pg_repair.proofs.Steady.{IsSteady, begin_end_stays}
 use Rattle.pg_server.specs.Local.{Effect, closed, finished}
-use Rattle.pg_promises.proofs.Front.{house_sent}
+use Rattle.pg_promises.proofs.Front.{house_sent, house_tail}
+use Rattle.pg_promises.proofs.Settling.{raised_work}
 use Rattle.pg_contents.proofs.Asking.{begun_carry}
 use Rattle.pg_contents.proofs.Changes.{IsOrdered, Keeps, Keeps-refl, Keeps-trans, core_of}
-use Rattle.pg_contents.proofs.Pieces.{names_keep, touches_keep}
-use Rattle.pg_contents.proofs.Rules.{ArePlaces, house_makes}
-use Rattle.pg_contents.proofs.Sending.{AllCarry, more_carry}
+use Rattle.pg_contents.proofs.Pieces.{flag_keeps, names_keep, touches_keep}
+use Rattle.pg_contents.proofs.Rules.{AreNames, both_names, house_makes, places_names}
+use Rattle.pg_contents.proofs.Sending.{AllCarry, CarriesSent, more_carry}
 use Rattle.pg_contents.proofs.Servers.{Came, Stands}
 use Rattle.pg_contents.proofs.Takes.{same_versions}
 
@@ -36,12 +46,12 @@ use Rattle.pg_contents.proofs.Takes.{same_versions}
 pub record Ends (b : Store) (work : Work) (done : Effect) : Type 1 where
   pub keeps : Keeps b done.store
   pub made : versions_in done.out.made ≡ versions_in work.made
-  pub behind : ArePlaces (drop (length work.made) done.out.made)
+  pub behind : AreNames (drop (length work.made) done.out.made)
   pub sends : (s : ℕ) (us : List Born) (p : FileId → Policy) (N : FileId → Type 0) (came : Came)
-      → Stands s done.store us p came → AllCarry us p N work.sent
+      → Stands s done.store us p came → AllCarry us p N work.sent → AllCarry us p N work.tail
       → AllCarry us p N done.out.sent
 
-none_behind : (us : List Update) → ArePlaces (drop (length us) us)
+none_behind : (us : List Update) → AreNames (drop (length us) us)
 none_behind [] = tt
 none_behind (u ∷ us) = none_behind us
 
@@ -59,7 +69,67 @@ steady_keeps a v d k =
       each = λ f. ap (λ (rs : ByFile). option_map core_of (replica_in rs f)) k.replicas;
     }
 
--- what was done, and then what is sent at the end
+-- ---- the rules run, and golds are raised
+
+-- from this store and this work it came to that: names were made, and nothing was sent
+pub record Settles (b : Store) (work : Work) (d : Done) : Type 0 where
+  pub keeps : Keeps b d.store
+  pub names : List Update
+  pub are : AreNames names
+  pub made : d.work.made ≡ work.made ++ names
+  pub sent : d.work.sent ≡ work.sent
+  pub tail : d.work.tail ≡ work.tail
+
+module _ (b : Store) (work : Work) where
+  abbrev SoFar : Store → Work → Type 0
+  SoFar c w = Settles b work (idle c w)
+
+  rules_settle : (c : Store) (w : Work) → SoFar c w → SoFar (rules c w).store (rules c w).work
+  rules_settle c w h =
+      let st = state_of c.names w in
+      let behind_names = (house w.now st).names in
+      let behind_keys = drop (length w.touched) (house w.now st).work.touched in
+      let k = house_makes w.now st in
+      record {
+        keeps = Keeps-trans h.keeps
+            (Keeps-trans (names_keep c behind_names k.server_is k.up (λ f g. rules_full w.now st f ∙ g))
+            (touches_keep (with_names c behind_names) behind_keys));
+        names = h.names ++ k.places;
+        are = both_names h.names k.places h.are (places_names k.places k.are);
+        made = k.made ∙ ap (λ us. us ++ k.places) h.made ∙ append_assoc work.made h.names k.places;
+        sent = house_sent w.now c.names w ∙ h.sent;
+        tail = house_tail w.now c.names w ∙ h.tail;
+      }
+
+  raise_settles : (c : Store) (file : FileId) (w : Work) → is_goldless c file ≡ true → SoFar c w
+      → SoFar (raise_flag c file w).store (raise_flag c file w).work
+  raise_settles c file w is h =
+      let flag = own_next c file true in
+      let u = update.Flag file flag in
+      let v = with_made w u in
+      let news = is_newer_flag c file flag in
+      record {
+        keeps = Keeps-trans h.keeps (flag_keeps c file flag);
+        names = h.names ++ u ∷ [];
+        are = both_names h.names (u ∷ []) h.are tt;
+        made = news_made news v file (key.Flag flag.server) ∙ ap (λ us. us ++ u ∷ []) h.made
+            ∙ append_assoc work.made h.names (u ∷ []);
+        sent = (raised_work c file w).sent ∙ h.sent;
+        tail = (raised_work c file w).tail ∙ h.tail;
+      }
+
+  pub settled_is : Settles b work (settle b work)
+  settled_is = settle_keeps SoFar rules_settle raise_settles b work (record {
+    keeps = Keeps-refl b;
+    names = [];
+    are = tt;
+    made = sym (append-nil work.made);
+    sent = refl;
+    tail = refl;
+  })
+
+-- ---- what was done, and then what is sent at the end
+
 module _ (b : Store) (work : Work) (reply : Option Reply) where
   -- no house rule runs, and no intention begins
   pub finished_ends : Ends b work (finished reply (idle b work))
@@ -67,9 +137,11 @@ module _ (b : Store) (work : Work) (reply : Option Reply) where
     keeps = Keeps-refl b;
     made = refl;
     behind = none_behind work.made;
-    sends = λ s us p N came k h.
-        begun_carry us p N b (finish b work)
-        (more_carry k N (is_chosen work.touched work.linked) work.sent h);
+    sends = λ s us p N came k h t.
+        let end = ask_begun b (finish b work) in
+        All-append (CarriesSent us p N) end.sent end.tail
+        (begun_carry us p N b (finish b work)
+        (more_carry k N (is_chosen work.touched work.linked) work.sent h)) t;
   }
 
   abbrev left : Done
@@ -78,35 +150,24 @@ module _ (b : Store) (work : Work) (reply : Option Reply) where
   abbrev ended : Done
   ended = begin_end left.store left.work
 
-  abbrev behind_names : NamesValue
-  behind_names = (house work.now (state_of b.names work)).names
-
-  abbrev behind_keys : List Touched
-  behind_keys =
-      drop (length work.touched) (house work.now (state_of b.names work)).work.touched
-
-  settle_keeps : Keeps b left.store
-  settle_keeps =
-      let k = house_makes work.now (state_of b.names work) in
-      Keeps-trans (names_keep b behind_names k.server_is k.up
-      (λ f h. rules_full work.now (state_of b.names work) f ∙ h))
-      (touches_keep (with_names b behind_names) behind_keys)
-
   steady : IsSteady left.store left.work ended
   steady = begin_end_stays left.store left.work
 
   -- the house rules run, and intentions end and begin
   pub closed_ends : Ends b work (closed reply (idle b work))
   closed_ends =
-      let k = house_makes work.now (state_of b.names work) in
-      let made : ended.work.made ≡ work.made ++ k.places = steady.made ∙ k.made in
+      let k = settled_is b work in
+      let made : ended.work.made ≡ work.made ++ k.names = steady.made ∙ k.made in
       record {
-        keeps = Keeps-trans settle_keeps (steady_keeps left.store left.work ended steady);
-        made = ap versions_in made ∙ same_versions work.made k.places k.are;
-        behind = subst ArePlaces
-            (sym (ap (drop (length work.made)) made ∙ drop-append_seam work.made k.places)) k.are;
-        sends = λ s us p N came l h.
-            begun_carry us p N ended.store (finish ended.store ended.work)
+        keeps = Keeps-trans k.keeps (steady_keeps left.store left.work ended steady);
+        made = ap versions_in made ∙ same_versions work.made k.names k.are;
+        behind = subst AreNames
+            (sym (ap (drop (length work.made)) made ∙ drop-append_seam work.made k.names)) k.are;
+        sends = λ s us p N came l h t.
+            let end = ask_begun ended.store (finish ended.store ended.work) in
+            All-append (CarriesSent us p N) end.sent end.tail
+            (begun_carry us p N ended.store (finish ended.store ended.work)
             (more_carry l N (is_chosen ended.work.touched ended.work.linked) ended.work.sent
-            (subst (AllCarry us p N) (sym (steady.sent ∙ house_sent work.now b.names work)) h));
+            (subst (AllCarry us p N) (sym (steady.sent ∙ k.sent)) h)))
+            (subst (AllCarry us p N) (sym (steady.tail ∙ k.tail)) t);
       }

@@ -1,10 +1,11 @@
 -- Messages that bring no version, and begin nothing: no content changes, and what is answered is no
 -- content, or the policy of what is held.
-use Rattle.std.proofs.Common.{ℕ, ◌≡◌, ◌&&◌, ◌||◌, Bool, true, false, cond, not, List, Option, None, Some, option_map, refl, sym, ap, ◌∙◌}
+use Rattle.std.proofs.Common.{ℕ, ◌≡◌, ◌&&◌, ◌||◌, ◌==◌, ◌-◌, ◌/◌, ◌%◌, Bool, true, false, cond, not, List, length, slice_get, Option, None, Some, option_map, refl, sym, ap, ◌∙◌}
 use Rattle.std.specs.Prelude.{nat_lt}
 use Rattle.pg_base.specs.declared.id.FileId.{FileId}
 use Rattle.pg_base.specs.declared.policy.Policy.{Policy}
 use Rattle.pg_base.specs.declared.stamp.Stamp.{Stamp}
+use Rattle.pg_edges.specs.declared.edge.Edge.{Edge}
 use Rattle.pg_edges.specs.declared.key.Key.{Key}
 use Rattle.pg_entries.specs.declared.entry.Entry.{Entry}
 use Rattle.pg_intent.specs.declared.key.IntentKey.TheVariants as intent_key
@@ -19,7 +20,7 @@ use Rattle.pg_replica.specs.declared.replica.Replica.{Replica}
 use Rattle.pg_run.specs.Journal.{Born}
 use Rattle.pg_store.specs.declared.store.Store.{Store}
 use Rattle.pg_store.specs.Beginning.{with_intents}
-use Rattle.pg_store.specs.Births.{fill_at, has_birth, is_pending, wish_at, with_wishes}
+use Rattle.pg_store.specs.Births.{birth_of, fill_at, has_birth, is_pending, wish_at, with_wishes}
 use Rattle.pg_store.specs.Links.{is_clean, knows_later}
 use Rattle.pg_store.specs.Servers.{next_target}
 use Rattle.pg_store.specs.Store.{is_full, is_held, replica_at, with_names}
@@ -38,11 +39,14 @@ use Rattle.pg_repair.specs.Fetching.{answered_fetch, ends_to, fetch, give, given
 use Rattle.pg_repair.specs.Filling.{few_golds, fill, full, live_golds}
 use Rattle.pg_repair.specs.Granting.{aim_fill, fill_asks, gone, no_grant, turn_fill, turn_wish, wish_asks}
 use Rattle.pg_repair.specs.NoneHere.{asking_key, does_ask, none_here, turn}
+use Rattle.pg_graph.specs.Seeking.{answered_seek, seek}
+use Rattle.pg_graph.specs.Seeks.{edges_of}
 use Rattle.pg_repair.specs.Telling.{end_told, is_told, tell, tell_ok, told}
+use Rattle.pg_graph.specs.Walks.{goes_on, meet_origin, most_hops, onward, walk, walk_along, walk_from, walk_of, walk_of_tick, walk_on, walked, with_few_edges}
 use Rattle.pg_promises.proofs.Choices.{chosen}
 use Rattle.pg_contents.proofs.Changes.{Core, Keeps, Keeps-refl, Keeps-trans, core_at, core_of}
 use Rattle.pg_contents.proofs.Pieces.{acked_keeps, fill_keeps, intents_keep, unlink_keeps, wishes_keep}
-use Rattle.pg_contents.proofs.Quiet.{Quiet, entry_quiet, flags_quiet, link_quiet, place_quiet, quiet_idle, quiet_post, quiet_store, quiet_then, raise_quiet}
+use Rattle.pg_contents.proofs.Quiet.{Quiet, entry_quiet, flags_quiet, link_quiet, place_quiet, quiet_idle, quiet_last, quiet_post, quiet_store, quiet_then, raise_quiet}
 
 module _ (us : List Born) (p : FileId → Policy) (N : FileId → Type 0) (a : Store) (work : Work) where
   abbrev IsQuiet : Done → Type 0
@@ -82,6 +86,71 @@ module _ (us : List Born) (p : FileId → Policy) (N : FileId → Type 0) (a : S
 
   pub gone_quiet : (file : FileId) (birth : ℕ) → IsQuiet (gone a file birth work)
   gone_quiet file birth = stored (gone a file birth work).store (unlink_keeps a file work.from birth)
+
+  -- who seeks is linked, and answered
+  pub seek_quiet : (file : FileId) (birth : ℕ) → IsQuiet (seek a file birth work)
+  seek_quiet file birth =
+      let d = link_peer a file work.from birth work in
+      let no = message.NoneHere ask.Seek file file in
+      chosen IsQuiet (is_held a file)
+      (cond (knows_later a file work.from birth) (idle a work) (answered_seek file birth d))
+      (idle a (reply a no work))
+      (chosen IsQuiet (knows_later a file work.from birth) (idle a work)
+      (answered_seek file birth d) still
+      (quiet_then us p N (link_quiet us p N a file work.from birth work)
+      (quiet_post us p N d.store d.work.from (message.Here (ends_to d.store file birth)) d.work tt)))
+      (quiet_post us p N a work.from no work tt)
+
+  -- ---- walks
+
+  along_quiet : (file : FileId) (origin birth hops word : ℕ) (o : Option Edge)
+      → IsQuiet (idle a (walk_along a file origin birth hops word work o))
+  along_quiet file origin birth hops word None = still
+  along_quiet file origin birth hops word (Some e) =
+      quiet_last us p N a e.peer
+      (message.Walk (ends_to a file e.birth) origin birth hops word) work tt
+
+  met_origin : (file : FileId) (origin birth : ℕ)
+      → IsQuiet (meet_origin a file origin birth work)
+  met_origin file origin birth =
+      let d = link_peer a file origin birth work in
+      quiet_then us p N (link_quiet us p N a file origin birth work)
+      (quiet_post us p N d.store origin (message.Meet (ends_to d.store file birth)) d.work tt)
+
+  walked_quiet : (ends : Ends) (origin birth hops word : ℕ) (edges : List Edge)
+      → IsQuiet (walked a ends origin birth hops word edges work)
+  walked_quiet ends origin birth hops word edges =
+      chosen IsQuiet (goes_on hops edges)
+      (idle a (walk_on a ends.file origin birth hops word edges work))
+      (meet_origin a ends.file origin birth work)
+      (along_quiet ends.file origin birth (hops - 1) (word / length edges)
+      (slice_get edges (word % length edges)))
+      (met_origin ends.file origin birth)
+
+  pub walk_quiet : (ends : Ends) (origin birth hops word : ℕ)
+      → IsQuiet (walk a ends origin birth hops word work)
+  walk_quiet ends origin birth hops word =
+      let edges = onward a ends.file work.from origin in
+      let on = walked a ends origin birth hops word edges work in
+      chosen IsQuiet (is_accepted a work.from manner.Ask ends)
+      (cond (origin == a.names.server) (idle a work) on) (accept a ends manner.Ask work)
+      (chosen IsQuiet (origin == a.names.server) (idle a work) on still
+      (walked_quiet ends origin birth hops word edges))
+      (accept_quiet ends manner.Ask)
+
+  -- the walk of a tick
+  walk_from_quiet : (word : ℕ) (o : Option FileId) → IsQuiet (idle a (walk_from a word work o))
+  walk_from_quiet word None = still
+  walk_from_quiet word (Some file) =
+      along_quiet file a.names.server (birth_of a file) most_hops
+      (word / length (edges_of a file))
+      (slice_get (edges_of a file) (word % length (edges_of a file)))
+
+  pub walk_of_quiet : (word : ℕ) → IsQuiet (idle a (walk_of_tick a word work))
+  walk_of_quiet word =
+      let files = with_few_edges a in
+      chosen (λ (w : Work). IsQuiet (idle a w)) (word == 0) work (walk_of a word files work) still
+      (walk_from_quiet (word / length files) (slice_get files (word % length files)))
 
   -- ---- intentions
 

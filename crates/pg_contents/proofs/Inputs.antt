@@ -16,6 +16,7 @@ use Rattle.pg_store.specs.Store.{is_in_time}
 use Rattle.pg_cells.specs.Done.{Done, idle}
 use Rattle.pg_cells.specs.Sending.{is_any}
 use Rattle.pg_cells.specs.Ticks.{tick}
+use Rattle.pg_repair.specs.Requests.{ask_all}
 use Rattle.pg_server.specs.declared.input.Input.TheVariants as input
 use Rattle.pg_server.specs.Local.{effect, is_heard, receive, sent_again, without_wishes}
 use Rattle.pg_contents.proofs.Asking.{all_asked_carry}
@@ -23,7 +24,8 @@ use Rattle.pg_contents.proofs.Carrying.{Carries}
 use Rattle.pg_contents.proofs.Changes.{Keeps-refl}
 use Rattle.pg_contents.proofs.Effects.{IsPassive, passive_by, quiet_both}
 use Rattle.pg_contents.proofs.Pieces.{wishes_keep}
-use Rattle.pg_contents.proofs.Quiet.{Quiet, quiet_idle, quiet_store}
+use Rattle.pg_contents.proofs.Handlers.{walk_of_quiet}
+use Rattle.pg_contents.proofs.Quiet.{Quiet, quiet_idle, quiet_store, quiet_then}
 use Rattle.pg_contents.proofs.Receiving.{receive_arrives}
 use Rattle.pg_contents.proofs.Sending.{more_carry}
 use Rattle.pg_contents.proofs.Servers.{IsServer, came_of}
@@ -37,15 +39,22 @@ module _ {s : ℕ} {a : Store} {us : List Born} {p : FileId → Policy} {N : Fil
     work = new_work moment 0
 
     abbrev ticked : Bool → Done
-    ticked t = idle a (cond t (sent_again a work) work)
+    ticked t = idle a (cond t (sent_again a word work) work)
 
-    again_quiet : Quiet us p N a work (idle a (sent_again a work))
-    again_quiet = record {
+    abbrev asked : Work
+    asked = ask_all a (tick a work)
+
+    asked_quiet : Quiet us p N a work (idle a asked)
+    asked_quiet = record {
       keeps = Keeps-refl a;
       none = refl;
       takes = λ q. refl;
       sent = λ h. all_asked_carry us p N a (tick a work) (more_carry k.stands N is_any work.sent h);
+      tail = λ h. h;
     }
+
+    again_quiet : Quiet us p N a work (idle a (sent_again a word work))
+    again_quiet = quiet_then us p N asked_quiet (walk_of_quiet us p N a asked word)
 
     ticked_quiet : (t : Bool) → Quiet us p N a work (ticked t)
     ticked_quiet true = again_quiet

@@ -24,7 +24,7 @@ use Rattle.pg_calls.specs.Checks.{file_at}
 use Rattle.pg_calls.specs.Making.{drawn, make_version, version_of}
 use Rattle.pg_calls.proofs.InTime.{file_in_time}
 use Rattle.pg_calls.proofs.Walked.{file_found, full_held}
-use Rattle.pg_contents.proofs.Changes.{Core, IsOrdered, StaysFull, by_altered, core_at, core_of, replica_of_core}
+use Rattle.pg_contents.proofs.Changes.{Core, IsOrdered, by_altered, core_at, core_of, replica_of_core}
 use Rattle.pg_contents.proofs.Files.{HoldsFile}
 use Rattle.pg_contents.proofs.Histories.{AreMade, IsNextUpdate}
 use Rattle.pg_contents.proofs.Sending.{AllCarry, none_carry}
@@ -49,12 +49,12 @@ pub record Makes (s : ℕ) (a : Store) (us : List Born) (p q : FileId → Policy
   pub last : a.names.last ≤ r.store.names.last
   pub files : a.files ≤ r.store.files
   pub order : IsOrdered a.replicas → IsOrdered r.store.replicas
-  pub full : StaysFull a r.store
   pub dated : version.made.stamp.time ≤ r.store.names.last
   pub held : (f : FileId) (k : Core) → core_at r.store f ≡ Some k → IsNamedBy s r.store N f
   pub stands : Stands s r.store (version ∷ us) q
       (with_came version.made.file version.made.stamp came)
   pub sent : AllCarry (version ∷ us) q N r.work.sent
+  pub tail : AllCarry (version ∷ us) q N r.work.tail
   pub same : (f : FileId) → N f → q f ≡ p f
   pub rest : (f : FileId) → IsNamedBy s r.store N f ⊎ (q f ≡ p f)
 
@@ -178,7 +178,6 @@ module _ {s : ℕ} {a : Store} {us : List Born} {p : FileId → Policy} {N : Fil
           last = alters.last;
           files = omega arith;
           order = alters.order;
-          full = alters.full;
           dated = write_last a file x is stamp ranges;
           held = λ f c e. inl (by_altered (λ g o. (y : Core) → o ≡ Some y → N g) a
               (write a file stamp ranges) file (Some (WrittenCore a file x is stamp ranges)) alters
@@ -187,6 +186,7 @@ module _ {s : ℕ} {a : Store} {us : List Born} {p : FileId → Policy} {N : Fil
           stands =
               made_stands k.stands k.made k.few file x is given room stamp own later fresh ranges;
           sent = none_carry (version ∷ us) p N;
+          tail = none_carry (version ∷ us) p N;
           same = λ f h. refl;
           rest = λ f. inr refl;
         }

@@ -28,11 +28,14 @@ use Rattle.pg_server.specs.Local.{done_of}
 use Rattle.pg_walk.specs.declared.paths.Found.{Found}
 use Rattle.pg_walk.specs.declared.paths.Stop.{Stop}
 use Rattle.pg_walk.specs.declared.paths.Stop.TheVariants as stop
+use Rattle.pg_cells.specs.Making.{lower_flag}
 use Rattle.pg_calls.specs.Answer.{Answer, answer, answered, deny, replied, told}
 use Rattle.pg_calls.specs.Asking.{ask_by, ask_first, ask_for, fetch, fresh_wish, holder, standing}
 use Rattle.pg_calls.specs.Bodies.{change, change_file, when_fit}
 use Rattle.pg_calls.specs.Calls.{do_call}
 use Rattle.pg_calls.specs.Checks.{dir_at, empty_dir_at, file_at, in_time, move_of, new_name, target_at}
+use Rattle.pg_cells.specs.Golds.{is_gold}
+use Rattle.pg_calls.specs.Demoting.{demoted_at, lowered}
 use Rattle.pg_calls.specs.Making.{make_place}
 use Rattle.pg_calls.specs.Naming.{dead_place, next_id, place_in}
 use Rattle.pg_calls.proofs.Checked.{fit_found}
@@ -42,7 +45,7 @@ use Rattle.pg_contents.proofs.Arrivals.{Arrives, quiet_arrives}
 use Rattle.pg_contents.proofs.Beginning.{dir_arrives, dir_none, first_makes, unnamed}
 use Rattle.pg_contents.proofs.Making.{Makes, written_makes}
 use Rattle.pg_contents.proofs.Pieces.{wish_keeps}
-use Rattle.pg_contents.proofs.Quiet.{Quiet, make_place_quiet, quiet_idle, quiet_posted, quiet_store, quiet_then}
+use Rattle.pg_contents.proofs.Quiet.{Quiet, lower_quiet, make_place_quiet, quiet_idle, quiet_posted, quiet_store, quiet_then}
 use Rattle.pg_contents.proofs.Servers.{Came, IsServer}
 use Rattle.pg_contents.proofs.Takes.{HasNone, both_none}
 
@@ -155,6 +158,12 @@ module _ {s : ℕ} {a : Store} {us : List Born} {p : FileId → Policy} {N : Fil
       (denied_so asked (λ why. stays (reply.Refused why)))
       (λ found is. inl (told_comes (tell found), stays (tell found)))
 
+  -- a flag is lowered, or none
+  lowered_quiet : (file : FileId) → Quiet us p N a work (lowered a file work)
+  lowered_quiet file =
+      chosen (λ d. Quiet us p N a work d) (is_gold a file) (lower_flag a file work) (idle a work)
+      (lower_quiet us p N a file work) (quiet_idle us p N a work)
+
   -- a place is made
   moved_comes : (asked : Call) → ((r : Reply) (f : FileId) → policies_then p asked r f ≡ p f)
       → (thing : FileId) (place : Place)
@@ -233,7 +242,12 @@ module _ {s : ℕ} {a : Store} {us : List Born} {p : FileId → Policy} {N : Fil
   call_comes (call.Forget id) =
       looked (call.Forget id) (λ r f. refl) (in_time a (tt {0})) _
   call_comes (call.Demote target) =
-      looked (call.Demote target) (λ r f. refl) (in_time a (tt {0})) _
+      answered_by (Outcome (call.Demote target)) a work (demoted_at a target) _
+      (denied_so (call.Demote target) (λ why f. refl))
+      (λ file found. inl (
+        quiet_comes (lowered a file work) reply.Done (lowered_quiet file),
+        λ f. refl,
+      ))
   call_comes (call.Drop target) =
       looked (call.Drop target) (λ r f. refl) (in_time a (tt {0})) _
   call_comes (call.Giveup view server) =

@@ -1,5 +1,5 @@
 -- Pieces of an event that change no content and make no version.
-use Rattle.std.proofs.Common.{ℕ, ◌≡◌, ◌&&◌, Bool, true, not, List, [], ◌∷◌, ◌++◌, map, refl, sym, ap, subst, ◌∙◌}
+use Rattle.std.proofs.Common.{ℕ, ◌≡◌, ◌&&◌, Bool, true, false, not, List, [], ◌∷◌, ◌++◌, map, refl, sym, ap, subst, ◌∙◌}
 use Rattle.pg_base.specs.declared.id.FileId.{FileId}
 use Rattle.pg_base.specs.declared.policy.Policy.{Policy}
 use Rattle.pg_edges.specs.declared.key.Key.{Key}
@@ -11,7 +11,7 @@ use Rattle.pg_msg.specs.declared.update.MadeVersion.{MadeVersion}
 use Rattle.pg_msg.specs.declared.update.Update.{Update}
 use Rattle.pg_msg.specs.declared.update.Update.TheVariants as update
 use Rattle.pg_msg.specs.declared.work.Work.{Work}
-use Rattle.pg_msg.specs.Work.{with_left, with_linked, with_made, with_unsure}
+use Rattle.pg_msg.specs.Work.{with_left, with_linked, with_made, with_tail, with_unsure}
 use Rattle.pg_names.specs.Names.{own_or_blank}
 use Rattle.pg_register.specs.declared.flag.Flag.{Flag}
 use Rattle.pg_register.specs.declared.place.Place.{Place}
@@ -23,12 +23,12 @@ use Rattle.pg_store.specs.Store.{entry_news, is_newer_flag, is_newer_place, take
 use Rattle.pg_cells.proofs.News.{news_made, news_sent}
 use Rattle.pg_cells.specs.Accepting.{link_peer}
 use Rattle.pg_cells.specs.Done.{Done, idle}
-use Rattle.pg_cells.specs.Making.{make_flag, own_next, raise_flag}
-use Rattle.pg_cells.specs.Posting.{post}
+use Rattle.pg_cells.specs.Making.{lower_flag, make_flag, own_next, raise_flag}
+use Rattle.pg_cells.specs.Posting.{post, sent_to}
 use Rattle.pg_cells.specs.Taking.{is_any_news, is_place_news, take_entry_cell, take_entry_noted, take_flag_noted, take_flags_noted, take_place_noted, with_left_if, with_news}
 use Rattle.pg_calls.specs.Making.{make_place}
 use Rattle.pg_promises.proofs.Choices.{chosen}
-use Rattle.pg_contents.proofs.Asking.{post_carry}
+use Rattle.pg_contents.proofs.Asking.{last_carry, post_carry}
 use Rattle.pg_contents.proofs.Carrying.{Carries}
 use Rattle.pg_contents.proofs.Changes.{Keeps, Keeps-refl, Keeps-trans}
 use Rattle.pg_contents.proofs.Pieces.{entry_keeps, flag_keeps, link_keeps, place_keeps}
@@ -63,16 +63,22 @@ name_stamps q (v ∷ us) u h =
 
 -- nothing was made or sent
 abbrev pub IsSilent : Work → Work → Type 0
-IsSilent v w = (w.made ≡ v.made) × (w.sent ≡ v.sent)
+IsSilent v w = (w.made ≡ v.made) × (w.sent ≡ v.sent) × (w.tail ≡ v.tail)
+
+pub news_tail : (news : Bool) (work : Work) (f : FileId) (k : Key)
+    → (with_news news work f k).tail ≡ work.tail
+news_tail true work f k = refl
+news_tail false work f k = refl
 
 news_silent : (v w : Work) (t : Bool) (file : FileId) (k : Key) → IsSilent v w
     → IsSilent v (with_news t w file k)
-news_silent v w t file k h = (news_made t w file k ∙ h.0, news_sent t w file k ∙ h.1)
+news_silent v w t file k h =
+    (news_made t w file k ∙ h.0, news_sent t w file k ∙ h.1, news_tail t w file k ∙ h.2)
 
 left_silent : (work : Work) (file : FileId) (old : Place) → IsSilent work (note_left work file old)
 left_silent work file old =
     chosen (IsSilent work) (old.live && not (is_root file)) (with_left work old.parent file) work
-    (refl, refl) (refl, refl)
+    (refl, refl, refl) (refl, refl, refl)
 
 module _ (us : List Born) (p : FileId → Policy) (N : FileId → Type 0) where
   -- from this store and this work it came to that
@@ -82,6 +88,7 @@ module _ (us : List Born) (p : FileId → Policy) (N : FileId → Type 0) where
     pub takes : (q : FileId)
         → stamps_taken q (map take_of d.work.made) ≡ stamps_taken q (map take_of work.made)
     pub sent : AllCarry us p N work.sent → AllCarry us p N d.work.sent
+    pub tail : AllCarry us p N work.tail → AllCarry us p N d.work.tail
 
   pub quiet_silent : (a b : Store) (v w : Work) → Keeps a b → IsSilent v w → Quiet a v (idle b w)
   quiet_silent a b v w keeps h = record {
@@ -89,10 +96,11 @@ module _ (us : List Born) (p : FileId → Policy) (N : FileId → Type 0) where
     none = ap versions_in h.0;
     takes = λ q. ap (λ made. stamps_taken q (map take_of made)) h.0;
     sent = λ s. subst (AllCarry us p N) (sym h.1) s;
+    tail = λ s. subst (AllCarry us p N) (sym h.2) s;
   }
 
   pub quiet_store : (a b : Store) (work : Work) → Keeps a b → Quiet a work (idle b work)
-  quiet_store a b work keeps = quiet_silent a b work work keeps (refl, refl)
+  quiet_store a b work keeps = quiet_silent a b work work keeps (refl, refl, refl)
 
   pub quiet_idle : (a : Store) (work : Work) → Quiet a work (idle a work)
   quiet_idle a work = quiet_store a a work (Keeps-refl a)
@@ -104,6 +112,7 @@ module _ (us : List Born) (p : FileId → Policy) (N : FileId → Type 0) where
     none = l.none ∙ k.none;
     takes = λ q. l.takes q ∙ k.takes q;
     sent = λ s. l.sent (k.sent s);
+    tail = λ s. l.tail (k.tail s);
   }
 
   -- a message that carries no content, or one of the history
@@ -114,6 +123,18 @@ module _ (us : List Born) (p : FileId → Policy) (N : FileId → Type 0) where
     none = refl;
     takes = λ q. refl;
     sent = post_carry us p N a to m work h;
+    tail = λ s. s;
+  }
+
+  -- such a message goes last
+  pub quiet_last : (a : Store) (to : ℕ) (m : Message) (work : Work) → Carries us p N m
+      → Quiet a work (idle a (with_tail work (sent_to a to m)))
+  quiet_last a to m work h = record {
+    keeps = Keeps-refl a;
+    none = refl;
+    takes = λ q. refl;
+    sent = λ s. s;
+    tail = last_carry us p N a to m work h;
   }
 
   pub quiet_post : (a : Store) (to : ℕ) (m : Message) (work : Work) → Carries us p N m
@@ -128,6 +149,7 @@ module _ (us : List Born) (p : FileId → Policy) (N : FileId → Type 0) where
     none = name_versions work.made u name;
     takes = λ q. name_stamps q work.made u name;
     sent = λ s. s;
+    tail = λ s. s;
   }
 
   -- ---- what a thing takes
@@ -143,7 +165,7 @@ module _ (us : List Born) (p : FileId → Policy) (N : FileId → Type 0) where
         (place_keeps a file place)
         (news_silent work left news file key.Place
         (chosen (IsSilent work) news (note_left work file old) work (left_silent work file old)
-        (refl, refl)))
+        (refl, refl, refl)))
 
     pub flag_quiet : (file : FileId) (flag : Flag) (work : Work)
         → Quiet a work (take_flag_noted a file flag work)
@@ -151,21 +173,22 @@ module _ (us : List Born) (p : FileId → Policy) (N : FileId → Type 0) where
         let news = is_newer_flag a file flag in
         quiet_silent a (take_flag a file flag) work
         (with_news news work file (key.Flag flag.server)) (flag_keeps a file flag)
-        (news_silent work work news file (key.Flag flag.server) (refl, refl))
+        (news_silent work work news file (key.Flag flag.server) (refl, refl, refl))
 
     pub entry_quiet : (dir : FileId) (e : Entry) (work : Work)
         → Quiet a work (take_entry_noted a dir e work)
     entry_quiet dir e work =
         let news = is_any_news (entry_news a dir e) in
         quiet_silent a (take_entry a dir e) work (with_news news work dir (key.Entry e.child))
-        (entry_keeps a dir e) (news_silent work work news dir (key.Entry e.child) (refl, refl))
+        (entry_keeps a dir e)
+        (news_silent work work news dir (key.Entry e.child) (refl, refl, refl))
 
     pub entry_cell_quiet : (dir : FileId) (e : Entry) (sure : Bool) (work : Work)
         → Quiet a work (take_entry_cell a dir e sure work)
     entry_cell_quiet dir e sure work =
         let news = is_any_news (entry_news a dir e) in
         let noted = with_news news work dir (key.Entry e.child) in
-        let silent = news_silent work work news dir (key.Entry e.child) (refl, refl) in
+        let silent = news_silent work work news dir (key.Entry e.child) (refl, refl, refl) in
         quiet_silent a (take_entry a dir e) work (take_entry_cell a dir e sure work).work
         (entry_keeps a dir e)
         (chosen (IsSilent work) (is_place_news (entry_news a dir e) && not sure)
@@ -178,7 +201,7 @@ module _ (us : List Born) (p : FileId → Policy) (N : FileId → Type 0) where
         quiet_silent a (link a file peer birth) work (link_peer a file peer birth work).work
         (link_keeps a file peer birth)
         (chosen (IsSilent work) (is_new_link a file peer birth) (with_linked work file peer) work
-        (refl, refl) (refl, refl))
+        (refl, refl, refl) (refl, refl, refl))
 
     -- what a server makes and takes
     pub make_place_quiet : (file : FileId) (place : Place) (work : Work)
@@ -195,6 +218,9 @@ module _ (us : List Born) (p : FileId → Policy) (N : FileId → Type 0) where
 
     pub raise_quiet : (file : FileId) (work : Work) → Quiet a work (raise_flag a file work)
     raise_quiet file work = make_flag_quiet file (own_next a file true) work
+
+    pub lower_quiet : (file : FileId) (work : Work) → Quiet a work (lower_flag a file work)
+    lower_quiet file work = make_flag_quiet file (own_next a file false) work
 
   pub flags_quiet : (a : Store) (file : FileId) (flags : List Flag) (work : Work)
       → Quiet a work (take_flags_noted a file flags work)

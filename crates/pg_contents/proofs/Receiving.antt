@@ -43,9 +43,9 @@ use Rattle.pg_contents.proofs.Arrivals.{Arrives, confirmed_none, entry_none, gra
 use Rattle.pg_contents.proofs.Asking.{post_carry}
 use Rattle.pg_contents.proofs.Carrying.{Carries, CarriesCell}
 use Rattle.pg_contents.proofs.Changes.{Core, alters_keeps, by_altered, core_of}
-use Rattle.pg_contents.proofs.Handlers.{IsKnown, accept_quiet, ack_quiet, confirm_quiet, fetch_quiet, full_quiet, gone_quiet, no_grant_quiet, none_here_quiet, place_is_quiet, tell_ok_quiet, tell_quiet}
+use Rattle.pg_contents.proofs.Handlers.{IsKnown, accept_quiet, ack_quiet, confirm_quiet, fetch_quiet, full_quiet, gone_quiet, no_grant_quiet, none_here_quiet, place_is_quiet, seek_quiet, tell_ok_quiet, tell_quiet, walk_quiet}
 use Rattle.pg_contents.proofs.Pieces.{begin_alters, intents_keep}
-use Rattle.pg_contents.proofs.Quiet.{Quiet, entry_cell_quiet, flag_quiet, link_quiet, place_quiet, quiet_idle, quiet_post, quiet_store, quiet_then}
+use Rattle.pg_contents.proofs.Quiet.{Quiet, entry_cell_quiet, flag_quiet, link_quiet, news_tail, place_quiet, quiet_idle, quiet_post, quiet_store, quiet_then}
 use Rattle.pg_contents.proofs.Sending.{AllCarry, none_carry}
 use Rattle.pg_contents.proofs.Servers.{Came, IsServer, none_full, stands_begun, stands_same}
 use Rattle.pg_contents.proofs.Takes.{HasNone, both_none, none_joined}
@@ -123,7 +123,6 @@ module _ {s : ℕ} {a : Store} {us : List Born} {p : FileId → Policy} {N : Fil
           last = omega arith;
           files = omega arith;
           order = λ z. alters.order (q.order z);
-          full = λ f z. alters.full f (q.full f z);
           held = λ f c e. inl (version_named k file v h b q x.0 x.1 f c e);
           stands = stands_same (version_stands k file v h b q x.0 x.1)
               (more_came (map take_of w.made ++ takes) came)
@@ -138,6 +137,9 @@ module _ {s : ℕ} {a : Store} {us : List Born} {p : FileId → Policy} {N : Fil
               (subst (AllCarry us p N)
               (sym (news_sent news linked.work file (key.Version v.head.stamp)))
               (linked_quiet.sent (none_carry us p N)));
+          tail = subst (AllCarry us p N)
+              (sym (news_tail news linked.work file (key.Version v.head.stamp)))
+              (linked_quiet.tail (none_carry us p N));
         }
 
     comes : (c : Cell) → CarriesCell us p ends.file c → has_birth a ends.file ends.receiver ≡ true
@@ -200,7 +202,6 @@ module _ {s : ℕ} {a : Store} {us : List Born} {p : FileId → Policy} {N : Fil
           last = all.last;
           files = all.files;
           order = all.order;
-          full = all.full;
           held = λ f c e. inl (by_altered (λ q o. (y : Core) → o ≡ Some y → N q) a d.store file
               (Some fresh) all (λ y same. h.1) (λ q apart y same. k.held q y same) f c e);
           stands = stands_same
@@ -211,6 +212,7 @@ module _ {s : ℕ} {a : Store} {us : List Born} {p : FileId → Policy} {N : Fil
               (granted_none q a file g)));
           none = rest.none;
           sent = rest.sent (none_carry us p N);
+          tail = rest.tail (none_carry us p N);
         }
 
     grant_by : (t : Bool) → is_pending a ends.file ends.receiver ≡ t
@@ -244,6 +246,14 @@ module _ {s : ℕ} {a : Store} {us : List Born} {p : FileId → Policy} {N : Fil
       quiet _ (no_grant_quiet us p N a work file birth) [] (λ f. refl)
   receive_arrives (message.Full ends) h =
       quiet _ (full_quiet us p N a work ends) [] (λ f. refl)
+  receive_arrives (message.Seek file birth) h =
+      quiet _ (seek_quiet us p N a work file birth) [] (λ f. refl)
+  receive_arrives (message.Here ends) h =
+      quiet _ (accept_quiet us p N a work ends manner.Link) [] (λ f. refl)
+  receive_arrives (message.Walk ends origin birth hops word) h =
+      quiet _ (walk_quiet us p N a work ends origin birth hops word) [] (λ f. refl)
+  receive_arrives (message.Meet ends) h =
+      quiet _ (accept_quiet us p N a work ends manner.Link) [] (λ f. refl)
   receive_arrives (message.NoneHere ask file child) h =
       quiet _ (none_here_quiet us p N a work ask file child) [] (λ f. refl)
   receive_arrives (message.Gone file birth) h =

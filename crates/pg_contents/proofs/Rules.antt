@@ -22,13 +22,35 @@ use Rattle.pg_house.proofs.Repeating.{repeated_keeps}
 use Rattle.pg_house.proofs.AfterPassing.{after_frame}
 use Rattle.pg_house.proofs.Made.{all_made, left_made, pass_made}
 
--- ---- each return and each move makes a place
+-- ---- updates of names
 
+-- places and flags, no versions
+abbrev pub AreNames : List Update → Type 0
+AreNames [] = Unit {0}
+AreNames (update.Place file place ∷ us) = AreNames us
+AreNames (update.Version made ∷ us) = ⊥
+AreNames (update.Flag file flag ∷ us) = AreNames us
+
+pub both_names : (us vs : List Update) → AreNames us → AreNames vs → AreNames (us ++ vs)
+both_names [] vs are more = more
+both_names (update.Place file place ∷ us) vs are more = both_names us vs are more
+both_names (update.Version made ∷ us) vs are more = absurd are
+both_names (update.Flag file flag ∷ us) vs are more = both_names us vs are more
+
+-- places alone
 abbrev pub ArePlaces : List Update → Type 0
 ArePlaces [] = Unit {0}
 ArePlaces (update.Place file place ∷ us) = ArePlaces us
 ArePlaces (update.Version made ∷ us) = ⊥
 ArePlaces (update.Flag file flag ∷ us) = ⊥
+
+pub places_names : (us : List Update) → ArePlaces us → AreNames us
+places_names [] are = tt
+places_names (update.Place file place ∷ us) are = places_names us are
+places_names (update.Version made ∷ us) are = absurd are
+places_names (update.Flag file flag ∷ us) are = absurd are
+
+-- ---- each return and each move makes a place
 
 one_place : (us : List Update) (f : FileId) (place : Place) → ArePlaces us
     → ArePlaces (us ++ update.Place f place ∷ [])

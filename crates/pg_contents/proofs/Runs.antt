@@ -10,7 +10,6 @@ use Rattle.pg_event.specs.declared.entry.VoidCause.{VoidCause}
 use Rattle.pg_event.specs.declared.entry.VoidCause.TheVariants.{NoMessage, NoServer, Unbuilt}
 use Rattle.pg_event.specs.declared.event.Event.{Event}
 use Rattle.pg_event.specs.declared.event.Event.TheVariants.{Call as Called, Tick, Deliver, Lose, Repeat, Restart, Remove}
-use Rattle.pg_flood.specs.World.{after}
 use Rattle.pg_msg.specs.declared.message.Sent.{Sent}
 use Rattle.pg_msg.specs.declared.update.MadeVersion.{MadeVersion}
 use Rattle.pg_msg.specs.Work.{new_work}
@@ -30,7 +29,6 @@ use Rattle.pg_store.specs.Store.{is_in_time}
 use Rattle.pg_promises.proofs.Choices.{chosen, decided}
 use Rattle.pg_contents.specs.Together.{GoTogether, HoldBoth}
 use Rattle.pg_contents.proofs.Carrying.{policies}
-use Rattle.pg_contents.proofs.Changes.{StaysFull}
 use Rattle.pg_contents.proofs.Effects.{IsMaking, IsPassive, call_ended}
 use Rattle.pg_contents.proofs.Inputs.{arrived_passive, restart_passive, tick_passive}
 use Rattle.pg_contents.proofs.Outcomes.{policies_then}
@@ -38,14 +36,10 @@ use Rattle.pg_contents.proofs.Paired.{paired}
 use Rattle.pg_contents.proofs.Sending.{CarriesSent}
 use Rattle.pg_contents.proofs.Servers.{IsServer, came_of}
 use Rattle.pg_contents.proofs.Start.{sound_start}
-use Rattle.pg_contents.proofs.Worlds.{IsNamed, Sound, by_server, making_sound, passive_sound, server_of}
+use Rattle.pg_contents.proofs.Worlds.{IsNamed, Sound, making_sound, passive_sound, server_of}
 
 abbrev pub IsSound : World → Type 0
 IsSound w = Sound w.stores w.history (policies w.journal) w.took (mail w.journal)
-
--- at each server what is full stays so
-abbrev pub StaysFullIn : (ℕ → Store) → (ℕ → Store) → Type 0
-StaysFullIn stores behind = (s : ℕ) → StaysFull (stores s) (behind s)
 
 -- the same of equal parts
 sound_same : {stores : ℕ → Store} {us vs : List Born} {p q : FileId → Policy}
@@ -86,23 +80,14 @@ module _ (n : ℕ) (small : n < 2 ^ 32) (w : World)
   N f = IsNamed w.stores f
 
   abbrev SoundAfter : Step → Type 0
-  SoundAfter step =
-      IsSound (world_after w step) × StaysFullIn w.stores (world_after w step).stores
+  SoundAfter step = IsSound (world_after w step)
 
   -- no server does anything
   idle_sound : (e : Event) (cause : Option VoidCause) → SoundAfter (idle_step w e cause)
-  idle_sound e cause = (
-    sound_same refl (λ f. policy_stays (policy_asked e) (policy_made f w.journal)) k,
-    λ s f full. full,
-  )
+  idle_sound e cause =
+      sound_same refl (λ f. policy_stays (policy_asked e) (policy_made f w.journal)) k
 
   -- one server acts
-  full_in : (s : ℕ) (b : Store) → StaysFull (w.stores s) b
-      → StaysFullIn w.stores (after w.stores s b)
-  full_in s b here =
-      by_server (λ t c ts. StaysFull (w.stores t) c) w.stores w.took s b (w.took s) here
-      (λ t other f full. full)
-
   server_now : (s : ℕ) → is_server n s ≡ true
       → IsServer s (w.stores s) us p N (came_of (w.took s))
   server_now s h =
@@ -123,20 +108,16 @@ module _ (n : ℕ) (small : n < 2 ^ 32) (w : World)
     -- one server makes no version
     passive_next : ((f : FileId) → then_policy f ≡ p f)
         → IsPassive s (w.stores s) us p N done takes → SoundAfter (effect_step w e s asked)
-    passive_next same act = (
-      sound_same (ap (λ (vs : List MadeVersion). map (born_at done.store) vs ++ us) act.none) same
-          (passive_sound k s done takes act),
-      full_in s done.store act.full,
-    )
+    passive_next same act =
+        sound_same (ap (λ (vs : List MadeVersion). map (born_at done.store) vs ++ us) act.none) same
+        (passive_sound k s done takes act)
 
     -- it makes one
     making_next : (q : FileId → Policy) → ((f : FileId) → then_policy f ≡ q f)
         → IsMaking s (w.stores s) us p q N done takes → SoundAfter (effect_step w e s asked)
-    making_next q same act = (
-      sound_same (ap (λ (vs : List Born). vs ++ us) act.made) same
-          (making_sound k s done takes q act),
-      full_in s done.store act.full,
-    )
+    making_next q same act =
+        sound_same (ap (λ (vs : List Born). vs ++ us) act.made) same
+        (making_sound k s done takes q act)
 
   -- ---- calls
 
@@ -221,17 +202,10 @@ run_from_sound : (n : ℕ) → n < 2 ^ 32 → (w : World) (events : List Event)
 run_from_sound n small w [] both k = k
 run_from_sound n small w (e ∷ es) both k =
     run_from_sound n small (world_after w (next n w e)) es (λ some. both (e ∷ some))
-    (next_sound n small w (both []) k e).0
+    (next_sound n small w (both []) k e)
 
 -- AFTER ANY EVENTS
 pub run_sound : (n : ℕ) → n < 2 ^ 32 → HoldBoth n → (events : List Event)
     → IsSound (run n events)
 run_sound n small both events =
     run_from_sound n small (start n) events both (sound_start n)
-
--- what is full stays so, whatever happens
-pub stays_full : (n : ℕ) → n < 2 ^ 32 → HoldBoth n → (events : List Event) (e : Event)
-    → StaysFullIn (run n events).stores
-    (world_after (run n events) (next n (run n events) e)).stores
-stays_full n small both events e =
-    (next_sound n small (run n events) (both events) (run_sound n small both events) e).1

@@ -1,5 +1,5 @@
--- Which versions are among what replicas took: passing brings none, and so does no place that a
--- house rule makes.
+-- Which versions are among what replicas took: passing brings none, and so does no place or flag that
+-- is made behind the first effect.
 use Rattle.std.proofs.Common.{ℕ, ◌≡◌, List, [], ◌∷◌, ◌++◌, map, refl, ap, ◌∙◌}
 use Rattle.std.specs.List.{flat_map}
 use Rattle.std.proofs.lemmas.Grind.{flat_map-append}
@@ -17,7 +17,7 @@ use Rattle.pg_run.specs.Took.Take.{TookFlag, TookPlace}
 use Rattle.pg_run.specs.Took.Taker.{InDir, Itself}
 use Rattle.pg_run.specs.Passed.{all_to, all_to_dir, flags_known, flags_to, is_back, own_takes, parties, passed, passed_with, passes, places_known, places_to}
 use Rattle.pg_promises.proofs.Choices.{chosen}
-use Rattle.pg_contents.proofs.Rules.{ArePlaces}
+use Rattle.pg_contents.proofs.Rules.{AreNames}
 
 module _ (q : FileId) where
   -- no version of the file
@@ -80,18 +80,20 @@ module _ (q : FileId) where
       none_joined (flat_map (passes removed takes) (held takes)) takes
       (each_none (passes removed takes) (passes_none removed takes) (held takes))
 
-  -- nor do the places that the rules make
-  pub stamps_behind : (removed : List ℕ) (us : List Update) (takes : List Take) → ArePlaces us
+  -- nor do the places and flags that are made then
+  pub stamps_behind : (removed : List ℕ) (us : List Update) (takes : List Take) → AreNames us
       → stamps_taken q (passed_with removed takes us) ≡ stamps_taken q takes
   stamps_behind removed [] takes are = refl
   stamps_behind removed (update.Place file place ∷ us) takes are =
       stamps_behind removed us (passed removed (take_of (update.Place file place) ∷ takes)) are
       ∙ stamps_passed removed (take_of (update.Place file place) ∷ takes)
   stamps_behind removed (update.Version made ∷ us) takes are = absurd are
-  stamps_behind removed (update.Flag file flag ∷ us) takes are = absurd are
+  stamps_behind removed (update.Flag file flag ∷ us) takes are =
+      stamps_behind removed us (passed removed (take_of (update.Flag file flag) ∷ takes)) are
+      ∙ stamps_passed removed (take_of (update.Flag file flag) ∷ takes)
 
-  -- an event: what its first effect brings, and places
-  pub stamps_after : (removed : List ℕ) (more takes : List Take) (us : List Update) → ArePlaces us
+  -- an event: what its first effect brings, and places and flags
+  pub stamps_after : (removed : List ℕ) (more takes : List Take) (us : List Update) → AreNames us
       → stamps_taken q (passed_with removed (passed removed (more ++ takes)) us)
       ≡ stamps_taken q more ++ stamps_taken q takes
   stamps_after removed more takes us are =
@@ -104,13 +106,13 @@ module _ (q : FileId) where
 
 -- ---- versions among what was made
 
--- places behind add none
-pub same_versions : (us places : List Update) → ArePlaces places
-    → versions_in (us ++ places) ≡ versions_in us
+-- places and flags behind add none
+pub same_versions : (us names : List Update) → AreNames names
+    → versions_in (us ++ names) ≡ versions_in us
 same_versions [] [] are = refl
 same_versions [] (update.Place file place ∷ ps) are = same_versions [] ps are
 same_versions [] (update.Version made ∷ ps) are = absurd are
-same_versions [] (update.Flag file flag ∷ ps) are = absurd are
+same_versions [] (update.Flag file flag ∷ ps) are = same_versions [] ps are
 same_versions (update.Version made ∷ us) ps are =
     ap (λ (vs : List MadeVersion). made ∷ vs) (same_versions us ps are)
 same_versions (update.Place file place ∷ us) ps are = same_versions us ps are

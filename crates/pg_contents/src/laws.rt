@@ -1,7 +1,7 @@
 //! What holds of the contents of files after any events, of servers at which names and replicas go together.
 
 ghost use Rattle.std.specs.Prelude.{ℕ, ◌<◌, ◌^◌};
-ghost use Rattle.pg_contents.specs.Together.{HoldBoth, OwnFlagsAreFirst};
+ghost use Rattle.pg_contents.specs.Together.{HoldBoth};
 ghost use Rattle.pg_run.specs.Histories.{AncestryByVectors, CarriesHistory, ClockEndsFirst, HistoryIsWhatWasMade, MakesHistories, OneVersionAStamp, StateIsDetermined, StateIsItsHeads};
 ghost use Rattle.pg_run.specs.Laws.{HoldsWhatItTook};
 
@@ -33,9 +33,7 @@ pub fn runs_make_histories()
         → CarriesHistory servers }
 {}
 
-/// Numbers of versions never end before the clock does; nor do those of flags, where a server's own flag of a thing is
-/// its first.
+/// Numbers of versions never end before the clock does.
 pub fn clocks_end_first()
-    ensures { (servers : ℕ) → servers < 2 ^ 32 → HoldBoth servers → OwnFlagsAreFirst servers
-        → ClockEndsFirst servers }
+    ensures { (servers : ℕ) → servers < 2 ^ 32 → HoldBoth servers → ClockEndsFirst servers }
 {}

@@ -1,11 +1,12 @@
 -- What each call keeps of names: new things, places that things get, and versions, which raise the greatest time.
-use Rattle.std.proofs.Common.{ℕ, ◌≡◌, ◌==◌, List, Option, None, Some, Result, Ok, Err, refl}
+use Rattle.std.proofs.Common.{ℕ, ◌≡◌, ◌==◌, false, List, Option, None, Some, Result, Ok, Err, refl}
 use Rattle.pg_base.specs.declared.id.FileId.{FileId}
 use Rattle.pg_base.specs.declared.id.Kind.{Kind}
 use Rattle.pg_base.specs.declared.id.Kind.TheVariants.{Dir, File}
 use Rattle.pg_base.specs.declared.policy.Policy.{Policy}
 use Rattle.pg_base.specs.declared.policy.Policy.TheVariants.{Last}
 use Rattle.pg_patch.specs.Ranges.{RangesValue, cut_to, written}
+use Rattle.pg_register.specs.declared.flag.Flag.{Flag}
 use Rattle.pg_register.specs.declared.place.Place.{Place}
 use Rattle.pg_msg.specs.declared.work.Work.{Work}
 use Rattle.pg_call.specs.declared.call.Call.{Call}
@@ -15,26 +16,30 @@ use Rattle.pg_names.specs.Names.{NamesValue, raise}
 use Rattle.pg_store.specs.declared.store.Store.{Store}
 use Rattle.pg_store.specs.declared.wishes.Wish.{Wish}
 use Rattle.pg_store.specs.Births.{with_birth, with_wish}
-use Rattle.pg_store.specs.Store.{take_place}
+use Rattle.pg_store.specs.Store.{take_flag, take_place}
 use Rattle.pg_walk.specs.declared.paths.Found.{Found}
 use Rattle.pg_walk.specs.declared.paths.Stop.{Stop}
 use Rattle.pg_walk.specs.declared.paths.Stop.TheVariants as stop
 use Rattle.pg_cells.specs.Done.{Done, idle}
+use Rattle.pg_cells.specs.Golds.{is_gold}
+use Rattle.pg_cells.specs.Making.{lower_flag, own_next}
 use Rattle.pg_calls.specs.declared.checks.NewName.{NewName}
 use Rattle.pg_calls.specs.Answer.{Answer, answered, replied, told}
 use Rattle.pg_calls.specs.Asking.{ask_by, ask_first, fetch, fresh_wish, holder, standing}
 use Rattle.pg_calls.specs.Bodies.{change, change_file, when_fit}
 use Rattle.pg_calls.specs.Calls.{do_call}
 use Rattle.pg_calls.specs.Checks.{dir_at, empty_dir_at, file_at, in_time, move_of, new_name, target_at}
+use Rattle.pg_calls.specs.Demoting.{demoted_at}
 use Rattle.pg_calls.specs.Making.{drawn}
 use Rattle.pg_calls.specs.Naming.{next_id, with_id, with_thing}
 use Rattle.pg_promises.proofs.Choices.{chosen}
 
 -- a property of names that what a call does keeps, at a server that holds this: a new thing, a place with the stamp that
--- is drawn now, and a greater time
+-- is drawn now, a flag, and a greater time
 pub record CallsKeep (P : NamesValue → Type 0) (a : Store) (work : Work) : Type 0 where
   pub thing : (kind : Kind) (policy : Policy) (new : NewName) → P a.names → P (with_thing (with_id a) work (next_id a kind) policy new).store.names
   pub place : (f : FileId) (p : Place) → p.stamp ≡ drawn a work.now → P a.names → P (take_place a f p).names
+  pub flag : (f : FileId) (g : Flag) → P a.names → P (take_flag a f g).names
   pub raised : (s : NamesValue) (time : ℕ) → P s → P (raise s time)
 
 module _ (P : NamesValue → Type 0) (a : Store) (work : Work) (k : CallsKeep P a work) (h : P a.names) where
@@ -89,7 +94,9 @@ module _ (P : NamesValue → Type 0) (a : Store) (work : Work) (k : CallsKeep P 
   call_kept (call.Unlink text) = answered_kept (file_at a text) _ (λ file. k.place file _ refl h)
   call_kept (call.Rmdir text) = answered_kept (empty_dir_at a text) _ (λ dir. k.place dir _ refl h)
   call_kept (call.Forget id) = timed_kept _
-  call_kept (call.Demote target) = timed_kept _
+  call_kept (call.Demote target) =
+      answered_kept (demoted_at a target) _
+      (λ file. chosen OfDone (is_gold a file) (lower_flag a file work) (idle a work) (k.flag file (own_next a file false) h) h)
   call_kept (call.Drop target) = timed_kept _
   call_kept (call.Giveup view server) = timed_kept _
   call_kept call.Status = timed_kept _

@@ -1,5 +1,5 @@
 -- What each message keeps of names.
-use Rattle.std.proofs.Common.{ℕ, ◌≡◌, ◌&&◌, not, Bool, true, false, cond, refl, ap}
+use Rattle.std.proofs.Common.{ℕ, ◌≡◌, ◌==◌, ◌&&◌, not, Bool, true, false, cond, refl, ap}
 use Rattle.pg_base.specs.declared.id.FileId.{FileId}
 use Rattle.pg_register.specs.declared.place.Place.{Place}
 use Rattle.pg_entries.specs.declared.cell.Cell.TheVariants as cell
@@ -36,7 +36,9 @@ use Rattle.pg_repair.specs.Fetching.{answered_fetch, fetch}
 use Rattle.pg_repair.specs.Filling.{fill, full}
 use Rattle.pg_repair.specs.Granting.{aim_fill, begin_granted, begun_by, fill_asks, grant, granted_own, no_grant, turn_wish, wish_asks}
 use Rattle.pg_repair.specs.NoneHere.{asking_key, does_ask}
+use Rattle.pg_graph.specs.Seeking.{answered_seek, seek}
 use Rattle.pg_repair.specs.Telling.{is_told, tell, told}
+use Rattle.pg_graph.specs.Walks.{goes_on, meet_origin, onward, walk, walked}
 use Rattle.pg_server.specs.Local.{receive}
 use Rattle.pg_promises.proofs.Choices.{chosen}
 use Rattle.pg_filled.proofs.Pieces.{AreKept, begin_kept, entry_kept, flag_kept, flags_kept, link_kept, place_kept, taken_kept, unlink_kept}
@@ -120,6 +122,23 @@ module _ (P : NamesValue → Type 0) (Places : FileId → Place → Type 0) (Beg
   tell_kept : (dir : FileId) (e : Entry) (work : Work) → OfDone (tell a dir e work)
   tell_kept dir e work = chosen OfDone (is_held a dir) (told dir e (take_entry_noted a dir e work)) (idle a _) (entry_kept P Places Begins Fills k a dir e h) h
 
+  -- ---- golds and walks
+
+  seek_kept : (f : FileId) (birth : ℕ) (work : Work) → OfDone (seek a f birth work)
+  seek_kept f birth work =
+      let answered = answered_seek f birth (link_peer a f work.from birth work) in
+      chosen OfDone (is_held a f) (cond (knows_later a f work.from birth) (idle a work) answered) (idle a _)
+      (chosen OfDone (knows_later a f work.from birth) (idle a work) answered h (link_kept P Places Begins Fills k a f work.from birth h)) h
+
+  walk_kept : (ends : Ends) (origin birth hops word : ℕ) (work : Work) → OfDone (walk a ends origin birth hops word work)
+  walk_kept ends origin birth hops word work =
+      let edges = onward a ends.file work.from origin in
+      let gone = walked a ends origin birth hops word edges work in
+      chosen OfDone (is_accepted a work.from manner.Ask ends) (cond (origin == a.names.server) (idle a work) gone) (accept a ends manner.Ask work)
+      (chosen OfDone (origin == a.names.server) (idle a work) gone h
+      (chosen OfDone (goes_on hops edges) (idle a _) (meet_origin a ends.file origin birth work) h (link_kept P Places Begins Fills k a ends.file origin birth h)))
+      (accept_kept ends manner.Ask work)
+
   -- A MESSAGE
   pub receive_kept : (m : Message) (work : Work) → MayCome Places Begins Fills a work.from m → OfDone (receive a m work)
   receive_kept (message.Cell ends tag c) work may = cell_kept ends tag c work (λ p same. may.cell ends tag p (ap (message.Cell ends tag) same))
@@ -133,8 +152,8 @@ module _ (P : NamesValue → Type 0) (Places : FileId → Place → Type 0) (Beg
   receive_kept (message.Grant ends granted) work may = grant_kept ends granted work (may.grant ends granted refl)
   receive_kept (message.NoGrant file birth) work may = no_grant_kept file birth work
   receive_kept (message.Full ends) work may = full_kept ends work (may.full ends refl)
-  receive_kept (message.Seek file birth) work may = h
-  receive_kept (message.Here ends) work may = h
+  receive_kept (message.Seek file birth) work may = seek_kept file birth work
+  receive_kept (message.Here ends) work may = accept_kept ends manner.Link work
   receive_kept (message.NoneHere ask file child) work may =
       chosen Of (does_ask (intent_at a.intents (asking_key ask file child)) work.from) _ a h h
   receive_kept (message.Gone file birth) work may = unlink_kept P Places Begins Fills k a file work.from birth h
@@ -148,5 +167,5 @@ module _ (P : NamesValue → Type 0) (Places : FileId → Place → Type 0) (Beg
   receive_kept (message.Leave ends stamp) work may = h
   receive_kept (message.LeaveOk ends stamp) work may = h
   receive_kept (message.Invite ends) work may = h
-  receive_kept (message.Walk ends origin birth hops word) work may = h
-  receive_kept (message.Meet ends) work may = h
+  receive_kept (message.Walk ends origin birth hops word) work may = walk_kept ends origin birth hops word work
+  receive_kept (message.Meet ends) work may = accept_kept ends manner.Link work

@@ -65,7 +65,7 @@ use Rattle.pg_filled.proofs.Calling.{call_kept}
 use Rattle.pg_filled.proofs.Clean.{IsAcknowledged, clean_before}
 use Rattle.pg_filled.proofs.Coming.{receive_kept}
 use Rattle.pg_filled.proofs.Effects.{arrival_kept, effect_kept}
-use Rattle.pg_filled.proofs.Placed.{BeginsOther, FillsIt, FullIf, calls_full, full_kept_if, house_full, late_upto}
+use Rattle.pg_filled.proofs.Placed.{BeginsOther, FillsIt, FullIf, calls_full, full_kept_if, late_upto, rules_full_if}
 use Rattle.pg_filled.proofs.Sends.{MayReply, effect_sends}
 use Rattle.pg_filled.proofs.Told.{all_cells, asks_are}
 use Rattle.pg_filled.proofs.Works.{is_plain}
@@ -188,7 +188,7 @@ module _ (n : ℕ) (w : World) (stands : Stands n w) (filled : AreFilled n w) (e
 
     full_placed : is_full End file ≡ true → IsPlaced End.names file
     full_placed full =
-        elim (effect_kept (FullIf Here file) Here asked (λ moment t work h. house_full Here file moment t work h) (first_full asked came) full) [
+        elim (effect_kept (FullIf Here file) (rules_full_if Here file) Here asked (first_full asked came) full) [
           | inl was ↦ placed_on Here End grows file (elim was [ inl before ↦ filled.placed s least most file before apart | inr placed ↦ placed ])
           | inr now ↦ now
         ]

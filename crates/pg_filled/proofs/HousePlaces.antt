@@ -23,7 +23,7 @@ use Rattle.pg_house.specs.Cycles.{break_first, first_moving, moved}
 use Rattle.pg_house.specs.Facts.{IsHeld}
 use Rattle.pg_house.specs.House.{house, movable}
 use Rattle.pg_house.specs.Passing.{greatest, is_held_back, joined_with, own_taken, pass, pass_all, pass_own, passed}
-use Rattle.pg_house.specs.Placing.{drawn, live_place, made_at, own_with, place_at, placed, repeated}
+use Rattle.pg_house.specs.Placing.{drawn, live_place, made_at, own_with, place_at, placed}
 use Rattle.pg_house.specs.Returning.{first_returning, is_returning, return_first, returned}
 use Rattle.pg_house.specs.Work.{State}
 use Rattle.pg_house.proofs.AfterPassing.{after_frame, after_other, after_own}
@@ -171,15 +171,9 @@ module _ (d : FileId) (R : List ℕ) (Q : Place → Type 0) (M : Update → Type
             placed_stays moment ds st f root (tilde_name f) (inner_parts st.names f deep.0).held k
       ]
 
-  -- behind passing, so many returns, and then so many cycles broken
-  pub midst_stays : (moment returns breaks : ℕ) (ds fs : List FileId) (st : State) → Stays st
-      → Stays (repeated breaks (break_first moment ds) (repeated returns (return_first moment ds) (pass_all st ds fs)))
-  midst_stays moment returns breaks ds fs st k =
-      repeated_keeps Stays (break_first moment ds) (λ t q. moved_stays moment ds t (first_moving t.names (length ds) None ds) refl q) breaks _
-      (repeated_keeps Stays (return_first moment ds) (λ t q. returned_stays moment ds t (first_returning t.names ds) refl q) returns _ (all_stay st ds fs k))
-
   -- THE HOUSE RULES
   pub house_stays : (moment : ℕ) (st : State) → Stays st → Stays (house moment st)
   house_stays moment st k =
       let ds = directories st.names in
-      midst_stays moment (length ds) (length ds) ds (movable st.names) st k
+      repeated_keeps Stays (break_first moment ds) (λ t q. moved_stays moment ds t (first_moving t.names (length ds) None ds) refl q) (length ds) _
+      (repeated_keeps Stays (return_first moment ds) (λ t q. returned_stays moment ds t (first_returning t.names ds) refl q) (length ds) _ (all_stay st ds (movable st.names) k))

@@ -34,6 +34,7 @@ use Rattle.pg_promises.proofs.Choices.{chosen, decided}
 use Rattle.pg_promises.proofs.Together.{held_by_keys, own_of_held}
 use Rattle.pg_filled.specs.Filled.{IsLate, IsPlaced}
 use Rattle.pg_filled.proofs.Calling.{CallsKeep}
+use Rattle.pg_filled.proofs.Effects.{RulesKeep}
 use Rattle.pg_filled.proofs.HousePlaces.{IsUp, StaysSo, before_further, drawn_some, house_stays, newer_up}
 use Rattle.pg_filled.proofs.Pieces.{AreKept, begin_kept, flag_kept, patches_kept, place_kept}
 
@@ -199,8 +200,11 @@ module _ (a : Store) (file : FileId) where
     filled = λ s f may h. filled_by s f (is_same_file f file) refl may h;
   }
 
-  pub house_full : (moment : ℕ) (s : NamesValue) (work : Work) → FullIf s → FullIf (house moment (state_of s work)).names
+  house_full : (moment : ℕ) (s : NamesValue) (work : Work) → FullIf s → FullIf (house moment (state_of s work)).names
   house_full moment s work h = goes_on s (house moment (state_of s work)).names (rules_full moment (state_of s work) file) (house_at file moment s work) h
+
+  pub rules_full_if : RulesKeep FullIf
+  rules_full_if = record { rules = house_full; flag = full_kept_if.flag }
 
   -- ---- a call makes a thing
 
@@ -246,5 +250,6 @@ module _ (a : Store) (file : FileId) where
   calls_full work = record {
     thing = λ kind policy new h. thing_by work kind policy new (is_same_file file (next_id a kind)) refl h;
     place = λ f p drawn h. place_kept FullIf (λ f p. Unit {0}) BeginsOther FillsIt full_kept_if a f p tt h;
+    flag = λ f g h. flag_kept FullIf (λ f p. Unit {0}) BeginsOther FillsIt full_kept_if a f g h;
     raised = λ s time h. h;
   }

@@ -1,5 +1,6 @@
 -- What comes of messages and calls: what is noted, flags, places and versions that are made, and what is sent.
-use Rattle.std.proofs.Common.{ℕ, ◌≡◌, ◌==◌, ◌&&◌, ◌||◌, not, true, false, cond, List, Option, None, Some, Result, Ok, Err, refl, sym, subst, ◌∙◌, ◌⊎◌, inl, inr}
+use Rattle.std.proofs.Common.{ℕ, ◌≡◌, ◌==◌, ◌-◌, ◌/◌, ◌%◌, ◌&&◌, ◌||◌, not, true, false, cond, List, length, Option, None, Some, Result, Ok, Err, refl, sym, subst, ◌∙◌, ◌⊎◌, inl, inr}
+use Rattle.std.specs.List.{slice_get}
 use Rattle.std.proofs.lemmas.Bool.{false≢true}
 use Rattle.pg_base.specs.declared.id.FileId.{FileId}
 use Rattle.pg_base.specs.declared.id.Kind.{Kind}
@@ -8,11 +9,13 @@ use Rattle.pg_base.specs.declared.policy.Policy.{Policy}
 use Rattle.pg_base.specs.declared.policy.Policy.TheVariants.{Last}
 use Rattle.pg_base.specs.declared.stamp.Stamp.{Stamp}
 use Rattle.pg_patch.specs.Ranges.{RangesValue, cut_to, written}
+use Rattle.pg_edges.specs.declared.edge.Edge.{Edge}
 use Rattle.pg_edges.specs.declared.key.Key.TheVariants as key
 use Rattle.pg_register.specs.declared.place.Place.{Place}
 use Rattle.pg_entries.specs.declared.cell.Cell.{Cell}
 use Rattle.pg_entries.specs.declared.entry.Entry.{Entry}
 use Rattle.pg_house.specs.Work.{is_root}
+use Rattle.pg_msg.specs.declared.message.Ask.TheVariants as ask
 use Rattle.pg_msg.specs.declared.message.Ends.{Ends}
 use Rattle.pg_msg.specs.declared.message.Granted.{Granted}
 use Rattle.pg_msg.specs.declared.message.Message.{Message}
@@ -31,7 +34,7 @@ use Rattle.pg_names.specs.Names as names
 use Rattle.pg_replica.specs.declared.replica.Replica.{Replica}
 use Rattle.pg_store.specs.declared.store.Store.{Store}
 use Rattle.pg_store.specs.declared.wishes.Wish.{Wish}
-use Rattle.pg_store.specs.Births.{has_birth, is_pending, with_birth, with_wish}
+use Rattle.pg_store.specs.Births.{birth_of, has_birth, is_pending, with_birth, with_wish}
 use Rattle.pg_store.specs.Links.{is_clean, is_new_link, knows_later}
 use Rattle.pg_store.specs.Store.{is_full, is_held, replica_at, with_names}
 use Rattle.pg_walk.specs.declared.paths.Found.{Found}
@@ -42,14 +45,18 @@ use Rattle.pg_cells.specs.declared.accepting.Manner.TheVariants as manner
 use Rattle.pg_cells.specs.Accepting.{accept, is_accepted, is_answer, link_peer, met, with_gone}
 use Rattle.pg_cells.specs.Cells.{cell as cell_comes, fits, taken, taken_along}
 use Rattle.pg_cells.specs.Done.{Done, idle}
-use Rattle.pg_cells.specs.Making.{own_next, raise_flag}
+use Rattle.pg_cells.specs.Golds.{is_gold}
+use Rattle.pg_cells.specs.Making.{lower_flag, own_next, raise_flag}
 use Rattle.pg_cells.specs.Posting.{post, reply, sent_to}
 use Rattle.pg_cells.specs.Taking.{take_entry_noted, take_place_noted}
 use Rattle.pg_repair.specs.Confirming.{confirm, confirmed, place_is, place_told, take_told_flags, take_told_place}
 use Rattle.pg_repair.specs.Fetching.{answered_fetch, ends_to, fetch, give, given, granted_from}
 use Rattle.pg_repair.specs.Filling.{fill, full}
 use Rattle.pg_repair.specs.Granting.{begin_granted, begun_by, grant}
+use Rattle.pg_graph.specs.Seeking.{answered_seek, seek}
 use Rattle.pg_repair.specs.Telling.{tell, told}
+use Rattle.pg_graph.specs.Seeks.{edges_of}
+use Rattle.pg_graph.specs.Walks.{goes_on, meet_origin, most_hops, onward, walk, walk_along, walk_from, walk_of, walk_of_tick, walk_on, walked, with_few_edges}
 use Rattle.pg_server.specs.Local.{receive}
 use Rattle.pg_calls.specs.declared.checks.NewName.{NewName}
 use Rattle.pg_calls.specs.Answer.{Answer, answered, replied, told as told_answer, unless}
@@ -57,11 +64,12 @@ use Rattle.pg_calls.specs.Asking as asking
 use Rattle.pg_calls.specs.Bodies.{change, change_file, when_fit}
 use Rattle.pg_calls.specs.Calls.{do_call}
 use Rattle.pg_calls.specs.Checks.{dir_at, empty_dir_at, file_at, first_child, in_time, move_of, new_name, target_at, thing_at, unless_child}
+use Rattle.pg_calls.specs.Demoting.{demoted_at}
 use Rattle.pg_calls.specs.Making.{drawn, first_ranges, make_place, make_version, version_of}
 use Rattle.pg_calls.specs.Naming.{begun, next_id, place_in, with_id, with_thing}
 use Rattle.pg_promises.proofs.Choices.{chosen, decided}
 use Rattle.pg_calls.proofs.Checked.{behind, no_ok, same_ok, unless_ok}
-use Rattle.pg_filled.proofs.Works.{IsClosed, entry_sends, flag_sends, flags_send, is_plain, link_sends, place_sends, taken_sends}
+use Rattle.pg_filled.proofs.Works.{IsClosed, entry_sends, flags_send, is_plain, link_sends, made_sends, place_sends, taken_sends}
 
 -- a property of what comes of an event that grants keep, and, where a server that holds this is asked for a replica, what
 -- it says is full once it has linked who asks
@@ -111,7 +119,7 @@ module _ (Q : Work → Type 0) (k : IsClosed Q) where
       (plain_sends done.store done.work.from (message.Ack _ _ tag) done.work refl (taken_sends Q k met_first.store ends.file c met_first.work first)) first) h
 
   raise_sends : (a : Store) (f : FileId) (w : Work) → Q w → DoneSends (raise_flag a f w)
-  raise_sends a f w h = flag_sends Q k a f (own_next a f true) (with_made w (update.Flag f (own_next a f true))) (k.flagged w f (own_next a f true) h)
+  raise_sends a f w h = made_sends Q k a f (own_next a f true) w h
 
   -- ---- what else comes
 
@@ -145,6 +153,48 @@ module _ (Q : Work → Type 0) (k : IsClosed Q) where
       chosen DoneSends (is_held a dir) (told dir e one) (idle a _)
       (plain_sends one.store one.work.from (message.TellOk dir e.child e.place.stamp) one.work refl (entry_sends Q k a dir e w h))
       (plain_sends a w.from (message.NoneHere _ dir e.child) w refl h)
+
+  -- ---- golds and walks
+
+  seek_sends : (a : Store) (f : FileId) (birth : ℕ) (w : Work) → Q w → DoneSends (seek a f birth w)
+  seek_sends a f birth w h =
+      let d = link_peer a f w.from birth w in
+      let later = knows_later a f w.from birth in
+      chosen DoneSends (is_held a f) (cond later (idle a w) (answered_seek f birth d)) (idle a _)
+      (chosen DoneSends later (idle a w) (answered_seek f birth d) h
+      (plain_sends d.store d.work.from (message.Here (ends_to d.store f birth)) d.work refl (peer_sends a f w.from birth w h)))
+      (plain_sends a w.from (message.NoneHere ask.Seek f f) w refl h)
+
+  along_sends : (a : Store) (f : FileId) (origin birth hops word : ℕ) (w : Work) (o : Option Edge) → Q w → Q (walk_along a f origin birth hops word w o)
+  along_sends a f origin birth hops word w None h = h
+  along_sends a f origin birth hops word w (Some e) h = k.last w _ refl h
+
+  met_origin_sends : (a : Store) (f : FileId) (origin birth : ℕ) (w : Work) → Q w → DoneSends (meet_origin a f origin birth w)
+  met_origin_sends a f origin birth w h =
+      let d = link_peer a f origin birth w in
+      plain_sends d.store origin (message.Meet (ends_to d.store f birth)) d.work refl (peer_sends a f origin birth w h)
+
+  walk_sends : (a : Store) (ends : Ends) (origin birth hops word : ℕ) (w : Work) → Q w → DoneSends (walk a ends origin birth hops word w)
+  walk_sends a ends origin birth hops word w h =
+      let edges = onward a ends.file w.from origin in
+      let gone = walked a ends origin birth hops word edges w in
+      chosen DoneSends (is_accepted a w.from manner.Ask ends) (cond (origin == a.names.server) (idle a w) gone) (accept a ends manner.Ask w)
+      (chosen DoneSends (origin == a.names.server) (idle a w) gone h
+      (chosen DoneSends (goes_on hops edges) (idle a (walk_on a ends.file origin birth hops word edges w)) (meet_origin a ends.file origin birth w)
+      (along_sends a ends.file origin birth (hops - 1) (word / length edges) w (slice_get edges (word % length edges)) h) (met_origin_sends a ends.file origin birth w h)))
+      (accept_sends a ends manner.Ask w h)
+
+  -- the walk of a tick
+  from_sends : (a : Store) (word : ℕ) (w : Work) (o : Option FileId) → Q w → Q (walk_from a word w o)
+  from_sends a word w None h = h
+  from_sends a word w (Some f) h =
+      let edges = edges_of a f in
+      along_sends a f a.names.server (birth_of a f) most_hops (word / length edges) w (slice_get edges (word % length edges)) h
+
+  pub tick_sends : (a : Store) (word : ℕ) (w : Work) → Q w → Q (walk_of_tick a word w)
+  tick_sends a word w h =
+      let files = with_few_edges a in
+      chosen Q (word == 0) w (walk_of a word files w) h (from_sends a (word / length files) w (slice_get files (word % length files)) h)
 
 -- ---- a message
 
@@ -181,8 +231,8 @@ module _ (Q : Work → Type 0) (k : IsClosed Q) (a : Store) (w : Work) (h : Q w)
   receive_sends (message.Grant ends granted) may = grant_sends Q k a ends granted w h
   receive_sends (message.NoGrant file birth) may = h
   receive_sends (message.Full ends) may = full_sends Q k a ends w h
-  receive_sends (message.Seek file birth) may = h
-  receive_sends (message.Here ends) may = h
+  receive_sends (message.Seek file birth) may = seek_sends Q k a file birth w h
+  receive_sends (message.Here ends) may = accept_sends Q k a ends manner.Link w h
   receive_sends (message.NoneHere ask file child) may = h
   receive_sends (message.Gone file birth) may = h
   receive_sends (message.Bye ends) may = h
@@ -194,8 +244,8 @@ module _ (Q : Work → Type 0) (k : IsClosed Q) (a : Store) (w : Work) (h : Q w)
   receive_sends (message.Leave ends stamp) may = h
   receive_sends (message.LeaveOk ends stamp) may = h
   receive_sends (message.Invite ends) may = h
-  receive_sends (message.Walk ends origin birth hops word) may = h
-  receive_sends (message.Meet ends) may = h
+  receive_sends (message.Walk ends origin birth hops word) may = walk_sends Q k a ends origin birth hops word w h
+  receive_sends (message.Meet ends) may = accept_sends Q k a ends manner.Link w h
 
 -- ---- a call
 
@@ -289,7 +339,9 @@ module _ (Q : Work → Type 0) (k : IsClosed Q) (a : Store) (w : Work) (make : M
   call_sends (call.Unlink text) = answered_sends (file_at a text) _ (λ file is. placed_sends a file _ (inr (record { now = refl; empty = λ dir. absurd (false≢true (sym (file_is a text file is) ∙ dir)) })))
   call_sends (call.Rmdir text) = answered_sends (empty_dir_at a text) _ (λ dir is. placed_sends a dir _ (inr (record { now = refl; empty = λ d. empty_is a text dir is })))
   call_sends (call.Forget id) = timed_sends _
-  call_sends (call.Demote target) = timed_sends _
+  call_sends (call.Demote target) =
+      answered_sends (demoted_at a target) _
+      (λ file is. chosen ByDone (is_gold a file) (lower_flag a file w) (idle a w) (made_sends Q k a file (own_next a file false) w h) h)
   call_sends (call.Drop target) = timed_sends _
   call_sends (call.Giveup view server) = timed_sends _
   call_sends call.Status = timed_sends _

@@ -23,13 +23,14 @@ use Rattle.pg_cells.specs.Posting.{sent_to}
 use Rattle.pg_repair.specs.Fetching.{ends_to, granted_from}
 use Rattle.pg_cells.specs.Done.{Done, idle}
 use Rattle.pg_cells.specs.Sending.{Wanted, cells_where, is_any, is_chosen}
-use Rattle.pg_repair.specs.Requests.{asks, asks_by}
+use Rattle.pg_cells.specs.Ticks.{tick}
+use Rattle.pg_repair.specs.Requests.{ask_all, asks, asks_by}
 use Rattle.pg_server.specs.declared.input.Input.{Input}
 use Rattle.pg_server.specs.declared.input.Input.TheVariants as input
 use Rattle.pg_server.specs.Local.{effect, first_effect, is_heard, receive, sent_again}
 use Rattle.pg_promises.proofs.Choices.{All-flat_map, chosen}
 use Rattle.pg_run.proofs.Event.{all_sent, end_of, store_is}
-use Rattle.pg_filled.proofs.Replies.{MayAnswer, call_sends, receive_sends}
+use Rattle.pg_filled.proofs.Replies.{MayAnswer, call_sends, receive_sends, tick_sends}
 use Rattle.pg_filled.proofs.Works.{IsClosed, is_plain}
 
 -- a property of messages: plain ones have it, what is granted does, and, where a server that holds this is asked for a
@@ -51,10 +52,13 @@ pub record MaySend (P : Sent → Type 0) (a e : Store) (asked : Input) : Type 0 
 
 module _ (P : Sent → Type 0) (a : Store) where
   abbrev OfWork : Work → Type 0
-  OfWork w = All P w.sent
+  OfWork w = All P w.sent × All P w.tail
 
   abbrev OfDone : Done → Type 0
-  OfDone d = All P d.work.sent
+  OfDone d = OfWork d.work
+
+  none_sent : (moment from : ℕ) → OfWork (new_work moment from)
+  none_sent moment from = (All-nil P, All-nil P)
 
   sent_closed : ((x : Sent) → is_plain x.packet.message ≡ true → P x) → IsClosed OfWork
   sent_closed plain = record {
@@ -63,40 +67,44 @@ module _ (P : Sent → Type 0) (a : Store) where
     unsure = λ w d f h. h;
     linked = λ w f peer h. h;
     flagged = λ w f g h. h;
-    sent = λ w x is h. All-push P w.sent x h (plain x is);
+    sent = λ w x is h. (All-push P w.sent x h.0 (plain x is), h.1);
+    last = λ w x is h. (h.0, All-push P w.tail x h.1 (plain x is));
   }
 
   sent_answers : (w : Work) (m : Message) → MayReply P a w m → MayAnswer OfWork a w m
   sent_answers w m may = record {
-    granted = λ v b to ends own x h. All-push P v.sent _ h (may.granted b to ends own x);
-    full = λ file birth is holds clean h. All-push P _ _ h (may.full file birth is holds clean);
+    granted = λ v b to ends own x h. (All-push P v.sent _ h.0 (may.granted b to ends own x), h.1);
+    full = λ file birth is holds clean h. (All-push P _ _ h.0 (may.full file birth is holds clean), h.1);
   }
 
   -- ---- the first effect
 
-  again_sends : (e : Store) (asked : Input) → MaySend P a e asked → (moment : ℕ) → All P (sent_again a (new_work moment 0)).sent
+  again_sends : (e : Store) (asked : Input) → MaySend P a e asked → (moment : ℕ) → All P (ask_all a (tick a (new_work moment 0))).sent
   again_sends e asked may moment =
       All-append P ([] ++ cells_where a is_any) (flat_map (asks a) a.intents)
       (All-append P [] (cells_where a is_any) (All-nil P) (may.cells_before is_any)) (All-flat_map P (asks a) a.intents may.asked_before)
 
   first_sends : (e : Store) (asked : Input) → MaySend P a e asked → OfDone (first_effect a asked)
   first_sends e (input.Call moment c) may =
-      call_sends OfWork (sent_closed may.plain) a (new_work moment 0) (record { place = λ f p so h. h; version = λ v u h. h }) (All-nil P) c
+      call_sends OfWork (sent_closed may.plain) a (new_work moment 0) (record { place = λ f p so h. h; version = λ v u h. h }) (none_sent moment 0) c
   first_sends e (input.Tick moment word) may =
-      chosen OfWork (is_in_time a) (sent_again a (new_work moment 0)) (new_work moment 0)
-      (again_sends e (input.Tick moment word) may moment) (All-nil P)
+      let w = new_work moment 0 in
+      chosen OfWork (is_in_time a) (sent_again a word w) w
+      (tick_sends OfWork (sent_closed may.plain) a word (ask_all a (tick a w)) (again_sends e (input.Tick moment word) may moment, All-nil P)) (none_sent moment 0)
   first_sends e (input.Arrival packet) may =
       let w = new_work 0 packet.from in
       chosen OfDone (is_heard a packet) (receive a packet.message w) (idle a w)
-      (receive_sends OfWork (sent_closed may.plain) a w (All-nil P) packet.message (sent_answers w packet.message (may.replies packet refl))) (All-nil P)
-  first_sends e input.Restart may = All-nil P
+      (receive_sends OfWork (sent_closed may.plain) a w (none_sent 0 packet.from) packet.message (sent_answers w packet.message (may.replies packet refl)))
+      (none_sent 0 packet.from)
+  first_sends e input.Restart may = none_sent 0 0
 
   -- IN AN EVENT
   pub effect_sends : (asked : Input) → MaySend P a (effect a asked).store asked → All P (effect a asked).out.sent
   effect_sends asked may =
       let d = end_of a asked in
       let chosen_ones = is_chosen d.work.touched d.work.linked in
-      all_sent P a asked (first_sends (effect a asked).store asked may)
+      let first = first_sends (effect a asked).store asked may in
+      all_sent P a asked first.0
       (subst (λ (x : Store). All P (cells_where x chosen_ones)) (store_is a asked) (may.cells_behind chosen_ones))
       (All-flat_map P (asks_by d.store) d.work.begun
-      (λ i q lt. subst (λ (x : Store). All P (asks_by x (get_or d.work.begun i q))) (store_is a asked) (may.asked_behind (get_or d.work.begun i q))))
+      (λ i q lt. subst (λ (x : Store). All P (asks_by x (get_or d.work.begun i q))) (store_is a asked) (may.asked_behind (get_or d.work.begun i q)))) first.1

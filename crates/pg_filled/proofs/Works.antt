@@ -12,7 +12,7 @@ use Rattle.pg_msg.specs.declared.message.Message.TheVariants as message
 use Rattle.pg_msg.specs.declared.message.Sent.{Sent}
 use Rattle.pg_msg.specs.declared.update.Update.TheVariants as update
 use Rattle.pg_msg.specs.declared.work.Work.{Work}
-use Rattle.pg_msg.specs.Work.{with_left, with_linked, with_made, with_sent, with_touched, with_unsure}
+use Rattle.pg_msg.specs.Work.{with_left, with_linked, with_made, with_sent, with_tail, with_touched, with_unsure}
 use Rattle.pg_register.specs.declared.flag.Flag.{Flag}
 use Rattle.pg_register.specs.declared.place.Place.{Place}
 use Rattle.pg_names.specs.Names.{own_or_blank}
@@ -20,7 +20,10 @@ use Rattle.pg_store.specs.declared.store.Store.{Store}
 use Rattle.pg_store.specs.Store.{entry_news, is_new_version, is_newer_flag, is_newer_place, take_flag}
 use Rattle.pg_cells.specs.Accepting.{with_link}
 use Rattle.pg_cells.specs.Cells.{taken}
+use Rattle.pg_cells.specs.Making.{make_flag, own_next}
+use Rattle.pg_cells.specs.Settling.{rules, settle}
 use Rattle.pg_cells.specs.Taking.{is_any_news, is_place_news, take_entry_noted, take_flag_noted, take_flags_noted, take_place_noted, with_doubt, with_left_if, with_news}
+use Rattle.pg_cells.proofs.Settled.{settle_keeps}
 use Rattle.pg_promises.proofs.Choices.{chosen}
 
 -- a message that tells of no cell, grants nothing, does not say that a replica is full, and asks nobody to confirm
@@ -31,7 +34,8 @@ is_plain (message.Full ends) = false
 is_plain (message.Confirm dir entry) = false
 is_plain _ = true
 
--- a property of what comes of an event that these keep: what is noted, flags that are made, and plain messages
+-- a property of what comes of an event that these keep: what is noted, flags that are made, and plain messages, also such
+-- as go last
 pub record IsClosed (Q : Work → Type 0) : Type 0 where
   pub touched : (w : Work) (f : FileId) (q : Key) → Q w → Q (with_touched w f q)
   pub left : (w : Work) (d f : FileId) → Q w → Q (with_left w d f)
@@ -39,6 +43,7 @@ pub record IsClosed (Q : Work → Type 0) : Type 0 where
   pub linked : (w : Work) (f : FileId) (peer : ℕ) → Q w → Q (with_linked w f peer)
   pub flagged : (w : Work) (f : FileId) (g : Flag) → Q w → Q (with_made w (update.Flag f g))
   pub sent : (w : Work) (x : Sent) → is_plain x.packet.message ≡ true → Q w → Q (with_sent w x)
+  pub last : (w : Work) (x : Sent) → is_plain x.packet.message ≡ true → Q w → Q (with_tail w x)
 
 module _ (Q : Work → Type 0) (k : IsClosed Q) where
   news_sends : (news : Bool) (w : Work) (f : FileId) (q : Key) → Q w → Q (with_news news w f q)
@@ -64,6 +69,14 @@ module _ (Q : Work → Type 0) (k : IsClosed Q) where
 
   pub flag_sends : (a : Store) (f : FileId) (g : Flag) (w : Work) → Q w → Q (take_flag_noted a f g w).work
   flag_sends a f g w h = news_sends (is_newer_flag a f g) w f (key.Flag g.server) h
+
+  pub made_sends : (a : Store) (f : FileId) (g : Flag) (w : Work) → Q w → Q (make_flag a f g w).work
+  made_sends a f g w h = flag_sends a f g (with_made w (update.Flag f g)) (k.flagged w f g h)
+
+  -- what the house rules keep of it too, settling keeps
+  pub settled_sends : ((a : Store) (w : Work) → Q w → Q (rules a w).work) → (a : Store) (w : Work) → Q w → Q (settle a w).work
+  settled_sends ruled a w h =
+      settle_keeps (λ (b : Store) (v : Work). Q v) ruled (λ b f v less. made_sends b f (own_next b f true) v) a w h
 
   pub flags_send : (a : Store) (f : FileId) (gs : List Flag) (w : Work) → Q w → Q (take_flags_noted a f gs w).work
   flags_send a f [] w h = h

@@ -1,5 +1,5 @@
--- What a call leaves: it raises the flag of a new thing, or none.
-use Rattle.std.proofs.Common.{ℕ, ◌≡◌, ◌==◌, Bool, true, false, List, [], ◌∷◌, ◌++◌, Option, None, Some, Result, refl, sym, ap, ◌∙◌, inl, inr, ◌⊎◌}
+-- What a call leaves: it raises the flag of a new thing, lowers one, or makes none.
+use Rattle.std.proofs.Common.{ℕ, ◌≡◌, ◌==◌, true, false, List, [], ◌∷◌, ◌++◌, Option, None, Some, Result, refl, sym, ap, ◌∙◌, inl, inr}
 use Rattle.std.proofs.lemmas.List.Elements.{All-nil, All-push}
 use Rattle.pg_base.specs.declared.id.FileId.{FileId}
 use Rattle.pg_base.specs.declared.id.Kind.{Kind}
@@ -7,7 +7,6 @@ use Rattle.pg_base.specs.declared.id.Kind.TheVariants.{Dir, File}
 use Rattle.pg_base.specs.declared.policy.Policy.{Policy}
 use Rattle.pg_base.specs.declared.policy.Policy.TheVariants.{Last}
 use Rattle.pg_base.specs.declared.stamp.Stamp.{Stamp}
-use Rattle.pg_content.specs.Content.{Among}
 use Rattle.pg_patch.specs.Ranges.{RangesValue, cut_to, written}
 use Rattle.pg_call.specs.declared.call.Call.{Call}
 use Rattle.pg_call.specs.declared.call.Call.TheVariants as call
@@ -22,13 +21,15 @@ use Rattle.pg_names.proofs.Holding.{begun_same}
 use Rattle.pg_names.specs.Names.{blank_own, is_full_of}
 use Rattle.pg_register.specs.declared.flag.Flag.{Flag}
 use Rattle.pg_register.specs.declared.place.Place.{Place}
+use Rattle.pg_register.specs.Flag.{flag_of, is_raised_with}
 use Rattle.pg_store.specs.declared.store.Store.{Store}
 use Rattle.pg_store.specs.declared.wishes.Wish.{Wish}
 use Rattle.pg_store.specs.Beginning.{patches_of, put_new}
-use Rattle.pg_store.specs.Births.{draw_birth, with_birth, with_wish}
+use Rattle.pg_store.specs.Births.{birth_of, draw_birth, with_birth, with_wish}
 use Rattle.pg_store.specs.Store.{is_full, is_held, write}
 use Rattle.pg_store.specs.Together.{AreTogether}
 use Rattle.pg_cells.specs.Done.{Done, idle}
+use Rattle.pg_cells.specs.Making.{lower_flag}
 use Rattle.pg_cells.specs.Posting.{post, sent_to}
 use Rattle.pg_server.specs.Local.{done_of}
 use Rattle.pg_walk.specs.declared.paths.Found.{Found}
@@ -40,46 +41,43 @@ use Rattle.pg_calls.specs.Asking.{ask_by, ask_first, fetch, fresh_wish, holder, 
 use Rattle.pg_calls.specs.Bodies.{change, change_file, when_fit}
 use Rattle.pg_calls.specs.Calls.{do_call}
 use Rattle.pg_calls.specs.Checks.{dir_at, empty_dir_at, file_at, in_time, move_of, new_name, target_at}
+use Rattle.pg_cells.specs.Golds.{is_gold}
+use Rattle.pg_calls.specs.Demoting.{demoted_at, lowered}
 use Rattle.pg_calls.specs.Making.{drawn, first_ranges, make_place, make_version, version_of}
 use Rattle.pg_calls.specs.Naming.{begun, dead_place, next_id, place_in, with_id, with_thing}
-use Rattle.pg_calls.proofs.Walked.{full_held}
-use Rattle.pg_promises.proofs.Choices.{chosen}
+use Rattle.pg_promises.proofs.Choices.{chosen, decided}
 use Rattle.pg_births.proofs.Pieces.{place_stays, write_stays}
-use Rattle.pg_flags.proofs.Births.{born_here}
+use Rattle.pg_births.proofs.Here.{born_here}
 use Rattle.pg_births.proofs.StoreSays.{say_begin, say_write}
 use Rattle.pg_contents.proofs.Outcomes.{answered_by}
 use Rattle.pg_contents.proofs.Pieces.{patches_keep, place_keeps}
-use Rattle.pg_flags.proofs.Raising.{IsFine, IsRaised, NoFlags, before_among, none_own, one_behind, raised_fine, still_fine}
+use Rattle.pg_flags.proofs.Filling.{MayGo, own_of_full, own_of_known, still}
+use Rattle.pg_flags.proofs.Fine.{IsFine, Knows, NoFlags, fine_flag, fine_silent, found_is, no_flags, no_more}
+use Rattle.pg_flags.proofs.Kept.{GoesOn, begin_flags, begun_births, flags_at, flags_on, goes_further, place_flags, same_goes_on}
 use Rattle.pg_flags.proofs.Says.{Says, SaysSent, said_on, said_place, same_mail}
-
-pub no_flags : NoFlags []
-no_flags f g there = absurd there
 
 -- a place is no flag
 place_no_flag : (file : FileId) (place : Place) → NoFlags (update.Place file place ∷ [])
 place_no_flag file place f g (inl same) = absurd (let z : update.Flag f g ≡ update.Place file place = same in cc)
 place_no_flag file place f g (inr rest) = absurd rest
 
-version_no_flag : (v : MadeVersion) (f : FileId) (g : Flag) → update.Flag f g ≡ update.Version v → ⊥
-version_no_flag v f g same = absurd (let z : update.Flag f g ≡ update.Version v = same in cc)
+-- nor is a version
+version_no_flag : (v : MadeVersion) → NoFlags (update.Version v ∷ [])
+version_no_flag v f g (inl same) = absurd (let z : update.Flag f g ≡ update.Version v = same in cc)
+version_no_flag v f g (inr rest) = absurd rest
 
-one_version : (v : MadeVersion) → NoFlags (update.Version v ∷ [])
-one_version v f g (inl same) = version_no_flag v f g same
-one_version v f g (inr rest) = absurd rest
-
-module _ (Q R : FileId → Flag → Type 0) (less : (f : FileId) (g : Flag) → Q f g → R f g)
-    (s : ℕ) (a : Store) (together : AreTogether a)
-    (old : (f : FileId) (g : Flag) → Q f g → g.server ≡ s → is_full a f ≡ true)
+-- server s is called, where Q was known before
+module _ (Q : FileId → Flag → Type 0) (s : ℕ) (a : Store) (together : AreTogether a)
     (away : (kind : Kind) → is_held a (next_id a kind) ≡ false) (w : Work)
-    (k : Says Q s [] (idle a w)) where
+    (k : IsFine Q s (idle a w)) (none : NoFlags w.made) (says : Says Q s [] (idle a w)) where
   abbrev Fine : Answer → Type 0
-  Fine r = IsFine R s (done_of r)
+  Fine r = MayGo Q s a together (done_of r)
 
-  still : (d : Done) → Says Q s [] d → IsFine R s d
-  still d h = still_fine Q R less s [] d no_flags h
+  stays : (d : Done) → Says Q s [] d → MayGo Q s a together d
+  stays d h = still Q s a together w k none [] no_flags d h
 
   told_fine : (r : Reply) → Fine (told a w r)
-  told_fine r = still (idle a w) k
+  told_fine r = stays (idle a w) says
 
   -- ---- what is not here is asked for
 
@@ -92,6 +90,7 @@ module _ (Q R : FileId → Flag → Type 0) (less : (f : FileId) (g : Flag) → 
         store = h.store;
         sent = All-push (SaysSent Q) w.sent (sent_to a wish.target (message.Fetch file wish.birth))
             h.sent tt;
+        tail = h.tail;
         made = h.made;
       })
 
@@ -99,22 +98,23 @@ module _ (Q R : FileId → Flag → Type 0) (less : (f : FileId) (g : Flag) → 
   first_says file target =
       let wish = fresh_wish a target in
       let b = with_wish (with_birth a) file wish in
-      chosen (Says Q s []) (target == 0) (idle a w) (idle b (fetch a file wish w)) k
+      chosen (Says Q s []) (target == 0) (idle a w) (idle b (fetch a file wish w)) says
       (fetch_says b file wish
       (record {
-        store = record { names = k.store.names; intents = k.store.intents };
-        sent = k.sent;
-        made = k.made;
+        store = record { names = says.store.names; intents = says.store.intents };
+        sent = says.sent;
+        tail = says.tail;
+        made = says.made;
       }))
 
   asked_says : (found : Found) (o : Option Wish) → Says Q s [] (ask_by a found o w)
   asked_says found None = first_says found.file (holder a found)
-  asked_says found (Some wish) = fetch_says a found.file wish k
+  asked_says found (Some wish) = fetch_says a found.file wish says
 
   denied_fine : (why : Stop) → Fine (deny a why w)
-  denied_fine (stop.Refused why) = still (idle a w) k
+  denied_fine (stop.Refused why) = stays (idle a w) says
   denied_fine (stop.NotYet found) =
-      still (ask_by a found (standing a found.file) w) (asked_says found (standing a found.file))
+      stays (ask_by a found (standing a found.file) w) (asked_says found (standing a found.file))
 
   looked : {A : Type 0} (check : Result A Stop) (tell : A → Reply) → Fine (replied a w check tell)
   looked check tell =
@@ -130,49 +130,32 @@ module _ (Q R : FileId → Flag → Type 0) (less : (f : FileId) (g : Flag) → 
       (record {
         store = h.store;
         sent = h.sent;
+        tail = h.tail;
         made = ap (λ (us : List Update). us ++ update.Place f place ∷ []) h.made;
       })
 
-  placed_fine : (f : FileId) (place : Place) → IsFine R s (make_place f place (idle a w))
+  placed_fine : (f : FileId) (place : Place) → MayGo Q s a together (make_place f place (idle a w))
   placed_fine f place =
-      still_fine Q R less s (update.Place f place ∷ []) (make_place f place (idle a w))
-      (place_no_flag f place) (placed_says a f place k)
+      still Q s a together w k none (update.Place f place ∷ []) (place_no_flag f place) (make_place f place (idle a w))
+      (placed_says a f place says)
 
-  -- ---- a version is made
+  -- ---- a version is made, behind what is fine
 
-  -- behind what is fine
-  version_fine : (d : Done) (f : FileId) (stamp : Stamp) (ranges : RangesValue) → IsFine R s d
-      → IsFine R s (make_version f stamp ranges d)
+  version_fine : (d : Done) (f : FileId) (stamp : Stamp) (ranges : RangesValue) → IsFine Q s d
+      → IsFine Q s (make_version f stamp ranges d)
   version_fine d f stamp ranges h =
       let u = update.Version (version_of d.store f stamp ranges) in
       let b = write d.store f stamp ranges in
-      record {
-        proper = λ q g there.
-            let one : IsRaised s d.store q g = proper_by q g (one_behind d.work.made (update.Flag q g) u there) in
-            record {
-              server = one.server;
-              number = one.number;
-              raised = one.raised;
-              full = one.full;
-              birth = (write_stays d.store f stamp ranges).before.births q ∙ one.birth;
-              known = one.known;
-            };
-        fine = λ each.
-            let before = h.fine (λ q g there. each q g (before_among d.work.made (update.Flag q g) u there)) in
-            (say_write R s d.store f stamp ranges before.0, before.1);
-      }
-    where
-      proper_by : (q : FileId) (g : Flag)
-          → Among (update.Flag q g) d.work.made ⊎ (update.Flag q g ≡ update.Version (version_of d.store f stamp ranges))
-          → IsRaised s d.store q g
-      proper_by q g (inl there) = h.proper q g there
-      proper_by q g (inr same) = absurd (version_no_flag (version_of d.store f stamp ranges) q g same)
+      fine_silent Q s d (make_version f stamp ranges d) h
+      (no_more d.work.made (u ∷ []) (version_no_flag (version_of d.store f stamp ranges)))
+      (say_write (Knows Q s d.work.made) s d.store f stamp ranges h.store) refl refl
+      (same_goes_on d.store b (write_stays d.store f stamp ranges).before.births (λ q. refl))
 
   changed_fine : (text : List ℕ) (ranges : RangesValue) → Fine (change a text ranges w)
   changed_fine text ranges =
       answered_by Fine a w (file_at a text) (change_file a ranges w) denied_fine
       (λ file found. answered_by Fine a w (when_fit a ranges file) _ denied_fine
-      (λ fit fits. version_fine (idle a w) fit (drawn a w.now) ranges (still (idle a w) k)))
+      (λ fit fits on. version_fine (idle a w) fit (drawn a w.now) ranges k))
 
   -- ---- a new thing
 
@@ -194,45 +177,68 @@ module _ (Q R : FileId → Flag → Type 0) (less : (f : FileId) (g : Flag) → 
 
     begun_says : Says Q s [] (idle Begun w)
     begun_says =
-        said_on Q s [] (idle a w) (idle Begun w) k
+        said_on Q s [] (idle a w) (idle Begun w) says
         (say_begin Q s first id (draw_birth (with_id a)) policy (blank_own id) true (All-nil (Q id))
-        (record { names = k.store.names; intents = k.store.intents }))
+        (record { names = says.store.names; intents = says.store.intents }))
         (same_mail w)
 
-    -- it was not full before
-    not_full : (t : Bool) → is_full a id ≡ t → t ≡ false
-    not_full true e =
-        absurd (let z : true ≡ false = sym (full_held a.names id e) ∙ away kind in cc)
-    not_full false e = refl
+    placed_goes : GoesOn a Placed.store
+    placed_goes =
+        goes_further {b = Begun}
+        (record {
+          births = begun_births first id (draw_birth (with_id a)) policy true (away kind) together;
+          flags = flags_on first.names Begun.names
+              (begin_flags first id (draw_birth (with_id a)) policy true (away kind));
+        })
+        (same_goes_on Begun Placed.store (place_stays Begun id place).before.births (place_flags Begun id place))
+
+    placed : IsFine Q s Placed
+    placed =
+        still Q s a together w k none (update.Place id place ∷ []) (place_no_flag id place) Placed
+        (placed_says Begun id place begun_says) placed_goes
 
     put_full : is_full (put_new first id (draw_birth (with_id a)) policy (blank_own id) true) id ≡ true
     put_full = ap is_full_of (begun_same a.names id (blank_own id) true)
 
-    begun_full : is_full Begun id ≡ true
-    begun_full =
-        (patches_keep id (put_new first id (draw_birth (with_id a)) policy (blank_own id) true)
-        (patches_of id a.intents)).full id put_full
+    placed_full : is_full Placed.store id ≡ true
+    placed_full =
+        (place_keeps Begun id place).full id
+        ((patches_keep id (put_new first id (draw_birth (with_id a)) policy (blank_own id) true)
+        (patches_of id a.intents)).full id put_full)
 
     -- A NEW THING
-    pub thing_fine : IsFine R s (with_thing (with_id a) w id policy new)
+    pub thing_fine : IsFine Q s (with_thing (with_id a) w id policy new)
     thing_fine =
-        let says = placed_says Begun id place begun_says in
-        raised_fine Q R less s (update.Place id place ∷ []) Placed.store id Placed.work says
-        (draw_birth (with_id a))
+        let own = own_of_full Placed.store.names id placed_full in
+        fine_flag Q s Placed.store Placed.work placed id true (draw_birth (with_id a))
         ((place_stays Begun id place).before.births id
-        ∙ born_here first id (draw_birth (with_id a)) policy (blank_own id) true)
-        ((place_keeps Begun id place).full id begun_full)
-        (none_own Q R less s a together old Placed.store says.store id (not_full (is_full a id) refl))
-        (place_no_flag id place)
+        ∙ born_here first id (draw_birth (with_id a)) policy (blank_own id) true) own.0 own.1
+
+  -- ---- a gold replica becomes bronze
+
+  lowered_by : (f : FileId) (o : Option Flag) → flag_of (flags_at a.names f) a.names.server ≡ o
+      → is_raised_with o (birth_of a f) ≡ true → IsFine Q s (lower_flag a f w)
+  lowered_by f None there gold = absurd (let z : false ≡ true = gold in cc)
+  lowered_by f (Some g) there gold =
+      let found : flag_of (flags_at a.names f) s ≡ Some g =
+      ap (flag_of (flags_at a.names f)) (sym k.store.names.server) ∙ there in
+      let r = found_is Q s w.made a k.store f g found in
+      let own = own_of_known a.names f s g found in
+      fine_flag Q s a w k f false g.birth (k.own f g r.0 r.1).birth own.0 own.1
+
+  lowered_fine : (f : FileId) → IsFine Q s (lowered a f w)
+  lowered_fine f =
+      decided (IsFine Q s) (is_gold a f) (lower_flag a f w) (idle a w)
+      (lowered_by f (flag_of (flags_at a.names f) a.names.server) refl) (λ bronze. k)
 
   -- ANY CALL
   pub call_fine : (c : Call) → Fine (do_call a c w)
   call_fine (call.Mkdir text) =
       answered_by Fine a w (new_name a (next_id a Dir) text) _ denied_fine
-      (λ new found. thing_fine Dir Last new)
+      (λ new found on. thing_fine Dir Last new)
   call_fine (call.Create text policy) =
       answered_by Fine a w (new_name a (next_id a File) text) _ denied_fine
-      (λ new found.
+      (λ new found on.
       let d = with_thing (with_id a) w (next_id a File) policy new in
       version_fine d (next_id a File) (drawn d.store d.work.now) first_ranges
       (thing_fine File policy new))
@@ -252,7 +258,9 @@ module _ (Q R : FileId → Flag → Type 0) (less : (f : FileId) (g : Flag) → 
       answered_by Fine a w (empty_dir_at a text) _ denied_fine
       (λ dir found. placed_fine dir (dead_place a w.now dir))
   call_fine (call.Forget _) = looked (in_time a (tt {0})) _
-  call_fine (call.Demote target) = looked (in_time a (tt {0})) _
+  call_fine (call.Demote target) =
+      answered_by Fine a w (demoted_at a target) _ denied_fine
+      (λ file found on. lowered_fine file)
   call_fine (call.Drop target) = looked (in_time a (tt {0})) _
   call_fine (call.Giveup view server) = looked (in_time a (tt {0})) _
   call_fine call.Status = looked (in_time a (tt {0})) _

@@ -1,264 +1,244 @@
--- What an event at one server leaves of flags: what was said of all before is said of all then, where it may be said
--- of what was raised; and each flag that was raised is the server's first of the thing.
-use Rattle.std.proofs.Common.{ℕ, ◌≡◌, Bool, true, false, cond, List, [], ◌∷◌, ◌++◌, length, drop, Option, None, Some, All, refl, sym, ap, subst, ◌∙◌, inl, inr, ◌⊎◌}
+-- What an event at one server leaves of flags: each that is known then is up to its server's own.
+use Rattle.std.proofs.Common.{ℕ, ◌≡◌, true, false, List, [], ◌∷◌, ◌++◌, Option, None, Some, is_some, All, refl, sym, ap, subst, inl, inr}
 use Rattle.std.specs.List.{flat_map}
 use Rattle.std.specs.Option.{option_map}
 use Rattle.std.proofs.lemmas.List.Elements.{All-append, All-nil}
 use Rattle.pg_base.specs.declared.id.FileId.{FileId}
 use Rattle.pg_base.specs.declared.id.Kind.{Kind}
-use Rattle.pg_content.specs.Content.{Among}
-use Rattle.pg_call.specs.declared.reply.Reply.{Reply}
-use Rattle.pg_house.specs.House.{house}
 use Rattle.pg_house.specs.Work.{state_of}
-use Rattle.pg_intent.specs.declared.key.IntentKey.{IntentKey}
 use Rattle.pg_msg.specs.declared.message.Message.{Message}
 use Rattle.pg_msg.specs.declared.message.Message.TheVariants as message
 use Rattle.pg_msg.specs.declared.message.Packet.{Packet}
 use Rattle.pg_msg.specs.declared.update.Update.{Update}
 use Rattle.pg_msg.specs.declared.update.Update.TheVariants as update
-use Rattle.pg_msg.specs.declared.work.Touched.{Touched}
+use Rattle.pg_msg.specs.declared.work.Work.{Work}
 use Rattle.pg_msg.specs.Work.{new_work}
-use Rattle.pg_names.specs.Names.{NamesValue}
+use Rattle.pg_names.specs.declared.own.Own.{Own}
+use Rattle.pg_names.specs.Names.{HeldValue, NamesValue, known, own_at, own_of}
 use Rattle.pg_register.specs.declared.flag.Flag.{Flag}
 use Rattle.pg_replica.specs.declared.replica.Replica.{Replica}
+use Rattle.pg_replica.specs.Replicas.{ByFile, replica_in}
 use Rattle.pg_store.specs.declared.store.Store.{Store}
-use Rattle.pg_store.specs.Store.{is_full, is_held, replica_at, touch, with_names}
-use Rattle.pg_store.specs.Together.{AreTogether, birth_at}
+use Rattle.pg_store.specs.Store.{is_held}
+use Rattle.pg_store.specs.Together.{AreTogether}
 use Rattle.pg_cells.specs.Done.{Done, idle}
-use Rattle.pg_cells.specs.Sending.{Wanted, cells_where, is_any, is_chosen}
-use Rattle.pg_cells.specs.Settling.{touch_all}
-use Rattle.pg_repair.specs.Requests.{asks, asks_by}
+use Rattle.pg_cells.specs.Golds.{is_goldless}
+use Rattle.pg_cells.specs.Making.{raise_flag}
+use Rattle.pg_cells.specs.Sending.{cells_where, is_any, is_chosen}
+use Rattle.pg_cells.specs.Settling.{rules}
+use Rattle.pg_cells.specs.Ticks.{tick}
+use Rattle.pg_cells.proofs.Settled.{settle_keeps}
+use Rattle.pg_repair.specs.Requests.{ask_all, asks}
 use Rattle.pg_repair.proofs.Steady.{begin_end_stays}
 use Rattle.pg_calls.specs.Naming.{next_id}
 use Rattle.pg_promises.specs.Whole.{IsWhole}
 use Rattle.pg_promises.proofs.Choices.{chosen}
-use Rattle.pg_promises.proofs.Rules.{house_keeps}
+use Rattle.pg_promises.proofs.Front.{house_sent, house_tail}
+use Rattle.pg_promises.proofs.Grown.{grown_by_steps}
+use Rattle.pg_promises.proofs.Settling.{goldless_own, rules_steps, whole_raised, whole_rules}
 use Rattle.pg_server.specs.declared.input.Input.{Input}
-use Rattle.pg_server.specs.Local.{Effect, closed, effect, finished, first_effect, receive, reply_to, sent_again, settled, takes_effect, without_wishes}
-use Rattle.pg_run.proofs.Event.{Comes, all_sent, end_of, first_has, store_is}
-use Rattle.pg_run.proofs.Makes.{is_made_in_parts}
+use Rattle.pg_server.specs.Local.{effect, first_effect, intended, receive, sent_again, settled, takes_effect, without_wishes}
+use Rattle.pg_run.proofs.Event.{Comes, all_sent, end_of, end_sent, end_tail, first_has}
 use Rattle.pg_births.specs.Flags.{SaysMessage, SaysStore}
-use Rattle.pg_births.proofs.StoreSays.{say_begin_end, say_settle}
-use Rattle.pg_contents.proofs.Changes.{Core, core_at, core_of}
-use Rattle.pg_contents.proofs.Ends.{Ends, closed_ends, finished_ends}
-use Rattle.pg_contents.proofs.Rules.{ArePlaces}
-use Rattle.pg_flags.proofs.Calling.{call_fine, no_flags}
-use Rattle.pg_flags.proofs.Known.{Knows, known_grows}
-use Rattle.pg_flags.proofs.Raising.{EachFlag, IsFine, IsRaised, full_fine, still_fine}
-use Rattle.pg_flags.proofs.Says.{Says, SaysSent, said_ack, said_cell, said_confirm, said_fetch, said_gone, said_grant, said_no_grant, said_none_here, said_place_is, said_tell, said_tell_ok}
+use Rattle.pg_births.proofs.Here.{birth_of_held}
+use Rattle.pg_births.proofs.StoreSays.{say_begin_end, say_rules}
+use Rattle.pg_contents.proofs.Rules.{ArePlaces, house_makes}
+use Rattle.pg_flags.proofs.Calling.{call_fine}
+use Rattle.pg_flags.proofs.Filling.{MayGo, full_fine, still}
+use Rattle.pg_flags.proofs.Fine.{IsFine, Knows, NoFlags, SameMade, fine_flag, fine_silent, no_flags, no_more, same_made}
+use Rattle.pg_flags.proofs.Kept.{GoesOn, flags_at, grows_on, same_goes_on}
+use Rattle.pg_flags.proofs.Known.{store_less}
+use Rattle.pg_flags.proofs.Own.{IsOwn}
+use Rattle.pg_flags.proofs.Received.{said_ack, said_cell, said_confirm, said_fetch, said_gone, said_grant, said_no_grant, said_none_here, said_place_is, said_seek, said_tell, said_tell_ok, said_walk, said_walk_of_tick}
+use Rattle.pg_flags.proofs.Says.{Says, SaysSent, said_accept}
 use Rattle.pg_flags.proofs.Sending.{asks_all, asks_some, cells_say}
 
--- what is known of a packet that comes
+-- what is said of the flags that a packet brings
 abbrev pub SaysPacket : (FileId → Flag → Type 0) → Packet → Type 0
 SaysPacket Q packet = SaysMessage Q packet.message
 
--- ---- the end of an event
+-- places hold no flag
+pub places_none : (us : List Update) → ArePlaces us → NoFlags us
+places_none [] are f g there = absurd there
+places_none (update.Place q place ∷ us) are f g (inl same) =
+    absurd (let z : update.Flag f g ≡ update.Place q place = same in cc)
+places_none (update.Place q place ∷ us) are f g (inr rest) = places_none us are f g rest
+places_none (update.Version made ∷ us) are f g there = absurd are
+places_none (update.Flag q flag ∷ us) are f g there = absurd are
 
-birth_core : (o : Option Replica)
-    → option_map (λ (x : Replica). x.birth) o ≡ option_map (λ (c : Core). c.birth) (option_map core_of o)
-birth_core None = refl
-birth_core (Some x) = refl
+held_by : (o : Option HeldValue) (own : Own) → own_of o ≡ Some own → is_some o ≡ true
+held_by None own e = absurd (let z : ◌≡◌ {A = Option Own} None (Some own) = e in cc)
+held_by (Some x) own e = refl
 
-birth_by : (a b : Store) (f : FileId) → core_at b f ≡ core_at a f → birth_at b f ≡ birth_at a f
-birth_by a b f same =
-    birth_core (replica_at b f) ∙ ap (λ (o : Option Core). option_map (λ (c : Core). c.birth) o) same
-    ∙ sym (birth_core (replica_at a f))
+held_of : (b : Store) (f : FileId) (own : Own) → own_at b.names f ≡ Some own → is_held b f ≡ true
+held_of b f own e = held_by (known b.names f) own e
 
-touched_names : (ts : List Touched) (b : Store) → (touch_all b ts).names ≡ b.names
-touched_names [] b = refl
-touched_names (t ∷ ts) b = touched_names ts (touch b t.file t.key)
-
-module _ (n s : ℕ) (a : Store) (asked : Input) where
+-- server s of n, with this store, takes this; Q was known before
+module _ (n s : ℕ) (a : Store) (asked : Input) (Q : FileId → Flag → Type 0) (k : SaysStore Q s a)
+    (before : (f : FileId) (g : Flag) → Q f g → g.server ≡ s → IsOwn s a f g)
+    (one : (f : FileId) (g h : Flag) → Q f g → Q f h → g.server ≡ h.server → g.birth ≡ h.birth
+    → g.number ≡ h.number → g ≡ h)
+    (together : AreTogether a) (away : (kind : Kind) → is_held a (next_id a kind) ≡ false) where
   abbrev First : Done
   First = first_effect a asked
 
-  abbrev End : Effect
-  End = effect a asked
+  abbrev End : Done
+  End = end_of a asked
 
-  abbrev told : Option Reply
-  told = reply_to a asked
+  abbrev Fine : Done → Type 0
+  Fine d = IsFine Q s d
 
-  ends_by : (t : Bool) → Ends First.store First.work (cond t (closed told First) (finished told First))
-  ends_by true = closed_ends First.store First.work told
-  ends_by false = finished_ends First.store First.work told
+  abbrev May : Done → Type 0
+  May d = MayGo Q s a together d
 
-  ends : Ends First.store First.work End
-  ends = ends_by (takes_effect a asked)
+  -- ---- the first effect
 
-  -- what is known of flags stays known
-  known_on : IsWhole n s First.store → (f : FileId) (m : ℕ) → Knows First.store.names f m
-      → Knows End.store.names f m
-  known_on whole f m there =
-      let st = state_of First.store.names First.work in
-      let rules = house First.work.now st in
-      let settled_is : (settled First).store.names ≡ rules.names =
-      touched_names (drop (length First.work.touched) rules.work.touched)
-      (with_names First.store rules.names) in
-      let steady = begin_end_stays (settled First).store (settled First).work in
-      let grow = (house_keeps First.work.now st whole.names.dirs whole.names.sorted whole.names.last
-      whole.names.children).grow in
-      let P : NamesValue → Type 0 = (λ names. Knows names f m) in
-      chosen (λ (e : Effect). Knows e.store.names f m) (takes_effect a asked) (closed told First)
-      (finished told First)
-      (subst P (sym (steady.names ∙ settled_is))
-      (known_grows First.store.names rules.names f m (grow.flags f) there))
-      there
+  start_says : (moment from : ℕ) → Says Q s [] (idle a (new_work moment from))
+  start_says moment from =
+      record { store = k; sent = All-nil (SaysSent Q); tail = All-nil (SaysSent Q); made = refl }
 
-  -- what was raised is so at the end
-  raised_on : IsWhole n s First.store → (f : FileId) (g : Flag) → IsRaised s First.store f g
-      → IsRaised s End.store f g
-  raised_on whole f g h = record {
-    server = h.server;
-    number = h.number;
-    raised = h.raised;
-    full = ends.keeps.full f h.full;
-    birth = birth_by First.store End.store f (ends.keeps.each f) ∙ h.birth;
-    known = known_on whole f s h.known;
+  was : (f : FileId) (g : Flag) → Knows Q s [] f g → Q f g
+  was f g (inl there) = there
+  was f g (inr there) = absurd there
+
+  start_fine : (moment from : ℕ) → Fine (idle a (new_work moment from))
+  start_fine moment from = record {
+    store = store_less Q (Knows Q s []) (λ f g there. inl there) s a k;
+    sent = All-nil (SaysSent (Knows Q s []));
+    tail = All-nil (SaysSent (Knows Q s []));
+    own = λ f g there. before f g (was f g there);
+    made = λ f g there. absurd there;
+    one = λ f g h x y. one f g h (was f g x) (was f h y);
   }
 
-  -- the house rules make no flags
-  places_none : (us : List Update) → ArePlaces us → (f : FileId) (g : Flag)
-      → Among (update.Flag f g) us → ⊥
-  places_none [] are f g there = absurd there
-  places_none (update.Place q place ∷ us) are f g (inl same) =
-      absurd (let z : update.Flag f g ≡ update.Place q place = same in cc)
-  places_none (update.Place q place ∷ us) are f g (inr rest) = places_none us are f g rest
-  places_none (update.Version made ∷ us) are f g there = absurd are
-  places_none (update.Flag q flag ∷ us) are f g there = absurd are
+  stays : (moment from : ℕ) (d : Done) → Says Q s [] d → May d
+  stays moment from d h =
+      still Q s a together (new_work moment from) (start_fine moment from) no_flags [] no_flags d h
 
-  either_part : (us vs : List Update) (u : Update) → Among u (us ++ vs) → Among u us ⊎ Among u vs
-  either_part [] vs u there = inr there
-  either_part (w ∷ us) vs u (inl same) = inl (inl same)
-  either_part (w ∷ us) vs u (inr rest) = elim (either_part us vs u rest) [
-    | inl here ↦ inl (inr here)
-    | inr here ↦ inr here
-  ]
+  ticked : (moment word : ℕ) → Says Q s [] (idle a (sent_again a word (new_work moment 0)))
+  ticked moment word =
+      said_walk_of_tick Q s [] a word (ask_all a (tick a (new_work moment 0)))
+      (record {
+        store = k;
+        sent = All-append (SaysSent Q) ([] ++ cells_where a is_any) (flat_map (asks a) a.intents)
+            (All-append (SaysSent Q) [] (cells_where a is_any) (All-nil (SaysSent Q))
+            (cells_say Q s a k is_any))
+            (asks_all Q s a k);
+        tail = All-nil (SaysSent Q);
+        made = refl;
+      })
 
-  front_part : (us vs : List Update) (u : Update) → Among u us → Among u (us ++ vs)
-  front_part (w ∷ us) vs u (inl same) = inl same
-  front_part (w ∷ us) vs u (inr rest) = inr (front_part us vs u rest)
-  front_part [] vs u there = absurd there
+  received : (from : ℕ) (m : Message) → SaysMessage Q m → May (receive a m (new_work 0 from))
+  received from (message.Cell ends tag c) says =
+      stays 0 from _ (said_cell Q s [] a ends tag c (new_work 0 from) says (start_says 0 from))
+  received from (message.Ack ends q tag) says =
+      stays 0 from _ (said_ack Q s [] a ends q tag (new_work 0 from) (start_says 0 from))
+  received from (message.Fetch file birth) says =
+      stays 0 from _ (said_fetch Q s [] a file birth (new_work 0 from) (start_says 0 from))
+  received from (message.Grant ends granted) says =
+      stays 0 from _ (said_grant Q s [] a ends granted (new_work 0 from) says (start_says 0 from))
+  received from (message.NoGrant file birth) says =
+      stays 0 from _ (said_no_grant Q s [] a file birth (new_work 0 from) (start_says 0 from))
+  received from (message.Full ends) says =
+      λ on. full_fine Q s a together (new_work 0 from) (start_fine 0 from) ends
+  received from (message.Seek file birth) says =
+      stays 0 from _ (said_seek Q s [] a file birth (new_work 0 from) (start_says 0 from))
+  received from (message.Here ends) says =
+      stays 0 from _ (said_accept Q s [] a ends (new_work 0 from) (start_says 0 from))
+  received from (message.NoneHere what file child) says =
+      stays 0 from _ (said_none_here Q s [] a what file child (new_work 0 from) (start_says 0 from))
+  received from (message.Gone file birth) says =
+      stays 0 from _ (said_gone Q s [] a file birth (new_work 0 from) (start_says 0 from))
+  received from (message.Confirm dir e) says =
+      stays 0 from _ (said_confirm Q s [] a dir e (new_work 0 from) says (start_says 0 from))
+  received from (message.PlaceIs dir e) says =
+      stays 0 from _ (said_place_is Q s [] a dir e (new_work 0 from) says (start_says 0 from))
+  received from (message.Tell dir e) says =
+      stays 0 from _ (said_tell Q s [] a dir e (new_work 0 from) says (start_says 0 from))
+  received from (message.TellOk dir child stamp) says =
+      stays 0 from _ (said_tell_ok Q s [] a dir child stamp (new_work 0 from) (start_says 0 from))
+  received from (message.Walk ends origin birth hops word) says =
+      stays 0 from _ (said_walk Q s [] a ends origin birth hops word (new_work 0 from) (start_says 0 from))
+  received from (message.Meet ends) says =
+      stays 0 from _ (said_accept Q s [] a ends (new_work 0 from) (start_says 0 from))
+  received from m says = stays 0 from (idle a (new_work 0 from)) (start_says 0 from)
 
-  -- what was made first is made
-  pub made_first : (u : Update) → Among u First.work.made → Among u End.out.made
-  made_first u there =
-      subst (Among u) (sym (is_made_in_parts a asked))
-      (front_part First.work.made (drop (length First.work.made) End.out.made) u there)
-
-  first_made : (f : FileId) (g : Flag) → Among (update.Flag f g) End.out.made
-      → Among (update.Flag f g) First.work.made
-  first_made f g there =
-      let rest = drop (length First.work.made) End.out.made in
-      elim (either_part First.work.made rest (update.Flag f g)
-      (subst (Among (update.Flag f g)) (is_made_in_parts a asked) there)) [
-        | inl here ↦ here
-        | inr here ↦ absurd (places_none rest ends.behind f g here)
-      ]
-
-  module _ (Q R : FileId → Flag → Type 0) (less : (f : FileId) (g : Flag) → Q f g → R f g)
-      (k : SaysStore Q s a) (together : AreTogether a)
-      (old : (f : FileId) (g : Flag) → Q f g → g.server ≡ s → is_full a f ≡ true)
-      (away : (kind : Kind) → is_held a (next_id a kind) ≡ false) where
-    abbrev Fine : Done → Type 0
-    Fine d = IsFine R s d
-
-    start_says : (moment from : ℕ) → Says Q s [] (idle a (new_work moment from))
-    start_says moment from = record { store = k; sent = All-nil (SaysSent Q); made = refl }
-
-    still : (d : Done) → Says Q s [] d → Fine d
-    still d h = still_fine Q R less s [] d no_flags h
-
-    nothing : (moment from : ℕ) → Fine (idle a (new_work moment from))
-    nothing moment from = still (idle a (new_work moment from)) (start_says moment from)
-
-    ticked : (moment : ℕ) → Fine (idle a (sent_again a (new_work moment 0)))
-    ticked moment =
-        still (idle a (sent_again a (new_work moment 0)))
-        (record {
-          store = k;
-          sent = All-append (SaysSent Q) ([] ++ cells_where a is_any) (flat_map (asks a) a.intents)
-              (All-append (SaysSent Q) [] (cells_where a is_any) (All-nil (SaysSent Q))
-              (cells_say Q s a k is_any))
-              (asks_all Q s a k);
+  first_fine : Comes (SaysPacket Q) asked → May First
+  first_fine came =
+      first_has (SaysPacket Q) a May (record {
+        calls = λ moment c.
+            call_fine Q s a together away (new_work moment 0) (start_fine moment 0) no_flags
+            (start_says moment 0) c;
+        ticks = λ moment word going.
+            stays moment 0 (idle a (sent_again a word (new_work moment 0))) (ticked moment word);
+        arrivals = λ packet heard says. received packet.from packet.message says;
+        restarts = stays 0 0 (idle (without_wishes a) (new_work 0 0)) (record {
+          store = record { names = k.names; intents = k.intents };
+          sent = All-nil (SaysSent Q);
+          tail = All-nil (SaysSent Q);
           made = refl;
-        })
+        });
+        nothing = λ moment from. stays moment from (idle a (new_work moment from)) (start_says moment from);
+      }) asked came
 
-    -- ---- a message comes
+  -- ---- the rules run, and golds are raised
 
-    received : (from : ℕ) (m : Message) → SaysMessage Q m → Fine (receive a m (new_work 0 from))
-    received from (message.Cell ends tag c) says =
-        still _ (said_cell Q s [] a ends tag c (new_work 0 from) says (start_says 0 from))
-    received from (message.Ack ends q tag) says =
-        still _ (said_ack Q s [] a ends q tag (new_work 0 from) (start_says 0 from))
-    received from (message.Fetch file birth) says =
-        still _ (said_fetch Q s [] a file birth (new_work 0 from) (start_says 0 from))
-    received from (message.Grant ends granted) says =
-        still _ (said_grant Q s [] a ends granted (new_work 0 from) says (start_says 0 from))
-    received from (message.NoGrant file birth) says =
-        still _ (said_no_grant Q s [] a file birth (new_work 0 from) (start_says 0 from))
-    received from (message.Full ends) says =
-        full_fine Q R less s a together old ends (new_work 0 from) (start_says 0 from)
-    received from (message.NoneHere what file child) says =
-        still _ (said_none_here Q s [] a what file child (new_work 0 from) (start_says 0 from))
-    received from (message.Gone file birth) says =
-        still _ (said_gone Q s [] a file birth (new_work 0 from) (start_says 0 from))
-    received from (message.Confirm dir e) says =
-        still _ (said_confirm Q s [] a dir e (new_work 0 from) says (start_says 0 from))
-    received from (message.PlaceIs dir e) says =
-        still _ (said_place_is Q s [] a dir e (new_work 0 from) says (start_says 0 from))
-    received from (message.Tell dir e) says =
-        still _ (said_tell Q s [] a dir e (new_work 0 from) says (start_says 0 from))
-    received from (message.TellOk dir child stamp) says =
-        still _ (said_tell_ok Q s [] a dir child stamp (new_work 0 from) (start_says 0 from))
-    received from m says = nothing 0 from
+  -- a whole server is fine
+  abbrev Holds : Store → Work → Type 0
+  Holds b w = IsWhole n s b × Fine (idle b w)
 
-    first_fine : Comes (SaysPacket Q) asked → Fine First
-    first_fine came =
-        first_has (SaysPacket Q) a Fine (record {
-          calls = λ moment c. call_fine Q R less s a together old away (new_work moment 0)
-              (start_says moment 0) c;
-          ticks = λ moment going. ticked moment;
-          arrivals = λ packet heard says. received packet.from packet.message says;
-          restarts = still (idle (without_wishes a) (new_work 0 0)) (record {
-            store = record { names = k.names; intents = k.intents };
-            sent = All-nil (SaysSent Q);
-            made = refl;
-          });
-          nothing = nothing;
-        }) asked came
+  rules_hold : (b : Store) (w : Work) → Holds b w → Holds (rules b w).store (rules b w).work
+  rules_hold b w h =
+      let whole = whole_rules n s b w h.0 in
+      let made = house_makes w.now (state_of b.names w) in
+      let same : SameMade w.made (w.made ++ made.places) =
+      no_more w.made made.places (places_none made.places made.are) in
+      let P : List Update → Type 0 = SameMade w.made in (
+        whole,
+        fine_silent Q s (idle b w) (rules b w) h.1 (subst P (sym made.made) same)
+            (say_rules (Knows Q s w.made) s b w h.1.store)
+            (house_sent w.now b.names w) (house_tail w.now b.names w)
+            (grows_on b (rules b w).store
+            (grown_by_steps n s b (rules b w).store h.0 whole (rules_steps n s b w h.0))),
+      )
 
-    -- ---- the whole event
+  raises_hold : (b : Store) (f : FileId) (w : Work) → is_goldless b f ≡ true → Holds b w
+      → Holds (raise_flag b f w).store (raise_flag b f w).work
+  raises_hold b f w is h =
+      let own = goldless_own b f is in
+      let birth = birth_of_held b h.0.together f (held_of b f own.0 own.1) in
+      (whole_raised n s b f w h.0, fine_flag Q s b w h.1 f true birth.0 birth.1 own.0 own.1)
 
-    -- each flag that was raised is the server's first
-    pub end_proper : IsWhole n s First.store → Comes (SaysPacket Q) asked
-        → EachFlag (IsRaised s End.store) End.out.made
-    end_proper whole came f g there =
-        raised_on whole f g ((first_fine came).proper f g (first_made f g there))
+  settled_holds : Holds First.store First.work → Holds (settled First).store (settled First).work
+  settled_holds h = settle_keeps Holds rules_hold raises_hold First.store First.work h
 
-    module _ (came : Comes (SaysPacket Q) asked) (each : EachFlag R First.work.made) where
-      first_said : SaysStore R s First.store × All (SaysSent R) First.work.sent
-      first_said = (first_fine came).fine each
+  -- ---- intentions end and begin
 
-      pub end_store : SaysStore R s End.store
-      end_store =
-          chosen (λ (e : Effect). SaysStore R s e.store) (takes_effect a asked) (closed told First)
-          (finished told First)
-          (say_begin_end R s (settled First).store (settled First).work
-          (say_settle R s First.store First.work first_said.0))
-          first_said.0
+  intended_fine : (d : Done) → Fine d → Fine (intended d)
+  intended_fine d h =
+      let steady = begin_end_stays d.store d.work in
+      fine_silent Q s d (intended d) h (same_made d.work.made (intended d).work.made steady.made)
+      (say_begin_end (Knows Q s d.work.made) s d.store d.work h.store) steady.sent steady.tail
+      (same_goes_on d.store (intended d).store
+      (λ f. ap (λ (rs : ByFile). option_map (λ (x : Replica). x.birth) (replica_in rs f)) steady.replicas)
+      (λ f. ap (λ (names : NamesValue). flags_at names f) steady.names))
 
-      abbrev AtEnd : Store → Type 0
-      AtEnd b = (wanted : Wanted) (ks : List IntentKey) → All (SaysSent R) (cells_where b wanted)
-          × All (SaysSent R) (flat_map (asks_by b) ks)
+  -- ---- THE WHOLE EVENT
 
-      at_end : AtEnd End.store
-      at_end wanted ks =
-          (cells_say R s End.store end_store wanted, asks_some R s End.store end_store ks)
+  module _ (whole : IsWhole n s First.store) (on : GoesOn a First.store) (came : Comes (SaysPacket Q) asked) where
+    pub end_fine : Fine End
+    end_fine =
+        let first = first_fine came on in
+        chosen Fine (takes_effect a asked) (intended (settled First)) First
+        (intended_fine (settled First) (settled_holds (whole, first)).1) first
 
-      pub end_sent : All (SaysSent R) End.out.sent
-      end_sent =
-          let d = end_of a asked in
-          let all : AtEnd d.store = subst AtEnd (store_is a asked) at_end in
-          all_sent (SaysSent R) a asked first_said.1
-          (all (is_chosen d.work.touched d.work.linked) []).0
-          (all is_any d.work.begun).1
+    -- what is known of flags at its end
+    abbrev pub Now : FileId → Flag → Type 0
+    Now f g = Knows Q s End.work.made f g
+
+    pub sent_fine : All (SaysSent Now) (effect a asked).out.sent
+    sent_fine =
+        all_sent (SaysSent Now) a asked (subst (All (SaysSent Now)) (end_sent a asked) end_fine.sent)
+        (cells_say Now s End.store end_fine.store (is_chosen End.work.touched End.work.linked))
+        (asks_some Now s End.store end_fine.store End.work.begun)
+        (subst (All (SaysSent Now)) (end_tail a asked) end_fine.tail)

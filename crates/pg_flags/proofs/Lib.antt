@@ -1,8 +1,11 @@
-mod Births
 mod Says
-mod Calling
+mod Received
 mod Known
-mod Raising
+mod Kept
+mod Own
+mod Fine
+mod Filling
+mod Calling
 mod Sending
 mod Effects
 mod Worlds

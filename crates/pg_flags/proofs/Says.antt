@@ -1,59 +1,36 @@
 -- What is said of flags is said of what a server holds and sends in answer to a message that raises none.
-use Rattle.std.proofs.Common.{ℕ, ◌≡◌, ◌&&◌, ◌||◌, Bool, true, false, cond, not, List, [], ◌∷◌, Option, None, Some, All, refl, sym, subst, ◌∙◌}
+use Rattle.std.proofs.Common.{ℕ, ◌≡◌, ◌&&◌, ◌||◌, Bool, true, false, cond, not, List, [], ◌∷◌, All, refl, sym, subst, ◌∙◌}
 use Rattle.std.proofs.lemmas.List.Elements.{All-head, All-push, All-tail}
 use Rattle.pg_base.specs.declared.id.FileId.{FileId}
-use Rattle.pg_base.specs.declared.stamp.Stamp.{Stamp}
 use Rattle.pg_base.specs.Version.{VersionValue}
 use Rattle.pg_edges.specs.declared.key.Key.{Key}
 use Rattle.pg_edges.specs.declared.key.Key.TheVariants as key
-use Rattle.pg_edges.specs.Edges.{keys_at}
-use Rattle.pg_entries.specs.declared.cell.Cell.{Cell}
-use Rattle.pg_entries.specs.declared.cell.Cell.TheVariants as cells
 use Rattle.pg_entries.specs.declared.entry.Entry.{Entry}
-use Rattle.pg_intent.specs.declared.key.IntentKey.TheVariants as intent_key
-use Rattle.pg_intent.specs.Intents.{aimed, ended, intent_at}
 use Rattle.pg_msg.specs.declared.message.Ask.{Ask}
-use Rattle.pg_msg.specs.declared.message.Ask.TheVariants as ask
 use Rattle.pg_msg.specs.declared.message.Ends.{Ends}
-use Rattle.pg_msg.specs.declared.message.Granted.{Granted}
 use Rattle.pg_msg.specs.declared.message.Message.{Message}
 use Rattle.pg_msg.specs.declared.message.Message.TheVariants as message
 use Rattle.pg_msg.specs.declared.message.Sent.{Sent}
 use Rattle.pg_msg.specs.declared.update.Update.{Update}
 use Rattle.pg_msg.specs.declared.work.Work.{Work}
-use Rattle.pg_msg.specs.Ends.{back}
-use Rattle.pg_msg.specs.Sent.{cell_key}
-use Rattle.pg_msg.specs.Work.{with_left, with_linked, with_touched, with_unsure}
+use Rattle.pg_msg.specs.Work.{with_left, with_linked, with_tail, with_touched, with_unsure}
 use Rattle.pg_names.specs.Names.{own_or_blank}
 use Rattle.pg_register.specs.declared.flag.Flag.{Flag}
 use Rattle.pg_register.specs.declared.place.Place.{Place}
 use Rattle.pg_house.specs.Work.{is_root, note_left}
-use Rattle.pg_replica.specs.declared.replica.Replica.{Replica}
-use Rattle.pg_replica.specs.Replica.{are_none}
-use Rattle.pg_replica.specs.Replicas.{or_nothing}
 use Rattle.pg_store.specs.declared.store.Store.{Store}
-use Rattle.pg_store.specs.Beginning.{with_intents}
-use Rattle.pg_store.specs.Births.{fill_at, has_birth, is_pending, wish_at, with_wishes}
+use Rattle.pg_store.specs.Births.{has_birth, is_pending}
 use Rattle.pg_store.specs.Links.{is_new_link, knows_later}
-use Rattle.pg_store.specs.Servers.{next_target}
-use Rattle.pg_store.specs.Store.{entry_news, is_full, is_held, is_new_version, is_newer_flag, is_newer_place, replica_at}
-use Rattle.pg_store.specs.Wishes.{aim_wish}
+use Rattle.pg_store.specs.Store.{entry_news, is_new_version, is_newer_flag, is_newer_place}
 use Rattle.pg_cells.specs.declared.accepting.Manner.{Manner}
 use Rattle.pg_cells.specs.declared.accepting.Manner.TheVariants as manner
-use Rattle.pg_cells.specs.Accepting.{accept, is_accepted, is_answer, link_peer, with_gone, with_link}
-use Rattle.pg_cells.specs.Acks.{ack}
-use Rattle.pg_cells.specs.Cells.{cell, fits, taken, taken_along}
-use Rattle.pg_cells.specs.Done.{Done, idle, link_of}
+use Rattle.pg_cells.specs.Accepting.{accept, is_answer, link_peer, with_gone, with_link}
+use Rattle.pg_cells.specs.Done.{Done, idle}
 use Rattle.pg_cells.specs.Posting.{post, reply, sent_to}
 use Rattle.pg_cells.specs.Taking.{is_any_news, is_place_news, take_entry_cell, take_entry_noted, take_flag_noted, take_flags_noted, take_place_noted, take_version_noted, with_doubt, with_left_if, with_news}
-use Rattle.pg_repair.specs.Confirming.{confirm, confirmed, is_confirmed, own_entry, place_is, place_told, take_told_flags, take_told_place}
-use Rattle.pg_repair.specs.Fetching.{answer_fetch, answered_fetch, fetch, given, granted_from}
-use Rattle.pg_repair.specs.Granting.{aim_fill, begin_granted, begun_by, fill_asks, gone, grant, granted_own, no_grant, turn_wish, wish_asks}
-use Rattle.pg_repair.specs.NoneHere.{asking_key, does_ask, none_here}
-use Rattle.pg_repair.specs.Telling.{is_told, tell, tell_ok, told}
 use Rattle.pg_promises.proofs.Choices.{chosen}
-use Rattle.pg_births.specs.Flags.{SaysCell, SaysEntry, SaysMessage, SaysStore}
-use Rattle.pg_births.proofs.StoreSays.{entry_says, own_says, say_acknowledge, say_aimed, say_begin, say_ended, say_entry, say_flag, say_link, say_place, say_unlink, say_version}
+use Rattle.pg_births.specs.Flags.{SaysEntry, SaysMessage, SaysStore}
+use Rattle.pg_births.proofs.StoreSays.{say_entry, say_flag, say_link, say_place, say_version}
 
 -- it is said of what a message brings
 abbrev pub SaysSent : (FileId → Flag → Type 0) → Sent → Type 0
@@ -63,37 +40,39 @@ SaysSent Q m = SaysMessage Q m.packet.message
 
 pub record SameMail (w v : Work) : Type 0 where
   pub sent : v.sent ≡ w.sent
+  pub tail : v.tail ≡ w.tail
   pub made : v.made ≡ w.made
 
 pub same_mail : (w : Work) → SameMail w w
-same_mail w = record { sent = refl; made = refl }
+same_mail w = record { sent = refl; tail = refl; made = refl }
 
 either_mail : (w x y : Work) (t : Bool) → SameMail w x → SameMail w y → SameMail w (cond t x y)
 either_mail w x y true one two = one
 either_mail w x y false one two = two
 
 then_mail : (w x y : Work) → SameMail w x → SameMail x y → SameMail w y
-then_mail w x y one two = record { sent = two.sent ∙ one.sent; made = two.made ∙ one.made }
+then_mail w x y one two =
+    record { sent = two.sent ∙ one.sent; tail = two.tail ∙ one.tail; made = two.made ∙ one.made }
 
 pub news_mail : (t : Bool) (w : Work) (f : FileId) (q : Key) → SameMail w (with_news t w f q)
 news_mail t w f q =
-    either_mail w (with_touched w f q) w t (record { sent = refl; made = refl }) (same_mail w)
+    either_mail w (with_touched w f q) w t (record { sent = refl; tail = refl; made = refl }) (same_mail w)
 
 note_mail : (w : Work) (f : FileId) (old : Place) → SameMail w (note_left w f old)
 note_mail w f old =
     either_mail w (with_left w old.parent f) w (old.live && not (is_root f))
-    (record { sent = refl; made = refl }) (same_mail w)
+    (record { sent = refl; tail = refl; made = refl }) (same_mail w)
 
 left_mail : (t : Bool) (w : Work) (f : FileId) (old : Place) → SameMail w (with_left_if t w f old)
 left_mail t w f old = either_mail w (note_left w f old) w t (note_mail w f old) (same_mail w)
 
 link_mail : (t : Bool) (w : Work) (f : FileId) (p : ℕ) → SameMail w (with_link t w f p)
 link_mail t w f p =
-    either_mail w (with_linked w f p) w t (record { sent = refl; made = refl }) (same_mail w)
+    either_mail w (with_linked w f p) w t (record { sent = refl; tail = refl; made = refl }) (same_mail w)
 
 doubt_mail : (t : Bool) (w : Work) (d c : FileId) → SameMail w (with_doubt t w d c)
 doubt_mail t w d c =
-    either_mail w (with_unsure w d c) w t (record { sent = refl; made = refl }) (same_mail w)
+    either_mail w (with_unsure w d c) w t (record { sent = refl; tail = refl; made = refl }) (same_mail w)
 
 pub place_mail : (a : Store) (f : FileId) (place : Place) (w : Work)
     → SameMail w (take_place_noted a f place w).work
@@ -107,6 +86,7 @@ place_mail a f place w =
 pub record Says (Q : FileId → Flag → Type 0) (s : ℕ) (us : List Update) (d : Done) : Type 0 where
   pub store : SaysStore Q s d.store
   pub sent : All (SaysSent Q) d.work.sent
+  pub tail : All (SaysSent Q) d.work.tail
   pub made : d.work.made ≡ us
 
 module _ (Q : FileId → Flag → Type 0) (s : ℕ) (us : List Update) where
@@ -117,6 +97,7 @@ module _ (Q : FileId → Flag → Type 0) (s : ℕ) (us : List Update) where
   said_on d e k store mail = record {
     store = store;
     sent = subst (All (SaysSent Q)) (sym mail.sent) k.sent;
+    tail = subst (All (SaysSent Q)) (sym mail.tail) k.tail;
     made = mail.made ∙ k.made;
   }
 
@@ -134,7 +115,7 @@ module _ (Q : FileId → Flag → Type 0) (s : ℕ) (us : List Update) where
       said_on (idle a w) (take_flag_noted a f flag w) k (say_flag Q s a f flag one k.store)
       (news_mail (is_newer_flag a f flag) w f (key.Flag flag.server))
 
-  said_flags : (fs : List Flag) (a : Store) (f : FileId) (w : Work) → All (Q f) fs
+  pub said_flags : (fs : List Flag) (a : Store) (f : FileId) (w : Work) → All (Q f) fs
       → Said (idle a w) → Said (take_flags_noted a f fs w)
   said_flags [] a f w all k = k
   said_flags (g ∷ gs) a f w all k =
@@ -142,13 +123,13 @@ module _ (Q : FileId → Flag → Type 0) (s : ℕ) (us : List Update) where
       said_flags gs d.store f d.work (All-tail (Q f) g gs all)
       (said_flag a f g w (All-head (Q f) g gs all) k)
 
-  said_entry : (a : Store) (dir : FileId) (e : Entry) (w : Work) → SaysEntry Q e
+  pub said_entry : (a : Store) (dir : FileId) (e : Entry) (w : Work) → SaysEntry Q e
       → Said (idle a w) → Said (take_entry_noted a dir e w)
   said_entry a dir e w one k =
       said_on (idle a w) (take_entry_noted a dir e w) k (say_entry Q s a dir e one k.store)
       (news_mail (is_any_news (entry_news a dir e)) w dir (key.Entry e.child))
 
-  said_entry_cell : (a : Store) (dir : FileId) (e : Entry) (sure : Bool) (w : Work)
+  pub said_entry_cell : (a : Store) (dir : FileId) (e : Entry) (sure : Bool) (w : Work)
       → SaysEntry Q e → Said (idle a w) → Said (take_entry_cell a dir e sure w)
   said_entry_cell a dir e sure w one k =
       let d = take_entry_noted a dir e w in
@@ -156,13 +137,13 @@ module _ (Q : FileId → Flag → Type 0) (s : ℕ) (us : List Update) where
       (say_entry Q s a dir e one k.store)
       (doubt_mail (is_place_news (entry_news a dir e) && not sure) d.work dir e.child)
 
-  said_version : (a : Store) (f : FileId) (v : VersionValue) (w : Work) → Said (idle a w)
+  pub said_version : (a : Store) (f : FileId) (v : VersionValue) (w : Work) → Said (idle a w)
       → Said (take_version_noted a f v w)
   said_version a f v w k =
       said_on (idle a w) (take_version_noted a f v w) k (say_version Q s a f v k.store)
       (news_mail (is_new_version a f v) w f (key.Version v.head.stamp))
 
-  said_link : (a : Store) (f : FileId) (p b : ℕ) (w : Work) → Said (idle a w)
+  pub said_link : (a : Store) (f : FileId) (p b : ℕ) (w : Work) → Said (idle a w)
       → Said (link_peer a f p b w)
   said_link a f p b w k =
       said_on (idle a w) (link_peer a f p b w) k (say_link Q s a f p b k.store)
@@ -174,6 +155,17 @@ module _ (Q : FileId → Flag → Type 0) (s : ℕ) (us : List Update) where
   said_post a to m w says k = record {
     store = k.store;
     sent = All-push (SaysSent Q) w.sent (sent_to a to m) k.sent says;
+    tail = k.tail;
+    made = k.made;
+  }
+
+  -- and one that goes last
+  pub said_last : (a : Store) (to : ℕ) (m : Message) (w : Work) → SaysMessage Q m
+      → Said (idle a w) → Said (idle a (with_tail w (sent_to a to m)))
+  said_last a to m w says k = record {
+    store = k.store;
+    sent = k.sent;
+    tail = All-push (SaysSent Q) w.tail (sent_to a to m) k.tail says;
     made = k.made;
   }
 
@@ -186,7 +178,7 @@ module _ (Q : FileId → Flag → Type 0) (s : ℕ) (us : List Update) where
       (reply a (message.Gone ends.file ends.receiver) w) k
       (said_post a w.from (message.Gone ends.file ends.receiver) w tt k)
 
-  said_accept : (a : Store) (ends : Ends) (w : Work) → Said (idle a w)
+  pub said_accept : (a : Store) (ends : Ends) (w : Work) → Said (idle a w)
       → Said (accept a ends manner.Link w)
   said_accept a ends w k =
       by (has_birth a ends.file ends.receiver) (knows_later a ends.file w.from ends.sender)
@@ -198,153 +190,12 @@ module _ (Q : FileId → Flag → Type 0) (s : ℕ) (us : List Update) where
       by true false = said_link a ends.file w.from ends.sender w k
       by false later = gone_says a ends manner.Link w k
 
-  -- ---- cells
-
-  said_taken : (a : Store) (f : FileId) (c : Cell) (w : Work) → SaysCell Q f c
-      → Said (idle a w) → Said (taken a f c w)
-  said_taken a f (cells.Place place) w one k = said_place a f place w k
-  said_taken a f (cells.Flag flag) w one k = said_flag a f flag w one k
-  said_taken a f (cells.Entry e sure) w one k = said_entry_cell a f e sure w one k
-  said_taken a f (cells.Version v) w one k = said_version a f v w k
-
-  pub said_cell : (a : Store) (ends : Ends) (tag : ℕ) (c : Cell) (w : Work)
-      → SaysCell Q ends.file c → Said (idle a w) → Said (cell a ends tag c w)
-  said_cell a ends tag c w one k =
-      let met = accept a ends manner.Link w in
-      let to = said_accept a ends w k in
-      let took = taken met.store ends.file c met.work in
-      chosen Said (fits ends.file c)
-      (cond (is_accepted a w.from manner.Link ends) (taken_along ends tag c met) met) (idle a w)
-      (chosen Said (is_accepted a w.from manner.Link ends) (taken_along ends tag c met) met
-      (said_post took.store took.work.from (message.Ack (back ends) (cell_key c) tag) took.work tt
-      (said_taken met.store ends.file c met.work one to)) to)
-      k
-
-  -- ---- asked for, granted and not
-
-  given_by : (a : Store) (ends : Ends) (w : Work) (o : Option Replica) → Said (idle a w)
-      → Said (idle a (given a ends o w))
-  given_by a ends w None k = k
-  given_by a ends w (Some x) k =
-      said_post a w.from (message.Grant ends (granted_from ends.file (own_or_blank a.names ends.file) x))
-      w (own_says Q s a ends.file k.store) k
-
-  said_answer : (a : Store) (f : FileId) (birth : ℕ) (w : Work) → Said (idle a w)
-      → Said (idle a (answer_fetch a f birth w))
-  said_answer a f birth w k =
-      let ends : Ends =
-      record { file = f; sender = (or_nothing (replica_at a f)).birth; receiver = birth } in
-      chosen (λ (v : Work). Said (idle a v))
-      (are_none (keys_at (or_nothing (replica_at a f)).edges w.from birth))
-      (reply a (message.Full ends) w) (given a ends (replica_at a f) w)
-      (said_post a w.from (message.Full ends) w tt k) (given_by a ends w (replica_at a f) k)
-
-  pub said_fetch : (a : Store) (f : FileId) (birth : ℕ) (w : Work) → Said (idle a w)
-      → Said (fetch a f birth w)
-  said_fetch a f birth w k =
-      let d = link_peer a f w.from birth w in
-      chosen Said (is_full a f)
-      (cond (knows_later a f w.from birth) (idle a w) (answered_fetch f birth d))
-      (idle a (reply a (message.NoGrant f birth) w))
-      (chosen Said (knows_later a f w.from birth) (idle a w) (answered_fetch f birth d) k
-      (said_answer d.store f birth d.work (said_link a f w.from birth w k)))
-      (said_post a w.from (message.NoGrant f birth) w tt k)
-
-  said_begun : (a : Store) (ends : Ends) (g : Granted) (w : Work) → All (Q ends.file) g.flags
-      → Said (idle a w) → Said (begin_granted a ends g w)
-  said_begun a ends g w all k =
-      let b = begun_by a ends g in
-      let to_b : Said (idle b w) = said_on (idle a w) (idle b w) k
-      (say_begin Q s a ends.file ends.receiver g.policy (granted_own g) false all k.store)
-      (same_mail w) in
-      let d = link_peer b ends.file w.from ends.sender w in
-      let to_d = said_link b ends.file w.from ends.sender w to_b in
-      said_on d (begin_granted a ends g w) to_d
-      (say_aimed Q s d.store (intent_key.Fill ends.file) d.work.from to_d.store) (same_mail d.work)
-
-  pub said_grant : (a : Store) (ends : Ends) (g : Granted) (w : Work)
-      → All (Q ends.file) g.flags → Said (idle a w) → Said (grant a ends g w)
-  said_grant a ends g w all k =
-      chosen Said (is_pending a ends.file ends.receiver) (begin_granted a ends g w)
-      (accept a ends manner.Link w) (said_begun a ends g w all k) (said_accept a ends w k)
-
-  aimed_by : (a b : Store) (t : Bool) (w : Work) → SaysStore Q s b → Said (idle a w)
-      → Said (idle (cond t b a) w)
-  aimed_by a b true w store k = said_on (idle a w) (idle b w) k store (same_mail w)
-  aimed_by a b false w store k = k
-
-  pub said_no_grant : (a : Store) (f : FileId) (birth : ℕ) (w : Work) → Said (idle a w)
-      → Said (no_grant a f birth w)
-  said_no_grant a f birth w k =
-      let next = next_target a w.from in
-      let b = turn_wish a f birth w.from next in
-      let wished = with_wishes a (aim_wish a.wishes f next) in
-      let to_b : Said (idle b w) = aimed_by a wished (wish_asks (wish_at a f) birth w.from) w
-      (record { names = k.store.names; intents = k.store.intents }) k in
-      aimed_by b (aim_fill b f next) (fill_asks (fill_at b f) birth w.from) w
-      (say_aimed Q s b (intent_key.Fill f) next to_b.store) to_b
-
-  pub said_none_here : (a : Store) (what : Ask) (f c : FileId) (w : Work) → Said (idle a w)
-      → Said (none_here a what f c w)
-  said_none_here a what f c w k =
-      let q = asking_key what f c in
-      aimed_by a (with_intents a (aimed a.intents q (next_target a w.from)))
-      (does_ask (intent_at a.intents q) w.from) w
-      (say_aimed Q s a q (next_target a w.from) k.store) k
-
-  -- ---- what is told of children
-
-  pub said_ack : (a : Store) (ends : Ends) (q : Key) (tag : ℕ) (w : Work) → Said (idle a w)
-      → Said (ack a ends q tag w)
-  said_ack a ends q tag w k =
-      said_on (idle a w) (ack a ends q tag w) k
-      (say_acknowledge Q s a ends.file (link_of w.from ends) q tag k.store) (same_mail w)
-
-  pub said_gone : (a : Store) (f : FileId) (birth : ℕ) (w : Work) → Said (idle a w)
-      → Said (gone a f birth w)
-  said_gone a f birth w k =
-      said_on (idle a w) (gone a f birth w) k (say_unlink Q s a f w.from birth k.store)
-      (same_mail w)
-
-  pub said_confirm : (a : Store) (dir : FileId) (e : Entry) (w : Work) → SaysEntry Q e
-      → Said (idle a w) → Said (confirm a dir e w)
-  said_confirm a dir e w one k =
-      let d = take_told_place a e w in
-      let to_d : Said d = chosen Said (is_root e.child) (idle a w)
-      (take_place_noted a e.child e.place w) k (said_place a e.child e.place w k) in
-      let x = take_told_flags e d in
-      let to_x = said_flags e.flags d.store e.child d.work one to_d in
-      let no = message.NoneHere ask.Confirm dir e.child in
-      chosen Said (is_held a e.child) (place_told dir e.child x) (idle a (reply a no w))
-      (said_post x.store x.work.from (message.PlaceIs dir (own_entry x.store e.child)) x.work
-      (entry_says Q s x.store e.child to_x.store) to_x)
-      (said_post a w.from no w tt k)
-
-  pub said_place_is : (a : Store) (dir : FileId) (e : Entry) (w : Work) → SaysEntry Q e
-      → Said (idle a w) → Said (place_is a dir e w)
-  said_place_is a dir e w one k =
-      let d = take_entry_noted a dir e w in
-      let to_d = said_entry a dir e w one k in
-      let b = d.store in
-      chosen Said (is_held a dir) (confirmed dir e d) (idle a w)
-      (aimed_by b (with_intents b (ended b.intents (intent_key.Confirm dir e.child)))
-      (is_confirmed b dir e.child e.place.stamp) d.work
-      (say_ended Q s b (intent_key.Confirm dir e.child) to_d.store) to_d)
-      k
-
-  pub said_tell : (a : Store) (dir : FileId) (e : Entry) (w : Work) → SaysEntry Q e
-      → Said (idle a w) → Said (tell a dir e w)
-  said_tell a dir e w one k =
-      let d = take_entry_noted a dir e w in
-      let no = message.NoneHere ask.Patch dir e.child in
-      chosen Said (is_held a dir) (told dir e d) (idle a (reply a no w))
-      (said_post d.store d.work.from (message.TellOk dir e.child e.place.stamp) d.work tt
-      (said_entry a dir e w one k))
-      (said_post a w.from no w tt k)
-
-  pub said_tell_ok : (a : Store) (dir c : FileId) (stamp : Stamp) (w : Work) → Said (idle a w)
-      → Said (tell_ok a dir c stamp w)
-  said_tell_ok a dir c stamp w k =
-      let q = intent_key.Patch dir c in
-      aimed_by a (with_intents a (ended a.intents q)) (is_told (intent_at a.intents q) stamp w.from) w
-      (say_ended Q s a q k.store) k
+  -- a message that links nobody
+  pub said_asked : (a : Store) (ends : Ends) (w : Work) → Said (idle a w)
+      → Said (accept a ends manner.Ask w)
+  said_asked a ends w k =
+      chosen Said (has_birth a ends.file ends.receiver)
+      (cond (knows_later a ends.file w.from ends.sender) (idle a w) (idle a w))
+      (idle a (with_gone a ends manner.Ask w))
+      (chosen Said (knows_later a ends.file w.from ends.sender) (idle a w) (idle a w) k k)
+      (gone_says a ends manner.Ask w k)

@@ -18,6 +18,7 @@ use Rattle.pg_names.specs.Names.{cell_at as entry_at, own_or_blank}
 use Rattle.pg_register.specs.declared.flag.Flag.{Flag}
 use Rattle.pg_register.specs.Flag.{flag_of}
 use Rattle.pg_store.specs.declared.store.Store.{Store}
+use Rattle.pg_store.specs.Births.{birth_of}
 use Rattle.pg_store.specs.Cells.{cell_at, entry_cell, flag_cell, is_sure, version_cell}
 use Rattle.pg_cells.specs.Sending.{Wanted, cells_where}
 use Rattle.pg_repair.specs.Requests.{asks, asks_by, confirm_message}
@@ -85,7 +86,8 @@ module _ (Q : FileId → Flag → Type 0) (s : ℕ) (b : Store) (k : SaysStore Q
 
   ask_says : (i : Intent) → SaysIntent Q i → AskHas (SaysSent Q) b i
   ask_says (intent.Bye file birth peer peer_birth) says m is some = absurd says
-  ask_says (intent.Seek file target) says m is some = absurd says
+  ask_says (intent.Seek file target) says m is some =
+      subst (SaysMessage Q) (let same : message.Seek file (birth_of b file) ≡ m = cc in same) tt
   ask_says (intent.Fill file birth target) says m is some =
       subst (SaysMessage Q) (let same : message.Fetch file birth ≡ m = cc in same) tt
   ask_says (intent.Patch dir e target) says m is some =

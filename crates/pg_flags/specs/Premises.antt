@@ -1,13 +1,10 @@
 -- What is asked of runs here, that other laws give.
 use Rattle.std.specs.Prelude.{ℕ, ◌≡◌, false, List, Some}
-use Rattle.std.specs.List.Sorted.{IsStrictlySortedBy}
-use Rattle.std.specs.Map.{keys_of}
 use Rattle.pg_base.specs.declared.id.Kind.{Kind}
-use Rattle.pg_base.specs.Id.{file_cmp}
 use Rattle.pg_calls.specs.Naming.{next_id}
 use Rattle.pg_event.specs.declared.event.Event.{Event}
 use Rattle.pg_promises.specs.Whole.{IsWhole}
-use Rattle.pg_run.specs.Laws.{AtEach, names_after, store_after}
+use Rattle.pg_run.specs.Laws.{AtEach, store_after}
 use Rattle.pg_run.specs.Run.{Taking, run, taking_in}
 use Rattle.pg_server.specs.Local.{first_effect}
 use Rattle.pg_store.specs.Store.{is_held}
@@ -22,8 +19,3 @@ FirstEffectsAreWhole servers = (events : List Event) (event : Event) (t : Taking
 abbrev pub NextIdsAreAway : ℕ → Type 0
 NextIdsAreAway servers = (events : List Event) → AtEach servers (λ s. (kind : Kind)
     → is_held (store_after servers events s) (next_id (store_after servers events s) kind) ≡ false)
-
--- things are by id
-abbrev pub ThingsAreById : ℕ → Type 0
-ThingsAreById servers = (events : List Event)
-    → AtEach servers (λ s. IsStrictlySortedBy file_cmp (keys_of (names_after servers events s).held))

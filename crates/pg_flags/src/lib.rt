@@ -1,4 +1,4 @@
-//! Flags along every run: each is its server's own, the first that it made of the thing, and nothing else is known.
+//! Flags along every run: each is its server's own, or an earlier one, and nothing else is known.
 #![tactic(auto)]
 
 mod laws;

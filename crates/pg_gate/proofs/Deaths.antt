@@ -127,14 +127,14 @@ module _ (dir : FileId) (is : is_dir dir ≡ true) (removal : Place) (dead : rem
       (both_true (not top.place.live) _ (not_false top.place.live gone)
       (both_true (is_before own.place.stamp top.place.stamp) _ later (not_false (is_removed [] top.place.stamp.server) refl)))))
 
-  pub dead_so : StaysSo dir [] If (λ (u : Update). Unit {0})
+  dead_so : StaysSo dir [] If (λ (u : Update). Unit {0})
   dead_so = record {
     taken = λ own top up h. taken_by own top (is_held_back [] dir own top) refl up h;
     live = λ p live some. live_not p live;
     made = λ f p live. tt;
   }
 
-  pub house_dead : (moment : ℕ) (s : NamesValue) (work : Work) → At s → At (house moment (state_of s work)).names
+  house_dead : (moment : ℕ) (s : NamesValue) (work : Work) → At s → At (house moment (state_of s work)).names
   house_dead moment s work h =
       let k = house_stays dir [] If (λ (u : Update). Unit {0}) dead_so moment (state_of s work) (record { removed = h.0; place = h.1; made = λ i d lt. tt }) in
       (k.removed, k.place)
@@ -176,6 +176,7 @@ module _ (dir : FileId) (is : is_dir dir ≡ true) (removal : Place) (dead : rem
       place = λ f p now h.
           place_kept (Caused (input.Call moment c)) Places Begins Fills Kept a f p
           (λ same e. inr (ap (λ (x : Stamp). x.server) (ap (λ (q : Place). q.stamp) (sym e) ∙ now))) h;
+      flag = λ f g h. flag_kept (Caused (input.Call moment c)) Places Begins Fills Kept a f g h;
       raised = λ s time h. h;
     }
 
@@ -215,4 +216,6 @@ module _ (dir : FileId) (is : is_dir dir ≡ true) (removal : Place) (dead : rem
 
   pub effect_dead : (asked : Input) → HearsMindful asked → Caused asked (effect a asked).store.names
   effect_dead asked hears =
-      effect_kept (Caused asked) a asked (λ moment s work h. house_dead dir is removal dead late (IsCaused a asked dir removal) moment s work h) (first_dead asked hears)
+      let Cause : Type 0 = IsCaused a asked dir removal in
+      effect_kept (Caused asked) (record { rules = house_dead dir is removal dead late Cause; flag = (dead_kept dir is removal dead late Cause).flag }) a asked
+      (first_dead asked hears)

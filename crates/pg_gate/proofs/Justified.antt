@@ -1,5 +1,5 @@
 -- Justified return, of what servers took.
-use Rattle.std.proofs.Common.{[], ℕ, ◌≡◌, ◌≤◌, ◌++◌, ◌&&◌, Bool, true, false, cond, List, ◌∷◌, take, Contains, Option, None, Some, refl, sym, ap, subst, ◌∙◌, inl, inr, ◌⊎◌}
+use Rattle.std.proofs.Common.{[], ℕ, ◌≡◌, ◌++◌, ◌&&◌, Bool, true, false, cond, List, ◌∷◌, take, Contains, Option, None, Some, refl, sym, ap, subst, ◌∙◌, inl, inr, ◌⊎◌}
 use Rattle.std.specs.List.{flat_map}
 use Rattle.std.proofs.lemmas.Bool.{false≢true}
 use Rattle.std.proofs.lemmas.Grind.{flat_map-append}
@@ -12,16 +12,12 @@ use Rattle.pg_content.specs.Content.{Among}
 use Rattle.pg_entries.specs.declared.entry.Entry.{Entry}
 use Rattle.pg_msg.specs.declared.update.Update.{Update}
 use Rattle.pg_msg.specs.declared.update.Update.TheVariants as update
-use Rattle.pg_names.specs.Names.{cell_at, directories, is_dir}
+use Rattle.pg_names.specs.Names.{cell_at, is_dir}
 use Rattle.pg_register.specs.declared.place.Place.{Place}
 use Rattle.pg_register.specs.Place.{newer_place}
-use Rattle.pg_house.specs.House.{movable}
-use Rattle.pg_house.specs.Work.{state_of}
 use Rattle.pg_house.proofs.Truths.{both_true, or_left, or_right}
 use Rattle.pg_store.specs.declared.store.Store.{Store}
 use Rattle.pg_server.specs.declared.input.Input.{Input}
-use Rattle.pg_server.specs.Local.{first_effect}
-use Rattle.pg_filled.proofs.HousePlaces.{midst_stays}
 use Rattle.pg_promises.specs.Names.{IsEntryKnownBy}
 use Rattle.pg_promises.specs.UpTo.{IsPlaceUpTo}
 use Rattle.pg_promises.proofs.Flags.{newer_of_both}
@@ -29,18 +25,18 @@ use Rattle.pg_run.specs.Laws.{NamesMerge, ReturnsAreJustified, took_behind}
 use Rattle.pg_run.specs.Passed.{has_cell, has_taken, passed, passed_with, passes}
 use Rattle.pg_run.specs.Run.{brought, made_behind, run}
 use Rattle.pg_run.specs.State.{entry_state}
-use Rattle.pg_run.specs.Took.{Take, Taker, first_place, flags_in, held, is_same_taker, latest_place, place_in, place_taken_by, places_taken, take_of}
+use Rattle.pg_run.specs.Took.{Take, Taker, first_place, flags_in, held, is_same_taker, latest_place, own_place, place_in, place_taken_by, places_taken, take_of}
 use Rattle.pg_run.specs.Took.Take.{Began, TookFlag, TookPlace, TookVersion}
 use Rattle.pg_run.specs.Took.Taker.{InDir}
 use Rattle.pg_run.proofs.Bags.{found}
 use Rattle.pg_run.proofs.Frame.{acts_is}
 use Rattle.pg_run.proofs.Lists.{among_contained, among_parts, contained_among}
-use Rattle.pg_gate.specs.Gate.{EdgesAreKept, KnowsChildren, Removes, place_at}
-use Rattle.pg_gate.specs.Returns.{OwnPlacesAreTaken, TakesHaveOwnStamps, midst}
+use Rattle.pg_gate.specs.Gate.{EdgesAreKept, KnowsChildren, Removes}
+use Rattle.pg_gate.specs.Returns.{DeadPlacesStay, TakesHaveOwnStamps}
 use Rattle.pg_gate.proofs.Begun.{begins, gated_behind, is_late, removed_are_empty, stands_all}
-use Rattle.pg_gate.proofs.Deaths.{HearsMindful, IsCaused, dead_so, first_dead}
+use Rattle.pg_gate.proofs.Deaths.{IsCaused, first_dead}
 use Rattle.pg_gate.proofs.Gated.{first_known, hears}
-use Rattle.pg_gate.proofs.HouseDirs.{IsOfDir, made_dirs}
+use Rattle.pg_gate.proofs.HouseDirs.{IsLiveOfDir, made_live}
 
 -- ---- the latest of some places
 
@@ -136,20 +132,6 @@ state_by dir child takes e false h = absurd (none-some e h)
 state_some : (dir child : FileId) (takes : List Take) → has_cell dir child takes ≡ true → entry_state dir child takes ≡ Some (state_of_cell dir child takes)
 state_some dir child takes has = ap (λ t. cond t (Some (state_of_cell dir child takes)) None) has
 
--- ---- in the midst of an event
-
--- a dead place that a directory has then was there behind the first effect
-midst_caused : (a : Store) (asked : Input) (dir : FileId) (is : is_dir dir ≡ true) → a.names.removed ≡ [] → (removal : Place) (dead : removal.live ≡ false) (late : 1 ≤ removal.stamp.time) → HearsMindful asked → (returns breaks : ℕ)
-    → place_at (midst (first_effect a asked) returns breaks).names dir ≡ removal → IsCaused a asked dir removal
-midst_caused a asked dir is none removal dead late hears returns breaks at =
-    let x = first_effect a asked in
-    let Cause : Type 0 = IsCaused a asked dir removal in
-    let h = first_dead dir is removal dead late a none asked hears in
-    let st = state_of x.store.names x.work in
-    let k = midst_stays dir [] (λ (p : Place). p ≡ removal → Cause) (λ (u : Update). Unit {0}) (dead_so dir is removal dead late Cause) x.work.now returns breaks (directories st.names) (movable st.names) st
-    (record { removed = h.0; place = h.1; made = λ i e lt. tt }) in
-    k.place at
-
 -- ---- what an entry that is known tells
 
 known_some : (e : Entry) (o : Option Entry) → IsEntryKnownBy (Some e) o → (c : Entry) × (o ≡ Some c) × IsPlaceUpTo e.place c.place
@@ -157,20 +139,21 @@ known_some e None k = absurd k
 known_some e (Some c) k = (c, refl, k.place)
 
 -- JUSTIFIED RETURN
-pub justified : (n : ℕ) → EdgesAreKept n → NamesMerge n → TakesHaveOwnStamps n → OwnPlacesAreTaken n → ReturnsAreJustified n
-justified n edges merge stamps owns before removing between last s m asked dir child removal listed made maker takes r knew =
+pub justified : (n : ℕ) → EdgesAreKept n → NamesMerge n → TakesHaveOwnStamps n → DeadPlacesStay n → ReturnsAreJustified n
+justified n edges merge stamps stay before removing between last s m asked dir child removal listed made maker takes r knew =
     let events = before ++ removing ∷ between in
     let w = run n events in
     let a = w.stores s in
     let took = w.took s in
     let k = stands_all n edges events in
     let reach = acts_is n w last (record { server = s; asked = asked }) takes in
-    let directory : is_dir dir ≡ true = found IsOfDir (made_behind a asked) r.k (update.Place dir r.place) (made_dirs a asked) r.made dir r.place refl in
+    let directory : is_dir dir ≡ true = (found IsLiveOfDir (made_behind a asked) r.k (update.Place dir r.place) (made_live a asked) r.made dir r.place refl).0 in
     let removes : Removes n before removing dir removal = record { directory = directory; dead = r.dead; made = made } in
     let late = is_late n edges before removing dir removal removes in
     let hear = hears n dir directory removal r.dead late w k last s asked reach.least reach.most takes reach.came in
-    let own = owns events last s asked takes r.k (update.Place dir r.place) r.made in
-    let caused : IsCaused a asked dir removal = midst_caused a asked dir directory (k.mindful.removed s) removal r.dead late hear own.0 own.1 (own.2 dir ∙ r.was) in
+    let gone : (own_place dir (took_behind a took asked r.k)).live ≡ false = ap (λ (p : Place). p.live) r.was ∙ r.dead in
+    let there = stay events last s asked takes (k.mindful.removed s) r.k (update.Place dir r.place) r.made dir directory gone ∙ r.was in
+    let caused : IsCaused a asked dir removal = (first_dead dir directory removal r.dead late a (k.mindful.removed s) asked hear).1 there in
     let begun = begins n edges before removing dir removal removes in
     let maker_is = removal.stamp.server in
     let old = (run n before).stores maker_is in

@@ -53,6 +53,7 @@ module _ (P : NamesValue → Type 0) (k : AreKept P AnyPlace AnyBegins AnyFills)
         (place_kept P AnyPlace AnyBegins AnyFills k b id p tt
         (begin_kept P AnyPlace AnyBegins AnyFills k (with_birth (with_id a)) id (draw_birth (with_id a)) policy (blank_own id) true tt h)));
     place = λ f p now h. place_kept P AnyPlace AnyBegins AnyFills k a f p tt h;
+    flag = λ f g h. flag_kept P AnyPlace AnyBegins AnyFills k a f g h;
     raised = k.raised;
   }
 
@@ -67,7 +68,7 @@ module _ (P : NamesValue → Type 0) (k : AreKept P AnyPlace AnyBegins AnyFills)
 
   -- AN EVENT
   pub effect_any : (a : Store) (asked : Input) → P a.names → P (effect a asked).store.names
-  effect_any a asked h = effect_kept P a asked rules (first_any a asked h)
+  effect_any a asked h = effect_kept P (record { rules = rules; flag = k.flag }) a asked (first_any a asked h)
 
 -- ---- no server is removed
 

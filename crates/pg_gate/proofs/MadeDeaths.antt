@@ -17,14 +17,17 @@ use Rattle.pg_house.specs.Work.{state_of}
 use Rattle.pg_store.specs.declared.store.Store.{Store}
 use Rattle.pg_store.specs.Store.{is_in_time}
 use Rattle.pg_cells.specs.Done.{Done, idle}
+use Rattle.pg_cells.specs.Settling.{rules}
+use Rattle.pg_cells.specs.Ticks.{tick}
+use Rattle.pg_repair.specs.Requests.{ask_all}
 use Rattle.pg_repair.proofs.Steady.{begin_end_stays}
 use Rattle.pg_server.specs.declared.input.Input.{Input}
 use Rattle.pg_server.specs.declared.input.Input.TheVariants as input
 use Rattle.pg_server.specs.Local.{Effect, closed, effect, finished, first_effect, is_heard, receive, reply_to, sent_again, settled, takes_effect}
 use Rattle.pg_promises.proofs.Choices.{chosen}
 use Rattle.pg_filled.proofs.HousePlaces.{StaysSo, house_stays}
-use Rattle.pg_filled.proofs.Replies.{IsGoing, MayAnswer, call_sends, receive_sends}
-use Rattle.pg_filled.proofs.Works.{IsClosed}
+use Rattle.pg_filled.proofs.Replies.{IsGoing, MayAnswer, call_sends, receive_sends, tick_sends}
+use Rattle.pg_filled.proofs.Works.{IsClosed, settled_sends}
 
 -- a thing goes in a call
 abbrev pub GoesIn : Store → Input → FileId → Place → Type 0
@@ -76,6 +79,7 @@ module _ (a : Store) (asked : Input) where
     linked = λ w f peer h. h;
     flagged = λ w f g h. All-push IsOfGoing w.made (update.Flag f g) h (flag_made f g);
     sent = λ w x is h. h;
+    last = λ w x is h. h;
   }
 
   any_answers : (w : Work) (m : Message) → MayAnswer Of a w m
@@ -94,7 +98,10 @@ first_made a (input.Call moment c) =
     }) (All-nil (IsOfGoing a asked)) c
 first_made a (input.Tick moment word) =
     let asked = input.Tick moment word in
-    chosen (λ (w : Work). All (IsOfGoing a asked) w.made) (is_in_time a) (sent_again a (new_work moment 0)) (new_work moment 0) (All-nil (IsOfGoing a asked)) (All-nil (IsOfGoing a asked))
+    let w = new_work moment 0 in
+    let none = All-nil (IsOfGoing a asked) in
+    chosen (λ (v : Work). All (IsOfGoing a asked) v.made) (is_in_time a) (sent_again a word w) w
+    (tick_sends (λ (v : Work). All (IsOfGoing a asked) v.made) (made_closed a asked) a word (ask_all a (tick a w)) none) none
 first_made a (input.Arrival packet) =
     let asked = input.Arrival packet in
     let w = new_work 0 packet.from in
@@ -109,11 +116,15 @@ module _ (a : Store) (asked : Input) where
   any_so : (R : List ℕ) → StaysSo root R (λ (p : Place). Unit {0}) (IsOfGoing a asked)
   any_so R = record { taken = λ own top up q. tt; live = λ p live some. tt; made = λ f p live. live_made a asked f p live }
 
+  ruled_made : (b : Store) (w : Work) → All (IsOfGoing a asked) w.made → All (IsOfGoing a asked) (rules b w).work.made
+  ruled_made b w all =
+      let s = b.names in
+      (house_stays root s.removed (λ (p : Place). Unit {0}) (IsOfGoing a asked) (any_so s.removed) w.now (state_of s w) (record { removed = refl; place = tt; made = all })).made
+
   closed_made : (r : Option Reply) (d : Done) → All (IsOfGoing a asked) d.work.made → All (IsOfGoing a asked) (closed r d).out.made
   closed_made r d all =
-      let s = d.store.names in
-      let k = house_stays root s.removed (λ (p : Place). Unit {0}) (IsOfGoing a asked) (any_so s.removed) d.work.now (state_of s d.work) (record { removed = refl; place = tt; made = all }) in
-      subst (All (IsOfGoing a asked)) (sym (begin_end_stays (settled d).store (settled d).work).made) k.made
+      subst (All (IsOfGoing a asked)) (sym (begin_end_stays (settled d).store (settled d).work).made)
+      (settled_sends (λ (w : Work). All (IsOfGoing a asked) w.made) (made_closed a asked) ruled_made d.store d.work all)
 
   -- IN AN EVENT
   pub effect_made : All (IsOfGoing a asked) (effect a asked).out.made

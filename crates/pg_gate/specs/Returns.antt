@@ -1,17 +1,10 @@
 -- What justified return stands on, of what servers take, besides the gate.
-use Rattle.std.specs.Prelude.{ℕ, ◌≡◌, ◌⊎◌, Contains, List, Some, slice_get}
+use Rattle.std.specs.Prelude.{ℕ, ◌≡◌, ◌⊎◌, true, false, Contains, List, [], Some, slice_get}
 use Rattle.pg_base.specs.declared.id.FileId.{FileId}
 use Rattle.pg_register.specs.declared.place.Place.{Place}
 use Rattle.pg_event.specs.declared.event.Event.{Event}
 use Rattle.pg_msg.specs.declared.update.Update.{Update}
-use Rattle.pg_names.specs.Names.{directories}
-use Rattle.pg_house.specs.Cycles.{break_first}
-use Rattle.pg_house.specs.House.{movable}
-use Rattle.pg_house.specs.Passing.{pass_all}
-use Rattle.pg_house.specs.Placing.{repeated}
-use Rattle.pg_house.specs.Returning.{return_first}
-use Rattle.pg_house.specs.Work.{State, state_of}
-use Rattle.pg_cells.specs.Done.{Done}
+use Rattle.pg_names.specs.Names.{is_dir}
 use Rattle.pg_server.specs.declared.input.Input.{Input}
 use Rattle.pg_server.specs.Local.{first_effect}
 use Rattle.pg_run.specs.Laws.{AtEach, TakesIn, took_behind}
@@ -33,23 +26,13 @@ TakesHaveOwnStamps servers = (events : List Event) → AtEach servers (λ s.
 
 -- ---- in the midst of an event
 
--- behind passing, so many returns, and then so many cycles broken
-abbrev pub midst_of : State → ℕ → ℕ → ℕ → State
-midst_of st moment returns breaks =
-    repeated breaks (break_first moment (directories st.names))
-    (repeated returns (return_first moment (directories st.names))
-    (pass_all st (directories st.names) (movable st.names)))
-
-abbrev pub midst : Done → ℕ → ℕ → State
-midst done returns breaks =
-    midst_of (state_of done.store.names done.work) done.work.now returns breaks
-
--- where the house rules make an update, the own places are then those that what was taken by then
--- comes to
-abbrev pub OwnPlacesAreTaken : ℕ → Type 0
-OwnPlacesAreTaken servers = (events : List Event) (last : Event) (s : ℕ) (asked : Input)
-    → let w = run servers events in TakesIn servers w last s asked
+-- where no server is removed: where a directory's own place is a dead one while the house rules make
+-- updates, it had this place behind the first effect
+abbrev pub DeadPlacesStay : ℕ → Type 0
+DeadPlacesStay servers = (events : List Event) (last : Event) (s : ℕ) (asked : Input)
+    → let w = run servers events in TakesIn servers w last s asked → (w.stores s).names.removed ≡ []
     → (k : ℕ) (u : Update) → slice_get (made_behind (w.stores s) asked) k ≡ Some u
-    → (returns : ℕ) × (breaks : ℕ) × ((file : FileId)
-    → place_at (midst (first_effect (w.stores s) asked) returns breaks).names file
-    ≡ own_place file (took_behind (w.stores s) (w.took s) asked k))
+    → (dir : FileId) → is_dir dir ≡ true
+    → (own_place dir (took_behind (w.stores s) (w.took s) asked k)).live ≡ false
+    → place_at (first_effect (w.stores s) asked).store.names dir
+    ≡ own_place dir (took_behind (w.stores s) (w.took s) asked k)

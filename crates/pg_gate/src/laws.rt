@@ -3,7 +3,7 @@
 
 ghost use Rattle.std.specs.Prelude.{ℕ};
 ghost use Rattle.pg_gate.specs.Gate.{EdgesAreKept, GateStands, MessagesAreMindful, RemovedAreEmpty, ReturnsFindNewPlaces};
-ghost use Rattle.pg_gate.specs.Returns.{OwnPlacesAreTaken, TakesHaveOwnStamps};
+ghost use Rattle.pg_gate.specs.Returns.{DeadPlacesStay, TakesHaveOwnStamps};
 ghost use Rattle.pg_run.specs.Laws.{NamesMerge, ReturnsAreJustified};
 
 /// Where the edges of a run keep what they promise: no message grants a directory with a dead place, but the blank one, or
@@ -17,5 +17,5 @@ pub fn returns_are_justified()
     ensures gate { (servers : ℕ) → EdgesAreKept servers → GateStands servers }
     ensures places { (servers : ℕ) → EdgesAreKept servers → ReturnsFindNewPlaces servers }
     ensures takes { (servers : ℕ) → EdgesAreKept servers → NamesMerge servers
-        → TakesHaveOwnStamps servers → OwnPlacesAreTaken servers → ReturnsAreJustified servers }
+        → TakesHaveOwnStamps servers → DeadPlacesStay servers → ReturnsAreJustified servers }
 {}

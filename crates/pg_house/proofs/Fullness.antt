@@ -16,10 +16,10 @@ use Rattle.pg_house.proofs.Truths.{chosen}
 use Rattle.pg_house.proofs.Repeating.{repeated_keeps}
 
 module _ (q : FileId) where
-  abbrev full : State → Bool
+  abbrev pub full : State → Bool
   full st = is_full st.names q
 
-  spread_full : (st : State) (f : FileId) (own top : Own) (back : Bool) (ds : List FileId) → full (spread st f own top back ds) ≡ full st
+  pub spread_full : (st : State) (f : FileId) (own top : Own) (back : Bool) (ds : List FileId) → full (spread st f own top back ds) ≡ full st
   spread_full st f own top back [] = refl
   spread_full st f own top back (d ∷ ds) =
       spread_full (offered st f own top back d) f own top back ds

@@ -30,7 +30,7 @@ spread_same st f own top back (d ∷ ds) all =
     ap (λ (s : State). spread s f own top back ds) (offered_same st f own top back d (all d (or_left (is_same_file d d) _ (is_same_file-refl d))) (wants st.names f own top back d) refl)
     ∙ spread_same st f own top back ds (λ q among. all q (or_right (is_same_file d q) _ among))
 
-taking_same : (st : State) (f : FileId) (own taken : Own) → taken ≡ own → taking st f own taken ≡ st
+pub taking_same : (st : State) (f : FileId) (own taken : Own) → taken ≡ own → taking st f own taken ≡ st
 taking_same st f own taken h = chosen_true (is_same_own own taken) st (took st f own taken) (ap (is_same_own own) h ∙ own-refl own)
 
 -- these are held directories
@@ -44,7 +44,7 @@ module _ (st : State) (ds : List FileId) (f : FileId) (own : Own) (dirs : AreHel
   has_top : (q : FileId) → is_cell (cell_at st.names q f) ≡ true → cell_at st.names q f ≡ Some (cell_for f Top)
   has_top q is = let c = cell_is (cell_at st.names q f) is in c.1 ∙ ap Some (k.cells q c.0 c.1)
 
-  wanting : (t : Bool) (q : FileId) → is_among q ds ≡ true → wants st.names f own Top t q ≡ true → is_cell (cell_at st.names q f) ≡ true
+  pub wanting : (t : Bool) (q : FileId) → is_among q ds ≡ true → wants st.names f own Top t q ≡ true → is_cell (cell_at st.names q f) ≡ true
   wanting t q among w =
       let d = dirs q among in
       let P : FileId → Type 0 = λ r. is_cell (cell_at st.names r f) ≡ true in

@@ -3,7 +3,7 @@ use Rattle.std.proofs.Common.{◌≡◌, ℕ, List, [], ◌∷◌, length, Optio
 use Rattle.std.specs.Map.{keys_of}
 use Rattle.pg_base.specs.declared.id.FileId.{FileId}
 use Rattle.pg_names.specs.declared.own.Own.{Own}
-use Rattle.pg_names.specs.Names.{own_at, directories, with_last, with_own}
+use Rattle.pg_names.specs.Names.{NamesValue, own_at, directories, with_last, with_own}
 use Rattle.pg_names.proofs.Lookups.{update_frame}
 use Rattle.pg_house.specs.Work.{State}
 use Rattle.pg_house.specs.Passing.{greatest, is_held_back, pass, pass_own, pass_all}
@@ -44,3 +44,41 @@ rules_keys moment st =
     let ds = directories st.names in
     repeated_keeps (λ (t : State). keys t ≡ keys st) (break_first moment ds) (λ t h. moved_keys moment ds t (first_moving t.names (length ds) None ds) ∙ h) (length ds) _
     (repeated_keeps (λ (t : State). keys t ≡ keys st) (return_first moment ds) (λ t h. returned_keys moment ds t (first_returning t.names ds) ∙ h) (length ds) _ (pass_all_keys st ds (movable st.names)))
+
+-- ---- and whose names they are, and who is removed
+
+module _ (s : NamesValue) where
+  abbrev pub IsBy : State → Type 0
+  IsBy st = (st.names.server ≡ s.server) × (st.names.removed ≡ s.removed)
+
+  pass_own_by : (st : State) (ds : List FileId) (f : FileId) (o : Option Own) → IsBy st → IsBy (pass_own st ds f o)
+  pass_own_by st ds f None k = k
+  pass_own_by st ds f (Some own) k =
+      let frame = after_frame st ds f own (greatest st.names f own ds) (is_held_back st.names.removed f own (greatest st.names f own ds)) in
+      (frame.server ∙ k.0, frame.removed ∙ k.1)
+
+  pass_all_by : (st : State) (ds fs : List FileId) → IsBy st → IsBy (pass_all st ds fs)
+  pass_all_by st ds [] k = k
+  pass_all_by st ds (f ∷ fs) k = pass_all_by (pass st ds f) ds fs (pass_own_by st ds f (own_at st.names f) k)
+
+  placed_by : (moment : ℕ) (ds : List FileId) (st : State) (f p : FileId) (name : List ℕ) → IsBy st → IsBy (placed moment ds st f p name)
+  placed_by moment ds st f p name k =
+      let place = live_place (drawn moment st.names) p name in
+      let made = made_at st f place in
+      let frame = update_frame (with_last st.names place.stamp.time) f (with_own (own_with st.names f place)) in
+      pass_own_by made ds f (own_at made.names f) (frame.server ∙ k.0, frame.removed ∙ k.1)
+
+  returned_by : (moment : ℕ) (ds : List FileId) (st : State) (o : Option FileId) → IsBy st → IsBy (returned moment ds st o)
+  returned_by moment ds st None k = k
+  returned_by moment ds st (Some d) k = placed_by moment ds st d _ _ k
+
+  moved_by : (moment : ℕ) (ds : List FileId) (st : State) (o : Option FileId) → IsBy st → IsBy (moved moment ds st o)
+  moved_by moment ds st None k = k
+  moved_by moment ds st (Some d) k = placed_by moment ds st d _ _ k
+
+pub rules_by : (moment : ℕ) (st : State) → IsBy st.names (house moment st)
+rules_by moment st =
+    let ds = directories st.names in
+    repeated_keeps (IsBy st.names) (break_first moment ds) (λ t h. moved_by st.names moment ds t (first_moving t.names (length ds) None ds) h) (length ds) _
+    (repeated_keeps (IsBy st.names) (return_first moment ds) (λ t h. returned_by st.names moment ds t (first_returning t.names ds) h) (length ds) _
+    (pass_all_by st.names st ds (movable st.names) (refl, refl)))

@@ -23,6 +23,10 @@ pub mod Idle
 pub mod Ordered
 pub mod Skipping
 pub mod Settling
+pub mod Flagging
+pub mod Unmoved
+pub mod Alone
+pub mod Raised
 pub mod Telling
 pub mod Told
 pub mod Noting

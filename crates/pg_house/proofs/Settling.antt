@@ -22,6 +22,7 @@ use Rattle.pg_house.specs.Placing.{repeated}
 use Rattle.pg_house.specs.Returning.{first_returning, is_dead, is_returning, is_returning_held, is_root, return_first}
 use Rattle.pg_house.specs.Cycles.{break_first, first_moving}
 use Rattle.pg_house.specs.House.{house, house_with, movable}
+use Rattle.pg_house.specs.Calm.{IsCalm}
 use Rattle.pg_house.specs.Facts.{IsLast, IsOfDirs, AreByServer, NoDeadLists, AreOrdered, HasPassed, is_among}
 use Rattle.pg_house.proofs.Truths.{not_true, or_cases, or_left, or_right}
 use Rattle.pg_house.proofs.Counting.{kept_dir}
@@ -29,7 +30,7 @@ use Rattle.pg_house.proofs.Repeating.{none_moves, none_returns, repeated_still}
 use Rattle.pg_house.proofs.Idle.{AreHeld, pass_idle}
 use Rattle.pg_house.proofs.Ordered.{rules_ordered}
 use Rattle.pg_house.proofs.Skipping.{pass_some}
-use Rattle.pg_house.proofs.Ends.{no_dead_directory_lists, none_moves_at, own_parent, passing, same_dirs}
+use Rattle.pg_house.proofs.Ends.{by_server, is_last, is_of_dirs, no_dead_directory_lists, none_moves_at, own_parent, passing, same_dirs}
 
 -- ---- what is among the keys is held
 
@@ -99,32 +100,47 @@ all_idle st ds (f ∷ fs) dirs done =
 
 -- ---- so all is as it was
 
+-- the rules end where these things have passed, none comes back and no cycle breaks
+pub rules_end : (moment : ℕ) (ds fs : List FileId) (st t : State) → pass_all st ds fs ≡ t → first_returning t.names ds ≡ None → first_moving t.names (length ds) None ds ≡ None → house_with moment ds fs st ≡ t
+rules_end moment ds fs st t passed none_back still =
+    ap (λ (s : State). repeated (length ds) (break_first moment ds) (repeated (length ds) (return_first moment ds) s)) passed
+    ∙ ap (repeated (length ds) (break_first moment ds)) (repeated_still (return_first moment ds) (length ds) t (none_returns moment ds t none_back))
+    ∙ repeated_still (break_first moment ds) (length ds) t (none_moves moment ds t still)
+
+pub has_passed : (s : NamesValue) → IsCalm s → (g : FileId) → is_root g ≡ false → HasPassed s (directories s) g
+has_passed s calm g apart own h = (calm.passing g own h apart, calm.own_parent g own h apart)
+
+-- what may pass is not the root
+pub movable_apart : (s : NamesValue) (g : FileId) → is_among g (movable s) ≡ true → is_root g ≡ false
+movable_apart s g among = not_true (is_root g) (kept_dir (λ f. not (is_root f)) (keys_of s.held) g among)
+
+calm_passed : (s : NamesValue) → IsCalm s → (g : FileId) → is_among g (movable s) ≡ true → HasPassed s (directories s) g
+calm_passed s calm g among = has_passed s calm g (movable_apart s g among)
+
+-- no rule applies to calm names
+pub calm_stays : (moment : ℕ) (st : State) → IsCalm st.names → house moment st ≡ st
+calm_stays moment st calm =
+    let ds = directories st.names in
+    rules_end moment ds (movable st.names) st st
+    (all_idle st ds (movable st.names) (dirs_held st.names) (calm_passed st.names calm))
+    (none_returns_at st.names calm.ordered calm.no_dead_lists) calm.none_moves
+
+-- and behind the rules names are calm
 module _ (moment : ℕ) (st : State) (of_dirs : IsOfDirs st.names) (sorted : AreByServer st.names) (last : IsLast st.names) (ordered : AreOrdered st.names) where
-  abbrev End : State
-  End = house moment st
+  pub calm_behind : IsCalm (house moment st).names
+  calm_behind = record {
+    of_dirs = is_of_dirs moment st of_dirs sorted;
+    by_server = by_server moment st of_dirs sorted;
+    last = is_last moment st of_dirs sorted last;
+    ordered = rules_ordered moment st ordered;
+    passing = passing moment st of_dirs sorted;
+    own_parent = own_parent moment st of_dirs sorted;
+    no_dead_lists = no_dead_directory_lists moment st of_dirs sorted last;
+    none_moves = subst (λ ds. first_moving (house moment st).names (length ds) None ds ≡ None) (sym (same_dirs moment st of_dirs sorted)) (none_moves_at moment st of_dirs sorted last);
+  }
 
-  abbrev Ds : List FileId
-  Ds = directories End.names
-
-  in_order : AreOrdered End.names
-  in_order = rules_ordered moment st ordered
-
-  no_pass : pass_all End Ds (movable End.names) ≡ End
-  no_pass =
-      all_idle End Ds (movable End.names) (dirs_held End.names)
-      (λ g among own h. let apart = not_true (is_root g) (kept_dir (λ f. not (is_root f)) (keys_of End.names.held) g among) in (passing moment st of_dirs sorted g own h apart, own_parent moment st of_dirs sorted g own h apart))
-
-  no_return : return_first moment Ds End ≡ End
-  no_return = none_returns moment Ds End (none_returns_at End.names in_order (no_dead_directory_lists moment st of_dirs sorted last))
-
-  no_break : break_first moment Ds End ≡ End
-  no_break = none_moves moment Ds End (subst (λ ds. first_moving End.names (length ds) None ds ≡ None) (sym (same_dirs moment st of_dirs sorted)) (none_moves_at moment st of_dirs sorted last))
-
-  pub none_applies : house moment End ≡ End
-  none_applies =
-      ap (λ (s : State). repeated (length Ds) (break_first moment Ds) (repeated (length Ds) (return_first moment Ds) s)) no_pass
-      ∙ ap (repeated (length Ds) (break_first moment Ds)) (repeated_still (return_first moment Ds) (length Ds) End no_return)
-      ∙ repeated_still (break_first moment Ds) (length Ds) End no_break
+  pub none_applies : house moment (house moment st) ≡ house moment st
+  none_applies = calm_stays moment (house moment st) calm_behind
 
 -- ---- and only the files that have not passed need to
 

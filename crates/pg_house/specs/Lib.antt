@@ -6,4 +6,5 @@ pub mod Cycles
 pub mod House
 pub mod Busy
 pub mod Facts
+pub mod Calm
 pub mod Holding

@@ -8,6 +8,8 @@ ghost use Rattle.std.specs.Map.{keys_of};
 ghost use Rattle.pg_names.specs.Names.{directories, is_full};
 ghost use Rattle.pg_house.specs.Work.{State};
 ghost use Rattle.pg_house.specs.House.{house, house_with, movable};
+ghost use Rattle.pg_register.specs.declared.flag.Flag.{Flag};
+ghost use Rattle.pg_house.specs.Calm.{DiffersByFlags, IsCalm, flagged};
 ghost use Rattle.pg_house.specs.Facts.{AreByServer, AreOrdered, HasPassed, IsLast, IsNoted, IsOfDirs, IsTold, NoCycle, NoDeadLists, OwnParent, Passing, is_among};
 
 /// Every cell for a thing is the greatest of what is known of it, the held parent in the greatest
@@ -59,6 +61,22 @@ pub fn the_same_is_held()
 pub fn none_applies()
     ensures { (moment : ℕ) (st : State) → IsOfDirs st.names → AreByServer st.names → IsLast st.names
         → AreOrdered st.names → house moment (house moment st) ≡ house moment st }
+{}
+
+/// Behind the rules names are calm, and no rule applies to calm names, whatever else comes of the event.
+pub fn calm_names_stay()
+    ensures behind { (moment : ℕ) (st : State) → IsOfDirs st.names → AreByServer st.names
+        → IsLast st.names → AreOrdered st.names → IsCalm (house moment st).names }
+    ensures stay { (moment : ℕ) (st : State) → IsCalm st.names → house moment st ≡ st }
+{}
+
+/// A flag that comes to a thing of calm names passes to the cells for the thing that are there. Nothing
+/// else changes: no place, no other cell and no own flag. Nothing is made, and no place is replaced.
+pub fn a_flag_passes()
+    ensures differs { (moment : ℕ) (st : State) (file : FileId) (flag : Flag) → IsCalm st.names
+        → DiffersByFlags file (flagged st file flag) (house moment (flagged st file flag)) }
+    ensures calm { (moment : ℕ) (st : State) (file : FileId) (flag : Flag) → IsCalm st.names
+        → IsCalm (house moment (flagged st file flag)).names }
 {}
 
 /// Where all things but these have passed, only these need to pass.

@@ -13,9 +13,9 @@ mod touching;
 
 pub use holding::{count_held_back, first_held_back};
 pub use laws::{
-    all_have_passed, all_is_told, few_places_are_made, no_cycle, no_dead_directory_lists,
-    none_applies, own_parent, passed_things_stay, replaced_places_are_noted, stays_sound,
-    the_same_is_held,
+    a_flag_passes, all_have_passed, all_is_told, calm_names_stay, few_places_are_made, no_cycle,
+    no_dead_directory_lists, none_applies, own_parent, passed_things_stay,
+    replaced_places_are_noted, stays_sound, the_same_is_held,
 };
 pub use rules::house;
 pub use touching::note_left;

@@ -2,18 +2,21 @@
 use Rattle.std.proofs.Common.{ℕ, ◌≡◌, ◌==◌, Bool, true, false, cond, not, find, is_some, List, [], ◌∷◌, Option, None, Some, All, refl, sym, ap, subst, ◌∙◌}
 use Rattle.std.specs.Option.{option_map, unwrap_or}
 use Rattle.std.proofs.lemmas.Bool.{and_parts}
-use Rattle.std.proofs.lemmas.List.Elements.{All-filter, All-head, All-tail}
+use Rattle.std.proofs.lemmas.List.Elements.{All-filter, All-head, All-nil, All-tail}
 use Rattle.std.proofs.lemmas.Option.{none-some, same_Some}
 use Rattle.pg_base.specs.declared.id.FileId.{FileId}
+use Rattle.pg_edges.specs.declared.edge.Edge.{Edge}
 use Rattle.pg_entries.specs.declared.entry.Entry.{Entry}
 use Rattle.pg_intent.specs.declared.intent.Intent.{Intent}
 use Rattle.pg_intent.specs.declared.intent.Intent.TheVariants as intent
-use Rattle.pg_intent.specs.Intent.{key_of, rejoined, target_of}
+use Rattle.pg_intent.specs.declared.key.IntentKey.TheVariants as intent_key
+use Rattle.pg_intent.specs.Intent.{aimed_at, key_of, rejoined, target_of}
 use Rattle.pg_intent.specs.Intents.{stands}
 use Rattle.pg_msg.specs.declared.work.Slot.{Slot}
 use Rattle.pg_msg.specs.declared.work.Work.{Work}
 use Rattle.pg_msg.specs.Work.{with_begun}
-use Rattle.pg_names.specs.Names.{NamesValue, cell_at}
+use Rattle.pg_names.specs.declared.own.Own.{Own}
+use Rattle.pg_names.specs.Names.{NamesValue, cell_at, or_blank, own_at}
 use Rattle.pg_register.specs.declared.flag.Flag.{Flag}
 use Rattle.pg_register.specs.Flag.{first_other_gold, is_live}
 use Rattle.pg_register.specs.Flag.{is_live_other as is_live_other_flag}
@@ -23,17 +26,19 @@ use Rattle.pg_store.specs.Births.{fill_at, wish_at}
 use Rattle.pg_store.specs.Servers.{next_target}
 use Rattle.pg_store.specs.Store.{is_held}
 use Rattle.pg_cells.specs.Done.{Done, idle}
+use Rattle.pg_cells.specs.Golds.{flags_of}
 use Rattle.pg_repair.specs.Beginning.{begin_end, end_others, still_stands}
 use Rattle.pg_repair.specs.Confirms.{begin_confirm, confirm_of, holder_by, is_doubtful}
 use Rattle.pg_repair.specs.Fills.{begin_fill, begin_fills, fill_of, files_to_fill, to_fill, with_fill_birth, without_wished}
 use Rattle.pg_repair.specs.Intending.{begin_intent, each, in_order, with_begun_if}
 use Rattle.pg_repair.specs.Patches.{begin_patch, begin_patches, patch_of}
+use Rattle.pg_graph.specs.Seeks.{aim_seek, begin_seek, begin_seeks, edges_of, has_seek, is_apart, seek_again, seek_target, target_or_next, to_seek, was_linked}
 use Rattle.pg_promises.specs.Whole.{IsOther}
 use Rattle.pg_promises.proofs.Choices.{chosen}
 use Rattle.pg_order.specs.Named.{IsOfServer}
-use Rattle.pg_order.proofs.Intended.{all_begun}
+use Rattle.pg_order.proofs.Intended.{all_begun, all_changed}
 use Rattle.pg_intends.proofs.Aimed.{first_aims, next_aims, not_equal}
-use Rattle.pg_intends.proofs.Far.{Aims, AreAimed}
+use Rattle.pg_intends.proofs.Far.{Aims, AreAimed, aimed_target}
 
 -- ---- who is asked by what begins
 
@@ -46,9 +51,10 @@ rejoined_target (intent.Fill file birth target) i = refl
 rejoined_target (intent.Confirm dir child target) i = refl
 rejoined_target (intent.Leave file peer peer_birth) i = refl
 
--- cells tell of flags of the run's servers
-abbrev pub FlagsAreOfServers : ℕ → NamesValue → Type 0
-FlagsAreOfServers n m = (dir child : FileId) (e : Entry) → cell_at m dir child ≡ Some e → All (IsOfServer n) e.flags
+-- all known flags are of the run's servers: of things, and in cells
+pub record FlagsAreOfServers (n : ℕ) (m : NamesValue) : Type 0 where
+  pub own : (file : FileId) (own : Own) → own_at m file ≡ Some own → All (IsOfServer n) own.flags
+  pub cells : (dir child : FileId) (e : Entry) → cell_at m dir child ≡ Some e → All (IsOfServer n) e.flags
 
 pub record IsAiming (n s : ℕ) (b : Store) (w : Work) : Type 0 where
   pub servers : b.servers ≡ n
@@ -119,7 +125,7 @@ module _ (n s : ℕ) where
       → Aims n s (holder_by b next o)
   holder_by_aims b dir child next None at server all here = here
   holder_by_aims b dir child next (Some e) at server all here =
-      holder_of b next e.flags (first_other_gold b.names.server b.names.removed e.flags) refl server (all dir child e at) here
+      holder_of b next e.flags (first_other_gold b.names.server b.names.removed e.flags) refl server (all.cells dir child e at) here
 
   confirm_aiming : (b : Store) (x : Slot) (w : Work) → IsAiming n s b w → IsAiming n s (begin_confirm b x w).store (begin_confirm b x w).work
   confirm_aiming b x w k =
@@ -127,6 +133,53 @@ module _ (n s : ℕ) where
       (aiming_begun b (confirm_of b x) w k
       (holder_by_aims b x.dir x.child (next_target b b.names.server) (cell_at b.names x.dir x.child) refl k.server k.flags
       (next_aims n s b k.servers k.server b.names.server))) k
+
+  -- a gold replica to which there is no edge
+  found_apart : (removed : List ℕ) (edges : List Edge) (flags : List Flag) (flag : Flag) → All (IsOfServer n) flags
+      → find (is_apart s removed edges) flags ≡ Some flag → IsOther n s flag.server
+  found_apart removed edges [] flag all h = absurd (none-some flag h)
+  found_apart removed edges (g ∷ gs) flag all h =
+      by (is_apart s removed edges g) refl (found_apart removed edges gs flag (All-tail (IsOfServer n) g gs all)) h
+    where
+      by : (t : Bool) → is_apart s removed edges g ≡ t → (find (is_apart s removed edges) gs ≡ Some flag → IsOther n s flag.server)
+          → cond t (Some g) (find (is_apart s removed edges) gs) ≡ Some flag → IsOther n s flag.server
+      by true is more e =
+          let here = All-head (IsOfServer n) g gs all in
+          let other = (and_parts (is_live_other_flag s removed g) _ is).0 in
+          let apart = (and_parts (is_live removed g) (not (g.server == s)) other).1 in
+          subst (λ (x : Flag). IsOther n s x.server) (same_Some g flag e) (record { least = here.least; most = here.most; apart = not_equal g.server s apart })
+      by false is more e = more e
+
+  known_flags : (b : Store) (f : FileId) (o : Option Own) → own_at b.names f ≡ o → FlagsAreOfServers n b.names → All (IsOfServer n) (or_blank f o).flags
+  known_flags b f None at all = All-nil (IsOfServer n)
+  known_flags b f (Some own) at all = all.own f own at
+
+  seek_by : (b : Store) (f : FileId) (o : Option Flag) → find (is_apart b.names.server b.names.removed (edges_of b f)) (flags_of b f) ≡ o
+      → b.servers ≡ n → b.names.server ≡ s → FlagsAreOfServers n b.names → Aims n s (target_or_next b o)
+  seek_by b f None at servers server all = next_aims n s b servers server b.names.server
+  seek_by b f (Some flag) at servers server all = λ some.
+      found_apart b.names.removed (edges_of b f) (flags_of b f) flag (known_flags b f (own_at b.names f) refl all)
+      (sym (ap (λ (j : ℕ). find (is_apart j b.names.removed (edges_of b f)) (flags_of b f)) server) ∙ at)
+
+  seek_aims : (b : Store) (f : FileId) (w : Work) → IsAiming n s b w → Aims n s (seek_target b f)
+  seek_aims b f w k =
+      seek_by b f (find (is_apart b.names.server b.names.removed (edges_of b f)) (flags_of b f)) refl k.servers k.server k.flags
+
+  seek_aiming : (b : Store) (f : FileId) (w : Work) → IsAiming n s b w → IsAiming n s (begin_seek b f w).store (begin_seek b f w).work
+  seek_aiming b f w k =
+      let to = seek_target b f in
+      let here = seek_aims b f w k in
+      let aimed : IsAiming n s (aim_seek b f) w = record {
+        servers = k.servers;
+        server = k.server;
+        from = k.from;
+        flags = k.flags;
+        aims = all_changed (λ (i : Intent). Aims n s (target_of i)) (aimed_at to) (intent_key.Seek f)
+            (λ held same was. aimed_target n s to held here was) b.intents k.aims;
+      } in
+      aiming_either (has_seek b f) (idle (seek_again b f w) w) (begin_intent b (intent.Seek f to) w)
+      (chosen (λ (x : Store). IsAiming n s x w) (was_linked w.linked f) (aim_seek b f) b aimed k)
+      (aiming_begun b (intent.Seek f to) w k here)
 
   pub end_aiming : (a : Store) (w : Work) → IsAiming n s a w → IsAiming n s (begin_end a w).store (begin_end a w).work
   end_aiming a w k =
@@ -140,6 +193,8 @@ module _ (n s : ℕ) where
       } in
       let p = begin_patches e w in
       let f = begin_fills p.store (to_fill a.names) p.work in
-      each_aiming begin_confirm confirm_aiming (in_order f.work.unsure) f.store f.work
+      let q = begin_seeks f.store (to_seek a) f.work in
+      each_aiming begin_confirm confirm_aiming (in_order q.work.unsure) q.store q.work
+      (each_aiming begin_seek seek_aiming (to_seek a) f.store f.work
       (each_aiming begin_fill fill_aiming (to_fill a.names) p.store p.work
-      (each_aiming begin_patch patch_aiming (in_order w.left) e w ended))
+      (each_aiming begin_patch patch_aiming (in_order w.left) e w ended)))

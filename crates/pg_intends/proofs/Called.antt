@@ -25,6 +25,8 @@ use Rattle.pg_store.specs.declared.wishes.Wish.{Wish}
 use Rattle.pg_store.specs.Births.{draw_birth, with_birth, with_wish}
 use Rattle.pg_store.specs.Store.{is_held}
 use Rattle.pg_cells.specs.Done.{Done, idle}
+use Rattle.pg_cells.specs.Golds.{is_gold}
+use Rattle.pg_cells.specs.Making.{lower_flag}
 use Rattle.pg_calls.specs.declared.checks.Move.{Move}
 use Rattle.pg_calls.specs.declared.checks.NewName.{NewName}
 use Rattle.pg_calls.specs.Answer.{Answer, answer, answered, replied, told}
@@ -32,12 +34,13 @@ use Rattle.pg_calls.specs.Asking.{ask_by, ask_first, fetch, fresh_wish, holder, 
 use Rattle.pg_calls.specs.Bodies.{change, change_file, when_fit}
 use Rattle.pg_calls.specs.Calls.{do_call}
 use Rattle.pg_calls.specs.Checks.{dir_at, empty_dir_at, file_at, in_time, move_of, new_name, target_at}
+use Rattle.pg_calls.specs.Demoting.{demoted_at}
 use Rattle.pg_calls.specs.Making.{drawn, first_ranges, make_place, make_version, version_of, with_version}
 use Rattle.pg_calls.specs.Naming.{begun, dead_place, next_id, place_in, taken_away, with_first_version, with_id, with_thing}
 use Rattle.pg_server.specs.Local.{done_of}
 use Rattle.pg_promises.proofs.Choices.{chosen}
 use Rattle.pg_intends.proofs.Begun.{far_begin}
-use Rattle.pg_intends.proofs.Far.{Far, beside_itself, far_on, far_place, far_raised, far_with, far_work}
+use Rattle.pg_intends.proofs.Far.{Far, beside_itself, far_flagged, far_on, far_place, far_raised, far_with, far_work}
 use Rattle.pg_intends.proofs.Goes.{goes_raised, goes_same}
 use Rattle.pg_intends.proofs.Heard.{far_sent}
 
@@ -146,7 +149,9 @@ module _ (n s : ℕ) where
     far_called (call.Unlink path) = far_unlink path
     far_called (call.Rmdir path) = far_rmdir path
     far_called (call.Forget id) = far_timed _
-    far_called (call.Demote target) = far_timed _
+    far_called (call.Demote target) =
+        far_answered (demoted_at a target) _
+        (λ f. chosen Fine (is_gold a f) (lower_flag a f work) (idle a work) (far_flagged n s (idle a work) f false first) first)
     far_called (call.Drop target) = far_timed _
     far_called (call.Giveup view server) = far_timed _
     far_called call.Status = far_timed _

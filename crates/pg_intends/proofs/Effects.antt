@@ -1,5 +1,5 @@
 -- An event at a server leaves its intentions in order.
-use Rattle.std.proofs.Common.{ℕ, ◌≡◌, ◌≢◌, ◌==◌, Bool, true, false, cond, refl, sym, ap, subst, ◌∙◌}
+use Rattle.std.proofs.Common.{ℕ, ◌≡◌, ◌==◌, Bool, true, false, cond, refl, sym, ap, subst, ◌∙◌}
 use Rattle.std.proofs.lemmas.Bool.{and_parts, false≢true}
 use Rattle.pg_base.specs.declared.id.Kind.{Kind}
 use Rattle.pg_msg.specs.declared.work.Work.{Work}
@@ -12,6 +12,8 @@ use Rattle.pg_store.specs.Store.{is_held, is_in_time}
 use Rattle.pg_store.specs.Together.{AreBirths}
 use Rattle.pg_cells.specs.Done.{Done, idle}
 use Rattle.pg_cells.specs.Settling.{settle}
+use Rattle.pg_cells.specs.Ticks.{tick}
+use Rattle.pg_repair.specs.Requests.{ask_all}
 use Rattle.pg_repair.proofs.Steady.{begin_end_stays}
 use Rattle.pg_calls.specs.Naming.{next_id}
 use Rattle.pg_calls.proofs.Late.{late_does_nothing}
@@ -25,7 +27,7 @@ use Rattle.pg_intends.proofs.Called.{far_called}
 use Rattle.pg_intends.proofs.Asked.{FlagsAreOfServers}
 use Rattle.pg_intends.proofs.Ends.{IsResting, resting_end}
 use Rattle.pg_intends.proofs.Far.{Aims, Far}
-use Rattle.pg_intends.proofs.Heard.{far_received}
+use Rattle.pg_intends.proofs.Heard.{far_received, far_tick}
 use Rattle.pg_intends.proofs.Settled.{far_settle}
 
 -- what is known of the server, and of what the input makes of it
@@ -58,8 +60,8 @@ module _ (n s : ℕ) (a : Store) (k : IsResting n s a) where
   first_far : (asked : Input) → AreBirths a → ((kind : Kind) → is_held a (next_id a kind) ≡ false) → takes_effect a asked ≡ true → Fine (first_effect a asked)
   first_far (input.Call moment x) births fresh going = far_called n s a fresh (new_work moment 0) (begins moment 0 nobody) x
   first_far (input.Tick moment word) births fresh going =
-      chosen (λ (w : Work). Fine (idle a w)) (is_in_time a) (sent_again a (new_work moment 0)) (new_work moment 0)
-      (record {
+      chosen (λ (w : Work). Fine (idle a w)) (is_in_time a) (sent_again a word (new_work moment 0)) (new_work moment 0)
+      (far_tick n s (idle a (ask_all a (tick a (new_work moment 0)))) word (record {
         servers = k.servers;
         server = k.server;
         removed = k.removed;
@@ -67,7 +69,7 @@ module _ (n s : ℕ) (a : Store) (k : IsResting n s a) where
         aims = k.aims;
         slots = λ x h. absurd h;
         patches = k.patches;
-      })
+      }))
       (begins moment 0 nobody)
   first_far (input.Arrival packet) births fresh going =
       decided Fine (is_heard a packet) (receive a packet.message (new_work 0 packet.from)) (idle a (new_work 0 packet.from))
@@ -116,6 +118,7 @@ module _ (n s : ℕ) (a : Store) (k : IsResting n s a) where
     removed = k.removed;
     aims = k.aims;
     confirms = k.confirms;
+    seeks = k.seeks;
     patches = k.patches;
   }
 

@@ -1,5 +1,5 @@
 -- Behind an event: intentions have begun and ended.
-use Rattle.std.proofs.Common.{ℕ, ◌≡◌, ◌&&◌, ◌||◌, Bool, true, false, cond, not, List, [], ◌∷◌, Option, None, Some, inl, inr, refl, sym, ap, subst, ◌∙◌}
+use Rattle.std.proofs.Common.{ℕ, ◌≡◌, ◌≤◌, ◌&&◌, ◌||◌, Bool, true, false, cond, not, List, [], ◌∷◌, Option, None, Some, inl, inr, refl, sym, ap, subst, ◌∙◌}
 use Rattle.std.specs.List.{list_any}
 use Rattle.std.proofs.lemmas.Bool.{and_parts, false≢true}
 use Rattle.std.proofs.lemmas.Option.{none-some, same_Some}
@@ -23,7 +23,7 @@ use Rattle.pg_cells.specs.Done.{idle}
 use Rattle.pg_repair.specs.Beginning.{begin_end}
 use Rattle.pg_repair.specs.Confirming.{own_entry}
 use Rattle.pg_repair.specs.Patches.{is_slot, patch_again, patch_of, was_left}
-use Rattle.pg_repair.proofs.Idle.{ConfirmsFit, confirms_fit}
+use Rattle.pg_repair.proofs.Idle.{ConfirmsFit, SeeksFit, confirms_fit, seeks_fit}
 use Rattle.pg_repair.proofs.Patched.{is_patched}
 use Rattle.pg_repair.proofs.Steady.{begin_end_stays}
 use Rattle.pg_promises.proofs.Choices.{chosen}
@@ -38,6 +38,7 @@ pub record IsResting (n s : ℕ) (a : Store) : Type 0 where
   pub removed : a.names.removed ≡ []
   pub aims : AreAimed n s a.intents
   pub confirms : ConfirmsFit a
+  pub seeks : 1 ≤ s → s ≤ n → SeeksFit a
   pub patches : ArePatchesSoFar a.names [] a.intents
 
 -- ---- Patches behind the end
@@ -149,5 +150,6 @@ resting_end n s a w k flags =
       removed = ap (λ (m : NamesValue). m.removed) stays.names ∙ k.removed;
       aims = (end_aiming n s a w (record { servers = k.servers; server = k.server; from = k.from; flags = flags; aims = k.aims })).aims;
       confirms = confirms_fit a w;
+      seeks = λ least most. seeks_fit a w;
       patches = λ dir child e h. patch_end n s a w k dir child e h;
     }

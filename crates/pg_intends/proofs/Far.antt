@@ -36,7 +36,7 @@ use Rattle.pg_store.specs.Store.{entry_news, is_new_version, is_newer_entry, is_
 use Rattle.pg_cells.specs.Accepting.{link_peer, with_link}
 use Rattle.pg_cells.specs.Cells.{taken}
 use Rattle.pg_cells.specs.Done.{Done, idle}
-use Rattle.pg_cells.specs.Making.{own_next, raise_flag}
+use Rattle.pg_cells.specs.Making.{make_flag, own_next, raise_flag}
 use Rattle.pg_cells.specs.Taking.{is_any_news, is_place_news, take_entry_cell, take_entry_noted, take_flag_noted, take_flags_noted, take_place_noted, take_version_noted, with_doubt, with_left_if, with_news}
 use Rattle.pg_promises.specs.Whole.{IsOther}
 use Rattle.pg_promises.proofs.Choices.{chosen}
@@ -126,7 +126,7 @@ told_ended is q dir child e h =
     let k = intent_key.Patch dir child in
     ended_by (is_same_key k q) (intent_at is k) e (sym (ap told_of (ended_found is q k)) ∙ h)
 
-aimed_target : (n s to : ℕ) (i : Intent) → Aims n s to → Aims n s (target_of i) → Aims n s (target_of (aimed_at to i))
+pub aimed_target : (n s to : ℕ) (i : Intent) → Aims n s to → Aims n s (target_of i) → Aims n s (target_of (aimed_at to i))
 aimed_target n s to (intent.Bye file birth peer peer_birth) here was = was
 aimed_target n s to (intent.Seek file target) here was = here
 aimed_target n s to (intent.Fill file birth target) here was = here
@@ -241,11 +241,15 @@ module _ (n s : ℕ) where
   far_flags d f [] k = far_work d d.work k (beside_itself d.work)
   far_flags d f (flag ∷ flags) k = far_flags (take_flag_noted d.store f flag d.work) f flags (far_flag d f flag k)
 
-  pub far_raised : (d : Done) (f : FileId) → Far d → Far (raise_flag d.store f d.work)
-  far_raised d f k =
-      let flag = own_next d.store f true in
+  -- the server makes its flag
+  pub far_flagged : (d : Done) (f : FileId) (raised : Bool) → Far d → Far (make_flag d.store f (own_next d.store f raised) d.work)
+  far_flagged d f raised k =
+      let flag = own_next d.store f raised in
       let made = with_made d.work (update.Flag f flag) in
       far_flag (idle d.store made) f flag (far_work d made k (record { left = refl; from = refl }))
+
+  pub far_raised : (d : Done) (f : FileId) → Far d → Far (raise_flag d.store f d.work)
+  far_raised d f k = far_flagged d f true k
 
   -- ---- an entry, a version
 

@@ -1,7 +1,9 @@
 -- A message, and what holds in the midst of an event.
-use Rattle.std.proofs.Common.{ℕ, ◌≡◌, ◌&&◌, ◌||◌, true, false, not, cond, nat_lt, Option, None, Some, refl}
+use Rattle.std.proofs.Common.{ℕ, ◌≡◌, ◌==◌, ◌-◌, ◌/◌, ◌%◌, ◌&&◌, ◌||◌, true, false, not, cond, nat_lt, List, length, Option, None, Some, refl}
+use Rattle.std.specs.List.{slice_get}
 use Rattle.pg_base.specs.declared.id.FileId.{FileId}
 use Rattle.pg_base.specs.declared.stamp.Stamp.{Stamp}
+use Rattle.pg_edges.specs.declared.edge.Edge.{Edge}
 use Rattle.pg_edges.specs.declared.key.Key.{Key}
 use Rattle.pg_entries.specs.declared.cell.Cell.{Cell}
 use Rattle.pg_entries.specs.declared.entry.Entry.{Entry}
@@ -21,7 +23,7 @@ use Rattle.pg_replica.specs.declared.replica.Replica.{Replica}
 use Rattle.pg_house.specs.Work.{is_root}
 use Rattle.pg_store.specs.declared.store.Store.{Store}
 use Rattle.pg_store.specs.Beginning.{with_intents}
-use Rattle.pg_store.specs.Births.{fill_at, has_birth, is_pending, wish_at, with_wishes}
+use Rattle.pg_store.specs.Births.{birth_of, fill_at, has_birth, is_pending, wish_at, with_wishes}
 use Rattle.pg_store.specs.Links.{is_clean, is_linked, knows_later, unlink}
 use Rattle.pg_store.specs.Servers.{next_target}
 use Rattle.pg_store.specs.Store.{acknowledge, is_full, is_held, replica_at, with_names}
@@ -42,12 +44,15 @@ use Rattle.pg_repair.specs.Fetching.{answered_fetch, ends_to, fetch, give, given
 use Rattle.pg_repair.specs.Filling.{few_golds, fill, full, live_golds}
 use Rattle.pg_repair.specs.Granting.{aim_fill, begin_granted, begun_by, fill_asks, gone, grant, granted_own, no_grant, turn_wish, wish_asks}
 use Rattle.pg_repair.specs.NoneHere.{asking_key, does_ask, none_here}
+use Rattle.pg_graph.specs.Seeking.{answered_seek, seek}
+use Rattle.pg_graph.specs.Seeks.{edges_of}
 use Rattle.pg_repair.specs.Telling.{is_told, tell, tell_ok, told}
+use Rattle.pg_graph.specs.Walks.{goes_on, meet_origin, most_hops, onward, walk, walk_along, walk_from, walk_of, walk_of_tick, walk_on, walked, with_few_edges}
 use Rattle.pg_server.specs.Local.{receive}
 use Rattle.pg_promises.proofs.Choices.{chosen, decided}
 use Rattle.pg_intends.proofs.Aimed.{next_aims}
 use Rattle.pg_intends.proofs.Begun.{far_begin}
-use Rattle.pg_intends.proofs.Far.{Aims, Far, beside_itself, far_aimed, far_ended, far_entry, far_flags, far_link, far_on, far_place, far_raised, far_taken, far_with, far_work, same_either, same_itself}
+use Rattle.pg_intends.proofs.Far.{Aims, Far, IsBeside, beside_either, beside_itself, far_aimed, far_ended, far_entry, far_flags, far_link, far_on, far_place, far_raised, far_taken, far_with, far_work, same_either, same_itself}
 use Rattle.pg_intends.proofs.Goes.{goes_update}
 
 module _ (n s : ℕ) where
@@ -117,6 +122,56 @@ module _ (n s : ℕ) where
       (chosen Fine (knows_later a f w.from birth) (idle a w) (answered_fetch f birth linked) (far_work n s d w k (beside_itself w))
       (far_answer linked f birth (far_link n s d f w.from birth k)))
       (far_reply d (message.NoGrant f birth) k)
+
+  -- ---- who seeks
+
+  far_seek : (d : Done) (f : FileId) (birth : ℕ) → Fine d → Fine (seek d.store f birth d.work)
+  far_seek d f birth k =
+      let a = d.store in
+      let w = d.work in
+      let linked = link_peer a f w.from birth w in
+      chosen Fine (is_held a f) (cond (knows_later a f w.from birth) (idle a w) (answered_seek f birth linked)) (idle a (reply a (message.NoneHere ask.Seek f f) w))
+      (chosen Fine (knows_later a f w.from birth) (idle a w) (answered_seek f birth linked) (far_work n s d w k (beside_itself w))
+      (far_reply linked (message.Here (ends_to linked.store f birth)) (far_link n s d f w.from birth k)))
+      (far_reply d (message.NoneHere ask.Seek f f) k)
+
+  -- ---- walks
+
+  along_beside : (a : Store) (f : FileId) (origin birth hops word : ℕ) (w : Work) (o : Option Edge) → IsBeside w (walk_along a f origin birth hops word w o)
+  along_beside a f origin birth hops word w None = beside_itself w
+  along_beside a f origin birth hops word w (Some e) = record { left = refl; from = refl }
+
+  from_beside : (a : Store) (word : ℕ) (w : Work) (o : Option FileId) → IsBeside w (walk_from a word w o)
+  from_beside a word w None = beside_itself w
+  from_beside a word w (Some f) =
+      let edges = edges_of a f in
+      along_beside a f a.names.server (birth_of a f) most_hops (word / length edges) w (slice_get edges (word % length edges))
+
+  pub far_tick : (d : Done) (word : ℕ) → Fine d → Fine (idle d.store (walk_of_tick d.store word d.work))
+  far_tick d word k =
+      let files = with_few_edges d.store in
+      let w = d.work in
+      far_work n s d (walk_of_tick d.store word w) k
+      (beside_either w (word == 0) w (walk_of d.store word files w) (beside_itself w) (from_beside d.store (word / length files) w (slice_get files (word % length files))))
+
+  far_walked : (d : Done) (ends : Ends) (origin birth hops word : ℕ) (edges : List Edge) → Fine d → Fine (walked d.store ends origin birth hops word edges d.work)
+  far_walked d ends origin birth hops word edges k =
+      let linked = link_peer d.store ends.file origin birth d.work in
+      let on = walk_on d.store ends.file origin birth hops word edges d.work in
+      chosen Fine (goes_on hops edges) (idle d.store on) (meet_origin d.store ends.file origin birth d.work)
+      (far_work n s d on k (along_beside d.store ends.file origin birth (hops - 1) (word / length edges) d.work (slice_get edges (word % length edges))))
+      (far_sent linked origin (message.Meet (ends_to linked.store ends.file birth)) (far_link n s d ends.file origin birth k))
+
+  far_walk : (d : Done) (ends : Ends) (origin birth hops word : ℕ) → Fine d → Fine (walk d.store ends origin birth hops word d.work)
+  far_walk d ends origin birth hops word k =
+      let a = d.store in
+      let w = d.work in
+      let edges = onward a ends.file w.from origin in
+      chosen Fine (is_accepted a w.from manner.Ask ends)
+      (cond (origin == a.names.server) (idle a w) (walked a ends origin birth hops word edges w)) (accept a ends manner.Ask w)
+      (chosen Fine (origin == a.names.server) (idle a w) (walked a ends origin birth hops word edges w) (far_work n s d w k (beside_itself w))
+      (far_walked d ends origin birth hops word edges k))
+      (far_accept d ends manner.Ask k)
 
   -- ---- a replica is granted, or not
 
@@ -219,10 +274,14 @@ module _ (n s : ℕ) where
   far_received d (message.Grant ends granted) births k = far_grant d ends granted births k
   far_received d (message.NoGrant file birth) births k = far_no_grant d file birth k
   far_received d (message.Full ends) births k = far_full d ends k
+  far_received d (message.Seek file birth) births k = far_seek d file birth k
+  far_received d (message.Here ends) births k = far_accept d ends manner.Link k
   far_received d (message.NoneHere what file child) births k = far_none_here d what file child k
   far_received d (message.Gone file birth) births k = far_gone d file birth k
   far_received d (message.Confirm dir entry) births k = far_confirm d dir entry k
   far_received d (message.PlaceIs dir entry) births k = far_place_is d dir entry k
   far_received d (message.Tell dir entry) births k = far_tell d dir entry k
   far_received d (message.TellOk dir child stamp) births k = far_tell_ok d dir child stamp k
+  far_received d (message.Walk ends origin birth hops word) births k = far_walk d ends origin birth hops word k
+  far_received d (message.Meet ends) births k = far_accept d ends manner.Link k
   far_received d m births k = far_work n s d d.work k (beside_itself d.work)

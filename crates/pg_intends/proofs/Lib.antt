@@ -7,6 +7,7 @@ pub mod Called
 pub mod Settled
 pub mod Asked
 pub mod Ends
+pub mod Start
 pub mod Effects
 pub mod Runs
 pub mod Told

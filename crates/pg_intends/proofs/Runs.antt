@@ -1,5 +1,5 @@
 -- Along every run.
-use Rattle.std.proofs.Common.{ℕ, ◌≡◌, List, refl, subst}
+use Rattle.std.proofs.Common.{ℕ, ◌≡◌, List, refl, sym, subst}
 use Rattle.std.proofs.lemmas.Bool.{false≢true}
 use Rattle.std.proofs.lemmas.List.Elements.{All-nil}
 use Rattle.std.proofs.lemmas.Option.{none-some}
@@ -22,6 +22,7 @@ use Rattle.pg_intends.proofs.Effects.{IsGiven, effect_rests}
 use Rattle.pg_intends.proofs.Asked.{FlagsAreOfServers}
 use Rattle.pg_intends.proofs.Ends.{IsResting}
 use Rattle.pg_intends.proofs.Far.{Aims}
+use Rattle.pg_intends.proofs.Start.{none_seeks}
 
 -- at each server
 abbrev pub AllRest : ℕ → World → Type 0
@@ -34,11 +35,15 @@ first_rests n s = record {
   removed = refl;
   aims = All-nil (λ (i : Intent). Aims n s (target_of i));
   confirms = λ dir child there. absurd (false≢true there);
+  seeks = λ least most file. sym (none_seeks n s least most file);
   patches = λ dir child e h. absurd (none-some e h);
 }
 
 flags_at : (n s : ℕ) (files : ℕ → ℕ) (a : Store) → IsAtRest (naming n files) n s a → FlagsAreOfServers n a.names
-flags_at n s files a k dir child e at = (k.sound.named.said.cells dir child e at).flags
+flags_at n s files a k = record {
+  own = λ file own at. (k.sound.named.said.own file own at).flags;
+  cells = λ dir child e at. (k.sound.named.said.cells dir child e at).flags;
+}
 
 module _ (n : ℕ) (events : List Event) (event : Event) (t : Taking) (act : Acts n (run n events) t) where
   abbrev Now : World

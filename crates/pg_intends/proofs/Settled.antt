@@ -1,4 +1,4 @@
--- The house rules run behind the first effect: places go to later ones, and that is noted.
+-- The house rules run behind the first effect: places go to later ones, and that is noted. Then golds are raised.
 use Rattle.std.proofs.Common.{ℕ, ◌≡◌, ◌⊎◌, true, false, drop, length, List, [], ◌∷◌, Option, None, Some, inl, inr, refl, sym, ap, subst, ◌∙◌, arith}
 use Rattle.std.proofs.lemmas.Bool.Decides.{nat_tests}
 use Rattle.std.proofs.lemmas.Option.{none-some, same_Some}
@@ -19,12 +19,13 @@ use Rattle.pg_settled.proofs.Seen.{own_is}
 use Rattle.pg_store.specs.declared.store.Store.{Store}
 use Rattle.pg_store.specs.Store.{touch, with_names}
 use Rattle.pg_cells.specs.Done.{Done}
-use Rattle.pg_cells.specs.Settling.{settle, touch_all}
+use Rattle.pg_cells.specs.Settling.{rules, settle, touch_all}
 use Rattle.pg_promises.specs.Whole.{IsWhole}
-use Rattle.pg_promises.proofs.Settling.{whole_settle}
-use Rattle.pg_order.proofs.HouseFrame.{house_frame}
-use Rattle.pg_order.proofs.Sounding.{settle_as_before, settle_intents}
-use Rattle.pg_intends.proofs.Far.{Far, far_on}
+use Rattle.pg_promises.proofs.Settling.{whole_raised, whole_rules}
+use Rattle.pg_order.proofs.HouseFrame.{house_frame, sends_same}
+use Rattle.pg_cells.proofs.Settled.{settle_gives}
+use Rattle.pg_order.proofs.Sounding.{rules_as_before, rules_intents}
+use Rattle.pg_intends.proofs.Far.{Far, far_on, far_raised}
 use Rattle.pg_intends.proofs.Goes.{GoesTo, IsLeftIn, IsSlot}
 
 -- ---- the house rules
@@ -43,8 +44,8 @@ module _ (n s : ℕ) (d : Done) (k : Far n s d) (whole : IsWhole n s d.store) wh
   abbrev Then : State
   Then = house d.work.now Here
 
-  abbrev Settled : Done
-  Settled = settle d.store d.work
+  abbrev Ruled : Done
+  Ruled = rules d.store d.work
 
   notes : IsNoted Here Then
   notes = noted d.work.now Here
@@ -80,17 +81,28 @@ module _ (n s : ℕ) (d : Done) (k : Far n s d) (whole : IsWhole n s d.store) wh
       was_held : (f : FileId) → IsHeld Then.names f → IsHeld d.store.names f
       was_held f h = was_by f h (own_at d.store.names f) refl
 
-  pub far_settle : Far n s Settled
-  far_settle =
-      let after = whole_settle n s d.store d.work whole in
-      let frame = house_frame [] d.work.from d.work.now Here (record { removed = k.removed; from = refl }) in
-      let names : Settled.store.names ≡ Then.names = touched_names (with_names d.store Then.names) (drop (length d.work.touched) Then.work.touched) in
-      far_on n s d Settled.store Settled.work k (after.servers ∙ sym whole.servers) (settle_intents d.store d.work) frame.from
+  far_rules : Far n s Ruled
+  far_rules =
+      let after = whole_rules n s d.store d.work whole in
+      let frame = house_frame [] d.work d.work.now Here (record { removed = k.removed; work = sends_same d.work }) in
+      let names : Ruled.store.names ≡ Then.names = touched_names (with_names d.store Then.names) (drop (length d.work.touched) Then.work.touched) in
+      far_on n s d Ruled.store Ruled.work k (after.servers ∙ sym whole.servers) (rules_intents d.store d.work) frame.work.from
       (record {
         server = after.server ∙ sym whole.server;
         removed = ap (λ (m : NamesValue). m.removed) names ∙ frame.removed ∙ sym k.removed;
-        held = λ f. (settle_as_before d.store d.work).held f;
+        held = λ f. (rules_as_before d.store d.work).held f;
         own = λ f o h. (let to = own_goes f o h in (to.0, ap (λ (m : NamesValue). own_at m f) names ∙ to.1, to.2));
         stays = notes.stays;
         slots = λ x h. slots_by x (notes.only x h);
       })
+
+-- ---- and golds are raised
+
+module _ (n s : ℕ) where
+  abbrev Both : Done → Type 0
+  Both d = Far n s d × IsWhole n s d.store
+
+  pub far_settle : (d : Done) → Far n s d → IsWhole n s d.store → Far n s (settle d.store d.work)
+  far_settle d k whole =
+      (settle_gives Both Both (λ e b. (far_rules n s e b.0 b.1, whole_rules n s e.store e.work b.1))
+      (λ e f b none. (far_raised n s e f b.0, whole_raised n s e.store f e.work b.1)) d (k, whole)).0

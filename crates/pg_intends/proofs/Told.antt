@@ -25,6 +25,7 @@ use Rattle.pg_register.specs.declared.place.Place.{Place}
 use Rattle.pg_register.specs.Flag.{is_removed}
 use Rattle.pg_register.specs.Place.{root}
 use Rattle.pg_store.specs.declared.store.Store.{Store}
+use Rattle.pg_store.specs.Births.{birth_of}
 use Rattle.pg_store.specs.Servers.{is_live_other}
 use Rattle.pg_store.specs.Store.{is_held}
 use Rattle.pg_repair.specs.Confirms.{is_doubtful_cell}
@@ -48,7 +49,7 @@ use Rattle.pg_intends.proofs.Far.{Aims}
 use Rattle.pg_intends.proofs.Goes.{IsToldOf, told_of}
 use Rattle.pg_intends.proofs.Runs.{all_rest}
 
-module _ (p : Saying) (n s : ℕ) (a : Store) (k : IsAtRest p n s a) (r : IsResting n s a) where
+module _ (p : Saying) (n s : ℕ) (least : 1 ≤ s) (most : s ≤ n) (a : Store) (k : IsAtRest p n s a) (r : IsResting n s a) where
   -- ---- Fills
 
   known_by : (child : FileId) (own : Own) (o : Option HeldValue) → known a.names child ≡ o → own_of o ≡ Some own → (x : HeldValue) × (known a.names child ≡ Some x) × (x.own ≡ own)
@@ -164,6 +165,7 @@ module _ (p : Saying) (n s : ℕ) (a : Store) (k : IsAtRest p n s a) (r : IsRest
     contained = λ file own held inner live. contained_by file own held inner live (is_held a own.place.parent) refl;
     confirms = confirms;
     patches = patches;
+    seeks = r.seeks least most;
     targets = targets;
   }
 
@@ -171,15 +173,15 @@ module _ (p : Saying) (n s : ℕ) (a : Store) (k : IsAtRest p n s a) (r : IsRest
 
   pub still : IsStill a
   still = (
-    λ work left unsure. nothing_to_do a k.fills r.confirms work left unsure,
-    λ work left unsure. nothing_to_do (without_wishes a) k.fills r.confirms work left unsure,
+    λ work left unsure linked. nothing_to_do a k.fills (r.seeks least most) r.confirms work left unsure linked,
+    λ work left unsure linked. nothing_to_do (without_wishes a) k.fills (r.seeks least most) r.confirms work left unsure linked,
   )
 
   -- ---- requests
 
   has_request : (i : Intent) → IsIntended p i → stands a.intents (key_of i) ≡ true → HasRequest a i
   has_request (intent.Bye file birth peer peer_birth) said there = absurd said
-  has_request (intent.Seek file target) said there = absurd said
+  has_request (intent.Seek file target) said there = (message.Seek file (birth_of a file), refl)
   has_request (intent.Fill file birth target) said there = (message.Fetch file birth, refl)
   has_request (intent.Patch dir entry target) said there = (message.Tell dir entry, refl)
   has_request (intent.Confirm dir child target) said there =
@@ -202,14 +204,14 @@ module _ (p : Saying) (n s : ℕ) (a : Store) (k : IsAtRest p n s a) (r : IsRest
 pub in_order : (n : ℕ) → IntentionsAreInOrder n
 in_order n events s least most =
     let w = run n events in
-    intends (naming n (files_of w.stores)) n s (w.stores s) ((sound_run n events).servers s) (all_rest n events s)
+    intends (naming n (files_of w.stores)) n s least most (w.stores s) ((sound_run n events).servers s) (all_rest n events s)
 
 pub nothing_left : (n : ℕ) → NothingIsLeftToDo n
 nothing_left n events s least most =
     let w = run n events in
-    still (naming n (files_of w.stores)) n s (w.stores s) ((sound_run n events).servers s) (all_rest n events s)
+    still (naming n (files_of w.stores)) n s least most (w.stores s) ((sound_run n events).servers s) (all_rest n events s)
 
 pub have_requests : (n : ℕ) → IntentionsHaveRequests n
 have_requests n events s least most =
     let w = run n events in
-    asked (naming n (files_of w.stores)) n s (w.stores s) ((sound_run n events).servers s) (all_rest n events s)
+    asked (naming n (files_of w.stores)) n s least most (w.stores s) ((sound_run n events).servers s) (all_rest n events s)

@@ -11,9 +11,10 @@ use Rattle.pg_repair.specs.Requests.{request}
 use Rattle.pg_server.specs.Local.{without_wishes}
 use Rattle.pg_run.specs.Laws.{AtEach, store_after}
 
--- no intention ends or begins, where no place was replaced and no doubtful cell came
+-- no intention ends or begins, where no place was replaced, no doubtful cell came and no edge was made
 abbrev pub StaysIntended : Store → Type 0
-StaysIntended a = (work : Work) → work.left ≡ [] → work.unsure ≡ [] → begin_end a work ≡ idle a work
+StaysIntended a = (work : Work) → work.left ≡ [] → work.unsure ≡ [] → work.linked ≡ []
+    → begin_end a work ≡ idle a work
 
 -- also without the wishes, as a restart leaves it
 abbrev pub IsStill : Store → Type 0

@@ -6,13 +6,14 @@ ghost use Rattle.pg_intends.specs.Laws.{IntentionsHaveRequests, NothingIsLeftToD
 
 /// After every event Fills stand of just what is to be filled, so that the parent of whatever is held is held or to be
 /// filled; Confirms only of children in doubt; each Patch is of a held child, with the place that this has or an earlier
-/// one; and who is asked is another live server.
+/// one; Seeks of just what seeks: gold replicas that see a live gold to which they have no edge, and others that have no
+/// edge to a live gold; and who is asked is another live server.
 pub fn intentions_are_in_order()
     ensures { (servers : ℕ) → IntentionsAreInOrder servers }
 {}
 
-/// After every event the end of a further one changes nothing, where no place was replaced and no doubtful cell came, be
-/// it with the wishes that the server has or with none. And each intention has a message.
+/// After every event the end of a further one changes nothing, where no place was replaced, no doubtful cell came and no
+/// edge was made, be it with the wishes that the server has or with none. And each intention has a message.
 pub fn nothing_is_left_to_do()
     ensures still { (servers : ℕ) → NothingIsLeftToDo servers }
     ensures asked { (servers : ℕ) → IntentionsHaveRequests servers }

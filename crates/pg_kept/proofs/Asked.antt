@@ -1,4 +1,4 @@
--- What intentions ask the edges do not read, and it grants nothing; nor do cells.
+-- What intentions ask the edges do not read, it grants nothing, and is no walk; nor are cells.
 use Rattle.std.proofs.Common.{ℕ, ◌≡◌, Option, None, Some, refl, sym, ap, subst, ◌∙◌, All}
 use Rattle.std.proofs.lemmas.Option.{same_Some}
 use Rattle.pg_base.specs.declared.id.FileId.{FileId}
@@ -19,7 +19,7 @@ use Rattle.pg_repair.specs.Requests.{bye_message, confirm_message, leave_message
 use Rattle.pg_promises.specs.Seen.{says, saying}
 use Rattle.pg_run.proofs.Bags.{All-every}
 use Rattle.pg_run.proofs.Event.{AskHas, cells_have}
-use Rattle.pg_kept.proofs.Pieces.{IsGrantOrdered}
+use Rattle.pg_kept.proofs.Pieces.{IsWellSaid}
 
 -- ---- what intentions ask the edges do not read
 
@@ -62,39 +62,39 @@ all_unread b =
     All-every (AskHas IsUnread b) b.intents
     (λ i m is asked. request_other b b.names.server (target_of i) i m is)
 
--- nor are they grants
+-- nor are they grants or walks
 
-abbrev pub IsOrdered : Sent → Type 0
-IsOrdered m = IsGrantOrdered m.packet.message
+abbrev pub IsWell : ℕ → Sent → Type 0
+IsWell n m = IsWellSaid n m.packet.message
 
-some_ordered : (l m : Message) → IsGrantOrdered l → ◌≡◌ {A = Option Message} (Some l) (Some m) → IsGrantOrdered m
-some_ordered l m ordered is = subst IsGrantOrdered (same_Some l m is) ordered
+some_well : (n : ℕ) (l m : Message) → IsWellSaid n l → ◌≡◌ {A = Option Message} (Some l) (Some m) → IsWellSaid n m
+some_well n l m well is = subst (IsWellSaid n) (same_Some l m is) well
 
-confirm_ordered : (dir : FileId) (o : Option Entry) (m : Message) → confirm_message dir o ≡ Some m
-    → IsGrantOrdered m
-confirm_ordered dir None m is = absurd (let z : None ≡ Some m = is in cc)
-confirm_ordered dir (Some e) m is = some_ordered (message.Confirm dir e) m tt is
+confirm_well : (n : ℕ) (dir : FileId) (o : Option Entry) (m : Message) → confirm_message dir o ≡ Some m
+    → IsWellSaid n m
+confirm_well n dir None m is = absurd (let z : None ≡ Some m = is in cc)
+confirm_well n dir (Some e) m is = some_well n (message.Confirm dir e) m tt is
 
-leave_ordered : (b : Store) (file : FileId) (birth : ℕ) (o : Option Own) (m : Message)
-    → leave_message b file birth o ≡ Some m → IsGrantOrdered m
-leave_ordered b file birth None m is = absurd (let z : None ≡ Some m = is in cc)
-leave_ordered b file birth (Some own) m is =
-    some_ordered
+leave_well : (n : ℕ) (b : Store) (file : FileId) (birth : ℕ) (o : Option Own) (m : Message)
+    → leave_message b file birth o ≡ Some m → IsWellSaid n m
+leave_well n b file birth None m is = absurd (let z : None ≡ Some m = is in cc)
+leave_well n b file birth (Some own) m is =
+    some_well n
     (message.Leave (record { file = file; sender = birth_of b file; receiver = birth }) own.place.stamp) m tt is
 
-request_ordered : (b : Store) (i : Intent) (m : Message) → request b i ≡ Some m → IsGrantOrdered m
-request_ordered b (intent.Bye file birth peer peer_birth) m is =
-    some_ordered (bye_message file birth peer_birth) m tt is
-request_ordered b (intent.Seek file target) m is = some_ordered (message.Seek file (birth_of b file)) m tt is
-request_ordered b (intent.Fill file birth target) m is = some_ordered (message.Fetch file birth) m tt is
-request_ordered b (intent.Patch dir e target) m is = some_ordered (message.Tell dir e) m tt is
-request_ordered b (intent.Confirm dir child target) m is = confirm_ordered dir (cell_at b.names dir child) m is
-request_ordered b (intent.Leave file peer peer_birth) m is =
-    leave_ordered b file peer_birth (own_at b.names file) m is
+request_well : (n : ℕ) (b : Store) (i : Intent) (m : Message) → request b i ≡ Some m → IsWellSaid n m
+request_well n b (intent.Bye file birth peer peer_birth) m is =
+    some_well n (bye_message file birth peer_birth) m tt is
+request_well n b (intent.Seek file target) m is = some_well n (message.Seek file (birth_of b file)) m tt is
+request_well n b (intent.Fill file birth target) m is = some_well n (message.Fetch file birth) m tt is
+request_well n b (intent.Patch dir e target) m is = some_well n (message.Tell dir e) m tt is
+request_well n b (intent.Confirm dir child target) m is = confirm_well n dir (cell_at b.names dir child) m is
+request_well n b (intent.Leave file peer peer_birth) m is =
+    leave_well n b file peer_birth (own_at b.names file) m is
 
-pub all_ordered : (b : Store) → All (AskHas IsOrdered b) b.intents
-all_ordered b = All-every (AskHas IsOrdered b) b.intents (λ i m is asked. request_ordered b i m is)
+pub all_well : (n : ℕ) (b : Store) → All (AskHas (IsWell n) b) b.intents
+all_well n b = All-every (AskHas (IsWell n) b) b.intents (λ i m is asked. request_well n b i m is)
 
-pub cells_ordered : (b : Store) (wanted : Wanted) → All IsOrdered (cells_where b wanted)
-cells_ordered b wanted =
-    cells_have IsOrdered b wanted (λ i r lt j e less k q under c is goes. tt)
+pub cells_well : (n : ℕ) (b : Store) (wanted : Wanted) → All (IsWell n) (cells_where b wanted)
+cells_well n b wanted =
+    cells_have (IsWell n) b wanted (λ i r lt j e less k q under c is goes. tt)

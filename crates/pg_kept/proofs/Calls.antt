@@ -26,6 +26,8 @@ use Rattle.pg_store.specs.declared.wishes.Wish.{Wish}
 use Rattle.pg_store.specs.Births.{draw_birth, with_birth, with_wish}
 use Rattle.pg_store.specs.Store.{content_of, is_held, replica_at, write}
 use Rattle.pg_cells.specs.Done.{Done, idle}
+use Rattle.pg_cells.specs.Golds.{is_gold}
+use Rattle.pg_cells.specs.Making.{lower_flag, own_next}
 use Rattle.pg_cells.specs.Posting.{post}
 use Rattle.pg_walk.specs.declared.paths.Found.{Found}
 use Rattle.pg_walk.specs.declared.paths.Stop.{Stop}
@@ -36,6 +38,7 @@ use Rattle.pg_calls.specs.Asking.{ask_by, fetch, fresh_wish, holder, standing}
 use Rattle.pg_calls.specs.Bodies.{change, change_file, when_fit}
 use Rattle.pg_calls.specs.Calls.{do_call}
 use Rattle.pg_calls.specs.Checks.{dir_at, empty_dir_at, file_at, in_time, move_of, new_name, target_at}
+use Rattle.pg_calls.specs.Demoting.{demoted_at}
 use Rattle.pg_calls.specs.Making.{drawn, first_ranges, make_place, make_version}
 use Rattle.pg_calls.specs.Naming.{begun, dead_place, next_id, place_in, with_first_version, with_id, with_thing}
 use Rattle.pg_calls.proofs.Checked.{fit_found}
@@ -50,7 +53,7 @@ use Rattle.pg_promises.proofs.Together.{replica_of_held}
 use Rattle.pg_promises.proofs.Whole.{whole_write}
 use Rattle.pg_run.specs.Away.{BeginsWhatIsAway}
 use Rattle.pg_kept.proofs.Contents.{AreOfHistory, content_held, none_of_history}
-use Rattle.pg_kept.proofs.Pieces.{IsDone, Stands, begun_done, beside_done, nothing_done, on_done, place_done, posted, raised_done}
+use Rattle.pg_kept.proofs.Pieces.{IsDone, Stands, begun_done, beside_done, made_flag_done, nothing_done, on_done, place_done, posted, raised_done}
 
 replica_by : (b : Store) (f : FileId) (o : Option Replica) → replica_at b f ≡ o → is_some o ≡ true
     → (x : Replica) × (replica_at b f ≡ Some x)
@@ -205,7 +208,9 @@ module _ (n s : ℕ) (a : Store) (k : IsWhole n s a) (heard : Saying Slot Cell) 
   call_on (call.Rmdir path) =
       answered_on (empty_dir_at a path) _ (λ f found. placed_on f (dead_place a moment f))
   call_on (call.Forget id) = replied_on (in_time a (tt {0})) _
-  call_on (call.Demote target) = replied_on (in_time a (tt {0})) _
+  call_on (call.Demote target) =
+      answered_on (demoted_at a target) _ (λ f found.
+      chosen Is (is_gold a f) (lower_flag a f W) (idle a W) (made_flag_done n s a heard a W f (own_next a f false) nothing) nothing)
   call_on (call.Drop target) = replied_on (in_time a (tt {0})) _
   call_on (call.Giveup view server) = replied_on (in_time a (tt {0})) _
   call_on call.Status = replied_on (in_time a (tt {0})) _

@@ -3,7 +3,7 @@ use Rattle.std.proofs.Common.{ℕ, ◌≡◌, ◌≤◌, ◌==◌, Bool, true, f
 use Rattle.std.specs.Prelude.{nat_le}
 use Rattle.std.specs.List.{flat_map}
 use Rattle.std.proofs.lemmas.Bool.{and_parts, eq-eqb, leb-true}
-use Rattle.std.proofs.lemmas.List.Elements.{All-append}
+use Rattle.std.proofs.lemmas.List.Elements.{All-append, All-nil}
 use Rattle.pg_edges.specs.declared.key.Key.{Key}
 use Rattle.pg_entries.specs.declared.cell.Cell.{Cell}
 use Rattle.pg_flood.specs.Promises.{Saying}
@@ -23,6 +23,8 @@ use Rattle.pg_register.specs.Flag.{IsByServer}
 use Rattle.pg_store.specs.declared.store.Store.{Store}
 use Rattle.pg_store.specs.Servers.{is_live_other, view_of}
 use Rattle.pg_store.specs.Store.{acknowledge, is_in_time}
+use Rattle.pg_cells.specs.declared.accepting.Manner.TheVariants as manner
+use Rattle.pg_cells.specs.Accepting.{accept}
 use Rattle.pg_cells.specs.Acks.{ack}
 use Rattle.pg_cells.specs.Cells.{cell}
 use Rattle.pg_cells.specs.Done.{Done, idle, link_of}
@@ -33,8 +35,10 @@ use Rattle.pg_repair.specs.Fetching.{fetch}
 use Rattle.pg_repair.specs.Filling.{full}
 use Rattle.pg_repair.specs.Granting.{gone, grant, no_grant}
 use Rattle.pg_repair.specs.NoneHere.{none_here}
-use Rattle.pg_repair.specs.Requests.{asks}
+use Rattle.pg_repair.specs.Requests.{ask_all, asks}
+use Rattle.pg_graph.specs.Seeking.{seek}
 use Rattle.pg_repair.specs.Telling.{tell, tell_ok}
+use Rattle.pg_graph.specs.Walks.{walk}
 use Rattle.pg_calls.specs.Calls.{do_call}
 use Rattle.pg_server.specs.declared.input.Input.{Input}
 use Rattle.pg_server.specs.declared.input.Input.TheVariants as input
@@ -50,26 +54,28 @@ use Rattle.pg_run.proofs.Event.{asks_have, effect_is, end_of, store_is}
 use Rattle.pg_kept.proofs.Calls.{call_on}
 use Rattle.pg_kept.proofs.Cells.{Suits, cell_is_done}
 use Rattle.pg_kept.proofs.Contents.{AreOfHistory}
-use Rattle.pg_kept.proofs.Handlers.{confirm_done, fetch_done, full_done, gone_done, grant_done, no_grant_done, none_here_done, place_is_done, tell_done, tell_ok_done}
-use Rattle.pg_kept.proofs.Pieces.{Goes, IsDone, Stands, beside_done, nothing_done}
-use Rattle.pg_kept.proofs.Asked.{IsOrdered, IsUnread, all_ordered, all_unread, cells_ordered}
+use Rattle.pg_kept.proofs.Handlers.{accept_done, confirm_done, fetch_done, full_done, gone_done, grant_done, no_grant_done, none_here_done, place_is_done, tell_done, tell_ok_done}
+use Rattle.pg_kept.proofs.Walks.{seek_done, tick_walk_done, walk_done}
+use Rattle.pg_kept.proofs.Pieces.{IsDone, MayGoLast, Stands, beside_done, nothing_done}
+use Rattle.pg_kept.proofs.Asked.{IsUnread, IsWell, all_unread, all_well, cells_well}
 use Rattle.pg_kept.proofs.Ends.{IsFirst, IsKind, begins_here, end_first, ended_good}
 
 -- ---- the first effect
 
 -- what is asked of a message
-abbrev pub SuitsMessage : Store → Message → Type 0
-SuitsMessage a (message.Cell ends tag c) = Suits a ends.file c
-SuitsMessage a (message.Grant ends granted) = IsByServer granted.flags
-SuitsMessage a (message.PlaceIs dir e) = is_dir dir ≡ true
-SuitsMessage a (message.Tell dir e) = is_dir dir ≡ true
-SuitsMessage a _ = Unit {0}
+abbrev pub SuitsMessage : ℕ → Store → Message → Type 0
+SuitsMessage n a (message.Cell ends tag c) = Suits a ends.file c
+SuitsMessage n a (message.Grant ends granted) = IsByServer granted.flags
+SuitsMessage n a (message.PlaceIs dir e) = is_dir dir ≡ true
+SuitsMessage n a (message.Tell dir e) = is_dir dir ≡ true
+SuitsMessage n a (message.Walk ends origin birth hops word) = (1 ≤ origin) × (origin ≤ n)
+SuitsMessage n a _ = Unit {0}
 
-abbrev pub SuitsInput : Store → Input → Type 0
-SuitsInput a (input.Call moment call) = Unit {0}
-SuitsInput a (input.Tick moment word) = Unit {0}
-SuitsInput a (input.Arrival packet) = SuitsMessage a packet.message
-SuitsInput a input.Restart = Unit {0}
+abbrev pub SuitsInput : ℕ → Store → Input → Type 0
+SuitsInput n a (input.Call moment call) = Unit {0}
+SuitsInput n a (input.Tick moment word) = Unit {0}
+SuitsInput n a (input.Arrival packet) = SuitsMessage n a packet.message
+SuitsInput n a input.Restart = Unit {0}
 
 -- what the edges hear in an input
 abbrev pub heard_in : ℕ → Input → Saying Slot Cell
@@ -80,7 +86,7 @@ heard_in s input.Restart = Other
 
 module _ (n s : ℕ) (a : Store) (k : IsWhole n s a) (of : AreOfHistory a) (away : BeginsWhatIsAway a) where
   -- a chain that begins where the server was
-  first_here : (heard : Saying Slot Cell) (d : Done) → Goes n s a heard d.store d.work.sent
+  first_here : (heard : Saying Slot Cell) (d : Done) → IsDone n s a heard d
       → IsFirst n s a heard d
   first_here heard d u = record { start = a; begins = begins_here n s a heard k; goes = u }
 
@@ -124,7 +130,7 @@ module _ (n s : ℕ) (a : Store) (k : IsWhole n s a) (of : AreOfHistory a) (away
     start m = nothing_done n s a (saying from s m) 0 from k
 
     -- EVERY MESSAGE
-    received_first : (m : Message) → SuitsMessage a m → First m (receive a m W)
+    received_first : (m : Message) → SuitsMessage n a m → First m (receive a m W)
     received_first (message.Cell ends tag c) suits =
         let m = message.Cell ends tag c in
         here m (cell a ends tag c W) (cell_is_done n s a ends tag c W other (start m) suits)
@@ -162,20 +168,31 @@ module _ (n s : ℕ) (a : Store) (k : IsWhole n s a) (of : AreOfHistory a) (away
         let m = message.TellOk dir child stamp in
         here m (tell_ok a dir child stamp W)
         (tell_ok_done n s a (saying from s m) a W (start m) dir child stamp)
+    received_first (message.Seek file birth) suits =
+        let m = message.Seek file birth in
+        here m (seek a file birth W) (seek_done n s a (saying from s m) a W (start m) file birth other)
+    received_first (message.Here ends) suits =
+        let m = message.Here ends in
+        here m (accept a ends manner.Link W)
+        (accept_done n s a (saying from s m) a W (start m) ends manner.Link other)
+    received_first (message.Walk ends origin birth hops word) suits =
+        let m = message.Walk ends origin birth hops word in
+        here m (walk a ends origin birth hops word W)
+        (walk_done n s a (saying from s m) a W (start m) ends origin birth hops word other suits.0 suits.1)
+    received_first (message.Meet ends) suits =
+        let m = message.Meet ends in
+        here m (accept a ends manner.Link W)
+        (accept_done n s a (saying from s m) a W (start m) ends manner.Link other)
     received_first (message.Harbinger ends tag head) suits = none (message.Harbinger ends tag head)
     received_first (message.Want ends wanted) suits = none (message.Want ends wanted)
     received_first (message.Delta ends delta) suits = none (message.Delta ends delta)
     received_first (message.Piece ends piece) suits = none (message.Piece ends piece)
     received_first (message.Later ends stamp) suits = none (message.Later ends stamp)
-    received_first (message.Seek file birth) suits = none (message.Seek file birth)
-    received_first (message.Here ends) suits = none (message.Here ends)
     received_first (message.Bye ends) suits = none (message.Bye ends)
     received_first (message.ByeOk file birth) suits = none (message.ByeOk file birth)
     received_first (message.Leave ends stamp) suits = none (message.Leave ends stamp)
     received_first (message.LeaveOk ends stamp) suits = none (message.LeaveOk ends stamp)
     received_first (message.Invite ends) suits = none (message.Invite ends)
-    received_first (message.Walk ends origin birth hops word) suits = none (message.Walk ends origin birth hops word)
-    received_first (message.Meet ends) suits = none (message.Meet ends)
 
   -- ---- who is heard is another server of the run
 
@@ -202,40 +219,45 @@ module _ (n s : ℕ) (a : Store) (k : IsWhole n s a) (of : AreOfHistory a) (away
 
   -- ---- ticks
 
-  tick_first : (moment : ℕ) → HasSoundTags cells a → IsFirst n s a Other (idle a (sent_again a (new_work moment 0)))
-  tick_first moment sound =
+  tick_first : (moment word : ℕ) → 1 ≤ s → s ≤ n → HasSoundTags cells a
+      → IsFirst n s a Other (idle a (sent_again a word (new_work moment 0)))
+  tick_first moment word least most sound =
       let w = new_work moment 0 in
+      let asked = ask_all a (tick a w) in
+      let own = sym k.server in
       let cells_may = tick_may n s a a Other sound k w (none_sent cells s a a Other) in
       let asks_may = others_may s a a Other (flat_map (asks a) a.intents) (asks_have IsUnread a a.intents (all_unread a)) in
       let may = All-append (λ m. May cells s a a Other (says m)) (tick a w).sent (flat_map (asks a) a.intents) cells_may asks_may in
-      first_here Other (idle a (sent_again a w)) (record {
+      first_here Other (idle a (sent_again a word w))
+      (tick_walk_done n s a Other a asked (record {
         way = record {
           steps = Steps-refl cells a;
           whole = k;
-          sends = λ c f. all_may_later cells s a a c Other (sent_again a w).sent f may;
+          sends = λ c f. all_may_later cells s a a c Other asked.sent f may;
         };
-        grants = All-append IsOrdered (tick a w).sent (flat_map (asks a) a.intents) (cells_ordered a is_any)
-            (asks_have IsOrdered a a.intents (all_ordered a));
-      })
+        said = All-append (IsWell n) (tick a w).sent (flat_map (asks a) a.intents) (cells_well n a is_any)
+            (asks_have (IsWell n) a a.intents (all_well n a));
+        last = All-nil (MayGoLast n);
+      }) (subst (λ (i : ℕ). 1 ≤ i) own least) (subst (λ (i : ℕ). i ≤ n) own most) word)
 
-  ticked : (moment : ℕ) (t : Bool) → HasSoundTags cells a
-      → IsFirst n s a Other (idle a (cond t (sent_again a (new_work moment 0)) (new_work moment 0)))
-  ticked moment true sound = tick_first moment sound
-  ticked moment false sound = nothing_first Other moment 0
+  ticked : (moment word : ℕ) (t : Bool) → 1 ≤ s → s ≤ n → HasSoundTags cells a
+      → IsFirst n s a Other (idle a (cond t (sent_again a word (new_work moment 0)) (new_work moment 0)))
+  ticked moment word true least most sound = tick_first moment word least most sound
+  ticked moment word false least most sound = nothing_first Other moment 0
 
   -- EVERY INPUT
-  pub first_done : (asked : Input) → SuitsInput a asked → HasSoundTags cells a
+  pub first_done : (asked : Input) → 1 ≤ s → s ≤ n → SuitsInput n a asked → HasSoundTags cells a
       → IsFirst n s a (heard_in s asked) (first_effect a asked)
-  first_done (input.Call moment c) suits sound =
+  first_done (input.Call moment c) least most suits sound =
       first_here Other (done_of (do_call a c (new_work moment 0))) (call_on n s a k Other of away moment c)
-  first_done (input.Tick moment word) suits sound = ticked moment (is_in_time a) sound
-  first_done (input.Arrival packet) suits sound =
+  first_done (input.Tick moment word) least most suits sound = ticked moment word (is_in_time a) least most sound
+  first_done (input.Arrival packet) least most suits sound =
       let heard = saying packet.from s packet.message in
       decided (IsFirst n s a heard) (is_heard a packet) (receive a packet.message (new_work 0 packet.from))
       (idle a (new_work 0 packet.from))
       (λ t. received_first packet.from (other_heard packet t) packet.message suits)
       (λ f. nothing_first heard 0 packet.from)
-  first_done input.Restart suits sound =
+  first_done input.Restart least most suits sound =
       let lost = without_wishes a in
       let w = new_work 0 0 in
       first_here Other (idle lost w)
@@ -243,12 +265,12 @@ module _ (n s : ℕ) (a : Store) (k : IsWhole n s a) (of : AreOfHistory a) (away
       (record { servers = refl; tags = refl; names = refl; replicas = refl }) k.patches)
 
   -- AN EFFECT
-  pub effect_good : (asked : Input) → SuitsInput a asked → HasSoundTags cells a
+  pub effect_good : (asked : Input) → 1 ≤ s → s ≤ n → SuitsInput n a asked → HasSoundTags cells a
       → PatchesAreForDirs (effect a asked).store
       → IsKind n s a (heard_in s asked) (effect a asked).store (effect a asked).out.sent
-  effect_good asked suits sound patches =
+  effect_good asked least most suits sound patches =
       let heard = heard_in s asked in
       let for_dirs : PatchesAreForDirs (end_of a asked).store = subst PatchesAreForDirs (store_is a asked) patches in
       subst (λ (e : Effect). IsKind n s a heard e.store e.out.sent) (sym (effect_is a asked))
       (ended_good n s a heard (end_of a asked)
-      (end_first n s a heard (first_effect a asked) (takes_effect a asked) for_dirs (first_done asked suits sound)) sound)
+      (end_first n s a heard (first_effect a asked) (takes_effect a asked) for_dirs (first_done asked least most suits sound)) sound)

@@ -1,6 +1,6 @@
 -- How an event begins and ends: behind the first effect come the house rules, the intentions, and what is
 -- sent.
-use Rattle.std.proofs.Common.{ℕ, Bool, true, false, cond, List, ◌++◌, sym, subst}
+use Rattle.std.proofs.Common.{ℕ, Bool, true, false, cond, List, ◌++◌}
 use Rattle.std.proofs.lemmas.List.Elements.{All-append, All-weaker}
 use Rattle.pg_entries.specs.declared.cell.Cell.{Cell}
 use Rattle.pg_flood.specs.Promises.{Saying}
@@ -19,13 +19,12 @@ use Rattle.pg_promises.specs.Whole.{IsWhole, PatchesAreForDirs}
 use Rattle.pg_promises.proofs.Acks.{none_noted}
 use Rattle.pg_promises.specs.Growing.{Grows}
 use Rattle.pg_promises.proofs.Events.{IsGood}
-use Rattle.pg_promises.proofs.Front.{house_sent}
 use Rattle.pg_promises.proofs.Grown.{GoesOn, goes_on_further, goes_on_itself, grown}
 use Rattle.pg_promises.proofs.Sending.{finish_may, others_may}
-use Rattle.pg_promises.proofs.Settling.{settle_steps, whole_settle}
+use Rattle.pg_promises.proofs.Settling.{settle_steps, settle_work, whole_settle}
 use Rattle.pg_run.proofs.Event.{asks_by_have, asks_sent, cells_sent}
-use Rattle.pg_kept.proofs.Pieces.{AreGrantsOrdered, Goes, beside_done, on_done}
-use Rattle.pg_kept.proofs.Asked.{IsOrdered, IsUnread, all_ordered, all_unread, cells_ordered}
+use Rattle.pg_kept.proofs.Pieces.{AreWellSaid, IsDone, MayGoLast, beside_done, on_done, same_done}
+use Rattle.pg_kept.proofs.Asked.{IsUnread, IsWell, all_unread, all_well, cells_well}
 
 -- ---- how an event begins: where the server was, or behind an answer that it heard
 
@@ -44,16 +43,16 @@ begins_here n s a heard k = record {
   whole = k;
 }
 
--- how it ends: by the rule, and grants have flags by server
+-- how it ends: by the rule, and all is well said
 pub record IsKind (n s : ℕ) (a : Store) (heard : Saying Slot Cell) (b : Store) (sent : List Sent) : Type 0 where
   pub good : IsGood n s a heard b sent
-  pub grants : AreGrantsOrdered sent
+  pub said : AreWellSaid n sent
 
 -- what comes of an event up to here
 pub record IsFirst (n s : ℕ) (a : Store) (heard : Saying Slot Cell) (d : Done) : Type 0 where
   pub start : Store
   pub begins : Begins n s a heard start
-  pub goes : Goes n s start heard d.store d.work.sent
+  pub goes : IsDone n s start heard d
 
 -- nothing that the server held is lost
 pub first_grown : (n s : ℕ) (a : Store) (heard : Saying Slot Cell) (d : Done) → IsWhole n s a
@@ -81,8 +80,8 @@ module _ (n s : ℕ) (a : Store) (heard : Saying Slot Cell) where
     start = f.start;
     begins = f.begins;
     goes =
-        subst (λ (ms : List Sent). Goes n s f.start heard (settled d).store ms)
-        (sym (house_sent d.work.now d.store.names d.work))
+        same_done n s f.start heard (settled d).store d.work (settled d).work
+        (let same = settle_work d.store d.work in record { sent = same.sent; from = same.from; tail = same.tail })
         (on_done n s f.start heard d.store d.work f.goes (settled d).store
         (settle_steps n s d.store d.work f.goes.way.whole)
         (whole_settle n s d.store d.work f.goes.way.whole));
@@ -98,7 +97,8 @@ module _ (n s : ℕ) (a : Store) (heard : Saying Slot Cell) where
         start = f.start;
         begins = f.begins;
         goes =
-            subst (λ (ms : List Sent). Goes n s f.start heard (intended d).store ms) (sym stays.sent)
+            same_done n s f.start heard (intended d).store d.work (intended d).work
+            (record { sent = stays.sent; from = stays.from; tail = stays.tail })
             (beside_done n s f.start heard d.store d.work f.goes (intended d).store alike patches);
       }
 
@@ -110,24 +110,30 @@ module _ (n s : ℕ) (a : Store) (heard : Saying Slot Cell) where
   -- ---- what is sent in the end
 
   pub ended_good : (d : Done) → IsFirst n s a heard d → HasSoundTags cells a
-      → IsKind n s a heard d.store ((d.work.sent ++ cells_sent d) ++ asks_sent d)
+      → IsKind n s a heard d.store (((d.work.sent ++ cells_sent d) ++ asks_sent d) ++ d.work.tail)
   ended_good d f tags =
       let b = d.store in
       let way = f.goes.way in
       let all = d.work.sent ++ cells_sent d in
+      let front = all ++ asks_sent d in
+      let unread = All-weaker (MayGoLast n) IsUnread (λ m last. last.0) d.work.tail f.goes.last in
       let sound = way.steps.tags (f.begins.tags tags) in
       let sent = all_from f.start b d.work.sent (way.sends b (Steps-refl cells b)) in
-      let may = All-append (λ m. May cells s a b heard (says m)) all (asks_sent d)
+      let may = All-append (λ m. May cells s a b heard (says m)) front d.work.tail
+      (All-append (λ m. May cells s a b heard (says m)) all (asks_sent d)
       (finish_may n s a b heard sound way.whole d.work sent)
-      (others_may s a b heard (asks_sent d) (asks_by_have IsUnread b d.work.begun (all_unread b))) in
+      (others_may s a b heard (asks_sent d) (asks_by_have IsUnread b d.work.begun (all_unread b))))
+      (others_may s a b heard d.work.tail unread) in
       record {
         good = record {
-          rule = f.begins.rule b (all ++ asks_sent d) way.steps may;
+          rule = f.begins.rule b (front ++ d.work.tail) way.steps may;
           tags = sound;
           whole = way.whole;
         };
-        grants = All-append IsOrdered all (asks_sent d)
-            (All-append IsOrdered d.work.sent (cells_sent d) f.goes.grants
-            (cells_ordered b (is_chosen d.work.touched d.work.linked)))
-            (asks_by_have IsOrdered b d.work.begun (all_ordered b));
+        said = All-append (IsWell n) front d.work.tail
+            (All-append (IsWell n) all (asks_sent d)
+            (All-append (IsWell n) d.work.sent (cells_sent d) f.goes.said
+            (cells_well n b (is_chosen d.work.touched d.work.linked)))
+            (asks_by_have (IsWell n) b d.work.begun (all_well n b)))
+            (All-weaker (MayGoLast n) (IsWell n) (λ m last. last.1) d.work.tail f.goes.last);
       }

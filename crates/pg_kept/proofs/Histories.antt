@@ -21,7 +21,7 @@ use Rattle.pg_kept.specs.Histories.{HaveHistories, HoldHistories, IsContentOf}
 use Rattle.pg_kept.proofs.Cells.{Suits}
 use Rattle.pg_kept.proofs.Contents.{AreOfHistory}
 use Rattle.pg_kept.proofs.Effects.{SuitsMessage}
-use Rattle.pg_kept.proofs.Pieces.{IsGrantOrdered}
+use Rattle.pg_kept.proofs.Pieces.{IsWellSaid}
 
 -- CONTENTS ARE OF THE HISTORIES
 pub hold_histories : (n : ℕ) → HaveHistories n → HoldHistories n
@@ -66,10 +66,11 @@ module _ (n : ℕ) (k : HaveHistories n) (events : List Event) (s : ℕ) (least 
   }
 
   -- WHAT COMES TO IT
-  pub message_suits : (m : Message) → TellsOfHistory W m → IsGrantOrdered m → NamesDirectory m
-      → SuitsMessage (W.stores s) m
-  message_suits (message.Cell ends tag c) of ordered dir = cell_suits ends.file c of
-  message_suits (message.Grant ends granted) of ordered dir = ordered
-  message_suits (message.PlaceIs directory e) of ordered dir = dir
-  message_suits (message.Tell directory e) of ordered dir = dir
-  message_suits m of ordered dir = tt
+  pub message_suits : (m : Message) → TellsOfHistory W m → IsWellSaid n m → NamesDirectory m
+      → SuitsMessage n (W.stores s) m
+  message_suits (message.Cell ends tag c) of well dir = cell_suits ends.file c of
+  message_suits (message.Grant ends granted) of well dir = well
+  message_suits (message.PlaceIs directory e) of well dir = dir
+  message_suits (message.Tell directory e) of well dir = dir
+  message_suits (message.Walk ends origin birth hops word) of well dir = well
+  message_suits m of well dir = tt

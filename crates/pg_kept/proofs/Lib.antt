@@ -2,6 +2,7 @@ pub mod Pieces
 pub mod Intents
 pub mod Contents
 pub mod Handlers
+pub mod Walks
 pub mod Cells
 pub mod Calls
 pub mod Asked

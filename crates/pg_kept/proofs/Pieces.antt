@@ -1,5 +1,5 @@
 -- What each piece of an event leaves, where all before it kept the rule of the edges.
-use Rattle.std.proofs.Common.{ℕ, ◌≡◌, ◌&&◌, Bool, true, false, cond, not, List, [], ◌∷◌, Option, None, Some, refl, sym, subst, ◌∙◌, All}
+use Rattle.std.proofs.Common.{ℕ, ◌≡◌, ◌≤◌, ◌&&◌, Bool, true, false, cond, not, List, [], ◌∷◌, Option, None, Some, refl, sym, subst, ◌∙◌, All}
 use Rattle.std.proofs.lemmas.List.Elements.{All-cons, All-nil, All-push}
 use Rattle.pg_base.specs.declared.id.FileId.{FileId}
 use Rattle.pg_base.specs.declared.policy.Policy.{Policy}
@@ -17,7 +17,7 @@ use Rattle.pg_msg.specs.declared.message.Message.TheVariants as message
 use Rattle.pg_msg.specs.declared.message.Sent.{Sent}
 use Rattle.pg_msg.specs.declared.update.Update.TheVariants as update
 use Rattle.pg_msg.specs.declared.work.Work.{Work}
-use Rattle.pg_msg.specs.Work.{new_work, with_left, with_linked, with_made, with_sent, with_touched, with_unsure}
+use Rattle.pg_msg.specs.Work.{new_work, with_left, with_linked, with_made, with_sent, with_tail, with_touched, with_unsure}
 use Rattle.pg_names.specs.declared.own.Own.{Own}
 use Rattle.pg_names.specs.Names.{fill, is_dir, is_flag_new, is_place_new, own_at, own_or_blank}
 use Rattle.pg_register.specs.declared.flag.Flag.{Flag}
@@ -33,7 +33,7 @@ use Rattle.pg_store.specs.Store.{entry_news, is_held, is_new_version, is_newer_f
 use Rattle.pg_store.specs.Together.{AreTogether}
 use Rattle.pg_cells.specs.Accepting.{link_peer}
 use Rattle.pg_cells.specs.Done.{Done}
-use Rattle.pg_cells.specs.Making.{own_next, raise_flag}
+use Rattle.pg_cells.specs.Making.{make_flag, own_next, raise_flag}
 use Rattle.pg_cells.specs.Posting.{post, sent_to}
 use Rattle.pg_cells.specs.Taking.{is_any_news, is_place_news, take_entry_cell, take_entry_noted, take_flag_noted, take_flags_noted, take_place_noted, take_version_noted, with_doubt, with_left_if, with_news}
 use Rattle.pg_promises.specs.Laws.{AreAlike}
@@ -85,26 +85,27 @@ pub link_steps : (a : Store) (f : FileId) (peer birth : ℕ) → AreTogether a
     → Steps cells a (link a f peer birth)
 link_steps a f peer birth both = link_by a f peer birth both (replica_at a f) refl
 
--- ---- works of which the same was sent, to the same server
+-- ---- works of which the same was sent, also last, to the same server
 
 pub record IsSame (v w : Work) : Type 0 where
   pub sent : w.sent ≡ v.sent
   pub from : w.from ≡ v.from
+  pub tail : w.tail ≡ v.tail
 
 itself : (w : Work) → IsSame w w
-itself w = record { sent = refl; from = refl }
+itself w = record { sent = refl; from = refl; tail = refl }
 
 pub then_same : (u v w : Work) → IsSame u v → IsSame v w → IsSame u w
-then_same u v w one two = record { sent = two.sent ∙ one.sent; from = two.from ∙ one.from }
+then_same u v w one two = record { sent = two.sent ∙ one.sent; from = two.from ∙ one.from; tail = two.tail ∙ one.tail }
 
 news_same : (t : Bool) (w : Work) (f : FileId) (k : Key) → IsSame w (with_news t w f k)
 news_same t w f k =
-    chosen (IsSame w) t (with_touched w f k) w (record { sent = refl; from = refl }) (itself w)
+    chosen (IsSame w) t (with_touched w f k) w (record { sent = refl; from = refl; tail = refl }) (itself w)
 
 left_same : (w : Work) (f : FileId) (old : Place) → IsSame w (note_left w f old)
 left_same w f old =
     chosen (IsSame w) (old.live && not (is_root f)) (with_left w old.parent f) w
-    (record { sent = refl; from = refl }) (itself w)
+    (record { sent = refl; from = refl; tail = refl }) (itself w)
 
 left_if_same : (t : Bool) (w : Work) (f : FileId) (old : Place) → IsSame w (with_left_if t w f old)
 left_if_same t w f old =
@@ -112,13 +113,13 @@ left_if_same t w f old =
 
 doubt_same : (t : Bool) (w : Work) (d c : FileId) → IsSame w (with_doubt t w d c)
 doubt_same t w d c =
-    chosen (IsSame w) t (with_unsure w d c) w (record { sent = refl; from = refl }) (itself w)
+    chosen (IsSame w) t (with_unsure w d c) w (record { sent = refl; from = refl; tail = refl }) (itself w)
 
 pub link_same : (b : Store) (f : FileId) (peer birth : ℕ) (w : Work)
     → IsSame w (link_peer b f peer birth w).work
 link_same b f peer birth w =
     chosen (IsSame w) (is_new_link b f peer birth) (with_linked w f peer) w
-    (record { sent = refl; from = refl }) (itself w)
+    (record { sent = refl; from = refl; tail = refl }) (itself w)
 
 pub place_same : (b : Store) (f : FileId) (place : Place) (w : Work)
     → IsSame w (take_place_noted b f place w).work
@@ -149,49 +150,59 @@ version_same b f v w = news_same (is_new_version b f v) w f (key.Version v.head.
 
 -- ---- Server s of n came from a, having heard this
 
--- the flags of a grant are by server
-abbrev pub IsGrantOrdered : Message → Type 0
-IsGrantOrdered (message.Grant ends granted) = IsByServer granted.flags
-IsGrantOrdered _ = Unit {0}
+-- the flags of a grant are by server, and the origin of a walk is one of n servers
+abbrev pub IsWellSaid : ℕ → Message → Type 0
+IsWellSaid n (message.Grant ends granted) = IsByServer granted.flags
+IsWellSaid n (message.Walk ends origin birth hops word) = (1 ≤ origin) × (origin ≤ n)
+IsWellSaid n _ = Unit {0}
 
-abbrev pub AreGrantsOrdered : List Sent → Type 0
-AreGrantsOrdered ms = All (λ m. IsGrantOrdered m.packet.message) ms
+abbrev pub AreWellSaid : ℕ → List Sent → Type 0
+AreWellSaid n ms = All (λ m. IsWellSaid n m.packet.message) ms
 
--- it came to b so far, by the rule, and these are sent
-pub record Goes (n s : ℕ) (a : Store) (heard : Saying Slot Cell) (b : Store) (sent : List Sent) : Type 0 where
+-- what goes last the edges do not read
+abbrev pub MayGoLast : ℕ → Sent → Type 0
+MayGoLast n m = (says m ≡ Other) × IsWellSaid n m.packet.message
+
+-- it came to b so far, by the rule, these are sent, and those last
+pub record Goes (n s : ℕ) (a : Store) (heard : Saying Slot Cell) (b : Store) (sent tail : List Sent) : Type 0 where
   pub way : IsUnderWay n s a heard b sent
-  pub grants : AreGrantsOrdered sent
+  pub said : AreWellSaid n sent
+  pub last : All (MayGoLast n) tail
 
 module _ (n s : ℕ) (a : Store) (heard : Saying Slot Cell) where
   abbrev pub Stands : Store → Work → Type 0
-  Stands b work = Goes n s a heard b work.sent
+  Stands b work = Goes n s a heard b work.sent work.tail
 
   abbrev pub IsDone : Done → Type 0
   IsDone d = Stands d.store d.work
 
   pub same_done : (b : Store) (v w : Work) → IsSame v w → Stands b v → Stands b w
-  same_done b v w same u = subst (λ (ms : List Sent). Goes n s a heard b ms) (sym same.sent) u
+  same_done b v w same u =
+      subst (λ (ms : List Sent). Goes n s a heard b ms w.tail) (sym same.sent)
+      (subst (λ (ms : List Sent). Goes n s a heard b v.sent ms) (sym same.tail) u)
 
   -- nothing is done yet
   pub nothing_done : (moment from : ℕ) → IsWhole n s a → Stands a (new_work moment from)
   nothing_done moment from k = record {
     way = begun n s a heard k;
-    grants = All-nil (λ (m : Sent). IsGrantOrdered m.packet.message);
+    said = All-nil (λ (m : Sent). IsWellSaid n m.packet.message);
+    last = All-nil (MayGoLast n);
   }
 
   -- it goes on by steps
   pub on_done : (b : Store) (work : Work) → Stands b work → (c : Store) → Steps cells b c → IsWhole n s c
       → Stands c work
   on_done b work u c steps whole =
-      record { way = goes_on n s a heard b work.sent u.way c steps whole; grants = u.grants }
+      record { way = goes_on n s a heard b work.sent u.way c steps whole; said = u.said; last = u.last }
 
   -- one message more is sent
   pub sent_done : (b : Store) (work : Work) → Stands b work → (m : Sent)
-      → ((c : Store) → Steps cells b c → AllMay cells s a c heard (m ∷ [])) → IsGrantOrdered m.packet.message
+      → ((c : Store) → Steps cells b c → AllMay cells s a c heard (m ∷ [])) → IsWellSaid n m.packet.message
       → Stands b (with_sent work m)
-  sent_done b work u m may ordered = record {
+  sent_done b work u m may well = record {
     way = sends_on n s a heard b work.sent u.way (m ∷ []) may;
-    grants = All-push (λ (m : Sent). IsGrantOrdered m.packet.message) work.sent m u.grants ordered;
+    said = All-push (λ (m : Sent). IsWellSaid n m.packet.message) work.sent m u.said well;
+    last = u.last;
   }
 
   module _ (b : Store) (work : Work) (u : Stands b work) where
@@ -266,14 +277,23 @@ module _ (n s : ℕ) (a : Store) (heard : Saying Slot Cell) where
         (whole_alike n s b u.way.whole c alike patches)
 
     -- WHAT THE EDGES DO NOT READ IS SENT
-    pub posted : (to : ℕ) (m : Message) → ((from : ℕ) → saying from to m ≡ Other) → IsGrantOrdered m
+    pub posted : (to : ℕ) (m : Message) → ((from : ℕ) → saying from to m ≡ Other) → IsWellSaid n m
         → Stands b (post b to m work)
-    posted to m other ordered =
+    posted to m other well =
         let sent = sent_to b to m in
         sent_done b work u sent
         (λ c f. others_may s a c heard (sent ∷ [])
         (All-cons (λ z. says z ≡ Other) sent [] (other b.names.server) (All-nil (λ z. says z ≡ Other))))
-        ordered
+        well
+
+    -- AND GOES LAST
+    pub posted_last : (to : ℕ) (m : Message) → ((from : ℕ) → saying from to m ≡ Other) → IsWellSaid n m
+        → Stands b (with_tail work (sent_to b to m))
+    posted_last to m other well = record {
+      way = u.way;
+      said = u.said;
+      last = All-push (MayGoLast n) work.tail (sent_to b to m) u.last (other b.names.server, well);
+    }
 
   -- ---- more of these
 
@@ -284,8 +304,10 @@ module _ (n s : ℕ) (a : Store) (heard : Saying Slot Cell) where
       let d = take_flag_noted b f flag work in
       flags_done fs d.store d.work f (flag_done b work u f flag)
 
+  pub made_flag_done : (b : Store) (work : Work) (f : FileId) (flag : Flag) → Stands b work
+      → IsDone (make_flag b f flag work)
+  made_flag_done b work f flag u = flag_done b (with_made work (update.Flag f flag)) u f flag
+
   pub raised_done : (b : Store) (work : Work) (f : FileId) → Stands b work
       → IsDone (raise_flag b f work)
-  raised_done b work f u =
-      let flag = own_next b f true in
-      flag_done b (with_made work (update.Flag f flag)) u f flag
+  raised_done b work f u = made_flag_done b work f (own_next b f true) u

@@ -23,14 +23,14 @@ use Rattle.pg_kept.specs.Laws.{StandOn}
 use Rattle.pg_kept.proofs.Effects.{SuitsInput, effect_good, first_done, heard_in}
 use Rattle.pg_kept.proofs.Ends.{IsFirst, IsKind}
 use Rattle.pg_kept.proofs.Histories.{are_of_history, message_suits}
-use Rattle.pg_kept.proofs.Pieces.{AreGrantsOrdered, IsGrantOrdered}
+use Rattle.pg_kept.proofs.Pieces.{AreWellSaid, IsWellSaid}
 
 -- THE INVARIANT of a world
 pub record Keeps (n : ℕ) (w : World) : Type 0 where
   pub whole : (s : ℕ) → IsWhole n s (w.stores s)
   pub tags : (s : ℕ) → HasSoundTags cells (w.stores s)
   pub edges : KeepsEdges cells w.stores (mail w.journal)
-  pub grants : AreGrantsOrdered (mail w.journal)
+  pub said : AreWellSaid n (mail w.journal)
 
 -- what holds of all holds of a member
 pub all_at : {A : Type 0} (P : A → Type 0) (xs : List A) (x : A) → All P xs → Contains xs x → P x
@@ -49,7 +49,7 @@ starts n = record {
   whole = start_whole n;
   tags = start_tags n;
   edges = start_kept n;
-  grants = All-nil (λ (m : Sent). IsGrantOrdered m.packet.message);
+  said = All-nil (λ (m : Sent). IsWellSaid n m.packet.message);
 }
 
 -- ---- a server of a run takes an input
@@ -83,7 +83,7 @@ module _ (n : ℕ) (on : StandOn n) (events : List Event) (event : Event) (t : T
       subst PatchesAreForDirs behind_is
       ((on.directories (events ++ event ∷ [])).patches S acts.least acts.most)
 
-  suits_by : (asked : Input) → t.asked ≡ asked → SuitsInput A asked
+  suits_by : (asked : Input) → t.asked ≡ asked → SuitsInput n A asked
   suits_by (input.Call moment call) same = tt
   suits_by (input.Tick moment word) same = tt
   suits_by (input.Arrival packet) same =
@@ -91,7 +91,7 @@ module _ (n : ℕ) (on : StandOn n) (events : List Event) (event : Event) (t : T
       let sent : Contains (mail W.journal) m = subst (HasCome W S) same acts.came in
       message_suits n on.contents events S acts.least acts.most packet.message
       (on.contents.carried events m sent)
-      (all_at (λ (x : Sent). IsGrantOrdered x.packet.message) (mail W.journal) m k.grants sent)
+      (all_at (λ (x : Sent). IsWellSaid n x.packet.message) (mail W.journal) m k.said sent)
       ((on.directories events).told m sent)
   suits_by input.Restart same = tt
 
@@ -108,12 +108,12 @@ module _ (n : ℕ) (on : StandOn n) (events : List Event) (event : Event) (t : T
   pub first_is : IsFirst n S A (heard_in S t.asked) (first_effect A t.asked)
   first_is =
       first_done n S A (k.whole S) (are_of_history n on.contents events S acts.least acts.most)
-      (on.away events S acts.least acts.most) t.asked (suits_by t.asked refl) (k.tags S)
+      (on.away events S acts.least acts.most) t.asked acts.least acts.most (suits_by t.asked refl) (k.tags S)
 
   pub good : IsKind n S A (heard_in S t.asked) B Out
   good =
       effect_good n S A (k.whole S) (are_of_history n on.contents events S acts.least acts.most)
-      (on.away events S acts.least acts.most) t.asked (suits_by t.asked refl) (k.tags S) patches
+      (on.away events S acts.least acts.most) t.asked acts.least acts.most (suits_by t.asked refl) (k.tags S) patches
 
   pub acted : Keeps n (world_after W (effect_step W event S t.asked))
   acted = record {
@@ -123,13 +123,13 @@ module _ (n : ℕ) (on : StandOn n) (events : List Event) (event : Event) (t : T
         other_way (after W.stores S B) (mail W.journal) Out
         (event_keeps cells W.stores S B (heard_in S t.asked) Out (mail W.journal) (mail W.journal) k.edges
         good.good.rule (heard_by t.asked refl) k.edges.promises);
-    grants = All-append (λ (m : Sent). IsGrantOrdered m.packet.message) Out (mail W.journal) good.grants k.grants;
+    said = All-append (λ (m : Sent). IsWellSaid n m.packet.message) Out (mail W.journal) good.said k.said;
   }
 
 -- EVERY RUN KEEPS IT
 pub run_keeps : (n : ℕ) → StandOn n → (events : List Event) → Keeps n (run n events)
 run_keeps n on events = holds_in_runs n (Keeps n) (record {
   first = starts n;
-  idle = λ w event cause k. record { whole = k.whole; tags = k.tags; edges = k.edges; grants = k.grants };
+  idle = λ w event cause k. record { whole = k.whole; tags = k.tags; edges = k.edges; said = k.said };
   acts = λ before event t is acts k. acted n on before event t is acts k;
 }) events

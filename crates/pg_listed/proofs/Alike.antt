@@ -1,6 +1,6 @@
 -- Stores that directories see alike: places, cells and Patches are the same, and Confirms go on. A first
 -- part of a step may begin and end with such a change.
-use Rattle.std.proofs.Common.{ℕ, ◌≡◌, ◌<◌, ◌≤◌, true, Bool, Option, None, Some, refl, sym, ap, subst, ◌∙◌, inl, inr, ◌⊎◌, arith}
+use Rattle.std.proofs.Common.{ℕ, ◌≡◌, ◌<◌, ◌≤◌, refl, sym, ap, ◌∙◌, inl, inr, arith}
 use Rattle.pg_base.specs.declared.id.FileId.{FileId}
 use Rattle.pg_base.specs.declared.stamp.Stamp.{Stamp}
 use Rattle.pg_house.specs.Holding.{waits}
@@ -10,7 +10,6 @@ use Rattle.pg_listing.specs.Protocol.{AtLeast, Lists}
 use Rattle.pg_listing.specs.Parts.{FirstPart, NoneLater}
 use Rattle.pg_listing.specs.Rule.{Holds, IsToldAt}
 use Rattle.pg_listing.proofs.Handlers.{calm_first}
-use Rattle.pg_names.specs.declared.own.Own.{Own}
 use Rattle.pg_names.specs.Names.{cell_at, own_at}
 use Rattle.pg_register.specs.declared.place.Place.{Place}
 use Rattle.pg_store.specs.declared.store.Store.{Store}

@@ -12,7 +12,7 @@ use Rattle.pg_intent.specs.declared.intent.Intent.{Intent}
 use Rattle.pg_intent.specs.declared.intent.Intent.TheVariants as intent
 use Rattle.pg_intent.specs.declared.key.IntentKey.{IntentKey}
 use Rattle.pg_intent.specs.declared.key.IntentKey.TheVariants as intent_key
-use Rattle.pg_intent.specs.Intents.{ended, has_key, intent_at, stands}
+use Rattle.pg_intent.specs.Intents.{ended, intent_at, stands}
 use Rattle.pg_intent.specs.Key.{is_same_key}
 use Rattle.pg_intent.proofs.Found.{ended_found, stands_is}
 use Rattle.pg_listing.specs.Protocol.{AtLeast, AtMost}

@@ -1,12 +1,13 @@
 -- What stands behind the first part of a step is a second part.
-use Rattle.std.proofs.Common.{ℕ, ◌≡◌, ◌&&◌, not, Bool, true, false, drop, length, Option, None, Some, refl, sym, ap, subst, ◌∙◌, inl, inr, ◌⊎◌}
-use Rattle.std.proofs.lemmas.Option.{none-some, same_Some}
+use Rattle.std.proofs.Common.{◌≡◌, not, true, drop, length, Option, None, Some, refl, sym, ap, subst, ◌∙◌, inl, inr, ◌⊎◌}
+use Rattle.std.proofs.lemmas.Option.{none-some}
 use Rattle.pg_base.specs.declared.id.FileId.{FileId}
 use Rattle.pg_base.specs.Id.{is_same_file}
 use Rattle.pg_base.specs.Stamp.{is_before}
 use Rattle.pg_base.proofs.Orders.{is_same_file-refl}
 use Rattle.pg_entries.specs.declared.entry.Entry.{Entry}
 use Rattle.pg_entries.specs.Entry.{is_listed}
+use Rattle.pg_house.specs.Calm.{IsSameOrPlaced, held_place}
 use Rattle.pg_house.specs.Facts.{AreByServer, IsLast, IsLeft, IsOfDirs, IsOneOf}
 use Rattle.pg_house.specs.House.{house}
 use Rattle.pg_house.specs.Work.{State, state_of}
@@ -19,6 +20,8 @@ use Rattle.pg_listing.specs.Protocol.{Above, AtLeast, IsIn, Lists}
 use Rattle.pg_listing.specs.Parts.{SecondPart}
 use Rattle.pg_listing.specs.Rule.{IsToldAt}
 use Rattle.pg_msg.specs.declared.work.Slot.{Slot}
+use Rattle.pg_msg.specs.declared.work.Work.{Work}
+use Rattle.pg_names.specs.declared.own.Own.{Own}
 use Rattle.pg_names.specs.Names.{NamesValue, own_at, own_or_blank, or_blank}
 use Rattle.pg_names.specs.Names as names
 use Rattle.pg_places.proofs.Behind.{touched_intents, touched_names}
@@ -27,7 +30,7 @@ use Rattle.pg_repair.specs.Confirms.{is_doubtful, is_doubtful_cell}
 use Rattle.pg_repair.proofs.Steady.{begin_end_stays}
 use Rattle.pg_run.specs.Intending.{IntendsInOrder}
 use Rattle.pg_server.specs.Local.{intended, settled}
-use Rattle.pg_settled.specs.Listing.{cell_place, listing, own_place}
+use Rattle.pg_settled.specs.Listing.{HaveSamePlaces, cell_place, listing, own_place}
 use Rattle.pg_settled.specs.Second.{Intends}
 use Rattle.pg_settled.proofs.Given.{nothing_begins, replaced_are_noted}
 use Rattle.pg_settled.proofs.Second.{rules_are_second_parts}
@@ -36,11 +39,24 @@ use Rattle.pg_settled.proofs.Works.{house_unsure}
 use Rattle.pg_store.specs.declared.store.Store.{Store}
 use Rattle.pg_store.specs.Store.{is_held, with_names}
 use Rattle.pg_cells.specs.Done.{Done}
+use Rattle.pg_cells.specs.Raised.{DiffersByGolds}
+use Rattle.pg_cells.specs.Settling.{ruled}
+use Rattle.pg_cells.proofs.Calmed.{settle_golds}
 use Rattle.pg_listed.specs.Laws.{MaySettle}
 use Rattle.pg_listed.specs.Letters.{Letter, beside, of_stores, patch_place}
 use Rattle.pg_listed.proofs.Heard.{IsFirst}
 use Rattle.pg_listed.proofs.Settling.{newly_asked, patch_begins, patch_found, patch_grows, still_asked}
 use Rattle.pg_listed.proofs.Views.{none_away, patch_is}
+
+-- ---- golds that are raised change no place
+
+placed_by : (o : Option Own) → own_place o ≡ held_place o
+placed_by None = refl
+placed_by (Some own) = refl
+
+cell_by : (o p : Option Entry) → IsSameOrPlaced o p → cell_place p ≡ cell_place o
+cell_by o p (inl same) = ap cell_place same
+cell_by o p (inr k) = ap cell_place k.3 ∙ ap (λ (q : Place). Some q) k.4 ∙ sym (ap cell_place k.2)
 
 module _ (a : Store) (heard : Letter) (d : Done) (k : IsFirst a heard d) (sound : MaySettle d.store.names) (order : IntendsInOrder (intended (settled d)).store) where
   abbrev St : State
@@ -49,26 +65,55 @@ module _ (a : Store) (heard : Letter) (d : Done) (k : IsFirst a heard d) (sound 
   abbrev End : State
   End = house d.work.now St
 
+  abbrev R : Done
+  R = ruled d
+
   abbrev S : Done
   S = settled d
 
   abbrev B : Store
   B = (intended S).store
 
-  s_names : S.store.names ≡ End.names
-  s_names = touched_names (drop (length d.work.touched) End.work.touched) (with_names d.store End.names)
+  r_names : R.store.names ≡ End.names
+  r_names = touched_names (drop (length d.work.touched) End.work.touched) (with_names d.store End.names)
+
+  r_intents : R.store.intents ≡ d.store.intents
+  r_intents = touched_intents (drop (length d.work.touched) End.work.touched) (with_names d.store End.names)
+
+  -- behind the rules golds alone are raised
+  differs : DiffersByGolds R S
+  differs = settle_golds d.store d.work sound.of_dirs sound.by_server sound.last sound.ordered
 
   s_intents : S.store.intents ≡ d.store.intents
-  s_intents = touched_intents (drop (length d.work.touched) End.work.touched) (with_names d.store End.names)
+  s_intents = ap (λ (x : Store). x.intents) differs.store ∙ r_intents
+
+  s_left : S.work.left ≡ End.work.left
+  s_left = ap (λ (w : Work). w.left) differs.work
+
+  s_unsure : S.work.unsure ≡ d.work.unsure
+  s_unsure = ap (λ (w : Work). w.unsure) differs.work ∙ house_unsure d.work.now St
 
   same_names : B.names ≡ S.store.names
   same_names = (begin_end_stays S.store S.work).names
 
-  pub b_names : B.names ≡ End.names
-  b_names = same_names ∙ s_names
+  own_end : (f : FileId) → own_place (own_at B.names f) ≡ own_place (own_at End.names f)
+  own_end f =
+      ap (λ (n : NamesValue). own_place (own_at n f)) same_names
+      ∙ placed_by (own_at S.store.names f) ∙ differs.places f ∙ sym (placed_by (own_at R.store.names f))
+      ∙ ap (λ (n : NamesValue). own_place (own_at n f)) r_names
 
-  mid_names : B.names ≡ (house d.work.now (state_of k.mid.names d.work)).names
-  mid_names = b_names ∙ ap (λ (n : NamesValue). (house d.work.now (state_of n d.work)).names) (sym k.names)
+  cell_end : (dir c : FileId) → cell_place (names.cell_at B.names dir c) ≡ cell_place (names.cell_at End.names dir c)
+  cell_end dir c =
+      ap (λ (n : NamesValue). cell_place (names.cell_at n dir c)) same_names
+      ∙ cell_by (names.cell_at R.store.names dir c) (names.cell_at S.store.names dir c) (differs.cells dir c)
+      ∙ ap (λ (n : NamesValue). cell_place (names.cell_at n dir c)) r_names
+
+  -- so the places in the end are those behind the rules
+  end_places : HaveSamePlaces End.names B.names
+  end_places = record { own = own_end; cells = cell_end }
+
+  mid_places : HaveSamePlaces (house d.work.now (state_of k.mid.names d.work)).names B.names
+  mid_places = subst (λ (n : NamesValue). HaveSamePlaces (house d.work.now (state_of n d.work)).names B.names) (sym k.names) end_places
 
   own_of_mid : (c : FileId) (o : Option Place) → of_stores.own k.mid c ≡ o → of_stores.own d.store c ≡ o
   own_of_mid c o h = sym (ap (λ (n : NamesValue). own_place (own_at n c)) k.names) ∙ h
@@ -87,19 +132,22 @@ module _ (a : Store) (heard : Letter) (d : Done) (k : IsFirst a heard d) (sound 
   in_list : (dir c : FileId) (q : Place) → IsIn of_stores dir c q → IsIn listing dir c q
   in_list dir c q i = record { live = i.live; parent = i.parent; inner = i.inner }
 
+  still_left : (dir c : FileId) → IsLeft End.work dir c → IsLeft S.work dir c
+  still_left dir c h = subst (IsOneOf {A = Slot} (record { dir = dir; child = c })) (sym s_left) h
+
   -- it is noted that a live place was replaced, by the rules
   left_behind : (dir c : FileId) (q r : Place) → of_stores.own d.store c ≡ Some q → IsIn of_stores dir c q → of_stores.own B c ≡ Some r → is_before q.stamp r.stamp ≡ true → IsLeft S.work dir c
   left_behind dir c q r was in_ now low =
-      replaced_are_noted d.work.now St dir c q r was (in_list dir c q in_) (sym (ap (λ (n : NamesValue). own_place (own_at n c)) b_names) ∙ now) low
+      still_left dir c (replaced_are_noted d.work.now St dir c q r was (in_list dir c q in_) (sym (own_end c) ∙ now) low)
 
   -- or before
   left_before : (dir c : FileId) (q : Place) → IsIn of_stores dir c q → IsLeft d.work q.parent c → IsLeft S.work dir c
-  left_before dir c q in_ left = (noted d.work.now St).stays (record { dir = dir; child = c }) (subst (λ (x : FileId). IsLeft d.work x c) in_.parent left)
+  left_before dir c q in_ left = still_left dir c ((noted d.work.now St).stays (record { dir = dir; child = c }) (subst (λ (x : FileId). IsLeft d.work x c) in_.parent left))
 
   left_by : (dir c : FileId) (q r : Place) (o : Option Place) → of_stores.own d.store c ≡ o → of_stores.own a c ≡ Some q → IsIn of_stores dir c q → of_stores.own B c ≡ Some r → is_before q.stamp r.stamp ≡ true
       → IsLeft S.work dir c
   left_by dir c q r None is was in_ now low =
-      absurd (none-some r (sym (nothing_begins d.work.now St c is) ∙ sym (ap (λ (n : NamesValue). own_place (own_at n c)) b_names) ∙ now))
+      absurd (none-some r (sym (nothing_begins d.work.now St c is) ∙ sym (own_end c) ∙ now))
   left_by dir c q r (Some x) is was in_ now low = elim (k.noted.noted c q x was is in_.inner in_.live.0) [
     | inl same ↦ left_behind dir c q r (is ∙ ap (λ (y : Place). Some y) (sym same)) in_ now low
     | inr left ↦ left_before dir c q in_ left
@@ -137,7 +185,7 @@ module _ (a : Store) (heard : Letter) (d : Done) (k : IsFirst a heard d) (sound 
       let doubt = doubtful dir c q l none in
       elim (k.confirms dir c owes) [
         | inl stood ↦ still_asked S.store S.work dir c doubt (ap (λ is. stands is (intent_key.Confirm dir c)) s_intents ∙ stood)
-        | inr unsure ↦ newly_asked S.store S.work dir c doubt (subst (IsOneOf {A = Slot} (record { dir = dir; child = c })) (sym (house_unsure d.work.now St)) unsure)
+        | inr unsure ↦ newly_asked S.store S.work dir c doubt (subst (IsOneOf {A = Slot} (record { dir = dir; child = c })) (sym s_unsure) unsure)
       ]
 
   intends : Intends (λ (x : Store). x.names) beside a k.mid B
@@ -156,4 +204,4 @@ module _ (a : Store) (heard : Letter) (d : Done) (k : IsFirst a heard d) (sound 
   pub second_part : SecondPart of_stores a k.mid B
   second_part =
       let back : d.store.names ≡ k.mid.names = sym k.names in
-      rules_are_second_parts (λ (x : Store). x.names) beside d.work.now d.work a k.mid B (subst IsOfDirs back sound.of_dirs) (subst AreByServer back sound.by_server) (subst IsLast back sound.last) mid_names intends
+      rules_are_second_parts (λ (x : Store). x.names) beside d.work.now d.work a k.mid B (subst IsOfDirs back sound.of_dirs) (subst AreByServer back sound.by_server) (subst IsLast back sound.last) mid_places intends

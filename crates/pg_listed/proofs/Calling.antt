@@ -1,11 +1,10 @@
 -- The first part of a step, for each call.
-use Rattle.std.proofs.Common.{ℕ, ◌≡◌, ◌==◌, Bool, true, false, cond, List, [], ◌∷◌, ◌++◌, Option, None, Some, Result, Ok, Err, refl, sym, ap, subst, ◌∙◌, inl, inr, ◌⊎◌}
+use Rattle.std.proofs.Common.{ℕ, ◌≡◌, ◌==◌, true, false, List, Option, None, Some, Result, Ok, Err, refl, sym, subst}
 use Rattle.pg_base.specs.declared.id.FileId.{FileId}
 use Rattle.pg_base.specs.declared.id.Kind.{Kind}
 use Rattle.pg_base.specs.declared.id.Kind.TheVariants.{Dir, File}
 use Rattle.pg_base.specs.declared.policy.Policy.{Policy}
 use Rattle.pg_base.specs.declared.policy.Policy.TheVariants.{Last}
-use Rattle.pg_base.specs.declared.stamp.Stamp.{Stamp}
 use Rattle.pg_call.specs.declared.call.Call.{Call}
 use Rattle.pg_call.specs.declared.call.Call.TheVariants as call
 use Rattle.pg_call.specs.declared.reply.Reply.{Reply}
@@ -23,7 +22,7 @@ use Rattle.pg_run.specs.Intending.{IntendsInOrder, PatchesStand}
 use Rattle.pg_store.specs.declared.store.Store.{Store}
 use Rattle.pg_store.specs.declared.wishes.Wish.{Wish}
 use Rattle.pg_store.specs.Births.{draw_birth, with_birth, with_wish}
-use Rattle.pg_store.specs.Store.{is_held, take_place, write}
+use Rattle.pg_store.specs.Store.{is_held}
 use Rattle.pg_walk.specs.declared.paths.Found.{Found}
 use Rattle.pg_walk.specs.declared.paths.Stop.{Stop}
 use Rattle.pg_walk.specs.declared.paths.Stop.TheVariants as stop
@@ -34,14 +33,15 @@ use Rattle.pg_calls.specs.Asking.{ask_by, fetch, fresh_wish, holder, standing}
 use Rattle.pg_calls.specs.Bodies.{change, change_file, when_fit}
 use Rattle.pg_calls.specs.Calls.{do_call}
 use Rattle.pg_calls.specs.Checks.{dir_at, empty_dir_at, file_at, in_time, move_of, new_name, target_at}
-use Rattle.pg_calls.specs.Making.{drawn, first_ranges, make_place, make_version}
-use Rattle.pg_calls.specs.Naming.{begun, dead_place, next_id, place_in, raised, with_first_version, with_id, with_thing}
+use Rattle.pg_calls.specs.Demoting.{demoted_at, lowered}
+use Rattle.pg_calls.specs.Making.{drawn, make_place, make_version}
+use Rattle.pg_calls.specs.Naming.{begun, dead_place, next_id, place_in, with_first_version, with_id, with_thing}
 use Rattle.pg_listed.specs.Letters.{Letter, of_stores}
-use Rattle.pg_listed.proofs.Alike.{Alike, Alike-refl, Alike-trans, alike_by, alike_first, before_alike, behind_alike}
+use Rattle.pg_listed.proofs.Alike.{Alike, Alike-refl, alike_by, before_alike, behind_alike}
 use Rattle.pg_listed.proofs.Heard.{IsBehind, IsFirst, alike_is, idle_first, place_is, plainly}
-use Rattle.pg_listed.proofs.Placed.{IsNoted, noted_from, noted_on, place_first, place_left, place_noted, same_noted}
-use Rattle.pg_listed.proofs.Starting.{IsStarted, kept_own, started, started_first, started_noted, then_placed}
-use Rattle.pg_listed.proofs.Unseen.{later_alike, raised_alike, raised_left}
+use Rattle.pg_listed.proofs.Placed.{IsNoted, noted_from, noted_on}
+use Rattle.pg_listed.proofs.Starting.{IsStarted, started, started_first, started_noted, then_placed}
+use Rattle.pg_listed.proofs.Unseen.{later_alike, lowered_alike, raised_alike, raised_left}
 
 -- an id, or a birth, that is given out changes nothing else
 given_behind : (a : Store) → IsBehind a → IsBehind (with_birth (with_id a))
@@ -170,7 +170,7 @@ module _ (a : Store) (behind : IsBehind a) (order : IntendsInOrder a) (fresh : (
   call_first (call.Unlink text) = going (file_at a text) _ (λ f. moved_first f (dead_place a moment f) reply.Done)
   call_first (call.Rmdir text) = going (empty_dir_at a text) _ (λ d. moved_first d (dead_place a moment d) reply.Done)
   call_first (call.Forget id) = looks (in_time a (tt {0})) _
-  call_first (call.Demote target) = looks (in_time a (tt {0})) _
+  call_first (call.Demote target) = going (demoted_at a target) _ (λ f. alike_is a behind heard view (lowered a f W) (lowered_alike a f W))
   call_first (call.Drop target) = looks (in_time a (tt {0})) _
   call_first (call.Giveup view server) = looks (in_time a (tt {0})) _
   call_first call.Status = looks (in_time a (tt {0})) _

@@ -1,21 +1,17 @@
 -- The first part of a step, where a message comes.
-use Rattle.std.proofs.Common.{ℕ, ◌≡◌, ◌≢◌, ◌&&◌, ◌||◌, not, Bool, true, false, cond, List, [], ◌∷◌, ◌++◌, Option, None, Some, is_some, refl, sym, ap, subst, ◌∙◌, inl, inr, ◌⊎◌}
+use Rattle.std.proofs.Common.{ℕ, ◌≡◌, ◌&&◌, ◌||◌, not, Bool, true, false, cond, List, Option, None, Some, is_some, refl, sym, ap, subst, ◌∙◌, inl, inr, ◌⊎◌}
 use Rattle.std.proofs.lemmas.Bool.{and_parts, false≢true}
 use Rattle.std.proofs.lemmas.Option.{none-some, same_Some}
 use Rattle.pg_base.specs.declared.id.FileId.{FileId}
-use Rattle.pg_base.specs.declared.stamp.Stamp.{Stamp}
 use Rattle.pg_base.specs.Id.{is_same_file}
 use Rattle.pg_base.specs.Stamp.{is_before}
 use Rattle.pg_base.proofs.Orders.{is_same_file-refl, is_same_file-true}
 use Rattle.pg_content.specs.History.{is_same_stamp}
 use Rattle.pg_content.proofs.Stamps.{same_stamp}
-use Rattle.pg_entries.specs.declared.cell.Cell.{Cell}
-use Rattle.pg_entries.specs.declared.cell.Cell.TheVariants as cells
 use Rattle.pg_entries.specs.declared.entry.Entry.{Entry}
 use Rattle.pg_entries.specs.Entry.{is_listed}
-use Rattle.pg_house.specs.Facts.{IsLeft, IsOneOf}
+use Rattle.pg_house.specs.Facts.{IsOneOf}
 use Rattle.pg_house.specs.Holding.{waits}
-use Rattle.pg_house.specs.Work.{is_root}
 use Rattle.pg_house.proofs.Noting.{one_last}
 use Rattle.pg_house.proofs.Truths.{both_true, not_true, or_cases}
 use Rattle.pg_intent.specs.declared.intent.Intent.{Intent}
@@ -28,35 +24,26 @@ use Rattle.pg_intent.proofs.SameKey.{is_same_key-refl}
 use Rattle.pg_intent.proofs.Found.{begun_found, ended_found, stands_is}
 use Rattle.pg_listing.specs.Protocol.{IsIn, IsUpTo, Lists}
 use Rattle.pg_listing.specs.Parts.{FirstPart, NoneLater}
-use Rattle.pg_listing.specs.Rule.{HasCell, IsJustTold}
-use Rattle.pg_listing.proofs.Handlers.{begun_first, calm_first, cells_first}
-use Rattle.pg_msg.specs.declared.message.Ends.{Ends}
-use Rattle.pg_msg.specs.declared.message.Granted.{Granted}
+use Rattle.pg_listing.specs.Rule.{IsJustTold}
+use Rattle.pg_listing.proofs.Handlers.{cells_first}
 use Rattle.pg_msg.specs.declared.work.Slot.{Slot}
 use Rattle.pg_msg.specs.declared.work.Work.{Work}
-use Rattle.pg_names.specs.declared.own.Own.{Own}
 use Rattle.pg_names.specs.Names.{cell_at, own_at}
 use Rattle.pg_names.specs.Names as names
-use Rattle.pg_promises.proofs.Choices.{chosen, decided}
 use Rattle.pg_register.specs.declared.place.Place.{Place}
 use Rattle.pg_register.specs.Flag.{is_removed}
 use Rattle.pg_settled.specs.Listing.{cell_place, own_place}
 use Rattle.pg_settled.proofs.Seen.{before_trans}
 use Rattle.pg_store.specs.declared.store.Store.{Store}
 use Rattle.pg_store.specs.Beginning.{with_intents}
-use Rattle.pg_store.specs.Births.{is_pending}
 use Rattle.pg_store.specs.Store.{entry_news, take_entry, take_place}
-use Rattle.pg_store.proofs.Given.{pending_may}
 use Rattle.pg_cells.specs.Done.{Done, idle}
-use Rattle.pg_cells.specs.Taking.{is_place_news, take_entry_cell, take_entry_noted, take_place_noted, with_doubt, with_news}
+use Rattle.pg_cells.specs.Taking.{is_place_news, take_entry_cell, take_entry_noted, take_place_noted, with_doubt}
 use Rattle.pg_repair.specs.Confirming.{end_confirmed, is_confirmed, is_confirmed_by}
-use Rattle.pg_repair.specs.Telling.{end_told, is_told}
-use Rattle.pg_run.specs.Intending.{IntendsInOrder}
 use Rattle.pg_listed.specs.Letters.{Letter, of_stores, patch_place}
-use Rattle.pg_listed.proofs.Alike.{Alike, Alike-refl, alike_first, before_alike, behind_alike}
-use Rattle.pg_listed.proofs.Begun as begins
+use Rattle.pg_listed.proofs.Alike.{Alike, Alike-refl, alike_first, behind_alike}
 use Rattle.pg_listed.proofs.Joined as joined
-use Rattle.pg_listed.proofs.Placed.{IsNoted, noted_from, noted_on, place_first, place_left, place_noted, same_noted}
+use Rattle.pg_listed.proofs.Placed.{IsNoted, noted_from, noted_on, place_first, place_noted, same_noted}
 
 -- what a handler leaves, and a server that would owe the Confirms that are noted already
 -- names, patches: it holds and owes to tell the same

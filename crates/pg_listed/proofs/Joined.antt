@@ -1,9 +1,8 @@
 -- A cell of a directory comes: what is found then.
-use Rattle.std.proofs.Common.{ℕ, ◌≡◌, ◌||◌, Bool, true, false, cond, if◌then◌else◌, Option, None, Some, is_some, refl, sym, ap, subst, ◌∙◌, inl, inr, ◌⊎◌}
+use Rattle.std.proofs.Common.{◌≡◌, ◌||◌, Bool, true, false, cond, if◌then◌else◌, Option, None, Some, is_some, refl, sym, ap, subst, ◌∙◌, inl, inr, ◌⊎◌}
 use Rattle.std.proofs.lemmas.Bool.{false≢true}
 use Rattle.std.proofs.lemmas.Option.{none-some, same_Some}
 use Rattle.pg_base.specs.declared.id.FileId.{FileId}
-use Rattle.pg_base.specs.declared.stamp.Stamp.{Stamp}
 use Rattle.pg_base.specs.Stamp.{UpTo, is_before}
 use Rattle.pg_base.specs.Id.{is_same_file}
 use Rattle.pg_base.proofs.Orders.{is_before-false, is_same_file-true}

@@ -15,4 +15,5 @@ pub mod Others
 pub mod Sends
 pub mod Steps
 pub mod Saying
+pub mod Events
 pub mod Runs

@@ -1,5 +1,5 @@
 -- A place comes to a thing: the first part of a step, and what is noted.
-use Rattle.std.proofs.Common.{ℕ, ◌≡◌, ◌≢◌, ◌&&◌, not, Bool, true, false, cond, List, [], ◌∷◌, ◌++◌, Option, None, Some, refl, sym, ap, subst, ◌∙◌, inl, inr, ◌⊎◌}
+use Rattle.std.proofs.Common.{◌≡◌, ◌≢◌, Bool, true, false, cond, Option, None, Some, refl, sym, ap, subst, ◌∙◌, inl, inr, ◌⊎◌}
 use Rattle.std.proofs.lemmas.Option.{none-some, same_Some}
 use Rattle.pg_base.specs.declared.id.FileId.{FileId}
 use Rattle.pg_base.specs.Id.{is_same_file}
@@ -25,7 +25,7 @@ use Rattle.pg_promises.proofs.Choices.{chosen}
 use Rattle.pg_register.specs.declared.place.Place.{Place}
 use Rattle.pg_register.specs.Place.{newer_place, root}
 use Rattle.pg_settled.specs.Listing.{cell_place, own_place}
-use Rattle.pg_settled.proofs.Seen.{apart, own_is}
+use Rattle.pg_settled.proofs.Seen.{apart}
 use Rattle.pg_store.specs.declared.store.Store.{Store}
 use Rattle.pg_store.specs.Store.{is_newer_place, put_place, take_place}
 use Rattle.pg_cells.specs.Done.{Done}

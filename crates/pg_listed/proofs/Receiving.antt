@@ -1,11 +1,12 @@
 -- The first part of a step, for each kind of message.
-use Rattle.std.proofs.Common.{ℕ, ◌≡◌, ◌==◌, ◌&&◌, not, Bool, true, false, cond, List, [], ◌∷◌, Option, None, Some, is_some, refl, sym, ap, subst, ◌∙◌, inl, inr, ◌⊎◌}
+use Rattle.std.proofs.Common.{ℕ, ◌≡◌, ◌==◌, ◌&&◌, not, Bool, true, false, cond, List, Option, None, Some, is_some, refl, sym, ap, subst, ◌∙◌, inl, inr, ◌⊎◌}
 use Rattle.std.proofs.lemmas.Bool.{and_parts, false≢true}
-use Rattle.std.proofs.lemmas.Option.{none-some, same_Some}
+use Rattle.std.proofs.lemmas.Option.{same_Some}
 use Rattle.pg_base.specs.declared.id.FileId.{FileId}
 use Rattle.pg_base.specs.declared.stamp.Stamp.{Stamp}
 use Rattle.pg_base.specs.Id.{is_same_file}
 use Rattle.pg_base.proofs.Orders.{is_same_file-true}
+use Rattle.pg_edges.specs.declared.edge.Edge.{Edge}
 use Rattle.pg_content.specs.History.{is_same_stamp}
 use Rattle.pg_content.proofs.Stamps.{same_stamp}
 use Rattle.pg_entries.specs.declared.cell.Cell.{Cell}
@@ -17,8 +18,7 @@ use Rattle.pg_intent.specs.declared.intent.Intent.{Intent}
 use Rattle.pg_intent.specs.declared.intent.Intent.TheVariants as intent
 use Rattle.pg_intent.specs.declared.key.IntentKey.{IntentKey}
 use Rattle.pg_intent.specs.declared.key.IntentKey.TheVariants as intent_key
-use Rattle.pg_intent.specs.Intents.{aimed, ended, intent_at, stands}
-use Rattle.pg_intent.specs.Key.{is_same_key}
+use Rattle.pg_intent.specs.Intents.{aimed, ended, intent_at}
 use Rattle.pg_intent.proofs.Found.{ended_found, stands_is}
 use Rattle.pg_listing.specs.Protocol.{AtLeast}
 use Rattle.pg_listing.specs.Parts.{FirstPart}
@@ -30,7 +30,6 @@ use Rattle.pg_msg.specs.declared.message.Ends.{Ends}
 use Rattle.pg_msg.specs.declared.message.Granted.{Granted}
 use Rattle.pg_msg.specs.declared.message.Message.{Message}
 use Rattle.pg_msg.specs.declared.message.Message.TheVariants as message
-use Rattle.pg_msg.specs.declared.work.Slot.{Slot}
 use Rattle.pg_msg.specs.declared.work.Work.{Work}
 use Rattle.pg_promises.proofs.Choices.{chosen, decided}
 use Rattle.pg_register.specs.declared.place.Place.{Place}
@@ -39,22 +38,23 @@ use Rattle.pg_server.specs.Local.{receive}
 use Rattle.pg_store.specs.declared.store.Store.{Store}
 use Rattle.pg_store.specs.Beginning.{with_intents}
 use Rattle.pg_store.specs.Births.{is_pending}
-use Rattle.pg_store.specs.Links.{knows_later, link}
+use Rattle.pg_store.specs.Links.{knows_later}
 use Rattle.pg_store.specs.Servers.{next_target}
-use Rattle.pg_store.specs.Store.{is_full, is_held, take_entry}
+use Rattle.pg_store.specs.Store.{is_full, is_held}
 use Rattle.pg_store.proofs.Given.{pending_may}
 use Rattle.pg_cells.specs.declared.accepting.Manner.TheVariants as manner
 use Rattle.pg_cells.specs.Accepting.{accept, is_accepted, link_peer}
 use Rattle.pg_cells.specs.Cells.{cell as take_cell, fits, taken, taken_along}
 use Rattle.pg_cells.specs.Done.{Done, idle}
-use Rattle.pg_cells.specs.Posting.{reply}
 use Rattle.pg_cells.specs.Taking.{take_entry_noted, take_place_noted}
-use Rattle.pg_repair.specs.Confirming.{confirm, confirmed, end_confirmed, own_entry, place_is, place_told, take_told_flags, take_told_place}
+use Rattle.pg_repair.specs.Confirming.{confirm, confirmed, place_is, place_told, take_told_flags, take_told_place}
 use Rattle.pg_repair.specs.Fetching.{answer_fetch, fetch}
 use Rattle.pg_repair.specs.Filling.{fill, full}
-use Rattle.pg_repair.specs.Granting.{aim_fill, begin_granted, begun_by, grant, granted_own, no_grant, turn_fill, turn_wish}
+use Rattle.pg_repair.specs.Granting.{aim_fill, begin_granted, begun_by, grant, granted_own, no_grant, turn_wish}
 use Rattle.pg_repair.specs.NoneHere.{asking_key, does_ask, none_here}
-use Rattle.pg_repair.specs.Telling.{end_told, is_told, tell, tell_ok, told}
+use Rattle.pg_graph.specs.Seeking.{answered_seek, seek}
+use Rattle.pg_repair.specs.Telling.{is_told, tell, tell_ok, told}
+use Rattle.pg_graph.specs.Walks.{goes_on, meet_origin, onward, walk, walk_on, walked}
 use Rattle.pg_listed.specs.Letters.{Letter, of_stores, patch_place, says, told_by}
 use Rattle.pg_listed.proofs.Alike.{Alike, Alike-refl, Alike-trans, alike_by, alike_first, before_alike}
 use Rattle.pg_listed.proofs.Heard.{IsBehind, IsFirst, alike_is, entry_cell_is, idle_first, place_told_is, place_is as placed, plainly, told_entry, with_work}
@@ -96,6 +96,30 @@ module _ (a : Store) (behind : IsBehind a) (order : IntendsInOrder a) (heard : L
       (chosen First (knows_later a f work.from birth) (idle a work) (idle link.store (answer_fetch link.store f birth link.work)) (idle_first a behind heard view work)
       (alike (idle link.store (answer_fetch link.store f birth link.work)) (link_alike a f work.from birth)))
       (idle_first a behind heard view _)
+
+  seek_first : (f : FileId) (birth : ℕ) (work : Work) → First (seek a f birth work)
+  seek_first f birth work =
+      let link = link_peer a f work.from birth work in
+      chosen First (is_held a f) _ _
+      (chosen First (knows_later a f work.from birth) (idle a work) (answered_seek f birth link) (idle_first a behind heard view work)
+      (alike (answered_seek f birth link) (link_alike a f work.from birth)))
+      (idle_first a behind heard view _)
+
+  here_first : (ends : Ends) (work : Work) → First (accept a ends manner.Link work)
+  here_first ends work = alike (accept a ends manner.Link work) (accept_alike a ends manner.Link work)
+
+  walked_first : (ends : Ends) (origin birth hops word : ℕ) (edges : List Edge) (work : Work) → First (walked a ends origin birth hops word edges work)
+  walked_first ends origin birth hops word edges work =
+      let end = meet_origin a ends.file origin birth work in
+      chosen First (goes_on hops edges) (idle a (walk_on a ends.file origin birth hops word edges work)) end
+      (idle_first a behind heard view (walk_on a ends.file origin birth hops word edges work)) (alike end (link_alike a ends.file origin birth))
+
+  walk_first : (ends : Ends) (origin birth hops word : ℕ) (work : Work) → First (walk a ends origin birth hops word work)
+  walk_first ends origin birth hops word work =
+      let edges = onward a ends.file work.from origin in
+      chosen First (is_accepted a work.from manner.Ask ends) _ (accept a ends manner.Ask work)
+      (chosen First (origin == a.names.server) (idle a work) (walked a ends origin birth hops word edges work) (idle_first a behind heard view work) (walked_first ends origin birth hops word edges work))
+      (alike (accept a ends manner.Ask work) (accept_alike a ends manner.Ask work))
 
   granted_first : (ends : Ends) (g : Granted) (work : Work) → is_pending a ends.file ends.receiver ≡ true → First (begin_granted a ends g work)
   granted_first ends g work pending =
@@ -247,8 +271,8 @@ module _ (a : Store) (behind : IsBehind a) (order : IntendsInOrder a) (heard : L
   receive_first (message.Grant ends granted) work said one = grant_first ends granted work
   receive_first (message.NoGrant file birth) work said one = no_grant_first file birth work
   receive_first (message.Full ends) work said one = full_first ends work
-  receive_first (message.Seek file birth) work said one = idle_first a behind heard view work
-  receive_first (message.Here ends) work said one = idle_first a behind heard view work
+  receive_first (message.Seek file birth) work said one = seek_first file birth work
+  receive_first (message.Here ends) work said one = here_first ends work
   receive_first (message.NoneHere what file child) work said one = none_here_first what file child work
   receive_first (message.Gone file birth) work said one = alike _ (unlink_alike a file work.from birth)
   receive_first (message.Bye ends) work said one = idle_first a behind heard view work
@@ -260,5 +284,5 @@ module _ (a : Store) (behind : IsBehind a) (order : IntendsInOrder a) (heard : L
   receive_first (message.Leave ends stamp) work said one = idle_first a behind heard view work
   receive_first (message.LeaveOk ends stamp) work said one = idle_first a behind heard view work
   receive_first (message.Invite ends) work said one = idle_first a behind heard view work
-  receive_first (message.Walk ends origin birth hops word) work said one = idle_first a behind heard view work
-  receive_first (message.Meet ends) work said one = idle_first a behind heard view work
+  receive_first (message.Walk ends origin birth hops word) work said one = walk_first ends origin birth hops word work
+  receive_first (message.Meet ends) work said one = here_first ends work

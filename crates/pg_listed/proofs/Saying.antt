@@ -1,5 +1,5 @@
 -- What each handler says, it may say: the place that a child has, and that a directory was told.
-use Rattle.std.proofs.Common.{ℕ, ◌≡◌, true, List, [], ◌∷◌, ◌++◌, Some, refl, sym, ap, subst, ◌∙◌, inl, inr, All}
+use Rattle.std.proofs.Common.{ℕ, ◌≡◌, true, [], ◌∷◌, Some, refl, sym, ap, subst, ◌∙◌, inl, inr}
 use Rattle.std.proofs.lemmas.List.Elements.{All-append, All-cons, All-nil}
 use Rattle.pg_base.specs.declared.id.FileId.{FileId}
 use Rattle.pg_entries.specs.declared.entry.Entry.{Entry}
@@ -21,16 +21,17 @@ use Rattle.pg_settled.proofs.Seen.{own_is}
 use Rattle.pg_store.specs.declared.store.Store.{Store}
 use Rattle.pg_store.specs.Store.{is_held}
 use Rattle.pg_cells.specs.Done.{Done, idle}
-use Rattle.pg_cells.specs.Posting.{sent_to}
+use Rattle.pg_cells.specs.declared.accepting.Manner.TheVariants as manner
+use Rattle.pg_cells.specs.Posting.{post, sent_to}
 use Rattle.pg_cells.specs.Taking.{take_entry_noted, take_place_noted}
 use Rattle.pg_repair.specs.Confirming.{confirm, own_entry, place_told, take_told_flags, take_told_place}
 use Rattle.pg_repair.specs.Telling.{tell, told}
 use Rattle.pg_listed.specs.Letters.{Letter, of_stores, says}
 use Rattle.pg_listed.proofs.Heard.{IsBehind, none_later}
 use Rattle.pg_listed.proofs.Joined.{told_then}
-use Rattle.pg_listed.proofs.Others.{IsOther, Others, cell_others, fetch_others, full_others, grant_others, entry_others, place_is_others, told_same}
+use Rattle.pg_listed.proofs.Others.{SendsOthers, accept_others, cell_others, entry_others, fetch_others, full_others, grant_others, none, place_is_others, seek_others, told_others, walk_others}
 use Rattle.pg_listed.proofs.Placed.{cell_then, grows_then, removed_then}
-use Rattle.pg_listed.proofs.Steps.{AllSay, MaySay, others_say}
+use Rattle.pg_listed.proofs.Steps.{MaySay, WorkSays, others_say}
 use Rattle.pg_listed.proofs.Unseen.{flags_alike}
 use Rattle.pg_listed.proofs.Views.{held_holds}
 
@@ -38,15 +39,14 @@ abbrev Says : Store → Sent → Type 0
 Says m x = MaySay m (says x.packet.message)
 
 -- one message behind others
-one_more : (a m : Store) (ms : List Sent) (to : ℕ) (x : Message) → Others ms → MaySay m (says x) → AllSay m (ms ++ sent_to a to x ∷ [])
-one_more a m ms to x others h = All-append (Says m) ms (sent_to a to x ∷ []) (others_say m ms others) (All-cons (Says m) (sent_to a to x) [] h (All-nil (Says m)))
+one_more : (a m : Store) (work : Work) (to : ℕ) (x : Message) → SendsOthers work → MaySay m (says x) → WorkSays m (post a to x work)
+one_more a m work to x others h =
+    let rest = others_say m work others in
+    (All-append (Says m) work.sent (sent_to a to x ∷ []) rest.0 (All-cons (Says m) (sent_to a to x) [] h (All-nil (Says m))), rest.1)
 
 module _ (a : Store) (behind : IsBehind a) (heard : Letter) (view : heard.view ≡ 0) (from : ℕ) where
   abbrev W : Work
   W = new_work 0 from
-
-  none : Others W.sent
-  none = All-nil IsOther
 
   -- ---- what a child has
 
@@ -92,47 +92,47 @@ module _ (a : Store) (behind : IsBehind a) (heard : Letter) (view : heard.view �
               (λ x p cell. sym (told_from.cells x e.child) ∙ cell) q.1 (subst (IsUpTo of_stores q.0) (sym is) r.2) now),
         )
 
-    confirm_held : AllSay (place_told dir e.child End).store (place_told dir e.child End).work.sent
+    confirm_held : WorkSays (place_told dir e.child End).store (place_told dir e.child End).work
     confirm_held =
-        one_more End.store End.store End.work.sent End.work.from (message.PlaceIs dir (own_entry End.store e.child)) (subst Others (sym (told_same a e W)) none) child_says
+        one_more End.store End.store End.work End.work.from (message.PlaceIs dir (own_entry End.store e.child)) (told_others a e W none) child_says
 
-  confirm_says : (dir : FileId) (e : Entry) → AllSay (confirm a dir e W).store (confirm a dir e W).work.sent
+  confirm_says : (dir : FileId) (e : Entry) → WorkSays (confirm a dir e W).store (confirm a dir e W).work
   confirm_says dir e =
-      decided (λ (d : Done). AllSay d.store d.work.sent) (is_held a e.child) (place_told dir e.child (take_told_flags e (take_told_place a e W))) _
-      (confirm_held dir e) (λ away. one_more a a W.sent from _ none tt)
+      decided (λ (d : Done). WorkSays d.store d.work) (is_held a e.child) (place_told dir e.child (take_told_flags e (take_told_place a e W))) _
+      (confirm_held dir e) (λ away. one_more a a W from _ none tt)
 
-  tell_says : (dir : FileId) (e : Entry) → AllSay (tell a dir e W).store (tell a dir e W).work.sent
+  tell_says : (dir : FileId) (e : Entry) → WorkSays (tell a dir e W).store (tell a dir e W).work
   tell_says dir e =
       let took = take_entry_noted a dir e W in
-      decided (λ (d : Done). AllSay d.store d.work.sent) (is_held a dir) (told dir e took) _
-      (λ held. one_more took.store took.store took.work.sent took.work.from (message.TellOk dir e.child e.place.stamp) (entry_others a dir e W none) (told_then a dir e held))
-      (λ away. one_more a a W.sent from _ none tt)
+      decided (λ (d : Done). WorkSays d.store d.work) (is_held a dir) (told dir e took) _
+      (λ held. one_more took.store took.store took.work took.work.from (message.TellOk dir e.child e.place.stamp) (entry_others a dir e W none) (told_then a dir e held))
+      (λ away. one_more a a W from _ none tt)
 
   -- A MESSAGE
-  pub receive_says : (m : Message) → AllSay (receive a m W).store (receive a m W).work.sent
-  receive_says (message.Cell ends tag c) = (let d = receive a (message.Cell ends tag c) W in others_say d.store d.work.sent (cell_others a ends tag c W none))
-  receive_says (message.Ack ends key tag) = (let d = receive a (message.Ack ends key tag) W in others_say d.store d.work.sent none)
-  receive_says (message.Harbinger ends tag head) = (let d = receive a (message.Harbinger ends tag head) W in others_say d.store d.work.sent none)
-  receive_says (message.Want ends wanted) = (let d = receive a (message.Want ends wanted) W in others_say d.store d.work.sent none)
-  receive_says (message.Delta ends delta) = (let d = receive a (message.Delta ends delta) W in others_say d.store d.work.sent none)
-  receive_says (message.Piece ends piece) = (let d = receive a (message.Piece ends piece) W in others_say d.store d.work.sent none)
-  receive_says (message.Later ends stamp) = (let d = receive a (message.Later ends stamp) W in others_say d.store d.work.sent none)
-  receive_says (message.Fetch file birth) = (let d = receive a (message.Fetch file birth) W in others_say d.store d.work.sent (fetch_others a file birth W none))
-  receive_says (message.Grant ends granted) = (let d = receive a (message.Grant ends granted) W in others_say d.store d.work.sent (grant_others a ends granted W none))
-  receive_says (message.NoGrant file birth) = (let d = receive a (message.NoGrant file birth) W in others_say d.store d.work.sent none)
-  receive_says (message.Full ends) = (let d = receive a (message.Full ends) W in others_say d.store d.work.sent (full_others a ends W none))
-  receive_says (message.Seek file birth) = (let d = receive a (message.Seek file birth) W in others_say d.store d.work.sent none)
-  receive_says (message.Here ends) = (let d = receive a (message.Here ends) W in others_say d.store d.work.sent none)
-  receive_says (message.NoneHere what file child) = (let d = receive a (message.NoneHere what file child) W in others_say d.store d.work.sent none)
-  receive_says (message.Gone file birth) = (let d = receive a (message.Gone file birth) W in others_say d.store d.work.sent none)
-  receive_says (message.Bye ends) = (let d = receive a (message.Bye ends) W in others_say d.store d.work.sent none)
-  receive_says (message.ByeOk file birth) = (let d = receive a (message.ByeOk file birth) W in others_say d.store d.work.sent none)
+  pub receive_says : (m : Message) → WorkSays (receive a m W).store (receive a m W).work
+  receive_says (message.Cell ends tag c) = (let d = receive a (message.Cell ends tag c) W in others_say d.store d.work (cell_others a ends tag c W none))
+  receive_says (message.Ack ends key tag) = (let d = receive a (message.Ack ends key tag) W in others_say d.store d.work none)
+  receive_says (message.Harbinger ends tag head) = (let d = receive a (message.Harbinger ends tag head) W in others_say d.store d.work none)
+  receive_says (message.Want ends wanted) = (let d = receive a (message.Want ends wanted) W in others_say d.store d.work none)
+  receive_says (message.Delta ends delta) = (let d = receive a (message.Delta ends delta) W in others_say d.store d.work none)
+  receive_says (message.Piece ends piece) = (let d = receive a (message.Piece ends piece) W in others_say d.store d.work none)
+  receive_says (message.Later ends stamp) = (let d = receive a (message.Later ends stamp) W in others_say d.store d.work none)
+  receive_says (message.Fetch file birth) = (let d = receive a (message.Fetch file birth) W in others_say d.store d.work (fetch_others a file birth W none))
+  receive_says (message.Grant ends granted) = (let d = receive a (message.Grant ends granted) W in others_say d.store d.work (grant_others a ends granted W none))
+  receive_says (message.NoGrant file birth) = (let d = receive a (message.NoGrant file birth) W in others_say d.store d.work none)
+  receive_says (message.Full ends) = (let d = receive a (message.Full ends) W in others_say d.store d.work (full_others a ends W none))
+  receive_says (message.Seek file birth) = (let d = receive a (message.Seek file birth) W in others_say d.store d.work (seek_others a file birth W none))
+  receive_says (message.Here ends) = (let d = receive a (message.Here ends) W in others_say d.store d.work (accept_others a ends manner.Link W none))
+  receive_says (message.NoneHere what file child) = (let d = receive a (message.NoneHere what file child) W in others_say d.store d.work none)
+  receive_says (message.Gone file birth) = (let d = receive a (message.Gone file birth) W in others_say d.store d.work none)
+  receive_says (message.Bye ends) = (let d = receive a (message.Bye ends) W in others_say d.store d.work none)
+  receive_says (message.ByeOk file birth) = (let d = receive a (message.ByeOk file birth) W in others_say d.store d.work none)
   receive_says (message.Confirm dir e) = confirm_says dir e
-  receive_says (message.PlaceIs dir e) = (let d = receive a (message.PlaceIs dir e) W in others_say d.store d.work.sent (place_is_others a dir e W none))
+  receive_says (message.PlaceIs dir e) = (let d = receive a (message.PlaceIs dir e) W in others_say d.store d.work (place_is_others a dir e W none))
   receive_says (message.Tell dir e) = tell_says dir e
-  receive_says (message.TellOk dir child stamp) = (let d = receive a (message.TellOk dir child stamp) W in others_say d.store d.work.sent none)
-  receive_says (message.Leave ends stamp) = (let d = receive a (message.Leave ends stamp) W in others_say d.store d.work.sent none)
-  receive_says (message.LeaveOk ends stamp) = (let d = receive a (message.LeaveOk ends stamp) W in others_say d.store d.work.sent none)
-  receive_says (message.Invite ends) = (let d = receive a (message.Invite ends) W in others_say d.store d.work.sent none)
-  receive_says (message.Walk ends origin birth hops word) = (let d = receive a (message.Walk ends origin birth hops word) W in others_say d.store d.work.sent none)
-  receive_says (message.Meet ends) = (let d = receive a (message.Meet ends) W in others_say d.store d.work.sent none)
+  receive_says (message.TellOk dir child stamp) = (let d = receive a (message.TellOk dir child stamp) W in others_say d.store d.work none)
+  receive_says (message.Leave ends stamp) = (let d = receive a (message.Leave ends stamp) W in others_say d.store d.work none)
+  receive_says (message.LeaveOk ends stamp) = (let d = receive a (message.LeaveOk ends stamp) W in others_say d.store d.work none)
+  receive_says (message.Invite ends) = (let d = receive a (message.Invite ends) W in others_say d.store d.work none)
+  receive_says (message.Walk ends origin birth hops word) = (let d = receive a (message.Walk ends origin birth hops word) W in others_say d.store d.work (walk_others a ends origin birth hops word W none))
+  receive_says (message.Meet ends) = (let d = receive a (message.Meet ends) W in others_say d.store d.work (accept_others a ends manner.Link W none))

@@ -1,9 +1,9 @@
 -- What a server sends at the end of an event, and at a tick, it may send: present cells, and the messages
 -- of its intentions.
-use Rattle.std.proofs.Common.{ℕ, ◌≡◌, ◌==◌, ◌&&◌, not, Bool, true, false, cond, List, [], ◌∷◌, ◌++◌, filter, get_or, map, Option, None, Some, is_some, refl, sym, ap, subst, ◌∙◌, inl, inr, ◌⊎◌, All}
+use Rattle.std.proofs.Common.{ℕ, ◌≡◌, ◌==◌, not, Bool, true, false, cond, List, [], ◌∷◌, filter, get_or, map, Option, None, Some, is_some, refl, sym, ap, subst, ◌∙◌, All}
 use Rattle.std.specs.List.{AllByRecursion, IsDistinct, flat_map}
 use Rattle.std.proofs.lemmas.Bool.{false≢true}
-use Rattle.std.proofs.lemmas.List.Elements.{All-append, All-cons, All-nil}
+use Rattle.std.proofs.lemmas.List.Elements.{All-append, All-cons, All-nil, All-weaker}
 use Rattle.std.proofs.lemmas.Option.{none-some, same_Some}
 use Rattle.pg_base.specs.declared.id.FileId.{FileId}
 use Rattle.pg_base.specs.Version.{VersionValue}
@@ -19,7 +19,7 @@ use Rattle.pg_intent.specs.declared.intent.Intent.TheVariants as intent
 use Rattle.pg_intent.specs.declared.key.IntentKey.{IntentKey}
 use Rattle.pg_intent.specs.declared.key.IntentKey.TheVariants as intent_key
 use Rattle.pg_intent.specs.Intent.{key_of, target_of}
-use Rattle.pg_intent.specs.Intents.{HaveOwnKeys, has_key, intent_at, stands}
+use Rattle.pg_intent.specs.Intents.{HaveOwnKeys, intent_at}
 use Rattle.pg_intent.specs.Key.{is_same_key}
 use Rattle.pg_intent.proofs.Found.{stands_is}
 use Rattle.pg_intent.proofs.SameKey.{is_same_key-refl, is_same_key-symm, is_same_key-true}
@@ -44,6 +44,7 @@ use Rattle.pg_cells.specs.Sending.{Wanted, cell_to, cell_under, cells_where, edg
 use Rattle.pg_repair.specs.Intending.{pieces}
 use Rattle.pg_repair.specs.Requests.{asked_of, asks, asks_by, confirm_message, leave_message, request}
 use Rattle.pg_listed.specs.Letters.{of_stores, patch_place, says, told_by}
+use Rattle.pg_listed.proofs.Others.{IsOther, Others}
 
 module _ (b : Store) where
   -- by what the server is
@@ -58,6 +59,10 @@ module _ (b : Store) where
 
   none : AllMay []
   none = All-nil MaySent
+
+  -- what tells of no place may be sent
+  pub others_may : (ms : List Sent) → Others ms → AllMay ms
+  others_may ms h = All-weaker IsOther MaySent (λ m other. subst (MaySend of_stores b) (sym other) tt) ms h
 
   -- ---- cells
 

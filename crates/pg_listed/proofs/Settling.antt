@@ -1,5 +1,5 @@
 -- Patches and Confirms that end and begin behind the house rules.
-use Rattle.std.proofs.Common.{ℕ, ◌≡◌, ◌&&◌, ◌||◌, Bool, true, false, cond, List, [], ◌∷◌, Option, None, Some, is_some, refl, sym, ap, subst, ◌∙◌, inl, inr, ◌⊎◌}
+use Rattle.std.proofs.Common.{ℕ, ◌≡◌, ◌||◌, Bool, true, false, cond, List, [], ◌∷◌, Option, None, Some, is_some, refl, sym, ap, subst, ◌∙◌, inl, inr}
 use Rattle.std.specs.List.{list_any}
 use Rattle.std.proofs.lemmas.Bool.{and_parts, false≢true}
 use Rattle.std.proofs.lemmas.Option.{none-some, same_Some}
@@ -7,7 +7,7 @@ use Rattle.pg_base.specs.declared.id.FileId.{FileId}
 use Rattle.pg_base.specs.declared.stamp.Stamp.{Stamp}
 use Rattle.pg_base.specs.Id.{is_same_file}
 use Rattle.pg_base.specs.Stamp.{is_before}
-use Rattle.pg_base.proofs.Orders.{is_before-false, is_same_file-refl, is_same_file-true}
+use Rattle.pg_base.proofs.Orders.{is_before-false, is_same_file-true}
 use Rattle.pg_entries.specs.declared.entry.Entry.{Entry}
 use Rattle.pg_house.specs.Facts.{IsLeft, IsOneOf}
 use Rattle.pg_intent.specs.declared.intent.Intent.{Intent}
@@ -15,10 +15,9 @@ use Rattle.pg_intent.specs.declared.intent.Intent.TheVariants as intent
 use Rattle.pg_intent.specs.declared.key.IntentKey.{IntentKey}
 use Rattle.pg_intent.specs.declared.key.IntentKey.TheVariants as intent_key
 use Rattle.pg_intent.specs.Intent.{key_of}
-use Rattle.pg_intent.specs.Intents.{begun_on, intent_at, stands}
+use Rattle.pg_intent.specs.Intents.{begun_on, intent_at}
 use Rattle.pg_intent.specs.Key.{is_same_key}
 use Rattle.pg_intent.proofs.Found.{begun_found, stands_is}
-use Rattle.pg_intent.proofs.SameKey.{is_same_key-refl}
 use Rattle.pg_listing.specs.Protocol.{Above, AtLeast, AtMost}
 use Rattle.pg_msg.specs.declared.work.Slot.{Slot}
 use Rattle.pg_msg.specs.declared.work.Work.{Work}
@@ -32,11 +31,13 @@ use Rattle.pg_repair.specs.Beginning.{begin_end, end_others, still_stands}
 use Rattle.pg_repair.specs.Confirming.{own_entry}
 use Rattle.pg_repair.specs.Confirms.{begin_confirm, confirm_of, is_doubtful, is_doubtful_in}
 use Rattle.pg_repair.specs.Fills.{begin_fill, begin_fills, files_to_fill, to_fill}
-use Rattle.pg_repair.specs.Intending.{begin_intent, each, in_order}
+use Rattle.pg_cells.specs.Intending.{begin_intent, each}
+use Rattle.pg_repair.specs.Intending.{in_order}
 use Rattle.pg_repair.specs.Patches.{begin_patch, begin_patches, is_slot, patch_of}
+use Rattle.pg_graph.specs.Seeks.{begin_seek, begin_seeks, to_seek}
 use Rattle.pg_repair.proofs.Patched.{behind_at, ended_at, in_order_any, other_at, patched, unpatched}
-use Rattle.pg_repair.proofs.Standing.{confirm_at, each_at, fill_other, filtered, patch_at, tested_too}
-use Rattle.pg_repair.proofs.Steady.{confirm_stays, each_stays, fill_stays, patch_stays}
+use Rattle.pg_repair.proofs.Standing.{each_at, fill_other, filtered, patch_at, seek_other, tested_too}
+use Rattle.pg_repair.proofs.Steady.{IsSteady, confirm_stays, each_stays, fill_stays, patch_stays, seek_stays, stays_on}
 use Rattle.pg_settled.proofs.Seen.{at_most}
 use Rattle.pg_store.specs.declared.store.Store.{Store}
 use Rattle.pg_store.specs.Servers.{first_target}
@@ -151,22 +152,23 @@ module _ (s : Store) (w : Work) (d c : FileId) (doubt : is_doubtful s d c ≡ tr
   abbrev Two : Done
   Two = begin_fills One.store (to_fill s.names) One.work
 
+  abbrev Three : Done
+  Three = begin_seeks Two.store (to_seek s) Two.work
+
   abbrev Owes : Store → Type 0
   Owes t = is_some (intent_at t.intents Asked) ≡ true
 
-  two_is : intent_at Two.store.intents Asked ≡ intent_at s.intents Asked
-  two_is =
-      each_at begin_fill Asked (fill_other Asked (λ f. refl)) (to_fill s.names) One.store One.work
+  three_is : intent_at Three.store.intents Asked ≡ intent_at s.intents Asked
+  three_is =
+      each_at begin_seek Asked (seek_other Asked (λ f. refl)) (to_seek s) Two.store Two.work
+      ∙ each_at begin_fill Asked (fill_other Asked (λ f. refl)) (to_fill s.names) One.store One.work
       ∙ each_at begin_patch Asked (patch_at Asked (λ x y. refl)) (in_order w.left) Rest w
       ∙ filtered Asked (still_stands s (files_to_fill s.names)) true (λ i has. tested_too d c s (files_to_fill s.names) i has ∙ doubt) s.intents
 
-  two_names : Two.store.names ≡ s.names
-  two_names =
-      (each_stays begin_fill fill_stays (to_fill s.names) One.store One.work).names ∙ (each_stays begin_patch patch_stays (in_order w.left) Rest w).names
-
-  two_unsure : Two.work.unsure ≡ w.unsure
-  two_unsure =
-      (each_stays begin_fill fill_stays (to_fill s.names) One.store One.work).unsure ∙ (each_stays begin_patch patch_stays (in_order w.left) Rest w).unsure
+  three_stays : IsSteady Rest w Three
+  three_stays =
+      stays_on (stays_on (each_stays begin_patch patch_stays (in_order w.left) Rest w) (each_stays begin_fill fill_stays (to_fill s.names) One.store One.work))
+      (each_stays begin_seek seek_stays (to_seek s) Two.store Two.work)
 
   -- one Confirm more ends none
   owes_by : (t : Store) (i : Intent) (b : Bool) → is_some (intent_at t.intents Asked) ≡ true → is_some (cond b (Some (begun_on (intent_at t.intents Asked) i)) (intent_at t.intents Asked)) ≡ true
@@ -187,7 +189,7 @@ module _ (s : Store) (w : Work) (d c : FileId) (doubt : is_doubtful s d c ≡ tr
   pub still_asked : of_stores.Confirms s d c → of_stores.Confirms (begin_end s w).store d c
   still_asked h =
       stands_is (begin_end s w).store.intents Asked
-      ∙ each_keeps (in_order Two.work.unsure) Two.store Two.work (ap is_some two_is ∙ sym (stands_is s.intents Asked) ∙ h)
+      ∙ each_keeps (in_order Three.work.unsure) Three.store Three.work (ap is_some three_is ∙ sym (stands_is s.intents Asked) ∙ h)
 
   -- and of this child one begins
   begins_here : (t : Store) (x : Slot) (v : Work) → is_slot d c x ≡ true → is_doubtful t d c ≡ true → Owes (begin_confirm t x v).store
@@ -214,6 +216,6 @@ module _ (s : Store) (w : Work) (d c : FileId) (doubt : is_doubtful s d c ≡ tr
 
   pub newly_asked : IsOneOf {A = Slot} (record { dir = d; child = c }) w.unsure → of_stores.Confirms (begin_end s w).store d c
   newly_asked noted_here =
-      let some = ap (λ xs. list_any (is_slot d c) (in_order xs)) two_unsure ∙ gone_through (record { dir = d; child = c }) w.unsure noted_here in
+      let some = ap (λ xs. list_any (is_slot d c) (in_order xs)) three_stays.unsure ∙ gone_through (record { dir = d; child = c }) w.unsure noted_here in
       stands_is (begin_end s w).store.intents Asked
-      ∙ each_begins (in_order Two.work.unsure) Two.store Two.work some (ap (λ n. is_doubtful_in n d c) two_names ∙ doubt)
+      ∙ each_begins (in_order Three.work.unsure) Three.store Three.work some (ap (λ n. is_doubtful_in n d c) three_stays.names ∙ doubt)

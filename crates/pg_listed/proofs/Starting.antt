@@ -1,5 +1,5 @@
 -- The first part of a step by which a thing becomes held, and gets a place.
-use Rattle.std.proofs.Common.{ℕ, ◌≡◌, ◌≢◌, Bool, true, false, Option, None, Some, refl, sym, ap, subst, ◌∙◌, inl, inr, ◌⊎◌}
+use Rattle.std.proofs.Common.{ℕ, ◌≡◌, Bool, false, Option, None, Some, refl, sym, ap, ◌∙◌, inl, inr, ◌⊎◌}
 use Rattle.std.proofs.lemmas.Option.{none-some, same_Some}
 use Rattle.pg_base.specs.declared.id.FileId.{FileId}
 use Rattle.pg_base.specs.declared.policy.Policy.{Policy}
@@ -14,15 +14,15 @@ use Rattle.pg_listing.specs.Rule.{HasCell, Holds, IsToldAt}
 use Rattle.pg_listing.proofs.Handlers.{begun_first}
 use Rattle.pg_msg.specs.declared.work.Work.{Work}
 use Rattle.pg_names.specs.declared.own.Own.{Own}
-use Rattle.pg_names.specs.Names.{cell_at, own_at}
+use Rattle.pg_names.specs.Names.{cell_at}
 use Rattle.pg_register.specs.declared.place.Place.{Place}
 use Rattle.pg_run.specs.Intending.{PatchesStand}
 use Rattle.pg_settled.specs.Listing.{cell_place, own_place}
 use Rattle.pg_store.specs.declared.store.Store.{Store}
 use Rattle.pg_store.specs.Store.{is_held, take_place}
-use Rattle.pg_cells.specs.Done.{Done, idle}
+use Rattle.pg_cells.specs.Done.{idle}
 use Rattle.pg_listed.specs.Letters.{Letter, of_stores, patch_place}
-use Rattle.pg_listed.proofs.Begun.{After, HadPatch, cells_after, confirms_after, new_cells, others_after, own_after, patches_after, removed_after}
+use Rattle.pg_listed.proofs.Begun.{After, HadPatch, cells_after, confirms_after, new_cells, others_after, patches_after, removed_after}
 use Rattle.pg_listed.proofs.Heard.{IsBehind, none_later}
 use Rattle.pg_listed.proofs.Placed.{IsNoted, cell_then, intents_then, others_then, removed_then}
 use Rattle.pg_listed.proofs.Views.{away_none, patch_is}

@@ -1,5 +1,5 @@
 -- Each event is a step by the rule of listings.
-use Rattle.std.proofs.Common.{ℕ, ◌≡◌, ◌<◌, true, List, [], ◌∷◌, ◌++◌, ◌≤◌, map, Option, None, Some, refl, sym, ap, subst, ◌∙◌, inl, inr, ◌⊎◌, All, arith}
+use Rattle.std.proofs.Common.{◌≡◌, ◌<◌, true, List, [], ◌∷◌, ◌++◌, map, Option, Some, refl, sym, ap, subst, ◌∙◌, inl, inr, ◌⊎◌, All, arith}
 use Rattle.std.specs.List.{flat_map}
 use Rattle.std.proofs.lemmas.List.Elements.{All-append, All-cons, All-head, All-nil, All-tail, All-weaker}
 use Rattle.std.proofs.lemmas.Option.{none-some, same_Some}
@@ -15,13 +15,13 @@ use Rattle.pg_listing.specs.World.Saying.{LeaveOk, Other, TellOk, Told}
 use Rattle.pg_listing.specs.World.Way.{PlaceIs, SureCell, Tell}
 use Rattle.pg_listing.proofs.Parts.{parts_are_steps, places_are_known}
 use Rattle.pg_msg.specs.declared.message.Sent.{Sent}
+use Rattle.pg_msg.specs.declared.work.Work.{Work}
 use Rattle.pg_names.specs.declared.own.Own.{Own}
 use Rattle.pg_names.specs.Names.{NamesValue, own_at}
 use Rattle.pg_names.specs.Names as names
-use Rattle.pg_promises.proofs.Front.{house_sent}
 use Rattle.pg_register.specs.declared.place.Place.{Place}
-use Rattle.pg_repair.proofs.Steady.{begin_end_stays}
 use Rattle.pg_run.specs.Intending.{IntendsInOrder}
+use Rattle.pg_run.proofs.Event.{nothing_last, nothing_sent}
 use Rattle.pg_server.specs.Local.{closed, intended, settled, sent_at_end}
 use Rattle.pg_settled.specs.Listing.{cell_place, own_place}
 use Rattle.pg_store.specs.declared.store.Store.{Store}
@@ -33,7 +33,7 @@ use Rattle.pg_listed.specs.Letters.{Letter, Saying, of_stores, says}
 use Rattle.pg_listed.proofs.Alike.{Alike, alike_by}
 use Rattle.pg_listed.proofs.Behind.{second_part}
 use Rattle.pg_listed.proofs.Heard.{IsFirst}
-use Rattle.pg_listed.proofs.Others.{IsOther, Others}
+use Rattle.pg_listed.proofs.Others.{IsOther, Others, SendsOthers}
 use Rattle.pg_listed.proofs.Sends.{AllMay, MaySent, begun_may, cells_may}
 use Rattle.pg_listed.proofs.Views.{ordered, told_earlier}
 
@@ -49,8 +49,15 @@ MaySay m Other = Unit {0}
 abbrev pub AllSay : Store → List Sent → Type 0
 AllSay m ms = All (λ (x : Sent). MaySay m (says x.packet.message)) ms
 
-pub others_say : (m : Store) (ms : List Sent) → Others ms → AllSay m ms
-others_say m ms h = All-weaker IsOther (λ (x : Sent). MaySay m (says x.packet.message)) (λ x other. subst (MaySay m) (sym other) tt) ms h
+-- of all that is sent, and of what is sent last
+abbrev pub WorkSays : Store → Work → Type 0
+WorkSays m work = AllSay m work.sent × AllSay m work.tail
+
+all_others_say : (m : Store) (ms : List Sent) → Others ms → AllSay m ms
+all_others_say m ms h = All-weaker IsOther (λ (x : Sent). MaySay m (says x.packet.message)) (λ x other. subst (MaySay m) (sym other) tt) ms h
+
+pub others_say : (m : Store) (work : Work) → SendsOthers work → WorkSays m work
+others_say m work h = (all_others_say m work.sent h.0, all_others_say m work.tail h.1)
 
 said_of : (b : Store) (ms : List Sent) → AllMay b ms → All (MaySend of_stores b) (map (λ (x : Sent). says x.packet.message) ms)
 said_of b [] h = All-nil (MaySend of_stores b)
@@ -60,7 +67,7 @@ said_of b (m ∷ ms) h =
 -- ---- an event that takes effect
 
 module _ (a : Store) (heard : Letter) (d : Done) (k : IsFirst a heard d) (sound : MaySettle d.store.names) (order : IntendsInOrder (intended (settled d)).store)
-    (children : HaveChildren (intended (settled d)).store.names) (says_well : AllSay d.store d.work.sent) where
+    (children : HaveChildren (intended (settled d)).store.names) (says_well : WorkSays d.store d.work) where
   abbrev B : Done
   B = intended (settled d)
 
@@ -82,7 +89,7 @@ module _ (a : Store) (heard : Letter) (d : Done) (k : IsFirst a heard d) (sound 
   either_of e c q (inl cell) = inl (cell.0, cell_of e c ∙ cell.1)
   either_of e c q (inr none) = inr (none_later_of c q none)
 
-  -- what the handler said may be sent in the end
+  -- so with each thing that it said
   still_says : (x : Saying) → MaySay d.store x → MaySend of_stores B.store x
   still_says (Told SureCell e c q) h = absurd h
   still_says (Told Tell e c q) h = absurd h
@@ -95,20 +102,24 @@ module _ (a : Store) (heard : Letter) (d : Done) (k : IsFirst a heard d) (sound 
   still_says (LeaveOk f n q) h = absurd h
   still_says Other h = tt
 
-  first_sent : B.work.sent ≡ d.work.sent
-  first_sent = (begin_end_stays (settled d).store (settled d).work).sent ∙ house_sent d.work.now d.store.names d.work
+  -- what the handler said may be sent in the end
+  still_may : (ms : List Sent) → AllSay d.store ms → AllMay B.store ms
+  still_may ms h = All-weaker (λ (x : Sent). MaySay d.store (says x.packet.message)) (MaySent B.store) (λ x k. still_says (says x.packet.message) k) ms h
 
-  all_sent : AllMay B.store (sent_at_end B).sent
+  all_sent : AllMay B.store ((sent_at_end B).sent ++ (sent_at_end B).tail)
   all_sent =
       let b = B.store in
       let wanted = is_chosen B.work.touched B.work.linked in
-      let first = All-weaker (λ (x : Sent). MaySay d.store (says x.packet.message)) (MaySent b) (λ x h. still_says (says x.packet.message) h) d.work.sent says_well in
-      All-append (MaySent b) (B.work.sent ++ cells_where b wanted) (flat_map (asks_by b) B.work.begun)
-      (All-append (MaySent b) B.work.sent (cells_where b wanted) (subst (AllMay b) (sym first_sent) first) (cells_may b children wanted)) (begun_may b B.work.begun)
+      let asks = flat_map (asks_by b) B.work.begun in
+      All-append (MaySent b) ((B.work.sent ++ cells_where b wanted) ++ asks) B.work.tail
+      (All-append (MaySent b) (B.work.sent ++ cells_where b wanted) asks
+      (All-append (MaySent b) B.work.sent (cells_where b wanted) (subst (AllMay b) (sym (nothing_sent d)) (still_may d.work.sent says_well.0)) (cells_may b children wanted))
+      (begun_may b B.work.begun))
+      (subst (AllMay b) (sym (nothing_last d)) (still_may d.work.tail says_well.1))
 
   -- A STEP
   pub closed_step : (r : Option Reply) → MayStep of_stores 0 a (closed r d).store heard (map (λ (x : Sent). says x.packet.message) (closed r d).out.sent)
-  closed_step r = parts_are_steps of_stores ordered 0 a k.mid B.store heard _ k.first second (said_of B.store (sent_at_end B).sent all_sent)
+  closed_step r = parts_are_steps of_stores ordered 0 a k.mid B.store heard _ k.first second (said_of B.store ((sent_at_end B).sent ++ (sent_at_end B).tail) all_sent)
 
 -- ---- an event at which nothing changes
 

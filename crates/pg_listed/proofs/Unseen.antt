@@ -1,11 +1,10 @@
 -- Changes that directories do not see: edges, flags, versions, birth numbers, whom an intention asks.
-use Rattle.std.proofs.Common.{ℕ, ◌≡◌, ◌||◌, Bool, true, false, cond, List, [], ◌∷◌, Option, None, Some, is_some, refl, sym, ap, subst, ◌∙◌, inl, inr, ◌⊎◌}
+use Rattle.std.proofs.Common.{ℕ, ◌≡◌, ◌||◌, Bool, true, false, cond, List, [], ◌∷◌, Option, None, Some, is_some, refl, sym, ap, ◌∙◌, inl, inr, ◌⊎◌}
 use Rattle.std.specs.Option.{option_map}
 use Rattle.std.specs.Prelude.{nat_lt}
 use Rattle.pg_base.specs.declared.id.FileId.{FileId}
 use Rattle.pg_base.specs.Id.{is_same_file}
 use Rattle.pg_base.specs.Version.{VersionValue}
-use Rattle.pg_edges.specs.declared.key.Key.{Key}
 use Rattle.pg_edges.specs.declared.key.Key.TheVariants as key
 use Rattle.pg_house.proofs.Truths.{bool_cases}
 use Rattle.pg_intent.specs.declared.intent.Intent.{Intent}
@@ -19,7 +18,7 @@ use Rattle.pg_intent.proofs.Found.{aimed_found, stands_is}
 use Rattle.pg_msg.specs.declared.message.Ends.{Ends}
 use Rattle.pg_msg.specs.declared.update.Update.TheVariants as update
 use Rattle.pg_msg.specs.declared.work.Work.{Work}
-use Rattle.pg_msg.specs.Work.{with_linked, with_made}
+use Rattle.pg_msg.specs.Work.{with_made}
 use Rattle.pg_names.specs.declared.own.Own.{Own}
 use Rattle.pg_names.specs.Names.{join_flag, own_at, with_flag}
 use Rattle.pg_names.specs.Names as names
@@ -39,8 +38,10 @@ use Rattle.pg_cells.specs.declared.accepting.Manner.{Manner}
 use Rattle.pg_cells.specs.declared.accepting.Manner.TheVariants as manner
 use Rattle.pg_cells.specs.Accepting.{accept, is_answer, link_peer, met, with_gone, with_link}
 use Rattle.pg_cells.specs.Done.{Done, idle}
-use Rattle.pg_cells.specs.Making.{own_next, raise_flag}
-use Rattle.pg_cells.specs.Taking.{take_flag_noted, take_flags_noted, with_news}
+use Rattle.pg_cells.specs.Making.{lower_flag, own_next, raise_flag}
+use Rattle.pg_cells.specs.Taking.{take_flag_noted, take_flags_noted}
+use Rattle.pg_cells.specs.Golds.{is_gold}
+use Rattle.pg_calls.specs.Demoting.{lowered}
 use Rattle.pg_repair.specs.Filling.{few_golds, fill, live_golds}
 use Rattle.pg_repair.specs.Granting.{aim_fill, fill_asks, turn_fill, turn_wish, wish_asks}
 use Rattle.pg_listed.specs.Letters.{of_stores, patch_place}
@@ -102,6 +103,10 @@ flags_left (flag ∷ flags) a f work =
 
 pub raised_alike : (a : Store) (f : FileId) (work : Work) → Alike a (raise_flag a f work).store
 raised_alike a f work = flag_alike a f (own_next a f true)
+
+pub lowered_alike : (a : Store) (f : FileId) (work : Work) → Alike a (lowered a f work).store
+lowered_alike a f work =
+    chosen (λ (d : Done). Alike a d.store) (is_gold a f) (lower_flag a f work) (idle a work) (flag_alike a f (own_next a f false)) (Alike-refl a)
 
 pub raised_left : (a : Store) (f : FileId) (work : Work) → (raise_flag a f work).work.left ≡ work.left
 raised_left a f work =

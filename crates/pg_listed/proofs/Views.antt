@@ -1,5 +1,5 @@
 -- What directories see of a server, against what it holds; and the order of stamps.
-use Rattle.std.proofs.Common.{ℕ, ◌≡◌, Bool, true, false, List, Option, None, Some, is_some, refl, sym, ap, ◌∙◌}
+use Rattle.std.proofs.Common.{ℕ, ◌≡◌, true, false, List, Option, None, Some, is_some, refl, sym, ◌∙◌}
 use Rattle.std.proofs.lemmas.Bool.{and_parts, false≢true}
 use Rattle.std.proofs.lemmas.Option.{none-some}
 use Rattle.pg_base.specs.declared.id.FileId.{FileId}

@@ -2,7 +2,7 @@
 use Rattle.std.specs.Prelude.{ℕ, ◌≡◌, List, None}
 use Rattle.pg_base.specs.declared.id.FileId.{FileId}
 use Rattle.pg_event.specs.declared.event.Event.{Event}
-use Rattle.pg_house.specs.Facts.{AreByServer, IsLast, IsOfDirs}
+use Rattle.pg_house.specs.Facts.{AreByServer, AreOrdered, IsLast, IsOfDirs}
 use Rattle.pg_listing.specs.Promises.{Kept}
 use Rattle.pg_names.specs.Names.{NamesValue, cell_at}
 use Rattle.pg_register.specs.Place.{root}
@@ -19,6 +19,7 @@ pub record MaySettle (names : NamesValue) : Type 0 where
   pub of_dirs : IsOfDirs names
   pub by_server : AreByServer names
   pub last : IsLast names
+  pub ordered : AreOrdered names
 
 -- it holds behind the first effect of each event
 abbrev pub FirstEffectsAreSound : ℕ → Type 0

@@ -1,5 +1,5 @@
 -- What servers hold, and the messages that they send, as directories see them.
-use Rattle.std.specs.Prelude.{ℕ, ◌≡◌, true, map, List, Option, None, Some}
+use Rattle.std.specs.Prelude.{ℕ, ◌≡◌, true, map, Option, None, Some}
 use Rattle.pg_base.specs.declared.id.FileId.{FileId}
 use Rattle.pg_base.specs.declared.stamp.Stamp.{Stamp}
 use Rattle.pg_entries.specs.declared.cell.Cell.{Cell}

@@ -27,6 +27,7 @@ new_work now from = record {
   left = [];
   unsure = [];
   begun = [];
+  tail = [];
 }
 
 -- one update more was made
@@ -60,3 +61,7 @@ with_unsure work dir child =
 -- one intention more began
 abbrev pub with_begun : Work → IntentKey → Work
 with_begun work key = record work { begun = work.begun ++ key ∷ [] }
+
+-- one message more goes last
+abbrev pub with_tail : Work → Sent → Work
+with_tail work message = record work { tail = work.tail ++ message ∷ [] }

@@ -52,6 +52,8 @@ pub struct Work {
     pub unsure: Items<Slot>,
     /// The intentions that began, in their order.
     pub begun: Items<IntentKey>,
+    /// The messages that are sent last, behind those of the intentions.
+    pub tail: Items<Sent>,
 }
 
 impl Work {
@@ -69,6 +71,7 @@ impl Work {
             left: Items::new(alloc),
             unsure: Items::new(alloc),
             begun: Items::new(alloc),
+            tail: Items::new(alloc),
         }
     }
 }

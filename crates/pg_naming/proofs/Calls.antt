@@ -9,7 +9,9 @@ use Rattle.pg_base.specs.declared.policy.Policy.TheVariants.{Last}
 use Rattle.pg_base.specs.declared.stamp.Stamp.{Stamp}
 use Rattle.pg_base.specs.Id.{is_same_file}
 use Rattle.pg_content.specs.Content.{Among}
+use Rattle.pg_register.specs.declared.flag.Flag.{Flag}
 use Rattle.pg_register.specs.declared.place.Place.{Place}
+use Rattle.pg_register.specs.Flag.{is_raised}
 use Rattle.pg_register.specs.Place.{root}
 use Rattle.pg_register.proofs.ByServer.{IsByServer-nil}
 use Rattle.pg_patch.specs.Ranges as ranges
@@ -25,10 +27,11 @@ use Rattle.pg_msg.specs.Work.{new_work, with_made}
 use Rattle.pg_call.specs.declared.call.Call.{Call}
 use Rattle.pg_call.specs.declared.call.Call.TheVariants as call
 use Rattle.pg_call.specs.declared.refusal.Refusal.TheVariants.{Loop, NotEmpty, Root}
-use Rattle.pg_names.specs.Names.{NamesValue, blank_own, is_dir, known}
+use Rattle.pg_names.specs.declared.own.Own.{Own}
+use Rattle.pg_names.specs.Names.{NamesValue, blank_own, is_dir, known, or_blank, own_at}
 use Rattle.pg_house.specs.Facts.{IsHeld}
 use Rattle.pg_house.specs.Returning.{is_root}
-use Rattle.pg_promises.proofs.Choices.{chosen}
+use Rattle.pg_promises.proofs.Choices.{chosen, decided}
 use Rattle.pg_walk.specs.declared.paths.Found.{Found}
 use Rattle.pg_walk.specs.declared.paths.Stop.{Stop}
 use Rattle.pg_walk.specs.declared.paths.Stop.TheVariants as stop
@@ -37,10 +40,11 @@ use Rattle.pg_walk.specs.Walk.{and_then, reach, reach_parent}
 use Rattle.pg_store.specs.declared.store.Store.{Store}
 use Rattle.pg_store.specs.declared.wishes.Wish.{Wish}
 use Rattle.pg_store.specs.Beginning.{patches_of}
-use Rattle.pg_store.specs.Births.{draw_birth, with_birth, with_wish}
+use Rattle.pg_store.specs.Births.{birth_of, draw_birth, with_birth, with_wish}
 use Rattle.pg_store.specs.Store.{is_held, take_flag, take_place}
 use Rattle.pg_cells.specs.Done.{Done, idle}
-use Rattle.pg_cells.specs.Making.{own_next, raise_flag}
+use Rattle.pg_cells.specs.Golds.{is_gold}
+use Rattle.pg_cells.specs.Making.{lower_flag, make_flag, own_next}
 use Rattle.pg_cells.specs.Posting.{post}
 use Rattle.pg_calls.specs.declared.checks.Move.{Move}
 use Rattle.pg_calls.specs.declared.checks.NewName.{NewName}
@@ -49,6 +53,7 @@ use Rattle.pg_calls.specs.Asking.{ask_by, ask_first, fetch, fresh_wish, holder, 
 use Rattle.pg_calls.specs.Bodies.{change, change_file, when_fit}
 use Rattle.pg_calls.specs.Calls.{do_call}
 use Rattle.pg_calls.specs.Checks.{dir_at, empty_dir_at, file_at, first_child, in_time, move_along, move_of, move_to, new_name, new_name_in, target_at, unless_child}
+use Rattle.pg_calls.specs.Demoting.{demoted_at, lowered}
 use Rattle.pg_calls.specs.Making.{drawn, first_ranges, make_place, make_version, version_of}
 use Rattle.pg_calls.specs.Naming.{begun, dead_place, next_id, place_in, with_id, with_thing}
 use Rattle.pg_calls.specs.Paths.{paths_of}
@@ -131,6 +136,10 @@ emptied_held a text d h =
     let P : FileId → Type 0 = IsHeld a.names in
     subst P same (full_own a.names c.0 (thing_found a true text c.0 c.1))
 
+gold_held : (s : NamesValue) (f : FileId) (server birth : ℕ) (o : Option Own) → own_at s f ≡ o → is_raised (or_blank f o).flags server birth ≡ true → IsHeld s f
+gold_held s f server birth None none h = absurd (let z : false ≡ true = h in cc)
+gold_held s f server birth (Some own) held h = (own, held)
+
 module _ (removed : List ℕ) (p : Told) (a : Store) (now : List Take) (k : Goes removed a.names now) (ready : IsReady p a) (ids : (kind : Kind) → IsNewId a (next_id a kind)) (moment : ℕ) where
   abbrev Is : NamesValue → List Take → Type 0
   Is = Goes removed
@@ -157,9 +166,8 @@ module _ (removed : List ℕ) (p : Told) (a : Store) (now : List Take) (k : Goes
       subst P (sym (place_noted_made d.store f q (with_made d.work u)))
       (put_last base s d.work.made u (goes_place removed d.store (map take_of d.work.made ++ base) h f held q))
 
-  flag_made : (base : List Take) (d : Done) → DoneIs base d → (f : FileId) → IsHeld d.store.names f → DoneIs base (raise_flag d.store f d.work)
-  flag_made base d h f held =
-      let g = own_next d.store f true in
+  flag_made : (base : List Take) (d : Done) → DoneIs base d → (f : FileId) → IsHeld d.store.names f → (g : Flag) → DoneIs base (make_flag d.store f g d.work)
+  flag_made base d h f held g =
       let u = update.Flag f g in
       let s = (take_flag d.store f g).names in
       let P : List Update → Type 0 = λ us. Is s (map take_of us ++ base) in
@@ -238,7 +246,7 @@ module _ (removed : List ℕ) (p : Told) (a : Store) (now : List Take) (k : Goes
     placed = place_made Base (idle Begun W) began Id (began_there Begun.names [] began) (place_in (with_id a) W.now new)
 
     thing : DoneIs Base (with_thing (with_id a) W Id policy new)
-    thing = flag_made Base Placed placed Id (began_there Placed.store.names (map take_of Placed.work.made) placed)
+    thing = flag_made Base Placed placed Id (began_there Placed.store.names (map take_of Placed.work.made) placed) (own_next Placed.store Id true)
 
   mkdir_is : (path : List ℕ) → AnswerIs (do_call a (call.Mkdir path) W)
   mkdir_is path = goes_by (new_name a (next_id a Dir) path) _ (λ new h. thing Dir Last new)
@@ -259,6 +267,12 @@ module _ (removed : List ℕ) (p : Told) (a : Store) (now : List Take) (k : Goes
   place_is : (f : FileId) → IsHeld a.names f → (q : Place) → DoneIs now (make_place f q (idle a W))
   place_is f held q = place_made now (idle a W) k f held q
 
+  -- what is gold is held
+  demoted : (f : FileId) → DoneIs now (lowered a f W)
+  demoted f =
+      decided (DoneIs now) (is_gold a f) (lower_flag a f W) (idle a W)
+      (λ gold. flag_made now (idle a W) k f (gold_held a.names f a.names.server (birth_of a f) (own_at a.names f) refl gold) (own_next a f false)) (λ none. k)
+
   -- A CALL
   pub call_goes : (c : Call) → AnswerIs (do_call a c W)
   call_goes (call.Mkdir path) = mkdir_is path
@@ -273,7 +287,7 @@ module _ (removed : List ℕ) (p : Told) (a : Store) (now : List Take) (k : Goes
   call_goes (call.Unlink path) = goes_by (file_at a path) _ (λ f h. place_is f (full_own a.names f (file_found a path f h).0) (dead_place a moment f))
   call_goes (call.Rmdir path) = goes_by (empty_dir_at a path) _ (λ d h. place_is d (emptied_held a path d h) (dead_place a moment d))
   call_goes (call.Forget id) = goes_by (in_time a (tt {0})) _ (λ f h. k)
-  call_goes (call.Demote t) = goes_by (in_time a (tt {0})) _ (λ f h. k)
+  call_goes (call.Demote t) = goes_by (demoted_at a t) _ (λ f h. demoted f)
   call_goes (call.Drop t) = goes_by (in_time a (tt {0})) _ (λ f h. k)
   call_goes (call.Giveup view server) = goes_by (in_time a (tt {0})) _ (λ f h. k)
   call_goes call.Status = goes_by (in_time a (tt {0})) _ (λ f h. k)

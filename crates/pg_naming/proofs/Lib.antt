@@ -8,6 +8,7 @@ pub mod Notes
 pub mod Messages
 pub mod Calls
 pub mod Sources
+pub mod Settling
 pub mod Effects
 pub mod Start
 pub mod Runs

@@ -67,7 +67,7 @@ use Rattle.pg_run.specs.Took.Taker.{Itself}
 use Rattle.pg_run.proofs.Lists.{among_back}
 use Rattle.pg_naming.specs.Goes.{Goes}
 use Rattle.pg_naming.proofs.Going.{goes_entry, goes_flag, goes_on, goes_place, goes_reordered, goes_same, goes_version, still_held}
-use Rattle.pg_naming.proofs.Notes.{accepted_still, confirmed_names, entry_noted_made, fetched_still, flag_noted_made, flags_noted_made, linked_still, none_here_names, place_noted_made, taken_made, told_names, turned_names, unlink_names}
+use Rattle.pg_naming.proofs.Notes.{accepted_still, confirmed_names, entry_noted_made, fetched_still, flag_noted_made, flags_noted_made, linked_still, none_here_names, place_noted_made, seek_still, taken_made, told_names, turned_names, unlink_names, walk_still}
 use Rattle.pg_naming.proofs.Patched.{from_front, goes_with_patches, to_front}
 
 -- ---- held or not
@@ -148,7 +148,7 @@ module _ (removed : List ℕ) (p : Told) (a : Store) (now : List Take) (k : Goes
       Met = accept a ends manner.Link W
 
       met : (Met.store.names ≡ a.names) × (Met.work.made ≡ [])
-      met = accepted_still a ends W
+      met = accepted_still a ends manner.Link W
 
       came_by : (t u : Bool) → fits ends.file c ≡ t → is_current a from ends ≡ u → IsCellTold p ends.file c
           → Leaves (cond (u && t) (takes_in ends.file c) [])
@@ -195,7 +195,7 @@ module _ (removed : List ℕ) (p : Told) (a : Store) (now : List Take) (k : Goes
     grant_by : (t : Bool) (ends : Ends) (g : Granted) → is_pending a ends.file ends.receiver ≡ t → AreTold p ends.file g.place g.flags
         → Leaves (cond t (granted_takes a ends.file g) []) (cond t (begin_granted a ends g W) (accept a ends manner.Link W))
     grant_by true ends g e good = granted_leaves ends g good e
-    grant_by false ends g e good = let m = accepted_still a ends W in still_leaves (accept a ends manner.Link W) m.0 m.1
+    grant_by false ends g e good = let m = accepted_still a ends manner.Link W in still_leaves (accept a ends manner.Link W) m.0 m.1
 
     -- ---- a child is confirmed
 
@@ -322,8 +322,10 @@ module _ (removed : List ℕ) (p : Told) (a : Store) (now : List Take) (k : Goes
     message_goes (message.NoGrant file birth) good =
         leaves_with (message.NoGrant file birth) (still_leaves (receive a (message.NoGrant file birth) W) (turned_names a file birth from (next_target a from)) refl)
     message_goes (message.Full ends) good = full_by (is_accepted a from manner.Answer ends && not (is_full a ends.file)) ends refl
-    message_goes (message.Seek file birth) good = k
-    message_goes (message.Here ends) good = k
+    message_goes (message.Seek file birth) good =
+        let s = seek_still a file birth W in leaves_with (message.Seek file birth) (still_leaves (receive a (message.Seek file birth) W) s.0 s.1)
+    message_goes (message.Here ends) good =
+        let s = accepted_still a ends manner.Link W in leaves_with (message.Here ends) (still_leaves (receive a (message.Here ends) W) s.0 s.1)
     message_goes (message.NoneHere what file child) good =
         leaves_with (message.NoneHere what file child) (still_leaves (receive a (message.NoneHere what file child) W) (none_here_names a (asking_key what file child) from) refl)
     message_goes (message.Gone file birth) good =
@@ -338,5 +340,8 @@ module _ (removed : List ℕ) (p : Told) (a : Store) (now : List Take) (k : Goes
     message_goes (message.Leave ends stamp) good = k
     message_goes (message.LeaveOk ends stamp) good = k
     message_goes (message.Invite ends) good = k
-    message_goes (message.Walk ends origin birth hops word) good = k
-    message_goes (message.Meet ends) good = k
+    message_goes (message.Walk ends origin birth hops word) good =
+        let m = message.Walk ends origin birth hops word in
+        let s = walk_still a ends origin birth hops word W in leaves_with m (still_leaves (receive a m W) s.0 s.1)
+    message_goes (message.Meet ends) good =
+        let s = accepted_still a ends manner.Link W in leaves_with (message.Meet ends) (still_leaves (receive a (message.Meet ends) W) s.0 s.1)

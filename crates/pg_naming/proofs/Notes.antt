@@ -1,7 +1,9 @@
 -- What the pieces of handlers make, and what names they leave: most make nothing, and leave names as they were.
-use Rattle.std.proofs.Common.{ℕ, ◌≡◌, Bool, true, false, List, [], ◌∷◌, Option, None, Some, refl, ◌∙◌}
+use Rattle.std.proofs.Common.{ℕ, ◌≡◌, ◌==◌, ◌-◌, ◌/◌, ◌%◌, ◌||◌, Bool, true, false, cond, List, [], ◌∷◌, length, Option, None, Some, refl, ◌∙◌}
+use Rattle.std.specs.List.{slice_get}
 use Rattle.pg_base.specs.declared.id.FileId.{FileId}
 use Rattle.pg_base.specs.declared.stamp.Stamp.{Stamp}
+use Rattle.pg_edges.specs.declared.edge.Edge.{Edge}
 use Rattle.pg_edges.specs.declared.key.Key.TheVariants as key
 use Rattle.pg_register.specs.declared.flag.Flag.{Flag}
 use Rattle.pg_register.specs.declared.place.Place.{Place}
@@ -11,7 +13,9 @@ use Rattle.pg_entries.specs.declared.entry.Entry.{Entry}
 use Rattle.pg_intent.specs.declared.key.IntentKey.{IntentKey}
 use Rattle.pg_intent.specs.declared.key.IntentKey.TheVariants as intent_key
 use Rattle.pg_intent.specs.Intents.{aimed, ended, intent_at}
+use Rattle.pg_cells.specs.declared.accepting.Manner.{Manner}
 use Rattle.pg_cells.specs.declared.accepting.Manner.TheVariants as manner
+use Rattle.pg_msg.specs.declared.message.Ask.TheVariants as ask
 use Rattle.pg_msg.specs.declared.message.Ends.{Ends}
 use Rattle.pg_msg.specs.declared.message.Message.TheVariants as message
 use Rattle.pg_msg.specs.declared.work.Work.{Work}
@@ -22,12 +26,12 @@ use Rattle.pg_promises.proofs.Choices.{chosen}
 use Rattle.pg_replica.specs.declared.replica.Replica.{Replica}
 use Rattle.pg_store.specs.declared.store.Store.{Store}
 use Rattle.pg_store.specs.Beginning.{with_intents}
-use Rattle.pg_store.specs.Births.{fill_at, has_birth, is_pending, wish_at, with_wishes}
+use Rattle.pg_store.specs.Births.{birth_of, fill_at, has_birth, is_pending, wish_at, with_wishes}
 use Rattle.pg_store.specs.Links.{is_clean, is_linked, is_new_link, knows_later, link, put_link, unlink}
 use Rattle.pg_store.specs.Servers.{next_target}
-use Rattle.pg_store.specs.Store.{entry_news, is_full, is_new_version, is_newer_flag, is_newer_place, replica_at}
+use Rattle.pg_store.specs.Store.{entry_news, is_full, is_held, is_new_version, is_newer_flag, is_newer_place, replica_at}
 use Rattle.pg_store.specs.Wishes.{aim_wish}
-use Rattle.pg_cells.specs.Accepting.{accept, link_peer, with_gone, with_link}
+use Rattle.pg_cells.specs.Accepting.{accept, is_accepted, is_answer, link_peer, met, with_gone, with_link}
 use Rattle.pg_cells.specs.Cells.{taken}
 use Rattle.pg_cells.specs.Done.{Done, idle}
 use Rattle.pg_cells.specs.Posting.{reply}
@@ -37,7 +41,10 @@ use Rattle.pg_repair.specs.Confirming.{end_confirmed, is_confirmed}
 use Rattle.pg_repair.specs.Fetching.{answered_fetch, ends_to, fetch, give, given}
 use Rattle.pg_repair.specs.Granting.{aim_fill, fill_asks, turn_fill, turn_wish, wish_asks}
 use Rattle.pg_repair.specs.NoneHere.{does_ask, turn}
+use Rattle.pg_graph.specs.Seeking.{answered_seek, seek}
+use Rattle.pg_graph.specs.Seeks.{edges_of}
 use Rattle.pg_repair.specs.Telling.{end_told, is_told}
+use Rattle.pg_graph.specs.Walks.{goes_on, meet_origin, most_hops, onward, walk, walk_along, walk_from, walk_of, walk_of_tick, walk_on, walked, with_few_edges}
 
 -- ---- names that stay
 
@@ -119,16 +126,54 @@ IsStill a w d = (d.store.names ≡ a.names) × (d.work.made ≡ w.made)
 pub linked_still : (a : Store) (file : FileId) (peer birth : ℕ) (w : Work) → IsStill a w (link_peer a file peer birth w)
 linked_still a file peer birth w = (link_names a file peer birth, link_made (is_new_link a file peer birth) w file peer)
 
-gone_made : (a : Store) (ends : Ends) (w : Work) → (with_gone a ends manner.Link w).made ≡ w.made
-gone_made a ends w =
-    chosen (MakesNo w) (is_pending a ends.file ends.receiver) w (reply a (message.Gone ends.file ends.receiver) w) refl refl
+gone_made : (a : Store) (ends : Ends) (how : Manner) (w : Work) → (with_gone a ends how w).made ≡ w.made
+gone_made a ends how w =
+    chosen (MakesNo w) (is_answer how || is_pending a ends.file ends.receiver) w (reply a (message.Gone ends.file ends.receiver) w) refl refl
 
-pub accepted_still : (a : Store) (ends : Ends) (w : Work) → IsStill a w (accept a ends manner.Link w)
-accepted_still a ends w =
-    chosen (IsStill a w) (has_birth a ends.file ends.receiver) _ (idle a (with_gone a ends manner.Link w))
-    (chosen (IsStill a w) (knows_later a ends.file w.from ends.sender) (idle a w) (link_peer a ends.file w.from ends.sender w) (refl, refl)
-    (linked_still a ends.file w.from ends.sender w))
-    (refl, gone_made a ends w)
+met_still : (a : Store) (ends : Ends) (how : Manner) (w : Work) → IsStill a w (met a ends how w)
+met_still a ends manner.Link w = linked_still a ends.file w.from ends.sender w
+met_still a ends manner.Ask w = (refl, refl)
+met_still a ends manner.Answer w = (refl, refl)
+
+pub accepted_still : (a : Store) (ends : Ends) (how : Manner) (w : Work) → IsStill a w (accept a ends how w)
+accepted_still a ends how w =
+    chosen (IsStill a w) (has_birth a ends.file ends.receiver) _ (idle a (with_gone a ends how w))
+    (chosen (IsStill a w) (knows_later a ends.file w.from ends.sender) (idle a w) (met a ends how w) (refl, refl) (met_still a ends how w))
+    (refl, gone_made a ends how w)
+
+-- ---- golds and walks
+
+pub seek_still : (a : Store) (file : FileId) (birth : ℕ) (w : Work) → IsStill a w (seek a file birth w)
+seek_still a file birth w =
+    let l = link_peer a file w.from birth w in
+    let s = linked_still a file w.from birth w in
+    chosen (IsStill a w) (is_held a file) _ (idle a (reply a (message.NoneHere ask.Seek file file) w))
+    (chosen (IsStill a w) (knows_later a file w.from birth) (idle a w) (answered_seek file birth l) (refl, refl) (s.0, s.1)) (refl, refl)
+
+along_made : (a : Store) (file : FileId) (origin birth hops word : ℕ) (w : Work) (o : Option Edge) → (walk_along a file origin birth hops word w o).made ≡ w.made
+along_made a file origin birth hops word w None = refl
+along_made a file origin birth hops word w (Some e) = refl
+
+pub walk_still : (a : Store) (ends : Ends) (origin birth hops word : ℕ) (w : Work) → IsStill a w (walk a ends origin birth hops word w)
+walk_still a ends origin birth hops word w =
+    let edges = onward a ends.file w.from origin in
+    let gone = walked a ends origin birth hops word edges w in
+    let s = linked_still a ends.file origin birth w in
+    chosen (IsStill a w) (is_accepted a w.from manner.Ask ends) (cond (origin == a.names.server) (idle a w) gone) (accept a ends manner.Ask w)
+    (chosen (IsStill a w) (origin == a.names.server) (idle a w) gone (refl, refl)
+    (chosen (IsStill a w) (goes_on hops edges) (idle a (walk_on a ends.file origin birth hops word edges w)) (meet_origin a ends.file origin birth w)
+    (refl, along_made a ends.file origin birth (hops - 1) (word / length edges) w (slice_get edges (word % length edges))) (s.0, s.1)))
+    (accepted_still a ends manner.Ask w)
+
+from_made : (a : Store) (word : ℕ) (w : Work) (o : Option FileId) → (walk_from a word w o).made ≡ w.made
+from_made a word w None = refl
+from_made a word w (Some f) =
+    along_made a f a.names.server (birth_of a f) most_hops (word / length (edges_of a f)) w (slice_get (edges_of a f) (word % length (edges_of a f)))
+
+pub tick_walk_made : (a : Store) (word : ℕ) (w : Work) → (walk_of_tick a word w).made ≡ w.made
+tick_walk_made a word w =
+    let files = with_few_edges a in
+    chosen (MakesNo w) (word == 0) w (walk_of a word files w) refl (from_made a (word / length files) w (slice_get files (word % length files)))
 
 given_made : (a : Store) (ends : Ends) (w : Work) (o : Option Replica) → (given a ends o w).made ≡ w.made
 given_made a ends w None = refl

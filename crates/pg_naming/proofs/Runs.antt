@@ -15,28 +15,16 @@ use Rattle.pg_run.specs.Passed.{passed, passed_with}
 use Rattle.pg_run.specs.Run.{Taking, World, brought, effect_step, first_made, idle_step, made_behind, run, start, taking_in, took_after, world_after}
 use Rattle.pg_run.specs.Took.{Take, take_of}
 use Rattle.pg_run.proofs.Frame.{Acts, HasCome, holds_in_runs, next_is, pair_after, run_more}
-use Rattle.pg_run.proofs.Knowing.{Within, made_within, passed_within, told_itself, within_back, within_parts, within_then}
 use Rattle.pg_run.proofs.Lists.{among_back, among_front}
 use Rattle.pg_run.proofs.Makes.{is_made_in_parts}
 use Rattle.pg_naming.specs.Goes.{Goes}
 use Rattle.pg_naming.specs.Merged.{AreMerged, AreTakesTold, IsMerged, NamesStandOn, StandsOn}
-use Rattle.pg_passing.specs.Tells.{AreApart}
-use Rattle.pg_naming.proofs.Effects.{input_goes}
+use Rattle.pg_naming.proofs.Effects.{IsApart, input_goes}
 use Rattle.pg_naming.proofs.Messages.{IsReady}
 use Rattle.pg_naming.proofs.Sources.{IsInputGood, both_told, came_told, later_told, made_told, only_first, takes_apart, within_told}
 use Rattle.pg_naming.proofs.Start.{start_merged}
+use Rattle.pg_naming.proofs.Settling.{took_within}
 use Rattle.pg_passing.proofs.States.{entry_is, own_is}
-
--- ---- what was taken in an event tells no more than what was made, came, and was taken before
-
-module _ (gone : List ℕ) (made : List Update) (first : List Take) where
-  took_within : Within (passed_with gone (passed gone first) made) (map take_of made ++ first)
-  took_within =
-      within_then (passed_with gone (passed gone first) made) (map take_of made ++ passed gone first) (map take_of made ++ first)
-      (made_within gone made (passed gone first))
-      (within_parts (map take_of made) (passed gone first) (map take_of made ++ first)
-      (λ u k. told_itself u (map take_of made ++ first) (among_front u (map take_of made) first k))
-      (within_then (passed gone first) first (map take_of made ++ first) (passed_within gone first) (within_back (map take_of made) first)))
 
 -- ---- what a server has, as messages need it
 
@@ -83,7 +71,7 @@ module _ (n : ℕ) (w : World) (event : Event) (s : ℕ) (asked : Input) (at : A
       let P : List Update → Type 0 = λ us. Among u us in
       subst P (sym (is_made_in_parts A asked)) (among_front u (first_made A asked) (made_behind A asked) h)
 
-  behind_in : (u : Update) → Among u (made_behind A asked) → Among u (effect A asked).out.made
+  pub behind_in : (u : Update) → Among u (made_behind A asked) → Among u (effect A asked).out.made
   behind_in u h =
       let P : List Update → Type 0 = λ us. Among u us in
       subst P (sym (is_made_in_parts A asked)) (among_back u (first_made A asked) (made_behind A asked) h)
@@ -114,8 +102,11 @@ module _ (n : ℕ) (w : World) (event : Event) (s : ℕ) (asked : Input) (at : A
       by false = old_told
 
   module _ (later : StandsOn n After) where
-    pub apart : AreApart (brought A asked ++ T)
-    apart = takes_apart n After later (brought A asked ++ T) first_told
+    pub apart : IsApart A T asked (effect A asked).out.made
+    apart us within =
+        takes_apart n After later (map take_of us ++ (brought A asked ++ T))
+        (both_told Then (map take_of us) (brought A asked ++ T)
+        (made_told n After (effect_step w event s asked).entry w.journal refl us within) first_told)
 
     end_goes : Goes A.names.removed (effect A asked).store.names (took_after A T asked)
     end_goes = input_goes (of_run n w) A T k.goes (ready_of n w on s at) (on.ids s at.0 at.1) asked good (λ going. apart)

@@ -1,7 +1,7 @@
--- What replicas take was made in the run, or was there at the start: so places are told apart by stamps, and flags by server.
-use Rattle.std.proofs.Common.{ℕ, ◌≡◌, ◌==◌, ◌&&◌, ◌||◌, nat_lt, Bool, true, false, cond, List, [], ◌∷◌, ◌++◌, map, Option, None, Some, refl, sym, ap, subst, ◌∙◌, inl, inr, ◌⊎◌, arith}
+-- What replicas take was made in the run, or was there at the start: so places are told apart by stamps, and flags by server,
+-- birth and number.
+use Rattle.std.proofs.Common.{ℕ, ◌≡◌, ◌==◌, ◌&&◌, ◌||◌, nat_lt, Bool, true, false, cond, List, [], ◌∷◌, ◌++◌, map, Option, None, Some, refl, sym, subst, ◌∙◌, inl, inr, ◌⊎◌, arith}
 use Rattle.std.proofs.lemmas.Bool.Decides.{nat_tests}
-use Rattle.std.proofs.lemmas.Option.{same_Some}
 use Rattle.pg_base.specs.declared.id.FileId.{FileId}
 use Rattle.pg_base.specs.Id.{is_same_file}
 use Rattle.pg_base.specs.Stamp.{is_before}
@@ -10,7 +10,6 @@ use Rattle.pg_content.specs.Content.{Among}
 use Rattle.pg_content.proofs.Members.{among_map}
 use Rattle.pg_register.specs.declared.flag.Flag.{Flag}
 use Rattle.pg_register.specs.declared.place.Place.{Place}
-use Rattle.pg_register.specs.Flag.{flag_of}
 use Rattle.pg_register.specs.Place.{first_stamp, root}
 use Rattle.pg_entries.specs.declared.cell.Cell.{Cell}
 use Rattle.pg_entries.specs.declared.cell.Cell.TheVariants as cell
@@ -24,8 +23,6 @@ use Rattle.pg_msg.specs.declared.update.Update.{Update}
 use Rattle.pg_msg.specs.declared.update.Update.TheVariants as update
 use Rattle.pg_call.specs.declared.reply.Reply.{Reply}
 use Rattle.pg_call.specs.declared.reply.Reply.TheVariants as reply
-use Rattle.pg_names.specs.declared.own.Own.{Own}
-use Rattle.pg_names.specs.Names.{own_at}
 use Rattle.pg_house.specs.Passing.{is_update}
 use Rattle.pg_house.specs.Returning.{is_root}
 use Rattle.pg_store.specs.declared.store.Store.{Store}
@@ -247,16 +244,8 @@ module _ (servers : ℕ) (w : World) (on : StandsOn servers w) where
     flag_told : (f : FileId) (g : Flag) → KnowsFlag takes f g → IsFlagOf servers w f g
     flag_told f g h = told (TookFlag h.0 f g) h.1
 
-    one_flag : (f : FileId) (a b : Flag) → KnowsFlag takes f a → KnowsFlag takes f b → a.server ≡ b.server → a ≡ b
-    one_flag f a b h k e =
-        let own = on.flags f a (flag_told f a h) in
-        let other = on.flags f b (flag_told f b k) in
-        let here = ap (λ (t : ℕ). own_at (w.stores t).names f) e in
-        let same : own.0 ≡ other.0 = same_Some own.0 other.0 (sym own.1 ∙ here ∙ other.1) in
-        same_Some a b (sym own.2 ∙ ap (λ (t : ℕ). flag_of own.0.flags t) e ∙ ap (λ (o : Own). flag_of o.flags b.server) same ∙ other.2)
-
     pub takes_apart : AreApart takes
     takes_apart = record {
       places = λ f a b h k e. on.stamps f a b (any_told f a h) (any_told f b k) e;
-      flags = λ f a b h k server birth number. one_flag f a b h k server;
+      flags = λ f a b h k. on.flags f a b (flag_told f a h) (flag_told f b k);
     }

@@ -1,21 +1,18 @@
 -- All servers of a run: each knows just what its replicas took, and that was made in the run or was
 -- there at the start.
-use Rattle.std.specs.Prelude.{ℕ, ◌≡◌, false, List, [], Some}
+use Rattle.std.specs.Prelude.{ℕ, ◌≡◌, false, List, []}
 use Rattle.pg_base.specs.declared.id.FileId.{FileId}
 use Rattle.pg_base.specs.declared.id.Kind.{Kind}
 use Rattle.pg_content.specs.Content.{Among}
 use Rattle.pg_register.specs.declared.flag.Flag.{Flag}
 use Rattle.pg_register.specs.declared.place.Place.{Place}
-use Rattle.pg_register.specs.Flag.{flag_of}
 use Rattle.pg_event.specs.declared.event.Event.{Event}
-use Rattle.pg_names.specs.declared.own.Own.{Own}
-use Rattle.pg_names.specs.Names.{own_at}
 use Rattle.pg_store.specs.declared.store.Store.{Store}
 use Rattle.pg_store.specs.Beginning.{patches_of}
 use Rattle.pg_store.specs.Store.{is_held}
 use Rattle.pg_calls.specs.Naming.{next_id}
 use Rattle.pg_run.specs.Intending.{IntendsInOrder, IntentionsAreInOrder}
-use Rattle.pg_run.specs.Known.{CarriedIsKnown, FlagsAreOwn, IsAllKnown, IsFlagOf, IsPlaceOf, PlacesHaveOwnStamps, Told, of_run}
+use Rattle.pg_run.specs.Known.{CarriedIsKnown, FlagsHaveOwnNumbers, IsAllKnown, IsFlagOf, IsPlaceOf, PlacesHaveOwnStamps, Told, of_run}
 use Rattle.pg_run.specs.Laws.{AtEach, store_after}
 use Rattle.pg_run.specs.Run.{World}
 use Rattle.pg_run.specs.Took.{Take}
@@ -39,9 +36,8 @@ pub record StandsOn (servers : ℕ) (w : World) : Type 0 where
   pub known : IsAllKnown servers w
   pub stamps : (file : FileId) (p q : Place) → IsPlaceOf w file p → IsPlaceOf w file q
       → p.stamp ≡ q.stamp → p ≡ q
-  pub flags : (file : FileId) (flag : Flag) → IsFlagOf servers w file flag
-      → (own : Own) × (own_at (w.stores flag.server).names file ≡ Some own)
-      × (flag_of own.flags flag.server ≡ Some flag)
+  pub flags : (file : FileId) (a b : Flag) → IsFlagOf servers w file a → IsFlagOf servers w file b
+      → a.server ≡ b.server → a.birth ≡ b.birth → a.number ≡ b.number → a ≡ b
   pub intends : AtEach servers (λ s. IntendsInOrder (w.stores s))
   pub ids : AtEach servers (λ s. (kind : Kind) → IsNewId (w.stores s) (next_id (w.stores s) kind))
 
@@ -70,6 +66,6 @@ AreMerged servers w = AtEach servers (IsMerged servers w)
 pub record NamesStandOn (servers : ℕ) : Type 0 where
   pub known : CarriedIsKnown servers
   pub stamps : PlacesHaveOwnStamps servers
-  pub flags : FlagsAreOwn servers
+  pub flags : FlagsHaveOwnNumbers servers
   pub intends : IntentionsAreInOrder servers
   pub ids : NewIdsAreNew servers

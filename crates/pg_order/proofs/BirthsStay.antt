@@ -9,7 +9,8 @@ use Rattle.pg_intent.specs.declared.key.IntentKey.TheVariants as intent_key
 use Rattle.pg_intent.specs.Intent.{key_of}
 use Rattle.pg_intent.specs.Intents.{HaveOwnKeys, begun}
 use Rattle.pg_intent.specs.Key.{is_same_key}
-use Rattle.pg_intent.proofs.Kept.{own-begun, own-filter}
+use Rattle.pg_intent.specs.declared.intent.Intent.TheVariants as intent
+use Rattle.pg_intent.proofs.Kept.{own-aimed, own-begun, own-filter}
 use Rattle.pg_msg.specs.declared.work.Slot.{Slot}
 use Rattle.pg_msg.specs.declared.work.Work.{Work}
 use Rattle.pg_replica.specs.declared.replica.Replica.{Replica}
@@ -21,7 +22,7 @@ use Rattle.pg_store.specs.Servers.{first_target}
 use Rattle.pg_store.specs.Store.{is_held}
 use Rattle.pg_store.specs.Together.{AreBirths, AreTogether, IsGiven, birth_at}
 use Rattle.pg_store.specs.Wishes.{wish_in, without_wish}
-use Rattle.pg_store.proofs.Aiming.{gone_as_before}
+use Rattle.pg_store.proofs.Aiming.{aimed_births, gone_as_before}
 use Rattle.pg_store.proofs.Given.{births_as_before}
 use Rattle.pg_store.proofs.Pairs.{birth_as_before, intents_as_before}
 use Rattle.pg_store.proofs.Wanted.{wish_behind}
@@ -32,6 +33,7 @@ use Rattle.pg_repair.specs.Confirms.{begin_confirm, confirm_of, is_doubtful}
 use Rattle.pg_repair.specs.Fills.{begin_fill, begin_fills, fill_birth, fill_of, files_to_fill, is_in, to_fill, with_fill_birth, without_wished, wished_birth}
 use Rattle.pg_repair.specs.Intending.{begin_intent, in_order}
 use Rattle.pg_repair.specs.Patches.{begin_patch, begin_patches, patch_of}
+use Rattle.pg_graph.specs.Seeks.{aim_seek, begin_seek, begin_seeks, has_seek, seek_again, seek_target, to_seek, was_linked}
 use Rattle.pg_repair.proofs.Standing.{begun_other, fill_ended}
 use Rattle.pg_promises.proofs.Choices.{chosen, decided}
 use Rattle.pg_promises.proofs.Together.{replica_of_held}
@@ -63,26 +65,36 @@ single_fill b file w u k =
     chosen (λ (e : Done). Single e.store) (is_some (fill_at b file)) (idle b w) (begin_intent d (fill_of b file w) w) k
     (single_begins d (fill_of b file w) w (chosen Single (is_held b file) b (without_wished b file (wish_at b file)) k (single_wished b file (wish_at b file) k)))
 
--- of three kinds of steps what each keeps, the end of an event keeps
+single_seek : (b : Store) (file : FileId) (w : Work) → Unit {0} → Single b → Single (begin_seek b file w).store
+single_seek b file w u k =
+    let to = seek_target b file in
+    chosen (λ (d : Done). Single d.store) (has_seek b file) (idle (seek_again b file w) w) (begin_intent b (intent.Seek file to) w)
+    (chosen Single (was_linked w.linked file) (aim_seek b file) b (own-aimed b.intents (intent_key.Seek file) to k) k)
+    (single_begins b (intent.Seek file to) w k)
+
+-- of four kinds of steps what each keeps, the end of an event keeps
 pub end_keeps : (P : Store → Type 0) → ((b : Store) (slot : Slot) (w : Work) → Unit {0} → P b → P (begin_patch b slot w).store)
     → ((b : Store) (file : FileId) (w : Work) → Unit {0} → P b → P (begin_fill b file w).store)
+    → ((b : Store) (file : FileId) (w : Work) → Unit {0} → P b → P (begin_seek b file w).store)
     → ((b : Store) (slot : Slot) (w : Work) → Unit {0} → P b → P (begin_confirm b slot w).store)
     → (a : Store) (w : Work) → P (end_others a (files_to_fill a.names)) → P (begin_end a w).store
-end_keeps P patch fill confirm a w k =
+end_keeps P patch fill seek confirm a w k =
     let e = end_others a (files_to_fill a.names) in
     let q = begin_patches e w in
     let f = begin_fills q.store (to_fill a.names) q.work in
-    each_keeps P (λ (x : Slot). Unit {0}) begin_confirm confirm (in_order f.work.unsure) (all_units (in_order f.work.unsure)) f.store f.work
+    let s = begin_seeks f.store (to_seek a) f.work in
+    each_keeps P (λ (x : Slot). Unit {0}) begin_confirm confirm (in_order s.work.unsure) (all_units (in_order s.work.unsure)) s.store s.work
+    (each_keeps P (λ (x : FileId). Unit {0}) begin_seek seek (to_seek a) (all_units (to_seek a)) f.store f.work
     (each_keeps P (λ (x : FileId). Unit {0}) begin_fill fill (to_fill a.names) (all_units (to_fill a.names)) q.store q.work
-    (each_keeps P (λ (x : Slot). Unit {0}) begin_patch patch (in_order w.left) (all_units (in_order w.left)) e w k))
+    (each_keeps P (λ (x : Slot). Unit {0}) begin_patch patch (in_order w.left) (all_units (in_order w.left)) e w k)))
 
 pub keys_end : (a : Store) (w : Work) → HaveOwnKeys a.intents → HaveOwnKeys (begin_end a w).store.intents
 keys_end a w k =
-    end_keeps Single single_patch single_fill single_confirm a w (own-filter (still_stands a (files_to_fill a.names)) a.intents k)
+    end_keeps Single single_patch single_fill single_seek single_confirm a w (own-filter (still_stands a (files_to_fill a.names)) a.intents k)
 
 -- ---- births
 
--- a Patch or a Confirm is no Fill
+-- a Patch, a Seek or a Confirm is no Fill
 other_births : (b : Store) (i : Intent) (w : Work) → ((q : FileId) → is_same_key (intent_key.Fill q) (key_of i) ≡ false) → AreBirths b → AreBirths (begin_intent b i w).store
 other_births b i w other h =
     births_as_before b (begin_intent b i w).store
@@ -100,6 +112,13 @@ given_confirm : (b : Store) (slot : Slot) (w : Work) → Unit {0} → Given b �
 given_confirm b slot w u k =
     chosen (λ (d : Done). Given d.store) (is_doubtful b slot.dir slot.child) (begin_intent b (confirm_of b slot) w) (idle b w)
     (k.0, other_births b (confirm_of b slot) w (λ q. refl) k.1) k
+
+given_seek : (b : Store) (file : FileId) (w : Work) → Unit {0} → Given b → Given (begin_seek b file w).store
+given_seek b file w u k =
+    let i = intent.Seek file (seek_target b file) in
+    chosen (λ (d : Done). Given d.store) (has_seek b file) (idle (seek_again b file w) w) (begin_intent b i w)
+    (chosen Given (was_linked w.linked file) (aim_seek b file) b (k.0, aimed_births b (intent_key.Seek file) (seek_target b file) k.1) k)
+    (k.0, other_births b i w (λ q. refl) k.1)
 
 none_of : {A : Type 0} (o : Option A) → is_some o ≡ false → o ≡ None
 none_of None h = refl
@@ -178,4 +197,4 @@ births_end a w both births =
     let e = end_others a files in
     let ended : AreBirths e = births_as_before a e
     (intents_as_before a e.intents (λ q i there. stays_by (is_in files q) (fill_at a q) i (sym (fill_ended a q) ∙ there))) births in
-    (end_keeps Given given_patch given_fill given_confirm a w (both, ended)).1
+    (end_keeps Given given_patch given_fill given_seek given_confirm a w (both, ended)).1

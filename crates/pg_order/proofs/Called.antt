@@ -27,7 +27,6 @@ use Rattle.pg_call.specs.declared.call.Call.TheVariants as call
 use Rattle.pg_call.specs.declared.refusal.Refusal.TheVariants.{ManyActors, TooLong}
 use Rattle.pg_call.specs.declared.reply.Reply.{Reply}
 use Rattle.pg_call.specs.declared.reply.Reply.TheVariants as reply
-use Rattle.pg_register.specs.declared.flag.Flag.{Flag}
 use Rattle.pg_register.specs.declared.place.Place.{Place}
 use Rattle.pg_register.specs.Place.{root}
 use Rattle.pg_register.proofs.ByServer.{IsByServer-nil}
@@ -47,6 +46,8 @@ use Rattle.pg_store.proofs.Given.{births_as_before}
 use Rattle.pg_store.proofs.Pairs.{birth_as_before}
 use Rattle.pg_store.proofs.Wishing.{wish_births}
 use Rattle.pg_cells.specs.Done.{Done, idle}
+use Rattle.pg_cells.specs.Golds.{is_gold}
+use Rattle.pg_cells.specs.Making.{lower_flag}
 use Rattle.pg_repair.proofs.Needs.{needed_comes}
 use Rattle.pg_calls.specs.declared.checks.NewName.{NewName}
 use Rattle.pg_calls.specs.Answer.{Answer, answer, answered, replied, told, unless}
@@ -54,10 +55,11 @@ use Rattle.pg_calls.specs.Asking.{ask_by, ask_first, fetch, fresh_wish, holder, 
 use Rattle.pg_calls.specs.Bodies.{change, change_file, when_fit}
 use Rattle.pg_calls.specs.Calls.{do_call}
 use Rattle.pg_calls.specs.Checks.{dir_at, empty_dir_at, file_at, in_time, move_of, new_name, target_at}
+use Rattle.pg_calls.specs.Demoting.{demoted_at}
 use Rattle.pg_calls.specs.Making.{drawn, first_ranges, make_place, make_version, version_of, with_version}
 use Rattle.pg_calls.specs.Naming.{begun, dead_place, next_id, place_in, taken_away, with_first_version, with_id, with_thing}
 use Rattle.pg_calls.proofs.InTime.{name_in_time}
-use Rattle.pg_calls.proofs.Missing.{IsMissing, dir_missing, empty_missing, file_missing, move_missing, name_missing, target_missing}
+use Rattle.pg_calls.proofs.Missing.{IsMissing, demoted_missing, dir_missing, empty_missing, file_missing, move_missing, name_missing, target_missing}
 use Rattle.pg_calls.proofs.Stopping.{StopsAt, stops_then, stops_time, stops_unless}
 use Rattle.pg_calls.proofs.Walked.{file_found, full_own}
 use Rattle.pg_server.specs.Local.{done_of}
@@ -68,7 +70,7 @@ use Rattle.pg_order.proofs.Ended.{IsAtRest}
 use Rattle.pg_order.proofs.Files.{thing_files}
 use Rattle.pg_order.proofs.Found.{IsFree, empty_found, move_found, name_found}
 use Rattle.pg_order.proofs.Sounding.{Sound, sound_alike, sound_begun, sound_write}
-use Rattle.pg_order.proofs.Taking.{SoFar, so_place, so_raised, so_sent, so_with}
+use Rattle.pg_order.proofs.Taking.{IsMember, SoFar, so_flagged, so_place, so_raised, so_sent, so_with}
 
 -- an id that nobody knows yet
 pub record IsNewId (p : Saying) (a : Store) (id : FileId) : Type 0 where
@@ -119,7 +121,7 @@ file_apart f true e file = absurd (false≢true (sym file ∙ ap is_dir (is_same
 abbrev pub GivesNewIds : Saying → Store → Call → Work → Type 0
 GivesNewIds p a x work = is_in_time a ≡ true → (kind : Kind) → (do_call a x work).store.files ≡ a.files + 1 → IsNewId p a (next_id a kind)
 
-module _ (p : Saying) (c : IsClosed p) (n s : ℕ) (mine : (flag : Flag) → flag.server ≡ s → p.IsFlag flag) (a : Store) (k : IsAtRest p n s a) where
+module _ (p : Saying) (c : IsClosed p) (n s : ℕ) (mine : IsMember p n s) (a : Store) (k : IsAtRest p n s a) where
   abbrev Far : Done → Type 0
   Far d = SoFar p c n s d
 
@@ -134,7 +136,7 @@ module _ (p : Saying) (c : IsClosed p) (n s : ℕ) (mine : (flag : Flag) → fla
   so_made : (d : Done) (f : FileId) (place : Place) → p.IsPlace f place → Far d → Far (make_place f place d)
   so_made d f place here h =
       let w = with_made d.work (update.Place f place) in
-      so_place p c n s (idle d.store w) f place here (so_with p c n s d d.store w h h.store (record { left = refl; sent = refl }))
+      so_place p c n s (idle d.store w) f place here (so_with p c n s d d.store w h h.store (record { left = refl; sent = refl; tail = refl }))
 
   -- a place where a client wants it
   given_place : (b : Store) (f : FileId) (now : ℕ) (new : NewName) → is_same_file f root ≡ false → IsFree a new → p.IsPlace f (place_in b now new)
@@ -143,7 +145,7 @@ module _ (p : Saying) (c : IsClosed p) (n s : ℕ) (mine : (flag : Flag) → fla
   so_version : (d : Done) (f : FileId) (stamp : Stamp) (ranges : RangesValue) → Far d → Far (make_version f stamp ranges d)
   so_version d f stamp ranges h =
       so_with p c n s d _ (with_version d.work (version_of d.store f stamp ranges)) h (sound_write p n s d.store h.store f stamp ranges)
-      (record { left = refl; sent = refl })
+      (record { left = refl; sent = refl; tail = refl })
 
   -- ---- a new thing
 
@@ -174,7 +176,7 @@ module _ (p : Saying) (c : IsClosed p) (n s : ℕ) (mine : (flag : Flag) → fla
     so_begun =
         so_with p c n s (idle a work) (begun (with_id a) Id policy) work first
         (sound_begun p n s Ready ready Id (draw_birth (with_id a)) policy (blank_own Id) true may IsByServer-nil blank)
-        (record { left = refl; sent = refl })
+        (record { left = refl; sent = refl; tail = refl })
 
     so_thing : Far (with_thing (with_id a) work Id policy new)
     so_thing =
@@ -209,7 +211,7 @@ module _ (p : Saying) (c : IsClosed p) (n s : ℕ) (mine : (flag : Flag) → fla
           so_with p c n s (idle a work) e work first
           (sound_alike p n s a k.sound e (record { servers = refl; tags = refl; names = refl; replicas = refl })
           (wish_births b f (fresh_wish a target) given (away_by (is_held a f) refl) gap (fresh_given a.births)) k.sound.keys k.sound.named.intents)
-          (record { left = refl; sent = refl })
+          (record { left = refl; sent = refl; tail = refl })
 
       so_first : (target : ℕ) → Far (ask_first a f target work)
       so_first target =
@@ -302,7 +304,9 @@ module _ (p : Saying) (c : IsClosed p) (n s : ℕ) (mine : (flag : Flag) → fla
     so_called (call.Unlink path) ids = so_unlink path
     so_called (call.Rmdir path) ids = so_rmdir path
     so_called (call.Forget id) ids = so_timed _
-    so_called (call.Demote target) ids = so_timed _
+    so_called (call.Demote target) ids =
+        so_answered (demoted_at a target) _ (demoted_missing a target)
+        (λ f found. chosen Far (is_gold a f) (lower_flag a f work) (idle a work) (so_flagged p c n s (idle a work) f false mine first) first)
     so_called (call.Drop target) ids = so_timed _
     so_called (call.Giveup view server) ids = so_timed _
     so_called call.Status ids = so_timed _

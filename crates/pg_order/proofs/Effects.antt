@@ -9,13 +9,14 @@ use Rattle.pg_msg.specs.declared.work.Work.{Work}
 use Rattle.pg_msg.specs.Numbers.{is_in_range}
 use Rattle.pg_msg.specs.Work.{new_work}
 use Rattle.pg_call.specs.declared.reply.Reply.{Reply}
-use Rattle.pg_register.specs.declared.flag.Flag.{Flag}
 use Rattle.pg_store.specs.declared.store.Store.{Store}
 use Rattle.pg_store.specs.Servers.{is_live_other, view_of}
 use Rattle.pg_store.specs.Store.{is_in_time}
 use Rattle.pg_store.proofs.Aiming.{unwished_as_before}
 use Rattle.pg_store.proofs.Given.{births_as_before}
 use Rattle.pg_cells.specs.Done.{Done, idle}
+use Rattle.pg_cells.specs.Ticks.{tick}
+use Rattle.pg_repair.specs.Requests.{ask_all}
 use Rattle.pg_calls.specs.Calls.{do_call}
 use Rattle.pg_calls.proofs.Late.{late_does_nothing}
 use Rattle.pg_server.specs.declared.input.Input.{Input}
@@ -24,12 +25,13 @@ use Rattle.pg_server.specs.Local.{Effect, closed, done_of, effect, finished, fir
 use Rattle.pg_promises.specs.Whole.{IsOther}
 use Rattle.pg_promises.proofs.Choices.{chosen, decided}
 use Rattle.pg_order.specs.Saying.{IsClosed, IsSaidLeft, IsSaidOfMessage, Saying}
+use Rattle.pg_order.proofs.Accepting.{so_tick}
 use Rattle.pg_order.proofs.Called.{GivesNewIds, so_called}
 use Rattle.pg_order.proofs.Ended.{IsAtRest, IsDone, closed_sound, finished_sound}
 use Rattle.pg_order.proofs.Received.{so_received}
 use Rattle.pg_order.proofs.Sent.{AreSaidOf, again_said}
 use Rattle.pg_order.proofs.Sounding.{Sound, sound_alike}
-use Rattle.pg_order.proofs.Taking.{SoFar}
+use Rattle.pg_order.proofs.Taking.{IsMember, SoFar}
 
 -- what is asked of an input
 abbrev pub IsAskable : Saying → Store → Input → Type 0
@@ -55,7 +57,7 @@ heard_other n s t a servers server h =
       apart = λ same. not_equal t a.names.server three.0 (same ∙ sym server);
     }
 
-module _ (p : Saying) (c : IsClosed p) (n s : ℕ) (mine : (flag : Flag) → flag.server ≡ s → p.IsFlag flag) (a : Store) (k : IsAtRest p n s a) where
+module _ (p : Saying) (c : IsClosed p) (n s : ℕ) (mine : IsMember p n s) (a : Store) (k : IsAtRest p n s a) where
   abbrev Far : Done → Type 0
   Far d = SoFar p c n s d
 
@@ -66,23 +68,32 @@ module _ (p : Saying) (c : IsClosed p) (n s : ℕ) (mine : (flag : Flag) → fla
   none_sent now from = All-nil (λ (m : Sent). IsSaidOfMessage p m.packet.message)
 
   begins : (now from : ℕ) → Far (idle a (new_work now from))
-  begins now from = record { store = k.sound; left = All-nil (λ (slot : Slot). IsSaidLeft p slot); sent = none_sent now from }
+  begins now from = record { store = k.sound; left = All-nil (λ (slot : Slot). IsSaidLeft p slot); sent = none_sent now from; tail = none_sent now from }
 
   sound_wishless : Sound p n s (without_wishes a)
   sound_wishless =
       sound_alike p n s a k.sound (without_wishes a) (record { servers = refl; tags = refl; names = refl; replicas = refl })
       (births_as_before a (without_wishes a) (unwished_as_before a) k.sound.births) k.sound.keys k.sound.named.intents
 
-  tick_sent : (moment : ℕ) → AreSaidOf p (sent_again a (new_work moment 0)).sent
-  tick_sent moment = again_said p n s a k.sound (new_work moment 0) (none_sent moment 0)
+  tick_far : (moment word : ℕ) → Far (idle a (sent_again a word (new_work moment 0)))
+  tick_far moment word =
+      let w = new_work moment 0 in
+      so_tick p c n s (idle a (ask_all a (tick a w))) word mine (record {
+        store = k.sound;
+        left = (begins moment 0).left;
+        sent = again_said p n s a k.sound w (none_sent moment 0);
+        tail = none_sent moment 0;
+      })
+
+  first_tick : (moment word : ℕ) → Far (first_effect a (input.Tick moment word))
+  first_tick moment word =
+      chosen (λ (w : Work). Far (idle a w)) (is_in_time a) (sent_again a word (new_work moment 0)) (new_work moment 0) (tick_far moment word) (begins moment 0)
 
   -- ---- what takes effect
 
   pub first_sound : (asked : Input) → IsAskable p a asked → takes_effect a asked ≡ true → Far (first_effect a asked)
   first_sound (input.Call moment x) ids going = so_called p c n s mine a k (new_work moment 0) (begins moment 0) x ids
-  first_sound (input.Tick moment word) asks going =
-      chosen (λ (w : Work). Far (idle a w)) (is_in_time a) (sent_again a (new_work moment 0)) (new_work moment 0)
-      (record { store = k.sound; left = (begins moment 0).left; sent = tick_sent moment }) (begins moment 0)
+  first_sound (input.Tick moment word) asks going = first_tick moment word
   first_sound (input.Arrival packet) said going =
       decided Far (is_heard a packet) (receive a packet.message (new_work 0 packet.from)) (idle a (new_work 0 packet.from))
       (λ heard.
@@ -92,30 +103,30 @@ module _ (p : Saying) (c : IsClosed p) (n s : ℕ) (mine : (flag : Flag) → fla
       let other = heard_other n s packet.from a k.sound.whole.servers k.sound.whole.server three.0 in
       so_received p c n s mine (idle a (new_work 0 packet.from)) packet.message other said (begins 0 packet.from))
       (λ no. begins 0 packet.from)
-  first_sound input.Restart asks going = record { store = sound_wishless; left = (begins 0 0).left; sent = none_sent 0 0 }
+  first_sound input.Restart asks going = record { store = sound_wishless; left = (begins 0 0).left; sent = none_sent 0 0; tail = none_sent 0 0 }
 
   -- ---- what does not
 
-  late_call : (r : Reply) (d : Done) (w : Work) → d.store ≡ a → d.work ≡ w → AreSaidOf p w.sent → Ends (finished (Some r) d)
-  late_call r d w store work sent =
+  late_call : (r : Reply) (d : Done) (w : Work) → d.store ≡ a → d.work ≡ w → AreSaidOf p w.sent → AreSaidOf p w.tail → Ends (finished (Some r) d)
+  late_call r d w store work sent tail =
       let P : Store → Type 0 = λ b. Ends (finished (Some r) (idle b d.work)) in
       let Q : Work → Type 0 = λ v. Ends (finished (Some r) (idle a v)) in
-      subst P (sym store) (subst Q (sym work) (finished_sound p c n s (Some r) (idle a w) k sent))
+      subst P (sym store) (subst Q (sym work) (finished_sound p c n s (Some r) (idle a w) k sent tail))
 
   late_sound : (asked : Input) → takes_effect a asked ≡ false → Ends (finished (reply_to a asked) (first_effect a asked))
   late_sound (input.Call moment x) late =
       let w = new_work moment 0 in
       let none = late_does_nothing a x w late in
-      late_call (do_call a x w).reply (done_of (do_call a x w)) w none.0 none.1 (none_sent moment 0)
+      late_call (do_call a x w).reply (done_of (do_call a x w)) w none.0 none.1 (none_sent moment 0) (none_sent moment 0)
   late_sound (input.Tick moment word) late =
-      finished_sound p c n s (reply_to a (input.Tick moment word)) (first_effect a (input.Tick moment word)) k
-      (chosen (λ (w : Work). AreSaidOf p w.sent) (is_in_time a) (sent_again a (new_work moment 0)) (new_work moment 0) (tick_sent moment) (none_sent moment 0))
+      let far = first_tick moment word in
+      finished_sound p c n s (reply_to a (input.Tick moment word)) (first_effect a (input.Tick moment word)) k far.sent far.tail
   late_sound (input.Arrival packet) late =
       let w = new_work 0 packet.from in
       let P : Bool → Type 0 = λ t. Ends (finished (reply_to a (input.Arrival packet)) (cond t (receive a packet.message w) (idle a w))) in
-      subst P (sym late) (finished_sound p c n s (reply_to a (input.Arrival packet)) (idle a w) k (none_sent 0 packet.from))
+      subst P (sym late) (finished_sound p c n s (reply_to a (input.Arrival packet)) (idle a w) k (none_sent 0 packet.from) (none_sent 0 packet.from))
   late_sound input.Restart late =
-      finished_sound p c n s (reply_to a input.Restart) (idle (without_wishes a) (new_work 0 0)) (record { sound = sound_wishless; fills = k.fills; settled = k.settled }) (none_sent 0 0)
+      finished_sound p c n s (reply_to a input.Restart) (idle (without_wishes a) (new_work 0 0)) (record { sound = sound_wishless; fills = k.fills; settled = k.settled }) (none_sent 0 0) (none_sent 0 0)
 
   -- behind the first effect of any input
   late_first : (asked : Input) → takes_effect a asked ≡ false → Sound p n s (first_effect a asked).store
@@ -137,5 +148,5 @@ module _ (p : Saying) (c : IsClosed p) (n s : ℕ) (mine : (flag : Flag) → fla
   pub effect_sound : (asked : Input) → IsAskable p a asked → Ends (effect a asked)
   effect_sound asked asks =
       decided Ends (takes_effect a asked) (closed (reply_to a asked) (first_effect a asked)) (finished (reply_to a asked) (first_effect a asked))
-      (λ going. closed_sound p c n s (reply_to a asked) (first_effect a asked) (first_sound asked asks going))
+      (λ going. closed_sound p c n s mine (reply_to a asked) (first_effect a asked) (first_sound asked asks going))
       (late_sound asked)

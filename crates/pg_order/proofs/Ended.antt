@@ -1,30 +1,29 @@
 -- An event behind its first effect: the house rules run, intentions begin and end, and what is touched is sent.
-use Rattle.std.proofs.Common.{ℕ, sym, subst}
+use Rattle.std.proofs.Common.{ℕ, ◌++◌, sym, subst}
+use Rattle.std.proofs.lemmas.List.Elements.{All-append}
 use Rattle.pg_call.specs.declared.reply.Reply.{Reply}
+use Rattle.pg_msg.specs.declared.message.Sent.{Sent}
 use Rattle.pg_msg.specs.declared.work.Work.{Work}
 use Rattle.std.specs.Prelude.{Option}
 use Rattle.pg_store.specs.declared.store.Store.{Store}
 use Rattle.pg_cells.specs.Done.{Done}
+use Rattle.pg_cells.specs.Finish.{finish}
 use Rattle.pg_cells.specs.Settling.{settle}
+use Rattle.pg_cells.proofs.Settled.{settle_gives}
 use Rattle.pg_repair.specs.Beginning.{begin_end}
+use Rattle.pg_repair.specs.Requests.{ask_begun}
 use Rattle.pg_repair.proofs.Idle.{FillsFit, fills_fit}
 use Rattle.pg_repair.proofs.Steady.{begin_end_stays}
 use Rattle.pg_server.specs.Local.{Effect, closed, finished}
-use Rattle.pg_promises.proofs.Settling.{settle_sent}
-use Rattle.pg_order.specs.Saying.{IsClosed, Saying}
+use Rattle.pg_order.specs.Saying.{IsClosed, IsSaidOfMessage, Saying}
 use Rattle.pg_order.specs.Sound.{IsSettled}
 use Rattle.pg_order.proofs.BirthsStay.{births_end, keys_end}
 use Rattle.pg_order.proofs.HouseSays.{AreLeft}
 use Rattle.pg_order.proofs.Intended.{keeps_end}
 use Rattle.pg_order.proofs.Sent.{AreSaidOf, end_said}
 use Rattle.pg_order.proofs.Settled.{settled}
-use Rattle.pg_order.proofs.Sounding.{Sound, sound_alike, sound_settle}
-
--- in the midst of an event: it is said of what is known, of the places that were replaced, and of what is sent
-pub record IsSoundSoFar (p : Saying) (c : IsClosed p) (n s : ℕ) (d : Done) : Type 0 where
-  pub store : Sound p n s d.store
-  pub left : AreLeft p c d.work.left
-  pub sent : AreSaidOf p d.work.sent
+use Rattle.pg_order.proofs.Sounding.{Sound, sound_alike}
+use Rattle.pg_order.proofs.Taking.{IsMember, SoFar, so_raised, so_rules}
 
 -- behind an event: Fills stand of just what is to be filled, and names are as the house rules leave them
 pub record IsAtRest (p : Saying) (n s : ℕ) (a : Store) : Type 0 where
@@ -47,25 +46,38 @@ module _ (p : Saying) (c : IsClosed p) (n s : ℕ) where
       (births_end a w k.whole.together k.births) (keys_end a w k.keys)
       (keeps_end p c a w (k.named.said, k.named.intents) left).1
 
+  -- THE HOUSE RULES RUN, and golds are raised
+  abbrev IsBehindRules : Done → Type 0
+  IsBehindRules d = SoFar p c n s d × IsSettled d.store.names
+
+  so_settled : (mine : IsMember p n s) (d : Done) → SoFar p c n s d → IsBehindRules (settle d.store d.work)
+  so_settled mine d k =
+      settle_gives (SoFar p c n s) IsBehindRules
+      (λ e far. (so_rules p c n s e far, settled e.store e.work far.store.whole.names))
+      (λ e f behind none. so_raised p c n s e f mine behind.0) d k
+
+  -- what is sent at the end, with what goes last
+  done_said : (a : Store) (sound : Sound p n s a) (w : Work) → AreSaidOf p w.sent → AreSaidOf p w.tail → AreSaidOf p ((ask_begun a (finish a w)).sent ++ w.tail)
+  done_said a sound w sent tail =
+      All-append (λ (m : Sent). IsSaidOfMessage p m.packet.message) (ask_begun a (finish a w)).sent w.tail (end_said p n s a sound w sent) tail
+
   -- an event that takes effect
-  pub closed_sound : (answer : Option Reply) (d : Done) → IsSoundSoFar p c n s d → IsDone p n s (closed answer d)
-  closed_sound answer d k =
+  pub closed_sound : (mine : IsMember p n s) (answer : Option Reply) (d : Done) → SoFar p c n s d → IsDone p n s (closed answer d)
+  closed_sound mine answer d k =
       let m = settle d.store d.work in
-      let behind = sound_settle p n s d.store k.store c d.work k.left in
+      let behind = so_settled mine d k in
       let b = begin_end m.store m.work in
       let stays = begin_end_stays m.store m.work in
-      let sound = sound_end m.store m.work behind.0 behind.1 in
-      let sent : AreSaidOf p b.work.sent =
-      subst (AreSaidOf p) (sym stays.sent) (subst (AreSaidOf p) (sym (settle_sent n s d.store d.work k.store.whole)) k.sent) in
+      let sound = sound_end m.store m.work behind.0.store behind.0.left in
       record {
         rest = record {
           sound = sound;
           fills = fills_fit m.store m.work;
-          settled = subst IsSettled (sym stays.names) (settled d.store d.work k.store.whole.names);
+          settled = subst IsSettled (sym stays.names) behind.1;
         };
-        sent = end_said p n s b.store sound b.work sent;
+        sent = done_said b.store sound b.work (subst (AreSaidOf p) (sym stays.sent) behind.0.sent) (subst (AreSaidOf p) (sym stays.tail) behind.0.tail);
       }
 
   -- and one that does not
-  pub finished_sound : (answer : Option Reply) (d : Done) → IsAtRest p n s d.store → AreSaidOf p d.work.sent → IsDone p n s (finished answer d)
-  finished_sound answer d k sent = record { rest = k; sent = end_said p n s d.store k.sound d.work sent }
+  pub finished_sound : (answer : Option Reply) (d : Done) → IsAtRest p n s d.store → AreSaidOf p d.work.sent → AreSaidOf p d.work.tail → IsDone p n s (finished answer d)
+  finished_sound answer d k sent tail = record { rest = k; sent = done_said d.store k.sound d.work sent tail }

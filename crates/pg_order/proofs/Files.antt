@@ -33,20 +33,25 @@ use Rattle.pg_cells.specs.declared.accepting.Manner.TheVariants as manner
 use Rattle.pg_cells.specs.Accepting.{accept, is_accepted, met}
 use Rattle.pg_cells.specs.Cells.{fits, taken}
 use Rattle.pg_cells.specs.Done.{Done, idle}
-use Rattle.pg_cells.specs.Settling.{settle, touch_all}
+use Rattle.pg_cells.specs.Golds.{is_gold}
+use Rattle.pg_cells.specs.Making.{lower_flag, own_next}
+use Rattle.pg_cells.specs.Settling.{rules, settle, touch_all}
 use Rattle.pg_cells.specs.Taking.{take_flag_noted, take_flags_noted}
 use Rattle.pg_repair.specs.Confirming.{is_confirmed, take_told_place}
 use Rattle.pg_repair.specs.Filling.{few_golds, live_golds}
 use Rattle.pg_repair.specs.Granting.{begun_by, fill_asks, turn_wish, wish_asks}
 use Rattle.pg_repair.specs.NoneHere.{asking_key, does_ask}
 use Rattle.pg_repair.specs.Telling.{is_told}
+use Rattle.pg_graph.specs.Walks.{goes_on, onward, walked}
 use Rattle.pg_repair.proofs.Steady.{begin_end_stays}
 use Rattle.pg_calls.specs.declared.checks.NewName.{NewName}
+use Rattle.pg_calls.specs.Demoting.{demoted_at}
 use Rattle.pg_calls.specs.Making.{make_place}
 use Rattle.pg_calls.specs.Naming.{begun, dead_place, next_id, place_in, with_id, with_thing}
 use Rattle.pg_server.specs.Local.{closed, receive}
 use Rattle.pg_call.specs.declared.reply.Reply.{Reply}
 use Rattle.pg_promises.proofs.Choices.{chosen}
+use Rattle.pg_cells.proofs.Settled.{settle_gives}
 use Rattle.pg_base.specs.declared.id.Kind.TheVariants.{Dir, File}
 use Rattle.pg_base.specs.declared.policy.Policy.TheVariants.{Last}
 use Rattle.pg_patch.specs.Ranges.{RangesValue, cut_to, written}
@@ -167,6 +172,10 @@ receive_files a (message.Full ends) w =
     let b = with_names a (fill_names a.names ends.file) in
     either_done a (is_accepted a w.from manner.Answer ends && not (is_full a ends.file)) _ (idle a w)
     (either_done a (nat_lt (live_golds b ends.file) few_golds) _ (idle b w) (flag_files b ends.file _) refl) refl
+receive_files a (message.Seek file birth) w =
+    either_done a (is_held a file) (cond (knows_later a file w.from birth) (idle a w) _) _
+    (either_done a (knows_later a file w.from birth) (idle a w) _ refl (link_files a file w.from birth)) refl
+receive_files a (message.Here ends) w = accept_files a ends manner.Link w
 receive_files a (message.NoneHere what file child) w =
     either_files a (does_ask (intent_at a.intents (asking_key what file child)) w.from) _ a refl refl
 receive_files a (message.Gone file birth) w = unlink_files a file w.from birth
@@ -181,6 +190,13 @@ receive_files a (message.PlaceIs dir e) w =
 receive_files a (message.Tell dir e) w = either_done a (is_held a dir) _ _ (entry_files a dir e) refl
 receive_files a (message.TellOk dir child stamp) w =
     either_files a (is_told (intent_at a.intents (intent_key.Patch dir child)) stamp w.from) _ a refl refl
+receive_files a (message.Walk ends origin birth hops word) w =
+    let edges = onward a ends.file w.from origin in
+    either_done a (is_accepted a w.from manner.Ask ends) (cond (origin == a.names.server) (idle a w) (walked a ends origin birth hops word edges w)) _
+    (either_done a (origin == a.names.server) (idle a w) (walked a ends origin birth hops word edges w) refl
+    (either_done a (goes_on hops edges) _ _ refl (link_files a ends.file origin birth)))
+    (accept_files a ends manner.Ask w)
+receive_files a (message.Meet ends) w = accept_files a ends manner.Link w
 receive_files a m w = refl
 
 -- ---- the end of an event
@@ -189,12 +205,18 @@ touches_files : (a : Store) (ts : List Touched) → (touch_all a ts).files ≡ a
 touches_files a [] = refl
 touches_files a (t ∷ ts) = touches_files (touch a t.file t.key) ts
 
+rules_files : (a : Store) (w : Work) → (rules a w).store.files ≡ a.files
+rules_files a w =
+    let st = house w.now (state_of a.names w) in
+    touches_files (with_names a st.names) (drop (length w.touched) st.work.touched)
+
 pub closed_files : (answer : Option Reply) (d : Done) → (closed answer d).store.files ≡ d.store.files
 closed_files answer d =
     let m = settle d.store d.work in
-    let st = house d.work.now (state_of d.store.names d.work) in
+    let P : Done → Type 0 = λ e. e.store.files ≡ d.store.files in
     (begin_end_stays m.store m.work).files
-    ∙ touches_files (with_names d.store st.names) (drop (length d.work.touched) st.work.touched)
+    ∙ settle_gives P P (λ e k. rules_files e.store e.work ∙ k)
+    (λ e f k none. flag_files e.store f (own_next e.store f true) ∙ k) d refl
 
 -- ---- calls
 
@@ -245,7 +267,9 @@ module _ (a : Store) (w : Work) where
   call_files (call.Unlink path) = up_answered (file_at a path) _ (λ f. up_same a.files _ (place_files a f (dead_place a w.now f)))
   call_files (call.Rmdir path) = up_answered (empty_dir_at a path) _ (λ d. up_same a.files _ (place_files a d (dead_place a w.now d)))
   call_files (call.Forget id) = up_looked (in_time a (tt {0})) _
-  call_files (call.Demote target) = up_looked (in_time a (tt {0})) _
+  call_files (call.Demote target) =
+      up_answered (demoted_at a target) _
+      (λ f. up_same a.files _ (either_done a (is_gold a f) (lower_flag a f w) (idle a w) (flag_files a f (own_next a f false)) refl))
   call_files (call.Drop target) = up_looked (in_time a (tt {0})) _
   call_files (call.Giveup view server) = up_looked (in_time a (tt {0})) _
   call_files call.Status = up_looked (in_time a (tt {0})) _

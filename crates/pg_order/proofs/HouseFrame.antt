@@ -1,5 +1,5 @@
--- The house rules remove no server, and leave who sent the message of the event.
-use Rattle.std.proofs.Common.{ℕ, ◌≡◌, ◌&&◌, Bool, not, List, [], ◌∷◌, length, Option, None, Some, refl, ◌∙◌}
+-- The house rules remove no server, and leave who sent the message of the event, and what is sent in it.
+use Rattle.std.proofs.Common.{ℕ, ◌≡◌, ◌&&◌, Bool, cond, not, List, [], ◌∷◌, length, Option, None, Some, refl, ◌∙◌}
 use Rattle.pg_base.specs.declared.id.FileId.{FileId}
 use Rattle.pg_edges.specs.declared.key.Key.TheVariants as key
 use Rattle.pg_register.specs.declared.flag.Flag.{Flag}
@@ -24,31 +24,54 @@ use Rattle.pg_promises.proofs.Choices.{chosen}
 
 -- ---- works
 
-left_from : (w : Work) (f : FileId) (old : Place) → (note_left w f old).from ≡ w.from
-left_from w f old = chosen (λ (v : Work). v.from ≡ w.from) (old.live && not (is_root f)) (with_left w old.parent f) w refl refl
+-- from the same server, and the same is sent
+pub record SendsSame (w v : Work) : Type 0 where
+  pub from : v.from ≡ w.from
+  pub sent : v.sent ≡ w.sent
+  pub tail : v.tail ≡ w.tail
 
-place_from : (w : Work) (f : FileId) (old : Place) (t : Bool) → (place_touched w f old t).from ≡ w.from
-place_from w f old t =
-    chosen (λ (v : Work). v.from ≡ w.from) t (note_left (with_touched w f key.Place) f old) w (left_from (with_touched w f key.Place) f old) refl
+pub sends_same : (w : Work) → SendsSame w w
+sends_same w = record { from = refl; sent = refl; tail = refl }
 
-flags_from : (w : Work) (f : FileId) (held gs : List Flag) → (flags_touched w f held gs).from ≡ w.from
-flags_from w f held [] = refl
-flags_from w f held (g ∷ gs) =
+sends_then : (w u v : Work) → SendsSame w u → SendsSame u v → SendsSame w v
+sends_then w u v one two = record { from = two.from ∙ one.from; sent = two.sent ∙ one.sent; tail = two.tail ∙ one.tail }
+
+pub sends_either : (w : Work) (t : Bool) (u v : Work) → SendsSame w u → SendsSame w v → SendsSame w (cond t u v)
+sends_either w t u v one other = chosen (λ (x : Work). SendsSame w x) t u v one other
+
+pub left_sends : (w : Work) (f : FileId) (old : Place) → SendsSame w (note_left w f old)
+left_sends w f old =
+    sends_either w (old.live && not (is_root f)) (with_left w old.parent f) w (record { from = refl; sent = refl; tail = refl }) (sends_same w)
+
+place_sends : (w : Work) (f : FileId) (old : Place) (t : Bool) → SendsSame w (place_touched w f old t)
+place_sends w f old t =
+    let u = with_touched w f key.Place in
+    sends_either w t (note_left u f old) w
+    (sends_then w u (note_left u f old) (record { from = refl; sent = refl; tail = refl }) (left_sends u f old)) (sends_same w)
+
+flags_sends : (w : Work) (f : FileId) (held gs : List Flag) → SendsSame w (flags_touched w f held gs)
+flags_sends w f held [] = sends_same w
+flags_sends w f held (g ∷ gs) =
     let t = is_other_flag (flag_of held g.server) g in
-    flags_from (touched w f (key.Flag g.server) t) f held gs
-    ∙ chosen (λ (v : Work). v.from ≡ w.from) t (with_touched w f (key.Flag g.server)) w refl refl
+    let u = touched w f (key.Flag g.server) t in
+    sends_then w u (flags_touched u f held gs)
+    (sends_either w t (with_touched w f (key.Flag g.server)) w (record { from = refl; sent = refl; tail = refl }) (sends_same w))
+    (flags_sends u f held gs)
 
 -- ---- states
 
-module _ (gone : List ℕ) (sender : ℕ) where
+module _ (gone : List ℕ) (first : Work) where
   pub record IsFramed (st : State) : Type 0 where
     pub removed : st.names.removed ≡ gone
-    pub from : st.work.from ≡ sender
+    pub work : SendsSame first st.work
+
+  onward : (w v : Work) → SendsSame first w → SendsSame w v → SendsSame first v
+  onward w v one two = sends_then first w v one two
 
   offered_frame : (st : State) (f : FileId) (own top : Own) (back : Bool) (d : FileId) → IsFramed st → IsFramed (offered st f own top back d)
   offered_frame st f own top back d k =
       chosen IsFramed (gets st.names f own top back d) (given st f top d) st
-      (record { removed = (update_frame st.names d (with_entry (cell_for f top))).removed ∙ k.removed; from = k.from }) k
+      (record { removed = (update_frame st.names d (with_entry (cell_for f top))).removed ∙ k.removed; work = onward st.work (with_touched st.work d (key.Entry f)) k.work (record { from = refl; sent = refl; tail = refl }) }) k
 
   spread_frame : (st : State) (f : FileId) (own top : Own) (back : Bool) (es : List FileId) → IsFramed st → IsFramed (spread st f own top back es)
   spread_frame st f own top back [] k = k
@@ -59,9 +82,10 @@ module _ (gone : List ℕ) (sender : ℕ) where
   taking_frame st f own taken k =
       let moves = not (is_same_place own.place taken.place) in
       let w = place_touched st.work f own.place moves in
+      let behind = sends_then st.work w (flags_touched w f own.flags taken.flags) (place_sends st.work f own.place moves) (flags_sends w f own.flags taken.flags) in
       chosen IsFramed (is_same_own own taken) st (took st f own taken) k (record {
         removed = (update_frame st.names f (with_own taken)).removed ∙ k.removed;
-        from = flags_from w f own.flags taken.flags ∙ place_from st.work f own.place moves ∙ k.from;
+        work = onward st.work (flags_touched w f own.flags taken.flags) k.work behind;
       })
 
   module _ (ds : List FileId) where
@@ -85,7 +109,8 @@ module _ (gone : List ℕ) (sender : ℕ) where
         let w = with_touched (with_made st.work (update.Place f new)) f key.Place in
         pass_frame (made_at st f new) f (record {
           removed = (update_frame (with_last st.names new.stamp.time) f (with_own (own_with st.names f new))).removed ∙ k.removed;
-          from = left_from w f (place_at st.names f) ∙ k.from;
+          work = onward st.work (note_left w f (place_at st.names f)) k.work
+              (sends_then st.work w (note_left w f (place_at st.names f)) (record { from = refl; sent = refl; tail = refl }) (left_sends w f (place_at st.names f)));
         })
 
     return_frame : (moment : ℕ) (st : State) (o : Option FileId) → IsFramed st → IsFramed (returned moment ds st o)

@@ -1,10 +1,10 @@
 -- Intentions begin and end behind the house rules, and what is intended then is said too.
-use Rattle.std.proofs.Common.{◌≡◌, ◌++◌, Bool, true, false, cond, is_some, List, [], ◌∷◌, Option, None, Some, All, refl, subst}
+use Rattle.std.proofs.Common.{ℕ, ◌≡◌, ◌++◌, Bool, true, false, cond, is_some, List, [], ◌∷◌, Option, None, Some, All, refl, ap, subst}
 use Rattle.std.specs.BTreeMap.{insert_entry}
-use Rattle.std.specs.List.{AllByRecursion}
+use Rattle.std.specs.List.{AllByRecursion, filter}
 use Rattle.std.specs.Map.{keys_of}
 use Rattle.std.specs.declared.cmp.Ordering.TheVariants.{Equal}
-use Rattle.std.proofs.lemmas.Bool.{and_parts}
+use Rattle.std.proofs.lemmas.Bool.{and_parts, false≢true}
 use Rattle.std.proofs.lemmas.List.Elements.{All-cons, All-filter, All-head, All-nil, All-push, All-tail}
 use Rattle.pg_base.specs.declared.id.FileId.{FileId}
 use Rattle.pg_base.specs.Id.{is_same_file}
@@ -14,14 +14,15 @@ use Rattle.pg_base.proofs.Orders.{is_same_file-true}
 use Rattle.pg_intent.specs.declared.intent.Intent.{Intent}
 use Rattle.pg_intent.specs.declared.intent.Intent.TheVariants as intent
 use Rattle.pg_intent.specs.declared.key.IntentKey.{IntentKey}
-use Rattle.pg_intent.specs.Intent.{key_of, rejoined}
-use Rattle.pg_intent.specs.Intents.{begun, changed, has_key, stands}
+use Rattle.pg_intent.specs.declared.key.IntentKey.TheVariants as intent_key
+use Rattle.pg_intent.specs.Intent.{aimed_at, key_of, rejoined}
+use Rattle.pg_intent.specs.Intents.{aimed, begun, changed, has_key, stands}
 use Rattle.pg_msg.specs.declared.work.Slot.{Slot}
 use Rattle.pg_msg.specs.declared.work.Work.{Work}
 use Rattle.pg_msg.specs.Work.{slot_cmp}
 use Rattle.pg_msg.proofs.Slots.{slot_exact}
 use Rattle.pg_names.specs.declared.own.Own.{Own}
-use Rattle.pg_names.specs.Names.{or_blank, own_at}
+use Rattle.pg_names.specs.Names.{HeldValue, known, or_blank, own_at, own_of}
 use Rattle.pg_store.specs.declared.store.Store.{Store}
 use Rattle.pg_store.specs.declared.wishes.Wish.{Wish}
 use Rattle.pg_store.specs.Births.{fill_at, wish_at}
@@ -33,6 +34,7 @@ use Rattle.pg_repair.specs.Confirms.{begin_confirm, confirm_of, is_doubtful}
 use Rattle.pg_repair.specs.Fills.{begin_fill, begin_fills, fill_of, files_to_fill, to_fill, with_fill_birth, without_wished}
 use Rattle.pg_repair.specs.Intending.{Slots, add_slots, begin_intent, each, in_order}
 use Rattle.pg_repair.specs.Patches.{begin_patch, begin_patches, patch_of}
+use Rattle.pg_graph.specs.Seeks.{aim_seek, begin_seek, begin_seeks, has_seek, is_seeking, seek_again, seek_target, to_seek, was_linked}
 use Rattle.pg_register.proofs.ByServer.{IsByServer-join_flags, IsByServer-nil}
 use Rattle.pg_promises.proofs.Choices.{chosen}
 use Rattle.pg_order.specs.Saying.{AreIntended, IsClosed, IsIntended, IsSaidCell, IsSaidLeft, IsSaidOf, IsSaidTold, Saying}
@@ -117,11 +119,46 @@ module _ (p : Saying) where
   begun_said is i all here =
       all_begun (IsIntended p) is i all here (λ (held : Intent) (same : has_key (key_of i) held ≡ true) (was : IsIntended p held). rejoined_said i held same was here)
 
+  -- another server is asked
+  aimed_said : (to : ℕ) (i : Intent) → IsIntended p i → IsIntended p (aimed_at to i)
+  aimed_said to (intent.Bye file birth peer peer_birth) h = h
+  aimed_said to (intent.Seek file target) h = h
+  aimed_said to (intent.Fill file birth target) h = h
+  aimed_said to (intent.Patch dir entry target) h = h
+  aimed_said to (intent.Confirm dir child target) h = h
+  aimed_said to (intent.Leave file peer peer_birth) h = h
+
+  pub all_aimed : (is : List Intent) (q : IntentKey) (to : ℕ) → AreIntended p is → AreIntended p (aimed is q to)
+  all_aimed is q to all = all_changed (IsIntended p) (aimed_at to) q (λ held same was. aimed_said to held was) is all
+
   abbrev Keeps : Store → Type 0
   Keeps b = IsSaidOf p b.names × AreIntended p b.intents
 
   begins : (b : Store) (i : Intent) (w : Work) → Keeps b → IsIntended p i → Keeps (begin_intent b i w).store
   begins b i w k here = (k.0, begun_said b.intents i k.1 here)
+
+  -- ---- Seeks
+
+  seek_keeps : (b : Store) (file : FileId) (w : Work) → p.IsThing file → Keeps b → Keeps (begin_seek b file w).store
+  seek_keeps b file w here k =
+      let to = seek_target b file in
+      chosen (λ (d : Done). Keeps d.store) (has_seek b file) (idle (seek_again b file w) w) (begin_intent b (intent.Seek file to) w)
+      (chosen Keeps (was_linked w.linked file) (aim_seek b file) b (k.0, all_aimed b.intents (intent_key.Seek file) to k.1) k)
+      (begins b (intent.Seek file to) w k here)
+
+  -- what seeks is held
+  held_thing : (a : Store) (file : FileId) (o : Option HeldValue) → known a.names file ≡ o → is_some o ≡ true → Keeps a → p.IsThing file
+  held_thing a file None at held k = absurd (false≢true held)
+  held_thing a file (Some x) at held k = (k.0.own file x.own (ap own_of at)).thing
+
+  seek_things : (a : Store) (files : List FileId) → Keeps a → AllByRecursion p.IsThing (filter (is_seeking a) files)
+  seek_things a [] k = tt
+  seek_things a (f ∷ fs) k = by (is_seeking a f) refl (seek_things a fs k)
+    where
+      by : (t : Bool) → is_seeking a f ≡ t → AllByRecursion p.IsThing (filter (is_seeking a) fs)
+          → AllByRecursion p.IsThing (cond t (f ∷ filter (is_seeking a) fs) (filter (is_seeking a) fs))
+      by true seeks rest = (held_thing a f (known a.names f) refl (and_parts (is_held a f) _ seeks).0 k, rest)
+      by false none rest = rest
 
   -- what is known of a thing, for a directory
   module _ (c : IsClosed p) where
@@ -168,6 +205,8 @@ module _ (p : Saying) where
         let e = end_others a (files_to_fill a.names) in
         let q = begin_patches e w in
         let f = begin_fills q.store (to_fill a.names) q.work in
-        each_keeps Keeps (λ (x : Slot). Unit {0}) begin_confirm confirm_keeps (in_order f.work.unsure) (all_units (in_order f.work.unsure)) f.store f.work
+        let s = begin_seeks f.store (to_seek a) f.work in
+        each_keeps Keeps (λ (x : Slot). Unit {0}) begin_confirm confirm_keeps (in_order s.work.unsure) (all_units (in_order s.work.unsure)) s.store s.work
+        (each_keeps Keeps p.IsThing begin_seek seek_keeps (to_seek a) (seek_things a (keys_of a.names.held) k) f.store f.work
         (each_keeps Keeps (λ (x : FileId). Unit {0}) begin_fill fill_keeps (to_fill a.names) (all_units (to_fill a.names)) q.store q.work
-        (each_keeps Keeps (IsSaidLeft p) begin_patch patch_keeps (in_order w.left) (all_in_order (IsSaidLeft p) w.left left) e w (ended_keeps a k)))
+        (each_keeps Keeps (IsSaidLeft p) begin_patch patch_keeps (in_order w.left) (all_in_order (IsSaidLeft p) w.left left) e w (ended_keeps a k))))

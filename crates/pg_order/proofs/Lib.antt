@@ -10,8 +10,9 @@ pub mod Sounding
 pub mod Intended
 pub mod BirthsStay
 pub mod Sent
-pub mod Ended
 pub mod Taking
+pub mod Ended
+pub mod Accepting
 pub mod Received
 pub mod Found
 pub mod Files

@@ -21,6 +21,7 @@ use Rattle.pg_order.specs.Named.{IsMade, IsOfServer, IsWell, naming}
 use Rattle.pg_order.specs.Saying.{IsClosed, IsIntended, IsSaidCell, IsSaidOfCell, IsSaidOfMessage, IsSaidOwn, IsSaidTold}
 use Rattle.pg_order.proofs.Ended.{IsAtRest}
 use Rattle.pg_order.proofs.Sent.{AreSaidOf}
+use Rattle.pg_order.proofs.Taking.{IsMember}
 
 module _ (n : ℕ) (files : ℕ → ℕ) where
   again_well : (f : FileId) (place other : Place) → is_same_file f root ≡ false → IsWell n files f place → other.parent ≡ place.parent → other.name ≡ place.name → IsWell n files f other
@@ -51,10 +52,18 @@ module _ (n : ℕ) (files : ℕ → ℕ) where
     other = λ f apart. apart;
   }
 
-  pub own_flag : (s : ℕ) → 1 ≤ s → s ≤ n → (flag : Flag) → flag.server ≡ s → IsOfServer n flag
+  own_flag : (s : ℕ) → 1 ≤ s → s ≤ n → (flag : Flag) → flag.server ≡ s → IsOfServer n flag
   own_flag s least most flag same = record {
     least = subst (λ (m : ℕ). 1 ≤ m) (sym same) least;
     most = subst (λ (m : ℕ). m ≤ n) (sym same) most;
+  }
+
+  -- THE SERVERS OF THE RUN
+  pub member : (s : ℕ) → 1 ≤ s → s ≤ n → IsMember (naming n files) n s
+  member s least most = record {
+    flags = own_flag s least most;
+    named = (least, most);
+    others = λ t in_run apart. record { least = in_run.0; most = in_run.1; apart = apart };
   }
 
 -- ---- as ids are given out
@@ -81,7 +90,7 @@ module _ (n : ℕ) (f g : ℕ → ℕ) (more : (k : ℕ) → f k ≤ g k) where
 
   intended_later : (i : Intent) → IsIntended (naming n f) i → IsIntended (naming n g) i
   intended_later (intent.Bye file birth peer peer_birth) k = k
-  intended_later (intent.Seek file target) k = k
+  intended_later (intent.Seek file target) k = made_later file k
   intended_later (intent.Fill file birth target) k = k
   intended_later (intent.Patch dir entry target) k = told_later dir entry k
   intended_later (intent.Confirm dir child target) k = k

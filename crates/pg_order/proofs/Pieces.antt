@@ -27,7 +27,7 @@ use Rattle.pg_store.specs.Links.{is_linked, is_new_link, link, put_link, unlink}
 use Rattle.pg_store.specs.Store.{is_held, is_new_version, is_newer_entry, is_newer_flag, is_newer_place, put_entry, put_flag, put_place, put_version, take_entry, take_flag, take_place, take_version, touch, with_names, write}
 use Rattle.pg_replica.specs.Replicas.{replicas_unlinked}
 use Rattle.pg_store.specs.Store.{replica_at}
-use Rattle.pg_cells.specs.Settling.{settle, touch_all}
+use Rattle.pg_cells.specs.Settling.{rules, touch_all}
 use Rattle.pg_promises.proofs.Choices.{chosen, decided}
 use Rattle.pg_promises.proofs.Touching.{same_names}
 use Rattle.pg_order.specs.Saying.{AreIntended, IsClosed, IsIntended, IsSaidCell, IsSaidOf, IsSaidOwn, Saying}
@@ -147,8 +147,8 @@ module _ (p : Saying) where
     fewer_intents test = All-filter test (IsIntended p) a.intents k.intents
 
     -- the house rules run
-    pub named_settle : (c : IsClosed p) (work : Work) → AreLeft p c work.left → Named (settle a work).store × AreLeft p c (settle a work).work.left
-    named_settle c work all =
+    pub named_rules : (c : IsClosed p) (work : Work) → AreLeft p c work.left → Named (rules a work).store × AreLeft p c (rules a work).work.left
+    named_rules c work all =
         let st = house work.now (state_of a.names work) in
         let keys = drop (length work.touched) st.work.touched in
         let said = house_said p c work.now (state_of a.names work) (k.said, all) in

@@ -1,5 +1,5 @@
 -- A message leaves a server sound, and what is answered is said.
-use Rattle.std.proofs.Common.{ℕ, ◌≡◌, ◌&&◌, ◌||◌, Bool, true, false, not, cond, nat_lt, List, Option, None, Some, refl, sym, ap, subst, ◌∙◌}
+use Rattle.std.proofs.Common.{ℕ, ◌≡◌, ◌&&◌, Bool, true, false, not, cond, nat_lt, Option, None, Some, refl, sym, ap, subst, ◌∙◌}
 use Rattle.std.proofs.lemmas.Bool.{and_parts, false≢true}
 use Rattle.pg_base.specs.declared.id.FileId.{FileId}
 use Rattle.pg_base.specs.declared.stamp.Stamp.{Stamp}
@@ -8,11 +8,8 @@ use Rattle.pg_base.specs.Id.{is_same_file}
 use Rattle.pg_base.proofs.Orders.{is_same_file-true}
 use Rattle.pg_entries.specs.declared.cell.Cell.{Cell}
 use Rattle.pg_entries.specs.declared.entry.Entry.{Entry}
-use Rattle.pg_intent.specs.declared.intent.Intent.{Intent}
-use Rattle.pg_intent.specs.declared.intent.Intent.TheVariants as intent
 use Rattle.pg_intent.specs.declared.key.IntentKey.{IntentKey}
 use Rattle.pg_intent.specs.declared.key.IntentKey.TheVariants as intent_key
-use Rattle.pg_intent.specs.Intent.{aimed_at}
 use Rattle.pg_intent.specs.Intents.{aimed, ended, intent_at}
 use Rattle.pg_intent.proofs.Kept.{own-aimed}
 use Rattle.pg_msg.specs.declared.message.Ask.{Ask}
@@ -27,7 +24,6 @@ use Rattle.pg_msg.specs.Ends.{back}
 use Rattle.pg_msg.specs.Sent.{cell_key}
 use Rattle.pg_names.specs.declared.own.Own.{Own}
 use Rattle.pg_names.specs.Names.{fill as fill_names, is_dir, or_blank, own_or_blank}
-use Rattle.pg_register.specs.declared.flag.Flag.{Flag}
 use Rattle.pg_register.specs.declared.place.Place.{Place}
 use Rattle.pg_register.specs.Flag.{IsByServer}
 use Rattle.pg_register.specs.Place.{blank_place, root}
@@ -35,16 +31,15 @@ use Rattle.pg_replica.specs.declared.replica.Replica.{Replica}
 use Rattle.pg_house.specs.Work.{is_root}
 use Rattle.pg_store.specs.declared.store.Store.{Store}
 use Rattle.pg_store.specs.Beginning.{with_intents}
-use Rattle.pg_store.specs.Births.{fill_at, has_birth, is_pending, wish_at, with_wishes}
+use Rattle.pg_store.specs.Births.{fill_at, is_pending, wish_at, with_wishes}
 use Rattle.pg_store.specs.Links.{is_clean, knows_later}
 use Rattle.pg_store.specs.Servers.{next_target}
 use Rattle.pg_store.specs.Store.{acknowledge, is_full, is_held, replica_at, with_names}
 use Rattle.pg_store.specs.Wishes.{aim_wish}
 use Rattle.pg_store.proofs.Aiming.{aim_births, aimed_births}
 use Rattle.pg_store.proofs.Given.{pending_may}
-use Rattle.pg_cells.specs.declared.accepting.Manner.{Manner}
 use Rattle.pg_cells.specs.declared.accepting.Manner.TheVariants as manner
-use Rattle.pg_cells.specs.Accepting.{accept, is_accepted, is_answer, link_peer, met, with_gone}
+use Rattle.pg_cells.specs.Accepting.{accept, is_accepted, link_peer}
 use Rattle.pg_cells.specs.Acks.{ack}
 use Rattle.pg_cells.specs.Cells.{cell, fits, taken, taken_along}
 use Rattle.pg_cells.specs.Done.{Done, idle, link_of}
@@ -61,77 +56,46 @@ use Rattle.pg_server.specs.Local.{receive}
 use Rattle.pg_promises.specs.Whole.{IsOther}
 use Rattle.pg_promises.proofs.Choices.{chosen, decided}
 use Rattle.pg_promises.proofs.Together.{held_of_replica, own_of_held}
-use Rattle.pg_order.specs.Saying.{AreIntended, IsClosed, IsIntended, IsSaidCell, IsSaidGranted, IsSaidLeft, IsSaidOfCell, IsSaidOfMessage, IsSaidOwn, IsSaidTold, Saying}
-use Rattle.pg_order.proofs.Intended.{all_changed, own_said as own_told}
+use Rattle.pg_order.specs.Saying.{IsClosed, IsSaidCell, IsSaidGranted, IsSaidLeft, IsSaidOfCell, IsSaidOfMessage, IsSaidOwn, IsSaidTold, Saying}
+use Rattle.pg_order.proofs.Accepting.{so_accept, so_reply, so_seek, so_store, so_walk}
+use Rattle.pg_order.proofs.Intended.{all_aimed, own_said as own_told}
 use Rattle.pg_order.proofs.Sent.{own_said}
 use Rattle.pg_order.proofs.Sounding.{Sound, sound_acknowledge, sound_alike, sound_begun, sound_ended, sound_filled, sound_unlink}
-use Rattle.pg_order.proofs.Taking.{SoFar, so_entry, so_flags, so_link, so_place, so_raised, so_sent, so_taken, so_with, beside_itself}
+use Rattle.pg_order.proofs.Taking.{IsMember, SoFar, so_entry, so_flags, so_link, so_place, so_raised, so_taken}
 
-module _ (p : Saying) (c : IsClosed p) (n s : ℕ) (mine : (flag : Flag) → flag.server ≡ s → p.IsFlag flag) where
+module _ (p : Saying) (c : IsClosed p) (n s : ℕ) (mine : IsMember p n s) where
   abbrev Far : Done → Type 0
   Far d = SoFar p c n s d
 
-  -- another store and the same work
-  so_store : (d : Done) (a : Store) → Far d → Sound p n s a → Far (idle a d.work)
-  so_store d a k sound = so_with p c n s d a d.work k sound (beside_itself d.work)
-
-  so_reply : (d : Done) (m : Message) → Far d → IsSaidOfMessage p m → Far (idle d.store (reply d.store m d.work))
-  so_reply d m k said = so_sent p c n s d d.work.from m k said
-
   -- ---- intentions ask another server
-
-  aimed_said : (to : ℕ) (i : Intent) → IsIntended p i → IsIntended p (aimed_at to i)
-  aimed_said to (intent.Bye file birth peer peer_birth) h = h
-  aimed_said to (intent.Seek file target) h = h
-  aimed_said to (intent.Fill file birth target) h = h
-  aimed_said to (intent.Patch dir entry target) h = h
-  aimed_said to (intent.Confirm dir child target) h = h
-  aimed_said to (intent.Leave file peer peer_birth) h = h
-
-  all_aimed : (is : List Intent) (q : IntentKey) (to : ℕ) → AreIntended p is → AreIntended p (aimed is q to)
-  all_aimed is q to all = all_changed (IsIntended p) (aimed_at to) q (λ held same was. aimed_said to held was) is all
 
   sound_aimed : (a : Store) (q : IntentKey) (to : ℕ) → Sound p n s a → Sound p n s (with_intents a (aimed a.intents q to))
   sound_aimed a q to k =
       sound_alike p n s a k (with_intents a (aimed a.intents q to)) (record { servers = refl; tags = refl; names = refl; replicas = refl })
-      (aimed_births a q to k.births) (own-aimed a.intents q to k.keys) (all_aimed a.intents q to k.named.intents)
+      (aimed_births a q to k.births) (own-aimed a.intents q to k.keys) (all_aimed p a.intents q to k.named.intents)
 
   sound_wish : (a : Store) (f : FileId) (to : ℕ) → Sound p n s a → Sound p n s (with_wishes a (aim_wish a.wishes f to))
   sound_wish a f to k =
       sound_alike p n s a k (with_wishes a (aim_wish a.wishes f to)) (record { servers = refl; tags = refl; names = refl; replicas = refl })
       (aim_births a f to k.births) k.keys k.named.intents
 
-  -- ---- messages along edges
-
-  so_accept : (d : Done) (ends : Ends) (m : Manner) → IsOther n s d.work.from → Far d → Far (accept d.store ends m d.work)
-  so_accept d ends m other k =
-      let a = d.store in
-      let w = d.work in
-      chosen Far (has_birth a ends.file ends.receiver) (cond (knows_later a ends.file w.from ends.sender) (idle a w) (met a ends m w)) (idle a (with_gone a ends m w))
-      (chosen Far (knows_later a ends.file w.from ends.sender) (idle a w) (met a ends m w) k (met_by m))
-      (chosen (λ (v : Work). Far (idle a v)) (is_answer m || is_pending a ends.file ends.receiver) w (reply a (message.Gone ends.file ends.receiver) w) k
-      (so_reply d (message.Gone ends.file ends.receiver) k tt))
-    where
-      met_by : (x : Manner) → Far (met d.store ends x d.work)
-      met_by manner.Link = so_link p c n s d ends.file d.work.from ends.sender other k
-      met_by manner.Ask = k
-      met_by manner.Answer = k
+  -- ---- cells
 
   so_cell : (d : Done) (ends : Ends) (tag : ℕ) (x : Cell) → IsOther n s d.work.from → IsSaidOfCell p ends.file x → Far d → Far (cell d.store ends tag x d.work)
   so_cell d ends tag x other said k =
       let a = d.store in
       let w = d.work in
       let e = accept a ends manner.Link w in
-      let linked = so_accept d ends manner.Link other k in
+      let linked = so_accept p c n s d ends manner.Link other k in
       let t = taken e.store ends.file x e.work in
       chosen Far (fits ends.file x) (cond (is_accepted a w.from manner.Link ends) (taken_along ends tag x e) e) (idle a w)
       (chosen Far (is_accepted a w.from manner.Link ends) (taken_along ends tag x e) e
-      (so_reply t (message.Ack (back ends) (cell_key x) tag) (so_taken p c n s e ends.file x said linked) tt) linked)
+      (so_reply p c n s t (message.Ack (back ends) (cell_key x) tag) (so_taken p c n s e ends.file x said linked) tt) linked)
       k
 
   so_ack : (d : Done) (ends : Ends) (q : Key) (tag : ℕ) → Far d → Far (ack d.store ends q tag d.work)
   so_ack d ends q tag k =
-      so_store d (acknowledge d.store ends.file (link_of d.work.from ends) q tag) k (sound_acknowledge p n s d.store k.store ends.file (link_of d.work.from ends) q tag)
+      so_store p c n s d (acknowledge d.store ends.file (link_of d.work.from ends) q tag) k (sound_acknowledge p n s d.store k.store ends.file (link_of d.work.from ends) q tag)
 
   -- ---- a replica is to be filled
 
@@ -160,7 +124,7 @@ module _ (p : Saying) (c : IsClosed p) (n s : ℕ) (mine : (flag : Flag) → fla
       let own = own_or_blank d.store.names ends.file in
       let here = own_said p n s d.store k.store ends.file x at in
       let held = own_of_held d.store.names ends.file (held_of_replica d.store k.store.whole.together ends.file x at) in
-      so_reply d (message.Grant ends (granted_from ends.file own x)) k (record {
+      so_reply p c n s d (message.Grant ends (granted_from ends.file own x)) k (record {
         thing = here.thing;
         place = place_granted ends.file own here;
         flags = here.flags;
@@ -171,7 +135,7 @@ module _ (p : Saying) (c : IsClosed p) (n s : ℕ) (mine : (flag : Flag) → fla
   so_answer d f birth k =
       let ends = ends_to d.store f birth in
       chosen (λ (w : Work). Far (idle d.store w)) (is_clean d.store f d.work.from birth) (reply d.store (message.Full ends) d.work) (give d.store ends d.work)
-      (so_reply d (message.Full ends) k tt) (so_given d ends (replica_at d.store f) refl k)
+      (so_reply p c n s d (message.Full ends) k tt) (so_given d ends (replica_at d.store f) refl k)
 
   so_fetch : (d : Done) (f : FileId) (birth : ℕ) → IsOther n s d.work.from → Far d → Far (fetch d.store f birth d.work)
   so_fetch d f birth other k =
@@ -181,7 +145,7 @@ module _ (p : Saying) (c : IsClosed p) (n s : ℕ) (mine : (flag : Flag) → fla
       chosen Far (is_full a f) (cond (knows_later a f w.from birth) (idle a w) (answered_fetch f birth linked)) (idle a (reply a (message.NoGrant f birth) w))
       (chosen Far (knows_later a f w.from birth) (idle a w) (answered_fetch f birth linked) k
       (so_answer linked f birth (so_link p c n s d f w.from birth other k)))
-      (so_reply d (message.NoGrant f birth) k tt)
+      (so_reply p c n s d (message.NoGrant f birth) k tt)
 
   -- ---- a replica is granted, or not
 
@@ -190,17 +154,17 @@ module _ (p : Saying) (c : IsClosed p) (n s : ℕ) (mine : (flag : Flag) → fla
   so_granted d ends g other pending said k =
       let a = d.store in
       let b = begun_by a ends g in
-      let begun = so_store d b k
+      let begun = so_store p c n s d b k
       (sound_begun p n s a k.store ends.file ends.receiver g.policy (granted_own g) false (pending_may a ends.file ends.receiver k.store.births pending) said.order
       (record { thing = said.thing; place = said.place; flags = said.flags; order = said.order })) in
       let linked = link_peer b ends.file d.work.from ends.sender d.work in
       let there = so_link p c n s (idle b d.work) ends.file d.work.from ends.sender other begun in
-      so_store linked (aim_fill linked.store ends.file linked.work.from) there (sound_aimed linked.store (intent_key.Fill ends.file) linked.work.from there.store)
+      so_store p c n s linked (aim_fill linked.store ends.file linked.work.from) there (sound_aimed linked.store (intent_key.Fill ends.file) linked.work.from there.store)
 
   so_grant : (d : Done) (ends : Ends) (g : Granted) → IsOther n s d.work.from → IsSaidGranted p ends.file g → Far d → Far (grant d.store ends g d.work)
   so_grant d ends g other said k =
       decided Far (is_pending d.store ends.file ends.receiver) (begin_granted d.store ends g d.work) (accept d.store ends manner.Link d.work)
-      (λ pending. so_granted d ends g other pending said k) (λ no. so_accept d ends manner.Link other k)
+      (λ pending. so_granted d ends g other pending said k) (λ no. so_accept p c n s d ends manner.Link other k)
 
   so_no_grant : (d : Done) (f : FileId) (birth : ℕ) → Far d → Far (no_grant d.store f birth d.work)
   so_no_grant d f birth k =
@@ -211,17 +175,17 @@ module _ (p : Saying) (c : IsClosed p) (n s : ℕ) (mine : (flag : Flag) → fla
       let one : Sound p n s b = chosen (Sound p n s) (wish_asks (wish_at a f) birth from) (with_wishes a (aim_wish a.wishes f next)) a (sound_wish a f next k.store) k.store in
       let two : Sound p n s (turn_fill b f birth from next) =
       chosen (Sound p n s) (fill_asks (fill_at b f) birth from) (aim_fill b f next) b (sound_aimed b (intent_key.Fill f) next one) one in
-      so_store d (turn_fill b f birth from next) k two
+      so_store p c n s d (turn_fill b f birth from next) k two
 
   so_gone : (d : Done) (f : FileId) (birth : ℕ) → Far d → Far (gone d.store f birth d.work)
-  so_gone d f birth k = so_store d _ k (sound_unlink p n s d.store k.store f d.work.from birth)
+  so_gone d f birth k = so_store p c n s d _ k (sound_unlink p n s d.store k.store f d.work.from birth)
 
   -- ---- a replica is full
 
   pub so_fill : (d : Done) (f : FileId) → Far d → Far (fill d.store f d.work)
   so_fill d f k =
       let b = with_names d.store (fill_names d.store.names f) in
-      let here = so_store d b k (sound_filled p n s d.store k.store f) in
+      let here = so_store p c n s d b k (sound_filled p n s d.store k.store f) in
       chosen Far (nat_lt (live_golds b f) few_golds) (raise_flag b f d.work) (idle b d.work) (so_raised p c n s (idle b d.work) f mine here) here
 
   so_full : (d : Done) (ends : Ends) → Far d → Far (full d.store ends d.work)
@@ -243,15 +207,15 @@ module _ (p : Saying) (c : IsClosed p) (n s : ℕ) (mine : (flag : Flag) → fla
       let slot : Slot = record { dir = dir; child = e.child } in
       let left : IsSaidLeft p slot = record { dir = said.dir; of = said.of; thing = said.cell.thing; child = said.cell.child } in
       chosen Far (is_held d.store e.child) (place_told dir e.child t) (idle d.store (reply d.store (message.NoneHere ask.Confirm dir e.child) d.work))
-      (so_reply t (message.PlaceIs dir (own_entry t.store e.child)) there (own_told p c t.store slot (there.store.named.said, there.store.named.intents) left))
-      (so_reply d (message.NoneHere ask.Confirm dir e.child) k tt)
+      (so_reply p c n s t (message.PlaceIs dir (own_entry t.store e.child)) there (own_told p c t.store slot (there.store.named.said, there.store.named.intents) left))
+      (so_reply p c n s d (message.NoneHere ask.Confirm dir e.child) k tt)
 
   so_place_is : (d : Done) (dir : FileId) (e : Entry) → IsSaidTold p dir e → Far d → Far (place_is d.store dir e d.work)
   so_place_is d dir e said k =
       let t = take_entry_noted d.store dir e d.work in
       let there = so_entry p c n s d dir e said k in
       chosen Far (is_held d.store dir) (confirmed dir e t) (idle d.store d.work)
-      (so_store t (end_confirmed t.store dir e) there
+      (so_store p c n s t (end_confirmed t.store dir e) there
       (chosen (Sound p n s) (is_confirmed t.store dir e.child e.place.stamp) (with_intents t.store (ended t.store.intents (intent_key.Confirm dir e.child))) t.store
       (sound_ended p n s t.store there.store (intent_key.Confirm dir e.child)) there.store))
       k
@@ -260,13 +224,13 @@ module _ (p : Saying) (c : IsClosed p) (n s : ℕ) (mine : (flag : Flag) → fla
   so_tell d dir e said k =
       let t = take_entry_noted d.store dir e d.work in
       chosen Far (is_held d.store dir) (told dir e t) (idle d.store (reply d.store (message.NoneHere ask.Patch dir e.child) d.work))
-      (so_reply t (message.TellOk dir e.child e.place.stamp) (so_entry p c n s d dir e said k) tt)
-      (so_reply d (message.NoneHere ask.Patch dir e.child) k tt)
+      (so_reply p c n s t (message.TellOk dir e.child e.place.stamp) (so_entry p c n s d dir e said k) tt)
+      (so_reply p c n s d (message.NoneHere ask.Patch dir e.child) k tt)
 
   so_tell_ok : (d : Done) (dir child : FileId) (stamp : Stamp) → Far d → Far (tell_ok d.store dir child stamp d.work)
   so_tell_ok d dir child stamp k =
       let q = intent_key.Patch dir child in
-      so_store d (end_told d.store dir child stamp d.work.from) k
+      so_store p c n s d (end_told d.store dir child stamp d.work.from) k
       (chosen (Sound p n s) (is_told (intent_at d.store.intents q) stamp d.work.from) (with_intents d.store (ended d.store.intents q)) d.store
       (sound_ended p n s d.store k.store q) k.store)
 
@@ -274,7 +238,7 @@ module _ (p : Saying) (c : IsClosed p) (n s : ℕ) (mine : (flag : Flag) → fla
   so_none_here d what f child k =
       let q = asking_key what f child in
       let next = next_target d.store d.work.from in
-      so_store d (turn d.store q d.work.from) k
+      so_store p c n s d (turn d.store q d.work.from) k
       (chosen (Sound p n s) (does_ask (intent_at d.store.intents q) d.work.from) (with_intents d.store (aimed d.store.intents q next)) d.store
       (sound_aimed d.store q next k.store) k.store)
 
@@ -286,10 +250,14 @@ module _ (p : Saying) (c : IsClosed p) (n s : ℕ) (mine : (flag : Flag) → fla
   so_received d (message.Grant ends granted) other said k = so_grant d ends granted other said k
   so_received d (message.NoGrant file birth) other said k = so_no_grant d file birth k
   so_received d (message.Full ends) other said k = so_full d ends k
+  so_received d (message.Seek file birth) other said k = so_seek p c n s d file birth other k
+  so_received d (message.Here ends) other said k = so_accept p c n s d ends manner.Link other k
   so_received d (message.NoneHere what file child) other said k = so_none_here d what file child k
   so_received d (message.Gone file birth) other said k = so_gone d file birth k
   so_received d (message.Confirm dir entry) other said k = so_confirm d dir entry said k
   so_received d (message.PlaceIs dir entry) other said k = so_place_is d dir entry said k
   so_received d (message.Tell dir entry) other said k = so_tell d dir entry said k
   so_received d (message.TellOk dir child stamp) other said k = so_tell_ok d dir child stamp k
+  so_received d (message.Walk ends origin birth hops word) other said k = so_walk p c n s d ends origin birth hops word other mine said k
+  so_received d (message.Meet ends) other said k = so_accept p c n s d ends manner.Link other k
   so_received d m other said k = k

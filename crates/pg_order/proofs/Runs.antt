@@ -27,6 +27,7 @@ use Rattle.pg_calls.specs.Naming.{next_id}
 use Rattle.pg_server.specs.declared.input.Input.{Input}
 use Rattle.pg_server.specs.declared.input.Input.TheVariants as input
 use Rattle.pg_server.specs.Local.{effect, first_effect}
+use Rattle.pg_house.specs.Facts.{AreOrdered}
 use Rattle.pg_promises.specs.Whole.{IsWhole}
 use Rattle.pg_promises.proofs.Together.{own_of_held}
 use Rattle.pg_run.specs.Journal.{mail}
@@ -40,7 +41,7 @@ use Rattle.pg_order.proofs.Effects.{IsAskable, effect_sound, first_any}
 use Rattle.pg_order.proofs.Ended.{IsAtRest, IsDone}
 use Rattle.pg_order.proofs.Files.{effect_files, effect_same}
 use Rattle.pg_order.proofs.First.{first_rest}
-use Rattle.pg_order.proofs.Naming.{message_later, naming_closed, own_flag, rest_later, sent_later}
+use Rattle.pg_order.proofs.Naming.{member, message_later, naming_closed, rest_later, sent_later}
 use Rattle.pg_order.proofs.Sent.{AreSaidOf}
 
 pub record AreSound (n : ℕ) (w : World) : Type 0 where
@@ -157,14 +158,20 @@ module _ (n : ℕ) (w : World) (k : AreSound n w) (s : ℕ) (least : 1 ≤ s) (m
 
   done : HasCome w s asked → IsDone (naming n Later) n s (effect Here asked)
   done way =
-      effect_sound (naming n Later) (naming_closed n Later) n s (own_flag n Later s least most) Here
+      effect_sound (naming n Later) (naming_closed n Later) n s (member n Later s least most) Here
       (rest_later n (files_of w.stores) Later more s Here (k.servers s)) asked (askable asked refl way)
 
   -- behind the first effect
   pub first_runs : HasCome w s asked → IsWhole n s (first_effect Here asked).store
   first_runs way =
-      (first_any (naming n Later) (naming_closed n Later) n s (own_flag n Later s least most) Here
+      (first_any (naming n Later) (naming_closed n Later) n s (member n Later s least most) Here
       (rest_later n (files_of w.stores) Later more s Here (k.servers s)) asked (askable asked refl way)).whole
+
+  -- there entries are by id
+  pub first_ordered : HasCome w s asked → AreOrdered (first_effect Here asked).store.names
+  first_ordered way =
+      (first_any (naming n Later) (naming_closed n Later) n s (member n Later s least most) Here
+      (rest_later n (files_of w.stores) Later more s Here (k.servers s)) asked (askable asked refl way)).named.tidy.ordered
 
   pub acted : (event : Event) → HasCome w s asked → AreSound n (world_after w (effect_step w event s asked))
   acted event way =

@@ -28,6 +28,7 @@ use Rattle.pg_house.proofs.Greatest.{cell_held}
 use Rattle.pg_store.specs.declared.store.Store.{Store}
 use Rattle.pg_store.specs.Cells.{cell_at, entry_cell, flag_cell, is_sure, version_cell}
 use Rattle.pg_store.specs.Store.{content_of, replica_at}
+use Rattle.pg_cells.specs.Done.{Done}
 use Rattle.pg_cells.specs.Finish.{finish}
 use Rattle.pg_cells.specs.Sending.{Wanted, cell_under, cells_where, edge_cells, is_any, is_chosen, key_cell, replica_cells, waits}
 use Rattle.pg_cells.specs.Ticks.{tick}
@@ -36,12 +37,20 @@ use Rattle.pg_repair.specs.Requests.{ask_all, ask_begun, asked_of, asks, asks_by
 use Rattle.pg_promises.proofs.Choices.{All-flat_map, chosen}
 use Rattle.pg_promises.proofs.Found.{entries_known}
 use Rattle.pg_promises.proofs.Together.{held_of_replica, own_of_held}
-use Rattle.pg_order.specs.Saying.{IsIntended, IsSaidCell, IsSaidOfCell, IsSaidOfMessage, IsSaidOwn, IsSaidTold, Saying}
+use Rattle.pg_order.specs.Saying.{IsClosed, IsIntended, IsSaidCell, IsSaidOfCell, IsSaidOfMessage, IsSaidOwn, IsSaidTold, Saying}
+use Rattle.pg_order.proofs.HouseSays.{AreLeft}
 use Rattle.pg_order.proofs.Pieces.{found_has}
 use Rattle.pg_order.proofs.Sounding.{Sound}
 
 abbrev pub AreSaidOf : Saying → List Sent → Type 0
 AreSaidOf p ms = All (λ (m : Sent). IsSaidOfMessage p m.packet.message) ms
+
+-- in the midst of an event: it is said of what is known, of the places that were replaced, and of what is sent
+pub record IsSoundSoFar (p : Saying) (c : IsClosed p) (n s : ℕ) (d : Done) : Type 0 where
+  pub store : Sound p n s d.store
+  pub left : AreLeft p c d.work.left
+  pub sent : AreSaidOf p d.work.sent
+  pub tail : AreSaidOf p d.work.tail
 
 -- what a search finds has what all have
 found_all : {A : Type 0} (P : A → Type 0) (test : A → Bool) (x : A) (xs : List A) → All P xs → find test xs ≡ Some x → P x

@@ -19,7 +19,7 @@ use Rattle.pg_house.proofs.NoCycles.{inner_parts}
 use Rattle.pg_store.specs.declared.store.Store.{Store}
 use Rattle.pg_store.specs.Start.{first_names}
 use Rattle.pg_store.specs.Store.{with_names}
-use Rattle.pg_cells.specs.Settling.{settle}
+use Rattle.pg_cells.specs.Settling.{rules}
 use Rattle.pg_promises.specs.Whole.{AreOrderly}
 use Rattle.pg_promises.proofs.Start.{Root, no_entry}
 use Rattle.pg_promises.proofs.Touching.{same_names}
@@ -50,7 +50,7 @@ module _ (moment : ℕ) (st : State) (o : AreOrderly st.names) where
   settled_behind : IsSettled End
   settled_behind = record { order = order_behind; found = found_behind }
 
-pub settled : (a : Store) (work : Work) → AreOrderly a.names → IsSettled (settle a work).store.names
+pub settled : (a : Store) (work : Work) → AreOrderly a.names → IsSettled (rules a work).store.names
 settled a work o =
     let st = house work.now (state_of a.names work) in
     subst IsSettled (sym (same_names (with_names a st.names) (drop (length work.touched) st.work.touched))) (settled_behind work.now (state_of a.names work) o)

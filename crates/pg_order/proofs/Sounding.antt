@@ -32,18 +32,18 @@ use Rattle.pg_store.specs.Store.{acknowledge, is_new_version, is_newer_entry, is
 use Rattle.pg_store.specs.Together.{AreBirths, HoldsAsBefore, MayBegin}
 use Rattle.pg_store.proofs.Given.{begin_births, births_as_before}
 use Rattle.pg_store.proofs.Pairs.{acknowledge_as_before, as_before, ended_as_before, entry_as_before, flag_as_before, link_as_before, names_as_before, place_as_before, then_as_before, touch_as_before, unlink_as_before, version_as_before, write_as_before}
-use Rattle.pg_cells.specs.Settling.{settle, touch_all}
+use Rattle.pg_cells.specs.Settling.{rules, touch_all}
 use Rattle.pg_promises.specs.Laws.{AreAlike}
 use Rattle.pg_promises.specs.Whole.{IsOther, IsWhole}
 use Rattle.pg_promises.proofs.Choices.{chosen}
-use Rattle.pg_promises.proofs.Settling.{whole_settle}
+use Rattle.pg_promises.proofs.Settling.{whole_rules}
 use Rattle.pg_promises.proofs.Together.{held_by_keys}
 use Rattle.pg_promises.proofs.Whole.{whole_acknowledge, whole_alike, whole_entry, whole_flag, whole_link, whole_place, whole_unlink, whole_version, whole_write}
 use Rattle.pg_promises.proofs.WholeBeginning.{whole_begun, whole_filled}
 use Rattle.pg_order.specs.Saying.{AreIntended, IsClosed, IsIntended, IsSaidOf, IsSaidOwn, IsSaidTold, Saying}
 use Rattle.pg_order.specs.Sound.{AreTidy, IsNamed, IsSound}
 use Rattle.pg_order.proofs.HouseSays.{AreLeft}
-use Rattle.pg_order.proofs.Pieces.{named_begun, named_entry, named_filled, named_flag, named_link, named_on, named_place, named_settle, named_unlink, named_version, named_write, fewer_intents, same_intents}
+use Rattle.pg_order.proofs.Pieces.{named_begun, named_entry, named_filled, named_flag, named_link, named_on, named_place, named_rules, named_unlink, named_version, named_write, fewer_intents, same_intents}
 
 -- Patches are for directories
 pub for_dirs : (p : Saying) (is : List Intent) → AreIntended p is → (dir : FileId) (e : Entry) (target : ℕ) → IsAmong is (intent.Patch dir e target) → is_dir dir ≡ true
@@ -91,15 +91,15 @@ touches_as_before a [] = as_before a
 touches_as_before a (t ∷ ts) =
     then_as_before a (touch a t.file t.key) (touch_all (touch a t.file t.key) ts) (touch_as_before a t.file t.key) (touches_as_before (touch a t.file t.key) ts)
 
-pub settle_as_before : (a : Store) (work : Work) → HoldsAsBefore a (settle a work).store
-settle_as_before a work =
+pub rules_as_before : (a : Store) (work : Work) → HoldsAsBefore a (rules a work).store
+rules_as_before a work =
     let st = house work.now (state_of a.names work) in
     let b = with_names a st.names in
-    then_as_before a b (settle a work).store (names_as_before a st.names (λ q. held_by_keys st.names a.names q (rules_keys work.now (state_of a.names work))))
+    then_as_before a b (rules a work).store (names_as_before a st.names (λ q. held_by_keys st.names a.names q (rules_keys work.now (state_of a.names work))))
     (touches_as_before b (drop (length work.touched) st.work.touched))
 
-pub settle_intents : (a : Store) (work : Work) → (settle a work).store.intents ≡ a.intents
-settle_intents a work =
+pub rules_intents : (a : Store) (work : Work) → (rules a work).store.intents ≡ a.intents
+rules_intents a work =
     let st = house work.now (state_of a.names work) in
     same_intents (with_names a st.names) (drop (length work.touched) st.work.touched)
 
@@ -193,7 +193,7 @@ module _ (p : Saying) (n s : ℕ) where
         (births_as_before a (with_intents a (ended a.intents q)) (ended_as_before a q) k.births) (own-ended a.intents q k.keys)
         (fewer_intents p a k.named (λ i. not (has_key q i)))
 
-    pub sound_settle : (c : IsClosed p) (work : Work) → AreLeft p c work.left → Sound (settle a work).store × AreLeft p c (settle a work).work.left
-    sound_settle c work all =
-        let named = named_settle p a k.named c work all in
-        (sound_by (settle a work).store (whole_settle n s a work k.whole) named.0 (settle_as_before a work) (settle_intents a work), named.1)
+    pub sound_rules : (c : IsClosed p) (work : Work) → AreLeft p c work.left → Sound (rules a work).store × AreLeft p c (rules a work).work.left
+    sound_rules c work all =
+        let named = named_rules p a k.named c work all in
+        (sound_by (rules a work).store (whole_rules n s a work k.whole) named.0 (rules_as_before a work) (rules_intents a work), named.1)

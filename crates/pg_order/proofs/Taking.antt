@@ -12,48 +12,56 @@ use Rattle.pg_msg.specs.declared.message.Message.{Message}
 use Rattle.pg_msg.specs.declared.message.Sent.{Sent}
 use Rattle.pg_msg.specs.declared.update.Update.TheVariants as update
 use Rattle.pg_msg.specs.declared.work.Work.{Work}
-use Rattle.pg_msg.specs.Work.{with_left, with_linked, with_made, with_touched, with_unsure}
+use Rattle.pg_msg.specs.Work.{with_linked, with_made, with_tail, with_touched, with_unsure}
 use Rattle.pg_names.specs.declared.own.Own.{Own}
 use Rattle.pg_names.specs.Names.{is_place_new, or_blank, own_at, own_or_blank}
 use Rattle.pg_register.specs.declared.flag.Flag.{Flag}
 use Rattle.pg_register.specs.declared.place.Place.{Place}
-use Rattle.pg_house.specs.Work.{is_root, note_left}
+use Rattle.pg_house.specs.Work.{note_left, state_of}
 use Rattle.pg_store.specs.declared.store.Store.{Store}
 use Rattle.pg_store.specs.Links.{is_new_link}
 use Rattle.pg_store.specs.Store.{entry_news, is_new_version, is_newer_flag, is_newer_place}
 use Rattle.pg_cells.specs.Accepting.{link_peer, with_link}
 use Rattle.pg_cells.specs.Cells.{taken}
 use Rattle.pg_cells.specs.Done.{Done, idle}
-use Rattle.pg_cells.specs.Making.{own_next, raise_flag}
+use Rattle.pg_cells.specs.Making.{make_flag, own_next, raise_flag}
 use Rattle.pg_cells.specs.Posting.{post, sent_to}
+use Rattle.pg_cells.specs.Settling.{ruled}
 use Rattle.pg_cells.specs.Taking.{is_any_news, is_place_news, take_entry_cell, take_entry_noted, take_flag_noted, take_flags_noted, take_place_noted, take_version_noted, with_doubt, with_left_if, with_news}
 use Rattle.pg_promises.specs.Whole.{IsOther}
 use Rattle.pg_promises.proofs.Choices.{chosen, decided}
 use Rattle.pg_order.specs.Saying.{IsClosed, IsSaidOfCell, IsSaidOfMessage, IsSaidTold, Saying}
-use Rattle.pg_order.proofs.Ended.{IsSoundSoFar}
+use Rattle.pg_order.proofs.HouseFrame.{SendsSame, house_frame, left_sends, sends_either, sends_same}
 use Rattle.pg_order.proofs.HouseSays.{AreLeft, left_said}
-use Rattle.pg_order.proofs.Sent.{AreSaidOf}
-use Rattle.pg_order.proofs.Sounding.{Sound, sound_entry, sound_flag, sound_link, sound_place, sound_version}
+use Rattle.pg_order.proofs.Sent.{AreSaidOf, IsSoundSoFar}
+use Rattle.pg_order.proofs.Sounding.{Sound, sound_entry, sound_flag, sound_link, sound_place, sound_rules, sound_version}
 
 -- the same was replaced and sent
 pub record IsBeside (w v : Work) : Type 0 where
   pub left : v.left ≡ w.left
   pub sent : v.sent ≡ w.sent
+  pub tail : v.tail ≡ w.tail
 
 pub beside_itself : (w : Work) → IsBeside w w
-beside_itself w = record { left = refl; sent = refl }
+beside_itself w = record { left = refl; sent = refl; tail = refl }
 
 beside_either : (w : Work) (t : Bool) (u v : Work) → IsBeside w u → IsBeside w v → IsBeside w (cond t u v)
 beside_either w t u v one other = chosen (λ (x : Work). IsBeside w x) t u v one other
 
 pub beside_news : (t : Bool) (w : Work) (f : FileId) (q : Key) → IsBeside w (with_news t w f q)
-beside_news t w f q = beside_either w t (with_touched w f q) w (record { left = refl; sent = refl }) (beside_itself w)
+beside_news t w f q = beside_either w t (with_touched w f q) w (record { left = refl; sent = refl; tail = refl }) (beside_itself w)
 
 beside_link : (t : Bool) (w : Work) (f : FileId) (peer : ℕ) → IsBeside w (with_link t w f peer)
-beside_link t w f peer = beside_either w t (with_linked w f peer) w (record { left = refl; sent = refl }) (beside_itself w)
+beside_link t w f peer = beside_either w t (with_linked w f peer) w (record { left = refl; sent = refl; tail = refl }) (beside_itself w)
 
 beside_doubt : (t : Bool) (w : Work) (d f : FileId) → IsBeside w (with_doubt t w d f)
-beside_doubt t w d f = beside_either w t (with_unsure w d f) w (record { left = refl; sent = refl }) (beside_itself w)
+beside_doubt t w d f = beside_either w t (with_unsure w d f) w (record { left = refl; sent = refl; tail = refl }) (beside_itself w)
+
+-- server s of n: its own flags may be said, and it is named, as others are
+pub record IsMember (p : Saying) (n s : ℕ) : Type 0 where
+  pub flags : (flag : Flag) → flag.server ≡ s → p.IsFlag flag
+  pub named : p.IsServer s
+  pub others : (t : ℕ) → p.IsServer t → (t ≡ s → ⊥) → IsOther n s t
 
 module _ (p : Saying) (c : IsClosed p) (n s : ℕ) where
   abbrev pub SoFar : Done → Type 0
@@ -65,6 +73,7 @@ module _ (p : Saying) (c : IsClosed p) (n s : ℕ) where
     store = sound;
     left = subst (AreLeft p c) (sym same.left) k.left;
     sent = subst (AreSaidOf p) (sym same.sent) k.sent;
+    tail = subst (AreSaidOf p) (sym same.tail) k.tail;
   }
 
   -- a message is sent
@@ -76,6 +85,19 @@ module _ (p : Saying) (c : IsClosed p) (n s : ℕ) where
         store = k.store;
         left = k.left;
         sent = All-append P d.work.sent (one ∷ []) k.sent (All-cons P one [] said (All-nil P));
+        tail = k.tail;
+      }
+
+  -- or goes last
+  pub so_tail : (d : Done) (to : ℕ) (m : Message) → SoFar d → IsSaidOfMessage p m → SoFar (idle d.store (with_tail d.work (sent_to d.store to m)))
+  so_tail d to m k said =
+      let P : Sent → Type 0 = λ x. IsSaidOfMessage p x.packet.message in
+      let one = sent_to d.store to m in
+      record {
+        store = k.store;
+        left = k.left;
+        sent = k.sent;
+        tail = All-append P d.work.tail (one ∷ []) k.tail (All-cons P one [] said (All-nil P));
       }
 
   pub so_link : (d : Done) (f : FileId) (peer birth : ℕ) → IsOther n s peer → SoFar d → SoFar (link_peer d.store f peer birth d.work)
@@ -101,20 +123,20 @@ module _ (p : Saying) (c : IsClosed p) (n s : ℕ) where
       left_said p c d.work f old was.thing here k.left)
       (λ none. k.left)
 
-  left_sent : (t : Bool) (w : Work) (f : FileId) (old : Place) → (with_left_if t w f old).sent ≡ w.sent
-  left_sent t w f old =
-      chosen (λ (v : Work). v.sent ≡ w.sent) t (note_left w f old) w
-      (chosen (λ (v : Work). v.sent ≡ w.sent) (old.live && not (is_root f)) (with_left w old.parent f) w refl refl) refl
+  left_same : (t : Bool) (w : Work) (f : FileId) (old : Place) → SendsSame w (with_left_if t w f old)
+  left_same t w f old = sends_either w t (note_left w f old) w (left_sends w f old) (sends_same w)
 
   pub so_place : (d : Done) (f : FileId) (place : Place) → p.IsPlace f place → SoFar d → SoFar (take_place_noted d.store f place d.work)
   so_place d f place here k =
       let t = is_newer_place d.store f place in
       let w = with_left_if t d.work f (own_or_blank d.store.names f).place in
       let same = beside_news t w f key.Place in
+      let was = left_same t d.work f (own_or_blank d.store.names f).place in
       record {
         store = sound_place p n s d.store k.store f place here;
         left = subst (AreLeft p c) (sym same.left) (place_left d f place k);
-        sent = subst (AreSaidOf p) (sym (same.sent ∙ left_sent t d.work f (own_or_blank d.store.names f).place)) k.sent;
+        sent = subst (AreSaidOf p) (sym (same.sent ∙ was.sent)) k.sent;
+        tail = subst (AreSaidOf p) (sym (same.tail ∙ was.tail)) k.tail;
       }
 
   -- ---- flags
@@ -129,13 +151,29 @@ module _ (p : Saying) (c : IsClosed p) (n s : ℕ) where
   so_flags d f (flag ∷ flags) all k =
       so_flags (take_flag_noted d.store f flag d.work) f flags (All-tail p.IsFlag flag flags all) (so_flag d f flag (All-head p.IsFlag flag flags all) k)
 
-  -- the server raises its flag
-  pub so_raised : (d : Done) (f : FileId) → ((flag : Flag) → flag.server ≡ s → p.IsFlag flag) → SoFar d → SoFar (raise_flag d.store f d.work)
-  so_raised d f mine k =
-      let flag = own_next d.store f true in
+  -- the server makes its flag
+  pub so_flagged : (d : Done) (f : FileId) (raised : Bool) → IsMember p n s → SoFar d → SoFar (make_flag d.store f (own_next d.store f raised) d.work)
+  so_flagged d f raised mine k =
+      let flag = own_next d.store f raised in
       let made = with_made d.work (update.Flag f flag) in
-      so_flag (idle d.store made) f flag (mine flag k.store.whole.server)
-      (so_with d d.store made k k.store (record { left = refl; sent = refl }))
+      so_flag (idle d.store made) f flag (mine.flags flag k.store.whole.server)
+      (so_with d d.store made k k.store (record { left = refl; sent = refl; tail = refl }))
+
+  pub so_raised : (d : Done) (f : FileId) → IsMember p n s → SoFar d → SoFar (raise_flag d.store f d.work)
+  so_raised d f mine k = so_flagged d f true mine k
+
+  -- ---- the house rules run
+
+  pub so_rules : (d : Done) → SoFar d → SoFar (ruled d)
+  so_rules d k =
+      let behind = sound_rules p n s d.store k.store c d.work k.left in
+      let same = (house_frame d.store.names.removed d.work d.work.now (state_of d.store.names d.work) (record { removed = refl; work = sends_same d.work })).work in
+      record {
+        store = behind.0;
+        left = behind.1;
+        sent = subst (AreSaidOf p) (sym same.sent) k.sent;
+        tail = subst (AreSaidOf p) (sym same.tail) k.tail;
+      }
 
   -- ---- an entry, a version
 

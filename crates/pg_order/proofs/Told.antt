@@ -19,11 +19,11 @@ use Rattle.pg_run.specs.Away.{DirectoriesAreTold, NamesDirectory, WhatBeginsIsAw
 use Rattle.pg_run.specs.Journal.{mail}
 use Rattle.pg_run.specs.Run.{run}
 use Rattle.pg_run.proofs.Frame.{acts_is}
-use Rattle.pg_order.specs.Laws.{AllIsNamed, BirthsAreGiven, FirstEffectsAreWhole, HouseStaysInOrder, NamesAreById, NextIdsAreNew, ServersAreWhole, ThingsArePlacedWell, files_of}
+use Rattle.pg_order.specs.Laws.{AllIsNamed, BirthsAreGiven, FirstEffectsAreOrdered, FirstEffectsAreWhole, HouseStaysInOrder, NamesAreById, NextIdsAreNew, ServersAreWhole, ThingsArePlacedWell, files_of}
 use Rattle.pg_order.specs.Named.{IsMade, naming}
 use Rattle.pg_order.specs.Saying.{AreIntended, IsIntended, IsSaidOfMessage}
 use Rattle.pg_order.proofs.Ended.{IsAtRest}
-use Rattle.pg_order.proofs.Runs.{first_runs, has_no_fill, is_away, not_made, sound_run}
+use Rattle.pg_order.proofs.Runs.{first_ordered, first_runs, has_no_fill, is_away, not_made, sound_run}
 use Rattle.pg_order.proofs.Sounding.{for_dirs}
 
 -- what each server of a run has
@@ -40,6 +40,11 @@ pub first_effects_whole : (n : ℕ) → FirstEffectsAreWhole n
 first_effects_whole n events event t is =
     let act = acts_is n (run n events) event t is in
     first_runs n (run n events) (sound_run n events) t.server act.least act.most t.asked act.came
+
+pub first_effects_ordered : (n : ℕ) → FirstEffectsAreOrdered n
+first_effects_ordered n events event t is =
+    let act = acts_is n (run n events) event t is in
+    first_ordered n (run n events) (sound_run n events) t.server act.least act.most t.asked act.came
 
 pub names_by_id : (n : ℕ) → NamesAreById n
 names_by_id n events s least most =

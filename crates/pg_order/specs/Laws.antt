@@ -43,6 +43,12 @@ FirstEffectsAreWhole servers = (events : List Event) (event : Event) (t : Taking
     → taking_in servers (run servers events) event ≡ Some t
     → IsWhole servers t.server (first_effect (store_after servers events t.server) t.asked).store
 
+-- and the entries of each directory are by id
+abbrev pub FirstEffectsAreOrdered : ℕ → Type 0
+FirstEffectsAreOrdered servers = (events : List Event) (event : Event) (t : Taking)
+    → taking_in servers (run servers events) event ≡ Some t
+    → AreOrdered (first_effect (store_after servers events t.server) t.asked).store.names
+
 -- things, and the entries of each directory, are by id
 pub record AreById (names : NamesValue) : Type 0 where
   pub entries : AreOrdered names
@@ -83,7 +89,8 @@ abbrev pub files_of : (ℕ → Store) → ℕ → ℕ
 files_of stores k = (stores k).files
 
 -- of what servers know and intend, and of all messages ever sent: all ids were given out, all parents
--- are directories, all names are a client's or made of an id, all flags are of the run's servers
+-- are directories, all names are a client's or made of an id, all flags are of the run's servers, and
+-- walks begin at these
 pub record IsAllNamed (servers : ℕ) (w : World) : Type 0 where
   pub names : AtEach servers (λ s.
       IsSaidOf (naming servers (files_of w.stores)) (w.stores s).names)

@@ -27,6 +27,10 @@ pub record IsWell (servers : ℕ) (files : ℕ → ℕ) (file : FileId) (place :
   pub name : is_same_file file root ≡ false
       → (All (λ byte. byte ≢ 126) place.name) ⊎ (place.name ≡ tilde_name file)
 
+-- one of the run's servers
+abbrev pub IsServerOf : ℕ → ℕ → Type 0
+IsServerOf servers server = (1 ≤ server) × (server ≤ servers)
+
 -- a flag is one of the run's servers
 pub record IsOfServer (servers : ℕ) (flag : Flag) : Type 0 where
   pub least : 1 ≤ flag.server
@@ -39,4 +43,5 @@ naming servers files = record {
   IsPlace = IsWell servers files;
   IsFlag = IsOfServer servers;
   IsChild = λ file. is_same_file file root ≡ false;
+  IsServer = IsServerOf servers;
 }

@@ -1,6 +1,6 @@
 -- What is said of all that a server knows of names: of each thing, of each place and flag of a thing,
--- and of each child of a directory; and of the messages that bring these.
-use Rattle.std.specs.Prelude.{◌≡◌, ◌≢◌, true, false, All, List, Some}
+-- of each child of a directory, and of servers that are named; and of the messages that bring these.
+use Rattle.std.specs.Prelude.{ℕ, ◌≡◌, ◌≢◌, true, false, All, List, Some}
 use Rattle.pg_base.specs.declared.id.FileId.{FileId}
 use Rattle.pg_base.specs.Id.{is_same_file}
 use Rattle.pg_register.specs.declared.flag.Flag.{Flag}
@@ -24,6 +24,7 @@ pub record Saying : Type 1 where
   pub IsPlace : FileId → Place → Type 0
   pub IsFlag : Flag → Type 0
   pub IsChild : FileId → Type 0
+  pub IsServer : ℕ → Type 0
 
 -- of a thing's own place and flags, which are by server
 pub record IsSaidOwn (p : Saying) (file : FileId) (own : Own) : Type 0 where
@@ -52,10 +53,10 @@ pub record IsSaidTold (p : Saying) (to : FileId) (e : Entry) : Type 0 where
   pub of : p.IsThing to
   pub cell : IsSaidCell p e.child e
 
--- of what is intended. Of the other kinds none begins yet
+-- of what is intended. Of the kinds of leaving none begins yet
 abbrev pub IsIntended : Saying → Intent → Type 0
 IsIntended p (intent.Bye file birth peer peer_birth) = ⊥
-IsIntended p (intent.Seek file target) = ⊥
+IsIntended p (intent.Seek file target) = p.IsThing file
 IsIntended p (intent.Fill file birth target) = Unit {0}
 IsIntended p (intent.Patch dir entry target) = IsSaidTold p dir entry
 IsIntended p (intent.Confirm dir child target) = Unit {0}
@@ -91,6 +92,7 @@ IsSaidOfMessage p (message.Grant ends granted) = IsSaidGranted p ends.file grant
 IsSaidOfMessage p (message.Confirm dir entry) = IsSaidTold p dir entry
 IsSaidOfMessage p (message.PlaceIs dir entry) = IsSaidTold p dir entry
 IsSaidOfMessage p (message.Tell dir entry) = IsSaidTold p dir entry
+IsSaidOfMessage p (message.Walk ends origin birth hops word) = p.IsServer origin
 IsSaidOfMessage p _ = Unit {0}
 
 -- ---- what the house rules and calls make of it may be said too

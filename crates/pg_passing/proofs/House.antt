@@ -37,7 +37,7 @@ use Rattle.pg_passing.proofs.Rules.{Stands, placed_stands}
 
 -- ---- one place more was made
 
-pub with_one_more : (removed : List ℕ) (takes : List Take) (us : List Update) (u : Update) → passed_with removed takes (us ++ u ∷ []) ≡ passed removed (take_of u ∷ passed_with removed takes us)
+with_one_more : (removed : List ℕ) (takes : List Take) (us : List Update) (u : Update) → passed_with removed takes (us ++ u ∷ []) ≡ passed removed (take_of u ∷ passed_with removed takes us)
 with_one_more removed takes [] u = refl
 with_one_more removed takes (v ∷ us) u = with_one_more removed (passed removed (take_of v ∷ takes)) us u
 
@@ -48,7 +48,7 @@ pub record Follows (removed : List ℕ) (ds : List FileId) (made : List Update) 
   pub stands : Stands removed ds st (passed_with removed start more)
 
 module _ (moment : ℕ) (removed : List ℕ) (ds : List FileId) (made : List Update) (start : List Take) where
-  abbrev pub Goes : State → Type 0
+  abbrev Goes : State → Type 0
   Goes = Follows removed ds made start
 
   place_follows : (st : State) → Goes st → (f p : FileId) (name : List ℕ) → IsHeld st.names f → is_root f ≡ false → Goes (placed moment ds st f p name)
@@ -65,7 +65,7 @@ module _ (moment : ℕ) (removed : List ℕ) (ds : List FileId) (made : List Upd
         stands = subst P (sym (with_one_more removed start k.more u)) (placed_stands moment removed ds st so_far k.stands f p name held moves);
       }
 
-  pub return_follows : (st : State) → Goes st → (o : Option FileId) → first_returning st.names ds ≡ o → Goes (returned moment ds st o)
+  return_follows : (st : State) → Goes st → (o : Option FileId) → first_returning st.names ds ≡ o → Goes (returned moment ds st o)
   return_follows st k None h = k
   return_follows st k (Some d) h =
       let found = find_found (is_returning st.names) ds d h in
@@ -73,7 +73,7 @@ module _ (moment : ℕ) (removed : List ℕ) (ds : List FileId) (made : List Upd
       let moves = not_root d (own_at st.names d) r.dead_one in
       place_follows st k d (place_at st.names d).parent (place_at st.names d).name r.held moves
 
-  pub move_follows : (st : State) → Goes st → (o : Option FileId) → first_moving st.names (length ds) None ds ≡ o → Goes (moved moment ds st o)
+  move_follows : (st : State) → Goes st → (o : Option FileId) → first_moving st.names (length ds) None ds ≡ o → Goes (moved moment ds st o)
   move_follows st k None h = k
   move_follows st k (Some d) h =
       elim (moving_member st.names (length ds) None ds d h) [
@@ -95,10 +95,10 @@ module _ (moment : ℕ) (st : State) (takes : List Take) (k : Tells st.names tak
   abbrev Names : NamesValue
   Names = st.names
 
-  abbrev pub Ds : List FileId
+  abbrev Ds : List FileId
   Ds = directories Names
 
-  abbrev pub One : State
+  abbrev One : State
   One = pass_all st Ds (movable Names)
 
   sorted : AreByServer Names
@@ -132,7 +132,7 @@ module _ (moment : ℕ) (st : State) (takes : List Take) (k : Tells st.names tak
   }
 
   -- all has passed, and no rule has made a place yet
-  pub one_follows : Follows Names.removed Ds st.work.made (passed Names.removed takes) One
+  one_follows : Follows Names.removed Ds st.work.made (passed Names.removed takes) One
   one_follows = record {
     more = [];
     is = all_made st Ds (movable Names) ∙ sym (append-nil st.work.made);

@@ -13,4 +13,5 @@ pub mod Singles
 pub mod Times
 pub mod Rules
 pub mod House
-pub mod Midst
+pub mod Apart
+pub mod DeadPlaces

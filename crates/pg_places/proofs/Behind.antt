@@ -1,6 +1,6 @@
 -- What stands behind an event: the house rules, intentions, and what is sent at the end. Each place that
 -- is known then, and each that is told, may stand, where those that the rules make may.
-use Rattle.std.proofs.Common.{ℕ, ◌≡◌, ◌≤◌, ◌==◌, Bool, true, false, cond, List, [], ◌∷◌, ◌++◌, drop, length, filter, get_or, Option, None, Some, is_some, refl, sym, ap, subst, ◌∙◌, inl, inr, All, arith}
+use Rattle.std.proofs.Common.{ℕ, ◌≡◌, ◌==◌, Bool, true, false, List, [], ◌∷◌, ◌++◌, drop, length, filter, get_or, Option, None, Some, is_some, refl, sym, ap, subst, ◌∙◌, inl, inr, All, arith}
 use Rattle.std.specs.List.{flat_map}
 use Rattle.std.proofs.lemmas.List.Elements.{All-append, All-cons, All-nil}
 use Rattle.std.proofs.lemmas.Option.{none-some, same_Some}
@@ -15,12 +15,14 @@ use Rattle.pg_entries.specs.declared.cell.Cell.TheVariants as cells
 use Rattle.pg_entries.specs.declared.entry.Entry.{Entry}
 use Rattle.pg_house.specs.Work.{State, state_of}
 use Rattle.pg_house.specs.House.{house}
-use Rattle.pg_house.specs.Facts.{IsHeld, IsKnownPlace, IsOneOf}
+use Rattle.pg_house.specs.Facts.{IsKnownPlace}
 use Rattle.pg_house.proofs.Drawn.{IsDrawn, drawn_on, house_drawn, house_later}
+use Rattle.pg_house.proofs.Noting.{one_front}
 use Rattle.pg_house.proofs.Replaced.{cell_children, cell_places, made_stays, noted, own_places}
 use Rattle.pg_intent.specs.declared.intent.Intent.{Intent}
 use Rattle.pg_intent.specs.declared.intent.Intent.TheVariants as intent
 use Rattle.pg_intent.specs.declared.key.IntentKey.{IntentKey}
+use Rattle.pg_intent.specs.declared.key.IntentKey.TheVariants as intent_key
 use Rattle.pg_intent.specs.Intent.{target_of}
 use Rattle.pg_intent.specs.Intents.{intent_at}
 use Rattle.pg_msg.specs.declared.message.Message.{Message}
@@ -31,6 +33,7 @@ use Rattle.pg_msg.specs.declared.update.Update.TheVariants as update
 use Rattle.pg_msg.specs.declared.work.Slot.{Slot}
 use Rattle.pg_msg.specs.declared.work.Touched.{Touched}
 use Rattle.pg_msg.specs.declared.work.Work.{Work}
+use Rattle.pg_msg.specs.Work.{with_made}
 use Rattle.pg_names.specs.declared.own.Own.{Own}
 use Rattle.pg_names.specs.Names.{NamesValue, cell_at as entry_at, own_at, own_or_blank}
 use Rattle.pg_promises.proofs.Choices.{All-flat_map, chosen}
@@ -43,27 +46,31 @@ use Rattle.pg_replica.specs.declared.replica.Replica.{Replica}
 use Rattle.pg_replica.specs.Replica.{cell_at as head_at}
 use Rattle.pg_store.specs.declared.store.Store.{Store}
 use Rattle.pg_store.specs.declared.wishes.Wish.{Wish}
-use Rattle.pg_store.specs.Beginning.{with_intents}
 use Rattle.pg_store.specs.Births.{fill_at, wish_at}
 use Rattle.pg_store.specs.Cells.{cell_at, entry_cell, flag_cell, is_sure, version_cell}
-use Rattle.pg_store.specs.Store.{content_of, is_held, with_names}
+use Rattle.pg_store.specs.Store.{content_of, is_held, is_newer_flag, with_names}
 use Rattle.pg_cells.specs.Done.{Done, idle}
-use Rattle.pg_cells.specs.Finish.{finish}
+use Rattle.pg_cells.specs.Making.{own_next, raise_flag}
 use Rattle.pg_cells.specs.Posting.{sent_to}
 use Rattle.pg_cells.specs.Sending.{Wanted, cell_to, cell_under, cells_where, edge_cells, is_any, is_chosen, key_cell, replica_cells, waits}
-use Rattle.pg_cells.specs.Settling.{settle, touch_all}
-use Rattle.pg_repair.specs.Beginning.{begin_end, end_others, still_stands}
+use Rattle.pg_cells.specs.Settling.{ruled, rules, touch_all}
+use Rattle.pg_cells.specs.Ticks.{tick}
+use Rattle.pg_cells.proofs.Settled.{settle_keeps}
+use Rattle.pg_repair.specs.Beginning.{end_others, still_stands}
 use Rattle.pg_repair.specs.Confirming.{own_entry}
 use Rattle.pg_repair.specs.Confirms.{begin_confirm, confirm_of, is_doubtful}
 use Rattle.pg_repair.specs.Fills.{begin_fill, begin_fills, fill_of, files_to_fill, to_fill, with_fill_birth, without_wished}
 use Rattle.pg_repair.specs.Intending.{begin_intent, each, in_order, pieces}
 use Rattle.pg_repair.specs.Patches.{begin_patch, begin_patches, patch_of}
-use Rattle.pg_repair.specs.Requests.{ask_all, ask_begun, asked_of, asks, asks_by, confirm_message, leave_message, request}
-use Rattle.pg_repair.proofs.Steady.{begin_end_stays, confirm_stays, each_stays, fill_stays, patch_stays}
-use Rattle.pg_server.specs.Local.{intended, sent_again, sent_at_end, settled}
+use Rattle.pg_repair.specs.Requests.{ask_all, asked_of, asks, asks_by, confirm_message, leave_message, request}
+use Rattle.pg_repair.proofs.Steady.{begin_end_stays, confirm_stays, each_stays, fill_stays, patch_stays, seek_stays}
+use Rattle.pg_graph.specs.Seeks.{aim_seek, begin_seek, begin_seeks, has_seek, seek_again, seek_target, to_seek, was_linked}
+use Rattle.pg_server.specs.Local.{intended, sent_at_end, settled}
 use Rattle.pg_places.proofs.Origins.{IsMade}
-use Rattle.pg_places.proofs.Fine.{AreKnown, AreTimed, IsFine, OfCell, OfMessage, OfSent, UpTo, same_drawn, timed_later}
-use Rattle.pg_places.proofs.Known.{AreNames, OfAll, OfIntent, begun_is, filter_is, found_is, or_is}
+use Rattle.pg_places.proofs.Fine.{AreKnown, IsFine, news_made, raised_flag, same_drawn}
+use Rattle.pg_places.proofs.Messages.{OfCell, OfMessage, OfSent}
+use Rattle.pg_places.proofs.Timed.{AreTimed, UpTo, timed_later}
+use Rattle.pg_places.proofs.Known.{AreNames, OfAll, OfIntent, aimed_is, begun_is, filter_is, found_is, or_is}
 
 -- keys that are touched change no names and no intentions
 pub touched_names : (ts : List Touched) (a : Store) → (touch_all a ts).names ≡ a.names
@@ -117,8 +124,8 @@ module _ (P : FileId → Place → Type 0) (blanks : (f : FileId) → is_same_fi
         let le = house_later d.work.now St in
         house_names (UpTo End.names.last) d.work.now St (timed_later d.store.names End.names.last le k.timed) (λ f p h. (end_drawn.each f p h).2)
 
-    pub settle_fine : MayMake End.work.made → Fine (settle d.store d.work)
-    settle_fine new =
+    rules_fine : MayMake End.work.made → Fine (ruled d)
+    rules_fine new =
         let ts = drop (length d.work.touched) End.work.touched in
         let a = with_names d.store End.names in
         let names : (touch_all a ts).names ≡ End.names = touched_names ts a in
@@ -128,9 +135,42 @@ module _ (P : FileId → Place → Type 0) (blanks : (f : FileId) → is_same_fi
           timed = subst AreTimed (sym names) end_timed;
           sent = subst (All (OfSent P)) (sym (house_sent d.work.now d.store.names d.work)) k.sent;
           drawn =
-              drawn_on s least End (state_of (settle d.store d.work).store.names (settle d.store d.work).work) end_drawn
+              drawn_on s least End (state_of (ruled d).store.names (ruled d).work) end_drawn
               (ap (λ (n : NamesValue). n.server) names) (let e = ap (λ (n : NamesValue). n.last) names in omega arith) (λ f p h. h);
         }
+
+  -- ---- flags are raised, and the rules run again
+
+  -- all is fine, where what was made so far may stand
+  abbrev FineIf : Store → Work → Type 0
+  FineIf a w = MayMake w.made → Fine (idle a w)
+
+  ruled_if : (a : Store) (w : Work) → FineIf a w → FineIf (rules a w).store (rules a w).work
+  ruled_if a w k may =
+      let st = state_of a.names w in
+      rules_fine (idle a w) (k (λ f p h. may f p (made_stays w.now st (update.Place f p) h))) may
+
+  raised_if : (a : Store) (f : FileId) (w : Work) → FineIf a w → FineIf (raise_flag a f w).store (raise_flag a f w).work
+  raised_if a f w k may =
+      let g = own_next a f true in
+      let u = update.Flag f g in
+      let made : (raise_flag a f w).work.made ≡ w.made ++ u ∷ [] = news_made (is_newer_flag a f g) (with_made w u) f (key.Flag g.server) in
+      raised_flag P s least f (idle a w)
+      (k (λ q p h. may q p (subst (λ us. IsMade us q p) (sym made) (one_front (update.Place q p) w.made (u ∷ []) h))))
+
+  pub settle_fine : (d : Done) → Fine d → MayMake (settled d).work.made → Fine (settled d)
+  settle_fine d k may = settle_keeps FineIf ruled_if (λ a f w less. raised_if a f w) d.store d.work (λ so. k) may
+
+  -- what was made stays made
+  pub settle_made : (d : Done) (f : FileId) (p : Place) → IsMade d.work.made f p → IsMade (settled d).work.made f p
+  settle_made d f p h =
+      settle_keeps (λ (a : Store) (w : Work). IsMade w.made f p)
+      (λ a w k. made_stays w.now (state_of a.names w) (update.Place f p) k)
+      (λ a q w less k.
+      let g = own_next a q true in
+      let u = update.Flag q g in
+      let made : (raise_flag a q w).work.made ≡ w.made ++ u ∷ [] = news_made (is_newer_flag a q g) (with_made w u) q (key.Flag g.server) in
+      subst (λ us. IsMade us f p) (sym made) (one_front (update.Place f p) w.made (u ∷ []) k)) d.store d.work h
 
   -- ---- intentions end and begin
 
@@ -161,6 +201,13 @@ module _ (P : FileId → Place → Type 0) (blanks : (f : FileId) → is_same_fi
     confirm_intents b slot work same h =
         chosen Intents (is_doubtful b slot.dir slot.child) (begin_intent b (confirm_of b slot) work) (idle b work) (begun_intents b (confirm_of b slot) work h tt) h
 
+    seek_intents : (b : Store) (f : FileId) (work : Work) → b.names ≡ a.names → OfAll P b.intents → Intents (begin_seek b f work)
+    seek_intents b f work same h =
+        let target = seek_target b f in
+        chosen Intents (has_seek b f) (idle (seek_again b f work) work) (begin_intent b (intent.Seek f target) work)
+        (chosen (λ (c : Store). OfAll P c.intents) (was_linked work.linked f) (aim_seek b f) b (aimed_is P b.intents (intent_key.Seek f) target h) h)
+        (begun_intents b (intent.Seek f target) work h tt)
+
     each_intents : {A : Type 0} (step : Store → A → Work → Done)
         → ((b : Store) (x : A) (work : Work) → b.names ≡ a.names → OfAll P b.intents → Intents (step b x work))
         → ((b : Store) (x : A) (work : Work) → (step b x work).store.names ≡ b.names)
@@ -182,7 +229,10 @@ module _ (P : FileId → Place → Type 0) (blanks : (f : FileId) → is_same_fi
       let at_one = (each_stays begin_patch patch_stays (in_order d.work.left) rest d.work).names in
       let fills = each_intents a names begin_fill (fill_intents a names) (λ b x w. (fill_stays b x w).names) (to_fill a.names) one.store one.work at_one patches in
       let at_two = (each_stays begin_fill fill_stays (to_fill a.names) one.store one.work).names ∙ at_one in
-      let confirms = each_intents a names begin_confirm (confirm_intents a names) (λ b x w. (confirm_stays b x w).names) (in_order two.work.unsure) two.store two.work at_two fills in
+      let three = begin_seeks two.store (to_seek a) two.work in
+      let seeks = each_intents a names begin_seek (seek_intents a names) (λ b x w. (seek_stays b x w).names) (to_seek a) two.store two.work at_two fills in
+      let at_three = (each_stays begin_seek seek_stays (to_seek a) two.store two.work).names ∙ at_two in
+      let confirms = each_intents a names begin_confirm (confirm_intents a names) (λ b x w. (confirm_stays b x w).names) (in_order three.work.unsure) three.store three.work at_three seeks in
       record {
         known = record { names = subst (AreNames P) (sym stays.names) names; intents = confirms };
         timed = subst AreTimed (sym stays.names) k.timed;
@@ -280,20 +330,21 @@ module _ (P : FileId → Place → Type 0) (blanks : (f : FileId) → is_same_fi
     all_told (i ∷ is) h = All-append (OfSent P) (asks b i) (flat_map (asks b) is) (asks_told i h.0) (all_told is h.1)
 
   -- at the end of an event
-  pub ends_told : (d : Done) → Fine d → Told (sent_at_end d).sent
-  ends_told d k =
+  pub ends_told : (d : Done) → Fine d → Told d.work.tail → Told ((sent_at_end d).sent ++ d.work.tail)
+  ends_told d k last =
       let sent = d.work.sent ++ cells_where d.store (is_chosen d.work.touched d.work.linked) in
-      All-append (OfSent P) sent (flat_map (asks_by d.store) d.work.begun)
+      All-append (OfSent P) (sent_at_end d).sent d.work.tail
+      (All-append (OfSent P) sent (flat_map (asks_by d.store) d.work.begun)
       (All-append (OfSent P) d.work.sent (cells_where d.store (is_chosen d.work.touched d.work.linked)) k.sent (where_told d.store k.known (is_chosen d.work.touched d.work.linked)))
-      (begun_told d.store k.known d.work.begun)
+      (begun_told d.store k.known d.work.begun)) last
 
   -- at a tick
-  pub again_fine : (d : Done) → Fine d → Fine (idle d.store (sent_again d.store d.work))
+  pub again_fine : (d : Done) → Fine d → Fine (idle d.store (ask_all d.store (tick d.store d.work)))
   again_fine d k = record {
     known = k.known;
     timed = k.timed;
     sent = All-append (OfSent P) (d.work.sent ++ cells_where d.store is_any) (flat_map (asks d.store) d.store.intents)
         (All-append (OfSent P) d.work.sent (cells_where d.store is_any) k.sent (where_told d.store k.known is_any))
         (all_told d.store k.known d.store.intents k.known.intents);
-    drawn = same_drawn P s least d (idle d.store (sent_again d.store d.work)) refl (omega arith) refl k;
+    drawn = same_drawn P s least d (idle d.store (ask_all d.store (tick d.store d.work))) refl (omega arith) refl k;
   }

@@ -1,7 +1,6 @@
 -- What comes of each call: each place that is known then, and each that is told, may stand, where the one
 -- that it makes may. It makes at most one, with the stamp that the server draws.
-use Rattle.std.proofs.Common.{ℕ, ◌≡◌, ◌≤◌, ◌<◌, ◌==◌, ◌&&◌, max, not, Bool, true, false, cond, if◌then◌else◌, List, [], ◌∷◌, ◌++◌, Option, None, Some, Result, Ok, Err, refl, sym, ap, subst, ◌∙◌, inl, inr, arith}
-use Rattle.std.proofs.lemmas.Bool.Decides.{nat_tests}
+use Rattle.std.proofs.Common.{ℕ, ◌≡◌, ◌≤◌, ◌<◌, ◌==◌, Bool, true, false, if◌then◌else◌, List, [], ◌∷◌, ◌++◌, Option, None, Some, Result, Ok, Err, refl, sym, ap, subst, ◌∙◌, inl, arith}
 use Rattle.pg_base.specs.declared.id.FileId.{FileId}
 use Rattle.pg_base.specs.declared.id.Kind.{Kind}
 use Rattle.pg_base.specs.declared.id.Kind.TheVariants.{Dir, File}
@@ -9,14 +8,12 @@ use Rattle.pg_base.specs.declared.policy.Policy.{Policy}
 use Rattle.pg_base.specs.declared.policy.Policy.TheVariants.{Last}
 use Rattle.pg_base.specs.declared.stamp.Stamp.{Stamp}
 use Rattle.pg_base.specs.Id.{is_same_file}
-use Rattle.pg_base.specs.Stamp.{is_before}
 use Rattle.pg_base.proofs.Orders.{is_same_file-true}
 use Rattle.pg_call.specs.declared.call.Call.{Call}
 use Rattle.pg_call.specs.declared.call.Call.TheVariants as call
 use Rattle.pg_call.specs.declared.refusal.Refusal.TheVariants.{Loop, NotEmpty, Root}
 use Rattle.pg_call.specs.declared.reply.Reply.{Reply}
 use Rattle.pg_call.specs.declared.reply.Reply.TheVariants as reply
-use Rattle.pg_edges.specs.declared.key.Key.{Key}
 use Rattle.pg_edges.specs.declared.key.Key.TheVariants as key
 use Rattle.pg_entries.specs.declared.entry.Entry.{Entry}
 use Rattle.pg_house.specs.Facts.{IsHeld}
@@ -27,13 +24,12 @@ use Rattle.pg_intent.specs.declared.intent.Intent.TheVariants as intent
 use Rattle.pg_intent.specs.declared.key.IntentKey.{IntentKey}
 use Rattle.pg_intent.specs.Intents.{ended, intent_at}
 use Rattle.pg_msg.specs.declared.message.Message.TheVariants as message
-use Rattle.pg_msg.specs.declared.update.MadeVersion.{MadeVersion}
 use Rattle.pg_msg.specs.declared.update.Update.{Update}
 use Rattle.pg_msg.specs.declared.update.Update.TheVariants as update
 use Rattle.pg_msg.specs.declared.work.Work.{Work}
-use Rattle.pg_msg.specs.Work.{new_work, with_left, with_made}
+use Rattle.pg_msg.specs.Work.{new_work, with_made}
 use Rattle.pg_names.specs.declared.own.Own.{Own}
-use Rattle.pg_names.specs.Names.{blank_own, is_dir, is_full, is_place_new, join_place, known, own_at, own_of, own_or_blank}
+use Rattle.pg_names.specs.Names.{blank_own, is_dir, is_full, known, own_at, own_of, own_or_blank}
 use Rattle.pg_names.proofs.Holding.{begun_same}
 use Rattle.pg_names.proofs.Lookups.{joined_own}
 use Rattle.pg_patch.specs.Ranges.{RangesValue, cut_to, written}
@@ -52,8 +48,9 @@ use Rattle.pg_walk.specs.declared.paths.Stop.TheVariants as stop
 use Rattle.pg_walk.specs.Chain.{is_above}
 use Rattle.pg_walk.specs.Walk.{and_then, reach, reach_parent}
 use Rattle.pg_cells.specs.Done.{Done, idle}
-use Rattle.pg_cells.specs.Making.{own_next}
-use Rattle.pg_cells.specs.Taking.{with_left_if, with_news}
+use Rattle.pg_cells.specs.Golds.{is_gold}
+use Rattle.pg_cells.specs.Making.{lower_flag, own_next}
+use Rattle.pg_cells.specs.Taking.{with_left_if}
 use Rattle.pg_calls.specs.declared.checks.Move.{Move}
 use Rattle.pg_calls.specs.declared.checks.NewName.{NewName}
 use Rattle.pg_calls.specs.Answer.{Answer, answer, answered, deny, replied, told, unless}
@@ -61,13 +58,15 @@ use Rattle.pg_calls.specs.Asking.{ask_by, fetch, fresh_wish, holder, standing}
 use Rattle.pg_calls.specs.Bodies.{change, change_file, when_fit}
 use Rattle.pg_calls.specs.Calls.{do_call}
 use Rattle.pg_calls.specs.Checks.{dir_at, empty_dir_at, file_at, first_child, in_time, move_along, move_of, move_to, new_name, new_name_in, target_at, unless_child}
+use Rattle.pg_calls.specs.Demoting.{demoted_at}
 use Rattle.pg_calls.specs.Making.{drawn, first_ranges, make_place, make_version, version_of, with_version}
 use Rattle.pg_calls.specs.Naming.{begun, dead_place, next_id, place_in, raised, with_first_version, with_id, with_thing}
 use Rattle.pg_calls.specs.Paths.{paths_of}
 use Rattle.pg_calls.proofs.Checked.{behind, no_ok, same_ok, unless_ok}
 use Rattle.pg_calls.proofs.Walked.{file_found, full_own, reach_ok, thing_found}
 use Rattle.pg_places.proofs.Origins.{IsMade}
-use Rattle.pg_places.proofs.Fine.{IsFine, as_before, begin_fine, left_made, made_place, making, news_made, posted, raised_flag, write_fine}
+use Rattle.pg_places.proofs.Begun.{begin_fine}
+use Rattle.pg_places.proofs.Fine.{IsFine, as_before, left_made, made_flag, made_place, making, news_made, posted, raised_flag, write_fine}
 
 -- ---- what is made
 
@@ -281,7 +280,9 @@ module _ (P : FileId → Place → Type 0) (blanks : (f : FileId) → is_same_fi
   called (call.Rmdir text) k =
       going (empty_dir_at a text) _ (λ d is. moved_called k d (dead_place a moment d) (empty_held text d is) refl reply.Done) k
   called (call.Forget id) k = looks (in_time a (tt {0})) _ k
-  called (call.Demote target) k = looks (in_time a (tt {0})) _ k
+  called (call.Demote target) k =
+      going (demoted_at a target) _
+      (λ f is mades. chosen Fine (is_gold a f) (lower_flag a f W) (idle a W) (made_flag P s least f (own_next a f false) (idle a W) k) k) k
   called (call.Drop target) k = looks (in_time a (tt {0})) _ k
   called (call.Giveup view server) k = looks (in_time a (tt {0})) _ k
   called call.Status k = looks (in_time a (tt {0})) _ k

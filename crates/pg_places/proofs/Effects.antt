@@ -1,14 +1,12 @@
 -- What an event does at a server: each place that is known then, and each that is told, may stand, where
 -- those that it makes may; and what these are.
-use Rattle.std.proofs.Common.{ℕ, ◌≡◌, ◌≤◌, Bool, true, false, cond, List, [], Option, None, Some, refl, sym, ap, subst, ◌∙◌, All, arith}
+use Rattle.std.proofs.Common.{ℕ, ◌≡◌, ◌≤◌, true, false, Option, refl, sym, subst, All, arith}
 use Rattle.std.proofs.lemmas.List.Elements.{All-nil}
 use Rattle.pg_base.specs.declared.id.FileId.{FileId}
 use Rattle.pg_base.specs.Id.{is_same_file}
 use Rattle.pg_call.specs.declared.reply.Reply.{Reply}
 use Rattle.pg_house.specs.Work.{State, state_of}
 use Rattle.pg_house.proofs.Drawn.{IsDrawn, drawn_on}
-use Rattle.pg_house.proofs.Replaced.{made_stays}
-use Rattle.pg_msg.specs.declared.update.Update.TheVariants as update
 use Rattle.pg_msg.specs.declared.work.Work.{Work}
 use Rattle.pg_msg.specs.Work.{new_work}
 use Rattle.pg_promises.proofs.Choices.{chosen}
@@ -22,11 +20,18 @@ use Rattle.pg_store.specs.declared.store.Store.{Store}
 use Rattle.pg_store.specs.Births.{is_pending}
 use Rattle.pg_store.specs.Store.{is_in_time}
 use Rattle.pg_cells.specs.Done.{Done, idle}
+use Rattle.pg_cells.specs.Ticks.{tick}
+use Rattle.pg_repair.specs.Requests.{ask_all}
+use Rattle.pg_run.proofs.Event.{nothing_last}
+use Rattle.pg_run.proofs.LastWalks.{walks_have}
 use Rattle.pg_places.proofs.Origins.{IsMade}
-use Rattle.pg_places.proofs.Behind.{MayMake, again_fine, ends_told, intended_fine, settle_fine}
+use Rattle.pg_places.proofs.Behind.{MayMake, again_fine, ends_told, intended_fine, settle_fine, settle_made}
 use Rattle.pg_places.proofs.Called.{called}
-use Rattle.pg_places.proofs.Fine.{AreKnown, AreTimed, IsFine, OfMessage, OfSent, as_before, message_further}
+use Rattle.pg_places.proofs.Fine.{AreKnown, IsFine, as_before}
+use Rattle.pg_places.proofs.Messages.{OfMessage, OfSent, message_further}
+use Rattle.pg_places.proofs.Timed.{AreTimed}
 use Rattle.pg_places.proofs.Handled.{receive_fine}
+use Rattle.pg_places.proofs.Walks.{tick_fine}
 
 -- a message tells of places that may stand
 abbrev pub OfInput : (FileId → Place → Type 0) → Input → Type 0
@@ -58,11 +63,11 @@ module _ (P : FileId → Place → Type 0) (blanks : (f : FileId) → is_same_fi
 
   -- ---- the end
 
-  finished_leaves : (r : Option Reply) (d : Done) → Fine d → Leaves (finished r d)
-  finished_leaves r d k = record {
+  finished_leaves : (r : Option Reply) (d : Done) → Fine d → All (OfSent P) d.work.tail → Leaves (finished r d)
+  finished_leaves r d k last = record {
     known = k.known;
     timed = k.timed;
-    sent = ends_told P blanks s a.names.last d k;
+    sent = ends_told P blanks s a.names.last d k last;
     drawn = drawn_on s a.names.last (state_of d.store.names d.work) (ended (finished r d)) k.drawn refl (omega arith) (λ f p h. h);
   }
 
@@ -70,13 +75,13 @@ module _ (P : FileId → Place → Type 0) (blanks : (f : FileId) → is_same_fi
   closed_made : (r : Option Reply) (d : Done) (f : FileId) (p : Place) → IsMade d.work.made f p → IsMade (closed r d).out.made f p
   closed_made r d f p h =
       let mid = settled d in
-      subst (λ us. IsMade us f p) (sym (begin_end_stays mid.store mid.work).made) (made_stays d.work.now (state_of d.store.names d.work) (update.Place f p) h)
+      subst (λ us. IsMade us f p) (sym (begin_end_stays mid.store mid.work).made) (settle_made P blanks s a.names.last d f p h)
 
-  closed_leaves : (r : Option Reply) (d : Done) → Fine d → May (closed r d) → Leaves (closed r d)
-  closed_leaves r d k may =
+  closed_leaves : (r : Option Reply) (d : Done) → Fine d → All (OfSent P) d.work.tail → May (closed r d) → Leaves (closed r d)
+  closed_leaves r d k last may =
       let mid = settled d in
       let first = settle_fine P blanks s a.names.last d k (λ f p h. may f p (subst (λ us. IsMade us f p) (sym (begin_end_stays mid.store mid.work).made) h)) in
-      finished_leaves r (intended mid) (intended_fine P blanks s a.names.last mid first)
+      finished_leaves r (intended mid) (intended_fine P blanks s a.names.last mid first) (subst (All (OfSent P)) (sym (nothing_last d)) last)
 
   -- ---- an input
 
@@ -93,7 +98,8 @@ module _ (P : FileId → Place → Type 0) (blanks : (f : FileId) → is_same_fi
     first_fine (input.Call moment call) asks may = called P blanks s a.names.last some a moment call (begins moment 0) may
     first_fine (input.Tick moment word) asks may =
         let work = new_work moment 0 in
-        chosen (λ (w : Work). Fine (idle a w)) (is_in_time a) (sent_again a work) work (again_fine P blanks s a.names.last (idle a work) (begins moment 0)) (begins moment 0)
+        chosen (λ (w : Work). Fine (idle a w)) (is_in_time a) (sent_again a word work) work
+        (tick_fine P s a.names.last word (idle a (ask_all a (tick a work))) (again_fine P blanks s a.names.last (idle a work) (begins moment 0))) (begins moment 0)
     first_fine (input.Arrival packet) asks may =
         let work = new_work 0 packet.from in
         chosen Fine (is_heard a packet) (receive a packet.message work) (idle a work)
@@ -106,6 +112,7 @@ module _ (P : FileId → Place → Type 0) (blanks : (f : FileId) → is_same_fi
     effect_leaves asked asks =
         let d = first_effect a asked in
         let r = reply_to a asked in
+        let last = walks_have (OfSent P) a asked (λ file e origin birth hops word. tt) in
         chosen (λ (e : Effect). May e → Leaves e) (takes_effect a asked) (closed r d) (finished r d)
-        (λ may. closed_leaves r d (first_fine asked asks (λ f p h. may f p (closed_made r d f p h))) may)
-        (λ may. finished_leaves r d (first_fine asked asks may))
+        (λ may. closed_leaves r d (first_fine asked asks (λ f p h. may f p (closed_made r d f p h))) last may)
+        (λ may. finished_leaves r d (first_fine asked asks may) last)

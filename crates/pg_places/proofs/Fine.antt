@@ -1,54 +1,46 @@
 -- In the midst of an event: each place that a server knows, is to tell, or has told may stand. What the
 -- pieces of handlers do keeps it.
-use Rattle.std.proofs.Common.{ℕ, ◌≡◌, ◌≤◌, ◌<◌, max, Bool, true, false, cond, ◌&&◌, not, List, [], ◌∷◌, ◌++◌, Option, None, Some, refl, sym, ap, subst, ◌∙◌, inl, inr, arith, All}
+use Rattle.std.proofs.Common.{ℕ, ◌≡◌, ◌≤◌, ◌<◌, max, Bool, true, false, cond, ◌&&◌, not, List, [], ◌∷◌, ◌++◌, Option, Some, refl, sym, ap, subst, ◌∙◌, inl, inr, arith, All}
 use Rattle.std.proofs.lemmas.Bool.Decides.{nat_tests}
-use Rattle.std.proofs.lemmas.List.Elements.{All-append, All-cons, All-nil, All-weaker}
+use Rattle.std.proofs.lemmas.List.Elements.{All-append, All-cons, All-nil}
 use Rattle.pg_base.specs.declared.id.FileId.{FileId}
-use Rattle.pg_base.specs.declared.policy.Policy.{Policy}
 use Rattle.pg_base.specs.declared.stamp.Stamp.{Stamp}
-use Rattle.pg_base.specs.Id.{is_same_file}
 use Rattle.pg_base.specs.Stamp.{is_before}
 use Rattle.pg_base.specs.Version.{VersionValue}
 use Rattle.pg_edges.specs.declared.key.Key.{Key}
 use Rattle.pg_edges.specs.declared.key.Key.TheVariants as key
-use Rattle.pg_entries.specs.declared.cell.Cell.{Cell}
-use Rattle.pg_entries.specs.declared.cell.Cell.TheVariants as cells
 use Rattle.pg_entries.specs.declared.entry.Entry.{Entry}
 use Rattle.pg_house.specs.Work.{State, is_root, state_of}
 use Rattle.pg_house.proofs.Drawn.{IsDrawn, drawn_on, drawn_place}
 use Rattle.pg_house.proofs.Noting.{one_back}
 use Rattle.pg_promises.proofs.Choices.{chosen}
 use Rattle.pg_intent.specs.declared.intent.Intent.{Intent}
-use Rattle.pg_intent.specs.declared.key.IntentKey.{IntentKey}
-use Rattle.pg_intent.specs.Intents.{ended, intent_at}
 use Rattle.pg_msg.specs.declared.message.Message.{Message}
-use Rattle.pg_msg.specs.declared.message.Message.TheVariants as message
-use Rattle.pg_msg.specs.declared.message.Sent.{Sent}
 use Rattle.pg_msg.specs.declared.update.Update.{Update}
 use Rattle.pg_msg.specs.declared.update.Update.TheVariants as update
 use Rattle.pg_msg.specs.declared.work.Work.{Work}
 use Rattle.pg_msg.specs.Work.{with_left, with_made}
 use Rattle.pg_names.specs.declared.own.Own.{Own}
-use Rattle.pg_names.specs.Names.{NamesValue, begin, is_place_new, join_entry, join_flag, join_place, own_at, own_or_blank, raise}
+use Rattle.pg_names.specs.Names.{NamesValue, is_place_new, join_entry, join_place, own_at, own_or_blank, raise}
 use Rattle.pg_names.specs.Names as names
 use Rattle.pg_names.proofs.Lookups.{update_frame}
 use Rattle.pg_patch.specs.Ranges.{RangesValue}
 use Rattle.pg_register.specs.declared.flag.Flag.{Flag}
 use Rattle.pg_register.specs.declared.place.Place.{Place}
-use Rattle.pg_register.specs.Place.{blank_place, root}
 use Rattle.pg_store.specs.declared.store.Store.{Store}
-use Rattle.pg_store.specs.Beginning.{begin as begin_replica, patches_of, put_new, take_patch, take_patches, take_told, take_told_in, with_intents}
-use Rattle.pg_store.specs.Links.{is_linked, is_new_link, link, put_link, unlink}
-use Rattle.pg_store.specs.Store.{acknowledge, entry_news, is_new_version, is_newer_entry, is_newer_flag, is_newer_place, put_entry, put_flag, put_place, put_version, take_entry, take_flag, take_place, take_version, touch, write}
+use Rattle.pg_store.specs.Beginning.{with_intents}
+use Rattle.pg_store.specs.Links.{is_linked, is_new_link, put_link, unlink}
+use Rattle.pg_store.specs.Store.{entry_news, is_new_version, is_newer_entry, is_newer_flag, is_newer_place, put_entry, put_flag, put_place, put_version, take_entry, take_flag, take_place, take_version, write}
 use Rattle.pg_cells.specs.Accepting.{link_peer, with_link}
 use Rattle.pg_cells.specs.Done.{Done, idle}
-use Rattle.pg_cells.specs.Making.{own_next, raise_flag}
+use Rattle.pg_cells.specs.Making.{make_flag, own_next, raise_flag}
 use Rattle.pg_calls.specs.Making.{make_place}
-use Rattle.pg_cells.specs.Posting.{post, reply, sent_to}
+use Rattle.pg_cells.specs.Posting.{post, sent_to}
 use Rattle.pg_cells.specs.Taking.{is_any_news, is_place_news, take_entry_cell, take_entry_noted, take_flag_noted, take_flags_noted, take_place_noted, take_version_noted, with_doubt, with_left_if, with_news}
 use Rattle.pg_places.proofs.Origins.{IsMade}
-use Rattle.pg_places.proofs.Known.{AreNames, OfAll, OfIntent, begun_names, entry_names, filled_names, filter_is, flag_names, found_is, names_further, place_names, raised_names}
-use Rattle.pg_intent.specs.declared.intent.Intent.TheVariants as intent
+use Rattle.pg_places.proofs.Messages.{OfEntry, OfMessage, OfSent}
+use Rattle.pg_places.proofs.Timed.{AreTimed, at_least, at_most, entry_timed, flag_timed, place_timed, raised_timed}
+use Rattle.pg_places.proofs.Known.{AreNames, OfAll, entry_names, flag_names, place_names, raised_names}
 
 -- ---- what a piece of work leaves as it is
 
@@ -92,12 +84,6 @@ linked_made : (t : Bool) (work : Work) (f : FileId) (peer : ℕ) → (with_link 
 linked_made true work f peer = refl
 linked_made false work f peer = refl
 
-at_least : (a t : ℕ) → a ≤ max a t
-at_least a t = grind arith
-
-pub at_most : (a t : ℕ) → t ≤ max a t
-at_most a t = grind arith
-
 -- ---- a place with a later stamp is taken
 
 before_later : (t u : Stamp) → t.time < u.time → is_before t u ≡ true
@@ -117,79 +103,7 @@ took_server a f place =
     chosen (λ (b : Store). b.names.server ≡ a.names.server) (is_newer_place a f place) (put_place a f place) a
     (update_frame a.names f (names.with_place place)).server refl
 
--- ---- no place is later than the greatest time
-
-abbrev pub UpTo : ℕ → FileId → Place → Type 0
-UpTo n f p = p.stamp.time ≤ n
-
-abbrev pub AreTimed : NamesValue → Type 0
-AreTimed names = AreNames (UpTo names.last) names
-
-pub timed_later : (names : NamesValue) (n : ℕ) → names.last ≤ n → AreTimed names → AreNames (UpTo n) names
-timed_later names n le k = names_further (UpTo names.last) (UpTo n) (λ f p h. omega arith) names k
-
-module _ (a : NamesValue) (k : AreTimed a) where
-  raised_timed : (time : ℕ) → AreTimed (raise a time)
-  raised_timed time = raised_names (UpTo (max a.last time)) a (timed_later a (max a.last time) (at_least a.last time) k) time
-
-  place_timed : (f : FileId) (place : Place) → AreTimed (raise (join_place a f place) place.stamp.time)
-  place_timed f place =
-      let n = max (join_place a f place).last place.stamp.time in
-      let e = (update_frame a f (names.with_place place)).last in
-      let l = at_least (join_place a f place).last place.stamp.time in
-      raised_names (UpTo n) (join_place a f place)
-      (place_names (UpTo n) a (timed_later a n (omega (arith, e, l)) k) f place (at_most (join_place a f place).last place.stamp.time)) place.stamp.time
-
-  flag_timed : (f : FileId) (flag : Flag) → AreTimed (join_flag a f flag)
-  flag_timed f flag =
-      let n = (join_flag a f flag).last in
-      let e = (update_frame a f (names.with_flag flag)).last in
-      flag_names (UpTo n) a (timed_later a n (omega (arith, e)) k) f flag
-
-  entry_timed : (d : FileId) (x : Entry) → AreTimed (raise (join_entry a d x) x.place.stamp.time)
-  entry_timed d x =
-      let n = max (join_entry a d x).last x.place.stamp.time in
-      let e = (update_frame a d (names.with_joined x)).last in
-      let l = at_least (join_entry a d x).last x.place.stamp.time in
-      raised_names (UpTo n) (join_entry a d x)
-      (entry_names (UpTo n) a (timed_later a n (omega (arith, e, l)) k) d x (at_most (join_entry a d x).last x.place.stamp.time)) x.place.stamp.time
-
-  begin_timed : (f : FileId) (own : Own) (full : Bool) → AreTimed (raise (begin a f own full) own.place.stamp.time)
-  begin_timed f own full =
-      let n = max a.last own.place.stamp.time in
-      raised_names (UpTo n) (begin a f own full)
-      (begun_names (UpTo n) a (timed_later a n (at_least a.last own.place.stamp.time) k) f own full (at_most a.last own.place.stamp.time)) own.place.stamp.time
-
-  pub fill_timed : (f : FileId) → AreTimed (names.fill a f)
-  fill_timed f =
-      let n = (names.fill a f).last in
-      let e = (update_frame a f names.filled).last in
-      filled_names (UpTo n) a (timed_later a n (omega (arith, e)) k) f
-
 module _ (P : FileId → Place → Type 0) where
-  -- ---- messages
-
-  abbrev pub OfEntry : Entry → Type 0
-  OfEntry e = P e.child e.place
-
-  abbrev pub OfCell : FileId → Cell → Type 0
-  OfCell file (cells.Place place) = P file place
-  OfCell file (cells.Entry e sure) = OfEntry e
-  OfCell file (cells.Flag flag) = Unit {0}
-  OfCell file (cells.Version v) = Unit {0}
-
-  -- of the root none is granted
-  abbrev pub OfMessage : Message → Type 0
-  OfMessage (message.Cell ends tag c) = OfCell ends.file c
-  OfMessage (message.Grant ends granted) = is_same_file ends.file root ≡ false → P ends.file granted.place
-  OfMessage (message.Confirm dir e) = OfEntry e
-  OfMessage (message.PlaceIs dir e) = OfEntry e
-  OfMessage (message.Tell dir e) = OfEntry e
-  OfMessage _ = Unit {0}
-
-  abbrev pub OfSent : Sent → Type 0
-  OfSent m = OfMessage m.packet.message
-
   -- ---- a server
 
   pub record AreKnown (a : Store) : Type 0 where
@@ -200,7 +114,7 @@ module _ (P : FileId → Place → Type 0) where
   pub record IsFine (s least : ℕ) (d : Done) : Type 0 where
     pub known : AreKnown d.store
     pub timed : AreTimed d.store.names
-    pub sent : All OfSent d.work.sent
+    pub sent : All (OfSent P) d.work.sent
     pub drawn : IsDrawn s least (state_of d.store.names d.work)
 
   module _ (s least : ℕ) where
@@ -220,7 +134,7 @@ module _ (P : FileId → Place → Type 0) where
     as_before d e names intents sent made k = record {
       known = record { names = subst (AreNames P) (sym names) k.known.names; intents = subst (OfAll P) (sym intents) k.known.intents };
       timed = subst AreTimed (sym names) k.timed;
-      sent = subst (All OfSent) (sym sent) k.sent;
+      sent = subst (All (OfSent P)) (sym sent) k.sent;
       drawn = same_drawn d e (ap (λ (n : NamesValue). n.server) names) (let l = ap (λ (n : NamesValue). n.last) names in omega arith) made k;
     }
 
@@ -230,7 +144,7 @@ module _ (P : FileId → Place → Type 0) where
     making d work u sent made plain k = record {
       known = k.known;
       timed = k.timed;
-      sent = subst (All OfSent) (sym sent) k.sent;
+      sent = subst (All (OfSent P)) (sym sent) k.sent;
       drawn =
           drawn_on s least (At d) (At (idle d.store work)) k.drawn refl (omega arith)
           (λ f p h. elim (one_back (update.Place f p) u d.work.made (subst (λ us. IsMade us f p) made h)) [
@@ -240,11 +154,11 @@ module _ (P : FileId → Place → Type 0) where
     }
 
     -- one message more is sent
-    pub posted : (d : Done) (to : ℕ) (m : Message) → OfMessage m → Fine d → Fine (idle d.store (post d.store to m d.work))
+    pub posted : (d : Done) (to : ℕ) (m : Message) → OfMessage P m → Fine d → Fine (idle d.store (post d.store to m d.work))
     posted d to m of k = record {
       known = k.known;
       timed = k.timed;
-      sent = All-append OfSent d.work.sent (sent_to d.store to m ∷ []) k.sent (All-cons OfSent (sent_to d.store to m) [] of (All-nil OfSent));
+      sent = All-append (OfSent P) d.work.sent (sent_to d.store to m ∷ []) k.sent (All-cons (OfSent P) (sent_to d.store to m) [] of (All-nil (OfSent P)));
       drawn = same_drawn d (idle d.store (post d.store to m d.work)) refl (omega arith) refl k;
     }
 
@@ -315,7 +229,7 @@ module _ (P : FileId → Place → Type 0) where
 
       -- ---- a cell of a directory comes
 
-      put_entry_fine : (dir : FileId) (e : Entry) → OfEntry e → Fine (idle (put_entry d.store dir e) d.work)
+      put_entry_fine : (dir : FileId) (e : Entry) → OfEntry P e → Fine (idle (put_entry d.store dir e) d.work)
       put_entry_fine dir e new = record {
         known = record { names = raised_names P (join_entry d.store.names dir e) (entry_names P d.store.names k.known.names dir e new) e.place.stamp.time; intents = k.known.intents };
         timed = entry_timed d.store.names k.timed dir e;
@@ -326,16 +240,16 @@ module _ (P : FileId → Place → Type 0) where
             (let q = frame.last in let m = at_least (join_entry d.store.names dir e).last e.place.stamp.time in omega arith) refl k;
       }
 
-      pub took_entry : (dir : FileId) (e : Entry) → OfEntry e → Fine (idle (take_entry d.store dir e) d.work)
+      pub took_entry : (dir : FileId) (e : Entry) → OfEntry P e → Fine (idle (take_entry d.store dir e) d.work)
       took_entry dir e new =
           chosen (λ (a : Store). Fine (idle a d.work)) (is_newer_entry d.store dir e) (put_entry d.store dir e) d.store (put_entry_fine dir e new) k
 
-      pub entry_fine : (dir : FileId) (e : Entry) → OfEntry e → Fine (take_entry_noted d.store dir e d.work)
+      pub entry_fine : (dir : FileId) (e : Entry) → OfEntry P e → Fine (take_entry_noted d.store dir e d.work)
       entry_fine dir e new =
           let n = is_any_news (entry_news d.store dir e) in
           worked (take_entry d.store dir e) _ (news_sent n d.work dir (key.Entry e.child)) (news_made n d.work dir (key.Entry e.child)) (took_entry dir e new)
 
-      pub entry_cell_fine : (dir : FileId) (e : Entry) (sure : Bool) → OfEntry e → Fine (take_entry_cell d.store dir e sure d.work)
+      pub entry_cell_fine : (dir : FileId) (e : Entry) (sure : Bool) → OfEntry P e → Fine (take_entry_cell d.store dir e sure d.work)
       entry_cell_fine dir e sure new =
           let n = entry_news d.store dir e in
           worked (take_entry d.store dir e) _
@@ -370,11 +284,13 @@ module _ (P : FileId → Place → Type 0) where
     flags_fine f (flag ∷ flags) d k = flags_fine f flags (take_flag_noted d.store f flag d.work) (flag_fine d k f flag)
 
     -- a flag is made
-    pub raised_flag : (f : FileId) (d : Done) → Fine d → Fine (raise_flag d.store f d.work)
-    raised_flag f d k =
-        let flag = own_next d.store f true in
+    pub made_flag : (f : FileId) (flag : Flag) (d : Done) → Fine d → Fine (make_flag d.store f flag d.work)
+    made_flag f flag d k =
         let work = with_made d.work (update.Flag f flag) in
         flag_fine (idle d.store work) (making d work (update.Flag f flag) refl refl (λ g p h. cc) k) f flag
+
+    pub raised_flag : (f : FileId) (d : Done) → Fine d → Fine (raise_flag d.store f d.work)
+    raised_flag f d k = made_flag f (own_next d.store f true) d k
 
     -- a place is made, and taken. Its stamp was drawn at an earlier state, since which none was made
     pub made_place : (o d : Done) (f : FileId) (place : Place) (own : Own) → own_at d.store.names f ≡ Some own → own.place.stamp.time < place.stamp.time
@@ -392,64 +308,8 @@ module _ (P : FileId → Place → Type 0) where
         record {
           known = taken.known;
           timed = taken.timed;
-          sent = subst (All OfSent) (other ∙ sym sent) taken.sent;
+          sent = subst (All (OfSent P)) (other ∙ sym sent) taken.sent;
           drawn =
               drawn_place s least (At o) (At e) drawn (took_server d.store f place ∙ k.drawn.server ∙ sym drawn.server) f place server late
               (placed_late d.store f place own held later) (made ∙ ap (λ us. us ++ update.Place f place ∷ []) before);
         }
-
-    -- ---- a replica begins
-
-    module _ (f : FileId) where
-      told_fine : (a : Store) (work : Work) (i : Intent) → OfIntent P i → Fine (idle a work) → Fine (idle (take_told a f i) work)
-      told_fine a work (intent.Patch to e target) of k = took_entry (idle a work) k f e of
-      told_fine a work (intent.Bye x b p c) of k = k
-      told_fine a work (intent.Seek x t) of k = k
-      told_fine a work (intent.Fill x b t) of k = k
-      told_fine a work (intent.Confirm x c t) of k = k
-      told_fine a work (intent.Leave x p b) of k = k
-
-      told_in : (a : Store) (work : Work) (o : Option Intent) → ((i : Intent) → o ≡ Some i → OfIntent P i) → Fine (idle a work) → Fine (idle (take_told_in a f o) work)
-      told_in a work None of k = k
-      told_in a work (Some i) of k = told_fine a work i (of i refl) k
-
-      patch_fine : (a : Store) (work : Work) (q : IntentKey) → Fine (idle a work) → Fine (idle (take_patch a f q) work)
-      patch_fine a work q k =
-          let is = a.intents in
-          let less = with_intents a (ended is q) in
-          told_in less work (intent_at is q) (λ i e. found_is P is q i k.known.intents e) (intending (idle a work) (ended is q) (filter_is P _ is k.known.intents) k)
-
-      patches_fine : (qs : List IntentKey) (a : Store) (work : Work) → Fine (idle a work) → Fine (idle (take_patches a f qs) work)
-      patches_fine [] a work k = k
-      patches_fine (q ∷ qs) a work k = patches_fine qs (take_patch a f q) work (patch_fine a work q k)
-
-      pub begin_fine : (d : Done) (birth : ℕ) (policy : Policy) (own : Own) (full : Bool) → P f own.place → Fine d
-          → Fine (idle (begin_replica d.store f birth policy own full) d.work)
-      begin_fine d birth policy own full new k =
-          let a = d.store in
-          let first : Fine (idle (put_new a f birth policy own full) d.work) = record {
-            known = record { names = raised_names P (begin a.names f own full) (begun_names P a.names k.known.names f own full new) own.place.stamp.time; intents = k.known.intents };
-            timed = begin_timed a.names k.timed f own full;
-            sent = k.sent;
-            drawn = same_drawn d (idle (put_new a f birth policy own full) d.work) refl (at_least a.names.last own.place.stamp.time) refl k;
-          } in
-          patches_fine (patches_of f a.intents) (put_new a f birth policy own full) d.work first
-
--- what may be told may be told by a weaker rule
-module _ (P Q : FileId → Place → Type 0) (up : (f : FileId) (p : Place) → P f p → Q f p) where
-  cell_further : (f : FileId) (c : Cell) → OfCell P f c → OfCell Q f c
-  cell_further f (cells.Place place) h = up f place h
-  cell_further f (cells.Entry e sure) h = up e.child e.place h
-  cell_further f (cells.Flag flag) h = tt
-  cell_further f (cells.Version v) h = tt
-
-  pub message_further : (m : Message) → OfMessage P m → OfMessage Q m
-  message_further (message.Cell ends tag c) h = cell_further ends.file c h
-  message_further (message.Grant ends granted) h = λ apart. up ends.file granted.place (h apart)
-  message_further (message.Confirm dir e) h = up e.child e.place h
-  message_further (message.PlaceIs dir e) h = up e.child e.place h
-  message_further (message.Tell dir e) h = up e.child e.place h
-  message_further m h = tt
-
-  pub sent_further : (ms : List Sent) → All (OfSent P) ms → All (OfSent Q) ms
-  sent_further ms h = All-weaker (OfSent P) (OfSent Q) (λ m k. message_further m.packet.message k) ms h

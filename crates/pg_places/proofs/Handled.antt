@@ -1,9 +1,7 @@
 -- What comes of each message: each place that is known then, and each that is told, may stand.
-use Rattle.std.proofs.Common.{ℕ, ◌≡◌, ◌≤◌, ◌&&◌, ◌||◌, Bool, true, false, cond, not, List, Option, None, Some, refl, sym, ap, subst, ◌∙◌, arith}
-use Rattle.std.proofs.lemmas.Option.{none-some}
+use Rattle.std.proofs.Common.{ℕ, ◌≡◌, ◌&&◌, ◌||◌, true, false, not, Option, None, Some, refl, arith}
 use Rattle.pg_base.specs.declared.id.FileId.{FileId}
 use Rattle.pg_base.specs.Id.{is_same_file}
-use Rattle.pg_base.proofs.Orders.{is_same_file-true}
 use Rattle.pg_base.specs.declared.stamp.Stamp.{Stamp}
 use Rattle.pg_edges.specs.declared.key.Key.{Key}
 use Rattle.pg_entries.specs.declared.cell.Cell.{Cell}
@@ -11,8 +9,7 @@ use Rattle.pg_entries.specs.declared.cell.Cell.TheVariants as cells
 use Rattle.pg_entries.specs.declared.entry.Entry.{Entry}
 use Rattle.pg_house.specs.Work.{is_root}
 use Rattle.pg_promises.proofs.Choices.{chosen, decided}
-use Rattle.pg_intent.specs.Intents.{aimed, ended, has_key}
-use Rattle.pg_intent.specs.declared.key.IntentKey.{IntentKey}
+use Rattle.pg_intent.specs.Intents.{aimed, ended}
 use Rattle.pg_intent.specs.declared.key.IntentKey.TheVariants as intent_key
 use Rattle.pg_msg.specs.declared.message.Ask.{Ask}
 use Rattle.pg_msg.specs.declared.message.Ends.{Ends}
@@ -20,8 +17,6 @@ use Rattle.pg_msg.specs.declared.message.Granted.{Granted}
 use Rattle.pg_msg.specs.declared.message.Message.{Message}
 use Rattle.pg_msg.specs.declared.message.Message.TheVariants as message
 use Rattle.pg_msg.specs.declared.work.Work.{Work}
-use Rattle.pg_msg.specs.Work.{new_work}
-use Rattle.pg_names.specs.declared.own.Own.{Own}
 use Rattle.pg_names.specs.Names.{is_dir, own_or_blank}
 use Rattle.pg_names.specs.Names as names
 use Rattle.pg_names.proofs.Lookups.{update_frame}
@@ -29,32 +24,35 @@ use Rattle.pg_register.specs.declared.place.Place.{Place}
 use Rattle.pg_register.specs.Place.{blank_place, root}
 use Rattle.pg_replica.specs.declared.replica.Replica.{Replica}
 use Rattle.pg_store.specs.declared.store.Store.{Store}
-use Rattle.pg_store.specs.declared.wishes.Wish.{Wish}
 use Rattle.pg_store.specs.Beginning.{with_intents}
 use Rattle.pg_store.specs.Births.{fill_at, has_birth, is_pending, wish_at, with_wishes}
 use Rattle.pg_store.specs.Links.{is_clean, knows_later}
 use Rattle.pg_store.specs.Servers.{next_target}
-use Rattle.pg_store.specs.Store.{acknowledge, is_full, is_held, replica_at, with_names}
-use Rattle.pg_store.specs.Wishes.{aim_wish, is_with_birth}
+use Rattle.pg_store.specs.Store.{is_full, is_held, replica_at, with_names}
+use Rattle.pg_store.specs.Wishes.{aim_wish}
 use Rattle.pg_cells.specs.declared.accepting.Manner.{Manner}
 use Rattle.pg_cells.specs.declared.accepting.Manner.TheVariants as manner
 use Rattle.pg_cells.specs.Accepting.{accept, is_accepted, is_answer, link_peer, met, with_gone}
 use Rattle.pg_cells.specs.Acks.{ack}
 use Rattle.pg_cells.specs.Cells.{cell as take_cell, fits, taken, taken_along}
-use Rattle.pg_cells.specs.Done.{Done, idle, link_of}
+use Rattle.pg_cells.specs.Done.{Done, idle}
 use Rattle.pg_cells.specs.Making.{raise_flag}
 use Rattle.pg_cells.specs.Posting.{reply}
 use Rattle.pg_cells.specs.Taking.{take_entry_noted, take_place_noted}
-use Rattle.pg_repair.specs.Confirming.{confirm, end_confirmed, is_confirmed, own_entry, place_is, place_told, confirmed, take_told_flags, take_told_place}
+use Rattle.pg_repair.specs.Confirming.{confirm, is_confirmed, own_entry, place_is, place_told, confirmed, take_told_flags, take_told_place}
 use Rattle.pg_repair.specs.Fetching.{answer_fetch, ends_to, fetch, give, given, granted_from, place_to_grant}
-use Rattle.pg_repair.specs.Filling.{few_golds, fill, full, live_golds, raise_if_few}
-use Rattle.pg_repair.specs.Granting.{aim_fill, begin_granted, begun_by, fill_asks, gone, grant, granted_own, no_grant, turn_fill, turn_wish, wish_asks}
-use Rattle.pg_repair.specs.NoneHere.{asking_key, does_ask, none_here, turn}
-use Rattle.pg_repair.specs.Telling.{end_told, is_told, tell, tell_ok, told}
+use Rattle.pg_repair.specs.Filling.{few_golds, fill, full, live_golds}
+use Rattle.pg_repair.specs.Granting.{aim_fill, begin_granted, begun_by, fill_asks, grant, granted_own, no_grant, turn_fill, turn_wish, wish_asks}
+use Rattle.pg_repair.specs.NoneHere.{asking_key, does_ask, none_here}
+use Rattle.pg_repair.specs.Telling.{is_told, tell, tell_ok, told}
 use Rattle.pg_intent.specs.Intents.{intent_at}
 use Rattle.pg_server.specs.Local.{receive}
-use Rattle.pg_places.proofs.Fine.{IsFine, OfCell, OfEntry, OfMessage, as_before, begin_fine, entry_cell_fine, entry_fine, fill_timed, flag_fine, flags_fine, intending, linked, place_fine, posted, raised_flag, same_drawn, unlinked, version_fine}
+use Rattle.pg_places.proofs.Begun.{begin_fine}
+use Rattle.pg_places.proofs.Messages.{OfCell, OfEntry, OfMessage}
+use Rattle.pg_places.proofs.Timed.{fill_timed}
+use Rattle.pg_places.proofs.Fine.{IsFine, as_before, entry_cell_fine, entry_fine, flag_fine, flags_fine, intending, linked, place_fine, posted, raised_flag, same_drawn, unlinked, version_fine}
 use Rattle.pg_places.proofs.Known.{aimed_is, filled_names, filter_is, or_is}
+use Rattle.pg_places.proofs.Walks.{seek_fine, walk_fine}
 use Rattle.std.specs.Prelude.{nat_lt}
 
 module _ (P : FileId → Place → Type 0) (blanks : (f : FileId) → is_same_file f root ≡ false → P f (blank_place f)) (s least : ℕ) where
@@ -230,8 +228,8 @@ module _ (P : FileId → Place → Type 0) (blanks : (f : FileId) → is_same_fi
   receive_fine (message.Grant ends granted) d apart of k = grant_fine ends granted d (apart ends.file ends.receiver) of k
   receive_fine (message.NoGrant file birth) d apart of k = no_grant_fine file birth d k
   receive_fine (message.Full ends) d apart of k = full_fine ends d k
-  receive_fine (message.Seek file birth) d apart of k = k
-  receive_fine (message.Here ends) d apart of k = k
+  receive_fine (message.Seek file birth) d apart of k = seek_fine P s least file birth d k
+  receive_fine (message.Here ends) d apart of k = accept_fine d ends manner.Link k
   receive_fine (message.NoneHere what file child) d apart of k = none_here_fine what file child d k
   receive_fine (message.Gone file birth) d apart of k = unlinked P s least d file d.work.from birth k
   receive_fine (message.Bye ends) d apart of k = k
@@ -243,5 +241,5 @@ module _ (P : FileId → Place → Type 0) (blanks : (f : FileId) → is_same_fi
   receive_fine (message.Leave ends stamp) d apart of k = k
   receive_fine (message.LeaveOk ends stamp) d apart of k = k
   receive_fine (message.Invite ends) d apart of k = k
-  receive_fine (message.Walk ends origin birth hops word) d apart of k = k
-  receive_fine (message.Meet ends) d apart of k = k
+  receive_fine (message.Walk ends origin birth hops word) d apart of k = walk_fine P s least ends origin birth hops word d (accept_fine d ends manner.Ask k) k
+  receive_fine (message.Meet ends) d apart of k = accept_fine d ends manner.Link k

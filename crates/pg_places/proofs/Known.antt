@@ -1,6 +1,6 @@
 -- What is known at a server: each place of a thing may stand. Each change of names and of intentions
 -- keeps it, where what comes may stand too.
-use Rattle.std.proofs.Common.{ℕ, ◌≡◌, max, Bool, true, false, cond, ◌&&◌, List, [], ◌∷◌, ◌++◌, Option, None, Some, filter, refl, sym, ap, subst, ◌∙◌, inl, inr, ◌⊎◌}
+use Rattle.std.proofs.Common.{ℕ, ◌≡◌, Bool, true, false, cond, ◌&&◌, List, [], ◌∷◌, ◌++◌, Option, None, Some, filter, refl, sym, ap, subst, ◌∙◌, inl, inr, ◌⊎◌}
 use Rattle.std.proofs.lemmas.Option.{none-some, same_Some}
 use Rattle.std.proofs.lemmas.Bool.{and_parts}
 use Rattle.pg_base.specs.declared.id.FileId.{FileId}
@@ -18,7 +18,7 @@ use Rattle.pg_intent.specs.declared.key.IntentKey.{IntentKey}
 use Rattle.pg_intent.specs.Intent.{aimed_at, key_of, rejoined}
 use Rattle.pg_intent.specs.Intents.{aimed, begun, changed, has_key, intent_at, stands}
 use Rattle.pg_names.specs.declared.own.Own.{Own}
-use Rattle.pg_names.specs.Names.{HeldValue, NamesValue, begin, cell_at, entry_in, fill, join_entry, join_flag, join_place, known, new_held, own_at, own_of, own_or_blank, or_blank, raise, with_flag, with_joined, with_place}
+use Rattle.pg_names.specs.Names.{NamesValue, begin, cell_at, entry_in, fill, join_entry, join_flag, join_place, known, new_held, own_at, own_of, own_or_blank, or_blank, raise, with_flag, with_joined, with_place}
 use Rattle.pg_names.proofs.Holding.{begun_known, fill_cells, fill_own}
 use Rattle.pg_names.proofs.Lookups.{flag_cell, flag_other, flag_same, joined_other_child, joined_other_dir, joined_own, joined_same, known_absent, own_with_flag, own_with_place, place_cell, place_other, place_same}
 use Rattle.pg_register.specs.declared.flag.Flag.{Flag}

@@ -1,6 +1,10 @@
 pub mod Origins
 pub mod Known
+pub mod Messages
+pub mod Timed
 pub mod Fine
+pub mod Begun
+pub mod Walks
 pub mod Handled
 pub mod Called
 pub mod Behind

@@ -1,5 +1,5 @@
 -- Of each stamp there is one place of a thing.
-use Rattle.std.proofs.Common.{ℕ, ◌≡◌, Bool, true, false, cond, List, [], ◌∷◌, Option, Some, refl, sym, ap, subst, ◌∙◌, inl, inr, ◌⊎◌, All, arith}
+use Rattle.std.proofs.Common.{ℕ, ◌≡◌, Bool, true, false, cond, List, [], ◌∷◌, Option, Some, refl, sym, ap, subst, ◌∙◌, inl, inr, All, arith}
 use Rattle.std.specs.Prelude.{Contains}
 use Rattle.std.proofs.lemmas.Bool.{and_parts, false≢true}
 use Rattle.std.proofs.lemmas.Option.{none-some, same_Some}
@@ -10,7 +10,6 @@ use Rattle.pg_base.proofs.Orders.{is_same_file-true}
 use Rattle.pg_entries.specs.declared.cell.Cell.{Cell}
 use Rattle.pg_entries.specs.declared.cell.Cell.TheVariants as cells
 use Rattle.pg_entries.specs.declared.entry.Entry.{Entry}
-use Rattle.pg_event.specs.declared.event.Event.{Event}
 use Rattle.pg_intent.specs.declared.intent.Intent.{Intent}
 use Rattle.pg_intent.specs.declared.intent.Intent.TheVariants as intent
 use Rattle.pg_intent.specs.declared.key.IntentKey.{IntentKey}
@@ -20,7 +19,6 @@ use Rattle.pg_msg.specs.declared.message.Message.{Message}
 use Rattle.pg_msg.specs.declared.message.Message.TheVariants as message
 use Rattle.pg_msg.specs.declared.message.Sent.{Sent}
 use Rattle.pg_register.specs.declared.place.Place.{Place}
-use Rattle.pg_register.specs.Laws.{IsOnePlace}
 use Rattle.pg_register.specs.Place.{root}
 use Rattle.pg_store.specs.declared.store.Store.{Store}
 use Rattle.pg_run.specs.Intending.{IntentionsAreInOrder}
@@ -29,7 +27,8 @@ use Rattle.pg_run.specs.Run.{World, run}
 use Rattle.pg_run.specs.Known.{PlacesHaveOwnStamps}
 use Rattle.pg_places.specs.Laws.{IsKnown, KnowsPlace, OneMadePlaceAStamp, OnePlaceAStamp, OwesPlace, PlacesWereMade, cell_tells, tells}
 use Rattle.pg_places.proofs.Origins.{IsFirstPlace, IsFrom, all_made, from_run, made_of, of_run}
-use Rattle.pg_places.proofs.Fine.{AreKnown, OfCell, OfMessage, OfSent}
+use Rattle.pg_places.proofs.Fine.{AreKnown}
+use Rattle.pg_places.proofs.Messages.{OfCell, OfMessage, OfSent}
 use Rattle.pg_places.proofs.Known.{found_is}
 use Rattle.pg_places.proofs.Worlds.{AllKnown, run_known}
 

@@ -1,24 +1,21 @@
 -- In every world that a run reaches each place that is known or told was made, or there from the start on,
 -- and no two that were made have one stamp.
-use Rattle.std.proofs.Common.{[], ℕ, ◌≡◌, ◌≢◌, ◌≤◌, ◌<◌, ◌&&◌, ◌||◌, not, Bool, true, false, cond, List, ◌∷◌, ◌++◌, Option, None, Some, is_some, refl, sym, ap, subst, ◌∙◌, inl, inr, ◌⊎◌, arith, All}
+use Rattle.std.proofs.Common.{[], ℕ, ◌≡◌, ◌≢◌, ◌≤◌, ◌&&◌, not, Bool, true, false, cond, List, ◌∷◌, ◌++◌, Option, None, Some, refl, sym, ap, subst, ◌∙◌, inl, inr, ◌⊎◌, arith, All}
 use Rattle.std.specs.Prelude.{nat_le}
 use Rattle.std.proofs.lemmas.Bool.{and_parts, false≢true, leb-true}
-use Rattle.std.proofs.lemmas.List.Elements.{All-append, All-cons, All-head, All-nil, All-tail}
+use Rattle.std.proofs.lemmas.List.Elements.{All-append, All-nil}
 use Rattle.std.proofs.lemmas.Option.{none-some, same_Some}
 use Rattle.pg_base.specs.declared.id.FileId.{FileId}
 use Rattle.pg_base.specs.declared.stamp.Stamp.{Stamp}
 use Rattle.pg_base.specs.Id.{is_same_file}
 use Rattle.pg_base.proofs.Orders.{is_same_file-refl, is_same_file-true}
 use Rattle.pg_calls.specs.Calls.{is_built}
-use Rattle.pg_entries.specs.declared.entry.Entry.{Entry}
 use Rattle.pg_event.specs.declared.event.Event.{Event}
 use Rattle.pg_event.specs.declared.event.Event.TheVariants.{Call as Called, Tick, Deliver, Lose, Repeat, Restart, Remove}
-use Rattle.pg_event.specs.declared.entry.Entry.{Entry as Told}
 use Rattle.pg_event.specs.declared.entry.VoidCause.{VoidCause}
 use Rattle.pg_event.specs.declared.entry.VoidCause.TheVariants.{NoMessage, NoServer, Unbuilt}
 use Rattle.pg_flood.specs.World.{after}
 use Rattle.pg_flood.proofs.Flood.{after_itself, here}
-use Rattle.pg_house.specs.Facts.{IsOneOf}
 use Rattle.pg_house.proofs.Noting.{one_front}
 use Rattle.pg_house.proofs.Truths.{or_cases}
 use Rattle.pg_msg.specs.declared.message.Sent.{Sent}
@@ -37,7 +34,7 @@ use Rattle.pg_store.specs.declared.store.Store.{Store}
 use Rattle.pg_store.specs.declared.wishes.Wish.{Wish}
 use Rattle.pg_store.specs.Births.{fill_at, is_fill_at, is_pending, wish_at}
 use Rattle.pg_store.specs.Start.{first_names, root_own}
-use Rattle.pg_store.specs.Store.{is_full, is_held}
+use Rattle.pg_store.specs.Store.{is_held}
 use Rattle.pg_store.specs.Wishes.{is_with_birth}
 use Rattle.pg_calls.proofs.Walked.{full_held}
 use Rattle.pg_run.specs.Intending.{HoldsBoth, IntentionsAreInOrder}
@@ -47,7 +44,9 @@ use Rattle.pg_run.proofs.Bags.{at_message}
 use Rattle.pg_run.proofs.Frame.{all_under_way}
 use Rattle.pg_places.proofs.Origins.{IsFrom, IsMade, all_made, one_behind, one_parts}
 use Rattle.pg_places.proofs.Effects.{Leaves, OfInput, effect_leaves, input_further}
-use Rattle.pg_places.proofs.Fine.{AreKnown, AreTimed, OfSent, UpTo, sent_further}
+use Rattle.pg_places.proofs.Fine.{AreKnown}
+use Rattle.pg_places.proofs.Messages.{OfSent, sent_further}
+use Rattle.pg_places.proofs.Timed.{AreTimed, UpTo}
 use Rattle.pg_places.proofs.Known.{AreNames, intents_further, names_further}
 
 -- ---- no replica of the root is to come

@@ -9,7 +9,6 @@ use Rattle.pg_register.specs.declared.flag.Flag.{Flag}
 use Rattle.pg_register.specs.declared.place.Place.{Place}
 use Rattle.pg_register.specs.Flag.{flag_of}
 use Rattle.pg_register.specs.Place.{root, tilde_name}
-use Rattle.pg_msg.specs.declared.message.Sent.{Sent}
 use Rattle.pg_msg.specs.declared.work.Touched.{Touched}
 use Rattle.pg_msg.specs.declared.update.Update.TheVariants as update
 use Rattle.pg_msg.specs.declared.work.Work.{Work}
@@ -27,13 +26,24 @@ use Rattle.pg_house.specs.Facts.{IsTold}
 use Rattle.pg_house.proofs.Told.{told}
 use Rattle.pg_promises.specs.Names.{IsToldBy}
 
-abbrev pub with_lists : Work → List Sent → List Touched → Work
-with_lists w sent ts = record w { sent = sent; touched = ts }
+-- what an event leaves of the work, but for what was made, touched and replaced
+pub record KeepsWork (v w : Work) : Type 0 where
+  pub now : w.now ≡ v.now
+  pub from : w.from ≡ v.from
+  pub sent : w.sent ≡ v.sent
+  pub linked : w.linked ≡ v.linked
+  pub unsure : w.unsure ≡ v.unsure
+  pub begun : w.begun ≡ v.begun
+  pub tail : w.tail ≡ v.tail
 
-module _ (p : List Touched) (sent : List Sent) where
-  -- these keys stand in front, and these messages are sent
+-- what the rules change of a second work, and of the first all the rest
+abbrev pub with_lists : Work → Work → List Touched → Work
+with_lists v w ts = record v { made = w.made; left = w.left; touched = ts }
+
+module _ (p : List Touched) (v : Work) where
+  -- these keys stand in front, and what the rules do not change is of this work
   abbrev work_behind : Work → Work
-  work_behind w = with_lists w sent (p ++ w.touched)
+  work_behind w = with_lists v w (p ++ w.touched)
 
   abbrev behind : State → State
   behind st = state_of st.names (work_behind st.work)
@@ -41,7 +51,7 @@ module _ (p : List Touched) (sent : List Sent) where
   -- ---- passing
 
   touched_by : (w : Work) (f : FileId) (k : Key) (t : Bool) → touched (work_behind w) f k t ≡ work_behind (touched w f k t)
-  touched_by w f k true = ap (with_lists w sent) (append_assoc p w.touched (record { file = f; key = k } ∷ []))
+  touched_by w f k true = ap (with_lists v w) (append_assoc p w.touched (record { file = f; key = k } ∷ []))
   touched_by w f k false = refl
 
   left_if : (t : Bool) (w : Work) (d f : FileId) → cond t (with_left (work_behind w) d f) (work_behind w) ≡ work_behind (cond t (with_left w d f) w)
@@ -52,19 +62,19 @@ module _ (p : List Touched) (sent : List Sent) where
   left_behind w f old = left_if (old.live && not (is_root f)) w old.parent f
 
   place_by : (w : Work) (f : FileId) (old : Place) (t : Bool) → place_touched (work_behind w) f old t ≡ work_behind (place_touched w f old t)
-  place_by w f old true = ap (λ v. note_left v f old) (touched_by w f key.Place true) ∙ left_behind (with_touched w f key.Place) f old
+  place_by w f old true = ap (λ u. note_left u f old) (touched_by w f key.Place true) ∙ left_behind (with_touched w f key.Place) f old
   place_by w f old false = refl
 
   flags_behind : (w : Work) (f : FileId) (held gs : List Flag) → flags_touched (work_behind w) f held gs ≡ work_behind (flags_touched w f held gs)
   flags_behind w f held [] = refl
   flags_behind w f held (g ∷ gs) =
       let t = is_other_flag (flag_of held g.server) g in
-      ap (λ v. flags_touched v f held gs) (touched_by w f (key.Flag g.server) t) ∙ flags_behind (touched w f (key.Flag g.server) t) f held gs
+      ap (λ u. flags_touched u f held gs) (touched_by w f (key.Flag g.server) t) ∙ flags_behind (touched w f (key.Flag g.server) t) f held gs
 
   own_behind : (w : Work) (f : FileId) (own taken : Own) → own_touched (work_behind w) f own taken ≡ work_behind (own_touched w f own taken)
   own_behind w f own taken =
       let t = not (is_same_place own.place taken.place) in
-      ap (λ v. flags_touched v f own.flags taken.flags) (place_by w f own.place t) ∙ flags_behind (place_touched w f own.place t) f own.flags taken.flags
+      ap (λ u. flags_touched u f own.flags taken.flags) (place_by w f own.place t) ∙ flags_behind (place_touched w f own.place t) f own.flags taken.flags
 
   given_behind : (st : State) (f : FileId) (top : Own) (d : FileId) → given (behind st) f top d ≡ behind (given st f top d)
   given_behind st f top d = ap (state_of (set_entry st.names d (cell_for f top))) (touched_by st.work d (key.Entry f) true)
@@ -106,7 +116,7 @@ module _ (p : List Touched) (sent : List Sent) where
       let work = with_made st.work (update.Place f place) in
       let old = place_at st.names f in
       ap (state_of (made_at st f place).names)
-      (ap (λ v. note_left v f old) (touched_by work f key.Place true) ∙ left_behind (with_touched work f key.Place) f old)
+      (ap (λ u. note_left u f old) (touched_by work f key.Place true) ∙ left_behind (with_touched work f key.Place) f old)
 
   placed_behind : (moment : ℕ) (ds : List FileId) (st : State) (f q : FileId) (name : List ℕ) → placed moment ds (behind st) f q name ≡ behind (placed moment ds st f q name)
   placed_behind moment ds st f q name =
@@ -138,24 +148,39 @@ module _ (p : List Touched) (sent : List Sent) where
 
 module _ (moment : ℕ) (names : NamesValue) (work : Work) where
   abbrev pub Alone : State
-  Alone = house moment (state_of names (with_lists work work.sent []))
+  Alone = house moment (state_of names (with_lists work work []))
 
-  starts : state_of names work ≡ behind work.touched work.sent (state_of names (with_lists work work.sent []))
-  starts = ap (λ ts. state_of names (with_lists work work.sent ts)) (sym (append-nil work.touched))
+  starts : state_of names work ≡ behind work.touched work (state_of names (with_lists work work []))
+  starts = ap (λ ts. state_of names (with_lists work work ts)) (sym (append-nil work.touched))
 
-  pub ends : house moment (state_of names work) ≡ behind work.touched work.sent Alone
-  ends = ap (house moment) starts ∙ house_behind work.touched work.sent moment (state_of names (with_lists work work.sent []))
+  pub ends : house moment (state_of names work) ≡ behind work.touched work Alone
+  ends = ap (house moment) starts ∙ house_behind work.touched work moment (state_of names (with_lists work work []))
 
   pub new_keys : drop (length work.touched) (house moment (state_of names work)).work.touched ≡ Alone.work.touched
   new_keys = ap (λ (s : State). drop (length work.touched) s.work.touched) ends ∙ drop-append_seam work.touched Alone.work.touched
 
   pub house_told : IsToldBy (drop (length work.touched) (house moment (state_of names work)).work.touched) names (house moment (state_of names work)).names
   house_told =
-      let all : IsTold names Alone.names Alone.work = told moment (state_of names (with_lists work work.sent [])) in
+      let all : IsTold names Alone.names Alone.work = told moment (state_of names (with_lists work work [])) in
       let P : List Touched → Type 0 = λ ts. IsToldBy ts names (house moment (state_of names work)).names in
       let Q : State → Type 0 = λ s. IsToldBy Alone.work.touched names s.names in
       subst P (sym new_keys) (subst Q (sym ends) (record { places = all.places; flags = all.flags; entries = all.cells }))
 
-  -- and they send nothing
+  -- and they change no other part of the work
+  pub house_work : KeepsWork work (house moment (state_of names work)).work
+  house_work = record {
+    now = ap (λ (s : State). s.work.now) ends;
+    from = ap (λ (s : State). s.work.from) ends;
+    sent = ap (λ (s : State). s.work.sent) ends;
+    linked = ap (λ (s : State). s.work.linked) ends;
+    unsure = ap (λ (s : State). s.work.unsure) ends;
+    begun = ap (λ (s : State). s.work.begun) ends;
+    tail = ap (λ (s : State). s.work.tail) ends;
+  }
+
+  -- so they send nothing
   pub house_sent : (house moment (state_of names work)).work.sent ≡ work.sent
-  house_sent = ap (λ (s : State). s.work.sent) ends
+  house_sent = house_work.sent
+
+  pub house_tail : (house moment (state_of names work)).work.tail ≡ work.tail
+  house_tail = house_work.tail

@@ -1,26 +1,35 @@
 -- The house rules at the end of an event.
-use Rattle.std.proofs.Common.{ℕ, ◌≡◌, List, drop, length, refl, sym, subst}
+use Rattle.std.proofs.Common.{ℕ, ◌≡◌, true, false, List, [], ◌∷◌, ◌++◌, drop, length, Option, None, Some, refl, sym, subst, ◌∙◌}
 use Rattle.pg_base.specs.declared.id.FileId.{FileId}
-use Rattle.pg_flood.proofs.Steps.{Steps}
+use Rattle.pg_edges.specs.declared.key.Key.TheVariants as key
+use Rattle.pg_flood.proofs.Steps.{Steps, Steps-refl, Steps-trans}
+use Rattle.pg_msg.specs.declared.update.Update.{Update}
+use Rattle.pg_msg.specs.declared.update.Update.TheVariants as update
 use Rattle.pg_msg.specs.declared.work.Touched.{Touched}
 use Rattle.pg_msg.specs.declared.work.Work.{Work}
-use Rattle.pg_names.specs.Names.{NamesValue, is_held}
+use Rattle.pg_names.specs.declared.own.Own.{Own}
+use Rattle.pg_names.specs.Names.{HeldValue, NamesValue, is_held, known, own_at, own_of}
 use Rattle.pg_house.specs.House.{house}
 use Rattle.pg_house.proofs.Ends as ends
 use Rattle.pg_house.proofs.Keys.{rules_keys}
 use Rattle.pg_house.specs.Work.{state_of}
 use Rattle.pg_store.specs.declared.store.Store.{Store}
-use Rattle.pg_store.specs.Store.{with_names}
-use Rattle.pg_cells.specs.Settling.{settle, touch_all}
+use Rattle.pg_store.specs.Births.{birth_of}
+use Rattle.pg_store.specs.Store.{is_newer_flag, with_names}
+use Rattle.pg_cells.specs.Golds.{is_goldless, is_goldless_held}
+use Rattle.pg_cells.specs.Making.{own_next, raise_flag}
+use Rattle.pg_cells.specs.Settling.{rules, settle, touch_all}
+use Rattle.pg_cells.proofs.Settled.{settle_keeps}
 use Rattle.pg_promises.specs.Seen.{cells}
 use Rattle.pg_promises.specs.Whole.{AreOrderly, IsWhole}
+use Rattle.pg_promises.proofs.Choices.{chosen}
 use Rattle.pg_promises.proofs.Growth.{SameNames-refl}
-use Rattle.pg_promises.proofs.Front.{house_sent, house_told}
+use Rattle.pg_promises.proofs.Front.{KeepsWork, house_told, house_work}
 use Rattle.pg_promises.proofs.Rules.{Keeps, house_keeps}
-use Rattle.pg_promises.proofs.Taking.{Grew, Took, grew_same, took_steps}
+use Rattle.pg_promises.proofs.Taking.{Grew, Took, flag_taken, grew_same, took_steps}
 use Rattle.pg_promises.proofs.Touching.{all_touched, same_names, touched_before, touched_behind}
 use Rattle.pg_promises.proofs.Together.{held_by_keys}
-use Rattle.pg_promises.proofs.Whole.{whole_names, whole_touches}
+use Rattle.pg_promises.proofs.Whole.{whole_flag, whole_names, whole_touches}
 
 -- names grew, and the keys that tell of it are touched after that
 pub took_all : (a : Store) (names : NamesValue) (ts : List Touched) → Grew ts a.names names → Took ts a (touch_all (with_names a names) ts)
@@ -64,16 +73,114 @@ module _ (n s : ℕ) (a : Store) (work : Work) (k : IsWhole n s a) where
   }
 
   -- THE HOUSE RULES RUN, and what they change is touched
-  pub settle_steps : Steps cells a (settle a work).store
-  settle_steps = took_steps Keys a (settle a work).store (took_all a Behind Keys behind_grew)
+  pub rules_steps : Steps cells a (rules a work).store
+  rules_steps = took_steps Keys a (rules a work).store (took_all a Behind Keys behind_grew)
 
-  -- they send nothing
-  pub settle_sent : (settle a work).work.sent ≡ work.sent
-  settle_sent = house_sent work.now a.names work
-
-  -- and hold just what was held
+  -- they hold just what was held
   held_same : (f : FileId) → is_held Behind f ≡ is_held a.names f
   held_same f = held_by_keys Behind a.names f (rules_keys work.now (state_of a.names work))
 
-  pub whole_settle : IsWhole n s (settle a work).store
-  whole_settle = whole_touches n s (with_names a Behind) Keys (whole_names n s a k Behind kept.server behind_orderly held_same)
+  pub whole_rules : IsWhole n s (rules a work).store
+  whole_rules = whole_touches n s (with_names a Behind) Keys (whole_names n s a k Behind kept.server behind_orderly held_same)
+
+-- ---- a flag is raised
+
+goldless_by : (removed : List ℕ) (server birth : ℕ) (o : Option HeldValue)
+    → is_goldless_held removed server birth o ≡ true → (own : Own) × (own_of o ≡ Some own)
+goldless_by removed server birth None h = absurd (let z : false ≡ true = h in cc)
+goldless_by removed server birth (Some x) h = (x.own, refl)
+
+-- what sees no gold is held
+pub goldless_own : (a : Store) (f : FileId) → is_goldless a f ≡ true
+    → (own : Own) × (own_at a.names f ≡ Some own)
+goldless_own a f h =
+    goldless_by a.names.removed a.names.server (birth_of a f) (known a.names f) h
+
+pub raised_steps : (a : Store) (f : FileId) (work : Work) → is_goldless a f ≡ true
+    → Steps cells a (raise_flag a f work).store
+raised_steps a f work h =
+    let own = goldless_own a f h in
+    let t = flag_taken a f own.0 own.1 (own_next a f true) in
+    took_steps t.keys a (raise_flag a f work).store t.took
+
+pub whole_raised : (n s : ℕ) (a : Store) (f : FileId) (work : Work) → IsWhole n s a
+    → IsWhole n s (raise_flag a f work).store
+whole_raised n s a f work k = whole_flag n s a k f (own_next a f true)
+
+-- ---- THE HOUSE RULES RUN, and what sees no gold becomes one
+
+record Goes (n s : ℕ) (a b : Store) : Type 0 where
+  pub steps : Steps cells a b
+  pub whole : IsWhole n s b
+
+module _ (n s : ℕ) (a : Store) where
+  ruling : (b : Store) (work : Work) → Goes n s a b → Goes n s a (rules b work).store
+  ruling b work g = record {
+    steps = Steps-trans cells g.steps (rules_steps n s b work g.whole);
+    whole = whole_rules n s b work g.whole;
+  }
+
+  raising : (b : Store) (f : FileId) (work : Work) → is_goldless b f ≡ true → Goes n s a b
+      → Goes n s a (raise_flag b f work).store
+  raising b f work h g = record {
+    steps = Steps-trans cells g.steps (raised_steps b f work h);
+    whole = whole_raised n s b f work g.whole;
+  }
+
+  settle_goes : (work : Work) → IsWhole n s a → Goes n s a (settle a work).store
+  settle_goes work k =
+      settle_keeps (λ b w. Goes n s a b) ruling raising a work
+      (record { steps = Steps-refl cells a; whole = k })
+
+  pub settle_steps : (work : Work) → IsWhole n s a → Steps cells a (settle a work).store
+  settle_steps work k = (settle_goes work k).steps
+
+  pub whole_settle : (work : Work) → IsWhole n s a → IsWhole n s (settle a work).store
+  whole_settle work k = (settle_goes work k).whole
+
+-- ---- what it leaves of the work
+
+as_made : (w : Work) (made : List Update) (ts : List Touched)
+    → KeepsWork w (record w { made = made; touched = ts })
+as_made w made ts = record {
+  now = refl;
+  from = refl;
+  sent = refl;
+  linked = refl;
+  unsure = refl;
+  begun = refl;
+  tail = refl;
+}
+
+work_further : (u v w : Work) → KeepsWork u v → KeepsWork v w → KeepsWork u w
+work_further u v w one two = record {
+  now = two.now ∙ one.now;
+  from = two.from ∙ one.from;
+  sent = two.sent ∙ one.sent;
+  linked = two.linked ∙ one.linked;
+  unsure = two.unsure ∙ one.unsure;
+  begun = two.begun ∙ one.begun;
+  tail = two.tail ∙ one.tail;
+}
+
+pub raised_work : (b : Store) (f : FileId) (w : Work) → KeepsWork w (raise_flag b f w).work
+raised_work b f w =
+    let flag = own_next b f true in
+    let made = w.made ++ update.Flag f flag ∷ [] in
+    let ts = w.touched ++ record { file = f; key = key.Flag flag.server } ∷ [] in
+    chosen (KeepsWork w) (is_newer_flag b f flag) (record w { made = made; touched = ts })
+    (record w { made = made }) (as_made w made ts) (as_made w made w.touched)
+
+-- settling sends nothing
+pub settle_work : (a : Store) (work : Work) → KeepsWork work (settle a work).work
+settle_work a work =
+    settle_keeps (λ b w. KeepsWork work w)
+    (λ b w h. work_further work w (rules b w).work h (house_work w.now b.names w))
+    (λ b f w is h. work_further work w (raise_flag b f w).work h (raised_work b f w)) a work
+    (as_made work work.made work.touched)
+
+pub settle_sent : (a : Store) (work : Work) → (settle a work).work.sent ≡ work.sent
+settle_sent a work = (settle_work a work).sent
+
+pub settle_tail : (a : Store) (work : Work) → (settle a work).work.tail ≡ work.tail
+settle_tail a work = (settle_work a work).tail

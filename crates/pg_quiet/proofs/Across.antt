@@ -1,9 +1,6 @@
 -- Where a server owes nothing, each server to which it has an edge for a thing holds what it holds of that thing, or more.
-use Rattle.std.proofs.Common.{[], ℕ, ◌≡◌, ◌==◌, ◌≤◌, ◌<◌, Bool, true, false, cond, List, ◌∷◌, Option, None, Some, refl, sym, ap, subst, ◌∙◌, All, length, get_or, zero, suc, arith}
+use Rattle.std.proofs.Common.{[], ℕ, ◌≡◌, Bool, List, ◌∷◌, Option, None, Some, refl, sym, ap, subst, ◌∙◌, All}
 use Rattle.std.specs.List.{IsAmong, flat_map}
-use Rattle.std.specs.Option.{is_some}
-use Rattle.std.proofs.lemmas.Bool.{eqb-true, false≢true}
-use Rattle.std.proofs.lemmas.Option.{none-some, same_Some}
 use Rattle.std.proofs.lemmas.List.Elements.{All-nil, All-cons, All-weaker}
 use Rattle.pg_base.specs.declared.id.FileId.{FileId}
 use Rattle.pg_base.specs.Version.{VersionValue}
@@ -12,7 +9,6 @@ use Rattle.pg_content.specs.StandsFor.{InStrictOrder}
 use Rattle.pg_edges.specs.declared.edge.Edge.{Edge}
 use Rattle.pg_edges.specs.declared.key.Key.{Key}
 use Rattle.pg_edges.specs.declared.key.Key.TheVariants as key
-use Rattle.pg_edges.specs.Edges.{edge_to, is_listed, keys_if_born}
 use Rattle.pg_edges.specs.Keys.{tag_in}
 use Rattle.pg_flood.specs.Server.{Holds, HoldsAll}
 use Rattle.pg_flood.proofs.Servers.{some_same}
@@ -38,46 +34,13 @@ use Rattle.pg_promises.proofs.Choices.{found_replica}
 use Rattle.pg_promises.proofs.Sending.{own_key}
 use Rattle.pg_run.specs.Acknowledged.{IsHadThere}
 use Rattle.pg_run.specs.Graphs.{HasEdge}
-use Rattle.pg_run.specs.Laws.{AtEach}
 use Rattle.pg_run.specs.Run.{World}
+use Rattle.pg_run.proofs.Found.{IsEdgeTo, listed_edge}
 use Rattle.pg_run.proofs.QuietAnswers.{both_empty, map_empty}
-
--- ---- members by index
-
-here_among : {A : Type 0} (x : A) (xs : List A) → IsAmong (x ∷ xs) x
-here_among x xs = (zero, (omega arith, refl))
-
-further_among : {A : Type 0} (x y : A) (xs : List A) → IsAmong xs y → IsAmong (x ∷ xs) y
-further_among x y xs k = let lt = k.1.0 in (suc k.0, (omega arith, k.1.1))
 
 -- what holds of all holds of a member
 of_member : {A : Type 0} (P : A → Type 0) (xs : List A) (x : A) → All P xs → IsAmong xs x → P x
 of_member P xs x h k = subst P (sym k.1.1) (h k.0 x k.1.0)
-
--- ---- an edge that is listed
-
--- the edge to a peer, and that it names this birth
-pub record IsEdgeTo (es : List Edge) (peer birth : ℕ) : Type 0 where
-  pub edge : Edge
-  pub among : IsAmong es edge
-  pub to : edge.peer ≡ peer
-  pub born : edge.birth ≡ birth
-
-edge_at : (e : Edge) (es : List Edge) (peer birth : ℕ) (t : Bool) → (e.peer == peer) ≡ t
-    → (is_some (keys_if_born (edge_to es peer) birth) ≡ true → IsEdgeTo es peer birth)
-    → is_some (keys_if_born (cond t (Some e) (edge_to es peer)) birth) ≡ true → IsEdgeTo (e ∷ es) peer birth
-edge_at e es peer birth true is rest h = by (e.birth == birth) refl h
-  where
-    by : (u : Bool) → (e.birth == birth) ≡ u → is_some (cond u (Some e.keys) None) ≡ true → IsEdgeTo (e ∷ es) peer birth
-    by true same k = record { edge = e; among = here_among e es; to = eqb-true e.peer peer is; born = eqb-true e.birth birth same }
-    by false same k = absurd (false≢true k)
-edge_at e es peer birth false is rest h =
-    let k = rest h in
-    record { edge = k.edge; among = further_among e k.edge es k.among; to = k.to; born = k.born }
-
-pub listed_edge : (es : List Edge) (peer birth : ℕ) → is_listed es peer birth ≡ true → IsEdgeTo es peer birth
-listed_edge [] peer birth h = absurd (false≢true h)
-listed_edge (e ∷ es) peer birth h = edge_at e es peer birth (e.peer == peer) refl (listed_edge es peer birth) h
 
 -- ---- where nothing is owed
 

@@ -1,7 +1,6 @@
 -- Wherever no message is under way and nothing is owed, servers that are joined for a thing hold the same of it.
-use Rattle.std.proofs.Common.{[], ℕ, ◌≡◌, ◌≢◌, ◌≤◌, ◌==◌, Bool, true, false, cond, List, ◌∷◌, Option, None, Some, is_some, refl, sym, ap, subst, ◌∙◌, inl, inr}
-use Rattle.std.proofs.lemmas.Bool.{eqb-true, false≢true}
-use Rattle.std.proofs.lemmas.Option.{none-some, same_Some}
+use Rattle.std.proofs.Common.{[], ℕ, ◌≡◌, ◌≤◌, true, List, ◌∷◌, Option, None, Some, is_some, refl, sym, ap, subst, ◌∙◌}
+use Rattle.std.proofs.lemmas.Bool.{false≢true}
 use Rattle.pg_base.specs.declared.id.FileId.{FileId}
 use Rattle.pg_content.specs.Content.{Among, ContentValue}
 use Rattle.pg_content.specs.Covering.{AreCoveredBy}
@@ -13,7 +12,7 @@ use Rattle.pg_names.specs.declared.own.Own.{Own}
 use Rattle.pg_names.specs.Names.{HeldValue, cell_at, known, or_blank, own_at, own_of, own_or_blank}
 use Rattle.pg_names.proofs.Alike.{own_of_parts}
 use Rattle.pg_register.specs.declared.flag.Flag.{Flag}
-use Rattle.pg_register.specs.Flag.{IsByServer, flag_of}
+use Rattle.pg_register.specs.Flag.{flag_of}
 use Rattle.pg_register.specs.Laws.{IsOneFlag}
 use Rattle.pg_replica.specs.declared.replica.Replica.{Replica}
 use Rattle.pg_replica.specs.Replicas.{or_nothing}
@@ -21,13 +20,14 @@ use Rattle.pg_store.specs.declared.store.Store.{Store}
 use Rattle.pg_store.specs.Store.{content_of, replica_at}
 use Rattle.pg_promises.specs.UpTo.{AreFlagsUpTo, IsPlaceUpTo}
 use Rattle.pg_promises.specs.Whole.{IsOther, IsWhole}
-use Rattle.pg_run.specs.Graphs.{AreJoined, HasEdge, Holds, IsChain}
+use Rattle.pg_run.specs.Graphs.{AreJoined, HasEdge, IsChain}
 use Rattle.pg_run.specs.Journal.{versions}
 use Rattle.pg_run.specs.Known.{AreTold, IsFlagOf, IsStoreTold, of_run}
 use Rattle.pg_run.specs.Laws.{content_taken}
 use Rattle.pg_run.specs.Quiet.{IsQuiet}
 use Rattle.pg_run.specs.Run.{World, run}
 use Rattle.pg_run.specs.State.{versions_taken}
+use Rattle.pg_run.proofs.Found.{flag_found}
 use Rattle.pg_quiet.specs.Given.{AgreementIsGiven}
 use Rattle.pg_quiet.specs.Laws.{HoldTheSame, QuietStoresAgree}
 use Rattle.pg_quiet.proofs.Across.{entries_up, flags_up, heads_up, peer_is, place_up}
@@ -46,18 +46,7 @@ held_own n s a file x whole is =
     let h = own_by (known a.names file) (sym (whole.together file) ∙ ap is_some is) in
     (h.0.own, ap own_of h.1)
 
--- ---- flags
-
-found_at : (f : Flag) (fs : List Flag) (m : ℕ) (g : Flag) (t : Bool) → (f.server == m) ≡ t
-    → (flag_of fs m ≡ Some g → Among g fs × (g.server ≡ m)) → cond t (Some f) (flag_of fs m) ≡ Some g → Among g (f ∷ fs) × (g.server ≡ m)
-found_at f fs m g true is rest h =
-    let same : f ≡ g = same_Some f g h in
-    (inl (sym same), ap (λ (x : Flag). x.server) (sym same) ∙ eqb-true f.server m is)
-found_at f fs m g false is rest h = let k = rest h in (inr k.0, k.1)
-
-flag_found : (fs : List Flag) (m : ℕ) (g : Flag) → flag_of fs m ≡ Some g → Among g fs × (g.server ≡ m)
-flag_found [] m g h = absurd (none-some g h)
-flag_found (f ∷ fs) m g h = found_at f fs m g (f.server == m) refl (flag_found fs m g) h
+-- ---- servers that are joined
 
 module _ (n : ℕ) (g : AgreementIsGiven n) (events : List Event) (quiet : IsQuiet n (run n events)) (file : FileId) where
   abbrev W : World
@@ -66,22 +55,13 @@ module _ (n : ℕ) (g : AgreementIsGiven n) (events : List Event) (quiet : IsQui
   abbrev A : ℕ → Store
   A s = W.stores s
 
-  -- two flags of a server, of one thing, are one: it holds the thing, with that flag
-  one_flag : (thing : FileId) (f h : Flag) → IsFlagOf n W thing f → IsFlagOf n W thing h → f.server ≡ h.server → f ≡ h
-  one_flag thing f h a b same =
-      let x = g.flags events thing f a in
-      let y = g.flags events thing h b in
-      let P : ℕ → Type 0 = λ m. own_at (A m).names thing ≡ Some y.0 in
-      let Q : ℕ → Type 0 = λ m. flag_of y.0.flags m ≡ Some h in
-      let own : x.0 ≡ y.0 = same_Some x.0 y.0 (sym x.1 ∙ subst P (sym same) y.1) in
-      same_Some f h (sym x.2 ∙ ap (λ (o : Own). flag_of o.flags f.server) own ∙ subst Q (sym same) y.2)
-
+  -- two flags of a thing that have one server, birth and number are one
   flags_one : (thing : FileId) (fs hs : List Flag) → ((f : Flag) → Among f fs → IsFlagOf n W thing f)
       → ((f : Flag) → Among f hs → IsFlagOf n W thing f) → (m : ℕ) → IsOneFlag (flag_of fs m) (flag_of hs m)
   flags_one thing fs hs a b m f h i j birth number =
       let x = flag_found fs m f i in
       let y = flag_found hs m h j in
-      one_flag thing f h (a f x.0) (b h y.0) (x.1 ∙ sym y.1)
+      g.flags events thing f h (a f x.0) (b h y.0) (x.1 ∙ sym y.1) birth number
 
   module _ (s t : ℕ) (ls : 1 ≤ s) (ms : s ≤ n) (lt : 1 ≤ t) (mt : t ≤ n) (there : HasEdge W file s t) (back : HasEdge W file t s) where
     first : IsStoreTold (of_run n W) (A s)

@@ -1,6 +1,6 @@
 -- What is known of a quiet world whose things are connected: each server, and that servers which hold a thing hold the
 -- same of it.
-use Rattle.std.proofs.Common.{ℕ, ◌≡◌, ◌≤◌, ◌⊎◌, Bool, true, false, List, [], Option, None, Some, is_some, refl, sym, ap, subst, ◌∙◌, inl, inr}
+use Rattle.std.proofs.Common.{ℕ, ◌≡◌, ◌≤◌, Bool, true, false, List, [], Option, None, Some, is_some, refl, sym, ap, subst, ◌∙◌, inl, inr}
 use Rattle.std.proofs.lemmas.Bool.{false≢true}
 use Rattle.pg_base.specs.declared.id.FileId.{FileId}
 use Rattle.pg_base.specs.Id.{is_same_file}
@@ -12,7 +12,7 @@ use Rattle.pg_names.specs.Names.{HeldValue, NamesValue, is_full_of, known, own_a
 use Rattle.pg_register.specs.Place.{root}
 use Rattle.pg_replica.specs.declared.replica.Replica.{Replica}
 use Rattle.pg_store.specs.declared.store.Store.{Store}
-use Rattle.pg_store.specs.Store.{is_full, is_held, replica_at}
+use Rattle.pg_store.specs.Store.{is_full, replica_at}
 use Rattle.pg_promises.specs.Whole.{IsWhole}
 use Rattle.pg_run.specs.Graphs.{AreConnected, Holds}
 use Rattle.pg_run.specs.Intending.{IntendsInOrder}

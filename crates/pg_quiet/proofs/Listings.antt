@@ -1,5 +1,5 @@
 -- Where a run is quiet and its things are connected, each thing is listed where it stands, and nowhere else.
-use Rattle.std.proofs.Common.{ℕ, ◌≡◌, ◌≢◌, ◌≤◌, ◌⊎◌, Bool, true, false, Option, None, Some, refl, sym, ap, subst, ◌∙◌, inl, inr, arith}
+use Rattle.std.proofs.Common.{ℕ, ◌≡◌, ◌≢◌, ◌≤◌, Bool, true, false, Option, None, Some, refl, sym, ap, subst, ◌∙◌, arith}
 use Rattle.std.proofs.lemmas.Bool.{false≢true}
 use Rattle.std.proofs.lemmas.Bool.Decides.{nat_tests}
 use Rattle.std.proofs.lemmas.Option.{none-some, same_Some}
@@ -9,27 +9,24 @@ use Rattle.pg_base.specs.Id.{is_same_file}
 use Rattle.pg_base.specs.Stamp.{is_before}
 use Rattle.pg_base.proofs.Orders.{is_same_file-refl, is_same_file-true}
 use Rattle.pg_entries.specs.declared.entry.Entry.{Entry}
-use Rattle.pg_entries.specs.Entry.{is_listed}
 use Rattle.pg_intent.specs.declared.key.IntentKey.TheVariants as intent_key
 use Rattle.pg_intent.specs.Intents.{intent_at}
 use Rattle.pg_listing.specs.Laws as listing_laws
 use Rattle.pg_listing.specs.Promises.{Kept}
 use Rattle.pg_listing.specs.Protocol.{IsOrdered}
 use Rattle.pg_listing.specs.Protocol as protocol
-use Rattle.pg_listing.specs.Rule as rule
 use Rattle.pg_listing.proofs.Quiet.{quiet_lists}
 use Rattle.pg_names.specs.declared.own.Own.{Own}
-use Rattle.pg_names.specs.Names.{NamesValue, cell_at, is_dir, or_blank, own_at}
+use Rattle.pg_names.specs.Names.{cell_at, is_dir, or_blank, own_at}
 use Rattle.pg_register.specs.declared.place.Place.{Place}
 use Rattle.pg_register.specs.Place.{root}
-use Rattle.pg_house.proofs.Truths.{and_true, before_itself, both_true}
+use Rattle.pg_house.proofs.Truths.{and_true, before_itself}
 use Rattle.pg_settled.specs.Listing.{cell_place, own_place}
-use Rattle.pg_store.specs.declared.store.Store.{Store}
 use Rattle.pg_run.specs.Laws.{IsListedOnly, Lists, Stands}
 use Rattle.pg_run.specs.Run.{World, is_server}
 use Rattle.pg_listed.specs.Letters.{listings, of_stores, patch_place}
 use Rattle.pg_quiet.proofs.Facts.{Facts, holds_of, no_intents, none_stands}
-use Rattle.pg_quiet.proofs.Standing.{cell_of_own, parent_cell, parent_dir, parent_held}
+use Rattle.pg_quiet.proofs.Standing.{cell_of_own, parent_cell, parent_held}
 
 -- ---- stamps, and servers
 

@@ -1,10 +1,10 @@
 -- Wherever a run is quiet servers agree, where what they hold is what they took; and their names form a tree.
-use Rattle.std.proofs.Common.{[], ℕ, ◌≡◌, ◌≤◌, List, ◌∷◌, Option, Some, refl, sym, ap, subst, ◌∙◌, inl, inr}
+use Rattle.std.proofs.Common.{[], ℕ, ◌≡◌, List, ◌∷◌, Option, refl, sym, ap, subst, ◌∙◌, inl, inr}
 use Rattle.pg_base.specs.declared.id.FileId.{FileId}
 use Rattle.pg_replica.specs.declared.replica.Replica.{Replica}
 use Rattle.pg_replica.specs.Replicas.{or_nothing}
-use Rattle.pg_store.specs.Store.{content_of, replica_at}
-use Rattle.pg_run.specs.Graphs.{AreJoined, Holds, IsChain}
+use Rattle.pg_store.specs.Store.{content_of}
+use Rattle.pg_run.specs.Graphs.{Holds, IsChain}
 use Rattle.pg_run.specs.Laws.{Agree, HoldsWhatItTook, NamesMerge, QuietDirectoriesAreBroughtBack, QuietJoinedServersAgree, QuietNamesFormATree, QuietServersAgree, QuietThingsAreListedOnlyWhereTheyStand, content_taken}
 use Rattle.pg_run.specs.Run.{World, run}
 use Rattle.pg_quiet.specs.Given.{TreeIsGiven}

@@ -17,7 +17,7 @@ use Rattle.std.specs.Prelude.{false, length}
 use Rattle.pg_run.specs.Acknowledged.{AcknowledgedKeysAreHad}
 use Rattle.pg_run.specs.Histories.{MakesHistories, StateIsItsHeads}
 use Rattle.pg_run.specs.Intending.{IntentionsAreInOrder}
-use Rattle.pg_run.specs.Known.{CarriedIsKnown, FlagsAreOwn, PlacesHaveOwnStamps}
+use Rattle.pg_run.specs.Known.{CarriedIsKnown, FlagsHaveOwnNumbers, PlacesHaveOwnStamps}
 use Rattle.pg_run.specs.Laws.{AtEach, HoldsWhatItTook, HouseIsInOrder, ShowsDistinctNames, names_after, store_after}
 use Rattle.pg_listed.specs.Laws.{ListingsAreKept}
 
@@ -26,13 +26,13 @@ abbrev pub ServersAreWhole : ℕ → Type 0
 ServersAreWhole servers = (events : List Event)
     → AtEach servers (λ s. IsWhole servers s (store_after servers events s))
 
--- for agreement: what is acknowledged is there, one stamp is one place, one server's flags are its
--- own, and contents are what was taken
+-- for agreement: what is acknowledged is there, one stamp is one place, one birth and number of a
+-- server is one flag, and contents are what was taken
 pub record AgreementIsGiven (servers : ℕ) : Type 0 where
   pub acknowledged : AcknowledgedKeysAreHad servers
   pub known : CarriedIsKnown servers
   pub stamps : PlacesHaveOwnStamps servers
-  pub flags : FlagsAreOwn servers
+  pub flags : FlagsHaveOwnNumbers servers
   pub whole : ServersAreWhole servers
   pub histories : MakesHistories servers
   pub heads : StateIsItsHeads servers

@@ -1,6 +1,7 @@
 -- Where nothing is left to do, the end of an event leaves all as it is.
 use Rattle.std.proofs.Common.{◌≡◌, Bool, true, false, cond, List, [], ◌∷◌, filter, is_some, refl, sym, ap, ◌∙◌}
 use Rattle.std.specs.List.{AllByRecursion, list_any}
+use Rattle.std.specs.Map.{keys_of}
 use Rattle.std.proofs.lemmas.Bool.{false≢true}
 use Rattle.pg_base.specs.declared.id.FileId.{FileId}
 use Rattle.pg_base.specs.Id.{is_same_file}
@@ -19,16 +20,18 @@ use Rattle.pg_names.specs.Names.{NamesValue}
 use Rattle.pg_store.specs.declared.store.Store.{Store}
 use Rattle.pg_store.specs.Beginning.{with_intents}
 use Rattle.pg_store.specs.Births.{fill_at}
-use Rattle.pg_cells.specs.Done.{idle}
-use Rattle.pg_repair.specs.Beginning.{begin_end, confirms_after, end_others, fills_after, still_stands}
+use Rattle.pg_cells.specs.Done.{Done, idle}
+use Rattle.pg_repair.specs.Beginning.{begin_end, confirms_after, end_others, fills_after, seeks_after, still_stands}
 use Rattle.pg_repair.specs.Confirms.{begin_confirm, is_doubtful}
 use Rattle.pg_repair.specs.Fills.{files_to_fill, is_in, to_fill}
 use Rattle.pg_repair.specs.Intending.{each, in_order}
 use Rattle.pg_repair.specs.Needed.{LeavesNothing}
 use Rattle.pg_repair.specs.Patches.{begin_patch, begin_patches}
+use Rattle.pg_graph.specs.Seeks.{has_seek, is_seeking, to_seek}
 use Rattle.pg_repair.proofs.Needs.{first_true, second_true}
+use Rattle.pg_repair.proofs.Sought.{has_its_seek, seeks_moved}
 use Rattle.pg_repair.proofs.Standing.{among, confirmed_in_doubt, has_its_fill, moved}
-use Rattle.pg_repair.proofs.Steady.{HaveFills, begin_end_stays, fills_idle}
+use Rattle.pg_repair.proofs.Steady.{HaveFills, HaveSeeks, begin_end_stays, fills_idle, seeks_idle}
 
 -- ---- all of a list pass
 
@@ -51,10 +54,14 @@ FillsFit a = (file : FileId) → is_some (fill_at a file) ≡ is_in (files_to_fi
 abbrev pub ConfirmsFit : Store → Type 0
 ConfirmsFit a = (dir child : FileId) → is_some (intent_at a.intents (intent_key.Confirm dir child)) ≡ true → is_doubtful a dir child ≡ true
 
-module _ (a : Store) (fills : FillsFit a) (confirms : ConfirmsFit a) where
+-- Seeks stand of just what seeks
+abbrev pub SeeksFit : Store → Type 0
+SeeksFit a = (file : FileId) → has_seek a file ≡ is_seeking a file
+
+module _ (a : Store) (fills : FillsFit a) (seeks : SeeksFit a) (confirms : ConfirmsFit a) where
   each_stands : (i : Intent) → stands a.intents (key_of i) ≡ true → still_stands a (files_to_fill a.names) i ≡ true
   each_stands (intent.Bye file birth peer peer_birth) h = refl
-  each_stands (intent.Seek file target) h = refl
+  each_stands (intent.Seek file target) h = sym (seeks file) ∙ h
   each_stands (intent.Fill file birth target) h = sym (fills file) ∙ sym (stands_is a.intents (intent_key.Fill file)) ∙ h
   each_stands (intent.Patch dir entry target) h = refl
   each_stands (intent.Confirm dir child target) h = confirms dir child (sym (stands_is a.intents (intent_key.Confirm dir child)) ∙ h)
@@ -81,15 +88,24 @@ module _ (a : Store) (fills : FillsFit a) (confirms : ConfirmsFit a) where
       all_filled (to_fill a.names)
       (λ (f : FileId) (h : list_any (is_same_file f) (to_fill a.names) ≡ true). fills f ∙ sym (among f (files_to_fill a.names)) ∙ h)
 
+  sought_by : (file : FileId) (rest : List FileId) (t : Bool) → is_seeking a file ≡ t → HaveSeeks a rest → HaveSeeks a (cond t (file ∷ rest) rest)
+  sought_by file rest true h have = (seeks file ∙ h, have)
+  sought_by file rest false h have = have
+
+  have_seeks : (files : List FileId) → HaveSeeks a (filter (is_seeking a) files)
+  have_seeks [] = tt
+  have_seeks (file ∷ files) = sought_by file (filter (is_seeking a) files) (is_seeking a file) refl (have_seeks files)
+
   none_ends : end_others a (files_to_fill a.names) ≡ a
   none_ends = ap (with_intents a) (all_kept (still_stands a (files_to_fill a.names)) a.intents (all_stand a.intents (λ (k : IntentKey) (h : stands a.intents k ≡ true). h)))
 
-  -- no slot was noted: nothing ends or begins
-  pub nothing_to_do : (w : Work) → w.left ≡ [] → w.unsure ≡ [] → begin_end a w ≡ idle a w
-  nothing_to_do w left unsure =
-      ap (λ (s : Store). confirms_after (fills_after (to_fill a.names) (begin_patches s w))) none_ends
-      ∙ ap (λ (ss : List Slot). confirms_after (fills_after (to_fill a.names) (each begin_patch a (in_order ss) w))) left
-      ∙ ap confirms_after (fills_idle a w (to_fill a.names) have_fills)
+  -- no slot and no edge was noted: nothing ends or begins
+  pub nothing_to_do : (w : Work) → w.left ≡ [] → w.unsure ≡ [] → w.linked ≡ [] → begin_end a w ≡ idle a w
+  nothing_to_do w left unsure linked =
+      ap (λ (s : Store). confirms_after (seeks_after (to_seek a) (fills_after (to_fill a.names) (begin_patches s w)))) none_ends
+      ∙ ap (λ (ss : List Slot). confirms_after (seeks_after (to_seek a) (fills_after (to_fill a.names) (each begin_patch a (in_order ss) w)))) left
+      ∙ ap (λ (d : Done). confirms_after (seeks_after (to_seek a) d)) (fills_idle a w (to_fill a.names) have_fills)
+      ∙ ap confirms_after (seeks_idle a w (to_seek a) (have_seeks (keys_of a.names.held)) linked)
       ∙ ap (λ (ss : List Slot). each begin_confirm a (in_order ss) w) unsure
 
 -- ---- behind the end of an event
@@ -97,9 +113,14 @@ module _ (a : Store) (fills : FillsFit a) (confirms : ConfirmsFit a) where
 pub fills_fit : (s : Store) (w : Work) → FillsFit (begin_end s w).store
 fills_fit s w file = has_its_fill s w file ∙ ap (λ (n : NamesValue). is_in (files_to_fill n) file) (sym (begin_end_stays s w).names)
 
+pub seeks_fit : (s : Store) (w : Work) → SeeksFit (begin_end s w).store
+seeks_fit s w file =
+    has_its_seek s w file
+    ∙ sym (seeks_moved file s (begin_end s w).store (begin_end_stays s w).names (begin_end_stays s w).replicas)
+
 pub confirms_fit : (s : Store) (w : Work) → ConfirmsFit (begin_end s w).store
 confirms_fit s w dir child = λ there.
     moved dir child s (begin_end s w).store (begin_end_stays s w).names ∙ confirmed_in_doubt s w dir child there
 
 pub leaves_nothing : (s : Store) (w : Work) → LeavesNothing s w
-leaves_nothing s w later = nothing_to_do (begin_end s w).store (fills_fit s w) (confirms_fit s w) later
+leaves_nothing s w later = nothing_to_do (begin_end s w).store (fills_fit s w) (seeks_fit s w) (confirms_fit s w) later

@@ -4,5 +4,6 @@ mod Filled
 pub mod Needs
 pub mod Steady
 pub mod Standing
+pub mod Sought
 pub mod Patched
 pub mod Idle

@@ -38,8 +38,9 @@ use Rattle.pg_repair.specs.Fills.{begin_fill, begin_fills, files_to_fill, to_fil
 use Rattle.pg_repair.specs.Intending.{Slots, add_slots, begin_intent, each, in_order}
 use Rattle.pg_repair.specs.Needed.{IsPatched}
 use Rattle.pg_repair.specs.Patches.{begin_patch, begin_patches, is_slot, patch_again, patch_of, was_left}
+use Rattle.pg_graph.specs.Seeks.{begin_seek, begin_seeks, to_seek}
 use Rattle.pg_repair.proofs.Needs.{either_in, turned}
-use Rattle.pg_repair.proofs.Standing.{begun_other, confirm_at, each_at, either_at, fill_other, filtered}
+use Rattle.pg_repair.proofs.Standing.{begun_other, confirm_at, each_at, either_at, fill_other, filtered, seek_other}
 use Rattle.pg_repair.proofs.Steady.{patch_stays}
 
 -- ---- slots in order stand once
@@ -205,7 +206,7 @@ module _ (d c : FileId) where
   -- no Patch ends here
   tested : (s : Store) (files : Files) (i : Intent) → has_key key i ≡ true → still_stands s files i ≡ true
   tested s files (intent.Bye file birth peer peer_birth) h = refl
-  tested s files (intent.Seek file target) h = refl
+  tested s files (intent.Seek file target) h = absurd (false≢true h)
   tested s files (intent.Fill file birth target) h = absurd (false≢true h)
   tested s files (intent.Patch dir entry target) h = refl
   tested s files (intent.Confirm dir child target) h = absurd (false≢true h)
@@ -220,7 +221,9 @@ module _ (d c : FileId) where
   behind_at s w =
       let p = begin_patches (end_others s (files_to_fill s.names)) w in
       let q = begin_fills p.store (to_fill s.names) p.work in
-      each_at begin_confirm key (confirm_at key (λ a b. refl)) (in_order q.work.unsure) q.store q.work
+      let r = begin_seeks q.store (to_seek s) q.work in
+      each_at begin_confirm key (confirm_at key (λ a b. refl)) (in_order r.work.unsure) r.store r.work
+      ∙ each_at begin_seek key (seek_other key (λ a. refl)) (to_seek s) q.store q.work
       ∙ each_at begin_fill key (fill_other key (λ a. refl)) (to_fill s.names) p.store p.work
 
   -- a live place of the child in the directory was replaced, and the directory is not held

@@ -3,6 +3,7 @@ use Rattle.std.proofs.Common.{◌≡◌, Bool, true, false, cond, ◌&&◌, ◌|
 use Rattle.std.specs.BTreeMap.{is_at}
 use Rattle.std.specs.List.{list_any}
 use Rattle.std.specs.Map.{keys_of, lookup}
+use Rattle.std.specs.Option.{option_map}
 use Rattle.std.proofs.lemmas.Bool.{false≢true}
 use Rattle.pg_base.specs.declared.id.FileId.{FileId}
 use Rattle.pg_base.specs.Id.{file_cmp, is_same_file}
@@ -11,10 +12,10 @@ use Rattle.pg_intent.specs.declared.intent.Intent.{Intent}
 use Rattle.pg_intent.specs.declared.intent.Intent.TheVariants as intent
 use Rattle.pg_intent.specs.declared.key.IntentKey.{IntentKey}
 use Rattle.pg_intent.specs.declared.key.IntentKey.TheVariants as intent_key
-use Rattle.pg_intent.specs.Intent.{key_of}
+use Rattle.pg_intent.specs.Intent.{aimed_at, key_of}
 use Rattle.pg_intent.specs.Intents.{begun_on, has_key, intent_at}
 use Rattle.pg_intent.specs.Key.{is_same_key}
-use Rattle.pg_intent.proofs.Found.{begun_found}
+use Rattle.pg_intent.proofs.Found.{aimed_found, begun_found}
 use Rattle.pg_msg.specs.declared.work.Slot.{Slot}
 use Rattle.pg_msg.specs.declared.work.Work.{Work}
 use Rattle.pg_names.specs.Names.{NamesValue}
@@ -30,8 +31,9 @@ use Rattle.pg_repair.specs.Fills.{begin_fill, begin_fills, fill_of, files_to_fil
 use Rattle.pg_repair.specs.Intending.{begin_intent, each, in_order}
 use Rattle.pg_repair.specs.Needed.{HasItsFill, IsConfirmedInDoubt}
 use Rattle.pg_repair.specs.Patches.{begin_patch, begin_patches, patch_of}
+use Rattle.pg_graph.specs.Seeks.{aim_seek, begin_seek, begin_seeks, has_seek, seek_again, seek_target, to_seek, was_linked}
 use Rattle.pg_repair.proofs.Needs.{turned}
-use Rattle.pg_repair.proofs.Steady.{confirm_stays, each_stays, fill_stays, patch_stays}
+use Rattle.pg_repair.proofs.Steady.{confirm_stays, each_stays, fill_stays, patch_stays, seek_stays, stays_on}
 
 -- ---- those that pass a test of their key
 
@@ -101,6 +103,21 @@ fill_other k other s file w =
     either_at k (intent_at s.intents k) (is_some (fill_at s file)) (idle s w) (begin_intent b (fill_of s file w) w) refl
     (begun_other b (fill_of s file w) w k (other file) ∙ ap (λ (is : List Intent). intent_at is k) (birth_at s file (is_held s file)))
 
+-- where a Seek asks another server, it stands as it did
+aims_by : (s : Store) (file : FileId) (t : Bool) (k : IntentKey) → is_same_key k (intent_key.Seek file) ≡ false
+    → intent_at (cond t (aim_seek s file) s).intents k ≡ intent_at s.intents k
+aims_by s file true k other =
+    aimed_found s.intents (intent_key.Seek file) (seek_target s file) k
+    ∙ ap (λ (b : Bool). cond b (option_map (aimed_at (seek_target s file)) (intent_at s.intents k)) (intent_at s.intents k)) other
+aims_by s file false k other = refl
+
+pub seek_other : (k : IntentKey) → ((f : FileId) → is_same_key k (intent_key.Seek f) ≡ false)
+    → (s : Store) (file : FileId) (w : Work) → intent_at (begin_seek s file w).store.intents k ≡ intent_at s.intents k
+seek_other k other s file w =
+    let i = intent.Seek file (seek_target s file) in
+    either_at k (intent_at s.intents k) (has_seek s file) (idle (seek_again s file w) w) (begin_intent s i w)
+    (aims_by s file (was_linked w.linked file) k (other file)) (begun_other s i w k (other file))
+
 -- ---- Fills
 
 module _ (f : FileId) where
@@ -137,13 +154,13 @@ module _ (f : FileId) where
       ∙ ap (λ t. list_any (is_same_file f) gs || t) (fill_by s g w (is_some (fill_at s g)) refl)
       ∙ turned (list_any (is_same_file f) gs) (is_same_file f g) (is_some (fill_at s f))
 
-  among_by : (same : Bool) (rest : Bool) (o : Option (Unit {0})) → rest ≡ is_some o → (same || rest) ≡ is_some (cond same (Some tt) o)
-  among_by true rest o h = refl
-  among_by false rest o h = h
+  among_by : {X : Type 0} (same : Bool) (rest : Bool) (x : X) (o : Option X) → rest ≡ is_some o → (same || rest) ≡ is_some (cond same (Some x) o)
+  among_by true rest x o h = refl
+  among_by false rest x o h = h
 
-  pub among : (es : Files) → list_any (is_same_file f) (keys_of es) ≡ is_in es f
+  pub among : {X : Type 0} (es : List (FileId × X)) → list_any (is_same_file f) (keys_of es) ≡ is_some (lookup (is_at (file_cmp f)) es)
   among [] = refl
-  among (e ∷ es) = among_by (is_same_file f e.0) (list_any (is_same_file f) (keys_of es)) (lookup (is_at (file_cmp f)) es) (among es)
+  among (e ∷ es) = among_by (is_same_file f e.0) (list_any (is_same_file f) (keys_of es)) e.1 (lookup (is_at (file_cmp f)) es) (among es)
 
   tested : (s : Store) (files : Files) (i : Intent) → has_key (intent_key.Fill f) i ≡ true → still_stands s files i ≡ is_in files f
   tested s files (intent.Bye file birth peer peer_birth) h = absurd (false≢true h)
@@ -154,7 +171,7 @@ module _ (f : FileId) where
   tested s files (intent.Leave file peer peer_birth) h = absurd (false≢true h)
 
   -- where it is to be filled it has one, and where it is not the one that stood has ended
-  whole : (t : Bool) (o : Option Intent) → (t || is_some (cond t o None)) ≡ t
+  pub whole : (t : Bool) (o : Option Intent) → (t || is_some (cond t o None)) ≡ t
   whole true o = refl
   whole false o = refl
 
@@ -165,7 +182,9 @@ has_its_fill store work file =
     let a = end_others store files in
     let p = begin_patches a work in
     let q = begin_fills p.store (to_fill store.names) p.work in
-    ap is_some (each_at begin_confirm k (confirm_at k (λ d c. refl)) (in_order q.work.unsure) q.store q.work)
+    let r = begin_seeks q.store (to_seek store) q.work in
+    ap is_some (each_at begin_confirm k (confirm_at k (λ d c. refl)) (in_order r.work.unsure) r.store r.work
+    ∙ each_at begin_seek k (seek_other k (λ f. refl)) (to_seek store) q.store q.work)
     ∙ fills_at file (to_fill store.names) p.store p.work
     ∙ ap (λ t. t || is_some (fill_at p.store file)) (among file files)
     ∙ ap (λ (o : Option Intent). is_in files file || is_some o)
@@ -237,16 +256,19 @@ confirmed_in_doubt store work dir child =
     let a = end_others store files in
     let p = begin_patches a work in
     let q = begin_fills p.store (to_fill store.names) p.work in
+    let r = begin_seeks q.store (to_seek store) q.work in
     let before = each_stays begin_patch patch_stays (in_order work.left) a work in
-    let behind = each_stays begin_fill fill_stays (to_fill store.names) p.store p.work in
-    let last = each_stays begin_confirm confirm_stays (in_order q.work.unsure) q.store q.work in
-    let found : intent_at q.store.intents k ≡ cond (is_doubtful store dir child) (intent_at store.intents k) None =
-    each_at begin_fill k (fill_other k (λ f. refl)) (to_fill store.names) p.store p.work
+    let behind = stays_on (each_stays begin_fill fill_stays (to_fill store.names) p.store p.work)
+    (each_stays begin_seek seek_stays (to_seek store) q.store q.work) in
+    let last = each_stays begin_confirm confirm_stays (in_order r.work.unsure) r.store r.work in
+    let found : intent_at r.store.intents k ≡ cond (is_doubtful store dir child) (intent_at store.intents k) None =
+    each_at begin_seek k (seek_other k (λ f. refl)) (to_seek store) q.store q.work
+    ∙ each_at begin_fill k (fill_other k (λ f. refl)) (to_fill store.names) p.store p.work
     ∙ each_at begin_patch k (patch_at k (λ d c. refl)) (in_order work.left) a work
     ∙ filtered k (still_stands store files) (is_doubtful store dir child) (tested_too dir child store files) store.intents in
-    let first : InDoubt dir child q.store = λ there.
-    moved dir child store q.store (behind.names ∙ before.names)
+    let first : InDoubt dir child r.store = λ there.
+    moved dir child store r.store (behind.names ∙ before.names)
     ∙ chosen dir child (is_doubtful store dir child) (intent_at store.intents k) (sym (ap is_some found) ∙ there) in
     λ there.
     sym (moved dir child store (begin_end store work).store (last.names ∙ behind.names ∙ before.names))
-    ∙ each_in_doubt dir child (in_order q.work.unsure) q.store q.work first there
+    ∙ each_in_doubt dir child (in_order r.work.unsure) r.store r.work first there

@@ -2,7 +2,9 @@
 use Rattle.std.proofs.Common.{◌≡◌, ◌≤◌, Bool, true, false, cond, is_some, List, [], ◌∷◌, Option, None, Some, refl, ap, ◌∙◌, arith}
 use Rattle.pg_base.specs.declared.id.FileId.{FileId}
 use Rattle.pg_intent.specs.declared.intent.Intent.{Intent}
+use Rattle.pg_intent.specs.declared.intent.Intent.TheVariants as intent
 use Rattle.pg_intent.specs.declared.key.IntentKey.{IntentKey}
+use Rattle.pg_msg.specs.declared.work.Linked.{Linked}
 use Rattle.pg_msg.specs.declared.work.Slot.{Slot}
 use Rattle.pg_msg.specs.declared.work.Work.{Work}
 use Rattle.pg_store.specs.declared.store.Store.{Store}
@@ -16,6 +18,7 @@ use Rattle.pg_repair.specs.Confirms.{begin_confirm, confirm_of, is_doubtful}
 use Rattle.pg_repair.specs.Fills.{begin_fill, begin_fills, fill_of, files_to_fill, to_fill, with_fill_birth, without_wished}
 use Rattle.pg_repair.specs.Intending.{begin_intent, each, in_order, with_begun_if}
 use Rattle.pg_repair.specs.Patches.{begin_patch, begin_patches, patch_of}
+use Rattle.pg_graph.specs.Seeks.{aim_seek, begin_seek, begin_seeks, has_seek, seek_again, seek_target, to_seek, was_linked}
 
 -- the store's own things, and all of the work but which intentions began
 pub record IsSteady (a : Store) (v : Work) (d : Done) : Type 0 where
@@ -33,6 +36,7 @@ pub record IsSteady (a : Store) (v : Work) (d : Done) : Type 0 where
   pub linked : d.work.linked ≡ v.linked
   pub left : d.work.left ≡ v.left
   pub unsure : d.work.unsure ≡ v.unsure
+  pub tail : d.work.tail ≡ v.tail
 
 pub stays : (a : Store) (v : Work) → IsSteady a v (idle a v)
 stays a v = record {
@@ -50,6 +54,7 @@ stays a v = record {
   linked = refl;
   left = refl;
   unsure = refl;
+  tail = refl;
 }
 
 pub stays_on : {a : Store} {v : Work} {d e : Done} → IsSteady a v d → IsSteady d.store d.work e → IsSteady a v e
@@ -68,6 +73,7 @@ stays_on one more = record {
   linked = more.linked ∙ one.linked;
   left = more.left ∙ one.left;
   unsure = more.unsure ∙ one.unsure;
+  tail = more.tail ∙ one.tail;
 }
 
 -- one thing after another
@@ -95,6 +101,7 @@ intends_by s is w k true = record {
   linked = refl;
   left = refl;
   unsure = refl;
+  tail = refl;
 }
 intends_by s is w k false = record {
   names = refl;
@@ -111,6 +118,7 @@ intends_by s is w k false = record {
   linked = refl;
   left = refl;
   unsure = refl;
+  tail = refl;
 }
 
 pub intends : (s : Store) (i : Intent) (w : Work) → IsSteady s w (begin_intent s i w)
@@ -133,6 +141,7 @@ ended_stays s is w = record {
   linked = refl;
   left = refl;
   unsure = refl;
+  tail = refl;
 }
 
 -- of two
@@ -166,6 +175,7 @@ wished_stays s file w None = record {
   linked = refl;
   left = refl;
   unsure = refl;
+  tail = refl;
 }
 wished_stays s file w (Some wish) = record {
   names = refl;
@@ -182,6 +192,7 @@ wished_stays s file w (Some wish) = record {
   linked = refl;
   left = refl;
   unsure = refl;
+  tail = refl;
 }
 
 birth_by : (s : Store) (file : FileId) (w : Work) (held : Bool) → IsSteady s w (idle (cond held s (without_wished s file (wish_at s file))) w)
@@ -195,6 +206,18 @@ fill_stays s file w =
     either s w (is_some (fill_at s file)) (idle s w) (begin_intent b i w) (stays s w)
     (stays_on (birth_by s file w (is_held s file)) (intends b i w))
 
+-- ---- a Seek begins, or asks another server
+
+again_by : (s : Store) (file : FileId) (w : Work) (t : Bool) → IsSteady s w (idle (cond t (aim_seek s file) s) w)
+again_by s file w true = ended_stays s (aim_seek s file).intents w
+again_by s file w false = stays s w
+
+pub seek_stays : (s : Store) (file : FileId) (w : Work) → IsSteady s w (begin_seek s file w)
+seek_stays s file w =
+    let i = intent.Seek file (seek_target s file) in
+    either s w (has_seek s file) (idle (seek_again s file w) w) (begin_intent s i w)
+    (again_by s file w (was_linked w.linked file)) (intends s i w)
+
 -- ---- all
 
 pub begin_end_stays : (s : Store) (w : Work) → IsSteady s w (begin_end s w)
@@ -202,10 +225,12 @@ begin_end_stays s w =
     let a = end_others s (files_to_fill s.names) in
     let p = begin_patches a w in
     let f = begin_fills p.store (to_fill s.names) p.work in
+    let g = begin_seeks f.store (to_seek s) f.work in
     let ended : IsSteady s w (idle a w) = ended_stays s a.intents w in
-    stays_on (stays_on (stays_on ended (each_stays begin_patch patch_stays (in_order w.left) a w))
+    stays_on (stays_on (stays_on (stays_on ended (each_stays begin_patch patch_stays (in_order w.left) a w))
     (each_stays begin_fill fill_stays (to_fill s.names) p.store p.work))
-    (each_stays begin_confirm confirm_stays (in_order f.work.unsure) f.store f.work)
+    (each_stays begin_seek seek_stays (to_seek s) f.store f.work))
+    (each_stays begin_confirm confirm_stays (in_order g.work.unsure) g.store g.work)
 
 -- ---- nothing is to do
 
@@ -223,3 +248,19 @@ fills_idle s w (file ∷ files) have =
     ap (λ (d : Done). each begin_fill d.store files d.work)
     (one_idle s w (begin_intent (with_fill_birth s file) (fill_of s file w) w) (is_some (fill_at s file)) have.0)
     ∙ fills_idle s w files have.1
+
+-- Seeks of all these stand
+abbrev pub HaveSeeks : Store → List FileId → Type 0
+HaveSeeks s [] = Unit {0}
+HaveSeeks s (file ∷ files) = (has_seek s file ≡ true) × HaveSeeks s files
+
+seek_idle : (s : Store) (file : FileId) (w : Work) → has_seek s file ≡ true → w.linked ≡ [] → begin_seek s file w ≡ idle s w
+seek_idle s file w there none =
+    ap (λ (b : Bool). cond b (idle (seek_again s file w) w) (begin_intent s (intent.Seek file (seek_target s file)) w)) there
+    ∙ ap (λ (ls : List Linked). idle (cond (was_linked ls file) (aim_seek s file) s) w) none
+
+pub seeks_idle : (s : Store) (w : Work) (files : List FileId) → HaveSeeks s files → w.linked ≡ [] → begin_seeks s files w ≡ idle s w
+seeks_idle s w [] have none = refl
+seeks_idle s w (file ∷ files) have none =
+    ap (λ (d : Done). each begin_seek d.store files d.work) (seek_idle s file w have.0 none)
+    ∙ seeks_idle s w files have.1 none

@@ -13,12 +13,13 @@ use Rattle.pg_cells.specs.Done.{Done}
 use Rattle.pg_repair.specs.Confirms.{begin_confirms, is_doubtful}
 use Rattle.pg_repair.specs.Fills.{begin_fills, files_to_fill, is_in, to_fill}
 use Rattle.pg_repair.specs.Patches.{begin_patches}
+use Rattle.pg_graph.specs.Seeks.{begin_seeks, is_seeking, to_seek}
 
--- the condition of an intention holds, if it has one: a Fill is of what is to be filled, a Confirm
--- of a child that is listed and not held. The others end by answers
+-- the condition of an intention holds, if it has one: a Seek is of what seeks, a Fill of what is to be
+-- filled, a Confirm of a child that is listed and not held. The others end by answers
 abbrev pub still_stands : Store → Files → Intent → Bool
 still_stands store files (intent.Bye file birth peer peer_birth) = true
-still_stands store files (intent.Seek file target) = true
+still_stands store files (intent.Seek file target) = is_seeking store file
 still_stands store files (intent.Fill file birth target) = is_in files file
 still_stands store files (intent.Patch dir entry target) = true
 still_stands store files (intent.Confirm dir child target) = is_doubtful store dir child
@@ -39,11 +40,15 @@ end_others store files =
 abbrev pub fills_after : List FileId → Done → Done
 fills_after files done = begin_fills done.store files done.work
 
+abbrev pub seeks_after : List FileId → Done → Done
+seeks_after files done = begin_seeks done.store files done.work
+
 abbrev pub confirms_after : Done → Done
 confirms_after done = begin_confirms done.store done.work
 
--- first some end. Then Patches begin by directory and child, Fills by id, Confirms by directory and
--- child, each decided by what is held, which none of this changes
+-- first some end. Then Patches begin by directory and child, Fills by id, Seeks by id, Confirms by
+-- directory and child, each decided by what is held, which none of this changes
 abbrev pub begin_end : Store → Work → Done
-begin_end store work = confirms_after (fills_after (to_fill store.names)
-    (begin_patches (end_others store (files_to_fill store.names)) work))
+begin_end store work = confirms_after (seeks_after (to_seek store)
+    (fills_after (to_fill store.names)
+    (begin_patches (end_others store (files_to_fill store.names)) work)))

@@ -11,10 +11,10 @@ use Rattle.pg_names.specs.declared.own.Own.{Own}
 use Rattle.pg_names.specs.Names.{is_dir, own_or_blank}
 use Rattle.pg_replica.specs.declared.replica.Replica.{Replica}
 use Rattle.pg_store.specs.declared.store.Store.{Store}
-use Rattle.pg_store.specs.Births.{birth_of}
 use Rattle.pg_store.specs.Links.{is_clean, knows_later}
 use Rattle.pg_store.specs.Store.{is_full, replica_at}
 use Rattle.pg_cells.specs.Accepting.{link_peer}
+pub use Rattle.pg_cells.specs.Accepting.{ends_to}
 use Rattle.pg_cells.specs.Done.{Done, idle}
 use Rattle.pg_cells.specs.Posting.{reply}
 
@@ -42,11 +42,6 @@ abbrev pub give : Store → Ends → Work → Work
 give store ends work = given store ends (replica_at store ends.file) work
 
 -- ---- the answer
-
--- the edge from the replica here to that of the asker
-abbrev pub ends_to : Store → FileId → ℕ → Ends
-ends_to store file birth =
-    record { file = file; sender = birth_of store file; receiver = birth }
 
 -- where the asker has acknowledged all it is full; else it is granted
 abbrev pub answer_fetch : Store → FileId → ℕ → Work → Work

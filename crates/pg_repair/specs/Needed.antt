@@ -17,6 +17,7 @@ use Rattle.pg_repair.specs.Beginning.{begin_end}
 use Rattle.pg_repair.specs.Confirms.{is_doubtful}
 use Rattle.pg_repair.specs.Fills.{files_to_fill, is_in}
 use Rattle.pg_repair.specs.Patches.{patch_again, was_left}
+use Rattle.pg_graph.specs.Seeks.{has_seek, is_seeking}
 
 -- what is held and filling
 abbrev pub IsFilling : NamesValue → FileId → Type 0
@@ -60,8 +61,13 @@ IsPatched store work dir child =
     then Some (patch_again store dir child work)
     else intent_at store.intents (intent_key.Patch dir child))
 
--- and nothing is left to do: where no place was replaced since then and no doubtful cell came, the
--- end of a further event changes nothing
+-- a Seek of a thing stands exactly where it seeks
+abbrev pub HasItsSeek : Store → Work → FileId → Type 0
+HasItsSeek store work file = has_seek (begin_end store work).store file ≡ is_seeking store file
+
+-- and nothing is left to do: where no place was replaced since then, no doubtful cell came and no edge
+-- was made, the end of a further event changes nothing
 abbrev pub LeavesNothing : Store → Work → Type 0
 LeavesNothing store work = (later : Work) → later.left ≡ [] → later.unsure ≡ []
+    → later.linked ≡ []
     → begin_end (begin_end store work).store later ≡ idle (begin_end store work).store later

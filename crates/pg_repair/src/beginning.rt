@@ -10,34 +10,37 @@ use crate::confirms::{begin_confirms, is_doubtful};
 use crate::fills::{Files, begin_fills, to_fill};
 use crate::patches::begin_patches;
 use pg_base::Items;
+use pg_graph::{begin_seeks, is_seeking, to_seek};
 use pg_intent::{Intent, IntentKey, Intents};
 use pg_msg::Work;
 use pg_store::Store;
 use std::alloc::AllocError;
 
 /// Each intention ends whose condition does not hold any more, and those begin for which there is a cause: Patches by
-/// directory and child, then Fills by file, then Confirms by directory and child. After out of memory a part may be
-/// done.
+/// directory and child, then Fills by file, then Seeks by file, then Confirms by directory and child. After out of memory
+/// a part may be done.
 pub fn begin_end(store: &mut Store, work: &mut Work) -> Result<(), AllocError>
     ensures store { OnOk result (store.new ≡ (begin_end store.old work.old).store) }
     ensures work { OnOk result (work.new ≡ (begin_end store.old work.old).work) }
 {
     let files = to_fill(&store.names)?;
+    let seekers = to_seek(store)?;
     end_others(store, &files)?;
     begin_patches(store, work)?;
     begin_fills(store, &files, work)?;
+    begin_seeks(store, seekers.as_slice(), work)?;
     begin_confirms(store, work)?;
     Ok(())
 }
 
-/// Whether the condition of an intention holds, if it has one: a Fill is of what is to be filled, a Confirm of a child
-/// that is listed and not held.
+/// Whether the condition of an intention holds, if it has one: a Seek is of what seeks, a Fill of what is to be filled, a
+/// Confirm of a child that is listed and not held.
 fn still_stands(store: &Store, files: &Files, intent: &Intent) -> bool
     ensures { result ≡ still_stands store.now files.now.entries intent.now }
 {
     match intent {
         Intent::Bye { .. } => true,
-        Intent::Seek { .. } => true,
+        Intent::Seek { file, .. } => is_seeking(store, file),
         Intent::Fill { file, .. } => files.contains_key(file),
         Intent::Patch { .. } => true,
         Intent::Confirm { dir, child, .. } => is_doubtful(store, dir, child),

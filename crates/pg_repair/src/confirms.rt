@@ -3,8 +3,9 @@
 ghost use Rattle.std.specs.Prelude.{◌≡◌, OnOk};
 ghost use Rattle.pg_repair.specs.Confirms.{begin_confirm, begin_confirms, holder, is_doubtful};
 
-use crate::intending::{begin_intent, slots_of};
+use crate::intending::slots_of;
 use pg_base::{FileId, NodeId};
+use pg_cells::begin_intent;
 use pg_intent::Intent;
 use pg_msg::{Slot, Work};
 use pg_store::Store;

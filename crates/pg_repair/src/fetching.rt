@@ -1,10 +1,10 @@
 //! A replica is to be filled.
 
 ghost use Rattle.std.specs.Prelude.{◌≡◌, IfOk, OnOk};
-ghost use Rattle.pg_repair.specs.Fetching.{answer_fetch, ends_to, fetch, give, granted_from, place_to_grant};
+ghost use Rattle.pg_repair.specs.Fetching.{answer_fetch, fetch, give, granted_from, place_to_grant};
 
 use pg_base::{FileId, Shared};
-use pg_cells::{link_peer, post};
+use pg_cells::{ends_to, link_peer, post};
 use pg_msg::{Ends, Granted, Message, Work};
 use pg_names::{Own, is_dir};
 use pg_register::Place;
@@ -28,17 +28,6 @@ pub fn fetch(store: &mut Store, file: FileId, birth: u64, work: &mut Work) -> Re
     link_peer(store, file, work.from, birth, work)?;
     answer_fetch(store, file, birth, work)?;
     Ok(())
-}
-
-/// The edge from the replica here to that of the asker.
-fn ends_to(store: &Store, file: FileId, birth: u64) -> Ends
-    ensures { result ≡ ends_to store.now file birth }
-{
-    Ends {
-        file,
-        sender: store.birth(&file),
-        receiver: birth,
-    }
 }
 
 /// Where the asker has acknowledged all it is full; else it is granted.

@@ -5,9 +5,9 @@ ghost use Rattle.std.specs.Map.{keys_of};
 ghost use Rattle.pg_store.specs.Births.{fill_at};
 ghost use Rattle.pg_repair.specs.Fills.{begin_fill, begin_fills, files_to_fill, fill_birth, lacks_parent, with_fill_birth, with_filling, with_held, with_parent};
 
-use crate::intending::begin_intent;
-use crate::same::is_root;
 use pg_base::FileId;
+use pg_cells::begin_intent;
+use pg_graph::is_root;
 use pg_intent::{Intent, IntentKey};
 use pg_msg::Work;
 use pg_names::{Held, Names};

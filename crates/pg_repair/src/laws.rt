@@ -5,7 +5,7 @@ ghost use Rattle.pg_base.specs.declared.id.FileId.{FileId};
 ghost use Rattle.pg_msg.specs.declared.work.Work.{Work};
 ghost use Rattle.pg_names.specs.Names.{NamesValue};
 ghost use Rattle.pg_store.specs.declared.store.Store.{Store};
-ghost use Rattle.pg_repair.specs.Needed.{HasItsFill, IsConfirmedInDoubt, IsPatched, IsWhatIsToFill, LeavesNothing};
+ghost use Rattle.pg_repair.specs.Needed.{HasItsFill, HasItsSeek, IsConfirmedInDoubt, IsPatched, IsWhatIsToFill, LeavesNothing};
 
 /// A thing is to be filled exactly where it is held and filling, or is not held and is the parent in the live place of
 /// something held that is not the root.
@@ -13,10 +13,12 @@ pub fn what_is_to_fill()
     ensures { (names : NamesValue) (file : FileId) → IsWhatIsToFill names file }
 {}
 
-/// Whatever stood before, behind the end of an event a Fill stands of each thing that is to be filled and of no other,
-/// and a Confirm only of a child that a directory lists and that is not held. Then nothing is left to do.
+/// Whatever stood before, behind the end of an event a Fill stands of each thing that is to be filled and of no other, a
+/// Seek of each thing that seeks and of no other, and a Confirm only of a child that a directory lists and that is not
+/// held. Then nothing is left to do.
 pub fn intentions_follow_what_is_held()
     ensures fills { (store : Store) (work : Work) (file : FileId) → HasItsFill store work file }
+    ensures seeks { (store : Store) (work : Work) (file : FileId) → HasItsSeek store work file }
     ensures confirms { (store : Store) (work : Work) (dir child : FileId)
         → IsConfirmedInDoubt store work dir child }
     ensures rest { (store : Store) (work : Work) → LeavesNothing store work }

@@ -4,7 +4,8 @@ ghost use Rattle.std.specs.Prelude.{◌≡◌, OnOk};
 ghost use Rattle.pg_repair.specs.Patches.{begin_patch, begin_patches};
 
 use crate::confirming::own_entry;
-use crate::intending::{begin_intent, slots_of};
+use crate::intending::slots_of;
+use pg_cells::begin_intent;
 use pg_intent::Intent;
 use pg_msg::{Slot, Work};
 use pg_store::Store;

@@ -32,7 +32,7 @@ use Rattle.pg_server.specs.declared.input.Input.{Input}
 use Rattle.pg_server.specs.declared.input.Input.TheVariants as input
 use Rattle.pg_server.specs.Local.{Effect, done_of, effect, finished, first_effect, intended, is_heard, receive, reply_to, sent_again, settled, takes_effect, without_wishes}
 use Rattle.pg_promises.proofs.Choices.{All-flat_map, chosen, decided}
-use Rattle.pg_promises.proofs.Front.{house_sent}
+use Rattle.pg_promises.proofs.Settling.{settle_sent, settle_tail}
 
 -- ---- an effect
 
@@ -59,8 +59,11 @@ store_is a asked = ap (λ (e : Effect). e.store) (effect_is a asked)
 -- the house rules and the intentions send nothing
 pub nothing_sent : (d : Done) → (intended (settled d)).work.sent ≡ d.work.sent
 nothing_sent d =
-    (begin_end_stays (settled d).store (settled d).work).sent
-    ∙ house_sent d.work.now d.store.names d.work
+    (begin_end_stays (settled d).store (settled d).work).sent ∙ settle_sent d.store d.work
+
+pub nothing_last : (d : Done) → (intended (settled d)).work.tail ≡ d.work.tail
+nothing_last d =
+    (begin_end_stays (settled d).store (settled d).work).tail ∙ settle_tail d.store d.work
 
 pub end_sent : (a : Store) (asked : Input)
     → (end_of a asked).work.sent ≡ (first_effect a asked).work.sent
@@ -68,6 +71,13 @@ end_sent a asked =
     chosen (λ (d : Done). d.work.sent ≡ (first_effect a asked).work.sent) (takes_effect a asked)
     (intended (settled (first_effect a asked))) (first_effect a asked)
     (nothing_sent (first_effect a asked)) refl
+
+pub end_tail : (a : Store) (asked : Input)
+    → (end_of a asked).work.tail ≡ (first_effect a asked).work.tail
+end_tail a asked =
+    chosen (λ (d : Done). d.work.tail ≡ (first_effect a asked).work.tail) (takes_effect a asked)
+    (intended (settled (first_effect a asked))) (first_effect a asked)
+    (nothing_last (first_effect a asked)) refl
 
 -- the cells of keys with new tags, and what is asked by the intentions that began
 abbrev pub cells_sent : Done → List Sent
@@ -78,21 +88,27 @@ asks_sent d = flat_map (asks_by d.store) d.work.begun
 
 -- WHAT IS SENT
 pub sent_is : (a : Store) (asked : Input) → (effect a asked).out.sent
-    ≡ ((first_effect a asked).work.sent ++ cells_sent (end_of a asked)) ++ asks_sent (end_of a asked)
+    ≡ (((first_effect a asked).work.sent ++ cells_sent (end_of a asked)) ++ asks_sent (end_of a asked))
+    ++ (first_effect a asked).work.tail
 sent_is a asked =
     let d = end_of a asked in
+    let behind : List Sent → List Sent = λ ms. (ms ++ cells_sent d) ++ asks_sent d in
     ap (λ (e : Effect). e.out.sent) (effect_is a asked)
-    ∙ ap (λ (ms : List Sent). (ms ++ cells_sent d) ++ asks_sent d) (end_sent a asked)
+    ∙ ap (λ (ms : List Sent). behind ms ++ d.work.tail) (end_sent a asked)
+    ∙ ap (λ (ms : List Sent). behind (first_effect a asked).work.sent ++ ms) (end_tail a asked)
 
--- what holds of each of these three holds of all that is sent
+-- what holds of each of these four holds of all that is sent
 pub all_sent : (Q : Sent → Type 0) (a : Store) (asked : Input)
     → All Q (first_effect a asked).work.sent → All Q (cells_sent (end_of a asked))
-    → All Q (asks_sent (end_of a asked)) → All Q (effect a asked).out.sent
-all_sent Q a asked first cells asks =
+    → All Q (asks_sent (end_of a asked)) → All Q (first_effect a asked).work.tail
+    → All Q (effect a asked).out.sent
+all_sent Q a asked first cells asks last =
     let d = end_of a asked in
     let ms = (first_effect a asked).work.sent in
     subst (All Q) (sym (sent_is a asked))
+    (All-append Q ((ms ++ cells_sent d) ++ asks_sent d) (first_effect a asked).work.tail
     (All-append Q (ms ++ cells_sent d) (asks_sent d) (All-append Q ms (cells_sent d) first cells) asks)
+    last)
 
 -- ---- the first effect
 
@@ -107,21 +123,22 @@ Comes H input.Restart = Unit {0}
 -- tick at the end of the clock
 pub record FirstHas (H : Packet → Type 0) (a : Store) (P : Done → Type 0) : Type 0 where
   pub calls : (moment : ℕ) (call : Call) → P (done_of (do_call a call (new_work moment 0)))
-  pub ticks : (moment : ℕ) → is_in_time a ≡ true → P (idle a (sent_again a (new_work moment 0)))
+  pub ticks : (moment word : ℕ) → is_in_time a ≡ true
+      → P (idle a (sent_again a word (new_work moment 0)))
   pub arrivals : (packet : Packet) → is_heard a packet ≡ true → H packet
       → P (receive a packet.message (new_work 0 packet.from))
   pub restarts : P (idle (without_wishes a) (new_work 0 0))
   pub nothing : (moment from : ℕ) → P (idle a (new_work moment from))
 
 module _ (H : Packet → Type 0) (a : Store) (P : Done → Type 0) (k : FirstHas H a P) where
-  tick_has : (moment : ℕ) (t : Bool) → is_in_time a ≡ t
-      → P (idle a (cond t (sent_again a (new_work moment 0)) (new_work moment 0)))
-  tick_has moment true is = k.ticks moment is
-  tick_has moment false is = k.nothing moment 0
+  tick_has : (moment word : ℕ) (t : Bool) → is_in_time a ≡ t
+      → P (idle a (cond t (sent_again a word (new_work moment 0)) (new_work moment 0)))
+  tick_has moment word true is = k.ticks moment word is
+  tick_has moment word false is = k.nothing moment 0
 
   pub first_has : (asked : Input) → Comes H asked → P (first_effect a asked)
   first_has (input.Call moment call) h = k.calls moment call
-  first_has (input.Tick moment word) h = tick_has moment (is_in_time a) refl
+  first_has (input.Tick moment word) h = tick_has moment word (is_in_time a) refl
   first_has (input.Arrival packet) h =
       decided P (is_heard a packet) (receive a packet.message (new_work 0 packet.from))
       (idle a (new_work 0 packet.from)) (λ t. k.arrivals packet t h) (λ f. k.nothing 0 packet.from)
@@ -156,7 +173,7 @@ pub store_kept : (H : Packet → Type 0) (P : Store → Type 0) → IsKeptByPart
 store_kept H P k a asked came h =
     let first = first_has H a (λ d. P d.store) (record {
       calls = λ moment call. k.calls a moment call h;
-      ticks = λ moment going. h;
+      ticks = λ moment word going. h;
       arrivals = λ packet heard is. k.arrivals a packet heard is h;
       restarts = k.restarts a h;
       nothing = λ moment from. h;

@@ -1,4 +1,5 @@
 pub mod Lists
+pub mod Found
 pub mod Bags
 pub mod Frame
 pub mod Event
@@ -13,4 +14,7 @@ pub mod OwedOrder
 pub mod Zips
 pub mod OwedCells
 pub mod Requests
+pub mod Walks
+pub mod Tails
+pub mod LastWalks
 pub mod Ticks

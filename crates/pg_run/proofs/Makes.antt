@@ -1,6 +1,6 @@
 -- What is made in an event: first what its first effect made, then what the house rules made.
-use Rattle.std.proofs.Common.{◌≡◌, ℕ, zero, suc, List, [], ◌∷◌, ◌++◌, length, Bool, true, false, not, Option, None, Some, refl, sym, ap, ◌∙◌}
-use Rattle.std.specs.Prelude.{drop, is_some}
+use Rattle.std.proofs.Common.{◌≡◌, ℕ, zero, suc, List, [], ◌∷◌, ◌++◌, length, true, Option, None, Some, refl, sym, ap, ◌∙◌}
+use Rattle.std.specs.Prelude.{drop}
 use Rattle.std.proofs.Math.Seq.{drop-append_seam}
 use Rattle.std.proofs.lemmas.List.{append-nil, append_assoc}
 use Rattle.pg_base.specs.declared.id.FileId.{FileId}
@@ -18,22 +18,15 @@ use Rattle.pg_house.specs.Cycles.{break_first, first_moving, moved}
 use Rattle.pg_house.specs.House.{house, movable}
 use Rattle.pg_house.proofs.Truths.{chosen}
 use Rattle.pg_house.proofs.Made.{all_made, left_made, pass_made}
-use Rattle.pg_intent.specs.declared.intent.Intent.{Intent}
-use Rattle.pg_intent.specs.declared.key.IntentKey.{IntentKey}
-use Rattle.pg_intent.specs.Intent.{key_of}
-use Rattle.pg_intent.specs.Intents.{stands}
 use Rattle.pg_call.specs.declared.reply.Reply.{Reply}
-use Rattle.pg_msg.specs.declared.work.Slot.{Slot}
 use Rattle.pg_msg.specs.declared.work.Work.{Work}
 use Rattle.pg_store.specs.declared.store.Store.{Store}
-use Rattle.pg_store.specs.Births.{fill_at}
-use Rattle.pg_store.specs.Store.{is_held}
-use Rattle.pg_cells.specs.Done.{Done, idle}
-use Rattle.pg_repair.specs.Beginning.{begin_end, end_others}
-use Rattle.pg_repair.specs.Confirms.{begin_confirm, confirm_of, is_doubtful}
-use Rattle.pg_repair.specs.Fills.{begin_fill, begin_fills, fill_of, files_to_fill, to_fill, with_fill_birth}
-use Rattle.pg_repair.specs.Intending.{begin_intent, each, in_order, with_begun_if}
-use Rattle.pg_repair.specs.Patches.{begin_patch, begin_patches, patch_of}
+use Rattle.pg_store.specs.Store.{is_newer_flag}
+use Rattle.pg_cells.specs.Done.{Done}
+use Rattle.pg_cells.specs.Making.{own_next, raise_flag}
+use Rattle.pg_cells.specs.Settling.{rules, settle}
+use Rattle.pg_cells.proofs.Settled.{settle_keeps}
+use Rattle.pg_repair.proofs.Steady.{begin_end_stays}
 use Rattle.pg_server.specs.declared.input.Input.{Input}
 use Rattle.pg_server.specs.Local.{Effect, closed, effect, finished, first_effect, reply_to, settled, takes_effect}
 use Rattle.pg_run.specs.Run.{first_made}
@@ -92,56 +85,35 @@ house_on moment st =
     (repeated_on (return_first moment ds) (λ t. returned_on moment ds t (first_returning t.names ds)) (length ds) one)
     (repeated_on (break_first moment ds) (λ t. moved_on moment ds t (first_moving t.names (length ds) None ds)) (length ds) two))
 
--- ---- intentions make nothing
+-- ---- a flag is raised, and the rules run again
 
-abbrev MakesNothing : Work → Done → Type 0
-MakesNothing work done = done.work.made ≡ work.made
+rules_on : (store : Store) (work : Work) → IsFront work.made (rules store work).work.made
+rules_on store work = house_on work.now (state_of store.names work)
 
-begun_made : (t : Bool) (work : Work) (k : IntentKey) → (with_begun_if t work k).made ≡ work.made
-begun_made true work k = refl
-begun_made false work k = refl
+raised_on : (store : Store) (file : FileId) (work : Work) → IsFront work.made (raise_flag store file work).work.made
+raised_on store file work =
+    let flag = own_next store file true in
+    let made = with_made work (update.Flag file flag) in (
+      update.Flag file flag ∷ [],
+      chosen (λ (w : Work). w.made ≡ made.made) (is_newer_flag store file flag)
+          (with_touched made file (key.Flag flag.server)) made refl refl,
+    )
 
-intent_made : (store : Store) (i : Intent) (work : Work) → MakesNothing work (begin_intent store i work)
-intent_made store i work = begun_made (not (stands store.intents (key_of i))) work (key_of i)
-
-patch_made : (store : Store) (slot : Slot) (work : Work) → MakesNothing work (begin_patch store slot work)
-patch_made store slot work =
-    chosen (MakesNothing work) (is_held store slot.dir) (idle store work) (begin_intent store (patch_of store slot work) work) refl
-    (intent_made store (patch_of store slot work) work)
-
-fill_made : (store : Store) (file : FileId) (work : Work) → MakesNothing work (begin_fill store file work)
-fill_made store file work =
-    chosen (MakesNothing work) (is_some (fill_at store file)) (idle store work) (begin_intent (with_fill_birth store file) (fill_of store file work) work) refl
-    (intent_made (with_fill_birth store file) (fill_of store file work) work)
-
-confirm_made : (store : Store) (slot : Slot) (work : Work) → MakesNothing work (begin_confirm store slot work)
-confirm_made store slot work =
-    chosen (MakesNothing work) (is_doubtful store slot.dir slot.child) (begin_intent store (confirm_of store slot) work) (idle store work)
-    (intent_made store (confirm_of store slot) work) refl
-
-each_made : {A : Type 0} (step : Store → A → Work → Done) → ((s : Store) (x : A) (work : Work) → MakesNothing work (step s x work))
-    → (store : Store) (xs : List A) (work : Work) → MakesNothing work (each step store xs work)
-each_made step one store [] work = refl
-each_made step one store (x ∷ xs) work =
-    each_made step one (step store x work).store xs (step store x work).work ∙ one store x work
-
-pub intended_made : (store : Store) (work : Work) → MakesNothing work (begin_end store work)
-intended_made store work =
-    let rest = end_others store (files_to_fill store.names) in
-    let one = begin_patches rest work in
-    let two = begin_fills one.store (to_fill store.names) one.work in
-    each_made begin_confirm confirm_made two.store (in_order two.work.unsure) two.work
-    ∙ each_made begin_fill fill_made one.store (to_fill store.names) one.work
-    ∙ each_made begin_patch patch_made rest (in_order work.left) work
+settle_on : (store : Store) (work : Work) → IsFront work.made (settle store work).work.made
+settle_on store work =
+    settle_keeps (λ s w. IsFront work.made w.made)
+    (λ s w f. front_then work.made w.made (rules s w).work.made f (rules_on s w))
+    (λ s file w is f. front_then work.made w.made (raise_flag s file w).work.made f (raised_on s file w))
+    store work (front_same work.made work.made refl)
 
 -- ---- an effect
 
 -- what the house rules make is behind what was made before
 closed_front : (r : Option Reply) (d : Done) → IsFront d.work.made (closed r d).out.made
 closed_front r d =
-    let st = house d.work.now (state_of d.store.names d.work) in
-    front_then d.work.made st.work.made (closed r d).out.made (house_on d.work.now (state_of d.store.names d.work))
-    (front_same st.work.made (closed r d).out.made (intended_made (settled d).store (settled d).work))
+    let rest = settled d in
+    front_then d.work.made rest.work.made (closed r d).out.made (settle_on d.store d.work)
+    (front_same rest.work.made (closed r d).out.made (begin_end_stays rest.store rest.work).made)
 
 made_front : (store : Store) (asked : Input) → IsFront (first_made store asked) (effect store asked).out.made
 made_front store asked =

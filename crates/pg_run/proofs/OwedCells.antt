@@ -1,6 +1,6 @@
 -- What a tick sends: the cell of each key that is owed and does not wait, and the message of each
 -- intention that asks a server.
-use Rattle.std.proofs.Common.{[], ℕ, ◌≡◌, Bool, true, false, not, cond, Option, Some, List, ◌∷◌, ◌++◌, get_or, map, inl, inr, refl, sym, ap, subst, ◌∙◌, All}
+use Rattle.std.proofs.Common.{[], ℕ, ◌≡◌, Bool, true, false, not, cond, Option, Some, List, ◌∷◌, get_or, map, refl, sym, ap, subst, ◌∙◌}
 use Rattle.std.specs.List.{AllZip, filter, flat_map}
 use Rattle.std.proofs.lemmas.List.Elements.{All-weaker}
 use Rattle.pg_base.specs.declared.id.FileId.{FileId}

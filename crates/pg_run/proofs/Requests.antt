@@ -1,5 +1,5 @@
 -- The messages of intentions: one for each that asks a server.
-use Rattle.std.proofs.Common.{[], ℕ, ◌≡◌, ◌==◌, Bool, true, false, not, cond, Option, None, Some, List, ◌∷◌, ◌++◌, refl, sym, subst, All}
+use Rattle.std.proofs.Common.{[], ℕ, ◌≡◌, ◌==◌, Bool, true, false, not, cond, Option, None, Some, List, ◌∷◌, refl, sym, subst, All}
 use Rattle.std.specs.List.{AllZip, filter, flat_map}
 use Rattle.std.proofs.lemmas.List.Elements.{All-head, All-tail}
 use Rattle.std.proofs.lemmas.Option.{same_Some}

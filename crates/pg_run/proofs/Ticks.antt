@@ -1,10 +1,18 @@
 -- What comes of a tick and of a restart, where a server is as each event leaves it: the house rules and
 -- the intentions behind them find nothing to do.
-use Rattle.std.proofs.Common.{[], ℕ, ◌≡◌, ◌≢◌, ◌≤◌, Bool, true, false, cond, Option, Some, None, List, ◌∷◌, ◌++◌, drop, length, map, inl, inr, refl, sym, ap, subst, ◌∙◌, arith, All}
+use Rattle.std.proofs.Common.{[], ℕ, ◌≡◌, ◌≤◌, ◌&&◌, Bool, true, false, cond, not, Option, Some, None, List, ◌∷◌, ◌++◌, drop, length, inl, inr, refl, sym, ap, subst, ◌∙◌, arith, All}
+use Rattle.std.specs.Prelude.{Contains}
+use Rattle.std.specs.List.Sorted.{IsStrictlySortedBy}
+use Rattle.std.specs.Map.{keys_of}
 use Rattle.std.specs.List.{filter, flat_map}
 use Rattle.std.proofs.lemmas.Bool.Decides.{nat_tests}
 use Rattle.std.proofs.lemmas.List.{append-nil}
+use Rattle.std.proofs.lemmas.List.Folds.{list_any-from_Any}
 use Rattle.pg_base.specs.declared.id.FileId.{FileId}
+use Rattle.pg_base.specs.Id.{file_cmp}
+use Rattle.pg_register.specs.declared.flag.Flag.{Flag}
+use Rattle.pg_register.specs.Flag.{flag_of, is_live}
+use Rattle.pg_names.specs.Names.{HeldValue, known}
 use Rattle.pg_edges.specs.declared.key.Key.{Key}
 use Rattle.pg_edges.specs.declared.edge.Edge.{Edge}
 use Rattle.pg_replica.specs.declared.replica.Replica.{Replica}
@@ -19,18 +27,22 @@ use Rattle.pg_house.specs.Facts.{AreOrdered}
 use Rattle.pg_house.specs.Work.{state_of}
 use Rattle.pg_flood.proofs.Flood.{here}
 use Rattle.pg_store.specs.declared.store.Store.{Store}
+use Rattle.pg_store.specs.Births.{birth_of}
 use Rattle.pg_store.specs.Store.{is_in_time}
 use Rattle.pg_cells.specs.Done.{Done, idle}
 use Rattle.pg_cells.specs.Sending.{cells_where, edge_cells, is_any, is_chosen, key_cell, replica_cells}
-use Rattle.pg_cells.specs.Settling.{touch_all, with_state}
+use Rattle.pg_cells.specs.Golds.{goldless, is_goldless, is_goldless_held, is_of_later, sees_gold}
+use Rattle.pg_cells.specs.Settling.{golds_raised, raise_golds, rules, settle, touch_all, with_state}
+use Rattle.pg_cells.specs.Ticks.{tick}
 use Rattle.pg_promises.specs.Whole.{IsWhole}
 use Rattle.pg_repair.specs.Beginning.{begin_end}
-use Rattle.pg_repair.specs.Requests.{asks}
+use Rattle.pg_repair.specs.Requests.{ask_all, asks}
 use Rattle.pg_server.specs.declared.input.Input.TheVariants as input
 use Rattle.pg_server.specs.Local.{Effect, closed, effect, finished, intended, sent_again, settled, without_wishes}
 use Rattle.pg_call.specs.declared.refusal.Refusal.TheVariants.{ClockEnd}
 use Rattle.pg_call.specs.declared.reply.Reply.{Reply}
 use Rattle.pg_call.specs.declared.reply.Reply.TheVariants as reply
+use Rattle.pg_run.specs.Golds.{FullSeeGold}
 use Rattle.pg_run.specs.Laws.{AtEach, IsInOrder}
 use Rattle.pg_run.specs.Run.{World, effect_entry, effect_step, idle_step, is_server, run}
 use Rattle.pg_run.specs.Ticks.{IsRefused, RestartLoses, RestartsLoseWishes, SendsWhatItOwes, TickSends, TicksSendWhatIsOwed, let_through}
@@ -38,10 +50,29 @@ use Rattle.pg_run.proofs.OwedCells.{KeysAreCells, all_owed, all_sent, all_told}
 use Rattle.pg_run.proofs.OwedOrder.{owed_sorted}
 use Rattle.pg_run.proofs.Requests.{HasRequest, requests_sent}
 use Rattle.pg_run.proofs.StillRules.{house_still}
+use Rattle.pg_run.proofs.Walks.{again_is, are_walks, tick_walks}
 
--- no intention ends or begins, where no place was replaced and no doubtful cell came
+-- no intention ends or begins, where no place was replaced, no doubtful cell came and no edge was made
 abbrev pub StaysIntended : Store → Type 0
-StaysIntended a = (work : Work) → work.left ≡ [] → work.unsure ≡ [] → begin_end a work ≡ idle a work
+StaysIntended a = (work : Work) → work.left ≡ [] → work.unsure ≡ [] → work.linked ≡ []
+    → begin_end a work ≡ idle a work
+
+-- order, ordered: what the house rules leave
+-- golds: what is full sees a gold
+-- still, still_without: the intentions are as what is held asks, and so they are without wishes
+-- asked: each has a message
+-- by_id: things are by id
+-- whole, cells: what the edges leave
+pub record IsTidy (n s : ℕ) (a : Store) : Type 0 where
+  pub order : IsInOrder a.names
+  pub ordered : AreOrdered a.names
+  pub golds : FullSeeGold a
+  pub still : StaysIntended a
+  pub still_without : StaysIntended (without_wishes a)
+  pub asked : All (HasRequest a) a.intents
+  pub by_id : IsStrictlySortedBy file_cmp (keys_of a.names.held)
+  pub whole : IsWhole n s a
+  pub cells : KeysAreCells a
 
 -- ---- nothing was touched or linked
 
@@ -59,10 +90,11 @@ replica_none : (a : Store) (rs : List (FileId × Replica)) → flat_map (replica
 replica_none a [] = refl
 replica_none a (r ∷ rs) = ap (λ l. l ++ flat_map (replica_cells a (is_chosen [] [])) rs) (edge_none a r.0 r.1.birth r.1.edges) ∙ replica_none a rs
 
--- so no more is sent at the end
-nothing_more : (a : Store) (sent : List Sent) → (sent ++ cells_where a (is_chosen [] [])) ++ [] ≡ sent
-nothing_more a sent =
-    append-nil (sent ++ cells_where a (is_chosen [] [])) ∙ ap (λ l. sent ++ l) (replica_none a a.replicas) ∙ append-nil sent
+-- so no more is sent at the end, but the tail
+nothing_more : (a : Store) (sent tail : List Sent) → ((sent ++ cells_where a (is_chosen [] [])) ++ []) ++ tail ≡ sent ++ tail
+nothing_more a sent tail =
+    ap (λ l. l ++ tail)
+    (append-nil (sent ++ cells_where a (is_chosen [] [])) ∙ ap (λ l. sent ++ l) (replica_none a a.replicas) ∙ append-nil sent)
 
 -- ---- nothing is left to do
 
@@ -74,19 +106,62 @@ none_anew (t ∷ ts) = none_anew ts
 as_it_was : (a : Store) (work : Work) → with_state a work (state_of a.names work) ≡ idle a work
 as_it_was a work = ap (λ (ts : List Touched). idle (touch_all a ts) work) (none_anew work.touched)
 
-module _ (a : Store) (order : IsInOrder a.names) (ordered : AreOrdered a.names) (still : StaysIntended a) where
-  rest_is : (work : Work) → work.left ≡ [] → work.unsure ≡ [] → intended (settled (idle a work)) ≡ idle a work
-  rest_is work left unsure =
-      ap intended (ap (with_state a work) (house_still work.now a.names work order ordered) ∙ as_it_was a work) ∙ still work left unsure
+-- ---- nothing is goldless
 
-  pub closed_is : (r : Option Reply) (work : Work) → work.left ≡ [] → work.unsure ≡ [] → closed r (idle a work) ≡ finished r (idle a work)
-  closed_is r work left unsure = ap (finished r) (rest_is work left unsure)
+-- what is full sees a gold
+sees : (removed : List ℕ) (flags : List Flag) (flag : Flag) → Contains flags flag → is_live removed flag ≡ true
+    → sees_gold removed flags ≡ true
+sees removed flags flag there live =
+    list_any-from_Any (is_live removed) flags (there.0, flag, there.1, there.2, live)
+
+full_by : (full seen later : Bool) → (full ≡ true → seen ≡ true) → (full && (not seen && not later)) ≡ false
+full_by false seen later h = refl
+full_by true seen later h = ap (λ (t : Bool). not t && not later) (h refl)
+
+module _ (a : Store) (golds : FullSeeGold a) where
+  sees_one : (f : FileId) (o : Option HeldValue) → known a.names f ≡ o
+      → is_goldless_held a.names.removed a.names.server (birth_of a f) o ≡ false
+  sees_one f None is = refl
+  sees_one f (Some x) is =
+      full_by x.full (sees_gold a.names.removed x.own.flags) (is_of_later (birth_of a f) (flag_of x.own.flags a.names.server))
+      (λ full. let gold = golds f x is full in sees a.names.removed x.own.flags gold.0 gold.1 gold.2)
+
+  none_of : (fs : List FileId) → filter (is_goldless a) fs ≡ []
+  none_of [] = refl
+  none_of (f ∷ fs) =
+      ap (λ (t : Bool). cond t (f ∷ filter (is_goldless a) fs) (filter (is_goldless a) fs)) (sees_one f (known a.names f) refl)
+      ∙ none_of fs
+
+  pub none_goldless : goldless a ≡ []
+  none_goldless = none_of (keys_of a.names.held)
+
+-- SETTLING AGAIN changes nothing
+module _ (a : Store) (order : IsInOrder a.names) (ordered : AreOrdered a.names) (golds : FullSeeGold a) where
+  ruled_is : (work : Work) → rules a work ≡ idle a work
+  ruled_is work = ap (with_state a work) (house_still work.now a.names work order ordered) ∙ as_it_was a work
+
+  pub settled_is : (work : Work) → settle a work ≡ idle a work
+  settled_is work =
+      ap golds_raised (ruled_is work)
+      ∙ ap (λ (fs : List FileId). raise_golds fs (idle a work)) (none_goldless a golds)
+
+module _ (a : Store) (order : IsInOrder a.names) (ordered : AreOrdered a.names) (golds : FullSeeGold a) (still : StaysIntended a) where
+  rest_is : (work : Work) → work.left ≡ [] → work.unsure ≡ [] → work.linked ≡ [] → intended (settled (idle a work)) ≡ idle a work
+  rest_is work left unsure linked =
+      ap intended (settled_is a order ordered golds work) ∙ still work left unsure linked
+
+  pub closed_is : (r : Option Reply) (work : Work) → work.left ≡ [] → work.unsure ≡ [] → work.linked ≡ []
+      → closed r (idle a work) ≡ finished r (idle a work)
+  closed_is r work left unsure linked = ap (finished r) (rest_is work left unsure linked)
 
 -- ---- a tick
 
 module _ (a : Store) (moment word : ℕ) where
   abbrev Ticking : Work
-  Ticking = sent_again a (new_work moment 0)
+  Ticking = record (ask_all a (tick a (new_work moment 0))) { tail = tick_walks a word }
+
+  again : sent_again a word (new_work moment 0) ≡ Ticking
+  again = again_is a word (new_work moment 0)
 
   abbrev Sending : Effect
   Sending = finished (Some reply.Done) (idle a Ticking)
@@ -94,38 +169,39 @@ module _ (a : Store) (moment word : ℕ) where
   abbrev Refusing : Effect
   Refusing = finished (Some (reply.Refused ClockEnd)) (idle a (new_work moment 0))
 
-  sent_is : Sending.out.sent ≡ cells_where a is_any ++ flat_map (asks a) a.intents
-  sent_is = nothing_more a (cells_where a is_any ++ flat_map (asks a) a.intents)
+  sent_is : Sending.out.sent ≡ (cells_where a is_any ++ flat_map (asks a) a.intents) ++ tick_walks a word
+  sent_is = nothing_more a (cells_where a is_any ++ flat_map (asks a) a.intents) (tick_walks a word)
 
   refuses : (event : Event) → IsRefused (effect_entry event Refusing)
   refuses event = record {
     reply = refl;
     made = refl;
-    none = nothing_more a [];
+    none = nothing_more a [] [];
   }
 
-  module _ (order : IsInOrder a.names) (ordered : AreOrdered a.names) (still : StaysIntended a)
-      (n s : ℕ) (whole : IsWhole n s a) (cells : KeysAreCells a) (asked : All (HasRequest a) a.intents) (event : Event) where
-    sends : SendsWhatItOwes a (effect_entry event Sending)
+  module _ (n s : ℕ) (k : IsTidy n s a) (event : Event) where
+    sends : SendsWhatItOwes a word (effect_entry event Sending)
     sends =
-        let all = all_sent n s a whole cells in
+        let all = all_sent n s a k.whole k.cells in
         record {
           reply = refl;
           made = refl;
           cells = cells_where a is_any;
           requests = flat_map (asks a) a.intents;
+          walks = tick_walks a word;
           sent = sent_is;
           owed = all_owed a (let_through a) (cells_where a is_any) all;
-          asked = requests_sent a asked;
+          asked = requests_sent a k.asked;
+          walk = are_walks n s a k.whole word k.by_id;
           summaries = all_told a (let_through a) (cells_where a is_any) all;
-          order = owed_sorted n s a whole;
+          order = owed_sorted n s a k.whole;
         }
 
     closes : closed (Some reply.Done) (idle a Ticking) ≡ Sending
-    closes = closed_is a order ordered still (Some reply.Done) Ticking refl refl
+    closes = closed_is a k.order k.ordered k.golds k.still (Some reply.Done) Ticking refl refl refl
 
     abbrev IsTick : Bool → Effect → Type 0
-    IsTick t done = (t ≡ true → SendsWhatItOwes a (effect_entry event done)) × (¬ (t ≡ true) → IsRefused (effect_entry event done)) × (done.store ≡ a)
+    IsTick t done = (t ≡ true → SendsWhatItOwes a word (effect_entry event done)) × (¬ (t ≡ true) → IsRefused (effect_entry event done)) × (done.store ≡ a)
 
     abbrev Answering : Bool → Option Reply
     Answering t = Some (cond t reply.Done (reply.Refused ClockEnd))
@@ -135,42 +211,34 @@ module _ (a : Store) (moment word : ℕ) where
 
     by_clock : (t : Bool) → IsTick t (cond t (closed (Answering t) (Working t)) (finished (Answering t) (Working t)))
     by_clock true = (
-      λ e. subst (λ (done : Effect). SendsWhatItOwes a (effect_entry event done)) (sym closes) sends,
+      λ e. subst (λ (done : Effect). SendsWhatItOwes a word (effect_entry event done)) (sym closes) sends,
       λ no. absurd (no refl),
       ap (λ (done : Effect). done.store) closes,
     )
     by_clock false = (λ e. absurd (let z : false ≡ true = e in cc), λ no. refuses event, refl)
 
+    abbrev Leaving : Work → Effect
+    Leaving w =
+        let done : Bool → Done = λ t. idle a (cond t w (new_work moment 0)) in
+        cond (is_in_time a) (closed (Answering (is_in_time a)) (done (is_in_time a))) (finished (Answering (is_in_time a)) (done (is_in_time a)))
+
     pub tick_is : IsTick (is_in_time a) (effect a (input.Tick moment word))
-    tick_is = by_clock (is_in_time a)
+    tick_is = subst (λ (w : Work). IsTick (is_in_time a) (Leaving w)) (sym again) (by_clock (is_in_time a))
 
 -- ---- the laws, where it holds of each server what events leave
 
 in_server : (n s : ℕ) → 1 ≤ s → s ≤ n → is_server n s ≡ true
 in_server n s least most = grind (arith, nat_tests)
 
--- order, ordered: what the house rules leave
--- still, still_without: the intentions are as what is held asks, and so they are without wishes
--- asked: each has a message
--- whole, cells: what the edges leave
-pub record IsTidy (n s : ℕ) (a : Store) : Type 0 where
-  pub order : IsInOrder a.names
-  pub ordered : AreOrdered a.names
-  pub still : StaysIntended a
-  pub still_without : StaysIntended (without_wishes a)
-  pub asked : All (HasRequest a) a.intents
-  pub whole : IsWhole n s a
-  pub cells : KeysAreCells a
-
 abbrev pub AreTidy : ℕ → Type 0
 AreTidy n = (events : List Event) → AtEach n (λ s. IsTidy n s ((run n events).stores s))
 
 tick_step : (n : ℕ) (w : World) (s moment word : ℕ) → IsTidy n s (w.stores s)
-    → TickSends w.stores s (effect_step w (Tick s moment word) s (input.Tick moment word))
+    → TickSends w.stores s word (effect_step w (Tick s moment word) s (input.Tick moment word))
 tick_step n w s moment word k =
     let event = Tick s moment word in
     let a = w.stores s in
-    let is = tick_is a moment word k.order k.ordered k.still n s k.whole k.cells k.asked event in
+    let is = tick_is a moment word n s k event in
     record {
       void = refl;
       sends = is.0;
@@ -185,7 +253,7 @@ pub ticks_send_what_is_owed : (n : ℕ) → AreTidy n → TicksSendWhatIsOwed n
 ticks_send_what_is_owed n tidy events s moment word least most =
     let w = run n events in
     let event = Tick s moment word in
-    let P : Bool → Type 0 = (λ b. TickSends w.stores s (cond b (effect_step w event s (input.Tick moment word)) (idle_step w event (Some NoServer)))) in
+    let P : Bool → Type 0 = (λ b. TickSends w.stores s word (cond b (effect_step w event s (input.Tick moment word)) (idle_step w event (Some NoServer)))) in
     subst P (sym (in_server n s least most)) (tick_step n w s moment word (tidy events s least most))
 
 -- ---- a restart
@@ -198,7 +266,7 @@ module _ (n s : ℕ) (a : Store) (k : IsTidy n s a) where
   Bare = finished None (idle Lost (new_work 0 0))
 
   bare_closed : closed None (idle Lost (new_work 0 0)) ≡ Bare
-  bare_closed = closed_is Lost k.order k.ordered k.still_without None (new_work 0 0) refl refl
+  bare_closed = closed_is Lost k.order k.ordered k.golds k.still_without None (new_work 0 0) refl refl refl
 
   either_way : (t : Bool) → cond t (closed None (idle Lost (new_work 0 0))) Bare ≡ Bare
   either_way true = bare_closed
@@ -208,7 +276,7 @@ module _ (n s : ℕ) (a : Store) (k : IsTidy n s a) where
   restart_is = either_way (is_in_time a)
 
   pub bare_sends : Bare.out.sent ≡ []
-  bare_sends = nothing_more Lost []
+  bare_sends = nothing_more Lost [] []
 
 restart_step : (n : ℕ) (w : World) (s : ℕ) → IsTidy n s (w.stores s)
     → RestartLoses w.stores s (effect_step w (Restart s) s input.Restart)

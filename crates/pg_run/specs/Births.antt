@@ -155,6 +155,8 @@ GreaterBirthsReplaceEdges servers = (events : List Event) (event : Event)
 abbrev pub linking : Message → Option Ends
 linking (message.Cell ends tag c) = if fits ends.file c then Some ends else None
 linking (message.Grant ends granted) = Some ends
+linking (message.Here ends) = Some ends
+linking (message.Meet ends) = Some ends
 linking _ = None
 
 -- who hears one and accepts it lists the sender from then on, with the birth that the message names:

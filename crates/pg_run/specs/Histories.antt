@@ -1,6 +1,6 @@
 -- What is to hold of versions in any run: the versions of a file are a history, what a server took
 -- of it comes to heads, and messages carry versions of the history.
-use Rattle.std.specs.Prelude.{ℕ, ◌⊎◌, ◌≡◌, ◌≤◌, ◌↔◌, List, Contains, map}
+use Rattle.std.specs.Prelude.{ℕ, ◌⊎◌, ◌≡◌, ◌≤◌, ◌↔◌, ◌&&◌, not, List, Contains, map}
 use Rattle.pg_base.specs.declared.id.FileId.{FileId}
 use Rattle.pg_base.specs.declared.policy.Policy.{Policy}
 use Rattle.pg_base.specs.declared.stamp.Stamp.{Stamp}
@@ -16,7 +16,7 @@ use Rattle.pg_msg.specs.declared.message.Message.TheVariants as message
 use Rattle.pg_msg.specs.declared.message.Sent.{Sent}
 use Rattle.pg_event.specs.declared.entry.Entry.{Entry}
 use Rattle.pg_event.specs.declared.event.Event.{Event}
-use Rattle.pg_store.specs.Store.{has_time, is_in_time}
+use Rattle.pg_store.specs.Store.{has_time, have_own_flag_at_end, is_in_time}
 use Rattle.pg_run.specs.Journal.{Born, made_versions, mail, versions}
 use Rattle.pg_run.specs.State.{policy_made, versions_taken}
 use Rattle.pg_run.specs.Laws.{content_taken}
@@ -119,9 +119,11 @@ CarriesHistory servers = (events : List Event) (m : Sent)
 
 -- ---- clocks
 
--- no server comes to the end of the numbers of its versions and flags before it comes to the end of
--- its stamps, tags, ids or births: so its clock is at its end exactly where one of these is
+-- no server comes to the end of the numbers of its versions before it comes to the end of its stamps,
+-- tags, ids or births: so its clock is at its end exactly where one of these is, or the number of one
+-- of its flags
 abbrev pub ClockEndsFirst : ℕ → Type 0
 ClockEndsFirst servers = (events : List Event) (server : ℕ) → 1 ≤ server → server ≤ servers
     → let a = (run servers events).stores server in
-    is_in_time a ≡ has_time a.names.last a.tags a.files a.births
+    is_in_time a ≡ (has_time a.names.last a.tags a.files a.births
+    && not (have_own_flag_at_end a.names))

@@ -19,6 +19,7 @@ use Rattle.pg_store.specs.declared.store.Store.{Store}
 use Rattle.pg_store.specs.Servers.{is_live_other}
 use Rattle.pg_store.specs.Store.{is_full, is_held}
 use Rattle.pg_store.specs.Together.{AreBirths, AreTogether}
+use Rattle.pg_graph.specs.Seeks.{is_seeking}
 use Rattle.pg_run.specs.Laws.{AtEach, store_after}
 
 -- ---- what is held
@@ -82,6 +83,13 @@ PatchesStand a = (dir child : FileId) (entry : Entry) (target : ℕ)
     → intent_at a.intents (key.Patch dir child) ≡ Some (intent.Patch dir entry target)
     → IsPatchOf a dir entry
 
+-- ---- Seeks
+
+-- a Seek stands of just what seeks: a gold replica that sees a live gold of another server to which it
+-- has no edge, and a bronze one that has no edge to a live gold which it sees
+abbrev pub SeeksStand : Store → Type 0
+SeeksStand a = (file : FileId) → stands a.intents (key.Seek file) ≡ is_seeking a file
+
 -- ---- all
 
 -- targets: another live server is asked, or nobody where there is none
@@ -92,6 +100,7 @@ pub record IntendsInOrder (a : Store) : Type 0 where
   pub contained : ParentsAreHeldOrFilled a
   pub confirms : ConfirmsStand a
   pub patches : PatchesStand a
+  pub seeks : SeeksStand a
   pub targets : (i : Intent) → IsAmong a.intents i → target_of i ≢ 0
       → is_live_other a (target_of i) ≡ true
 

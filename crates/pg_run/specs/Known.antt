@@ -1,6 +1,6 @@
 -- Which places and flags are known in a run: all that was ever made, and what was there at the start;
 -- and what servers hold and messages bring of them.
-use Rattle.std.specs.Prelude.{ℕ, ◌≡◌, ◌⊎◌, true, Contains, List, [], ◌∷◌, Some}
+use Rattle.std.specs.Prelude.{ℕ, ◌≡◌, ◌⊎◌, ◌<◌, true, Contains, List, [], ◌∷◌, Some}
 use Rattle.pg_base.specs.declared.id.FileId.{FileId}
 use Rattle.pg_content.specs.Content.{Among}
 use Rattle.pg_register.specs.declared.flag.Flag.{Flag}
@@ -114,9 +114,18 @@ PlacesHaveOwnStamps servers = (events : List Event) (file : FileId) (p q : Place
     → p.stamp ≡ q.stamp → p ≡ q
 
 -- OWN FLAG: each flag of a thing, wherever it is known, is its server's own flag, which holds the
--- thing
+-- thing, or the own flag is a later one of the same birth
+abbrev pub IsUpToOwn : Flag → Flag → Type 0
+IsUpToOwn flag own = (flag ≡ own) ⊎ ((flag.birth ≡ own.birth) × (flag.number < own.number))
+
 abbrev pub FlagsAreOwn : ℕ → Type 0
 FlagsAreOwn servers = (events : List Event) (file : FileId) (flag : Flag)
     → IsFlagOf servers (run servers events) file flag
     → (own : Own) × (own_at ((run servers events).stores flag.server).names file ≡ Some own)
-    × (flag_of own.flags flag.server ≡ Some flag)
+    × (last : Flag) × (flag_of own.flags flag.server ≡ Some last) × IsUpToOwn flag last
+
+-- ONE FLAG A NUMBER: of the flags of a thing no two of one server have one birth and number
+abbrev pub FlagsHaveOwnNumbers : ℕ → Type 0
+FlagsHaveOwnNumbers servers = (events : List Event) (file : FileId) (a b : Flag)
+    → IsFlagOf servers (run servers events) file a → IsFlagOf servers (run servers events) file b
+    → a.server ≡ b.server → a.birth ≡ b.birth → a.number ≡ b.number → a ≡ b

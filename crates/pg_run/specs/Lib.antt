@@ -12,6 +12,7 @@ pub mod Histories
 pub mod Births
 pub mod Acknowledged
 pub mod Intending
+pub mod Golds
 pub mod Ticks
 pub mod Came
 pub mod Away

@@ -54,8 +54,8 @@ brought store asked = map take_of (first_made store asked) ++ came store asked
 abbrev pub made_behind : Store → Input → List Update
 made_behind store asked = drop (length (first_made store asked)) (effect store asked).out.made
 
--- what a server's replicas took then: what its first effect brings passes, and so does each place
--- that a house rule makes
+-- what a server's replicas took then: what its first effect brings passes, and so does each update
+-- that the house rules make
 abbrev pub took_after : Store → List Take → Input → List Take
 took_after store takes asked =
     if takes_effect store asked

@@ -1,14 +1,15 @@
 -- What a tick sends in any run, and what a restart does.
-use Rattle.std.specs.Prelude.{ℕ, Bool, true, false, not, Option, None, Some, [], ◌++◌, ◌==◌, ◌≡◌, ◌≢◌, ◌≤◌, List, map}
+use Rattle.std.specs.Prelude.{ℕ, Bool, true, false, not, Option, None, Some, [], ◌∷◌, ◌++◌, ◌==◌, ◌≡◌, ◌≢◌, ◌≤◌, ◌/◌, ◌%◌, ◌⊎◌, ◌↔◌, List, length, map, slice_get}
 use Rattle.std.specs.List.{AllZip, filter}
 use Rattle.std.specs.List.Sorted.{IsStrictlySortedBy}
 use Rattle.std.specs.Ordering.{nat_cmp, ordering_then}
 use Rattle.std.specs.declared.cmp.Ordering.{Ordering}
-use Rattle.pg_base.specs.Id.{file_cmp}
+use Rattle.pg_base.specs.declared.id.FileId.{FileId}
+use Rattle.pg_base.specs.Id.{file_cmp, is_same_file}
 use Rattle.pg_edges.specs.declared.edge.Edge.{Edge}
 use Rattle.pg_edges.specs.Key.{key_cmp}
 use Rattle.pg_edges.specs.Keys.{tag_in}
-use Rattle.pg_edges.specs.Edges.{edge_to}
+use Rattle.pg_edges.specs.Edges.{AscendFrom, edge_to, peers}
 use Rattle.pg_entries.specs.declared.cell.Cell.{Cell}
 use Rattle.pg_entries.specs.declared.entry.Entry.{Entry as ChildEntry}
 use Rattle.pg_intent.specs.declared.intent.Intent.{Intent}
@@ -33,9 +34,12 @@ use Rattle.pg_names.specs.declared.own.Own.{Own}
 use Rattle.pg_names.specs.Names.{cell_at as entry_at, own_at}
 use Rattle.pg_replica.specs.declared.replica.Replica.{Replica}
 use Rattle.pg_store.specs.Births.{birth_of}
-use Rattle.pg_store.specs.Store.{is_in_time, replica_at}
+use Rattle.pg_store.specs.Store.{is_full, is_in_time, replica_at}
 use Rattle.pg_cells.specs.Posting.{sent_to}
 use Rattle.pg_cells.specs.Sending.{waits}
+use Rattle.pg_house.specs.Facts.{is_among}
+use Rattle.pg_register.specs.Place.{root}
+use Rattle.pg_graph.specs.Seeks.{edges_of}
 use Rattle.pg_server.specs.Local.{without_wishes}
 use Rattle.pg_server.specs.Owing.{owed_keys}
 use Rattle.pg_run.specs.Run.{Step, next, run}
@@ -96,9 +100,9 @@ pub record IsOwedCell (a : Store) (o : OwedKey) (m : Sent) : Type 0 where
 abbrev pub asking : Store → List Intent
 asking a = filter (λ i. not (target_of i == 0)) a.intents
 
--- The message of an intention. A Fill fetches a replica of its birth, a Patch tells its entry, and a
--- Confirm asks for the place and flags of a child as the directory has them now. Of the other
--- kinds none begins yet
+-- The message of an intention. A Seek names the replica that seeks, a Fill fetches a replica of its
+-- birth, a Patch tells its entry, and a Confirm asks for the place and flags of a child as the
+-- directory has them now. Of the other kinds none begins yet
 abbrev pub IsAskedBy : Store → Intent → Message → Type 0
 IsAskedBy a (intent.Bye file birth peer peer_birth) m =
     m ≡ message.Bye (record { file = file; sender = birth; receiver = peer_birth })
@@ -124,16 +128,53 @@ owing_cmp x y =
     ordering_then (file_cmp x.file y.file)
     (ordering_then (nat_cmp x.peer y.peer) (key_cmp x.key y.key))
 
--- one cell for each key that is owed and does not wait was sent, in their order, and behind these one
--- message for each intention that asks a server, in their order, and nothing else; nothing was made
-pub record SendsWhatItOwes (a : Store) (entry : Entry) : Type 0 where
+-- ---- the walk
+
+-- a full replica, not of the root, that has one edge or two
+pub record HasFewEdges (a : Store) (file : FileId) : Type 0 where
+  pub full : is_full a file ≡ true
+  pub inner : is_same_file file root ≡ false
+  pub least : 1 ≤ length (edges_of a file)
+  pub most : length (edges_of a file) ≤ 2
+
+-- The walk that a word chooses: it begins at one of these replicas, and goes along one of its edges,
+-- with three steps to make. It names its origin, and what is left of the word goes with it
+pub record IsWalk (a : Store) (files : List FileId) (word : ℕ) (m : Sent) : Type 0 where
+  pub file : FileId
+  pub chosen : slice_get files (word % length files) ≡ Some file
+  pub by_peer : AscendFrom 0 (peers (edges_of a file))
+  pub edge : Edge
+  pub along : slice_get (edges_of a file)
+      ((word / length files) % length (edges_of a file)) ≡ Some edge
+  pub whole : m ≡ sent_to a edge.peer (message.Walk
+      (record { file = file; sender = birth_of a file; receiver = edge.birth })
+      a.names.server (birth_of a file) 3 ((word / length files) / length (edges_of a file)))
+
+-- few: of all replicas that have few edges, by id
+-- one: one walk, where the word is not 0 and there is such a replica
+-- none: else none
+pub record AreWalks (a : Store) (word : ℕ) (ms : List Sent) : Type 0 where
+  pub files : List FileId
+  pub few : (file : FileId) → is_among file files ≡ true ↔ HasFewEdges a file
+  pub order : IsStrictlySortedBy file_cmp files
+  pub one : word ≢ 0 → files ≢ [] → (m : Sent) × (ms ≡ m ∷ []) × IsWalk a files word m
+  pub none : (word ≡ 0) ⊎ (files ≡ []) → ms ≡ []
+
+-- ---- all that a tick sends
+
+-- one cell for each key that is owed and does not wait was sent, in their order, behind these one
+-- message for each intention that asks a server, in their order, and last the walk that the word
+-- chooses, and nothing else; nothing was made
+pub record SendsWhatItOwes (a : Store) (word : ℕ) (entry : Entry) : Type 0 where
   pub reply : entry.reply ≡ Some Done
   pub made : entry.made ≡ []
   pub cells : List Sent
   pub requests : List Sent
-  pub sent : entry.sent ≡ cells ++ requests
+  pub walks : List Sent
+  pub sent : entry.sent ≡ (cells ++ requests) ++ walks
   pub owed : AllZip (IsOwedCell a) (let_through a) cells
   pub asked : AllZip (IsRequest a) (asking a) requests
+  pub walk : AreWalks a word walks
   pub summaries : map summary cells ≡ map owed_cell (let_through a)
   pub order : IsStrictlySortedBy owing_cmp (owed_keys a)
 
@@ -145,17 +186,17 @@ pub record IsRefused (entry : Entry) : Type 0 where
 
 -- a tick is refused exactly where its server's clock is at its end; and it changes nothing that any
 -- server holds
-pub record TickSends (stores : ℕ → Store) (server : ℕ) (step : Step) : Type 0 where
+pub record TickSends (stores : ℕ → Store) (server word : ℕ) (step : Step) : Type 0 where
   pub void : step.entry.void ≡ None
-  pub sends : HasTime (stores server) → SendsWhatItOwes (stores server) step.entry
+  pub sends : HasTime (stores server) → SendsWhatItOwes (stores server) word step.entry
   pub refuses : ¬ (HasTime (stores server)) → IsRefused step.entry
   pub still : (s : ℕ) → step.stores s ≡ stores s
 
--- and sends else just what its server owes and what it asks for
+-- and sends else just what its server owes, what it asks for, and at most one walk
 abbrev pub TicksSendWhatIsOwed : ℕ → Type 0
 TicksSendWhatIsOwed servers = (events : List Event) (server moment word : ℕ)
     → 1 ≤ server → server ≤ servers
-    → TickSends (run servers events).stores server
+    → TickSends (run servers events).stores server word
     (next servers (run servers events) (Tick server moment word))
 
 -- ---- a restart

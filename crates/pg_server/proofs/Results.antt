@@ -1,17 +1,23 @@
 -- What comes of an input is what comes of its kind; and of a call what its end makes of its answer.
-use Rattle.std.proofs.Common.{ℕ, ◌≡◌, ◌∙◌, Bool, true, if◌then◌else◌, None, Some, refl, sym, ap}
+use Rattle.std.proofs.Common.{ℕ, ◌≡◌, ◌∙◌, [], Bool, true, if◌then◌else◌, None, Some, refl, sym, ap}
 use Rattle.pg_call.specs.declared.call.Call.{Call}
+use Rattle.pg_call.specs.declared.refusal.Refusal.TheVariants.{ClockEnd}
 use Rattle.pg_call.specs.declared.reply.Reply.{Reply}
+use Rattle.pg_call.specs.declared.reply.Reply.TheVariants as reply
 use Rattle.pg_msg.specs.declared.message.Packet.{Packet}
 use Rattle.pg_msg.specs.declared.work.Work.{Work}
 use Rattle.pg_msg.specs.Work.{new_work}
 use Rattle.pg_store.specs.declared.store.Store.{Store}
 use Rattle.pg_store.specs.Store.{is_in_time}
+use Rattle.pg_store.specs.Wishes.{WishesValue}
 use Rattle.pg_cells.specs.Done.{idle}
+use Rattle.pg_cells.specs.Ticks.{tick}
+use Rattle.pg_graph.specs.Walks.{walk_of_tick}
+use Rattle.pg_repair.specs.Requests.{ask_all}
 use Rattle.pg_calls.specs.Calls.{do_call}
 use Rattle.pg_server.specs.declared.input.Input.{Input}
 use Rattle.pg_server.specs.declared.input.Input.TheVariants as input
-use Rattle.pg_server.specs.Local.{Effect, closed, done_of, effect, effect_of, finished, is_heard, receive}
+use Rattle.pg_server.specs.Local.{Effect, closed, done_of, effect, effect_of, finished, is_heard, receive, sent_again, without_wishes}
 
 pub of_kind : (s : Store) (i k : Input) → i ≡ k → effect s k ≡ effect_of s i
 unfolding effect_of
@@ -49,3 +55,28 @@ heard a p v goes b w new is true_is bs ws =
     ap (λ (x : Store). closed None (idle x w)) (bs ∙ ap (λ (x : Work). (receive a p.message x).store) new)
     ∙ ap (λ (x : Work). closed None (idle d.store x)) (ws ∙ ap (λ (x : Work). (receive a p.message x).work) new)
     ∙ sym (ap (λ (t : Bool). if t then closed None (if t then d else rest) else finished None (if t then d else rest)) (sym is ∙ true_is))
+
+-- behind a tick
+pub ticked : (a : Store) (m word : ℕ) (v u x w : Work) (goes : Bool)
+    → v ≡ new_work m 0 → goes ≡ is_in_time a → goes ≡ true
+    → u ≡ tick a v → x ≡ ask_all a u → w ≡ walk_of_tick a word x
+    → closed (Some reply.Done) (idle a w) ≡ effect a (input.Tick m word)
+ticked a m word v u x w goes new is true_is us xs ws =
+    let none = new_work m 0 in
+    let late : Reply = reply.Refused ClockEnd in
+    ap (λ (y : Work). closed (Some reply.Done) (idle a y))
+    (ws ∙ ap (walk_of_tick a word) (xs ∙ ap (ask_all a) (us ∙ ap (tick a) new)))
+    ∙ sym (ap (λ (t : Bool). if t
+    then closed (Some (if t then reply.Done else late)) (idle a (if t then sent_again a word none else none))
+    else finished (Some (if t then reply.Done else late)) (idle a (if t then sent_again a word none else none)))
+    (sym is ∙ true_is))
+
+-- and behind a restart
+pub restarted : (a : Store) (v : Work) (goes : Bool) (wishes : WishesValue)
+    → v ≡ new_work 0 0 → goes ≡ is_in_time a → goes ≡ true → wishes ≡ []
+    → closed None (idle (record a { wishes = wishes }) v) ≡ effect a input.Restart
+restarted a v goes wishes new is true_is none =
+    ap (λ (x : WishesValue). closed None (idle (record a { wishes = x }) v)) none
+    ∙ ap (λ (x : Work). closed None (idle (without_wishes a) x)) new
+    ∙ sym (ap (λ (t : Bool). if t then closed None (idle (without_wishes a) (new_work 0 0))
+    else finished None (idle (without_wishes a) (new_work 0 0))) (sym is ∙ true_is))

@@ -1,5 +1,5 @@
 -- What a server does with what comes to it.
-use Rattle.std.specs.Prelude.{[], ◌&&◌, ◌==◌, Bool, if◌then◌else◌, Option, None, Some}
+use Rattle.std.specs.Prelude.{ℕ, [], ◌&&◌, ◌==◌, ◌++◌, Bool, if◌then◌else◌, Option, None, Some}
 use Rattle.pg_call.specs.declared.refusal.Refusal.TheVariants.{ClockEnd}
 use Rattle.pg_call.specs.declared.reply.Reply.{Reply}
 use Rattle.pg_call.specs.declared.reply.Reply.TheVariants as reply
@@ -25,7 +25,9 @@ use Rattle.pg_repair.specs.Filling.{full}
 use Rattle.pg_repair.specs.Granting.{gone, grant, no_grant}
 use Rattle.pg_repair.specs.NoneHere.{none_here}
 use Rattle.pg_repair.specs.Requests.{ask_all, ask_begun}
+use Rattle.pg_graph.specs.Seeking.{here, seek}
 use Rattle.pg_repair.specs.Telling.{tell, tell_ok}
+use Rattle.pg_graph.specs.Walks.{walk, walk_of_tick}
 use Rattle.pg_calls.specs.Answer.{Answer}
 use Rattle.pg_calls.specs.Calls.{do_call}
 use Rattle.pg_server.specs.declared.input.Input.{Input}
@@ -40,9 +42,11 @@ pub record Effect : Type 0 where
   pub out : Out
 
 abbrev pub out_of : Option Reply → Work → Out
-out_of answer work = record { reply = answer; made = work.made; sent = work.sent }
+out_of answer work =
+    record { reply = answer; made = work.made; sent = work.sent ++ work.tail }
 
--- what was touched or linked is sent, and behind it the messages of the intentions that began
+-- what was touched or linked is sent, and behind it the messages of the intentions that began. The
+-- tail goes last
 abbrev pub sent_at_end : Done → Work
 sent_at_end done = ask_begun done.store (finish done.store done.work)
 
@@ -70,7 +74,7 @@ is_heard store packet = is_in_time store && ((packet.view == view_of store)
     && (is_live_other store packet.from && is_in_range packet.message))
 
 -- each kind of message goes to its handler, which does nothing where the message is not accepted.
--- Bodies on demand, gold replicas and leaving are not built: their messages do nothing
+-- Bodies on demand and leaving are not built: their messages do nothing
 abbrev pub receive : Store → Message → Work → Done
 receive store (message.Cell ends tag c) work = cell store ends tag c work
 receive store (message.Ack ends k tag) work = ack store ends k tag work
@@ -83,8 +87,8 @@ receive store (message.Fetch file birth) work = fetch store file birth work
 receive store (message.Grant ends granted) work = grant store ends granted work
 receive store (message.NoGrant file birth) work = no_grant store file birth work
 receive store (message.Full ends) work = full store ends work
-receive store (message.Seek file birth) work = idle store work
-receive store (message.Here ends) work = idle store work
+receive store (message.Seek file birth) work = seek store file birth work
+receive store (message.Here ends) work = here store ends work
 receive store (message.NoneHere ask file child) work = none_here store ask file child work
 receive store (message.Gone file birth) work = gone store file birth work
 receive store (message.Bye ends) work = idle store work
@@ -96,17 +100,19 @@ receive store (message.TellOk dir child stamp) work = tell_ok store dir child st
 receive store (message.Leave ends stamp) work = idle store work
 receive store (message.LeaveOk ends stamp) work = idle store work
 receive store (message.Invite ends) work = idle store work
-receive store (message.Walk ends origin birth hops word) work = idle store work
-receive store (message.Meet ends) work = idle store work
+receive store (message.Walk ends origin birth hops word) work =
+    walk store ends origin birth hops word work
+receive store (message.Meet ends) work = here store ends work
 
 -- ---- the first effect of an input, before the house rules
 
 abbrev pub done_of : Answer → Done
 done_of a = record { store = a.store; work = a.work }
 
--- what is not acknowledged is sent again, and behind it the messages of all intentions
-abbrev pub sent_again : Store → Work → Work
-sent_again store work = ask_all store (tick store work)
+-- what is not acknowledged is sent again, behind it the messages of all intentions, and last a walk, if
+-- the word chooses one
+abbrev pub sent_again : Store → ℕ → Work → Work
+sent_again store word work = walk_of_tick store word (ask_all store (tick store work))
 
 -- a restart loses the wishes, and nothing else
 abbrev pub without_wishes : Store → Store
@@ -117,7 +123,7 @@ without_wishes store = record store { wishes = [] }
 abbrev pub first_effect : Store → Input → Done
 first_effect store (input.Call moment call) = done_of (do_call store call (new_work moment 0))
 first_effect store (input.Tick moment word) = idle store
-    (if is_in_time store then sent_again store (new_work moment 0) else new_work moment 0)
+    (if is_in_time store then sent_again store word (new_work moment 0) else new_work moment 0)
 first_effect store (input.Arrival packet) =
     if is_heard store packet then receive store packet.message (new_work 0 packet.from)
     else idle store (new_work 0 packet.from)

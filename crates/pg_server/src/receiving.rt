@@ -1,14 +1,16 @@
 //! What an input does to what a server holds, and what comes of it.
 
-ghost use Rattle.std.specs.Prelude.{◌≡◌, ◌≤◌, ◌^◌, OnOk, IfOk};
+ghost use Rattle.std.specs.Prelude.{◌≡◌, ◌≤◌, ◌^◌, ◌++◌, OnOk, IfOk};
 ghost use Rattle.pg_cells.specs.Done.{idle};
 ghost use Rattle.pg_server.specs.Local.{closed, effect, effect_of, finished, is_heard, out_of, receive};
 
 use crate::input::{Input, Out};
+use pg_base::Items;
 use pg_call::{Call, Refusal, Reply};
 use pg_calls::do_call;
 use pg_cells::{ack, cell, finish, settle, tick};
-use pg_msg::{Message, Packet, Work};
+use pg_graph::{here, seek, walk, walk_of_tick};
+use pg_msg::{Message, Packet, Sent, Work};
 use pg_repair::{
     ask_all, ask_begun, begin_end, confirm, fetch, full, gone, grant, no_grant, none_here,
     place_is, tell, tell_ok,
@@ -20,12 +22,28 @@ use std::alloc::AllocError;
 /// clock that is not at its end, and no message with a later time is heard.
 const LATEST_TIME: u64 = (1 << 62) + (1 << 40);
 
-/// What comes of an event: the reply to a client, what was made, and what is sent.
-fn out_of(reply: Option<Reply>, work: Work) -> Out
-    ensures { result ≡ out_of reply work }
+/// These messages, and the others behind them.
+fn joined(sent: Items<Sent>, others: Items<Sent>) -> Result<Items<Sent>, AllocError>
+    ensures { IfOk result (λ all. all ≡ sent ++ others) }
 {
-    let Work { made, sent, .. } = work;
-    Out { reply, made, sent }
+    let mut all = sent.into_vec();
+    let mut others = others.into_vec();
+    all.append(&mut others)?;
+    Ok(Items::from_vec(all))
+}
+
+/// What comes of an event: the reply to a client, what was made, and what is sent.
+fn out_of(reply: Option<Reply>, work: Work) -> Result<Out, AllocError>
+    ensures { IfOk result (λ out. out ≡ out_of reply work) }
+{
+    let Work {
+        made,
+        sent,
+        tail,
+        ..
+    } = work;
+    let sent = joined(sent, tail)?;
+    Ok(Out { reply, made, sent })
 }
 
 /// Takes an input, and says what comes of it. Where memory ran out the store may be changed in part.
@@ -47,7 +65,7 @@ fn finished(reply: Option<Reply>, store: &Store, mut work: Work) -> Result<Out, 
 {
     finish(store, &mut work)?;
     ask_begun(store, &mut work)?;
-    Ok(out_of(reply, work))
+    out_of(reply, work)
 }
 
 /// The end of an event: the house rules run, intentions end and begin, and what was touched is sent, and the messages of the
@@ -79,7 +97,7 @@ fn call_effect(store: &mut Store, moment: u64, call: &Call) -> Result<Out, Alloc
     }
 }
 
-/// Sends again what is not acknowledged. At the end of the clock it is refused.
+/// Sends again what is not acknowledged, and last a walk, if the word chooses one. At the end of the clock it is refused.
 fn tick_effect(store: &mut Store, moment: u64, word: u64) -> Result<Out, AllocError>
     ensures store { OnOk result (store.new ≡ (effect store.old (Input.Tick moment word)).store) }
     ensures out { IfOk result (λ out. out ≡ (effect store.old (Input.Tick moment word)).out) }
@@ -88,6 +106,7 @@ fn tick_effect(store: &mut Store, moment: u64, word: u64) -> Result<Out, AllocEr
     if store.is_in_time() {
         tick(store, &mut work)?;
         ask_all(store, &mut work)?;
+        walk_of_tick(store, word, &mut work)?;
         Ok(closed(Some(Reply::Done), store, work)?)
     } else {
         let reply = Reply::Refused(Refusal::ClockEnd);
@@ -165,8 +184,8 @@ fn receive(store: &mut Store, message: Message, work: &mut Work) -> Result<(), A
             Ok(())
         }
         Message::Full { ends } => full(store, ends, work),
-        Message::Seek { .. } => Ok(()),
-        Message::Here { .. } => Ok(()),
+        Message::Seek { file, birth } => seek(store, file, birth, work),
+        Message::Here { ends } => here(store, ends, work),
         Message::NoneHere { ask, file, child } => {
             none_here(store, ask, file, child, work);
             Ok(())
@@ -187,7 +206,13 @@ fn receive(store: &mut Store, message: Message, work: &mut Work) -> Result<(), A
         Message::Leave { .. } => Ok(()),
         Message::LeaveOk { .. } => Ok(()),
         Message::Invite { .. } => Ok(()),
-        Message::Walk { .. } => Ok(()),
-        Message::Meet { .. } => Ok(()),
+        Message::Walk {
+            ends,
+            origin,
+            birth,
+            hops,
+            word,
+        } => walk(store, ends, origin, birth, hops, word, work),
+        Message::Meet { ends } => here(store, ends, work),
     }
 }

@@ -4,4 +4,6 @@
 #[cfg(test)]
 mod confirming;
 #[cfg(test)]
+mod linking;
+#[cfg(test)]
 mod steps;

@@ -1,6 +1,6 @@
 -- The house rules are the second part of a step, but for what the intentions give.
 use Rattle.std.proofs.Common.{ℕ, ◌≡◌, None, Some, sym, subst, ◌∙◌}
-use Rattle.std.proofs.lemmas.Option.{same_Some}
+use Rattle.std.proofs.lemmas.Option.{none-some, same_Some}
 use Rattle.pg_base.specs.declared.id.FileId.{FileId}
 use Rattle.pg_register.specs.declared.place.Place.{Place}
 use Rattle.pg_msg.specs.declared.work.Work.{Work}
@@ -11,7 +11,7 @@ use Rattle.pg_house.specs.House.{house}
 use Rattle.pg_listing.specs.Protocol.{IsIn, IsUpTo}
 use Rattle.pg_listing.specs.Rule.{HasCell, Holds, IsSettled, IsToldAt}
 use Rattle.pg_listing.specs.Parts.{NoneLater, SecondPart}
-use Rattle.pg_settled.specs.Listing.{Beside, listing}
+use Rattle.pg_settled.specs.Listing.{Beside, HaveSamePlaces, listing}
 use Rattle.pg_settled.specs.Second.{Intends, RulesAreSecondParts, Seen}
 use Rattle.pg_settled.proofs.Given.{cells_grow, nothing_begins, own_places_grow, parents_at_start, settled_behind, unheld_stay}
 
@@ -35,6 +35,36 @@ gives moment s work of_dirs sorted last =
       unheld = λ d c none. (unheld_stay moment st c (nothing_begins moment st c none)).1 d;
       parent = parents_at_start moment st of_dirs sorted;
     }
+
+-- and where the places are the same
+module _ (e t : NamesValue) (same : HaveSamePlaces e t) where
+  holds_too : (f : FileId) → Holds listing e f → Holds listing t f
+  holds_too f h = (h.0, same.own f ∙ h.1)
+
+  held_too : (f : FileId) → Holds listing t f → Holds listing e f
+  held_too f h = (h.0, sym (same.own f) ∙ h.1)
+
+  has_too : (d c : FileId) → HasCell listing e d c → HasCell listing t d c
+  has_too d c h = (h.0, same.cells d c ∙ h.1)
+
+  settled_too : IsSettled listing e → IsSettled listing t
+  settled_too k = record {
+    cells = λ d c q h. holds_too d (k.cells d c q (sym (same.cells d c) ∙ h));
+    passing = λ d c q r inner h i. k.passing d c q r inner (sym (same.own c) ∙ h) (sym (same.cells d c) ∙ i);
+    own_parent = λ d c q h in_ held. has_too d c (k.own_parent d c q (sym (same.own c) ∙ h) in_ (held_too d held));
+    patch_of = λ d c q h i. absurd (none-some q h);
+    not_past = λ f n h e past. past;
+  }
+
+  gives_too : (s : NamesValue) → Gives s e → Gives s t
+  gives_too s g = record {
+    settled = settled_too g.settled;
+    own = λ f q h. (let x = g.own f q h in (x.0, same.own f ∙ x.1, x.2));
+    gone = λ f h. same.own f ∙ g.gone f h;
+    cells = λ d c q h. (let x = g.cells d c q h in (x.0, same.cells d c ∙ x.1, x.2));
+    unheld = λ d c h. same.cells d c ∙ g.unheld d c h;
+    parent = λ d c q h in_ held none. has_too d c (g.parent d c q h in_ held none);
+  }
 
 module _ {N : Type 0} (see : N → NamesValue) (beside : Beside N) where
   -- a live place in a directory is so however the server is seen
@@ -74,5 +104,5 @@ module _ {N : Type 0} (see : N → NamesValue) (beside : Beside N) where
     }
 
   pub rules_are_second_parts : RulesAreSecondParts see beside
-  rules_are_second_parts moment work a m b of_dirs sorted last e i =
-      second a m b (subst (Gives (see m)) (sym e) (gives moment (see m) work of_dirs sorted last)) i
+  rules_are_second_parts moment work a m b of_dirs sorted last same i =
+      second a m b (gives_too (house moment (state_of (see m) work)).names (see b) same (see m) (gives moment (see m) work of_dirs sorted last)) i

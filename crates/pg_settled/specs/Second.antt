@@ -11,7 +11,7 @@ use Rattle.pg_house.specs.House.{house}
 use Rattle.pg_listing.specs.Protocol.{Protocol, Above, AtLeast, IsIn, Lists}
 use Rattle.pg_listing.specs.Rule.{Holds, IsToldAt}
 use Rattle.pg_listing.specs.Parts.{SecondPart}
-use Rattle.pg_settled.specs.Listing.{Beside, listing_of}
+use Rattle.pg_settled.specs.Listing.{Beside, HaveSamePlaces, listing_of}
 
 module _ {N : Type 0} (see : N → NamesValue) (beside : Beside N) where
   abbrev pub Seen : Protocol N FileId Place Stamp
@@ -42,10 +42,10 @@ module _ {N : Type 0} (see : N → NamesValue) (beside : Beside N) where
         (d c : FileId) (q : Place)
         → beside.Confirms m d c → Lists Seen b d c q → Seen.own b c ≡ None → beside.Confirms b d c
 
-  -- where the names in the end are those behind the rules
+  -- where the places in the end are those behind the rules
   abbrev pub RulesAreSecondParts : Type 0
   RulesAreSecondParts =
       (moment : ℕ) (work : Work) (a m b : N)
       → IsOfDirs (see m) → AreByServer (see m) → IsLast (see m)
-      → see b ≡ (house moment (state_of (see m) work)).names
+      → HaveSamePlaces (house moment (state_of (see m) work)).names (see b)
       → Intends a m b → SecondPart Seen a m b

@@ -61,7 +61,7 @@ pub fn climbs_come_out()
     ensures { ClimbsComeOut }
 {}
 
-/// Where names in the end are those behind the rules, they are the second part of a step, as
+/// Where places in the end are those behind the rules, they are the second part of a step, as
 /// `parts_are_steps` of `pg_listing` wants it, but for what the intentions give: births, Patches
 /// and Confirms.
 pub fn rules_are_second_parts<K: Keeping>()

@@ -165,7 +165,7 @@ module _ (moment : ℕ) (names : NamesValue) (work : Work) where
   End = Alone moment names work
 
   none_before : (x : Touched) → IsIn x End.work.touched → NameHas End.names x.file x.key
-  none_before x h = elim ((house_touches moment (state_of names (with_lists work work.sent []))).new x h) [ inl none ↦ absurd none | inr has ↦ has ]
+  none_before x h = elim ((house_touches moment (state_of names (with_lists work work []))).new x h) [ inl none ↦ absurd none | inr has ↦ has ]
 
   pub new_has : (x : Touched) → IsIn x (drop (length work.touched) (house moment (state_of names work)).work.touched) → NameHas (house moment (state_of names work)).names x.file x.key
   new_has x h =

@@ -24,8 +24,8 @@ use Rattle.pg_edges.specs.declared.key.Key.{Key}
 use Rattle.pg_ticks.proofs.Keyed.{NameHas}
 use Rattle.pg_ticks.proofs.KeysCells.{AllHaveCells, HaveCells, HaveIn, beside_have, entry_have, flag_have, place_have}
 use Rattle.pg_ticks.proofs.KeysLinks.{acknowledged_have, link_have, unlink_have}
-use Rattle.pg_ticks.proofs.KeysVersions.{begin_have, fill_have, settled_have, version_have, write_have}
-use Rattle.pg_ticks.proofs.Pieces.{OutlivesPieces, called, intended_left, received}
+use Rattle.pg_ticks.proofs.KeysVersions.{begin_have, fill_have, ruled_have, version_have, write_have}
+use Rattle.pg_ticks.proofs.Pieces.{OutlivesPieces, called, intended_left, received, settled_left}
 
 pieces : OutlivesPieces AllHaveCells
 pieces = record {
@@ -40,7 +40,7 @@ pieces = record {
   begin = λ a f birth policy own full h. begin_have a f birth policy own full h;
   fill = λ a f h. fill_have a f h;
   beside = λ a b names replicas h. unseen_have a b names replicas h;
-  rules = λ a work h. settled_have a work h;
+  rules = λ a work h. ruled_have a work h;
 }
   where
     unseen_have : (a b : Store) → b.names ≡ a.names → b.replicas ≡ a.replicas → AllHaveCells a → AllHaveCells b
@@ -63,7 +63,7 @@ parts = record {
   calls = λ a moment c h. called AllHaveCells pieces a c (new_work moment 0) h;
   arrivals = λ a packet heard came h. received AllHaveCells pieces a packet.message (new_work 0 packet.from) h;
   restarts = λ a h. pieces.beside a (without_wishes a) refl refl h;
-  rules = λ d h. settled_have d.store d.work h;
+  rules = λ d h. settled_left AllHaveCells pieces d.store d.work h;
   intentions = λ d h. intended_left AllHaveCells pieces d.store d.work h;
 }
 

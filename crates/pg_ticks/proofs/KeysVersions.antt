@@ -41,7 +41,7 @@ use Rattle.pg_store.specs.declared.store.Store.{Store}
 use Rattle.pg_store.specs.Beginning.{begin, patches_of, put_new, take_patch, take_patches, take_told, take_told_in, with_intents}
 use Rattle.pg_store.specs.Cells.{version_cell}
 use Rattle.pg_store.specs.Store.{content_of, is_new_version, put_version, replica_at, take_version, with_drawn, with_names, write}
-use Rattle.pg_cells.specs.Settling.{settle}
+use Rattle.pg_cells.specs.Settling.{rules}
 use Rattle.pg_house.proofs.Truths.{not_true}
 use Rattle.pg_promises.proofs.Choices.{decided}
 use Rattle.pg_promises.proofs.Stores.{Changes, by_file, replica_elsewhere, replica_here}
@@ -241,8 +241,8 @@ fill_have a f k = named_have a (fill a.names f) stays k
 
 -- ---- the house rules
 
-pub settled_have : (a : Store) (work : Work) → AllHaveCells a → AllHaveCells (settle a work).store
-settled_have a work k =
+pub ruled_have : (a : Store) (work : Work) → AllHaveCells a → AllHaveCells (rules a work).store
+ruled_have a work k =
     let names = (house work.now (state_of a.names work)).names in
     let ts = drop (length work.touched) (house work.now (state_of a.names work)).work.touched in
     touches_have (with_names a names) ts (λ x h. new_has work.now a.names work x h) (named_have a names (old_has work.now a.names work) k)

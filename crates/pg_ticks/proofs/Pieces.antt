@@ -13,6 +13,7 @@ use Rattle.pg_entries.specs.declared.entry.Entry.{Entry}
 use Rattle.pg_edges.specs.declared.key.Key.{Key}
 use Rattle.pg_intent.specs.declared.key.IntentKey.TheVariants as intent_key
 use Rattle.pg_intent.specs.declared.intent.Intent.{Intent}
+use Rattle.pg_intent.specs.declared.intent.Intent.TheVariants as intent
 use Rattle.pg_intent.specs.Intents.{intent_at}
 use Rattle.pg_msg.specs.declared.message.Ask.{Ask}
 use Rattle.pg_msg.specs.declared.message.Ends.{Ends}
@@ -41,8 +42,11 @@ use Rattle.pg_cells.specs.declared.accepting.Manner.{Manner}
 use Rattle.pg_cells.specs.declared.accepting.Manner.TheVariants as manner
 use Rattle.pg_cells.specs.Accepting.{accept, is_accepted, met}
 use Rattle.pg_cells.specs.Cells.{cell, fits, taken, taken_along}
+use Rattle.pg_cells.specs.Golds.{is_gold}
 use Rattle.pg_cells.specs.Done.{Done, idle, link_of}
-use Rattle.pg_cells.specs.Settling.{settle}
+use Rattle.pg_cells.specs.Making.{lower_flag, own_next}
+use Rattle.pg_cells.specs.Settling.{ruled, settle}
+use Rattle.pg_cells.proofs.Settled.{settle_keeps}
 use Rattle.pg_cells.specs.Taking.{take_flag_noted, take_flags_noted, take_place_noted}
 use Rattle.pg_repair.specs.Beginning.{begin_end, end_others}
 use Rattle.pg_repair.specs.Confirming.{confirm, is_confirmed, place_is, place_told, take_told_flags, take_told_place}
@@ -54,7 +58,10 @@ use Rattle.pg_repair.specs.Granting.{aim_fill, begin_granted, begun_by, fill_ask
 use Rattle.pg_repair.specs.Intending.{begin_intent, each, in_order}
 use Rattle.pg_repair.specs.NoneHere.{asking_key, does_ask, none_here}
 use Rattle.pg_repair.specs.Patches.{begin_patch, begin_patches, patch_of}
+use Rattle.pg_graph.specs.Seeking.{seek}
+use Rattle.pg_graph.specs.Seeks.{aim_seek, begin_seek, has_seek, seek_again, seek_target, to_seek, was_linked}
 use Rattle.pg_repair.specs.Telling.{is_told, tell, tell_ok}
+use Rattle.pg_graph.specs.Walks.{goes_on, meet_origin, onward, walk, walk_on, walked}
 use Rattle.pg_walk.specs.declared.paths.Found.{Found}
 use Rattle.pg_walk.specs.declared.paths.Stop.{Stop}
 use Rattle.pg_walk.specs.declared.paths.Stop.TheVariants as stop
@@ -63,6 +70,7 @@ use Rattle.pg_calls.specs.Asking.{ask_by, ask_first, fresh_wish, standing}
 use Rattle.pg_calls.specs.Bodies.{change, change_file, when_fit}
 use Rattle.pg_calls.specs.Calls.{do_call}
 use Rattle.pg_calls.specs.Checks.{dir_at, empty_dir_at, file_at, in_time, move_of, new_name, target_at}
+use Rattle.pg_calls.specs.Demoting.{demoted_at}
 use Rattle.pg_calls.specs.Making.{drawn, first_ranges, make_place}
 use Rattle.pg_calls.specs.Naming.{begun, next_id, place_in, with_id, with_thing}
 use Rattle.pg_server.specs.Local.{receive}
@@ -82,7 +90,7 @@ pub record OutlivesPieces (P : Store → Type 0) : Type 0 where
   pub begin : (a : Store) (f : FileId) (birth : ℕ) (policy : Policy) (own : Own) (full : Bool) → P a → P (begin a f birth policy own full)
   pub fill : (a : Store) (f : FileId) → P a → P (with_names a (names.fill a.names f))
   pub beside : (a b : Store) → b.names ≡ a.names → b.replicas ≡ a.replicas → P a → P b
-  pub rules : (a : Store) (work : Work) → P a → P (settle a work).store
+  pub rules : (a : Store) (work : Work) → P a → P (ruled (idle a work)).store
 
 module _ (P : Store → Type 0) (k : OutlivesPieces P) where
   -- what a handler leaves
@@ -178,6 +186,21 @@ module _ (P : Store → Type 0) (k : OutlivesPieces P) where
   none_here_left a what f child work h =
       chosen P (does_ask (intent_at a.intents (asking_key what f child)) work.from) _ a (unseen a _ refl refl h) h
 
+  seek_left : (a : Store) (f : FileId) (birth : ℕ) (work : Work) → P a → Left (seek a f birth work)
+  seek_left a f birth work h =
+      chosen Left (is_held a f) (cond (knows_later a f work.from birth) (idle a work) _) _
+      (chosen Left (knows_later a f work.from birth) (idle a work) _ h (k.link a f work.from birth h)) h
+
+  walk_left : (a : Store) (ends : Ends) (origin birth hops word : ℕ) (work : Work) → P a → Left (walk a ends origin birth hops word work)
+  walk_left a ends origin birth hops word work h =
+      let on = onward a ends.file work.from origin in
+      let next = walked a ends origin birth hops word on work in
+      chosen Left (is_accepted a work.from manner.Ask ends) (cond (origin == a.names.server) (idle a work) next) (accept a ends manner.Ask work)
+      (chosen Left (origin == a.names.server) (idle a work) next h
+      (chosen Left (goes_on hops on) (idle a (walk_on a ends.file origin birth hops word on work)) (meet_origin a ends.file origin birth work) h
+      (k.link a ends.file origin birth h)))
+      (accept_left a ends manner.Ask work h)
+
   pub received : (a : Store) (m : Message) (work : Work) → P a → Left (receive a m work)
   received a (message.Cell ends tag c) work h = cell_left a ends tag c work h
   received a (message.Ack ends key tag) work h = k.answer a ends.file (link_of work.from ends) key tag h
@@ -187,12 +210,16 @@ module _ (P : Store → Type 0) (k : OutlivesPieces P) where
       let next = next_target a work.from in
       filled_left (turn_wish a file birth work.from next) file birth work.from next (turned_left a file birth work.from next h)
   received a (message.Full ends) work h = full_left a ends work h
+  received a (message.Seek file birth) work h = seek_left a file birth work h
+  received a (message.Here ends) work h = accept_left a ends manner.Link work h
   received a (message.NoneHere what file child) work h = none_here_left a what file child work h
   received a (message.Gone file birth) work h = k.unlink a file work.from birth h
   received a (message.Confirm dir entry) work h = confirm_left a dir entry work h
   received a (message.PlaceIs dir entry) work h = place_is_left a dir entry work h
   received a (message.Tell dir entry) work h = tell_left a dir entry work h
   received a (message.TellOk dir child stamp) work h = tell_ok_left a dir child stamp work h
+  received a (message.Walk ends origin birth hops word) work h = walk_left a ends origin birth hops word work h
+  received a (message.Meet ends) work h = accept_left a ends manner.Link work h
   received a m work h = h
 
   -- ---- calls
@@ -253,7 +280,9 @@ module _ (P : Store → Type 0) (k : OutlivesPieces P) where
   called a (call.Unlink path) work h = answered_left a work (file_at a path) _ h (λ f. k.place a f _ h)
   called a (call.Rmdir path) work h = answered_left a work (empty_dir_at a path) _ h (λ dir. k.place a dir _ h)
   called a (call.Forget id) work h = looked a work (in_time a (tt {0})) _ h (λ found. refl)
-  called a (call.Demote target) work h = looked a work (in_time a (tt {0})) _ h (λ found. refl)
+  called a (call.Demote target) work h =
+      answered_left a work (demoted_at a target) _ h
+      (λ f. chosen Left (is_gold a f) (lower_flag a f work) (idle a work) (k.flag a f (own_next a f false) h) h)
   called a (call.Drop target) work h = looked a work (in_time a (tt {0})) _ h (λ found. refl)
   called a (call.Giveup view server) work h = looked a work (in_time a (tt {0})) _ h (λ found. refl)
   called a call.Status work h = looked a work (in_time a (tt {0})) _ h (λ found. refl)
@@ -281,6 +310,14 @@ module _ (P : Store → Type 0) (k : OutlivesPieces P) where
       let one : P next = chosen P (is_held a f) a (without_wished a f (wish_at a f)) h (wished_left a f (wish_at a f) h) in
       chosen Left (is_some (fill_at a f)) (idle a work) (begin_intent next (fill_of a f work) work) h (began next (fill_of a f work) work one)
 
+  again_left : (a : Store) (f : FileId) (work : Work) → P a → P (seek_again a f work)
+  again_left a f work h = chosen P (was_linked work.linked f) (aim_seek a f) a (unseen a (aim_seek a f) refl refl h) h
+
+  seeking_left : (a : Store) (f : FileId) (work : Work) → P a → Left (begin_seek a f work)
+  seeking_left a f work h =
+      let i = intent.Seek f (seek_target a f) in
+      chosen Left (has_seek a f) (idle (seek_again a f work) work) (begin_intent a i work) (again_left a f work h) (began a i work h)
+
   each_left : {A : Type 0} (step : Store → A → Work → Done) → ((a : Store) (x : A) (work : Work) → P a → Left (step a x work))
       → (a : Store) (xs : List A) (work : Work) → P a → Left (each step a xs work)
   each_left step one a [] work h = h
@@ -293,4 +330,12 @@ module _ (P : Store → Type 0) (k : OutlivesPieces P) where
       let first : Left one = each_left begin_patch patch_left rest (in_order work.left) work (unseen a rest refl refl h) in
       let two = each begin_fill one.store (to_fill a.names) one.work in
       let second : Left two = each_left begin_fill fill_left one.store (to_fill a.names) one.work first in
-      each_left begin_confirm confirmed_left two.store (in_order two.work.unsure) two.work second
+      let three = each begin_seek two.store (to_seek a) two.work in
+      let third : Left three = each_left begin_seek seeking_left two.store (to_seek a) two.work second in
+      each_left begin_confirm confirmed_left three.store (in_order three.work.unsure) three.work third
+
+  -- ---- the house rules run, and flags are raised
+
+  pub settled_left : (a : Store) (work : Work) → P a → Left (settle a work)
+  settled_left a work h =
+      settle_keeps (λ s w. P s) (λ s w is. k.rules s w is) (λ s f w less is. k.flag s f (own_next s f true) is) a work h

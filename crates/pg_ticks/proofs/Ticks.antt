@@ -15,6 +15,8 @@ tidy n g events s least most =
     record {
       order = g.order events s least most;
       ordered = g.ordered events s least most;
+      golds = g.golds events s least most;
+      by_id = g.things events s least most;
       still = g.intends.still events s least most;
       still_without = g.intends.still_without events s least most;
       asked = g.intends.asked events s least most;

@@ -1,5 +1,8 @@
 -- What other laws say of every run, on which those of ticks and restarts rest.
 use Rattle.std.specs.Prelude.{ℕ, ◌≡◌, [], All, List, Some}
+use Rattle.std.specs.List.Sorted.{IsStrictlySortedBy}
+use Rattle.std.specs.Map.{keys_of}
+use Rattle.pg_base.specs.Id.{file_cmp}
 use Rattle.pg_event.specs.declared.event.Event.{Event}
 use Rattle.pg_house.specs.Facts.{AreOrdered}
 use Rattle.pg_msg.specs.declared.message.Message.{Message}
@@ -10,6 +13,7 @@ use Rattle.pg_promises.specs.Whole.{IsWhole}
 use Rattle.pg_repair.specs.Beginning.{begin_end}
 use Rattle.pg_repair.specs.Requests.{request}
 use Rattle.pg_server.specs.Local.{without_wishes}
+use Rattle.pg_run.specs.Golds.{FullReplicasSeeGold}
 use Rattle.pg_run.specs.Laws.{AtEach, HouseIsInOrder, names_after, store_after}
 
 -- entries are by child
@@ -17,9 +21,15 @@ abbrev pub NamesAreOrdered : ℕ → Type 0
 NamesAreOrdered servers = (events : List Event)
     → AtEach servers (λ s. AreOrdered (names_after servers events s))
 
--- no intention ends or begins, where no place was replaced and no doubtful cell came
+-- things are by id
+abbrev pub ThingsAreOrdered : ℕ → Type 0
+ThingsAreOrdered servers = (events : List Event)
+    → AtEach servers (λ s. IsStrictlySortedBy file_cmp (keys_of (names_after servers events s).held))
+
+-- no intention ends or begins, where no place was replaced, no doubtful cell came and no edge was made
 abbrev pub StaysIntended : Store → Type 0
-StaysIntended a = (work : Work) → work.left ≡ [] → work.unsure ≡ [] → begin_end a work ≡ idle a work
+StaysIntended a = (work : Work) → work.left ≡ [] → work.unsure ≡ [] → work.linked ≡ []
+    → begin_end a work ≡ idle a work
 
 -- what an intention is about is here, so it has a message
 abbrev pub HaveRequests : Store → Type 0
@@ -42,5 +52,7 @@ ServersAreWhole servers = (events : List Event)
 pub record TidinessIsGiven (servers : ℕ) : Type 0 where
   pub order : HouseIsInOrder servers
   pub ordered : NamesAreOrdered servers
+  pub things : ThingsAreOrdered servers
+  pub golds : FullReplicasSeeGold servers
   pub intends : IntentionsAreStill servers
   pub whole : ServersAreWhole servers

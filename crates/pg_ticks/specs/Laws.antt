@@ -18,6 +18,8 @@ use Rattle.pg_msg.specs.Sent.{summary}
 use Rattle.pg_store.specs.Cells.{cell_at}
 use Rattle.pg_replica.specs.declared.replica.Replica.{Replica}
 use Rattle.pg_store.specs.Store.{replica_at}
+use Rattle.pg_cells.specs.Done.{idle}
+use Rattle.pg_cells.specs.Settling.{settle}
 use Rattle.pg_server.specs.Owing.{owed}
 use Rattle.pg_run.specs.Journal.{bag}
 use Rattle.pg_run.specs.Laws.{AtEach, names_after, store_after}
@@ -69,3 +71,8 @@ abbrev pub NoRuleApplies : ℕ → Type 0
 NoRuleApplies servers = (events : List Event) → AtEach servers (λ s. (moment : ℕ) (work : Work)
     → house moment (state_of (names_after servers events s) work)
     ≡ state_of (names_after servers events s) work)
+
+-- nor is a flag to be raised: the end of a further event leaves all as it is
+abbrev pub NoFlagIsRaised : ℕ → Type 0
+NoFlagIsRaised servers = (events : List Event) → AtEach servers (λ s. (work : Work)
+    → settle (store_after servers events s) work ≡ idle (store_after servers events s) work)

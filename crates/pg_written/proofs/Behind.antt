@@ -7,9 +7,11 @@ use Rattle.std.proofs.lemmas.List.Elements.{All-append, All-cons, All-head, All-
 use Rattle.pg_base.specs.declared.id.FileId.{FileId}
 use Rattle.pg_base.proofs.Entries.{All-insert_entry}
 use Rattle.pg_intent.specs.declared.intent.Intent.{Intent}
+use Rattle.pg_intent.specs.declared.intent.Intent.TheVariants as intent
 use Rattle.pg_intent.specs.declared.key.IntentKey.{IntentKey}
+use Rattle.pg_intent.specs.declared.key.IntentKey.TheVariants as intent_key
 use Rattle.pg_intent.specs.Intent.{key_of}
-use Rattle.pg_intent.specs.Intents.{begun, stands}
+use Rattle.pg_intent.specs.Intents.{aimed, begun, stands}
 use Rattle.pg_msg.specs.declared.work.Slot.{Slot}
 use Rattle.pg_msg.specs.declared.work.Touched.{Touched}
 use Rattle.pg_msg.specs.declared.work.Work.{Work}
@@ -25,16 +27,18 @@ use Rattle.pg_house.proofs.Truths.{chosen}
 use Rattle.pg_cells.specs.Done.{Done, idle}
 use Rattle.pg_cells.specs.Finish.{finish}
 use Rattle.pg_cells.specs.Sending.{cells_where, is_chosen}
-use Rattle.pg_cells.specs.Settling.{settle, touch_all}
+use Rattle.pg_cells.specs.Settling.{rules, settle, touch_all}
+use Rattle.pg_cells.proofs.Settled.{settle_keeps}
 use Rattle.pg_repair.specs.Beginning.{begin_end, end_others, still_stands}
 use Rattle.pg_repair.specs.Confirms.{begin_confirm, confirm_of, is_doubtful}
 use Rattle.pg_repair.specs.Fills.{begin_fill, fill_of, files_to_fill, to_fill, with_fill_birth, without_wished}
 use Rattle.pg_repair.specs.Intending.{Slots, add_slots, begin_intent, each, in_order, with_begun_if}
 use Rattle.pg_repair.specs.Patches.{begin_patch, begin_patches, patch_of}
+use Rattle.pg_graph.specs.Seeks.{aim_seek, begin_seek, has_seek, seek_again, seek_target, to_seek, was_linked}
 use Rattle.pg_server.specs.Local.{sent_at_end}
-use Rattle.pg_written.proofs.Handlers.{own_entry_suits}
+use Rattle.pg_written.proofs.Handlers.{flag_raised, own_entry_suits}
 use Rattle.pg_written.proofs.House.{IsOfDir, StateSuits, SuitsSlot, WorkSuits, house_suits}
-use Rattle.pg_written.proofs.Intents.{SuitsIntent, begun_suit, kept_suit}
+use Rattle.pg_written.proofs.Intents.{SuitsIntent, aimed_suit, begun_suit, kept_suit}
 use Rattle.pg_written.proofs.Messages.{AllSuit, Suits}
 use Rattle.pg_written.proofs.Sending.{begun_asked, cells_suit}
 use Rattle.pg_written.proofs.Stores.{DoneSuits, StoreSuits, intended_suits, named_suits, touch_suits}
@@ -45,8 +49,8 @@ all_touched : (s : Store) (ts : List Touched) → StoreSuits s → StoreSuits (t
 all_touched s [] h = h
 all_touched s (t ∷ ts) h = all_touched (touch s t.file t.key) ts (touch_suits s h t.file t.key)
 
-pub settled_suits : (s : Store) (work : Work) → DoneSuits (idle s work) → DoneSuits (settle s work)
-settled_suits s work h =
+rules_suit : (s : Store) (work : Work) → DoneSuits (idle s work) → DoneSuits (rules s work)
+rules_suit s work h =
     let begun = state_of s.names work in
     let end = house work.now begun in
     let k : StateSuits Suits end = house_suits Suits work.now begun (record { names = h.store.names; work = h.work }) in
@@ -54,6 +58,10 @@ settled_suits s work h =
       store = all_touched (with_names s end.names) (drop (length work.touched) end.work.touched) (named_suits s h.store end.names k.names);
       work = k.work;
     }
+
+pub settled_suits : (s : Store) (work : Work) → DoneSuits (idle s work) → DoneSuits (settle s work)
+settled_suits s work h =
+    settle_keeps (λ t w. DoneSuits (idle t w)) rules_suit (λ t file w less k. flag_raised t file w k) s work h
 
 -- ---- slots in order
 
@@ -108,6 +116,18 @@ fill_suits s f work k h =
     chosen DoneSuits (is_some (fill_at s f)) (idle s work) (begin_intent next (fill_of s f work) work) h
     (intent_suits next (fill_of s f work) work tt (record { store = birth; work = h.work }))
 
+again_suits : (s : Store) (f : FileId) (work : Work) → StoreSuits s → StoreSuits (seek_again s f work)
+again_suits s f work h =
+    let aimed_is = aimed s.intents (intent_key.Seek f) (seek_target s f) in
+    chosen StoreSuits (was_linked work.linked f) (aim_seek s f) s
+    (intended_suits s h aimed_is (aimed_suit s.intents (intent_key.Seek f) (seek_target s f) h.intents)) h
+
+seek_suits : (s : Store) (f : FileId) (work : Work) → Unit {0} → DoneSuits (idle s work) → DoneSuits (begin_seek s f work)
+seek_suits s f work k h =
+    let i = intent.Seek f (seek_target s f) in
+    chosen DoneSuits (has_seek s f) (idle (seek_again s f work) work) (begin_intent s i work)
+    (record { store = again_suits s f work h.store; work = h.work }) (intent_suits s i work tt h)
+
 each_suits : {A : Type 0} (P : A → Type 0) (step : Store → A → Work → Done)
     → ((s : Store) (x : A) (work : Work) → P x → DoneSuits (idle s work) → DoneSuits (step s x work))
     → (s : Store) (xs : List A) (work : Work) → All P xs → DoneSuits (idle s work) → DoneSuits (each step s xs work)
@@ -129,8 +149,11 @@ intended s work h =
     let two = each begin_fill one.store (to_fill s.names) one.work in
     let b : DoneSuits two = each_suits (λ (f : FileId). Unit {0}) begin_fill fill_suits one.store (to_fill s.names) one.work (every (to_fill s.names))
     (record { store = a.store; work = a.work }) in
-    each_suits IsOfDir begin_confirm confirm_suits two.store (in_order two.work.unsure) two.work (in_order_have IsOfDir two.work.unsure b.work.unsure)
-    (record { store = b.store; work = b.work })
+    let three = each begin_seek two.store (to_seek s) two.work in
+    let c : DoneSuits three = each_suits (λ (f : FileId). Unit {0}) begin_seek seek_suits two.store (to_seek s) two.work (every (to_seek s))
+    (record { store = b.store; work = b.work }) in
+    each_suits IsOfDir begin_confirm confirm_suits three.store (in_order three.work.unsure) three.work (in_order_have IsOfDir three.work.unsure c.work.unsure)
+    (record { store = c.store; work = c.work })
 
 -- ---- what is sent at the end
 

@@ -8,6 +8,7 @@ use Rattle.pg_base.specs.declared.policy.Policy.TheVariants.{Last}
 use Rattle.pg_base.specs.declared.stamp.Stamp.{Stamp}
 use Rattle.pg_call.specs.declared.call.Call.{Call}
 use Rattle.pg_call.specs.declared.call.Call.TheVariants as call
+use Rattle.pg_call.specs.declared.call.Target.{Target}
 use Rattle.pg_call.specs.declared.reply.Reply.{Reply}
 use Rattle.pg_call.specs.declared.reply.Reply.TheVariants as reply
 use Rattle.pg_call.specs.Call.{IsCall}
@@ -25,13 +26,16 @@ use Rattle.pg_house.proofs.Truths.{chosen}
 use Rattle.pg_walk.specs.declared.paths.Found.{Found}
 use Rattle.pg_walk.specs.declared.paths.Stop.{Stop}
 use Rattle.pg_walk.specs.declared.paths.Stop.TheVariants as stop
+use Rattle.pg_cells.specs.Golds.{is_gold}
 use Rattle.pg_cells.specs.Done.{Done, idle}
+use Rattle.pg_cells.specs.Making.{lower_flag}
 use Rattle.pg_cells.specs.Posting.{post}
 use Rattle.pg_calls.specs.Answer.{Answer, answer, answered, deny, replied, told}
 use Rattle.pg_calls.specs.Asking.{ask_by, ask_first, ask_for, fetch, fresh_wish, holder, standing}
 use Rattle.pg_calls.specs.Bodies.{change, change_file, read, shown_part, when_fit}
 use Rattle.pg_calls.specs.Calls.{do_call}
 use Rattle.pg_calls.specs.Checks.{dir_at, empty_dir_at, file_at, in_time, move_of, new_name, target_at}
+use Rattle.pg_calls.specs.Demoting.{demote, demoted_at, lowered}
 use Rattle.pg_calls.specs.Looks.{counts, listing, ls, page, stat_of, stop as stop_call}
 use Rattle.pg_calls.specs.Making.{drawn, first_ranges, make_place, make_version, version_of}
 use Rattle.pg_calls.specs.Naming.{begun, create, dead_place, mkdir, next_id, place_in, rename, taken_away, with_id, with_thing}
@@ -39,7 +43,7 @@ use Rattle.pg_calls.proofs.Checked.{fit_found}
 use Rattle.pg_trace.specs.Suited.{IsCallAnswer, SuitsUpdate}
 use Rattle.pg_trace.proofs.Lines.{few_taken}
 use Rattle.pg_written.proofs.Found.{file_found, moved_name, named}
-use Rattle.pg_written.proofs.Handlers.{flag_raised}
+use Rattle.pg_written.proofs.Handlers.{flag_lowered, flag_raised}
 use Rattle.pg_written.proofs.House.{WorkSuits}
 use Rattle.pg_written.proofs.Messages.{Suits}
 use Rattle.pg_written.proofs.Places.{IsOwnPlace, blank_suits, own_place, suits_place}
@@ -197,6 +201,15 @@ module _ (K : Type 0) (s : Store) (work : Work) (h : DoneSuits (idle s work)) wh
       replied_suits K s work (dir_at s text) (λ dir. page (listing dir (known s.names dir)) from) h
       (λ dir k. page_suits s.names dir from h.store.names)
 
+  -- a flag is lowered, or not
+  lowered_suits : (f : FileId) → DoneSuits (lowered s f work)
+  lowered_suits f = chosen DoneSuits (is_gold s f) (lower_flag s f work) (idle s work) (flag_lowered s f work h) h
+
+  demoted_suits : (target : Target) → (K → IsCallAnswer reply.Done) → CallSuits K (demote s target work)
+  demoted_suits target told =
+      answered_suits K s work (demoted_at s target) _ h
+      (λ f e. let a = lowered_suits f in record { told = told; done = record { store = a.store; work = a.work } })
+
   stop_suits : CallSuits K (stop_call s work)
   stop_suits = replied_suits K s work (in_time s (tt {0})) (λ found. reply.Done) h (λ found k. tt)
 
@@ -216,7 +229,7 @@ call_suits s work h (call.Rename from to) = rename_suits (IsCall (call.Rename fr
 call_suits s work h (call.Unlink path) = gone_suits (IsCall (call.Unlink path)) s work h (file_at s path) reply.Done (λ k. tt)
 call_suits s work h (call.Rmdir path) = gone_suits (IsCall (call.Rmdir path)) s work h (empty_dir_at s path) reply.Done (λ k. tt)
 call_suits s work h (call.Forget id) = stop_suits (IsCall (call.Forget id)) s work h
-call_suits s work h (call.Demote target) = stop_suits (IsCall (call.Demote target)) s work h
+call_suits s work h (call.Demote target) = demoted_suits (IsCall (call.Demote target)) s work h target (λ k. tt)
 call_suits s work h (call.Drop target) = stop_suits (IsCall (call.Drop target)) s work h
 call_suits s work h (call.Giveup view server) = stop_suits (IsCall (call.Giveup view server)) s work h
 call_suits s work h call.Status =

@@ -1,5 +1,5 @@
 -- What is told of one event suits, and what all servers hold and what is under way behind it; and so of any run.
-use Rattle.std.proofs.Common.{ℕ, ◌≡◌, ◌==◌, Bool, true, false, cond, List, [], ◌++◌, Option, None, Some, All, refl}
+use Rattle.std.proofs.Common.{ℕ, ◌≡◌, ◌==◌, Bool, true, false, cond, List, [], ◌++◌, Option, None, Some, All, refl, sym, subst}
 use Rattle.std.specs.List.{AllByRecursion, flat_map}
 use Rattle.std.proofs.lemmas.List.Elements.{All-append, All-nil, recursion_from_All}
 use Rattle.pg_call.specs.declared.call.Call.{Call}
@@ -11,6 +11,7 @@ use Rattle.pg_event.specs.declared.entry.VoidCause.TheVariants.{NoServer, Unbuil
 use Rattle.pg_event.specs.declared.event.Event.{Event}
 use Rattle.pg_event.specs.declared.event.Event.TheVariants.{Call as Called, Tick, Deliver, Lose, Repeat, Restart, Remove}
 use Rattle.pg_event.specs.Event.{IsEvent}
+use Rattle.pg_msg.specs.declared.message.Message.TheVariants as message
 use Rattle.pg_msg.specs.declared.message.Packet.{Packet}
 use Rattle.pg_msg.specs.declared.message.Sent.{Sent}
 use Rattle.pg_msg.specs.declared.work.Work.{Work}
@@ -21,20 +22,25 @@ use Rattle.pg_store.specs.Store.{is_in_time}
 use Rattle.pg_house.proofs.Truths.{chosen}
 use Rattle.pg_cells.specs.Done.{Done, idle}
 use Rattle.pg_cells.specs.Sending.{cells_where, is_any}
-use Rattle.pg_repair.specs.Requests.{asks}
+use Rattle.pg_cells.specs.Ticks.{tick}
+use Rattle.pg_repair.specs.Fetching.{ends_to}
+use Rattle.pg_repair.specs.Requests.{ask_all, asks}
 use Rattle.pg_calls.specs.Calls.{do_call, is_built}
 use Rattle.pg_server.specs.declared.input.Input.{Input}
 use Rattle.pg_server.specs.declared.input.Input.TheVariants as input
-use Rattle.pg_server.specs.Local.{Effect, closed, done_of, effect, finished, intended, is_heard, receive, sent_again, settled, without_wishes}
+use Rattle.pg_server.specs.Local.{Effect, closed, done_of, effect, finished, first_effect, intended, is_heard, receive, sent_again, sent_at_end, settled, without_wishes}
 use Rattle.pg_run.specs.Journal.{bag, bag_after, message_at, with_copy, without}
 use Rattle.pg_run.specs.Run.{Step, World, bag_step, delivery_step, effect_step, idle_step, is_server, next, server_step, unbuilt_step, world_after}
+use Rattle.pg_run.proofs.Event.{nothing_last}
+use Rattle.pg_run.proofs.LastWalks.{walks_have}
+use Rattle.pg_run.proofs.Walks.{again_is, tick_walks}
 use Rattle.pg_run.proofs.Bags.{at_message, left_copied, left_without}
 use Rattle.pg_trace.specs.Suited.{Answers, IsSuited, SuitsKind, SuitsUpdate}
 use Rattle.pg_written.proofs.Behind.{ended_suits, intended as intentions_suit, settled_suits}
 use Rattle.pg_written.proofs.Calls.{call_suits}
-use Rattle.pg_written.proofs.Handlers.{received_suits}
+use Rattle.pg_written.proofs.Received.{received_suits}
 use Rattle.pg_written.proofs.House.{IsOfDir, SuitsSlot, WorkSuits}
-use Rattle.pg_written.proofs.Messages.{AllSuit, Suits, SuitsMessage}
+use Rattle.pg_written.proofs.Messages.{AllSuit, Suits, SuitsMessage, sent_suits}
 use Rattle.pg_written.proofs.Sending.{all_asked, cells_suit}
 use Rattle.pg_written.proofs.Stores.{DoneSuits, StoreSuits}
 
@@ -53,16 +59,29 @@ new_suits now from = record { made = All-nil SuitsUpdate; sent = All-nil Suits; 
 begun : (s : Store) (now from : ℕ) → StoreSuits s → DoneSuits (idle s (new_work now from))
 begun s now from h = record { store = h; work = new_suits now from }
 
-finished_suits : (e : Event) (answer : Option Reply) (done : Done) → (IsEvent e → Answers e answer) → DoneSuits done → EffectSuits e (finished answer done)
-finished_suits e answer done told h = record { store = h.store; made = h.work.made; sent = ended_suits done h; told = told }
+-- of the walks that go last nothing is told but their files
+walks_suit : (s : Store) (asked : Input) → AllSuit (first_effect s asked).work.tail
+walks_suit s asked =
+    walks_have Suits s asked (λ file e origin birth hops word.
+    sent_suits s e.peer (message.Walk (ends_to s file e.birth) origin birth hops word) (record { about = λ g. g; told = λ g. g; carried = tt }))
 
-closed_suits : (e : Event) (answer : Option Reply) (done : Done) → (IsEvent e → Answers e answer) → DoneSuits done → EffectSuits e (closed answer done)
-closed_suits e answer done told h =
+finished_suits : (e : Event) (answer : Option Reply) (done : Done) → (IsEvent e → Answers e answer) → AllSuit done.work.tail → DoneSuits done
+    → EffectSuits e (finished answer done)
+finished_suits e answer done told last h = record {
+  store = h.store;
+  made = h.work.made;
+  sent = All-append Suits (sent_at_end done).sent done.work.tail (ended_suits done h) last;
+  told = told;
+}
+
+closed_suits : (e : Event) (answer : Option Reply) (done : Done) → (IsEvent e → Answers e answer) → AllSuit done.work.tail → DoneSuits done
+    → EffectSuits e (closed answer done)
+closed_suits e answer done told last h =
     let one = settled done in
     let a : DoneSuits one = settled_suits done.store done.work (record { store = h.store; work = h.work }) in
     let two = intended one in
     let b : DoneSuits two = intentions_suit one.store one.work (record { store = a.store; work = a.work }) in
-    finished_suits e answer two told b
+    finished_suits e answer two told (subst AllSuit (sym (nothing_last done)) last) b
 
 called_suits : (s : Store) (server moment : ℕ) (c : Call) → StoreSuits s → EffectSuits (Called server moment c) (effect s (input.Call moment c))
 called_suits s server moment c h =
@@ -70,8 +89,9 @@ called_suits s server moment c h =
     let a = do_call s c (new_work moment 0) in
     let is = call_suits s (new_work moment 0) (begun s moment 0 h) c in
     let told : IsEvent e → Answers e (Some a.reply) = (λ k. is.told k.2) in
+    let last : AllSuit a.work.tail = walks_suit s (input.Call moment c) in
     chosen (EffectSuits e) (is_in_time s) (closed (Some a.reply) (done_of a)) (finished (Some a.reply) (done_of a))
-    (closed_suits e (Some a.reply) (done_of a) told is.done) (finished_suits e (Some a.reply) (done_of a) told is.done)
+    (closed_suits e (Some a.reply) (done_of a) told last is.done) (finished_suits e (Some a.reply) (done_of a) told last is.done)
 
 module _ (s : Store) (h : StoreSuits s) (server moment word : ℕ) where
   abbrev Ticked : Event
@@ -80,32 +100,30 @@ module _ (s : Store) (h : StoreSuits s) (server moment word : ℕ) where
   abbrev Begun : Work
   Begun = new_work moment 0
 
-  again_suits : DoneSuits (idle s (sent_again s Begun))
+  again_suits : DoneSuits (idle s (sent_again s word Begun))
   again_suits =
       let cells = cells_where s is_any in
       let none = new_suits moment 0 in
-      record {
-        store = h;
-        work = record {
-          made = none.made;
-          sent = All-append Suits cells (flat_map (asks s) s.intents) (cells_suit s h.names is_any) (all_asked s h);
-          left = none.left;
-          unsure = none.unsure;
-        };
-      }
+      let all : WorkSuits Suits (record (ask_all s (tick s Begun)) { tail = tick_walks s word }) = record {
+        made = none.made;
+        sent = All-append Suits cells (flat_map (asks s) s.intents) (cells_suit s h.names is_any) (all_asked s h);
+        left = none.left;
+        unsure = none.unsure;
+      } in
+      record { store = h; work = subst (WorkSuits Suits) (sym (again_is s word Begun)) all }
 
   abbrev Answering : Bool → Option Reply
   Answering t = Some (cond t reply.Done (reply.Refused ClockEnd))
 
   abbrev Working : Bool → Done
-  Working t = idle s (cond t (sent_again s Begun) Begun)
+  Working t = idle s (cond t (sent_again s word Begun) Begun)
 
-  by_clock : (t : Bool) → EffectSuits Ticked (cond t (closed (Answering t) (Working t)) (finished (Answering t) (Working t)))
-  by_clock true = closed_suits Ticked (Some reply.Done) (idle s (sent_again s Begun)) (λ k. tt) again_suits
-  by_clock false = finished_suits Ticked (Some (reply.Refused ClockEnd)) (idle s Begun) (λ k. refl) (begun s moment 0 h)
+  by_clock : (t : Bool) → AllSuit (Working t).work.tail → EffectSuits Ticked (cond t (closed (Answering t) (Working t)) (finished (Answering t) (Working t)))
+  by_clock true last = closed_suits Ticked (Some reply.Done) (idle s (sent_again s word Begun)) (λ k. tt) last again_suits
+  by_clock false last = finished_suits Ticked (Some (reply.Refused ClockEnd)) (idle s Begun) (λ k. refl) last (begun s moment 0 h)
 
   pub ticked_suits : EffectSuits Ticked (effect s (input.Tick moment word))
-  ticked_suits = by_clock (is_in_time s)
+  ticked_suits = by_clock (is_in_time s) (walks_suit s (input.Tick moment word))
 
 module _ (s : Store) (h : StoreSuits s) (number : ℕ) (p : Packet) (k : SuitsMessage p.message) where
   abbrev Come : Work
@@ -117,12 +135,12 @@ module _ (s : Store) (h : StoreSuits s) (number : ℕ) (p : Packet) (k : SuitsMe
   abbrev Hearing : Bool → Done
   Hearing t = cond t Received (idle s Come)
 
-  by_hearing : (t : Bool) → EffectSuits (Deliver number) (cond t (closed None (Hearing t)) (finished None (Hearing t)))
-  by_hearing true = closed_suits (Deliver number) None Received (λ e. tt) (received_suits s p.message Come k (begun s 0 p.from h))
-  by_hearing false = finished_suits (Deliver number) None (idle s Come) (λ e. tt) (begun s 0 p.from h)
+  by_hearing : (t : Bool) → AllSuit (Hearing t).work.tail → EffectSuits (Deliver number) (cond t (closed None (Hearing t)) (finished None (Hearing t)))
+  by_hearing true last = closed_suits (Deliver number) None Received (λ e. tt) last (received_suits s p.message Come k (begun s 0 p.from h))
+  by_hearing false last = finished_suits (Deliver number) None (idle s Come) (λ e. tt) last (begun s 0 p.from h)
 
   pub arrived_suits : EffectSuits (Deliver number) (effect s (input.Arrival p))
-  arrived_suits = by_hearing (is_heard s p)
+  arrived_suits = by_hearing (is_heard s p) (walks_suit s (input.Arrival p))
 
 restarted_suits : (s : Store) (server : ℕ) → StoreSuits s → EffectSuits (Restart server) (effect s input.Restart)
 restarted_suits s server h =
@@ -130,7 +148,7 @@ restarted_suits s server h =
     let done = idle (without_wishes s) (new_work 0 0) in
     let k : DoneSuits done = record { store = record { names = h.names; intents = h.intents }; work = new_suits 0 0 } in
     chosen (EffectSuits e) (is_in_time s) (closed None done) (finished None done)
-    (closed_suits e None done (λ x. tt) k) (finished_suits e None done (λ x. tt) k)
+    (closed_suits e None done (λ x. tt) (All-nil Suits) k) (finished_suits e None done (λ x. tt) (All-nil Suits) k)
 
 -- ---- an event
 

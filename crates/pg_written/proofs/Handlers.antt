@@ -1,5 +1,5 @@
 -- Each message keeps places that suit, and is answered by what suits.
-use Rattle.std.proofs.Common.{ℕ, ◌≡◌, ◌&&◌, ◌||◌, not, nat_lt, true, false, cond, Option, None, Some, refl, inr}
+use Rattle.std.proofs.Common.{ℕ, ◌≡◌, ◌-◌, ◌&&◌, ◌||◌, not, nat_lt, true, false, cond, Option, None, Some, refl, inr}
 use Rattle.std.proofs.lemmas.Bool.{false≢true}
 use Rattle.std.proofs.lemmas.List.Elements.{All-push}
 use Rattle.pg_base.specs.declared.id.FileId.{FileId}
@@ -44,7 +44,7 @@ use Rattle.pg_cells.specs.declared.accepting.Manner.TheVariants as manner
 use Rattle.pg_cells.specs.Accepting.{accept, is_accepted, is_answer, link_peer, met, with_gone}
 use Rattle.pg_cells.specs.Cells.{cell, fits, taken, taken_along}
 use Rattle.pg_cells.specs.Done.{Done, idle}
-use Rattle.pg_cells.specs.Making.{make_flag, own_next, raise_flag}
+use Rattle.pg_cells.specs.Making.{lower_flag, make_flag, own_next, raise_flag}
 use Rattle.pg_cells.specs.Posting.{reply}
 use Rattle.pg_cells.specs.Taking.{take_entry_noted, take_flags_noted, take_place_noted}
 use Rattle.pg_repair.specs.Confirming.{confirm, end_confirmed, is_confirmed, own_entry, place_is, place_told, take_told_place}
@@ -53,26 +53,25 @@ use Rattle.pg_repair.specs.Filling.{fill, few_golds, full, live_golds}
 use Rattle.pg_repair.specs.Granting.{aim_fill, begin_granted, begun_by, fill_asks, grant, granted_own, no_grant, turn_fill, turn_wish, wish_asks}
 use Rattle.pg_repair.specs.NoneHere.{asking_key, does_ask, none_here}
 use Rattle.pg_repair.specs.Telling.{is_told, tell, tell_ok}
-use Rattle.pg_server.specs.Local.{receive}
 use Rattle.pg_trace.specs.Suited.{SuitsUpdate}
 use Rattle.pg_written.proofs.Intents.{aimed_suit, ended_suit}
-use Rattle.pg_written.proofs.Messages.{SuitsCell, SuitsChild, SuitsMessage, SuitsPost, about_dir}
+use Rattle.pg_written.proofs.Messages.{SuitsCell, SuitsChild, SuitsPost, about_dir}
 use Rattle.pg_written.proofs.Places.{IsOwnPlace, SuitsEntry, blank_suits, fill_suits, thing_place}
-use Rattle.pg_written.proofs.Stores.{DoneSuits, StoreSuits, begun_suits, entry_noted, entry_taken, flag_noted, flags_noted, intended_suits, named_suits, peer_linked, place_noted, posted, unlink_suits, version_noted}
+use Rattle.pg_written.proofs.Stores.{DoneSuits, StoreSuits, begun_suits, entry_noted, entry_taken, flag_noted, flags_noted, intended_suits, named_suits, peer_linked, place_noted, posted, version_noted}
 
 dir_by : (k : Kind) → is_dir_kind k ≡ true → k ≡ Dir
 dir_by Dir h = refl
 dir_by File h = absurd (false≢true h)
 
 -- a store of which only what is neither names nor intentions is another
-abbrev Suited : Store → Work → Type 0
+abbrev pub Suited : Store → Work → Type 0
 Suited s work = DoneSuits (idle s work)
 
-replied : (s : Store) (m : Message) (work : Work) → SuitsPost m → Suited s work → Suited s (reply s m work)
+pub replied : (s : Store) (m : Message) (work : Work) → SuitsPost m → Suited s work → Suited s (reply s m work)
 replied s m work k h = record { store = h.store; work = posted s work.from m work k h.work }
 
 -- a message of which nothing but its file is told
-abbrev Plain : Message → Type 0
+abbrev pub Plain : Message → Type 0
 Plain m = SuitsPost m
 
 -- ---- along edges
@@ -85,7 +84,7 @@ met_suits s ends manner.Link work h = peer_linked s work h ends.file work.from e
 met_suits s ends manner.Ask work h = h
 met_suits s ends manner.Answer work h = h
 
-accept_suits : (s : Store) (ends : Ends) (m : Manner) (work : Work) → Suited s work → DoneSuits (accept s ends m work)
+pub accept_suits : (s : Store) (ends : Ends) (m : Manner) (work : Work) → Suited s work → DoneSuits (accept s ends m work)
 accept_suits s ends m work h =
     chosen DoneSuits (has_birth s ends.file ends.receiver) (cond (knows_later s ends.file work.from ends.sender) (idle s work) (met s ends m work))
     (idle s (with_gone s ends m work))
@@ -112,7 +111,7 @@ along_suits ends tag c done fit k h =
           (record { about = λ g. g; told = λ g. g; carried = tt }) t.work;
     }
 
-cell_suits : (s : Store) (ends : Ends) (tag : ℕ) (c : Cell) (work : Work) → SuitsCell ends.file c → Suited s work → DoneSuits (cell s ends tag c work)
+pub cell_suits : (s : Store) (ends : Ends) (tag : ℕ) (c : Cell) (work : Work) → SuitsCell ends.file c → Suited s work → DoneSuits (cell s ends tag c work)
 cell_suits s ends tag c work k h =
     let met = accept s ends manner.Link work in
     let a : DoneSuits met = accept_suits s ends manner.Link work h in
@@ -145,7 +144,7 @@ answer_suits s f birth work h =
     chosen (Suited s) (is_clean s f work.from birth) (reply s (message.Full ends) work) (give s ends work)
     (replied s (message.Full ends) work (full_post ends) h) (given_suits s ends (replica_at s f) work h)
 
-fetch_suits : (s : Store) (f : FileId) (birth : ℕ) (work : Work) → Suited s work → DoneSuits (fetch s f birth work)
+pub fetch_suits : (s : Store) (f : FileId) (birth : ℕ) (work : Work) → Suited s work → DoneSuits (fetch s f birth work)
 fetch_suits s f birth work h =
     let met = link_peer s f work.from birth work in
     let linked = peer_linked s work h f work.from birth in
@@ -175,7 +174,7 @@ granted_suits s ends g work k h =
       work = linked.work;
     }
 
-grant_suits : (s : Store) (ends : Ends) (g : Granted) (work : Work) → IsOwnPlace ends.file g.place → Suited s work
+pub grant_suits : (s : Store) (ends : Ends) (g : Granted) (work : Work) → IsOwnPlace ends.file g.place → Suited s work
     → DoneSuits (grant s ends g work)
 grant_suits s ends g work k h =
     chosen DoneSuits (is_pending s ends.file ends.receiver) (begin_granted s ends g work) (accept s ends manner.Link work)
@@ -190,7 +189,7 @@ turned_fill : (s : Store) (f : FileId) (birth from next : ℕ) → StoreSuits s 
 turned_fill s f birth from next h =
     chosen StoreSuits (fill_asks (fill_at s f) birth from) (aim_fill s f next) s (aimed_store s (intent_key.Fill f) next h) h
 
-no_grant_suits : (s : Store) (f : FileId) (birth : ℕ) (work : Work) → Suited s work → DoneSuits (no_grant s f birth work)
+pub no_grant_suits : (s : Store) (f : FileId) (birth : ℕ) (work : Work) → Suited s work → DoneSuits (no_grant s f birth work)
 no_grant_suits s f birth work h =
     let next = next_target s work.from in
     record {
@@ -214,6 +213,9 @@ raised_suits s f g work h =
       };
     }) f g
 
+pub flag_lowered : (s : Store) (f : FileId) (work : Work) → Suited s work → DoneSuits (lower_flag s f work)
+flag_lowered s f work h = raised_suits s f (own_next s f false) work h
+
 pub flag_raised : (s : Store) (f : FileId) (work : Work) → Suited s work → DoneSuits (raise_flag s f work)
 flag_raised s f work h = raised_suits s f (own_next s f true) work h
 
@@ -223,7 +225,7 @@ filled_suits s f work h =
     let k : Suited next work = record { store = named_suits s h.store (names.fill s.names f) (fill_suits s.names f h.store.names); work = h.work } in
     chosen DoneSuits (nat_lt (live_golds next f) few_golds) (raise_flag next f work) (idle next work) (flag_raised next f work k) k
 
-full_suits : (s : Store) (ends : Ends) (work : Work) → Suited s work → DoneSuits (full s ends work)
+pub full_suits : (s : Store) (ends : Ends) (work : Work) → Suited s work → DoneSuits (full s ends work)
 full_suits s ends work h =
     chosen DoneSuits (is_accepted s work.from manner.Answer ends && not (is_full s ends.file)) (fill s ends.file work) (idle s work)
     (filled_suits s ends.file work h) h
@@ -243,7 +245,7 @@ told_place s e work k h =
     chosen DoneSuits (is_root e.child) (idle s work) (take_place_noted s e.child e.place work) h
     (place_noted s work h e.child e.place (record { parent = k.place.parent; name = inr k.place.name }))
 
-confirm_suits : (s : Store) (dir : FileId) (e : Entry) (work : Work) → SuitsChild dir e → Suited s work → DoneSuits (confirm s dir e work)
+pub confirm_suits : (s : Store) (dir : FileId) (e : Entry) (work : Work) → SuitsChild dir e → Suited s work → DoneSuits (confirm s dir e work)
 confirm_suits s dir e work k h =
     let one = take_told_place s e work in
     let a = told_place s e work k.1 h in
@@ -264,14 +266,14 @@ confirmed_suits s dir e h =
     chosen StoreSuits (is_confirmed s dir e.child e.place.stamp) (with_intents s (ended s.intents key)) s
     (intended_suits s h (ended s.intents key) (ended_suit s.intents key h.intents)) h
 
-place_is_suits : (s : Store) (dir : FileId) (e : Entry) (work : Work) → SuitsChild dir e → Suited s work → DoneSuits (place_is s dir e work)
+pub place_is_suits : (s : Store) (dir : FileId) (e : Entry) (work : Work) → SuitsChild dir e → Suited s work → DoneSuits (place_is s dir e work)
 place_is_suits s dir e work k h =
     let next = take_entry_noted s dir e work in
     let a = entry_noted s work h dir e k.1 in
     chosen DoneSuits (is_held s dir) (idle (end_confirmed next.store dir e) next.work) (idle s work)
     (record { store = confirmed_suits next.store dir e a.store; work = a.work }) h
 
-tell_suits : (s : Store) (dir : FileId) (e : Entry) (work : Work) → SuitsChild dir e → Suited s work → DoneSuits (tell s dir e work)
+pub tell_suits : (s : Store) (dir : FileId) (e : Entry) (work : Work) → SuitsChild dir e → Suited s work → DoneSuits (tell s dir e work)
 tell_suits s dir e work k h =
     let next = take_entry_noted s dir e work in
     let a = entry_noted s work h dir e k.1 in
@@ -280,7 +282,7 @@ tell_suits s dir e work k h =
     (replied next.store answer next.work (record { about = about_dir dir k.0; told = λ g. g; carried = tt }) (record { store = a.store; work = a.work }))
     (replied s (message.NoneHere ask.Patch dir e.child) work (record { about = λ g. g; told = λ g. g; carried = tt }) h)
 
-tell_ok_suits : (s : Store) (dir child : FileId) (stamp : Stamp) (work : Work) → Suited s work → DoneSuits (tell_ok s dir child stamp work)
+pub tell_ok_suits : (s : Store) (dir child : FileId) (stamp : Stamp) (work : Work) → Suited s work → DoneSuits (tell_ok s dir child stamp work)
 tell_ok_suits s dir child stamp work h =
     let key = intent_key.Patch dir child in
     record {
@@ -289,7 +291,7 @@ tell_ok_suits s dir child stamp work h =
       work = h.work;
     }
 
-none_here_suits : (s : Store) (what : Ask) (f child : FileId) (work : Work) → Suited s work → DoneSuits (none_here s what f child work)
+pub none_here_suits : (s : Store) (what : Ask) (f child : FileId) (work : Work) → Suited s work → DoneSuits (none_here s what f child work)
 none_here_suits s what f child work h =
     let key = asking_key what f child in
     record {
@@ -297,22 +299,3 @@ none_here_suits s what f child work h =
           (aimed_store s key (next_target s work.from) h.store) h.store;
       work = h.work;
     }
-
--- ---- any message
-
-pub received_suits : (s : Store) (m : Message) (work : Work) → SuitsMessage m → Suited s work → DoneSuits (receive s m work)
-received_suits s (message.Cell ends tag c) work k h = cell_suits s ends tag c work k h
-received_suits s (message.Ack ends key tag) work k h =
-    record { store = record { names = h.store.names; intents = h.store.intents }; work = h.work }
-received_suits s (message.Fetch file birth) work k h = fetch_suits s file birth work h
-received_suits s (message.Grant ends granted) work k h = grant_suits s ends granted work k h
-received_suits s (message.NoGrant file birth) work k h = no_grant_suits s file birth work h
-received_suits s (message.Full ends) work k h = full_suits s ends work h
-received_suits s (message.NoneHere what file child) work k h = none_here_suits s what file child work h
-received_suits s (message.Gone file birth) work k h =
-    record { store = unlink_suits s h.store file work.from birth; work = h.work }
-received_suits s (message.Confirm dir entry) work k h = confirm_suits s dir entry work k h
-received_suits s (message.PlaceIs dir entry) work k h = place_is_suits s dir entry work k h
-received_suits s (message.Tell dir entry) work k h = tell_suits s dir entry work k h
-received_suits s (message.TellOk dir child stamp) work k h = tell_ok_suits s dir child stamp work h
-received_suits s m work k h = h

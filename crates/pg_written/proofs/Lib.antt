@@ -6,6 +6,7 @@ pub mod Found
 pub mod House
 pub mod Stores
 pub mod Handlers
+pub mod Received
 pub mod Sending
 pub mod Behind
 pub mod Calls

@@ -6,6 +6,7 @@ returns c = λ n. record {
     order = c.house_is_in_order.ensures n;
     whole = c.servers_are_whole.ensures.whole n;
     first = c.servers_are_whole.ensures.first n;
+    ordered = c.servers_are_whole.ensures.ordered n;
     by_id = c.servers_are_whole.ensures.order n;
     named = c.all_is_named.ensures.named n;
     placed = c.all_is_named.ensures.placed n;
@@ -43,9 +44,10 @@ returns c = λ n. record {
     known = c.births_are_known.ensures n;
   };
   flags = record {
-    own = c.flags_are_own.ensures.own n;
+    numbers = c.flags_are_own.ensures.numbers n;
     known = c.flags_are_own.ensures.known n;
-    first = c.flags_are_own.ensures.first n;
+    golds = c.golds_are_seen.ensures n;
+    named = c.golds_are_named.ensures n;
   };
   names = record {
     one_place = c.one_place_a_stamp.ensures n;

@@ -40,6 +40,12 @@ returns-clause-clock c = λ n few. joined.clock n (c.laws_are_cited.ensures n) f
 pub returns-clause-owed : goal.returns-clause-owed
 returns-clause-owed c = λ n. joined.owed n (c.laws_are_cited.ensures n)
 
+pub returns-clause-golds : goal.returns-clause-golds
+returns-clause-golds c = λ n. joined.golds n (c.laws_are_cited.ensures n)
+
+pub returns-clause-named : goal.returns-clause-named
+returns-clause-named c = λ n. joined.named_golds n (c.laws_are_cited.ensures n)
+
 pub returns-clause-known : goal.returns-clause-known
 returns-clause-known c = λ n. joined.births n (c.laws_are_cited.ensures n)
 

@@ -1,5 +1,5 @@
 use Rattle.pg_repair.specs.Confirms.{begin_confirm, begin_confirms}
-use Rattle.pg_repair.proofs.Steps.{Comes}
+use Rattle.pg_graph.proofs.Each.{Comes}
 use Rattle.pg_repair.proofs.confirms.begin_confirms.Given as goal
 
 abbrev pub invariant-loop-slot : goal.invariant-loop-slot

@@ -3,7 +3,7 @@ use Rattle.std.specs.Map.{keys_of}
 use Rattle.std.specs.Map.Iter.{deref}
 use Rattle.std.proofs.lemmas.Map.Iter.{rest_more}
 use Rattle.pg_repair.specs.Fills.{begin_fill, begin_fills}
-use Rattle.pg_repair.proofs.Steps.{begins, one_each}
+use Rattle.pg_graph.proofs.Each.{begins, one_each}
 use Rattle.pg_repair.proofs.fills.begin_fills.Goals as goal
 
 pub loop-file-init : goal.loop-file-init

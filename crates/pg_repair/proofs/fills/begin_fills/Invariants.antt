@@ -1,6 +1,6 @@
 use Rattle.std.specs.Map.{keys_of}
 use Rattle.pg_repair.specs.Fills.{begin_fill, begin_fills}
-use Rattle.pg_repair.proofs.Steps.{Comes}
+use Rattle.pg_graph.proofs.Each.{Comes}
 use Rattle.pg_repair.proofs.fills.begin_fills.Given as goal
 
 abbrev pub invariant-loop-file : goal.invariant-loop-file

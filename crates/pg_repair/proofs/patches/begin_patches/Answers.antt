@@ -4,7 +4,7 @@ use Rattle.std.specs.Map.Iter.{deref}
 use Rattle.std.proofs.lemmas.Map.Iter.{rest_more}
 use Rattle.pg_repair.specs.Intending.{add_slots, in_order}
 use Rattle.pg_repair.specs.Patches.{begin_patch, begin_patches}
-use Rattle.pg_repair.proofs.Steps.{begins, one_each}
+use Rattle.pg_graph.proofs.Each.{begins, one_each}
 use Rattle.pg_repair.proofs.patches.begin_patches.Goals as goal
 
 pub loop-slot-init : goal.loop-slot-init

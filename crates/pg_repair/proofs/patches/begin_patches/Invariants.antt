@@ -1,5 +1,5 @@
 use Rattle.pg_repair.specs.Patches.{begin_patch, begin_patches}
-use Rattle.pg_repair.proofs.Steps.{Comes}
+use Rattle.pg_graph.proofs.Each.{Comes}
 use Rattle.pg_repair.proofs.patches.begin_patches.Given as goal
 
 abbrev pub invariant-loop-slot : goal.invariant-loop-slot

@@ -1,0 +1,108 @@
+-- What a server does that raises no flag, and a filling replica that is full.
+use Rattle.std.proofs.Common.{ℕ, ◌≡◌, ◌&&◌, true, false, not, List, Option, None, Some, is_some, refl, subst, ◌∙◌, inl}
+use Rattle.std.specs.Prelude.{nat_lt}
+use Rattle.std.proofs.lemmas.Bool.{and_parts}
+use Rattle.pg_base.specs.declared.id.FileId.{FileId}
+use Rattle.pg_content.specs.Content.{Among}
+use Rattle.pg_msg.specs.declared.message.Ends.{Ends}
+use Rattle.pg_msg.specs.declared.update.Update.{Update}
+use Rattle.pg_msg.specs.declared.update.Update.TheVariants as update
+use Rattle.pg_msg.specs.declared.work.Work.{Work}
+use Rattle.pg_names.specs.declared.own.Own.{Own}
+use Rattle.pg_names.specs.Names.{HeldValue, NamesValue, fill as fill_names, is_full as names_full, is_full_of, known, or_blank, own_at, own_of}
+use Rattle.pg_names.proofs.Holding.{fill_same}
+use Rattle.pg_register.specs.declared.flag.Flag.{Flag}
+use Rattle.pg_register.specs.Flag.{flag_of}
+use Rattle.pg_store.specs.declared.store.Store.{Store}
+use Rattle.pg_store.specs.Births.{has_birth}
+use Rattle.pg_store.specs.Store.{is_full, replica_at, with_names}
+use Rattle.pg_store.specs.Together.{AreTogether, birth_at}
+use Rattle.pg_cells.specs.declared.accepting.Manner.TheVariants as manner
+use Rattle.pg_cells.specs.Accepting.{is_accepted, is_current}
+use Rattle.pg_cells.specs.Done.{Done, idle}
+use Rattle.pg_cells.specs.Making.{raise_flag}
+use Rattle.pg_repair.specs.Filling.{few_golds, fill, full, live_golds}
+use Rattle.pg_promises.proofs.Choices.{chosen, decided}
+use Rattle.pg_births.proofs.Here.{of_birth}
+use Rattle.pg_births.proofs.Pieces.{fill_stays}
+use Rattle.pg_births.proofs.StoreSays.{say_fill}
+use Rattle.pg_flags.proofs.Fine.{IsFine, Knows, NoFlags, fine_flag, fine_goes, fine_silent, same_made}
+use Rattle.pg_flags.proofs.Kept.{GoesOn, fill_flags, flags_at, held_born, same_goes_on}
+use Rattle.pg_flags.proofs.Known.{all_sent_less, store_less}
+use Rattle.pg_flags.proofs.Says.{Says}
+
+-- ---- what is held
+
+held_by : (o : Option HeldValue) → is_some o ≡ true → (x : HeldValue) × (o ≡ Some x)
+held_by None h = absurd (let z : false ≡ true = h in cc)
+held_by (Some x) h = (x, refl)
+
+own_by : (o : Option HeldValue) → is_full_of o ≡ true → (own : Own) × (own_of o ≡ Some own)
+own_by None h = absurd (let z : false ≡ true = h in cc)
+own_by (Some x) h = (x.own, refl)
+
+pub own_of_full : (names : NamesValue) (f : FileId) → names_full names f ≡ true
+    → (own : Own) × (own_at names f ≡ Some own)
+own_of_full names f h = own_by (known names f) h
+
+blank_by : (f : FileId) (n : ℕ) (g : Flag) (o : Option Own) → flag_of (or_blank f o).flags n ≡ Some g
+    → (own : Own) × (o ≡ Some own)
+blank_by f n g None h = absurd (let z : ◌≡◌ {A = Option Flag} None (Some g) = h in cc)
+blank_by f n g (Some own) h = (own, refl)
+
+-- what a flag is known of
+pub own_of_known : (names : NamesValue) (f : FileId) (n : ℕ) (g : Flag) → flag_of (flags_at names f) n ≡ Some g
+    → (own : Own) × (own_at names f ≡ Some own)
+own_of_known names f n g h = blank_by f n g (own_at names f) h
+
+-- what server s does, where Q was known before
+module _ (Q : FileId → Flag → Type 0) (s : ℕ) (a : Store) (together : AreTogether a) where
+  -- where it has gone on it is fine
+  abbrev pub MayGo : Done → Type 0
+  MayGo d = GoesOn a d.store → IsFine Q s d
+
+  -- no flag was made
+  pub still : (w : Work) → IsFine Q s (idle a w) → NoFlags w.made → (us : List Update) → NoFlags us
+      → (d : Done) → Says Q s us d → MayGo d
+  still w k none us more d says on =
+      let less : (f : FileId) (g : Flag) → Q f g → Knows Q s d.work.made f g = (λ f g h. inl h) in
+      fine_goes Q s (idle a w) d k (record {
+        on = λ f g there. absurd (none f g there);
+        back = λ f g there. absurd (more f g (subst (Among (update.Flag f g)) says.made there));
+      })
+      (store_less Q (Knows Q s d.work.made) less s d.store says.store)
+      (all_sent_less Q (Knows Q s d.work.made) less d.work.sent says.sent)
+      (all_sent_less Q (Knows Q s d.work.made) less d.work.tail says.tail) on
+
+  -- ---- what is filled
+
+  -- of a birth
+  module _ (w : Work) (k : IsFine Q s (idle a w)) where
+    filled : (f : FileId) → IsFine Q s (idle (with_names a (fill_names a.names f)) w)
+    filled f =
+        let b = with_names a (fill_names a.names f) in
+        fine_silent Q s (idle a w) (idle b w) k (same_made w.made w.made refl)
+        (say_fill (Knows Q s w.made) s a f k.store) refl refl
+        (same_goes_on a b (fill_stays a f).before.births (fill_flags a.names f))
+
+    fill_fine : (f : FileId) (n : ℕ) → birth_at a f ≡ Some n → IsFine Q s (fill a f w)
+    fill_fine f n birth =
+        let b = with_names a (fill_names a.names f) in
+        let x = held_by (known a.names f) (held_born a together f n birth) in
+        let own = own_of_full b.names f (fill_same a.names f x.0 x.1) in
+        chosen (IsFine Q s) (nat_lt (live_golds b f) few_golds) (raise_flag b f w) (idle b w)
+        (fine_flag Q s b w (filled f) f true n ((fill_stays a f).before.births f ∙ birth) own.0 own.1)
+        (filled f)
+
+    -- A FILLING REPLICA IS FULL
+    pub full_fine : (ends : Ends) → IsFine Q s (full a ends w)
+    full_fine ends =
+        let f = ends.file in
+        let accepted = is_accepted a w.from manner.Answer ends in
+        decided (IsFine Q s) (accepted && not (is_full a f)) (fill a f w) (idle a w)
+        (λ t.
+        let both = and_parts accepted (not (is_full a f)) t in
+        let born = (and_parts (has_birth a f ends.receiver) _
+        (and_parts (is_current a w.from ends) _ both.0).0).0 in
+        fill_fine f ends.receiver (of_birth (replica_at a f) ends.receiver born))
+        (λ e. k)

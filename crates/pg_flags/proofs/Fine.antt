@@ -1,0 +1,260 @@
+-- In the midst of an event: what is known of flags is what was known before, or was made; each is up to its server's own.
+use Rattle.std.proofs.Common.{ℕ, ◌≡◌, ◌<◌, Bool, List, Some, [], ◌∷◌, ◌++◌, All, refl, sym, ap, subst, ◌∙◌, inl, inr, ◌⊎◌, arith}
+use Rattle.pg_base.specs.declared.id.FileId.{FileId}
+use Rattle.pg_content.specs.Content.{Among}
+use Rattle.pg_edges.specs.declared.key.Key.TheVariants as key
+use Rattle.pg_msg.specs.declared.update.Update.{Update}
+use Rattle.pg_msg.specs.declared.update.Update.TheVariants as update
+use Rattle.pg_msg.specs.declared.work.Work.{Work}
+use Rattle.pg_msg.specs.Work.{with_made}
+use Rattle.pg_names.specs.declared.own.Own.{Own}
+use Rattle.pg_names.specs.Names.{own_at}
+use Rattle.pg_register.specs.declared.flag.Flag.{Flag}
+use Rattle.pg_register.specs.Flag.{flag_of}
+use Rattle.pg_store.specs.declared.store.Store.{Store}
+use Rattle.pg_store.specs.Store.{is_newer_flag}
+use Rattle.pg_store.specs.Together.{birth_at}
+use Rattle.pg_cells.specs.Done.{Done, idle}
+use Rattle.pg_cells.specs.Making.{make_flag, own_next}
+use Rattle.pg_promises.proofs.Flags.{server_of}
+use Rattle.pg_births.specs.Flags.{SaysStore}
+use Rattle.pg_births.proofs.Joined.{found_says}
+use Rattle.pg_births.proofs.StoreSays.{own_says, say_flag}
+use Rattle.pg_flags.proofs.Kept.{GoesOn, flags_at}
+use Rattle.pg_flags.proofs.Known.{all_sent_less, store_less}
+use Rattle.pg_flags.proofs.Own.{IsOwn, next_later, next_own, own_goes, own_next_on}
+use Rattle.pg_flags.proofs.Says.{SaysSent, news_mail}
+
+-- ---- lists of what was made
+
+-- this flag of the thing was made
+abbrev pub IsMade : List Update → FileId → Flag → Type 0
+IsMade us f g = Among (update.Flag f g) us
+
+-- there is none
+abbrev pub NoFlags : List Update → Type 0
+NoFlags us = (f : FileId) (g : Flag) → IsMade us f g → ⊥
+
+pub no_flags : NoFlags []
+no_flags f g there = absurd there
+
+-- the same flags were made
+pub record SameMade (us vs : List Update) : Type 0 where
+  pub on : (f : FileId) (g : Flag) → IsMade us f g → IsMade vs f g
+  pub back : (f : FileId) (g : Flag) → IsMade vs f g → IsMade us f g
+
+pub same_made : (us vs : List Update) → vs ≡ us → SameMade us vs
+same_made us vs same = record {
+  on = λ f g there. subst (Among (update.Flag f g)) (sym same) there;
+  back = λ f g there. subst (Among (update.Flag f g)) same there;
+}
+
+pub either_part : (us vs : List Update) (u : Update) → Among u (us ++ vs) → Among u us ⊎ Among u vs
+either_part [] vs u there = inr there
+either_part (w ∷ us) vs u (inl same) = inl (inl same)
+either_part (w ∷ us) vs u (inr rest) = elim (either_part us vs u rest) [
+  | inl here ↦ inl (inr here)
+  | inr here ↦ inr here
+]
+
+pub front_part : (us vs : List Update) (u : Update) → Among u us → Among u (us ++ vs)
+front_part (w ∷ us) vs u (inl same) = inl same
+front_part (w ∷ us) vs u (inr rest) = inr (front_part us vs u rest)
+front_part [] vs u there = absurd there
+
+pub last_part : (us : List Update) (v : Update) → Among v (us ++ v ∷ [])
+last_part [] v = inl refl
+last_part (u ∷ us) v = inr (last_part us v)
+
+-- what holds no flag may stand behind
+pub no_more : (us vs : List Update) → NoFlags vs → SameMade us (us ++ vs)
+no_more us vs none = record {
+  on = λ f g there. front_part us vs (update.Flag f g) there;
+  back = λ f g there. elim (either_part us vs (update.Flag f g) there) [
+    | inl here ↦ here
+    | inr here ↦ absurd (none f g here)
+  ];
+}
+
+thing_is : (f q : FileId) (g h : Flag) → update.Flag f g ≡ update.Flag q h → f ≡ q
+thing_is f q g h e = cc
+
+flag_is : (f q : FileId) (g h : Flag) → update.Flag f g ≡ update.Flag q h → g ≡ h
+flag_is f q g h e = cc
+
+-- ---- an event at server s, where Q was known before
+
+module _ (Q : FileId → Flag → Type 0) (s : ℕ) where
+  -- a flag is known: it was before, or was made
+  abbrev pub Knows : List Update → FileId → Flag → Type 0
+  Knows us f g = Q f g ⊎ IsMade us f g
+
+  -- own: those of this server are up to its own
+  -- made: what was made is this server's
+  -- one: no two flags of a thing, of one server and birth, have one number
+  pub record IsFine (d : Done) : Type 0 where
+    pub store : SaysStore (Knows d.work.made) s d.store
+    pub sent : All (SaysSent (Knows d.work.made)) d.work.sent
+    pub tail : All (SaysSent (Knows d.work.made)) d.work.tail
+    pub own : (f : FileId) (g : Flag) → Knows d.work.made f g → g.server ≡ s → IsOwn s d.store f g
+    pub made : (f : FileId) (g : Flag) → IsMade d.work.made f g → g.server ≡ s
+    pub one : (f : FileId) (g h : Flag) → Knows d.work.made f g → Knows d.work.made f h
+        → g.server ≡ h.server → g.birth ≡ h.birth → g.number ≡ h.number → g ≡ h
+
+  knows_on : (us vs : List Update) → SameMade us vs → (f : FileId) (g : Flag) → Knows us f g → Knows vs f g
+  knows_on us vs same f g (inl was) = inl was
+  knows_on us vs same f g (inr there) = inr (same.on f g there)
+
+  knows_back : (us vs : List Update) → SameMade us vs → (f : FileId) (g : Flag) → Knows vs f g → Knows us f g
+  knows_back us vs same f g (inl was) = inl was
+  knows_back us vs same f g (inr there) = inr (same.back f g there)
+
+  -- a flag that a server knows of itself is its own, of the birth of its replica
+  pub found_is : (us : List Update) (b : Store) → SaysStore (Knows us) s b → (f : FileId) (y : Flag)
+      → flag_of (flags_at b.names f) s ≡ Some y → Knows us f y × (y.server ≡ s)
+  found_is us b k f y there = (
+    found_says (Knows us f) (flags_at b.names f) s y (own_says (Knows us) s b f k) there,
+    server_of (flags_at b.names f) s y there,
+  )
+
+  -- IT GOES ON, and no flag is made
+  pub fine_goes : (d e : Done) → IsFine d → SameMade d.work.made e.work.made
+      → SaysStore (Knows e.work.made) s e.store → All (SaysSent (Knows e.work.made)) e.work.sent
+      → All (SaysSent (Knows e.work.made)) e.work.tail → GoesOn d.store e.store → IsFine e
+  fine_goes d e k same store sent tail on = record {
+    store = store;
+    sent = sent;
+    tail = tail;
+    own = λ f g there server. own_goes s d.store e.store on f g (k.own f g (back f g there) server)
+        (λ y is. let r = found_is e.work.made e.store store f y is in
+        on.births f y.birth (k.own f y (back f y r.0) r.1).birth)
+        (one_by f g there server);
+    made = λ f g there. k.made f g (same.back f g there);
+    one = λ f g h a b. k.one f g h (back f g a) (back f h b);
+  }
+    where
+      back : (f : FileId) (g : Flag) → Knows e.work.made f g → Knows d.work.made f g
+      back f g there = knows_back d.work.made e.work.made same f g there
+
+      one_by : (f : FileId) (g : Flag) (there : Knows e.work.made f g) (server : g.server ≡ s) (y : Flag)
+          → flag_of (flags_at e.store.names f) s ≡ Some y
+          → (k.own f g (back f g there) server).own.birth ≡ y.birth
+          → (k.own f g (back f g there) server).own.number ≡ y.number
+          → (k.own f g (back f g there) server).own ≡ y
+      one_by f g there server y is birth number =
+          let was = k.own f g (back f g there) server in
+          let x = found_is d.work.made d.store k.store f was.own was.there in
+          let r = found_is e.work.made e.store store f y is in
+          k.one f was.own y x.0 (back f y r.0) (x.1 ∙ sym r.1) birth number
+
+  -- what is said of what is known is said of what is known then
+  pub store_on : (d e : Done) → SameMade d.work.made e.work.made → (b : Store)
+      → SaysStore (Knows d.work.made) s b → SaysStore (Knows e.work.made) s b
+  store_on d e same b k =
+      store_less (Knows d.work.made) (Knows e.work.made) (knows_on d.work.made e.work.made same) s b k
+
+  -- the same was sent
+  pub fine_silent : (d e : Done) → IsFine d → SameMade d.work.made e.work.made
+      → SaysStore (Knows d.work.made) s e.store → e.work.sent ≡ d.work.sent → e.work.tail ≡ d.work.tail
+      → GoesOn d.store e.store → IsFine e
+  fine_silent d e k same store sent tail on =
+      let less = knows_on d.work.made e.work.made same in
+      fine_goes d e k same (store_on d e same e.store store)
+      (subst (All (SaysSent (Knows e.work.made))) (sym sent)
+      (all_sent_less (Knows d.work.made) (Knows e.work.made) less d.work.sent k.sent))
+      (subst (All (SaysSent (Knows e.work.made))) (sym tail)
+      (all_sent_less (Knows d.work.made) (Knows e.work.made) less d.work.tail k.tail)) on
+
+  -- ---- it makes its next flag of a thing that it holds
+
+  module _ (b : Store) (w : Work) (k : IsFine (idle b w)) (f : FileId) (raised : Bool) (n : ℕ)
+      (here : birth_at b f ≡ Some n) (mine : Own) (held : own_at b.names f ≡ Some mine) where
+    abbrev flag : Flag
+    flag = own_next b f raised
+
+    abbrev v : Work
+    v = with_made w (update.Flag f flag)
+
+    abbrev Then : Done
+    Then = make_flag b f flag w
+
+    server : b.names.server ≡ s
+    server = k.store.names.server
+
+    born : (x : Flag) → flag_of (flags_at b.names f) s ≡ Some x → birth_at b f ≡ Some x.birth
+    born x there = let r = found_is w.made b k.store f x there in (k.own f x r.0 r.1).birth
+
+    made_is : Then.work.made ≡ w.made ++ update.Flag f flag ∷ []
+    made_is = (news_mail (is_newer_flag b f flag) v f (key.Flag flag.server)).made
+
+    more : (q : FileId) (g : Flag) → Knows w.made q g → Knows Then.work.made q g
+    more q g (inl was) = inl was
+    more q g (inr there) =
+        inr (subst (Among (update.Flag q g)) (sym made_is) (front_part w.made (update.Flag f flag ∷ []) (update.Flag q g) there))
+
+    now : Knows Then.work.made f flag
+    now = inr (subst (Among (update.Flag f flag)) (sym made_is) (last_part w.made (update.Flag f flag)))
+
+    -- a flag that is known then was before, or is this one
+    one_of : (q : FileId) (g : Flag) → Among (update.Flag q g) (update.Flag f flag ∷ []) → (q ≡ f) × (g ≡ flag)
+    one_of q g (inl same) = (thing_is q f g flag same, flag_is q f g flag same)
+    one_of q g (inr rest) = absurd rest
+
+    parts : (q : FileId) (g : Flag) → Knows Then.work.made q g → Knows w.made q g ⊎ ((q ≡ f) × (g ≡ flag))
+    parts q g (inl was) = inl (inl was)
+    parts q g (inr there) =
+        elim (either_part w.made (update.Flag f flag ∷ []) (update.Flag q g) (subst (Among (update.Flag q g)) made_is there)) [
+          | inl old ↦ inl (inr old)
+          | inr new ↦ inr (one_of q g new)
+        ]
+
+    made_then : (q : FileId) (g : Flag) → IsMade Then.work.made q g → g.server ≡ s
+    made_then q g there =
+        elim (either_part w.made (update.Flag f flag ∷ []) (update.Flag q g) (subst (Among (update.Flag q g)) made_is there)) [
+          | inl old ↦ k.made q g old
+          | inr new ↦ ap (λ (x : Flag). x.server) (one_of q g new).1 ∙ server
+        ]
+
+    own_then : (q : FileId) (g : Flag) → g.server ≡ s → Knows w.made q g ⊎ ((q ≡ f) × (g ≡ flag)) → IsOwn s Then.store q g
+    own_then q g is (inl was) = own_next_on s b f raised server n here mine held born q g (k.own q g was is)
+    own_then q g is (inr new) =
+        let P : FileId → Type 0 = (λ x. IsOwn s Then.store x g) in
+        let R : Flag → Type 0 = (λ x. IsOwn s Then.store f x) in
+        subst P (sym new.0) (subst R (sym new.1) (next_own s b f raised server n here mine held born))
+
+    -- no flag that was known has its number
+    not_equal : (m j : ℕ) → m < j → m ≡ j → ⊥
+    not_equal m j less same = absurd (omega arith)
+
+    fresh : (q : FileId) (g h : Flag) → Knows w.made q g → q ≡ f → h ≡ flag → g.server ≡ h.server
+        → g.number ≡ h.number → ⊥
+    fresh q g h was thing is at number =
+        let P : FileId → Type 0 = (λ x. Knows w.made x g) in
+        let there : g.server ≡ s = at ∙ ap (λ (x : Flag). x.server) is ∙ server in
+        not_equal g.number flag.number
+        (next_later s b f raised server n here mine held born g (k.own f g (subst P thing was) there)).1
+        (number ∙ ap (λ (x : Flag). x.number) is)
+
+    one_then : (q : FileId) (g h : Flag) → Knows w.made q g ⊎ ((q ≡ f) × (g ≡ flag))
+        → Knows w.made q h ⊎ ((q ≡ f) × (h ≡ flag)) → g.server ≡ h.server → g.birth ≡ h.birth
+        → g.number ≡ h.number → g ≡ h
+    one_then q g h (inl a) (inl b) at birth number = k.one q g h a b at birth number
+    one_then q g h (inl a) (inr b) at birth number = absurd (fresh q g h a b.0 b.1 at number)
+    one_then q g h (inr a) (inl b) at birth number = absurd (fresh q h g b a.0 a.1 (sym at) (sym number))
+    one_then q g h (inr a) (inr b) at birth number = a.1 ∙ sym b.1
+
+    -- A FLAG IS RAISED, OR LOWERED
+    pub fine_flag : IsFine Then
+    fine_flag =
+        let mail = news_mail (is_newer_flag b f flag) v f (key.Flag flag.server) in
+        record {
+          store = say_flag (Knows Then.work.made) s b f flag now
+              (store_less (Knows w.made) (Knows Then.work.made) more s b k.store);
+          sent = subst (All (SaysSent (Knows Then.work.made))) (sym mail.sent)
+              (all_sent_less (Knows w.made) (Knows Then.work.made) more w.sent k.sent);
+          tail = subst (All (SaysSent (Knows Then.work.made))) (sym mail.tail)
+              (all_sent_less (Knows w.made) (Knows Then.work.made) more w.tail k.tail);
+          own = λ q g there is. own_then q g is (parts q g there);
+          made = made_then;
+          one = λ q g h a b. one_then q g h (parts q g a) (parts q h b);
+        }

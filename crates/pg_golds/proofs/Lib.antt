@@ -1,0 +1,4 @@
+pub mod Flags
+pub mod Named
+pub mod Seen
+pub mod Runs

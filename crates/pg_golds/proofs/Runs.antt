@@ -1,0 +1,184 @@
+-- Behind every event nothing that a server holds whole is without a live gold.
+use Rattle.std.proofs.Common.{ℕ, ◌≡◌, ◌≤◌, ◌&&◌, not, Bool, true, false, cond, zero, suc, List, [], ◌∷◌, ◌++◌, drop, length, Option, None, Some, refl, sym, ap, subst, ◌∙◌, All, arith}
+use Rattle.std.proofs.lemmas.Bool.{false≢true}
+use Rattle.std.proofs.lemmas.List.Elements.{All-nil}
+use Rattle.pg_base.specs.declared.id.FileId.{FileId}
+use Rattle.pg_base.specs.Id.{is_same_file}
+use Rattle.pg_content.proofs.Members.{all_among, any_by}
+use Rattle.pg_event.specs.declared.event.Event.{Event}
+use Rattle.pg_flood.proofs.Flood.{after_itself}
+use Rattle.pg_house.specs.Facts.{AreByServer, AreOrdered, IsLast, IsOfDirs}
+use Rattle.pg_house.specs.House.{house}
+use Rattle.pg_house.specs.Work.{state_of}
+use Rattle.pg_house.proofs.Keys.{rules_by}
+use Rattle.pg_msg.specs.Work.{new_work}
+use Rattle.pg_names.specs.Names.{NamesValue, new_held, new_names}
+use Rattle.pg_names.proofs.Holding.{begun_known}
+use Rattle.pg_register.specs.declared.flag.Flag.{Flag}
+use Rattle.pg_register.specs.Flag.{flag_of, is_live, is_removed}
+use Rattle.pg_register.specs.Place.{root}
+use Rattle.pg_replica.specs.Replicas.{ByFile, or_nothing, replica_in}
+use Rattle.pg_calls.proofs.Late.{late_does_nothing}
+use Rattle.pg_repair.proofs.Steady.{begin_end_stays}
+use Rattle.pg_server.specs.declared.input.Input.{Input}
+use Rattle.pg_server.specs.declared.input.Input.TheVariants as input
+use Rattle.pg_server.specs.Local.{effect, first_effect, intended, receive, settled, takes_effect}
+use Rattle.pg_store.specs.declared.store.Store.{Store}
+use Rattle.pg_store.specs.Births.{birth_of}
+use Rattle.pg_store.specs.Start.{first_flag, first_flags, root_own}
+use Rattle.pg_store.specs.Store.{new_store, with_names}
+use Rattle.pg_cells.specs.Done.{Done, idle}
+use Rattle.pg_cells.specs.Golds.{is_goldless_held, sees_gold}
+use Rattle.pg_cells.proofs.Calmed.{none_goldless, settle_golds}
+use Rattle.pg_cells.proofs.Ruled.{touched_names}
+use Rattle.pg_promises.specs.UpTo.{IsFlagKnownBy}
+use Rattle.pg_promises.specs.Whole.{IsWhole}
+use Rattle.pg_promises.proofs.Choices.{decided}
+use Rattle.pg_promises.proofs.Flags.{flag_there}
+use Rattle.pg_run.specs.Births.{BirthsAreAlone, BirthsAreKnown}
+use Rattle.pg_run.specs.Golds.{FullReplicasSeeGold}
+use Rattle.pg_run.specs.Run.{Taking, World, effect_step, run, start, taking_in, world_after}
+use Rattle.pg_run.proofs.Event.{store_is}
+use Rattle.pg_run.proofs.Found.{flag_found}
+use Rattle.pg_run.proofs.Frame.{Acts, each_after, holds_in_runs, next_is, run_more}
+use Rattle.pg_order.proofs.FlagsSay.{all_join}
+use Rattle.pg_order.proofs.Runs.{first_ordered, first_runs, sound_run}
+use Rattle.pg_intends.proofs.Runs.{all_rest}
+use Rattle.pg_golds.proofs.Seen.{NoneGoldless, full_see_gold, goldless_alike}
+
+-- ---- the start
+
+raised_first : (k : ℕ) → All (λ (f : Flag). f.raised ≡ true) (first_flags k)
+raised_first zero = All-nil (λ (f : Flag). f.raised ≡ true)
+raised_first (suc k) = all_join (λ (f : Flag). f.raised ≡ true) (first_flags k) (first_flag (suc k)) refl (raised_first k)
+
+live_by : (raised : Bool) → raised ≡ true → (raised && not false) ≡ true
+live_by true h = refl
+live_by false h = h
+
+sees_by : (fs : List Flag) (g : Flag) (m : ℕ) → All (λ (f : Flag). f.raised ≡ true) fs → (o : Option Flag) → flag_of fs m ≡ o → IsFlagKnownBy (Some g) o → sees_gold [] fs ≡ true
+sees_by fs g m raised None is there = absurd there
+sees_by fs g m raised (Some f) is there =
+    let among = (flag_found fs m f is).0 in
+    any_by (is_live []) fs f among (live_by f.raised (all_among (λ (x : Flag). x.raised ≡ true) fs f raised among))
+
+first_sees : (k : ℕ) → sees_gold [] (first_flags (suc k)) ≡ true
+first_sees k =
+    let fs = first_flags (suc k) in
+    let last = first_flag (suc k) in
+    sees_by fs last (suc k) (raised_first (suc k)) (flag_of fs (suc k)) refl (flag_there (first_flags k) last)
+
+some_sees : (n s : ℕ) → 1 ≤ s → s ≤ n → sees_gold [] (first_flags n) ≡ true
+some_sees zero s least most = absurd (omega arith)
+some_sees (suc k) s least most = first_sees k
+
+not_goldless : (sees later : Bool) → sees ≡ true → (true && (not sees && not later)) ≡ false
+not_goldless true later h = refl
+not_goldless false later h = absurd (false≢true h)
+
+first_by : (n s birth : ℕ) (t : Bool) → sees_gold [] (first_flags n) ≡ true
+    → is_goldless_held [] s birth (cond t (Some (new_held (root_own n) true)) None) ≡ false
+first_by n s birth true sees = not_goldless (sees_gold [] (first_flags n)) _ sees
+first_by n s birth false sees = refl
+
+first_none : (n s : ℕ) → 1 ≤ s → s ≤ n → NoneGoldless (new_store n s)
+first_none n s least most file =
+    let a = new_store n s in
+    ap (is_goldless_held [] s (birth_of a file)) (begun_known (new_names s) root (root_own n) true file)
+    ∙ first_by n s (birth_of a file) (is_same_file file root) (some_sees n s least most)
+
+-- ---- an event
+
+births_by : (a b : Store) → b.replicas ≡ a.replicas → (file : FileId) → birth_of b file ≡ birth_of a file
+births_by a b same file = ap (λ (rs : ByFile). (or_nothing (replica_in rs file)).birth) same
+
+-- what is known of removals behind the end of an event was known before the house rules
+settled_removed : (d : Done) → IsOfDirs d.store.names → AreByServer d.store.names → IsLast d.store.names → AreOrdered d.store.names
+    → (settled d).store.names.removed ≡ d.store.names.removed
+settled_removed d of_dirs sorted last ordered =
+    let st = state_of d.store.names d.work in
+    let end = house d.work.now st in
+    (settle_golds d.store d.work of_dirs sorted last ordered).removed
+    ∙ ap (λ (x : NamesValue). x.removed) (touched_names (drop (length d.work.touched) end.work.touched) (with_names d.store end.names))
+    ∙ (rules_by d.work.now st).1
+
+module _ (n s : ℕ) (a : Store) (none : NoneGoldless a) (asked : Input) (whole : IsWhole n s (first_effect a asked).store)
+    (ordered : AreOrdered (first_effect a asked).store.names) (all_live : (effect a asked).store.names.removed ≡ []) where
+  abbrev Sees : Done → Type 0
+  Sees d = NoneGoldless d.store
+
+  abbrev First : Done
+  First = first_effect a asked
+
+  abbrev End : Done
+  End = intended (settled First)
+
+  -- no server is removed before the house rules
+  first_live : takes_effect a asked ≡ true → First.store.names.removed ≡ []
+  first_live takes =
+      let end_is : (effect a asked).store ≡ End.store = store_is a asked ∙ ap (λ (t : Bool). (cond t End First).store) takes in
+      let stays = begin_end_stays (settled First).store (settled First).work in
+      sym (settled_removed First whole.names.dirs whole.names.sorted whole.names.last ordered)
+      ∙ sym (ap (λ (x : NamesValue). x.removed) stays.names)
+      ∙ sym (ap (λ (b : Store). b.names.removed) end_is) ∙ all_live
+
+  -- behind them nothing is goldless, and what is intended changes nothing of it
+  going : takes_effect a asked ≡ true → Sees End
+  going takes =
+      let m = settled First in
+      let stays = begin_end_stays m.store m.work in
+      let live : is_removed First.store.names.removed First.store.names.server ≡ false = ap (λ (rs : List ℕ). is_removed rs First.store.names.server) (first_live takes) in
+      goldless_alike m.store End.store stays.names (births_by m.store End.store stays.replicas)
+      (none_goldless First.store First.work whole.names.dirs whole.names.sorted whole.names.last ordered live)
+
+  -- without effect
+  late : (x : Input) → takes_effect a x ≡ false → Sees (first_effect a x)
+  late (input.Call moment x) is = subst NoneGoldless (sym (late_does_nothing a x (new_work moment 0) is).0) none
+  late (input.Tick moment word) is = none
+  late (input.Arrival packet) is =
+      let w = new_work 0 packet.from in
+      subst (λ (t : Bool). Sees (cond t (receive a packet.message w) (idle a w))) (sym is) none
+  late input.Restart is = none
+
+  effect_none : NoneGoldless (effect a asked).store
+  effect_none =
+      subst NoneGoldless (sym (store_is a asked))
+      (decided Sees (takes_effect a asked) (intended (settled (first_effect a asked))) (first_effect a asked)
+      going (late asked))
+
+-- ---- a run
+
+abbrev NoneIn : ℕ → ℕ → Store → Type 0
+NoneIn n s a = 1 ≤ s → s ≤ n → NoneGoldless a
+
+abbrev AllNone : ℕ → World → Type 0
+AllNone n w = (s : ℕ) → NoneIn n s (w.stores s)
+
+acted : (n : ℕ) (events : List Event) (event : Event) (t : Taking) → taking_in n (run n events) event ≡ Some t → Acts n (run n events) t → AllNone n (run n events)
+    → AllNone n (world_after (run n events) (effect_step (run n events) event t.server t.asked))
+acted n events event t taken act all =
+    let w = run n events in
+    let a = w.stores t.server in
+    let whole = first_runs n w (sound_run n events) t.server act.least act.most t.asked act.came in
+    let ordered = first_ordered n w (sound_run n events) t.server act.least act.most t.asked act.came in
+    let more : run n (events ++ event ∷ []) ≡ world_after w (effect_step w event t.server t.asked) =
+    run_more n (start n) events event ∙ ap (world_after w) (next_is n w event t taken) in
+    let now : (run n (events ++ event ∷ [])).stores t.server ≡ (effect a t.asked).store =
+    ap (λ (v : World). v.stores t.server) more ∙ after_itself w.stores t.server (effect a t.asked).store in
+    let live : (effect a t.asked).store.names.removed ≡ [] =
+    sym (ap (λ (b : Store). b.names.removed) now) ∙ (all_rest n (events ++ event ∷ []) t.server).removed in
+    each_after (λ j b. NoneIn n j b) w.stores t.server (effect a t.asked).store all
+    (λ least most. effect_none n t.server a (all t.server least most) t.asked whole ordered live)
+
+none_in_runs : (n : ℕ) (events : List Event) → AllNone n (run n events)
+none_in_runs n events =
+    holds_in_runs n (AllNone n) (record {
+      first = λ s least most. first_none n s least most;
+      idle = λ w event cause k. k;
+      acts = λ before event t is act k. acted n before event t is act k;
+    }) events
+
+-- GOLDS ARE SEEN
+pub full_replicas_see_gold : (n : ℕ) → BirthsAreKnown n → BirthsAreAlone n → FullReplicasSeeGold n
+full_replicas_see_gold n births alone events s least most =
+    full_see_gold n births alone events s least most ((sound_run n events).servers s).sound.whole (none_in_runs n events s least most)

@@ -1,0 +1,221 @@
+-- What an input puts last: nothing but walks. A tick begins one, and one that comes may be passed on.
+use Rattle.std.proofs.Common.{[], ℕ, ◌≡◌, ◌==◌, ◌/◌, ◌-◌, ◌%◌, Bool, true, false, cond, List, ◌∷◌, ◌++◌, length, slice_get, Option, Some, None, refl, sym, subst, All}
+use Rattle.std.specs.Prelude.{Contains}
+use Rattle.std.specs.List.{filter}
+use Rattle.std.proofs.lemmas.List.Elements.{All-cons, All-contains_itself, All-filter, All-nil, All-weaker}
+use Rattle.std.proofs.lemmas.Option.{get_or_from_slice_get, slice_get_within}
+use Rattle.pg_base.specs.declared.id.FileId.{FileId}
+use Rattle.pg_edges.specs.declared.edge.Edge.{Edge}
+use Rattle.pg_msg.specs.declared.message.Ends.{Ends}
+use Rattle.pg_msg.specs.declared.message.Message.{Message}
+use Rattle.pg_msg.specs.declared.message.Message.TheVariants as message
+use Rattle.pg_msg.specs.declared.message.Sent.{Sent}
+use Rattle.pg_msg.specs.declared.work.Work.{Work}
+use Rattle.pg_msg.specs.Work.{new_work}
+use Rattle.pg_store.specs.declared.store.Store.{Store}
+use Rattle.pg_store.specs.Births.{birth_of}
+use Rattle.pg_store.specs.Store.{is_in_time}
+use Rattle.pg_cells.specs.declared.accepting.Manner.TheVariants as manner
+use Rattle.pg_cells.specs.Accepting.{accept, is_accepted}
+use Rattle.pg_cells.specs.Done.{Done, idle}
+use Rattle.pg_cells.specs.Posting.{sent_to}
+use Rattle.pg_repair.specs.Fetching.{ends_to, fetch}
+use Rattle.pg_cells.specs.Cells.{cell}
+use Rattle.pg_repair.specs.Confirming.{confirm, place_is}
+use Rattle.pg_repair.specs.Filling.{full}
+use Rattle.pg_repair.specs.Granting.{grant}
+use Rattle.pg_graph.specs.Seeking.{seek}
+use Rattle.pg_repair.specs.Telling.{tell}
+use Rattle.pg_calls.specs.Calls.{do_call}
+use Rattle.pg_graph.specs.Seeks.{edges_of}
+use Rattle.pg_graph.specs.Walks.{goes_on, is_onward, meet_origin, onward, walk, walk_along, walk_from, walk_of, walk_on, walked, with_few_edges}
+use Rattle.pg_server.specs.declared.input.Input.{Input}
+use Rattle.pg_server.specs.declared.input.Input.TheVariants as input
+use Rattle.pg_server.specs.Local.{first_effect, is_heard, receive, sent_again}
+use Rattle.pg_promises.proofs.Choices.{chosen, decided}
+use Rattle.pg_run.specs.Ticks.{HasFewEdges}
+use Rattle.pg_run.proofs.Walks.{again_is, at_among, few_there, tick_walks}
+use Rattle.pg_run.proofs.Tails.{accept_same, call_same, cell_same, confirm_same, fetch_same, full_same, grant_same, link_same, place_is_same, seek_same, tell_same}
+
+-- ---- walks
+
+-- a walk of the replica of a thing here, that names this origin: it goes along one of the edges
+pub record IsWalkOf (a : Store) (file : FileId) (origin birth : ℕ) (m : Sent) : Type 0 where
+  pub edge : Edge
+  pub among : Contains (edges_of a file) edge
+  pub hops : ℕ
+  pub word : ℕ
+  pub whole : m ≡ sent_to a edge.peer (message.Walk (ends_to a file edge.birth) origin birth hops word)
+
+-- what came is a walk that is passed on: it was accepted, and this server is not its origin
+abbrev pub IsPassedOn : Store → ℕ → Message → Sent → Type 0
+IsPassedOn a from (message.Walk ends origin birth hops word) m =
+    (is_accepted a from manner.Ask ends ≡ true) × ((origin == a.names.server) ≡ false)
+    × IsWalkOf a ends.file origin birth m
+IsPassedOn a from _ m = ⊥
+
+-- what goes last is a walk: a tick begins one of a replica with few edges, which names that as its
+-- origin, and one that comes is passed on
+abbrev pub IsWalkSent : Store → Input → Sent → Type 0
+IsWalkSent a (input.Call moment call) m = ⊥
+IsWalkSent a (input.Tick moment word) m =
+    (file : FileId) × HasFewEdges a file × IsWalkOf a file a.names.server (birth_of a file) m
+IsWalkSent a (input.Arrival packet) m =
+    (is_heard a packet ≡ true) × IsPassedOn a packet.from packet.message m
+IsWalkSent a input.Restart m = ⊥
+
+nothing : (Q : Sent → Type 0) (ms : List Sent) → ms ≡ [] → All Q ms
+nothing Q ms none = subst (All Q) (sym none) (All-nil Q)
+
+edge_at : (p : Edge → Bool) (es : List Edge) (i : ℕ) (e : Edge) → slice_get (filter p es) i ≡ Some e → Contains es e
+edge_at p es i e h =
+    let kept = filter p es in
+    subst (Contains es) (get_or_from_slice_get kept i e e h)
+    (All-filter p (Contains es) es (All-contains_itself es) i e (slice_get_within kept i e h))
+
+edge_in : (es : List Edge) (i : ℕ) (e : Edge) → slice_get es i ≡ Some e → Contains es e
+edge_in es i e h =
+    subst (Contains es) (get_or_from_slice_get es i e e h) (All-contains_itself es i e (slice_get_within es i e h))
+
+module _ (Q : Sent → Type 0) (a : Store) (file : FileId) (origin birth hops word : ℕ)
+    (walks : (m : Sent) → IsWalkOf a file origin birth m → Q m) where
+  along_has : (w : Work) → w.tail ≡ [] → (o : Option Edge) → ((e : Edge) → o ≡ Some e → Contains (edges_of a file) e)
+      → All Q (walk_along a file origin birth hops word w o).tail
+  along_has w none None among = nothing Q w.tail none
+  along_has w none (Some e) among =
+      let m = sent_to a e.peer (message.Walk (ends_to a file e.birth) origin birth hops word) in
+      let is : IsWalkOf a file origin birth m = record { edge = e; among = among e refl; hops = hops; word = word; whole = refl } in
+      subst (λ (ms : List Sent). All Q (ms ++ m ∷ [])) (sym none) (All-cons Q m [] (walks m is) (All-nil Q))
+
+-- ---- a walk that comes
+
+module _ (a : Store) (from : ℕ) (ends : Ends) (origin birth hops word : ℕ) where
+  abbrev Comes : Message
+  Comes = message.Walk ends origin birth hops word
+
+  abbrev W : Work
+  W = new_work 0 from
+
+  abbrev Ons : List Edge
+  Ons = onward a ends.file from origin
+
+  abbrev Passes : Sent → Type 0
+  Passes = IsPassedOn a from Comes
+
+  walked_has : is_accepted a from manner.Ask ends ≡ true → (origin == a.names.server) ≡ false
+      → All Passes (walked a ends origin birth hops word Ons W).work.tail
+  walked_has accepted other =
+      chosen (λ (d : Done). All Passes d.work.tail) (goes_on hops Ons) (idle a (walk_on a ends.file origin birth hops word Ons W))
+      (meet_origin a ends.file origin birth W)
+      (along_has Passes a ends.file origin birth (hops - 1) (word / length Ons) (λ m is. (accepted, other, is)) W refl
+      (slice_get Ons (word % length Ons)) (λ e h. edge_at (is_onward from origin) (edges_of a ends.file) (word % length Ons) e h))
+      (nothing Passes (meet_origin a ends.file origin birth W).work.tail (link_same a ends.file origin birth W))
+
+  walk_has : All Passes (walk a ends origin birth hops word W).work.tail
+  walk_has =
+      let P : Done → Type 0 = λ d. All Passes d.work.tail in
+      let mine = origin == a.names.server in
+      let on = walked a ends origin birth hops word Ons W in
+      decided P (is_accepted a from manner.Ask ends) (cond mine (idle a W) on) (accept a ends manner.Ask W)
+      (λ accepted. decided P mine (idle a W) on (λ own. All-nil Passes) (λ other. walked_has accepted other))
+      (λ no. nothing Passes (accept a ends manner.Ask W).work.tail (accept_same a ends manner.Ask W))
+
+module _ (a : Store) (from : ℕ) where
+  -- other messages put nothing last
+  none_last : (m : Message) (w : Work) → w.tail ≡ [] → All (IsPassedOn a from m) w.tail
+  none_last m w none = nothing (IsPassedOn a from m) w.tail none
+
+  abbrev Fresh : Work
+  Fresh = new_work 0 from
+
+  receive_has : (m : Message) → All (IsPassedOn a from m) (receive a m (new_work 0 from)).work.tail
+  receive_has (message.Cell ends tag c) = none_last (message.Cell ends tag c) (cell a ends tag c Fresh).work (cell_same a ends tag c Fresh)
+  receive_has (message.Fetch file birth) = none_last (message.Fetch file birth) (fetch a file birth Fresh).work (fetch_same a file birth Fresh)
+  receive_has (message.Grant ends granted) = none_last (message.Grant ends granted) (grant a ends granted Fresh).work (grant_same a ends granted Fresh)
+  receive_has (message.Full ends) = none_last (message.Full ends) (full a ends Fresh).work (full_same a ends Fresh)
+  receive_has (message.Seek file birth) = none_last (message.Seek file birth) (seek a file birth Fresh).work (seek_same a file birth Fresh)
+  receive_has (message.Here ends) = none_last (message.Here ends) (accept a ends manner.Link Fresh).work (accept_same a ends manner.Link Fresh)
+  receive_has (message.Confirm dir e) = none_last (message.Confirm dir e) (confirm a dir e Fresh).work (confirm_same a dir e Fresh)
+  receive_has (message.PlaceIs dir e) = none_last (message.PlaceIs dir e) (place_is a dir e Fresh).work (place_is_same a dir e Fresh)
+  receive_has (message.Tell dir e) = none_last (message.Tell dir e) (tell a dir e Fresh).work (tell_same a dir e Fresh)
+  receive_has (message.Walk ends origin birth hops word) = walk_has a from ends origin birth hops word
+  receive_has (message.Meet ends) = none_last (message.Meet ends) (accept a ends manner.Link Fresh).work (accept_same a ends manner.Link Fresh)
+  receive_has m = All-nil (IsPassedOn a from m)
+
+-- ---- a tick
+
+module _ (a : Store) (moment word : ℕ) where
+  abbrev Begins : Sent → Type 0
+  Begins = IsWalkSent a (input.Tick moment word)
+
+  abbrev Few : List FileId
+  Few = with_few_edges a
+
+  from_has : (v : ℕ) (o : Option FileId) → ((file : FileId) → o ≡ Some file → HasFewEdges a file)
+      → All Begins (walk_from a v (new_work 0 0) o).tail
+  from_has v None few = All-nil Begins
+  from_has v (Some file) few =
+      let edges = edges_of a file in
+      along_has Begins a file a.names.server (birth_of a file) 3 (v / length edges) (λ m is. (file, few file refl, is)) (new_work 0 0) refl
+      (slice_get edges (v % length edges)) (λ e h. edge_in edges (v % length edges) e h)
+
+  begun_has : All Begins (tick_walks a word)
+  begun_has =
+      chosen (λ (w : Work). All Begins w.tail) (word == 0) (new_work 0 0) (walk_of a word Few (new_work 0 0)) (All-nil Begins)
+      (from_has (word / length Few) (slice_get Few (word % length Few))
+      (λ file h. few_there a file (at_among file Few (word % length Few) h)))
+
+  tick_has : All Begins (first_effect a (input.Tick moment word)).work.tail
+  tick_has =
+      chosen (λ (w : Work). All Begins w.tail) (is_in_time a) (sent_again a word (new_work moment 0)) (new_work moment 0)
+      (subst (λ (w : Work). All Begins w.tail) (sym (again_is a word (new_work moment 0))) begun_has) (All-nil Begins)
+
+-- ALL THAT GOES LAST are walks
+pub first_tail : (a : Store) (asked : Input) → All (IsWalkSent a asked) (first_effect a asked).work.tail
+first_tail a (input.Call moment c) =
+    nothing (IsWalkSent a (input.Call moment c)) (do_call a c (new_work moment 0)).work.tail (call_same a c (new_work moment 0))
+first_tail a (input.Tick moment word) = tick_has a moment word
+first_tail a (input.Arrival packet) =
+    let w = new_work 0 packet.from in
+    let Q = IsPassedOn a packet.from packet.message in
+    let R = IsWalkSent a (input.Arrival packet) in
+    let d = receive a packet.message w in
+    decided (λ (e : Done). All R e.work.tail) (is_heard a packet) d (idle a w)
+    (λ heard. All-weaker Q R (λ m is. (heard, is)) d.work.tail (receive_has a packet.from packet.message)) (λ no. All-nil R)
+first_tail a input.Restart = All-nil (IsWalkSent a input.Restart)
+
+-- so what holds of such walks holds of all that goes last
+pub tail_has : (Q : Sent → Type 0) (a : Store) (asked : Input) → ((m : Sent) → IsWalkSent a asked m → Q m)
+    → All Q (first_effect a asked).work.tail
+tail_has Q a asked h = All-weaker (IsWalkSent a asked) Q h (first_effect a asked).work.tail (first_tail a asked)
+
+-- ---- whatever it names
+
+-- a walk of some replica, with some origin
+pub record IsAnyWalk (a : Store) (m : Sent) : Type 0 where
+  pub file : FileId
+  pub origin : ℕ
+  pub birth : ℕ
+  pub walk : IsWalkOf a file origin birth m
+
+passed_any : (a : Store) (from : ℕ) (c : Message) (m : Sent) → IsPassedOn a from c m → IsAnyWalk a m
+passed_any a from (message.Walk ends origin birth hops word) m h =
+    record { file = ends.file; origin = origin; birth = birth; walk = h.2 }
+passed_any a from c m h = absurd h
+
+pub any_walk : (a : Store) (asked : Input) (m : Sent) → IsWalkSent a asked m → IsAnyWalk a m
+any_walk a (input.Call moment c) m h = absurd h
+any_walk a (input.Tick moment word) m h = record { file = h.0; origin = a.names.server; birth = birth_of a h.0; walk = h.2 }
+any_walk a (input.Arrival packet) m h = passed_any a packet.from packet.message m h.1
+any_walk a input.Restart m h = absurd h
+
+-- so what holds of all walks holds of all that goes last
+pub walks_have : (Q : Sent → Type 0) (a : Store) (asked : Input)
+    → ((file : FileId) (e : Edge) (origin birth hops word : ℕ)
+    → Q (sent_to a e.peer (message.Walk (ends_to a file e.birth) origin birth hops word)))
+    → All Q (first_effect a asked).work.tail
+walks_have Q a asked h =
+    tail_has Q a asked (λ m sent.
+    let any = any_walk a asked m sent in
+    let walk = any.walk in
+    subst Q (sym walk.whole) (h any.file walk.edge any.origin any.birth walk.hops walk.word))
