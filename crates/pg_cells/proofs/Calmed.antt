@@ -23,6 +23,7 @@ use Rattle.pg_store.specs.declared.store.Store.{Store}
 use Rattle.pg_store.specs.Births.{birth_of}
 use Rattle.pg_store.specs.Store.{with_names}
 use Rattle.pg_cells.specs.Done.{Done, idle}
+use Rattle.pg_cells.proofs.Goldless.{filter_none}
 use Rattle.pg_cells.specs.Golds.{goldless, is_goldless}
 use Rattle.pg_cells.specs.Making.{raise_flag}
 use Rattle.pg_cells.specs.Raised.{DiffersByGolds}
@@ -119,10 +120,6 @@ module _ (store : Store) (work : Work) (of_dirs : IsOfDirs store.names) (sorted 
   settle_calm = (each_golds (goldless Behind.store) Behind rules_calm).1
 
 -- ---- and again
-
-filter_none : (test : FileId → Bool) (fs : List FileId) → ((q : FileId) → test q ≡ false) → filter test fs ≡ []
-filter_none test [] none = refl
-filter_none test (f ∷ fs) none = ap (λ t. if t then f ∷ filter test fs else filter test fs) (none f) ∙ filter_none test fs none
 
 -- the rules change nothing where names are calm
 pub calm_ruled : (store : Store) (work : Work) → IsCalm store.names → rules store work ≡ idle store work

@@ -2,7 +2,7 @@
 
 ghost use Rattle.std.specs.Prelude.{◌≡◌, IfOk, Some};
 ghost use Rattle.pg_register.specs.Flag.{flag_of};
-ghost use Rattle.pg_cells.specs.Golds.{goldless, is_gold, is_goldless, is_goldless_held, is_of_later, sees_gold};
+ghost use Rattle.pg_cells.specs.Golds.{goldless, has_goldless, is_gold, is_goldless, is_goldless_held, is_of_later, sees_gold};
 
 use pg_base::{FileId, Items, NodeId};
 use pg_names::{Held, Names};
@@ -46,9 +46,16 @@ fn is_goldless_held(names: &Names, birth: u64, held: &Held) -> bool
     ensures { result ≡ is_goldless_held names.now.removed names.now.server birth (Some held.now) }
 {
     let flags = &held.own().flags;
-    held.is_full()
-        && !sees_gold(names.removed(), flags)
-        && !is_of_later(birth, flags, names.server())
+    let full = held.is_full();
+    full && !sees_gold(names.removed(), flags) && !is_of_later(birth, flags, names.server())
+}
+
+/// Whether some full thing sees no live gold, whatever the births.
+fn has_goldless(names: &Names) -> bool
+    ensures { result ≡ has_goldless names.now }
+{
+    names.as_map().values().any(|held| held.is_full()
+        && !sees_gold(names.removed(), &held.own().flags))
 }
 
 /// Whether a thing is such a one.
@@ -61,10 +68,14 @@ pub(crate) fn is_goldless(store: &Store, file: &FileId) -> bool
     }
 }
 
-/// All such things, by id.
+/// All such things, by id. Where every full thing sees one none is looked for.
+#[tactic(auto, using(crate::proofs::Goldless::none_is_goldless))]
 pub(crate) fn goldless(store: &Store) -> Result<Items<FileId>, AllocError>
     ensures { IfOk result (λ files. files ≡ goldless store.now) }
 {
+    if !has_goldless(&store.names) {
+        return Ok(Items::new(store.allocator()));
+    }
     Ok(Items::from_vec(
         store
             .names

@@ -48,6 +48,12 @@ abbrev pub has_gold_edge : Store → FileId → Bool
 has_gold_edge store file =
     list_any (matches store.names.removed (flags_of store file)) (edges_of store file)
 
+-- so of a replica with these flags, this birth and these edges
+abbrev pub seeks : ℕ → List ℕ → List Flag → ℕ → List Edge → Bool
+seeks server removed flags birth edges = if is_raised flags server birth
+    then list_any (is_apart server removed edges) flags
+    else not (list_any (matches removed flags) edges)
+
 -- a gold replica seeks where it sees a live gold of another server to which it has no edge, a bronze
 -- one where it has no edge to a live gold that it sees
 abbrev pub is_seeking : Store → FileId → Bool

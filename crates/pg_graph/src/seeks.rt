@@ -3,13 +3,12 @@
 ghost use Rattle.std.specs.Prelude.{◌≡◌, IfOk, OnOk};
 ghost use Rattle.std.specs.List.{find, list_any};
 ghost use Rattle.std.specs.Option.{option_copied};
-ghost use Rattle.pg_edges.specs.Edges.{is_listed};
 ghost use Rattle.pg_register.specs.Flag.{is_live_other};
-ghost use Rattle.pg_graph.specs.Seeks.{aim_seek, begin_seek, begin_seeks, edges_of, has_gold_edge, has_seek, is_apart, is_seeking, matches, seek_again, seek_target, to_seek, was_linked};
+ghost use Rattle.pg_graph.specs.Seeks.{aim_seek, begin_seek, begin_seeks, has_seek, is_apart, is_seeking, matches, seek_again, seek_target, seeks, to_seek, was_linked};
 
 use pg_base::{FileId, Items, NodeId};
-use pg_cells::{begin_intent, is_gold};
-use pg_edges::Edge;
+use pg_cells::begin_intent;
+use pg_edges::{Edge, Edges};
 use pg_intent::{Intent, IntentKey};
 use pg_msg::{Linked, Work};
 use pg_register::{Flag, GoldFlags};
@@ -24,44 +23,28 @@ fn is_live_other(store: &Store, flag: &Flag) -> bool
     flag.raised && !store.names.is_removed(flag.server) && flag.server != store.server()
 }
 
-/// Whether the replica has an edge to that of the flag.
-fn is_listed(store: &Store, file: &FileId, flag: &Flag) -> bool
+/// Whether this is the flag of another live gold replica, to which none of these edges leads.
+fn is_apart(store: &Store, edges: &Edges, flag: &Flag) -> bool
     ensures { result
-        ≡ is_listed (edges_of store.now file.now) flag.now.server flag.now.birth }
+        ≡ is_apart store.now.names.server store.now.names.removed edges.now flag.now }
 {
-    match store.replica(file) {
-        Some(replica) => replica.edges.is_listed(flag.server, flag.birth),
-        None => false,
-    }
-}
-
-/// Whether this is the flag of another live gold replica, to which there is no edge.
-fn is_apart(store: &Store, file: &FileId, flag: &Flag) -> bool
-    ensures { result
-        ≡ is_apart store.now.names.server store.now.names.removed (edges_of store.now file.now)
-        flag.now }
-{
-    is_live_other(store, flag) && !is_listed(store, file, flag)
+    is_live_other(store, flag) && !edges.is_listed(flag.server, flag.birth)
 }
 
 /// Whether there is one.
-fn has_apart(store: &Store, file: &FileId, flags: &[Flag]) -> bool
+fn has_apart(store: &Store, edges: &Edges, flags: &[Flag]) -> bool
     ensures { result
-        ≡ list_any
-        (is_apart store.now.names.server store.now.names.removed (edges_of store.now file.now))
-        flags.now }
+        ≡ list_any (is_apart store.now.names.server store.now.names.removed edges.now) flags.now }
 {
-    flags.iter().any(|flag| is_apart(store, file, flag))
+    flags.iter().any(|flag| is_apart(store, edges, flag))
 }
 
 /// The one of the least server.
-fn first_apart<'a>(store: &Store, file: &FileId, flags: &'a [Flag]) -> Option<&'a Flag>
+fn first_apart<'a>(store: &Store, edges: &Edges, flags: &'a [Flag]) -> Option<&'a Flag>
     ensures { option_copied result
-        ≡ find
-        (is_apart store.now.names.server store.now.names.removed (edges_of store.now file.now))
-        flags.now }
+        ≡ find (is_apart store.now.names.server store.now.names.removed edges.now) flags.now }
 {
-    flags.iter().find(|flag| is_apart(store, file, flag))
+    flags.iter().find(|flag| is_apart(store, edges, flag))
 }
 
 /// Whether the flag of the edge's peer is raised with the birth that the edge names, and the peer is not removed.
@@ -78,19 +61,19 @@ fn has_match(store: &Store, flags: &GoldFlags, edges: &[Edge]) -> bool
     edges.iter().any(|edge| matches(store, flags, edge))
 }
 
-/// Whether the replica has such an edge.
-fn has_gold_edge(store: &Store, file: &FileId, flags: &GoldFlags) -> bool
+/// Whether a replica with these flags, this birth and these edges seeks: a gold one where it sees a live gold of another
+/// server to which it has no edge, a bronze one where it has no edge to a live gold that it sees.
+fn seeks(store: &Store, flags: &GoldFlags, birth: u64, edges: &Edges) -> bool
     ensures { result
-        ≡ list_any (matches store.now.names.removed flags.now) (edges_of store.now file.now) }
+        ≡ seeks store.now.names.server store.now.names.removed flags.now birth edges.now }
 {
-    match store.replica(file) {
-        Some(replica) => has_match(store, flags, replica.edges.as_slice()),
-        None => false,
+    if flags.is_raised(store.server(), birth) {
+        return has_apart(store, edges, flags.as_slice());
     }
+    !has_match(store, flags, edges.as_slice())
 }
 
-/// Whether a held thing seeks: a gold replica where it sees a live gold of another server to which it has no edge, a
-/// bronze one where it has no edge to a live gold that it sees.
+/// Whether a held thing seeks. It looks for its replica once.
 pub fn is_seeking(store: &Store, file: &FileId) -> bool
     ensures { result ≡ is_seeking store.now file.now }
 {
@@ -98,10 +81,10 @@ pub fn is_seeking(store: &Store, file: &FileId) -> bool
         return false;
     };
     let flags = &held.own().flags;
-    if is_gold(store, file) {
-        return has_apart(store, file, flags.as_slice());
+    match store.replica(file) {
+        Some(replica) => seeks(store, flags, replica.birth, &replica.edges),
+        None => seeks(store, flags, 0, &Edges::new(store.allocator())),
     }
-    !has_gold_edge(store, file, flags)
 }
 
 /// All that seeks, by id.
@@ -128,7 +111,12 @@ fn seek_target(store: &Store, file: &FileId) -> NodeId
     let Some(own) = store.names.own(file) else {
         return next;
     };
-    match first_apart(store, file, own.flags.as_slice()) {
+    let flags = own.flags.as_slice();
+    let apart = match store.replica(file) {
+        Some(replica) => first_apart(store, &replica.edges, flags),
+        None => first_apart(store, &Edges::new(store.allocator()), flags),
+    };
+    match apart {
         Some(flag) => flag.server,
         None => next,
     }
