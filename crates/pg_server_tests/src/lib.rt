@@ -4,6 +4,4 @@
 #[cfg(test)]
 mod confirming;
 #[cfg(test)]
-mod linking;
-#[cfg(test)]
 mod steps;

@@ -15,7 +15,7 @@ const SENT_AGAIN: &str = "done, made 0, 1 2 cell d0.0 entry:d1.1";
 const ASKED: &str = "refused 3 NotYet d1.1, made 0, 2 1 fetch d1.1 -";
 
 /// A client calls at time 50 with these words.
-pub(crate) fn call(alloc: Global, line: &[u8]) -> Result<Option<Input>, Fail> {
+fn call(alloc: Global, line: &[u8]) -> Result<Option<Input>, Fail> {
     let mut room = [b"".as_slice(); 7];
     let count = first_words(line, &mut room);
     let call = read_call(alloc, &room[..count])?.ok_or("call")?;
