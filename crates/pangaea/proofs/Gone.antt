@@ -1,5 +1,5 @@
 -- How a replay went on, one piece behind the other. a, b, c and end: the replay at one moment and at later ones.
-use Rattle.std.proofs.Common.{ℕ, ◌≡◌, ◌<◌, ◌+◌, ◌-◌, ◌++◌, true, false, List, [], ◌∷◌, refl, sym, ap, subst, ◌∙◌, append-nil, append_assoc, arith, suc}
+use Rattle.std.proofs.Common.{ℕ, if◌then◌else◌, ◌≡◌, ◌<◌, ◌+◌, ◌-◌, ◌++◌, Bool, true, false, List, [], ◌∷◌, refl, sym, ap, subst, ◌∙◌, append-nil, append_assoc, arith, suc}
 use Rattle.pg_event.specs.declared.event.Event.{Event}
 use Rattle.pg_event.specs.declared.event.Event.TheVariants.{Deliver, Tick}
 use Rattle.pg_sched.specs.declared.line.Form.{Form}
@@ -12,11 +12,11 @@ use Rattle.pg_trace.proofs.Lines.{joined}
 use Rattle.pg_run.specs.Journal.{bag}
 use Rattle.pg_world.specs.Played.{final}
 use Rattle.pg_run.specs.Quiet.{has_some, quiet_of}
-use Rattle.pg_run.specs.Run.{World, run_from}
+use Rattle.pg_run.specs.Run.{World, is_live, run_from}
 use Rattle.pg_world.proofs.Standing.{run_from-append}
 use Rattle.pangaea.specs.declared.journal.Replay.{Replay}
 use Rattle.pangaea.specs.Going.{GoesOn, Reaches}
-use Rattle.pangaea.specs.Settling.{after_event, deliveries, settling, ticks}
+use Rattle.pangaea.specs.Settling.{after_event, deliveries, settling, tick_of, ticks}
 use Rattle.pangaea.specs.Text.{inner_lines}
 use Rattle.pangaea.proofs.Settled.{delivers, inner_lines-append, settles, settles_on}
 
@@ -98,27 +98,37 @@ delivery_goes a b end left lt some x y =
 pub add_one : (k : ℕ) → suc k ≡ k + 1
 add_one k = omega arith
 
--- one tick more
-pub tick_goes : (a b c : Replay) (moment k : ℕ) → GoesOn a b (ticks moment k) → GoesOn b c (Tick (k + 1) moment 0 ∷ [])
-    → GoesOn a c (ticks moment (k + 1))
-tick_goes a b c moment k x =
-    let P : ℕ → Type 0 = (λ j. GoesOn b c (Tick j moment 0 ∷ []) → GoesOn a c (ticks moment j)) in
-    subst P (add_one k) (goes_then a b c (ticks moment k) (Tick (suc k) moment 0 ∷ []) x)
+-- the tick of a server that is live, or not
+pub is_tick : (n moment server : ℕ) (w : World) (live : Bool) → live ≡ is_live n w server
+    → (if live then Tick server moment 0 ∷ [] else []) ≡ tick_of n moment w server
+is_tick n moment server w live = ap (λ b. if b then Tick server moment 0 ∷ [] else [])
+
+-- one server more
+pub tick_goes : (a b c : Replay) (moment k : ℕ) → GoesOn a b (ticks a.world.servers moment (final a.world) k)
+    → GoesOn b c (tick_of b.world.servers moment (final b.world) (k + 1))
+    → GoesOn a c (ticks a.world.servers moment (final a.world) (k + 1))
+tick_goes a b c moment k x y =
+    let n = a.world.servers in
+    let w = final a.world in
+    let so_far = ticks n moment w k in
+    let P : ℕ → Type 0 = (λ j. GoesOn b c (tick_of n moment (run_from n w so_far) j) → GoesOn a c (ticks n moment w j)) in
+    subst P (add_one k) (goes_then a b c so_far (tick_of n moment (run_from n w so_far) (suc k)) x)
+    (goes_same b c _ _ (there (λ s v. tick_of s moment v (k + 1)) a b so_far _ x) y)
 
 -- a round whose deliveries leave something to wait for, its ticks, and the rounds that are left
 pub round_goes : (a b c end : Replay) (most moment left : ℕ) (cause : Cause) → 0 < left
     → GoesOn a b (deliveries a.world.servers (final a.world) most)
     → quiet_of b.world.servers (final b.world) ≡ Waits cause
-    → GoesOn b c (ticks moment b.world.servers)
+    → GoesOn b c (ticks b.world.servers moment (final b.world) b.world.servers)
     → GoesOn c end (settling c.world.servers most moment (final c.world) (left - 1))
     → GoesOn a end (settling a.world.servers most moment (final a.world) left)
 round_goes a b c end most moment left cause lt x waits y z =
     let n = a.world.servers in
     let w = final a.world in
     let ds = deliveries n w most in
-    let ts = ticks moment n in
+    let ts = ticks n moment (run_from n w ds) n in
     let rest = settling n most moment (run_from n (run_from n w ds) ts) (left - 1) in
-    let ticked : GoesOn b c ts = goes_same b c _ ts (ap (ticks moment) x.servers) y in
+    let ticked : GoesOn b c ts = goes_same b c _ ts (there (λ s v. ticks s moment v s) a b ds _ x) y in
     let both : GoesOn a c (ds ++ ts) = goes_then a b c ds ts x ticked in
     let behind = there (λ s v. settling s most moment v (left - 1)) a c (ds ++ ts) _ both
     ∙ ap (λ v. settling n most moment v (left - 1)) (run_from-append n w ds ts) in

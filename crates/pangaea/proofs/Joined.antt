@@ -1,6 +1,10 @@
 -- The laws of runs, joined: what each stands on is what others say.
 use Rattle.std.proofs.Common.{ℕ, ◌≡◌, ◌<◌, ◌^◌, Option, None, Some, refl}
+use Rattle.std.proofs.lemmas.List.Elements.{All-weaker}
+use Rattle.pg_contents.specs.Together as contents
 use Rattle.pg_contents.specs.Together.{HoldBoth}
+use Rattle.pg_drops.specs.Premises as drops
+use Rattle.pg_drops.specs.Premises.{StatesAreCited}
 use Rattle.pg_entries.specs.declared.entry.Entry.{Entry}
 use Rattle.pg_filled.specs.Filled.{FullPlaced}
 use Rattle.pg_flags.specs.Laws.{FlagsAreKnown}
@@ -8,22 +12,28 @@ use Rattle.pg_flags.specs.Premises.{NextIdsAreAway}
 use Rattle.pg_gate.specs.Gate.{EdgesAreKept}
 use Rattle.pg_kept.specs.Histories.{HaveHistories}
 use Rattle.pg_kept.specs.Laws.{StandOn}
-use Rattle.pg_listed.specs.Laws.{FirstEffectsAreSound, ListingsAreKept, RootIsUnlisted}
+use Rattle.pg_listed.specs.Laws.{FirstEffectsAreSound, ListingsAreKept, ListingsStandOn, RootIsUnlisted}
 use Rattle.pg_names.specs.Names.{cell_at}
 use Rattle.pg_naming.specs.Merged.{NamesStandOn, NewIdsAreNew}
+use Rattle.pg_order.specs.Named.{IsOfServer}
 use Rattle.pg_places.specs.Laws.{OnePlaceAStamp}
 use Rattle.pg_quiet.specs.Given.{AgreementIsGiven, NamesAreWell, TreeIsGiven}
 use Rattle.pg_register.specs.Place.{root}
 use Rattle.pg_run.specs.Acknowledged.{AcknowledgedKeysAreHad}
-use Rattle.pg_run.specs.Births.{BirthsAreAlone, BirthsAreKnown, BirthsAreOfOneThing, GreaterBirthsReplaceEdges, LinksNameTheSender}
+use Rattle.pg_run.specs.Births.{BirthsAreAlone, BirthsAreKnown, BirthsAreOfOneThing, BirthsMoveInEvents, BirthsMoveOn, GreaterBirthsReplaceEdges, LinksNameTheSender, ReplicasStayOrGo}
 use Rattle.pg_run.specs.Golds.{FullReplicasSeeGold, ReplicasNameGolds}
 use Rattle.pg_run.specs.Grown.{EventsGrow}
 use Rattle.pg_run.specs.Histories.{AncestryByVectors, CarriesHistory, ClockEndsFirst, MakesHistories, OneVersionAStamp, StateIsDetermined, StateIsItsHeads}
-use Rattle.pg_run.specs.Known.{CarriedIsKnown, FlagsHaveOwnNumbers, PlacesHaveOwnStamps}
+use Rattle.pg_run.specs.Intending.{IntentionsAreInOrder}
+use Rattle.pg_run.specs.Known.{CarriedIsKnown, FlagsAreOwn, FlagsHaveOwnNumbers, PlacesHaveOwnStamps}
 use Rattle.pg_run.specs.Laws.{HoldsWhatItTook, NamesMerge, QuietDirectoriesAreBroughtBack, QuietJoinedServersAgree, QuietNamesFormATree, QuietServersAgree, QuietThingsAreListedOnlyWhereTheyStand, ReturnsAreJustified, names_after}
+use Rattle.pg_run.specs.Leaving.{ByesAreOver, DropsAreSafe, GiversHaveEachCell, HeardEdgesAreKnown, WhatWentIsOver}
 use Rattle.pg_run.specs.Run.{Taking}
 use Rattle.pg_run.specs.Ticks.{RestartsLoseWishes, TicksSendWhatIsOwed}
+use Rattle.pg_run.specs.Views.{MessagesAreOfViews, ViewsAreFronts}
 use Rattle.pg_ticks.specs.Given.{IntentionsAreStill, TidinessIsGiven}
+use Rattle.pg_views.specs.Premises as views
+use Rattle.pg_views.specs.Premises.{IsFlagOf}
 use Rattle.pangaea.specs.Joined.{AreCited}
 
 -- what is not there is None
@@ -39,6 +49,23 @@ module _ (n : ℕ) (c : AreCited n) where
     together = (c.order.whole events s least most).together;
     births = c.order.births events s least most;
   }
+
+  views_stand : views.StandOn n
+  views_stand = record {
+    whole = c.order.whole;
+    flags = λ events s least most dir child e is.
+        All-weaker (IsOfServer n) (IsFlagOf n) (λ f k. record { least = k.least; most = k.most }) e.flags
+        (((c.order.named events).names s least most).cells dir child e is).flags;
+  }
+
+  pub fronts : ViewsAreFronts n
+  fronts = c.views.fronts views_stand
+
+  pub mailed : MessagesAreOfViews n
+  mailed = c.views.mailed views_stand
+
+  pub order : IntentionsAreInOrder n
+  order = c.intents.order fronts
 
   new_ids : NewIdsAreNew n
   new_ids events s least most kind =
@@ -64,37 +91,49 @@ module _ (n : ℕ) (c : AreCited n) where
       not_there (cell_at (names_after n events s) dir root) ((c.order.placed events s least most).inner dir)
 
   pub alone : BirthsAreAlone n
-  alone = c.edges.alone c.intents.order
+  alone = c.edges.alone order
 
   pub of_one : BirthsAreOfOneThing n
-  of_one = c.edges.of_one c.intents.order
+  of_one = c.edges.of_one order
 
   pub greater : GreaterBirthsReplaceEdges n
-  greater = c.edges.greater c.intents.order
+  greater = c.edges.greater order
 
   pub linked : LinksNameTheSender n
-  linked = c.edges.linked c.intents.order
+  linked = c.edges.linked order
+
+  moves : BirthsMoveInEvents n
+  moves = c.edges.moves order
+
+  moves_on : BirthsMoveOn n
+  moves_on = c.edges.on order
+
+  stay : ReplicasStayOrGo n
+  stay = c.edges.stay order
+
+  contents_stand : contents.StandOn n
+  contents_stand = record { both = both; moves = moves_on; named = c.order.named; intends = order }
 
   pub births : BirthsAreKnown n
-  births = c.edges.known c.intents.order
+  births = c.edges.known order
 
   pub one_place : OnePlaceAStamp n
-  one_place = c.names.one_place c.intents.order
+  one_place = c.names.one_place order
 
   own_stamps : PlacesHaveOwnStamps n
-  own_stamps = c.names.own c.intents.order
+  own_stamps = c.names.own order
 
   pub golds : FullReplicasSeeGold n
-  golds = c.flags.golds births alone
+  golds = c.flags.golds fronts births alone
 
   pub named_golds : ReplicasNameGolds n
-  named_golds = c.flags.named c.intents.order
+  named_golds = c.flags.named order
 
   stills : IntentionsAreStill n
   stills = record {
-    still = λ events s least most. (c.intents.still events s least most).0;
-    still_without = λ events s least most. (c.intents.still events s least most).1;
-    asked = c.intents.asked;
+    still = λ events s least most. (c.intents.still fronts events s least most).0;
+    still_without = λ events s least most. (c.intents.still fronts events s least most).1;
+    asked = c.intents.asked fronts;
   }
 
   tidy : TidinessIsGiven n
@@ -113,38 +152,41 @@ module _ (n : ℕ) (c : AreCited n) where
   pub lost : RestartsLoseWishes n
   lost = c.names.lost tidy
 
-  listings : ListingsAreKept n
-  listings = c.names.listed c.intents.order c.order.order one_place sound unlisted c.order.away owed
-
   -- ---- of so many that stamps and ids can have their numbers
 
   module _ (few : n < 2 ^ 32) where
     pub held : HoldsWhatItTook n
-    held = c.contents.held few both
+    held = c.contents.held few contents_stand
 
     pub heads : StateIsItsHeads n
-    heads = c.contents.heads few both
+    heads = c.contents.heads few contents_stand
 
     pub determined : StateIsDetermined n
-    determined = c.contents.determined few both
+    determined = c.contents.determined few contents_stand
 
     pub histories : MakesHistories n
-    histories = c.contents.made few both
+    histories = c.contents.made few contents_stand
 
     pub one_version : OneVersionAStamp n
-    one_version = c.contents.one few both
+    one_version = c.contents.one few contents_stand
 
     pub ancestry : AncestryByVectors n
-    ancestry = c.contents.ancestry few both
+    ancestry = c.contents.ancestry few contents_stand
 
     pub carried : CarriesHistory n
-    carried = c.contents.carried few both
+    carried = c.contents.carried few contents_stand
 
     had_histories : HaveHistories n
     had_histories = record { made = histories; carried = carried; heads = heads; held = held }
 
     stand : StandOn n
-    stand = record { contents = had_histories; away = c.order.away; directories = c.order.told }
+    stand = record {
+      contents = had_histories;
+      away = c.order.away;
+      directories = c.order.told;
+      alone = alone;
+      moves = moves;
+    }
 
     pub had : AcknowledgedKeysAreHad n
     had = c.edges.had stand
@@ -152,17 +194,17 @@ module _ (n : ℕ) (c : AreCited n) where
     grow : EventsGrow n
     grow = c.edges.grow stand
 
+    own_flags : FlagsAreOwn n
+    own_flags = c.flags.own both grow moves c.order.first away
+
     numbers : FlagsHaveOwnNumbers n
-    numbers = c.flags.numbers both grow c.order.first away
+    numbers = c.flags.numbers both grow moves c.order.first away
 
     flags_known : FlagsAreKnown n
-    flags_known = c.flags.known both grow c.order.first away
+    flags_known = c.flags.known both grow moves c.order.first away
 
     pub clock : ClockEndsFirst n
-    clock = c.contents.clock few both
-
-    placed : FullPlaced n
-    placed = c.edges.placed had grow
+    clock = c.contents.clock few contents_stand
 
     named : NamesAreWell n
     named events s least most =
@@ -178,14 +220,17 @@ module _ (n : ℕ) (c : AreCited n) where
     -- ---- so names are what was taken, and what follows
 
     carried_known : CarriedIsKnown n
-    carried_known = c.names.known c.intents.order c.order.named (c.names.made c.intents.order) flags_known
+    carried_known = c.names.known order c.order.named (c.names.made order) flags_known
+
+    placed : FullPlaced n
+    placed = c.edges.placed had grow moves carried_known own_stamps
 
     on : NamesStandOn n
     on = record {
       known = carried_known;
       stamps = own_stamps;
       flags = numbers;
-      intends = c.intents.order;
+      intends = order;
       ids = new_ids;
     }
 
@@ -197,8 +242,79 @@ module _ (n : ℕ) (c : AreCited n) where
       acknowledged = had;
       grow = grow;
       whole = c.edges.whole stand;
-      intentions = c.intents.order;
+      moves = moves;
+      stay = stay;
+      intentions = order;
+      made = c.names.past order;
+      views = fronts;
     }
+
+    -- ---- replicas that go
+
+    leaving : drops.StandOn n
+    leaving = record {
+      whole = c.edges.whole stand;
+      intents = order;
+      grow = grow;
+      views = fronts;
+      lasting = c.views.grow views_stand;
+      carried = carried_known;
+      own = own_flags;
+      births = record {
+        known = births;
+        alone = alone;
+        on = moves_on;
+        gone = c.edges.gone order;
+        linked = linked;
+      };
+      events = record {
+        acts = c.edges.acts stand;
+        edges = c.drops.edges order;
+        ends = c.drops.ends order;
+        over = c.drops.over order;
+        made = c.flags.made both grow moves c.order.first away;
+        begin = c.drops.begin order;
+        told = c.drops.told order;
+        answered = c.drops.answered order;
+      };
+    }
+
+    states : StatesAreCited n
+    states = record { merge = merge; held = held; heads = heads }
+
+    pub went : WhatWentIsOver n
+    went = c.drops.went leaving
+
+    pub byes : ByesAreOver n
+    byes = c.drops.byes leaving
+
+    pub heard : HeardEdgesAreKnown n
+    heard = c.drops.heard leaving
+
+    pub safe : DropsAreSafe n
+    safe = c.drops.safe leaving states
+
+    listings : ListingsAreKept n
+    listings = c.names.listed (record {
+      order = order;
+      house = c.order.order;
+      one = one_place;
+      made = c.names.made order;
+      own = own_stamps;
+      sound = sound;
+      unlisted = unlisted;
+      away = c.order.away;
+      ticks = owed;
+      moves = moves;
+      stay = stay;
+      ends = c.drops.ends order;
+      givers = c.drops.cells leaving;
+      views = fronts;
+      mailed = mailed;
+      sent = c.views.sent views_stand;
+    })
+
+    -- ---- returns, and quiet
 
     pub justified : ReturnsAreJustified n
     justified = c.names.justified on kept
@@ -213,13 +329,14 @@ module _ (n : ℕ) (c : AreCited n) where
       histories = histories;
       heads = heads;
       took = held;
+      views = fronts;
     }
 
     trees : TreeIsGiven n
     trees = record {
       agree = agreement;
       order = c.order.order;
-      intends = c.intents.order;
+      intends = order;
       names = named;
       placed = placed;
       listed = listings;

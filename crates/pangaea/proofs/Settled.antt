@@ -10,7 +10,7 @@ use Rattle.pg_trace.specs.Text.{head_lines}
 use Rattle.pg_run.specs.Journal.{bag}
 use Rattle.pg_run.specs.Quiet.{has_some, quiet_of}
 use Rattle.pg_run.specs.Run.{World, run_from}
-use Rattle.pangaea.specs.Settling.{after_event, deliveries, delivered, settling, ticks, unless_quiet}
+use Rattle.pangaea.specs.Settling.{after_event, deliveries, delivered, round_ticks, settling, ticked, unless_quiet}
 use Rattle.pangaea.specs.Text.{event_lines, inner_lines}
 
 -- what is written of some events and then of more
@@ -61,18 +61,19 @@ pub settles : (n most moment : ℕ) (w : World) (left : ℕ) → 0 < left
     → settling n most moment w left ≡ deliveries n w most
 settles n most moment w zero lt h = absurd (omega arith)
 settles n most moment w (suc k) lt h =
-    let ticked = run_from n (delivered n most w) (ticks moment n) in
-    ap (λ q. deliveries n w most ++ unless_quiet q (ticks moment n ++ settling n most moment ticked k)) h
+    let ts = round_ticks n most moment w in
+    ap (λ q. deliveries n w most ++ unless_quiet q (ts ++ settling n most moment (ticked n most moment w) k)) h
     ∙ append-nil (deliveries n w most)
 
--- or each server ticks, and a further round follows
+-- or each live server ticks, and a further round follows
 pub settles_on : (n most moment : ℕ) (w : World) (left : ℕ) (cause : Cause) → 0 < left
     → quiet_of n (delivered n most w) ≡ Waits cause
     → settling n most moment w left
     ≡ deliveries n w most
-    ++ (ticks moment n ++ settling n most moment (run_from n (delivered n most w) (ticks moment n)) (left - 1))
+    ++ (round_ticks n most moment w ++ settling n most moment (ticked n most moment w) (left - 1))
 settles_on n most moment w zero cause lt h = absurd (omega arith)
 settles_on n most moment w (suc k) cause lt h =
-    let ticked = run_from n (delivered n most w) (ticks moment n) in
-    ap (λ q. deliveries n w most ++ unless_quiet q (ticks moment n ++ settling n most moment ticked k)) h
-    ∙ ap (λ j. deliveries n w most ++ (ticks moment n ++ settling n most moment ticked j)) (sym (less_one k))
+    let ts = round_ticks n most moment w in
+    let behind = ticked n most moment w in
+    ap (λ q. deliveries n w most ++ unless_quiet q (ts ++ settling n most moment behind k)) h
+    ∙ ap (λ j. deliveries n w most ++ (ts ++ settling n most moment behind j)) (sym (less_one k))

@@ -1,12 +1,12 @@
 -- What the servers show, one behind the other.
-use Rattle.std.proofs.Common.{ℕ, ◌≡◌, ◌+◌, ◌++◌, ◌∙◌, ◌||◌, Bool, List, [], ◌∷◌, Option, Some, ap, ap₂, subst, sym, refl, suc}
+use Rattle.std.proofs.Common.{ℕ, if◌then◌else◌, ◌≡◌, ◌+◌, ◌++◌, ◌∙◌, ◌||◌, Bool, List, [], ◌∷◌, Option, Some, ap, ap₂, subst, sym, refl, suc}
 use Rattle.pg_base.specs.declared.id.FileId.{FileId}
 use Rattle.pg_base.specs.declared.id.Kind.{Kind}
 use Rattle.pg_base.specs.declared.id.Kind.TheVariants.{Dir, File}
 use Rattle.pg_content.specs.Content.{shown_bytes}
 use Rattle.pg_names.specs.Names.{HeldValue, known}
 use Rattle.pg_run.specs.Quiet.{has_some}
-use Rattle.pg_run.specs.Run.{World}
+use Rattle.pg_run.specs.Run.{World, is_live}
 use Rattle.pg_store.specs.declared.store.Store.{Store}
 use Rattle.pg_store.specs.Store.{content_of}
 use Rattle.pg_trace.specs.Printed.{ArePrinted, IsPrinted}
@@ -14,25 +14,37 @@ use Rattle.pg_trace.specs.Suited.{SuitsContents, SuitsReplica}
 use Rattle.pg_trace.specs.declared.replica.ShownReplica.{ShownReplica}
 use Rattle.pg_trace.specs.declared.printed.Printed.{Printed}
 use Rattle.pg_trace.specs.declared.printed.Printed.TheVariants as printed
-use Rattle.pg_world.specs.Played.{final, held}
+use Rattle.pg_world.specs.Played.{final}
 use Rattle.pangaea.specs.declared.journal.Replay.{Replay}
 use Rattle.pangaea.specs.Going.{Reaches}
 use Rattle.pg_trace.proofs.Lines.{few_taken}
 use Rattle.pangaea.specs.Shown.{HoldsSuited, contents_at, held_lines, lines_of, shown_of}
-use Rattle.pangaea.specs.Text.{shows_lines}
-use Rattle.pangaea.proofs.Gone.{add_one, then_reaches}
+use Rattle.pangaea.specs.Text.{shown_at, shows_lines}
+use Rattle.pangaea.proofs.Gone.{add_one, then_reaches, there}
+
+-- what a server shows that is live, or not
+pub is_shown : (n : ℕ) (w : World) (id : FileId) (server : ℕ) (live : Bool) → live ≡ is_live n w server
+    → (if live then held_lines server (w.stores server) id else []) ≡ shown_at n w id server
+is_shown n w id server live = ap (λ b. if b then held_lines server (w.stores server) id else [])
+
+-- what a server shows where nothing happened since
+still_shown : (a b : Replay) (id : FileId) (server : ℕ) (t : List Printed) → Reaches a b [] t
+    → shown_at b.world.servers (final b.world) id server ≡ shown_at a.world.servers (final a.world) id server
+still_shown a b id server t x = there (λ s v. shown_at s v id server) a b [] t x
 
 -- one server more
-pub one_shown : (a b c : Replay) (id : FileId) (k : ℕ) → Reaches a b [] (shows_lines (final a.world) id k)
-    → Reaches b c [] (held_lines (k + 1) (held b.world (k + 1)) id) → Reaches a c [] (shows_lines (final a.world) id (k + 1))
+pub one_shown : (a b c : Replay) (id : FileId) (k : ℕ)
+    → Reaches a b [] (shows_lines a.world.servers (final a.world) id k)
+    → Reaches b c [] (shown_at b.world.servers (final b.world) id (k + 1))
+    → Reaches a c [] (shows_lines a.world.servers (final a.world) id (k + 1))
 one_shown a b c id k x y =
+    let n = a.world.servers in
     let w = final a.world in
-    let lines : ℕ → List Printed = (λ j. held_lines j (w.stores j) id) in
-    let same : held_lines (k + 1) ((final b.world).stores (k + 1)) id ≡ lines (k + 1) =
-    ap (λ (v : World). held_lines (k + 1) (v.stores (k + 1)) id) x.world in
+    let so_far = shows_lines n w id k in
     let P : List Printed → Type 0 = (λ t. Reaches b c [] t) in
-    let Q : ℕ → Type 0 = (λ j. Reaches b c [] (lines j) → Reaches a c [] (shows_lines w id j)) in
-    subst Q (add_one k) (λ z. then_reaches a b c [] [] (shows_lines w id k) (lines (suc k)) x z) (subst P same y)
+    let Q : ℕ → Type 0 = (λ j. Reaches b c [] (shown_at n w id j) → Reaches a c [] (shows_lines n w id j)) in
+    subst Q (add_one k) (λ z. then_reaches a b c [] [] so_far (shown_at n w id (suc k)) x z)
+    (subst P (still_shown a b id (k + 1) so_far x) y)
 
 -- whether there is a line
 some_of : (xs ys : List Printed) → (has_some xs || has_some ys) ≡ has_some (xs ++ ys)
@@ -40,14 +52,16 @@ some_of [] ys = refl
 some_of (x ∷ xs) ys = refl
 
 pub any_more : (a b : Replay) (id : FileId) (k : ℕ) (any more : Bool) (t : List Printed) → Reaches a b [] t
-    → any ≡ has_some (shows_lines (final a.world) id k) → more ≡ has_some (held_lines (k + 1) (held b.world (k + 1)) id)
-    → (any || more) ≡ has_some (shows_lines (final a.world) id (k + 1))
+    → any ≡ has_some (shows_lines a.world.servers (final a.world) id k)
+    → more ≡ has_some (shown_at b.world.servers (final b.world) id (k + 1))
+    → (any || more) ≡ has_some (shows_lines a.world.servers (final a.world) id (k + 1))
 any_more a b id k any more t x so_far is =
+    let n = a.world.servers in
     let w = final a.world in
-    let same : has_some (held_lines (k + 1) ((final b.world).stores (k + 1)) id) ≡ has_some (held_lines (k + 1) (w.stores (k + 1)) id) =
-    ap (λ (v : World). has_some (held_lines (k + 1) (v.stores (k + 1)) id)) x.world in
-    let P : ℕ → Type 0 = (λ j. (has_some (shows_lines w id k) || has_some (held_lines j (w.stores j) id)) ≡ has_some (shows_lines w id j)) in
-    ap₂ (λ p q. p || q) so_far (is ∙ same) ∙ subst P (add_one k) (some_of (shows_lines w id k) (held_lines (suc k) (w.stores (suc k)) id))
+    let before = shows_lines n w id k in
+    let P : ℕ → Type 0 = (λ j. (has_some before || has_some (shown_at n w id j)) ≡ has_some (shows_lines n w id j)) in
+    ap₂ (λ p q. p || q) so_far (is ∙ ap has_some (still_shown a b id (k + 1) t x))
+    ∙ subst P (add_one k) (some_of before (shown_at n w id (suc k)))
 
 -- ---- one replica
 

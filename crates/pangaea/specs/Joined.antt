@@ -1,6 +1,9 @@
 -- The laws of runs, as they are cited, each with what it stands on.
 use Rattle.std.specs.Prelude.{ℕ, ◌<◌, ◌^◌}
+use Rattle.pg_contents.specs.Together as contents
 use Rattle.pg_contents.specs.Together.{HoldBoth}
+use Rattle.pg_drops.specs.Premises as drops
+use Rattle.pg_drops.specs.Premises.{StatesAreCited}
 use Rattle.pg_filled.specs.Filled.{FullPlaced}
 use Rattle.pg_flags.specs.Laws.{FlagsAreKnown}
 use Rattle.pg_flags.specs.Premises as flagging
@@ -8,22 +11,27 @@ use Rattle.pg_flags.specs.Premises.{NextIdsAreAway}
 use Rattle.pg_gate.specs.Gate.{EdgesAreKept}
 use Rattle.pg_intends.specs.Laws.{IntentionsHaveRequests, NothingIsLeftToDo}
 use Rattle.pg_kept.specs.Laws.{RunsStayWhole, StandOn}
-use Rattle.pg_listed.specs.Laws.{FirstEffectsAreSound, ListingsAreKept, RootIsUnlisted}
+use Rattle.pg_listed.specs.Laws.{ListingsAreKept, ListingsStandOn}
 use Rattle.pg_naming.specs.Merged.{NamesStandOn}
 use Rattle.pg_order.specs.Laws.{AllIsNamed, BirthsAreGiven, FirstEffectsAreOrdered, FirstEffectsAreWhole, NamesAreById, NamesAreDistinct, NextIdsAreNew, ServersAreWhole, ThingsArePlacedWell}
 use Rattle.pg_places.specs.Laws.{OnePlaceAStamp, PlacesWereMade}
 use Rattle.pg_quiet.specs.Given.{AgreementIsGiven, TreeIsGiven}
 use Rattle.pg_run.specs.Acknowledged.{AcknowledgedKeysAreHad}
 use Rattle.pg_run.specs.Away.{DirectoriesAreTold, WhatBeginsIsAway}
-use Rattle.pg_run.specs.Births.{BirthsAreAlone, BirthsAreKnown, BirthsAreOfOneThing, GreaterBirthsReplaceEdges, LinksNameTheSender}
+use Rattle.pg_run.specs.Births.{BirthsAreAlone, BirthsAreKnown, BirthsAreOfOneThing, BirthsMoveInEvents, BirthsMoveOn, GoneSays, GreaterBirthsReplaceEdges, LinksNameTheSender, ReplicasStayOrGo}
+use Rattle.pg_run.specs.Going.{BirthsEndByLeave, ByesBeginWhereOneGoes, ByesEndByAnswers, EachPeerIsTold, EdgesGoByWord, FlagsAreMadeWhereHeld}
 use Rattle.pg_run.specs.Golds.{FullReplicasSeeGold, ReplicasNameGolds}
 use Rattle.pg_run.specs.Grown.{EventsGrow, RunsGrow}
 use Rattle.pg_run.specs.Histories.{AncestryByVectors, CarriesHistory, ClockEndsFirst, MakesHistories, OneVersionAStamp, StateIsDetermined, StateIsItsHeads}
 use Rattle.pg_run.specs.Intending.{IntentionsAreInOrder}
-use Rattle.pg_run.specs.Known.{CarriedIsKnown, FlagsHaveOwnNumbers, PlacesHaveOwnStamps}
+use Rattle.pg_run.specs.Known.{CarriedIsKnown, FlagsAreOwn, FlagsHaveOwnNumbers, PlacesHaveOwnStamps, PlacesMadeArePast}
 use Rattle.pg_run.specs.Laws.{HoldsWhatItTook, HouseIsInOrder, NamesMerge, QuietDirectoriesAreBroughtBack, QuietJoinedServersAgree, QuietNamesFormATree, QuietServersAgree, QuietThingsAreListedOnlyWhereTheyStand, ReturnsAreJustified}
+use Rattle.pg_run.specs.Leaving.{ByesAreOver, DropsAreSafe, GiversHaveEachCell, HeardEdgesAreKnown, WhatWentIsOver}
+use Rattle.pg_run.specs.Ruled.{EventsKeepTheRule, WhatGoesIsOver}
 use Rattle.pg_run.specs.Ticks.{RestartsLoseWishes, TicksSendWhatIsOwed}
+use Rattle.pg_run.specs.Views.{MessagesAreOfViews, MessagesAreSentInView, ViewsAreFronts, ViewsGrow}
 use Rattle.pg_ticks.specs.Given.{TidinessIsGiven}
+use Rattle.pg_views.specs.Premises as views
 
 -- of names, along every run
 pub record OrderIsCited (servers : ℕ) : Type 0 where
@@ -40,22 +48,29 @@ pub record OrderIsCited (servers : ℕ) : Type 0 where
   pub ids : NextIdsAreNew servers
   pub away : WhatBeginsIsAway servers
 
+-- of the views of servers
+pub record ViewsAreCited (servers : ℕ) : Type 0 where
+  pub fronts : views.StandOn servers → ViewsAreFronts servers
+  pub grow : views.StandOn servers → ViewsGrow servers
+  pub sent : views.StandOn servers → MessagesAreSentInView servers
+  pub mailed : views.StandOn servers → MessagesAreOfViews servers
+
 -- of what servers intend
 pub record IntentsAreCited (servers : ℕ) : Type 0 where
-  pub order : IntentionsAreInOrder servers
-  pub still : NothingIsLeftToDo servers
-  pub asked : IntentionsHaveRequests servers
+  pub order : ViewsAreFronts servers → IntentionsAreInOrder servers
+  pub still : ViewsAreFronts servers → NothingIsLeftToDo servers
+  pub asked : ViewsAreFronts servers → IntentionsHaveRequests servers
 
 -- of contents, where servers have numbers that stamps can have
 pub record ContentsAreCited (servers : ℕ) : Type 0 where
-  pub held : servers < 2 ^ 32 → HoldBoth servers → HoldsWhatItTook servers
-  pub heads : servers < 2 ^ 32 → HoldBoth servers → StateIsItsHeads servers
-  pub determined : servers < 2 ^ 32 → HoldBoth servers → StateIsDetermined servers
-  pub made : servers < 2 ^ 32 → HoldBoth servers → MakesHistories servers
-  pub one : servers < 2 ^ 32 → HoldBoth servers → OneVersionAStamp servers
-  pub ancestry : servers < 2 ^ 32 → HoldBoth servers → AncestryByVectors servers
-  pub carried : servers < 2 ^ 32 → HoldBoth servers → CarriesHistory servers
-  pub clock : servers < 2 ^ 32 → HoldBoth servers → ClockEndsFirst servers
+  pub held : servers < 2 ^ 32 → contents.StandOn servers → HoldsWhatItTook servers
+  pub heads : servers < 2 ^ 32 → contents.StandOn servers → StateIsItsHeads servers
+  pub determined : servers < 2 ^ 32 → contents.StandOn servers → StateIsDetermined servers
+  pub made : servers < 2 ^ 32 → contents.StandOn servers → MakesHistories servers
+  pub one : servers < 2 ^ 32 → contents.StandOn servers → OneVersionAStamp servers
+  pub ancestry : servers < 2 ^ 32 → contents.StandOn servers → AncestryByVectors servers
+  pub carried : servers < 2 ^ 32 → contents.StandOn servers → CarriesHistory servers
+  pub clock : servers < 2 ^ 32 → contents.StandOn servers → ClockEndsFirst servers
 
 -- of what edges keep, and of births
 pub record EdgesAreCited (servers : ℕ) : Type 0 where
@@ -63,20 +78,46 @@ pub record EdgesAreCited (servers : ℕ) : Type 0 where
   pub had : StandOn servers → AcknowledgedKeysAreHad servers
   pub runs : StandOn servers → RunsGrow servers
   pub grow : StandOn servers → EventsGrow servers
-  pub placed : AcknowledgedKeysAreHad servers → EventsGrow servers → FullPlaced servers
+  pub acts : StandOn servers → EventsKeepTheRule servers
+  pub placed : AcknowledgedKeysAreHad servers → EventsGrow servers → BirthsMoveInEvents servers
+      → CarriedIsKnown servers → PlacesHaveOwnStamps servers → FullPlaced servers
   pub alone : IntentionsAreInOrder servers → BirthsAreAlone servers
   pub of_one : IntentionsAreInOrder servers → BirthsAreOfOneThing servers
   pub greater : IntentionsAreInOrder servers → GreaterBirthsReplaceEdges servers
   pub linked : IntentionsAreInOrder servers → LinksNameTheSender servers
+  pub moves : IntentionsAreInOrder servers → BirthsMoveInEvents servers
+  pub on : IntentionsAreInOrder servers → BirthsMoveOn servers
+  pub stay : IntentionsAreInOrder servers → ReplicasStayOrGo servers
+  pub gone : IntentionsAreInOrder servers → GoneSays servers
   pub known : IntentionsAreInOrder servers → BirthsAreKnown servers
+
+-- of replicas that go
+pub record DropsAreCited (servers : ℕ) : Type 0 where
+  pub edges : IntentionsAreInOrder servers → EdgesGoByWord servers
+  pub ends : IntentionsAreInOrder servers → BirthsEndByLeave servers
+  pub over : IntentionsAreInOrder servers → WhatGoesIsOver servers
+  pub begin : IntentionsAreInOrder servers → ByesBeginWhereOneGoes servers
+  pub told : IntentionsAreInOrder servers → EachPeerIsTold servers
+  pub answered : IntentionsAreInOrder servers → ByesEndByAnswers servers
+  pub went : drops.StandOn servers → WhatWentIsOver servers
+  pub byes : drops.StandOn servers → ByesAreOver servers
+  pub heard : drops.StandOn servers → HeardEdgesAreKnown servers
+  pub cells : drops.StandOn servers → GiversHaveEachCell servers
+  pub safe : drops.StandOn servers → StatesAreCited servers → DropsAreSafe servers
 
 -- of flags, and of gold replicas
 pub record FlagsAreCited (servers : ℕ) : Type 0 where
-  pub numbers : HoldBoth servers → EventsGrow servers → flagging.FirstEffectsAreWhole servers
-      → NextIdsAreAway servers → FlagsHaveOwnNumbers servers
-  pub known : HoldBoth servers → EventsGrow servers → flagging.FirstEffectsAreWhole servers
-      → NextIdsAreAway servers → FlagsAreKnown servers
-  pub golds : BirthsAreKnown servers → BirthsAreAlone servers → FullReplicasSeeGold servers
+  pub own : HoldBoth servers → EventsGrow servers → BirthsMoveInEvents servers
+      → flagging.FirstEffectsAreWhole servers → NextIdsAreAway servers → FlagsAreOwn servers
+  pub made : HoldBoth servers → EventsGrow servers → BirthsMoveInEvents servers
+      → flagging.FirstEffectsAreWhole servers → NextIdsAreAway servers
+      → FlagsAreMadeWhereHeld servers
+  pub numbers : HoldBoth servers → EventsGrow servers → BirthsMoveInEvents servers
+      → flagging.FirstEffectsAreWhole servers → NextIdsAreAway servers → FlagsHaveOwnNumbers servers
+  pub known : HoldBoth servers → EventsGrow servers → BirthsMoveInEvents servers
+      → flagging.FirstEffectsAreWhole servers → NextIdsAreAway servers → FlagsAreKnown servers
+  pub golds : ViewsAreFronts servers → BirthsAreKnown servers → BirthsAreAlone servers
+      → FullReplicasSeeGold servers
   pub named : IntentionsAreInOrder servers → ReplicasNameGolds servers
 
 -- of what was taken of names, of ticks and of listings
@@ -84,15 +125,14 @@ pub record NamesAreCited (servers : ℕ) : Type 0 where
   pub one_place : IntentionsAreInOrder servers → OnePlaceAStamp servers
   pub made : IntentionsAreInOrder servers → PlacesWereMade servers
   pub own : IntentionsAreInOrder servers → PlacesHaveOwnStamps servers
+  pub past : IntentionsAreInOrder servers → PlacesMadeArePast servers
   pub known : IntentionsAreInOrder servers → AllIsNamed servers → PlacesWereMade servers
       → FlagsAreKnown servers → CarriedIsKnown servers
   pub merge : NamesStandOn servers → NamesMerge servers
   pub justified : NamesStandOn servers → EdgesAreKept servers → ReturnsAreJustified servers
   pub owed : TidinessIsGiven servers → TicksSendWhatIsOwed servers
   pub lost : TidinessIsGiven servers → RestartsLoseWishes servers
-  pub listed : IntentionsAreInOrder servers → HouseIsInOrder servers → OnePlaceAStamp servers
-      → FirstEffectsAreSound servers → RootIsUnlisted servers → WhatBeginsIsAway servers
-      → TicksSendWhatIsOwed servers → ListingsAreKept servers
+  pub listed : ListingsStandOn servers → ListingsAreKept servers
 
 -- wherever a run is quiet
 pub record QuietIsCited (servers : ℕ) : Type 0 where
@@ -104,9 +144,11 @@ pub record QuietIsCited (servers : ℕ) : Type 0 where
 
 pub record AreCited (servers : ℕ) : Type 0 where
   pub order : OrderIsCited servers
+  pub views : ViewsAreCited servers
   pub intents : IntentsAreCited servers
   pub contents : ContentsAreCited servers
   pub edges : EdgesAreCited servers
+  pub drops : DropsAreCited servers
   pub flags : FlagsAreCited servers
   pub names : NamesAreCited servers
   pub quiet : QuietIsCited servers

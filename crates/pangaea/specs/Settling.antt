@@ -8,7 +8,7 @@ use Rattle.pg_event.specs.declared.quiet.Quiet.{Quiet}
 use Rattle.pg_event.specs.declared.quiet.Quiet.TheVariants as quiet
 use Rattle.pg_run.specs.Journal.{bag}
 use Rattle.pg_run.specs.Quiet.{has_some, quiet_of}
-use Rattle.pg_run.specs.Run.{World, next, world_after, run_from}
+use Rattle.pg_run.specs.Run.{World, is_live, next, world_after, run_from}
 
 -- how many messages one round delivers at most
 abbrev pub most_deliveries : ℕ
@@ -25,10 +25,17 @@ deliveries servers w (suc k) =
     then Deliver 1 ∷ deliveries servers (after_event servers w (Deliver 1)) k
     else []
 
--- the first servers tick, each at this moment and with the word 0
-abbrev pub ticks : ℕ → ℕ → List Event
-ticks moment zero = []
-ticks moment (suc k) = ticks moment k ++ Tick (suc k) moment 0 ∷ []
+-- a tick of this server, where it is live, at this moment and with the word 0
+abbrev pub tick_of : ℕ → ℕ → World → ℕ → List Event
+tick_of servers moment w server =
+    if is_live servers w server then Tick server moment 0 ∷ [] else []
+
+-- the first servers tick, one behind the other
+abbrev pub ticks : ℕ → ℕ → World → ℕ → List Event
+ticks servers moment w zero = []
+ticks servers moment w (suc k) =
+    ticks servers moment w k
+    ++ tick_of servers moment (run_from servers w (ticks servers moment w k)) (suc k)
 
 -- nothing more happens where the run is quiet
 abbrev pub unless_quiet : Quiet → List Event → List Event
@@ -39,19 +46,24 @@ unless_quiet (quiet.Waits cause) events = events
 abbrev pub delivered : ℕ → ℕ → World → World
 delivered servers most w = run_from servers w (deliveries servers w most)
 
--- the world behind the deliveries of a round and a tick of each server
+-- the ticks of a round, behind its deliveries
+abbrev pub round_ticks : ℕ → ℕ → ℕ → World → List Event
+round_ticks servers most moment w = ticks servers moment (delivered servers most w) servers
+
+-- the world behind both
 abbrev pub ticked : ℕ → ℕ → ℕ → World → World
 ticked servers most moment w =
-    run_from servers (delivered servers most w) (ticks moment servers)
+    run_from servers (delivered servers most w) (round_ticks servers most moment w)
 
 -- at most so many rounds, each with at most so many deliveries: all is delivered, and where the run
--- is not quiet then, each server ticks and a further round follows
+-- is not quiet then, each live server ticks and a further round follows
 abbrev pub settling : ℕ → ℕ → ℕ → World → ℕ → List Event
 settling servers most moment w zero = []
 settling servers most moment w (suc k) =
     deliveries servers w most
     ++ unless_quiet (quiet_of servers (delivered servers most w))
-    (ticks moment servers ++ settling servers most moment (ticked servers most moment w) k)
+    (round_ticks servers most moment w
+    ++ settling servers most moment (ticked servers most moment w) k)
 
 -- the events that a line stands for
 abbrev pub events_of : ℕ → World → Line → List Event

@@ -1,5 +1,5 @@
 -- The journal of a run: its lines, and its text.
-use Rattle.std.specs.Prelude.{ℕ, ◌+◌, List, [], ◌∷◌, ◌++◌, zero, suc}
+use Rattle.std.specs.Prelude.{ℕ, if◌then◌else◌, ◌+◌, List, [], ◌∷◌, ◌++◌, zero, suc}
 use Rattle.pg_base.specs.declared.id.FileId.{FileId}
 use Rattle.pg_event.specs.declared.entry.VoidCause.TheVariants.{Unbuilt}
 use Rattle.pg_event.specs.declared.event.Event.{Event}
@@ -12,23 +12,28 @@ use Rattle.pg_trace.specs.Printed.{journal_spelling}
 use Rattle.pg_trace.specs.declared.printed.Printed.{Printed}
 use Rattle.pg_trace.specs.declared.printed.Printed.TheVariants as printed
 use Rattle.pg_trace.specs.declared.printed.Word.TheVariants as word
-use Rattle.pg_run.specs.Run.{World, next, start}
+use Rattle.pg_run.specs.Run.{World, is_live, next, start}
 use Rattle.pg_run.specs.Quiet.{quiet_of}
 use Rattle.pangaea.specs.Shown.{held_lines}
 use Rattle.pangaea.specs.Settling.{after_event, most_deliveries, settling, after_line}
 
--- what the first servers show of a file or directory, in increasing order
-abbrev pub shows_lines : World → FileId → ℕ → List Printed
-shows_lines w id zero = []
-shows_lines w id (suc k) = shows_lines w id k ++ held_lines (suc k) (w.stores (suc k)) id
+-- what a live server shows of a file or directory
+abbrev pub shown_at : ℕ → World → FileId → ℕ → List Printed
+shown_at servers w id server =
+    if is_live servers w server then held_lines server (w.stores server) id else []
 
--- where no server holds it, that is told
+-- what the first servers show of it, in increasing order
+abbrev pub shows_lines : ℕ → World → FileId → ℕ → List Printed
+shows_lines servers w id zero = []
+shows_lines servers w id (suc k) = shows_lines servers w id k ++ shown_at servers w id (suc k)
+
+-- where no live server holds it, that is told
 abbrev pub or_nowhere : FileId → List Printed → List Printed
 or_nowhere id [] = printed.Nowhere id ∷ []
 or_nowhere id (line ∷ lines) = line ∷ lines
 
 abbrev pub shown_lines : World → FileId → ℕ → List Printed
-shown_lines w id servers = or_nowhere id (shows_lines w id servers)
+shown_lines w id servers = or_nowhere id (shows_lines servers w id servers)
 
 abbrev pub event_lines : ℕ → ℕ → Form → World → Event → List Printed
 event_lines servers number form w event = entry_lines number form (next servers w event).entry

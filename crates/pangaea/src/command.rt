@@ -13,7 +13,9 @@ ghost use Rattle.pg_run.specs.Golds.{FullReplicasSeeGold, ReplicasNameGolds};
 ghost use Rattle.pg_run.specs.Histories.{AncestryByVectors, CarriesHistory, ClockEndsFirst, MakesHistories, OneVersionAStamp, StateIsDetermined, StateIsItsHeads};
 ghost use Rattle.pg_run.specs.Intending.{IntentionsAreInOrder};
 ghost use Rattle.pg_run.specs.Laws.{HoldsWhatItTook, HouseIsInOrder, NamesMerge, QuietDirectoriesAreBroughtBack, QuietIsTold, QuietJoinedServersAgree, QuietNamesFormATree, QuietServersAgree, QuietThingsAreListedOnlyWhereTheyStand, ReturnsAreJustified};
+ghost use Rattle.pg_run.specs.Leaving.{ByesAreOver, DropsAreSafe, HeardEdgesAreKnown, WhatWentIsOver};
 ghost use Rattle.pg_run.specs.Ticks.{TicksSendWhatIsOwed};
+ghost use Rattle.pg_run.specs.Views.{MessagesAreOfViews, ViewsAreFronts};
 ghost use Rattle.pangaea.specs.Ending.{EndsOnly, FirstBadIs};
 ghost use Rattle.pangaea.specs.Laws.{LinesAreEvents};
 ghost use Rattle.pangaea.specs.Written.{AreGoodWords, FirstIsReplay, IsGoodInput, IsTooLong, WritesAll, WritesPrefix, most_input};
@@ -129,6 +131,11 @@ pub fn run<S: Source, K: Sink>(
     ensures intends { (servers : ℕ) → IntentionsAreInOrder servers }
     ensures owed { (servers : ℕ) → TicksSendWhatIsOwed servers }
 
+    // What a server knows of removals is the first of them, in their order, and never its own; it has no
+    // edge to who is removed so. A message is of a view that its sender had, and in which it was live.
+    ensures views { (servers : ℕ) → ViewsAreFronts servers }
+    ensures mailed { (servers : ℕ) → MessagesAreOfViews servers }
+
     // After every event each full replica sees a live gold. A gold replica names with an edge each other
     // live gold that it sees, or seeks one; any other replica names one, or seeks one.
     ensures golds { (servers : ℕ) → FullReplicasSeeGold servers }
@@ -144,9 +151,18 @@ pub fn run<S: Source, K: Sink>(
     ensures linked { (servers : ℕ) → LinksNameTheSender servers }
     ensures had { (servers : ℕ) → servers < 2 ^ 32 → AcknowledgedKeysAreHad servers }
 
-    // Quiet is told exactly where no message is under way and no server owes anything. There servers
-    // that are joined agree, and where all are, all do, and the names form one tree, in which each
-    // survivor is listed where it stands and nowhere else, in no dead directory.
+    // Whoever lets a replica go leaves its whole state with another server that holds the thing, and is
+    // not removed in its view. Of what went the birth is over; an edge that its peer heard of is named
+    // back, or a Bye is owed, unless the edge's server is removed in the peer's view.
+    ensures drops { (servers : ℕ) → servers < 2 ^ 32 → DropsAreSafe servers }
+    ensures went { (servers : ℕ) → servers < 2 ^ 32 → WhatWentIsOver servers }
+    ensures heard { (servers : ℕ) → servers < 2 ^ 32 → HeardEdgesAreKnown servers }
+    ensures byes { (servers : ℕ) → servers < 2 ^ 32 → ByesAreOver servers }
+
+    // Quiet is told exactly where no message is under way, each live server has entered the last
+    // removal, and none owes anything. There live servers that are joined agree, and where all are, all
+    // do, and the names form one tree, in which each survivor is listed where it stands and nowhere
+    // else, in no dead directory.
     ensures quiet { QuietIsTold }
     ensures joined { (servers : ℕ) → servers < 2 ^ 32 → QuietJoinedServersAgree servers }
     ensures agree { (servers : ℕ) → servers < 2 ^ 32 → QuietServersAgree servers }
@@ -155,7 +171,8 @@ pub fn run<S: Source, K: Sink>(
         → QuietThingsAreListedOnlyWhereTheyStand servers }
     ensures back { (servers : ℕ) → servers < 2 ^ 32 → QuietDirectoriesAreBroughtBack servers }
 
-    // Where a directory comes back, whoever removed it had not heard of the places that it lists.
+    // Where a directory comes back, whoever removed it in an earlier event had not heard of the places
+    // that it lists, unless it is removed in the view of who brings the directory back.
     ensures justified { (servers : ℕ) → servers < 2 ^ 32 → ReturnsAreJustified servers }
 
     // When it ends how.

@@ -41,9 +41,9 @@ impl Replay {
     ghost use Rattle.pg_world.specs.Played.{final, held};
     ghost use Rattle.pg_run.specs.Quiet.{has_some, quiet_of};
     ghost use Rattle.pangaea.specs.Going.{Answers, GoesOn, Reaches, Takes};
-    ghost use Rattle.pangaea.specs.Settling.{deliveries, settling, ticks};
+    ghost use Rattle.pangaea.specs.Settling.{deliveries, settling, tick_of, ticks};
     ghost use Rattle.pangaea.specs.Shown.{held_lines};
-    ghost use Rattle.pangaea.specs.Text.{event_lines, line_head, shown_lines, shows_lines};
+    ghost use Rattle.pangaea.specs.Text.{event_lines, line_head, shown_at, shown_lines, shows_lines};
 
     /// An event happens, and what the journal says of it is written.
     fn happen(&mut self, event: Event) -> Result<(), AllocError>
@@ -83,18 +83,31 @@ impl Replay {
         Ok(())
     }
 
-    /// Each server ticks at this moment, in increasing order.
-    fn tick_all(&mut self, moment: u64) -> Result<(), AllocError>
-        requires { self.old.world.failed ≡ false }
-        ensures { OnOk result (GoesOn self.old self.new (ticks moment self.old.world.servers)) }
+    /// A live server ticks at this moment. Of a removed one nothing happens.
+    fn tick_at(&mut self, server: NodeId, moment: u64) -> Result<(), AllocError>
+        requires going { self.old.world.failed ≡ false }
+        requires server { 1 ≤ server }
+        ensures { let events = tick_of self.old.world.servers moment (final self.old.world) server in
+            OnOk result (GoesOn self.old self.new events) }
     {
-        let servers = self.world.servers();
-        for k in 0..servers {
+        if self.world.is_live(server) {
             self.happen_within(Event::Tick {
-                server: k + 1,
+                server,
                 moment,
                 word: 0,
             })?;
+        }
+        Ok(())
+    }
+
+    /// Each live server ticks at this moment, in increasing order.
+    fn tick_all(&mut self, moment: u64) -> Result<(), AllocError>
+        requires { self.old.world.failed ≡ false }
+        ensures { let servers = self.old.world.servers in
+            OnOk result (GoesOn self.old self.new (ticks servers moment (final self.old.world) servers)) }
+    {
+        for k in 0..self.world.servers() {
+            self.tick_at(k + 1, moment)?;
         }
         Ok(())
     }
@@ -120,7 +133,7 @@ impl Replay {
         Ok(())
     }
 
-    /// Writes what each server shows of a file or directory, or that none holds it.
+    /// Writes what each live server shows of a file or directory, or that none holds it.
     fn show(&mut self, id: &FileId) -> Result<(), AllocError>
         requires { self.old.world.failed ≡ false }
         ensures { let lines = shown_lines (final self.old.world) id.now self.old.world.servers in
@@ -132,12 +145,14 @@ impl Replay {
         Ok(())
     }
 
-    /// Writes what each server shows of it, and says whether one holds it.
+    /// Writes what each live server shows of it, and says whether one holds it.
     fn show_held(&mut self, id: &FileId) -> Result<bool, AllocError>
         requires { self.old.world.failed ≡ false }
-        ensures lines { let lines = shows_lines (final self.old.world) id.now self.old.world.servers in
+        ensures lines { let servers = self.old.world.servers in
+            let lines = shows_lines servers (final self.old.world) id.now servers in
             OnOk result (Reaches self.old self.new [] lines) }
-        ensures any { let lines = shows_lines (final self.old.world) id.now self.old.world.servers in
+        ensures any { let servers = self.old.world.servers in
+            let lines = shows_lines servers (final self.old.world) id.now servers in
             IfOk result (λ any. any ≡ has_some lines) }
     {
         let mut any = false;
@@ -148,8 +163,24 @@ impl Replay {
         Ok(any)
     }
 
-    /// Writes what one server shows of it, and says whether it holds it.
+    /// Writes what a live server shows of it, and says whether it holds it. A removed one shows nothing.
     fn show_at(&mut self, server: NodeId, id: &FileId) -> Result<bool, AllocError>
+        requires going { self.old.world.failed ≡ false }
+        requires server { (1 ≤ server) × (server ≤ self.old.world.servers) }
+        ensures lines { let lines = shown_at self.old.world.servers (final self.old.world) id.now server in
+            OnOk result (Reaches self.old self.new [] lines) }
+        ensures any { let lines = shown_at self.old.world.servers (final self.old.world) id.now server in
+            IfOk result (λ any. any ≡ has_some lines) }
+    {
+        if self.world.is_live(server) {
+            Ok(self.show_live(server, id)?)
+        } else {
+            Ok(false)
+        }
+    }
+
+    /// The same of a server whether it is live or not.
+    fn show_live(&mut self, server: NodeId, id: &FileId) -> Result<bool, AllocError>
         requires going { self.old.world.failed ≡ false }
         requires server { (1 ≤ server) × (server ≤ self.old.world.servers) }
         ensures lines { let lines = held_lines server (held self.old.world server) id.now in

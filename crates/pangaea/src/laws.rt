@@ -9,12 +9,18 @@ ghost use Rattle.pg_run.specs.Golds.{FullReplicasSeeGold, ReplicasNameGolds};
 ghost use Rattle.pg_run.specs.Histories.{AncestryByVectors, CarriesHistory, ClockEndsFirst, MakesHistories, OneVersionAStamp, StateIsDetermined, StateIsItsHeads};
 ghost use Rattle.pg_run.specs.Intending.{IntentionsAreInOrder};
 ghost use Rattle.pg_run.specs.Laws.{HoldsWhatItTook, HouseIsInOrder, NamesMerge, QuietDirectoriesAreBroughtBack, QuietIsTold, QuietJoinedServersAgree, QuietNamesFormATree, QuietServersAgree, QuietThingsAreListedOnlyWhereTheyStand, ReturnsAreJustified};
+ghost use Rattle.pg_run.specs.Leaving.{ByesAreOver, DropsAreSafe, HeardEdgesAreKnown, WhatWentIsOver};
 ghost use Rattle.pg_run.specs.Ticks.{TicksSendWhatIsOwed};
+ghost use Rattle.pg_run.specs.Views.{MessagesAreOfViews, ViewsAreFronts};
 ghost use Rattle.pangaea.specs.Joined.{AreCited};
 ghost use Rattle.pangaea.specs.Laws.{LinesAreEvents};
 
-use pg_births::{births_are_alone, births_are_known, edges_follow_births};
+use pg_births::{
+    births_are_alone, births_are_known, births_move_on, edges_follow_births, events_of_leaving,
+    gone_stays_gone,
+};
 use pg_contents::{clocks_end_first, contents_are_states, runs_make_histories, states_are_heads};
+use pg_drops::{drops_are_safe, drops_leave_all, heard_edges_are_known, what_went_is_over};
 use pg_filled::full_replicas_have_places;
 use pg_flags::flags_are_own;
 use pg_golds::{golds_are_named, golds_are_seen};
@@ -29,6 +35,7 @@ use pg_quiet::{quiet_names_form_a_tree, quiet_servers_agree};
 use pg_returns::returns_are_justified;
 use pg_run::{quiet_is_told, takes_are_what_came};
 use pg_ticks::{restarts_lose_wishes, ticks_send_what_is_owed};
+use pg_views::{messages_are_of_views, views_are_fronts};
 
 /// Behind any lines of a schedule the world is that of the run of their events, with those of each
 /// settling among them.
@@ -44,6 +51,8 @@ fn laws_are_cited()
     servers_are_whole();
     all_is_named();
     what_begins_is_new();
+    views_are_fronts();
+    messages_are_of_views();
     intentions_are_in_order();
     nothing_is_left_to_do();
     contents_are_states();
@@ -56,6 +65,13 @@ fn laws_are_cited()
     births_are_alone();
     births_are_known();
     edges_follow_births();
+    gone_stays_gone();
+    births_move_on();
+    events_of_leaving();
+    what_went_is_over();
+    heard_edges_are_known();
+    drops_leave_all();
+    drops_are_safe();
     flags_are_own();
     golds_are_seen();
     golds_are_named();
@@ -96,6 +112,11 @@ pub fn laws_of_runs()
     ensures intends { (servers : ℕ) → IntentionsAreInOrder servers }
     ensures owed { (servers : ℕ) → TicksSendWhatIsOwed servers }
 
+    // What a server knows of removals is the first of them, in their order, and never its own; it has no
+    // edge to who is removed so. A message is of a view that its sender had, and in which it was live.
+    ensures views { (servers : ℕ) → ViewsAreFronts servers }
+    ensures mailed { (servers : ℕ) → MessagesAreOfViews servers }
+
     // After every event each full replica sees a live gold. A gold replica names with an edge each other
     // live gold that it sees, or seeks one; any other replica names one, or seeks one.
     ensures golds { (servers : ℕ) → FullReplicasSeeGold servers }
@@ -111,9 +132,18 @@ pub fn laws_of_runs()
     ensures linked { (servers : ℕ) → LinksNameTheSender servers }
     ensures had { (servers : ℕ) → servers < 2 ^ 32 → AcknowledgedKeysAreHad servers }
 
-    // Quiet is told exactly where no message is under way and no server owes anything. There servers
-    // that are joined agree, and where all are, all do, and the names form one tree, in which each
-    // survivor is listed where it stands and nowhere else, in no dead directory.
+    // Whoever lets a replica go leaves its whole state with another server that holds the thing, and is
+    // not removed in its view. Of what went the birth is over; an edge that its peer heard of is named
+    // back, or a Bye is owed, unless the edge's server is removed in the peer's view.
+    ensures drops { (servers : ℕ) → servers < 2 ^ 32 → DropsAreSafe servers }
+    ensures went { (servers : ℕ) → servers < 2 ^ 32 → WhatWentIsOver servers }
+    ensures heard { (servers : ℕ) → servers < 2 ^ 32 → HeardEdgesAreKnown servers }
+    ensures byes { (servers : ℕ) → servers < 2 ^ 32 → ByesAreOver servers }
+
+    // Quiet is told exactly where no message is under way, each live server has entered the last
+    // removal, and none owes anything. There live servers that are joined agree, and where all are, all
+    // do, and the names form one tree, in which each survivor is listed where it stands and nowhere
+    // else, in no dead directory.
     ensures quiet { QuietIsTold }
     ensures joined { (servers : ℕ) → servers < 2 ^ 32 → QuietJoinedServersAgree servers }
     ensures agree { (servers : ℕ) → servers < 2 ^ 32 → QuietServersAgree servers }
@@ -122,7 +152,8 @@ pub fn laws_of_runs()
         → QuietThingsAreListedOnlyWhereTheyStand servers }
     ensures back { (servers : ℕ) → servers < 2 ^ 32 → QuietDirectoriesAreBroughtBack servers }
 
-    // Where a directory comes back, whoever removed it had not heard of the places that it lists.
+    // Where a directory comes back, whoever removed it in an earlier event had not heard of the places
+    // that it lists, unless it is removed in the view of who brings the directory back.
     ensures justified { (servers : ℕ) → servers < 2 ^ 32 → ReturnsAreJustified servers }
 {
     laws_are_cited();

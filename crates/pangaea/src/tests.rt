@@ -353,6 +353,182 @@ fn gold_replicas_are_linked(rt: HostRuntime) -> Result<(), Fail> {
     Ok(())
 }
 
+/// The last gold replica stays, and the other one goes with its leave. What is here is not lost.
+#[test]
+fn replicas_go(rt: HostRuntime) -> Result<(), Fail> {
+    let schedule: &[u8] = b"pangaea 1 2\n\
+        call 1 10 create /x last\n\
+        settle 9 20\n\
+        call 2 20 read /x 0 1\n\
+        settle 9 30\n\
+        call 1 40 drop f1.1\n\
+        call 1 40 demote f1.1\n\
+        call 2 40 demote f1.1\n\
+        settle 9 50\n\
+        call 1 60 demote f1.1\n\
+        call 1 60 drop f1.1\n\
+        settle 9 70\n\
+        call 2 71 demote f1.1\n\
+        call 1 72 drop f1.1\n\
+        call 1 72 drop f1.1\n\
+        settle 9 80\n\
+        call 2 81 forget f1.1\n\
+        show f1.1\n";
+    let journal: &[u8] = b"call 1 create -> made f1.1\n\
+        settle quiet\n\
+        call 2 read -> refused 3 NotYet f1.1\n\
+        settle quiet\n\
+        call 1 drop -> refused 14 IsGold\n\
+        call 1 demote -> done\n\
+        call 2 demote -> done\n\
+        settle quiet\n\
+        call 1 demote -> done\n\
+        call 1 drop -> refused 17 Unsettled Cell f1.1 2\n\
+        settle quiet\n\
+        call 2 demote -> refused 15 LastGold\n\
+        call 1 drop -> leaving 2\n\
+        call 1 drop -> refused 17 Unsettled Leave f1.1 2\n\
+        settle quiet\n\
+        call 2 forget -> refused 18 Held\n\
+        at 2 f1.1 gold full place 10@1 d0.0 x live heads 11@1 shown 0 -\n\
+        end quiet\n";
+    let ended = outcome(rt.alloc(), &["replay"], schedule, &[], &[])?;
+    assert_eq!(rt; ended.status, Status::Done);
+    assert_eq!(rt; ended.written.as_slice(), journal);
+    Ok(())
+}
+
+/// Servers are removed, the others give them up, and what was lost with them is forgotten.
+#[test]
+fn servers_are_removed(rt: HostRuntime) -> Result<(), Fail> {
+    let rows: [(&[u8], &[u8]); 4] = [
+        // The last server stays.
+        (b"pangaea 1 1\nremove 1\n", b"void 2 last\nend quiet\n"),
+        // A file is moved, the one that moved it is gone, and half of what it sent is lost. A directory that knows the new
+        // place tells the other one.
+        (
+            b"pangaea 1 3\n\
+              call 1 10 mkdir /alice\n\
+              call 1 11 create /foo last\n\
+              settle 9 20\n\
+              call 2 20 read /foo 0 1\n\
+              call 3 20 ls /alice 0\n\
+              settle 9 30\n\
+              call 1 40 rename /foo /alice/foo\n\
+              deliver 3\n\
+              remove 1\n\
+              lose 1\n\
+              lose 1\n\
+              lose 1\n\
+              call 2 50 giveup 1 1\n\
+              call 3 50 giveup 1 1\n\
+              settle 9 60\n\
+              call 2 61 ls /alice 0\n\
+              call 3 61 ls / 0\n\
+              show f1.2\n",
+            b"call 1 mkdir -> made d1.1\n\
+              call 1 create -> made f1.2\n\
+              settle quiet\n\
+              call 2 read -> refused 3 NotYet f1.2\n\
+              call 3 ls -> refused 3 NotYet d1.1\n\
+              settle quiet\n\
+              call 1 rename -> done\n\
+              call 2 giveup -> done\n\
+              call 3 giveup -> done\n\
+              settle quiet\n\
+              call 2 ls -> names 1 foo=f1.2\n\
+              call 3 ls -> names 1 alice=d1.1\n\
+              at 2 f1.2 gold full place 40@1 d1.1 foo live heads 12@1 shown 0 -\n\
+              end quiet\n",
+        ),
+        // The gold replica that the bronze one was linked with is gone: that one seeks the next, and once more. Nobody gives up
+        // one that was not removed.
+        (
+            b"pangaea 1 4\n\
+              call 1 10 create /x last\n\
+              settle 9 20\n\
+              call 2 20 read /x 0 1\n\
+              settle 9 30\n\
+              call 3 30 read /x 0 1\n\
+              settle 9 40\n\
+              call 4 40 read /x 0 1\n\
+              settle 9 50\n\
+              show f1.1\n\
+              remove 1\n\
+              call 2 51 giveup 1 1\n\
+              call 3 51 giveup 1 1\n\
+              call 4 51 giveup 1 1\n\
+              settle 9 60\n\
+              remove 2\n\
+              call 3 61 giveup 2 2\n\
+              call 4 61 giveup 2 2\n\
+              settle 9 70\n\
+              show f1.1\n\
+              call 3 71 giveup 3 4\n",
+            b"call 1 create -> made f1.1\n\
+              settle quiet\n\
+              call 2 read -> refused 3 NotYet f1.1\n\
+              settle quiet\n\
+              call 3 read -> refused 3 NotYet f1.1\n\
+              settle quiet\n\
+              call 4 read -> refused 3 NotYet f1.1\n\
+              settle quiet\n\
+              at 1 f1.1 gold full place 10@1 d0.0 x live heads 11@1 shown 0 -\n\
+              at 2 f1.1 gold full place 10@1 d0.0 x live heads 11@1 shown 0 -\n\
+              at 3 f1.1 gold full place 10@1 d0.0 x live heads 11@1 shown 0 -\n\
+              at 4 f1.1 bronze full place 10@1 d0.0 x live heads 11@1 shown 0 -\n\
+              call 2 giveup -> done\n\
+              call 3 giveup -> done\n\
+              call 4 giveup -> done\n\
+              settle quiet\n\
+              call 3 giveup -> done\n\
+              call 4 giveup -> done\n\
+              settle quiet\n\
+              at 3 f1.1 gold full place 10@1 d0.0 x live heads 11@1 shown 0 -\n\
+              at 4 f1.1 bronze full place 10@1 d0.0 x live heads 11@1 shown 0 -\n\
+              void 21 unremoved\n\
+              end quiet\n",
+        ),
+        // The only server that had a file and a directory is gone. What is lost is waited for until it is forgotten: the file
+        // is taken away, and the directory begins anew, is empty, and is removed. A view is entered once.
+        (
+            b"pangaea 1 2\n\
+              call 1 10 create /y last\n\
+              call 1 12 mkdir /d\n\
+              settle 9 20\n\
+              remove 1\n\
+              call 2 21 giveup 1 1\n\
+              settle 2 30\n\
+              call 2 31 read /y 0 1\n\
+              call 2 32 forget f1.1\n\
+              call 2 33 forget d1.2\n\
+              call 2 34 ls / 0\n\
+              call 2 35 rmdir /d\n\
+              call 2 36 giveup 1 1\n\
+              deliver 1\n",
+            b"call 1 create -> made f1.1\n\
+              call 1 mkdir -> made d1.2\n\
+              settle quiet\n\
+              call 2 giveup -> done\n\
+              settle waits intent 2 Confirm d0.0 d1.2 0\n\
+              call 2 read -> refused 3 NotYet f1.1\n\
+              call 2 forget -> done\n\
+              call 2 forget -> done\n\
+              call 2 ls -> names 1 d=d1.2\n\
+              call 2 rmdir -> done\n\
+              call 2 giveup -> refused 19 WrongView 1\n\
+              void 14 no-message\n\
+              end quiet\n",
+        ),
+    ];
+    for (schedule, journal) in rows {
+        let ended = outcome(rt.alloc(), &["replay"], schedule, &[], &[])?;
+        assert_eq!(rt; ended.status, Status::Done);
+        assert_eq!(rt; ended.written.as_slice(), journal);
+    }
+    Ok(())
+}
+
 #[test]
 fn says_why_it_ends(rt: HostRuntime) -> Result<(), Fail> {
     let good = b"pangaea 1 1\ncall 1 1 mkdir /a\n".as_slice();

@@ -59,6 +59,27 @@ const PIECES: [&[u8]; 7] = [
     b">call 9 5 mkdir /a&lt;b&amp;c -&gt; void no-server</text>\n",
 ];
 
+/// A message is under way to a server when it is removed, one from it stays, and one is sent to it later.
+const REMOVAL: &[u8] = b"event 3 call 1 10 write /x 0 61\n\
+              call 1 write -> wrote 10@1\n\
+              sent 1 2 cell f1.1 version:10@1\n\
+              sent 1 3 cell f1.1 version:10@1\n\
+              sent 2 1 ack f1.1 version:10@1\n\
+              event 4 remove 2\n\
+              event 5 deliver 1\n\
+              sent 3 2 ack f1.1 version:10@1\n\
+              event 6 deliver 1\n\
+              end quiet\n";
+
+/// What has to stand in the picture of it.
+const REMOVAL_PIECES: [&[u8]; 5] = [
+    b"<path class=\"lost\" d=\"M220 156L300 195\"/>\n",
+    b"<use href=\"#remove\" x=\"380\" y=\"182\"/>\n",
+    b"<path class=\"delivered\" d=\"M220 156L540 221\"/>\n",
+    b"<path class=\"lost\" d=\"M540 221L460 234\"/>\n",
+    b"<path class=\"delivered\" d=\"M380 156L220 260\"/>\n",
+];
+
 /// Whether the piece stands somewhere in the text.
 fn has(text: &[u8], piece: &[u8]) -> bool {
     for start in 0..text.len() {
@@ -74,6 +95,16 @@ fn draws_a_run(rt: HostRuntime) -> Result<(), Fail> {
     let ended = outcome(rt.alloc(), 1, RUN, &[], &[])?;
     assert_eq!(rt; ended.ending, Ending::Done);
     for piece in PIECES {
+        assert!(rt; has(ended.written.as_slice(), piece));
+    }
+    Ok(())
+}
+
+#[test]
+fn draws_a_removal(rt: HostRuntime) -> Result<(), Fail> {
+    let ended = outcome(rt.alloc(), 1, REMOVAL, &[], &[])?;
+    assert_eq!(rt; ended.ending, Ending::Done);
+    for piece in REMOVAL_PIECES {
         assert!(rt; has(ended.written.as_slice(), piece));
     }
     Ok(())

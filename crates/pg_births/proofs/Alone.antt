@@ -15,24 +15,26 @@ use Rattle.pg_register.specs.Place.{root}
 use Rattle.pg_replica.specs.declared.replica.Replica.{Replica}
 use Rattle.pg_replica.specs.Root.{first_root}
 use Rattle.pg_server.specs.declared.input.Input.TheVariants as input
-use Rattle.pg_server.specs.Local.{effect}
+use Rattle.pg_server.specs.Local.{effect, first_effect}
 use Rattle.pg_store.specs.declared.store.Store.{Store}
 use Rattle.pg_store.specs.declared.wishes.Wish.{Wish}
 use Rattle.pg_store.specs.Births.{fill_at, wish_at}
 use Rattle.pg_store.specs.Store.{is_held, new_store, replica_at}
-use Rattle.pg_store.specs.Together.{birth_at}
+use Rattle.pg_store.specs.Together.{BirthsMove, birth_at}
+use Rattle.pg_store.proofs.Over.{moves_itself as births_stay, moves_then}
 use Rattle.pg_store.proofs.Pairs.{start_together}
 use Rattle.pg_store.proofs.Wishing.{start_births}
-use Rattle.pg_run.specs.Births.{BirthIsAlone, BirthsAreAlone, BirthsAreOfOneThing, EdgesGoUp, GreaterBirthsReplaceEdges, IsBirthAt, LinksNameTheSender, WasGivenOut}
+use Rattle.pg_run.specs.Births.{BirthIsAlone, BirthsAreAlone, BirthsAreOfOneThing, BirthsMoveInEvents, BirthsMoveOn, EdgesGoUp, GreaterBirthsReplaceEdges, IsBirthAt, LinksNameTheSender, ReplicasStayOrGo, WasGivenOut}
 use Rattle.pg_run.specs.Laws.{store_after}
 use Rattle.pg_run.specs.Run.{Step, Taking, World, next, run, start, taking_in}
-use Rattle.pg_run.proofs.Frame.{Acts, IsFramed, framed, next_is, run_more}
+use Rattle.pg_run.proofs.Frame.{Acts, IsFramed, acts_is, framed, next_is, run_more}
 use Rattle.pg_births.specs.Premises.{FillsAlwaysStand, NextIdsAreFree}
-use Rattle.pg_births.proofs.Effects.{Lists, arrival_lists, effect_moves}
+use Rattle.pg_births.proofs.Effects.{Lists, arrival_lists, effect_moves, end_moves, first_moves, lets_in_any}
 use Rattle.pg_births.proofs.Ends.{born_to, born_to-edge, ends, listed_born}
 use Rattle.pg_births.proofs.Going.{along}
 use Rattle.pg_births.proofs.Has.{Goes, Has, IsAlone, goes_itself, goes_then, has_given, has_one, to_has}
-use Rattle.pg_births.proofs.Moving.{EdgesMove, Moves, moves_itself}
+use Rattle.pg_births.proofs.Leaves.{births_go, stays_or_goes}
+use Rattle.pg_births.proofs.Moving.{AnyWhy, EdgesMove, Moves, moves_itself}
 use Rattle.pg_births.proofs.Pieces.{Shape, shape, shape_at}
 
 -- ---- the start
@@ -88,23 +90,24 @@ module _ (n : ℕ) (fills : FillsAlwaysStand n) (free : NextIdsAreFree n) where
     W = run n before
 
     acted_by : (t : Taking) → Acts n W t → (here : Bool) → (s == t.server) ≡ here
-        → Moves (W.stores s) (cond here (effect (W.stores t.server) t.asked).store (W.stores s))
+        → Moves AnyWhy (W.stores s) (cond here (effect (W.stores t.server) t.asked).store (W.stores s))
     acted_by t acts true same =
-        let P : ℕ → Type 0 = λ z. Moves (W.stores z) (effect (W.stores t.server) t.asked).store in
+        let P : ℕ → Type 0 = λ z. Moves AnyWhy (W.stores z) (effect (W.stores t.server) t.asked).store in
         subst P (sym (eqb-true s t.server same))
-        (effect_moves (W.stores t.server) (fills before t.server acts.least acts.most) (free before t.server acts.least acts.most) t.asked)
+        (effect_moves AnyWhy (W.stores t.server) (fills before t.server acts.least acts.most) (free before t.server acts.least acts.most) t.asked
+        (lets_in_any (W.stores t.server) t.asked))
     acted_by t acts false other = moves_itself (W.stores s)
 
-    step_by : (o : Option Taking) (step : Step) → IsFramed n W e o step → Moves (W.stores s) (step.stores s)
-    step_by None step f = subst (λ (z : Step). Moves (W.stores s) (z.stores s)) (sym f.1) (moves_itself (W.stores s))
+    step_by : (o : Option Taking) (step : Step) → IsFramed n W e o step → Moves AnyWhy (W.stores s) (step.stores s)
+    step_by None step f = subst (λ (z : Step). Moves AnyWhy (W.stores s) (z.stores s)) (sym f.1) (moves_itself (W.stores s))
     step_by (Some t) step f =
-        subst (λ (z : Step). Moves (W.stores s) (z.stores s)) (sym f.1) (acted_by t f.0 (s == t.server) refl)
+        subst (λ (z : Step). Moves AnyWhy (W.stores s) (z.stores s)) (sym f.1) (acted_by t f.0 (s == t.server) refl)
 
-    pub next_moves : Moves (W.stores s) ((next n W e).stores s)
+    pub next_moves : Moves AnyWhy (W.stores s) ((next n W e).stores s)
     next_moves = step_by (taking_in n W e) (next n W e) (framed n W e)
 
-    pub event_moves : Moves (At before s) (At (before ++ e ∷ []) s)
-    event_moves = subst (λ (w : World). Moves (At before s) (w.stores s)) (sym (run_more n (start n) before e)) next_moves
+    pub event_moves : Moves AnyWhy (At before s) (At (before ++ e ∷ []) s)
+    event_moves = subst (λ (w : World). Moves AnyWhy (At before s) (w.stores s)) (sym (run_more n (start n) before e)) next_moves
 
   -- ---- all events
 
@@ -208,6 +211,43 @@ module _ (n : ℕ) (fills : FillsAlwaysStand n) (free : NextIdsAreFree n) where
         | inr m ↦ sym (apart_at two.before one.before m.0 s g f b m.1 two.was one.was)
       ]
 
+  -- ---- births move one way
+
+  event_births : (events : List Event) (e : Event) (s : ℕ) → BirthsMove (At events s) (At (events ++ e ∷ []) s)
+  event_births events e s =
+      births_go AnyWhy (At events s) (At (events ++ e ∷ []) s) (alone_always events s) (event_moves events e s)
+
+  -- BIRTHS MOVE ONE WAY, along every run
+  pub births_move_on : BirthsMoveOn n
+  births_move_on events more s least most =
+      along (λ es. BirthsMove (At events s) (At es s))
+      (λ es e k. moves_then (At events s) (At es s) (At (es ++ e ∷ []) s) k (event_births es e s)) events more
+      (births_stay (At events s))
+
+  -- AND IN EVERY EVENT
+  pub births_move_in_events : BirthsMoveInEvents n
+  births_move_in_events events e s asked takes =
+      let a = At events s in
+      let acts = acts_is n (run n events) e (record { server = s; asked = asked }) takes in
+      let alone = alone_always events s in
+      let first = first_effect a asked in
+      let one = first_moves AnyWhy a (fills events s acts.least acts.most) (free events s acts.least acts.most) asked (lets_in_any a asked) in (
+        births_go AnyWhy a first.store alone one,
+        births_go AnyWhy first.store (effect a asked).store (one.goes.alone alone) (end_moves AnyWhy a asked),
+      )
+
+  -- REPLICAS STAY OR GO
+  pub replicas_stay_or_go : ReplicasStayOrGo n
+  replicas_stay_or_go events e s asked takes =
+      let a = At events s in
+      let acts = acts_is n (run n events) e (record { server = s; asked = asked }) takes in
+      let fill = fills events s acts.least acts.most in
+      let id = free events s acts.least acts.most in
+      let alone = alone_always events s in (
+        stays_or_goes AnyWhy a (first_effect a asked).store alone (first_moves AnyWhy a fill id asked (lets_in_any a asked)),
+        stays_or_goes AnyWhy a (effect a asked).store alone (effect_moves AnyWhy a fill id asked (lets_in_any a asked)),
+      )
+
   -- ---- edges
 
   shape_is : (a : Store) (file : FileId) (x : Replica) → replica_at a file ≡ Some x → shape_at a file ≡ Some (shape x)
@@ -225,21 +265,25 @@ module _ (n : ℕ) (fills : FillsAlwaysStand n) (free : NextIdsAreFree n) where
   of_shape None m fs e = cc
   of_shape (Some y) m fs e = (y, refl, sym (ends_of y y m fs (sym e)).0)
 
-  module _ (a b : Store) (moves : EdgesMove a b) where
+  module _ (a b : Store) (moves : EdgesMove AnyWhy a b) where
     falls_not : (file : FileId) (x y : Replica) (peer : ℕ) (d e : Edge) → replica_at a file ≡ Some x → replica_at b file ≡ Some y
         → edge_to x.edges peer ≡ Some d → edge_to y.edges peer ≡ Some e → d.birth ≤ e.birth
     falls_not file x y peer d e old new one two =
-        let m = moves file x.birth (ends x.edges) (shape_is a file x old) in
-        let same = ends_of x y x.birth m.0 (sym m.1 ∙ shape_is b file y new) in
-        m.2 peer d.birth e.birth (born_edge x peer d one)
-        (subst (λ (l : List (ℕ × ℕ)). born_to l peer ≡ Some e.birth) (sym same.1) (born_edge y peer e two))
+        elim (moves file x.birth (ends x.edges) (shape_is a file x old)) [
+          | inl m ↦ (
+              let same = ends_of x y x.birth m.0 (sym m.1 ∙ shape_is b file y new) in
+              m.2 peer d.birth e.birth (born_edge x peer d one)
+              (subst (λ (l : List (ℕ × ℕ)). born_to l peer ≡ Some e.birth) (sym same.1) (born_edge y peer e two)))
+          | inr w ↦ absurd (let z : ◌≡◌ {A = Option Shape} None (Some (shape y)) = sym w.0 ∙ shape_is b file y new in cc)
+        ]
 
     pub go_up : EdgesGoUp a b
     go_up = record {
       births = falls_not;
-      stays = λ file x there. (
-          let m = moves file x.birth (ends x.edges) (shape_is a file x there) in
-          of_shape (replica_at b file) x.birth m.0 m.1);
+      stays = λ file x there. elim (moves file x.birth (ends x.edges) (shape_is a file x there)) [
+        | inl m ↦ inl (of_shape (replica_at b file) x.birth m.0 m.1)
+        | inr w ↦ inr w.1
+      ];
     }
 
   -- GREATER BIRTHS REPLACE EDGES

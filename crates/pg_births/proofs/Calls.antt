@@ -22,6 +22,7 @@ use Rattle.pg_intent.specs.Intents.{has_key, intent_at, stands}
 use Rattle.pg_intent.proofs.Found.{stands_is}
 use Rattle.pg_msg.specs.declared.work.Work.{Work}
 use Rattle.pg_names.specs.Names.{HeldValue, blank_own, is_full_of, known}
+use Rattle.pg_register.specs.declared.flag.Flag.{Flag}
 use Rattle.pg_walk.specs.declared.paths.Stop.{Stop}
 use Rattle.pg_walk.specs.declared.paths.Stop.TheVariants as stop
 use Rattle.pg_store.specs.declared.store.Store.{Store}
@@ -36,6 +37,9 @@ use Rattle.pg_calls.specs.Asking.{fresh_wish, standing, wish_by}
 use Rattle.pg_calls.specs.Bodies.{change_file, shown_part, when_fit}
 use Rattle.pg_cells.specs.Golds.{is_gold}
 use Rattle.pg_calls.specs.Demoting.{demoted_at, lowered}
+use Rattle.pg_calls.specs.Dropping.{clean_gold, dropped_at, leave_of, leaving}
+use Rattle.pg_calls.specs.Forgetting.{forget_lost, lost_at}
+use Rattle.pg_calls.specs.GivingUp.{enter_view, removal_at}
 use Rattle.pg_calls.specs.Looks.{counts, listing, page, stat_of}
 use Rattle.pg_calls.specs.Calls.{do_call}
 use Rattle.pg_calls.specs.Checks.{dir_at, empty_dir_at, file_at, in_time, move_of, new_name, target_at}
@@ -49,7 +53,10 @@ use Rattle.pg_promises.proofs.Choices.{chosen}
 use Rattle.pg_run.specs.Intending.{FillsStand, IsFilling}
 use Rattle.pg_births.specs.Premises.{IsFree}
 use Rattle.pg_births.proofs.Begins.{made_goes, wish_goes}
-use Rattle.pg_births.proofs.Moving.{Moves, begin_edges, goes_moves, moves_itself, moves_stay, stay_moves, stays_moves, unheld}
+use Rattle.pg_births.proofs.Entering.{enter_moves}
+use Rattle.pg_births.proofs.Leaves.{begun_stays}
+use Rattle.pg_births.proofs.Losing.{lost_moves}
+use Rattle.pg_births.proofs.Moving.{Moves, Why, begin_edges, goes_moves, moves_itself, moves_stay, stay_moves, stays_moves, unheld}
 use Rattle.pg_births.proofs.Pieces.{flag_stays, id_stays, place_stays, stays_then, write_stays}
 
 -- ---- a Fill is found with its key
@@ -97,20 +104,24 @@ away_by a q true held fills full none =
     let stood : stands a.intents (intent_key.Fill q) ≡ true = (fills q).1 (inl (filling_by a q (known a.names q) refl held full)) in
     absurd (false≢true (sym (no_fill (fill_at a q) none) ∙ sym (stands_is a.intents (intent_key.Fill q)) ∙ stood))
 
-module _ (a : Store) (fills : FillsStand a) (free : (kind : Kind) → IsFree a (next_id a kind)) (work : Work) where
+-- where a server is removed its edges may go
+abbrev pub MayEnter : Why → Store → Call → Type 0
+MayEnter V a c = (view server : ℕ) (u : Unit {0}) → c ≡ call.Giveup view server → removal_at a view server ≡ Ok u → (file : FileId) (birth : ℕ) → V.edge file server birth
+
+module _ (V : Why) (a : Store) (fills : FillsStand a) (free : (kind : Kind) → IsFree a (next_id a kind)) (work : Work) where
   abbrev Leaves : Answer → Type 0
-  Leaves left = Moves a left.store
+  Leaves left = Moves V a left.store
 
   -- where it is refused no more than a wish comes
   refused_by : (why : Refusal) (left : Answer) → OnlyAsks a work why left → Leaves left
   refused_by why left asks = elim asks.kept [
-    | inl same ↦ subst (Moves a) (sym same) (moves_itself a)
+    | inl same ↦ subst (Moves V a) (sym same) (moves_itself a)
     | inr wished ↦ (
         let file = wished.0 in
         let gap = unfilled a file wished.3 in
         let away = away_by a file (is_held a file) refl fills (asks.missing file wished.2) gap in
         let wish = fresh_wish a wished.1 in
-        subst (Moves a) (sym wished.4) (goes_moves (wish_goes a file wish refl away gap) (λ q. refl)))
+        subst (Moves V a) (sym wished.4) (goes_moves (wish_goes a file wish refl away gap) (λ q. refl)))
   ]
 
   abbrev MayRefuse : Answer → Type 0
@@ -128,14 +139,14 @@ module _ (a : Store) (fills : FillsStand a) (free : (kind : Kind) → IsFree a (
   -- ---- a new thing
 
   begun_moves : (id : FileId) (policy : Policy) → IsFree a id
-      → Moves (with_id a) (begin (with_birth (with_id a)) id (draw_birth (with_id a)) policy (blank_own id) true)
+      → Moves V (with_id a) (begin (with_birth (with_id a)) id (draw_birth (with_id a)) policy (blank_own id) true)
   begun_moves id policy is = record {
     goes = made_goes (with_id a) id policy (blank_own id) true is.away is.unfilled;
     edges = λ k. begin_edges (with_birth (with_id a)) id (draw_birth (with_id a)) policy (blank_own id) true
-        (unheld (with_id a) id k.together is.away);
+        (unheld (with_id a) id k.together is.away) V;
   }
 
-  thing_moves : (id : FileId) (policy : Policy) (new : NewName) → IsFree a id → Moves a (with_thing (with_id a) work id policy new).store
+  thing_moves : (id : FileId) (policy : Policy) (new : NewName) → IsFree a id → Moves V a (with_thing (with_id a) work id policy new).store
   thing_moves id policy new is =
       let b = begin (with_birth (with_id a)) id (draw_birth (with_id a)) policy (blank_own id) true in
       let place = place_in (with_id a) work.now new in
@@ -154,49 +165,60 @@ module _ (a : Store) (fills : FillsStand a) (free : (kind : Kind) → IsFree a (
   looks : {A : Type 0} (check : Result A Stop) (tell : A → Reply) → MayRefuse (replied a work check tell) → Leaves (replied a work check tell)
   looks check tell may = goes_on check (λ x. told a work (tell x)) may (λ x is m. moves_itself a)
 
+  -- a Leave begins
+  left_moves : (file : FileId) (o : Option Flag) → Leaves (leaving a file work o)
+  left_moves file None = moves_itself a
+  left_moves file (Some flag) = stays_moves (begun_stays a (leave_of file flag) work (λ q. refl))
+
   abbrev Timed : Result (Unit {0}) Stop
   Timed = in_time a (tt {0})
 
   -- ANY CALL
-  pub call_moves : (c : Call) → Leaves (do_call a c work)
-  call_moves (call.Mkdir path) =
+  pub call_moves : (c : Call) → MayEnter V a c → Leaves (do_call a c work)
+  call_moves (call.Mkdir path) may =
       let id = next_id a Dir in
       goes_on (new_name a id path) (λ (new : NewName). answer (with_thing (with_id a) work id Last new) (reply.Made id))
       (may_refuse (call.Mkdir path)) (λ new is m. thing_moves id Last new (free Dir))
-  call_moves (call.Create path policy) =
+  call_moves (call.Create path policy) may =
       let id = next_id a File in
       goes_on (new_name a id path)
       (λ (new : NewName). answer (with_first_version id (with_thing (with_id a) work id policy new)) (reply.Made id))
       (may_refuse (call.Create path policy)) (λ new is m. (
       let d = with_thing (with_id a) work id policy new in
       moves_stay (thing_moves id policy new (free File)) (write_stays d.store id (drawn d.store d.work.now) first_ranges)))
-  call_moves (call.Write path offset bytes) =
+  call_moves (call.Write path offset bytes) may =
       goes_on (file_at a path) (change_file a (written offset bytes) work) (may_refuse (call.Write path offset bytes))
       (λ file is m. changed_moves (written offset bytes) file m)
-  call_moves (call.Cut path length) =
+  call_moves (call.Cut path length) may =
       goes_on (file_at a path) (change_file a (cut_to length) work) (may_refuse (call.Cut path length))
       (λ file is m. changed_moves (cut_to length) file m)
-  call_moves (call.Read path offset count) =
+  call_moves (call.Read path offset count) may =
       looks (file_at a path) (λ (file : FileId). reply.Bytes (shown_part a file offset count)) (may_refuse (call.Read path offset count))
-  call_moves (call.Fresh path) = looks (file_at a path) (λ (file : FileId). reply.Done) (may_refuse (call.Fresh path))
-  call_moves (call.Ls path from) = looks (dir_at a path) (λ (dir : FileId). page (listing dir (known a.names dir)) from) (may_refuse (call.Ls path from))
-  call_moves (call.Stat target) =
+  call_moves (call.Fresh path) may = looks (file_at a path) (λ (file : FileId). reply.Done) (may_refuse (call.Fresh path))
+  call_moves (call.Ls path from) may = looks (dir_at a path) (λ (dir : FileId). page (listing dir (known a.names dir)) from) (may_refuse (call.Ls path from))
+  call_moves (call.Stat target) may =
       looks (target_at a target) (λ (file : FileId). reply.Stat (stat_of a file)) (may_refuse (call.Stat target))
-  call_moves (call.Rename from to) =
+  call_moves (call.Rename from to) may =
       goes_on (move_of a from to) (λ (move : Move). answer (moved a work move) reply.Done) (may_refuse (call.Rename from to))
       (λ move is m. stays_moves (place_stays a move.thing (place_in a work.now move.to)))
-  call_moves (call.Unlink path) =
+  call_moves (call.Unlink path) may =
       goes_on (file_at a path) (λ (file : FileId). answer (taken_away a work file) reply.Done) (may_refuse (call.Unlink path))
       (λ file is m. stays_moves (place_stays a file (dead_place a work.now file)))
-  call_moves (call.Rmdir path) =
+  call_moves (call.Rmdir path) may =
       goes_on (empty_dir_at a path) (λ (dir : FileId). answer (taken_away a work dir) reply.Done) (may_refuse (call.Rmdir path))
       (λ dir is m. stays_moves (place_stays a dir (dead_place a work.now dir)))
-  call_moves (call.Forget id) = looks Timed (λ found. reply.Done) (may_refuse (call.Forget id))
-  call_moves (call.Demote target) =
+  call_moves (call.Forget id) may =
+      goes_on (lost_at a id) (λ (found : FileId). answer (forget_lost a found work) reply.Done) (may_refuse (call.Forget id))
+      (λ found is m. lost_moves V a found work)
+  call_moves (call.Demote target) may =
       goes_on (demoted_at a target) (λ (file : FileId). answer (lowered a file work) reply.Done) (may_refuse (call.Demote target))
-      (λ file is m. chosen (λ (d : Done). Moves a d.store) (is_gold a file) (lower_flag a file work) (idle a work)
+      (λ file is m. chosen (λ (d : Done). Moves V a d.store) (is_gold a file) (lower_flag a file work) (idle a work)
       (stays_moves (flag_stays a file (own_next a file false))) (moves_itself a))
-  call_moves (call.Drop target) = looks Timed (λ found. reply.Done) (may_refuse (call.Drop target))
-  call_moves (call.Giveup view server) = looks Timed (λ found. reply.Done) (may_refuse (call.Giveup view server))
-  call_moves call.Status = looks Timed (λ found. reply.Status (counts a)) (may_refuse call.Status)
-  call_moves call.Stop = looks Timed (λ found. reply.Done) (may_refuse call.Stop)
+  call_moves (call.Drop target) may =
+      goes_on (dropped_at a target) (λ (file : FileId). leaving a file work (clean_gold a file)) (may_refuse (call.Drop target))
+      (λ file is m. left_moves file (clean_gold a file))
+  call_moves (call.Giveup view server) may =
+      goes_on (removal_at a view server) (λ found. answer (enter_view a server work) reply.Done) (may_refuse (call.Giveup view server))
+      (λ found is m. enter_moves a server V (may view server found refl is))
+  call_moves call.Status may = looks Timed (λ found. reply.Status (counts a)) (may_refuse call.Status)
+  call_moves call.Stop may = looks Timed (λ found. reply.Done) (may_refuse call.Stop)

@@ -4,6 +4,8 @@ use Rattle.std.specs.Option.{option_map}
 use Rattle.std.proofs.lemmas.Bool.{and_parts, false≢true}
 use Rattle.pg_base.specs.declared.id.FileId.{FileId}
 use Rattle.pg_base.specs.declared.id.Kind.{Kind}
+use Rattle.pg_base.specs.declared.stamp.Stamp.{Stamp}
+use Rattle.pg_call.specs.declared.call.Call.{Call}
 use Rattle.pg_call.specs.declared.reply.Reply.{Reply}
 use Rattle.pg_entries.specs.declared.cell.Cell.{Cell}
 use Rattle.pg_msg.specs.declared.message.Ends.{Ends}
@@ -25,22 +27,24 @@ use Rattle.pg_cells.specs.declared.accepting.Manner.TheVariants as manner
 use Rattle.pg_cells.specs.Accepting.{accept, is_accepted, is_current, link_peer, with_gone}
 use Rattle.pg_cells.specs.Cells.{cell, fits, taken_along}
 use Rattle.pg_cells.specs.Done.{Done, idle}
+use Rattle.pg_graph.specs.Leaving.{leave, leave_given}
 use Rattle.pg_repair.specs.Granting.{begin_granted, grant}
 use Rattle.pg_repair.proofs.Steady.{begin_end_stays}
 use Rattle.pg_server.specs.declared.input.Input.{Input}
 use Rattle.pg_server.specs.declared.input.Input.TheVariants as input
 use Rattle.pg_server.specs.Local.{Effect, closed, effect, finished, first_effect, intended, is_heard, receive, reply_to, settled, takes_effect, without_wishes}
-use Rattle.pg_promises.proofs.Choices.{chosen}
+use Rattle.pg_promises.proofs.Choices.{chosen, decided}
 use Rattle.pg_run.specs.Births.{linking}
 use Rattle.pg_run.specs.Intending.{FillsStand}
 use Rattle.pg_calls.specs.Naming.{next_id}
 use Rattle.pg_births.specs.Premises.{IsFree}
-use Rattle.pg_births.proofs.Calls.{call_moves}
+use Rattle.pg_births.proofs.Calls.{MayEnter, call_moves}
 use Rattle.pg_births.proofs.Ends.{born_to}
 use Rattle.pg_births.proofs.Handlers.{received_moves, taken_stays}
 use Rattle.pg_births.proofs.Has.{IsAlone, before_goes}
 use Rattle.pg_births.proofs.Intends.{begin_end_goes}
-use Rattle.pg_births.proofs.Moving.{Moves, goes_moves, linked_there, moves_goes, moves_itself, moves_stay}
+use Rattle.pg_births.proofs.Leaves.{Lets, lets_any}
+use Rattle.pg_births.proofs.Moving.{AnyWhy, Moves, Why, goes_moves, linked_there, moves_goes, moves_itself, moves_stay}
 use Rattle.pg_births.proofs.Pieces.{settle_stays, shape, shape_at}
 
 -- ---- the end of an event
@@ -49,26 +53,46 @@ pub intended_shapes : (d : Done) (q : FileId) → shape_at (intended d).store q 
 intended_shapes d q =
     ap (λ (rs : ByFile). option_map shape (replica_in rs q)) (begin_end_stays d.store d.work).replicas
 
-pub closed_moves : (a : Store) (r : Option Reply) (d : Done) → Moves a d.store → Moves a (closed r d).store
-closed_moves a r d m =
+pub closed_moves : (V : Why) (a : Store) (r : Option Reply) (d : Done) → Moves V a d.store → Moves V a (closed r d).store
+closed_moves V a r d m =
     let s = settled d in
     moves_goes (moves_stay m (settle_stays d.store d.work)) (begin_end_goes s.store s.work) (intended_shapes s)
 
-module _ (a : Store) (fills : FillsStand a) (free : (kind : Kind) → IsFree a (next_id a kind)) where
-  pub first_moves : (asked : Input) → Moves a (first_effect a asked).store
-  first_moves (input.Call moment c) = call_moves a fills free (new_work moment 0) c
-  first_moves (input.Tick moment word) = moves_itself a
-  first_moves (input.Arrival packet) =
-      chosen (λ (d : Done). Moves a d.store) (is_heard a packet) (receive a packet.message (new_work 0 packet.from))
-      (idle a (new_work 0 packet.from)) (received_moves a packet.message (new_work 0 packet.from)) (moves_itself a)
-  first_moves input.Restart = goes_moves (before_goes a (without_wishes a) (unwished_as_before a)) (λ q. refl)
+-- what an input says that went
+pub record LetsIn (V : Why) (a : Store) (asked : Input) : Type 0 where
+  pub says : (packet : Packet) → asked ≡ input.Arrival packet → takes_effect a asked ≡ true
+      → Lets V a packet.message (new_work 0 packet.from)
+  pub enters : (moment : ℕ) (c : Call) → asked ≡ input.Call moment c → MayEnter V a c
+
+pub lets_in_any : (a : Store) (asked : Input) → LetsIn AnyWhy a asked
+lets_in_any a asked = record {
+  says = λ packet is heard. lets_any a packet.message (new_work 0 packet.from);
+  enters = λ moment c is view server u same at file birth. tt;
+}
+
+module _ (V : Why) (a : Store) (fills : FillsStand a) (free : (kind : Kind) → IsFree a (next_id a kind)) where
+  pub first_moves : (asked : Input) → LetsIn V a asked → Moves V a (first_effect a asked).store
+  first_moves (input.Call moment c) lets = call_moves V a fills free (new_work moment 0) c (lets.enters moment c refl)
+  first_moves (input.Tick moment word) lets = moves_itself a
+  first_moves (input.Arrival packet) lets =
+      let w = new_work 0 packet.from in
+      decided (λ (d : Done). Moves V a d.store) (is_heard a packet) (receive a packet.message w) (idle a w)
+      (λ heard. received_moves V a packet.message w (lets.says packet refl heard)) (λ no. moves_itself a)
+  first_moves input.Restart lets = goes_moves (before_goes a (without_wishes a) (unwished_as_before a)) (λ q. refl)
 
   -- ANY INPUT
-  pub effect_moves : (asked : Input) → Moves a (effect a asked).store
-  effect_moves asked =
+  pub effect_moves : (asked : Input) → LetsIn V a asked → Moves V a (effect a asked).store
+  effect_moves asked lets =
       let d = first_effect a asked in
-      chosen (λ (e : Effect). Moves a e.store) (takes_effect a asked) (closed (reply_to a asked) d) (finished (reply_to a asked) d)
-      (closed_moves a (reply_to a asked) d (first_moves asked)) (first_moves asked)
+      chosen (λ (e : Effect). Moves V a e.store) (takes_effect a asked) (closed (reply_to a asked) d) (finished (reply_to a asked) d)
+      (closed_moves V a (reply_to a asked) d (first_moves asked lets)) (first_moves asked lets)
+
+-- behind its first effect
+pub end_moves : (V : Why) (a : Store) (asked : Input) → Moves V (first_effect a asked).store (effect a asked).store
+end_moves V a asked =
+    let d = first_effect a asked in
+    chosen (λ (e : Effect). Moves V d.store e.store) (takes_effect a asked) (closed (reply_to a asked) d) (finished (reply_to a asked) d)
+    (closed_moves V d.store (reply_to a asked) d (moves_itself d.store)) (moves_itself d.store)
 
 -- ---- who accepts a message that links its sender lists it
 
@@ -115,6 +139,11 @@ module _ (a : Store) (ends : Ends) (work : Work) (current : is_current a work.fr
       (link_peer a ends.file work.from ends.sender work) (idle a work) (idle a (with_gone a ends manner.Link work))
       born_here not_later link_listed
 
+  pub leave_listed : (stamp : Stamp) → Named (leave a ends stamp work).store
+  leave_listed stamp =
+      let met = accept a ends manner.Link work in
+      chosen (λ (d : Done). Named d.store) (is_accepted a work.from manner.Link ends) (leave_given ends stamp met) met accept_listed accept_listed
+
   fitting : (t : Bool) (d e : Done) → t ≡ true → Named d.store → Named (cond t d e).store
   fitting true d e is k = k
   fitting false d e is k = absurd (false≢true is)
@@ -125,7 +154,7 @@ module _ (a : Store) (ends : Ends) (work : Work) (current : is_current a work.fr
       fitting (fits ends.file c) (cond (is_accepted a work.from manner.Link ends) (taken_along ends tag c met) met) (idle a work) fit
       (chosen (λ (d : Done). Named d.store) (is_accepted a work.from manner.Link ends) (taken_along ends tag c met) met
       (lists_on met.store (taken_along ends tag c met).store ends.file work.from ends.sender
-      ((taken_stays a met.store ends.file c met.work).shapes ends.file) accept_listed)
+      ((taken_stays AnyWhy a met.store ends.file c met.work).shapes ends.file) accept_listed)
       accept_listed)
 
   held_here : IsAlone a → is_held a ends.file ≡ true
@@ -173,11 +202,17 @@ module _ (a : Store) (k : IsAlone a) (work : Work) (ends : Ends) (current : is_c
       let P : Ends → Type 0 = λ z. is_current a work.from z ≡ true → After (accept a x manner.Link work).store z in
       subst P (same_ends x ends e) (λ cur. accept_listed a x work cur) current
 
+  leave_by : (x : Ends) (stamp : Stamp) → ◌≡◌ {A = Option Ends} (Some x) (Some ends) → After (leave a x stamp work).store ends
+  leave_by x stamp e =
+      let P : Ends → Type 0 = λ z. is_current a work.from z ≡ true → After (leave a x stamp work).store z in
+      subst P (same_ends x ends e) (λ cur. leave_listed a x work cur stamp) current
+
   pub received_lists : (m : Message) → linking m ≡ Some ends → After (receive a m work).store ends
   received_lists (message.Cell x tag c) e = cell_by x tag c (fits x.file c) refl e
   received_lists (message.Grant x g) e = grant_by x g e
   received_lists (message.Here x) e = here_by x e
   received_lists (message.Meet x) e = here_by x e
+  received_lists (message.Leave x stamp) e = leave_by x stamp e
   received_lists m e = no_ends e (receive a m work).store
 
 -- behind the whole event

@@ -1,5 +1,5 @@
 -- The ends of edges: to which birth of each peer there is one.
-use Rattle.std.proofs.Common.{ℕ, ◌≡◌, ◌≤◌, ◌+◌, ◌==◌, arith, Bool, true, false, cond, List, [], ◌∷◌, Option, None, Some, is_some, nat_eq, eq-eqb, refl, sym, ap, ◌∙◌}
+use Rattle.std.proofs.Common.{ℕ, ◌≡◌, ◌≤◌, ◌+◌, ◌==◌, ◌⊎◌, arith, Bool, true, false, cond, List, [], ◌∷◌, Option, None, Some, is_some, nat_eq, eq-eqb, inl, inr, refl, sym, ap, subst, ◌∙◌}
 use Rattle.std.specs.Prelude.{nat_lt}
 use Rattle.std.specs.Option.{option_eq, option_map}
 use Rattle.std.proofs.lemmas.Bool.{eqb-true, ltb-true}
@@ -167,7 +167,7 @@ up_falls_not es fs up p d e one two =
 pub none_falls : (es : List (ℕ × ℕ)) → NoneFalls es es
 none_falls es p d e one two = let same : d ≡ e = some_birth d e (sym one ∙ two) in omega (arith, same)
 
-listed_if : (e : Edge) (birth : ℕ) (t : Bool) → (e.birth == birth) ≡ t → is_some (cond t (Some e.keys) None) ≡ true → e.birth ≡ birth
+pub listed_if : (e : Edge) (birth : ℕ) (t : Bool) → (e.birth == birth) ≡ t → is_some (cond t (Some e.keys) None) ≡ true → e.birth ≡ birth
 listed_if e birth true same l = eqb-true e.birth birth same
 listed_if e birth false same l = cc
 
@@ -195,3 +195,56 @@ unlinked_if es peer false p d e one two = none_falls (ends es) p d e one two
 
 pub unlink_falls_not : (es : List Edge) (peer birth : ℕ) → NoneFalls (ends es) (ends (unlinked es peer birth))
 unlink_falls_not es peer birth = unlinked_if es peer (is_listed es peer birth)
+
+-- each peer that was listed still is, with its birth or a greater one; or its edge is one that may go
+abbrev pub UpBut : (ℕ → ℕ → Type 0) → List (ℕ × ℕ) → List (ℕ × ℕ) → Type 0
+UpBut W es fs = (p d : ℕ) → born_to es p ≡ Some d → ((e : ℕ) × (born_to fs p ≡ Some e) × (d ≤ e)) ⊎ W p d
+
+pub up_but : (W : ℕ → ℕ → Type 0) (es fs : List (ℕ × ℕ)) → AreUp es fs → UpBut W es fs
+up_but W es fs up p d there = inl (up p d there)
+
+module _ (W : ℕ → ℕ → Type 0) (es : List Edge) (peer birth : ℕ) (may : W peer birth) where
+  unlink_at : (p d : ℕ) (t : Bool) → (p == peer) ≡ t → is_listed es peer birth ≡ true → born_to (ends es) p ≡ Some d
+      → ((e : ℕ) × (born_to (ends (without_edge es peer)) p ≡ Some e) × (d ≤ e)) ⊎ W p d
+  unlink_at p d true same listed there =
+      let here : p ≡ peer = eqb-true p peer same in
+      let born : birth ≡ d =
+      some_birth birth d (sym (born_listed es peer birth listed) ∙ ap (born_to (ends es)) (sym here) ∙ there) in
+      inr (subst (λ z. W z d) (sym here) (subst (W peer) born may))
+  unlink_at p d false other listed there =
+      inl (
+        d,
+        born_listed (without_edge es peer) p d
+            (ap (λ (o : Option (List (Key × ℕ))). is_some o) (takes_out es peer p d)
+            ∙ ap (λ t. is_some (cond t None (keys_at es p d))) other ∙ listed_born es p d there),
+        omega arith,
+      )
+
+  unlink_if : (t : Bool) → is_listed es peer birth ≡ t → UpBut W (ends es) (ends (cond t (without_edge es peer) es))
+  unlink_if true listed p d there = unlink_at p d (p == peer) refl listed there
+  unlink_if false listed p d there = inl (d, there, omega arith)
+
+  -- all stay but the one that goes
+  pub unlink_up : UpBut W (ends es) (ends (unlinked es peer birth))
+  unlink_up = unlink_if (is_listed es peer birth) refl
+
+-- ---- the edge to a peer goes, whatever its birth
+
+pub cut_falls_not : (es : List Edge) (peer : ℕ) → NoneFalls (ends es) (ends (without_edge es peer))
+cut_falls_not es peer = unlinked_if es peer true
+
+module _ (W : ℕ → ℕ → Type 0) (es : List Edge) (peer : ℕ) (may : (birth : ℕ) → W peer birth) where
+  cut_by : (p d : ℕ) (t : Bool) → (p == peer) ≡ t → born_to (ends es) p ≡ Some d
+      → ((e : ℕ) × (born_to (ends (without_edge es peer)) p ≡ Some e) × (d ≤ e)) ⊎ W p d
+  cut_by p d true same there = inr (subst (λ z. W z d) (sym (eqb-true p peer same)) (may d))
+  cut_by p d false other there =
+      inl (
+        d,
+        born_listed (without_edge es peer) p d
+            (ap (λ (o : Option (List (Key × ℕ))). is_some o) (takes_out es peer p d)
+            ∙ ap (λ t. is_some (cond t None (keys_at es p d))) other ∙ listed_born es p d there),
+        omega arith,
+      )
+
+  pub cut_up : UpBut W (ends es) (ends (without_edge es peer))
+  cut_up p d there = cut_by p d (p == peer) refl there

@@ -1,7 +1,8 @@
 -- What is said of the ends of edges is said of them behind each change.
-use Rattle.std.proofs.Common.{ℕ, ◌≡◌, Bool, true, false, cond, List, [], ◌∷◌, filter, Option, None, Some, All, refl, sym, ap, subst, ◌∙◌, Less, Equal, Greater}
+use Rattle.std.proofs.Common.{ℕ, ◌≡◌, Bool, true, false, cond, not, List, [], ◌∷◌, filter, Option, None, Some, All, refl, sym, ap, subst, ◌∙◌, Less, Equal, Greater}
 use Rattle.std.specs.declared.cmp.Ordering.{Ordering}
 use Rattle.std.specs.Ordering.{match_ordering, nat_cmp}
+use Rattle.std.specs.BTreeMap.{is_at}
 use Rattle.std.specs.Option.{option_map}
 use Rattle.std.proofs.lemmas.List.Elements.{All-cons, All-nil}
 use Rattle.pg_base.specs.declared.id.FileId.{FileId}
@@ -16,9 +17,11 @@ use Rattle.pg_replica.specs.declared.replica.Replica.{Replica}
 use Rattle.pg_replica.specs.Replica.{new_replica, with_link, with_unlink}
 use Rattle.pg_replica.specs.Replicas.{ByFile, put_replica, replica_in, replicas_linked, replicas_unlinked}
 use Rattle.pg_store.specs.declared.store.Store.{Store}
-use Rattle.pg_store.specs.Beginning.{begin, patches_of, put_new}
+use Rattle.pg_replica.proofs.Going.{replica_behind}
+use Rattle.pg_store.specs.Beginning.{begin, let_go, patches_of, put_new}
 use Rattle.pg_store.specs.Links.{is_linked, is_new_link, keys, link, put_link, unlink}
 use Rattle.pg_store.specs.Store.{replica_at}
+use Rattle.pg_store.proofs.Going.{left_some}
 use Rattle.pg_births.proofs.Ends.{ends}
 use Rattle.pg_births.proofs.Moving.{some_shape}
 use Rattle.pg_births.proofs.Pieces.{Stays, patches_stay, shape, shape_at}
@@ -75,6 +78,10 @@ module _ (P : FileId → ℕ → ℕ → Type 0) where
       → AllEnds P file (ends (cond t (without_edge es peer) es))
   gone_by file es peer true all = left_all file _ es all
   gone_by file es peer false all = all
+
+  -- the edge to a peer goes
+  pub cut_all : (file : FileId) (es : List Edge) (peer : ℕ) → AllEnds P file (ends es) → AllEnds P file (ends (without_edge es peer))
+  cut_all file es peer all = gone_by file es peer true all
 
   -- ---- one replica changed
 
@@ -134,3 +141,13 @@ module _ (P : FileId → ℕ → ℕ → Type 0) where
   ends_begin a file birth policy own full k =
       ends_stay (patches_stay (put_new a file birth policy own full) file (patches_of file a.intents))
       (put_says a.replicas file (new_replica birth policy) tt k)
+
+  -- a replica goes
+  shape_by : (t : Bool) (o : Option Replica) (n : ℕ) (es : List (ℕ × ℕ)) → option_map shape (cond t o None) ≡ Some (n, es)
+      → option_map shape o ≡ Some (n, es)
+  shape_by t o n es e = left_some shape t o (n, es) e
+
+  pub ends_let_go : (a : Store) (file : FileId) → SaysEnds P a → SaysEnds P (let_go a file)
+  ends_let_go a file k q n es there =
+      k q n es (shape_by (not (is_at (file_cmp file) q)) (replica_at a q) n es
+      (sym (ap (option_map shape) (replica_behind a.replicas file q)) ∙ there))

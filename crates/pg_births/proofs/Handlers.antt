@@ -16,15 +16,15 @@ use Rattle.pg_msg.specs.declared.message.Granted.{Granted}
 use Rattle.pg_msg.specs.declared.message.Message.{Message}
 use Rattle.pg_msg.specs.declared.message.Message.TheVariants as message
 use Rattle.pg_msg.specs.declared.work.Work.{Work}
-use Rattle.pg_names.specs.Names.{fill as fill_names}
 use Rattle.pg_store.specs.declared.store.Store.{Store}
 use Rattle.pg_store.specs.Beginning.{with_intents}
 use Rattle.pg_store.specs.Births.{fill_at, has_birth, is_pending, wish_at, with_wishes}
 use Rattle.pg_store.specs.Links.{knows_later, link}
 use Rattle.pg_store.specs.Servers.{next_target}
-use Rattle.pg_store.specs.Store.{is_full, is_held, take_flag, with_names}
+use Rattle.pg_store.specs.Store.{is_full, is_held, take_flag}
 use Rattle.pg_store.specs.Wishes.{aim_wish}
 use Rattle.pg_store.proofs.Given.{pending_may}
+use Rattle.pg_store.proofs.Pairs.{link_as_before}
 use Rattle.pg_cells.specs.declared.accepting.Manner.TheVariants as manner
 use Rattle.pg_cells.specs.Accepting.{accept, is_accepted, link_peer, with_gone}
 use Rattle.pg_cells.specs.Cells.{cell, fits, taken, taken_along}
@@ -35,23 +35,25 @@ use Rattle.pg_cells.specs.Taking.{take_entry_noted, take_flag_noted, take_flags_
 use Rattle.pg_house.specs.Work.{is_root}
 use Rattle.pg_repair.specs.Confirming.{confirm, confirmed, end_confirmed, is_confirmed, place_is, place_told, take_told_flags, take_told_place}
 use Rattle.pg_repair.specs.Fetching.{answered_fetch, fetch}
-use Rattle.pg_repair.specs.Filling.{few_golds, fill, full, live_golds}
+use Rattle.pg_repair.specs.Filling.{fill, full, invite, invited, is_bronze, raise_if_few}
 use Rattle.pg_repair.specs.Granting.{aim_fill, begin_granted, begun_by, fill_asks, gone, grant, granted_own, no_grant, turn_wish, wish_asks}
 use Rattle.pg_repair.specs.NoneHere.{asking_key, does_ask, none_here}
+use Rattle.pg_graph.specs.Leaving.{leave, leave_given}
 use Rattle.pg_graph.specs.Seeking.{answered_seek, seek}
 use Rattle.pg_repair.specs.Telling.{is_told, tell, tell_ok, told}
 use Rattle.pg_graph.specs.Walks.{goes_on, meet_origin, onward, walk, walk_on, walked}
 use Rattle.pg_server.specs.Local.{receive}
-use Rattle.std.specs.Prelude.{nat_lt}
 use Rattle.pg_promises.proofs.Choices.{chosen, decided}
-use Rattle.pg_births.proofs.Has.{Goes, goes_itself, goes_then}
+use Rattle.pg_births.proofs.Has.{Goes, before_goes, goes_itself, goes_then}
 use Rattle.pg_births.proofs.Begins.{aim_goes, granted_goes, turn_goes}
-use Rattle.pg_births.proofs.Moving.{Moves, begin_shapes, edges_then, goes_moves, link_moves, link_ups, moves_itself, moves_stay, stays_moves, unheld, unlink_moves}
-use Rattle.pg_births.proofs.Pieces.{Stays, acknowledge_stays, ended_stays, entry_stays, fill_stays, flag_stays, place_stays, shapes_by, stays_itself, stays_then, version_stays}
+use Rattle.pg_births.proofs.Leaves.{Lets, leave_ok_moves}
+use Rattle.pg_births.proofs.Losing.{few_stays, filled_stays}
+use Rattle.pg_births.proofs.Moving.{Moves, Why, begin_shapes, edges_then, goes_moves, link_moves, link_ups, moves_goes, moves_itself, moves_stay, stays_moves, unheld, unlink_moves}
+use Rattle.pg_births.proofs.Pieces.{Stays, acknowledge_stays, ended_stays, entry_stays, flag_stays, place_stays, shapes_by, stays_itself, stays_then, version_stays}
 
-module _ (a : Store) where
+module _ (V : Why) (a : Store) where
   abbrev To : Done → Type 0
-  To d = Moves a d.store
+  To d = Moves V a d.store
 
   abbrev Rests : Done → Type 0
   Rests d = Stays a d.store
@@ -133,14 +135,13 @@ module _ (a : Store) where
       let b = begun_by a ends g in
       let c = link b ends.file work.from ends.sender in
       let to_b = granted_goes a ends.file ends.receiver g.policy (granted_own g) false pending in
-      record {
-        goes = goes_then to_b (goes_then (link_moves b ends.file work.from ends.sender).goes
-            (aim_goes c (intent_key.Fill ends.file) (link_peer b ends.file work.from ends.sender work).work.from));
-        edges = λ k. (
-            let none = unheld a ends.file k.together (pending_may a ends.file ends.receiver k.births pending).away in
-            edges_then a b c (link_ups b ends.file work.from ends.sender)
-            (begin_shapes a ends.file ends.receiver g.policy (granted_own g) false none));
-      }
+      let to_c : Moves V a c = record {
+        goes = goes_then to_b (before_goes b c (link_as_before b ends.file work.from ends.sender));
+        edges = λ k. edges_then V a b c (link_ups b ends.file work.from ends.sender)
+            (begin_shapes a ends.file ends.receiver g.policy (granted_own g) false
+            (unheld a ends.file k.together (pending_may a ends.file ends.receiver k.births pending).away));
+      } in
+      moves_goes to_c (aim_goes c (intent_key.Fill ends.file) (link_peer b ends.file work.from ends.sender work).work.from) (λ q. refl)
 
   pub grant_moves : (ends : Ends) (g : Granted) (work : Work) → To (grant a ends g work)
   grant_moves ends g work =
@@ -182,17 +183,19 @@ module _ (a : Store) where
   pub raise_stays : (b : Store) (file : FileId) (work : Work) → Stays b (raise_flag b file work).store
   raise_stays b file work = flag_stays b file (own_next b file true)
 
-  full_stays : (file : FileId) (work : Work) → Stays a (fill a file work).store
-  full_stays file work =
-      let b = with_names a (fill_names a.names file) in
-      stays_then (fill_stays a file)
-      (chosen (λ (d : Done). Stays b d.store) (nat_lt (live_golds b file) few_golds) (raise_flag b file work) (idle b work)
-      (raise_stays b file work) (stays_itself b))
-
   pub full_moves : (ends : Ends) (work : Work) → To (full a ends work)
   full_moves ends work =
       chosen To (is_accepted a work.from manner.Answer ends && not (is_full a ends.file)) (fill a ends.file work) (idle a work)
-      (stays_moves (full_stays ends.file work)) (moves_itself a)
+      (stays_moves (filled_stays a ends.file work)) (moves_itself a)
+
+  -- few golds are seen
+  pub invite_moves : (ends : Ends) (work : Work) → To (invite a ends work)
+  invite_moves ends work =
+      let met = accept a ends manner.Ask work in
+      let met_to = asked_moves ends work in
+      chosen To (is_accepted a work.from manner.Ask ends) (invited ends met) met
+      (chosen To (is_bronze met.store ends.file) (raise_if_few met.store ends.file met.work) met
+      (moves_stay met_to (few_stays met.store ends.file met.work)) met_to) met_to
 
   told_place_stays : (e : Entry) (work : Work) → Rests (take_told_place a e work)
   told_place_stays e work =
@@ -228,34 +231,41 @@ module _ (a : Store) where
   pub tell_ok_moves : (dir child : FileId) (stamp : Stamp) (work : Work) → To (tell_ok a dir child stamp work)
   tell_ok_moves dir child stamp work =
       let k = intent_key.Patch dir child in
-      chosen (λ (x : Store). Moves a x) (is_told (intent_at a.intents k) stamp work.from) (with_intents a (ended a.intents k)) a
+      chosen (λ (x : Store). Moves V a x) (is_told (intent_at a.intents k) stamp work.from) (with_intents a (ended a.intents k)) a
       (stays_moves (ended_stays a k)) (moves_itself a)
 
+  -- ---- leave
+
+  pub leave_moves : (ends : Ends) (stamp : Stamp) (work : Work) → To (leave a ends stamp work)
+  leave_moves ends stamp work =
+      let met = accept a ends manner.Link work in
+      chosen To (is_accepted a work.from manner.Link ends) (leave_given ends stamp met) met (accept_moves ends work) (accept_moves ends work)
+
   -- ANY MESSAGE
-  pub received_moves : (m : Message) (work : Work) → To (receive a m work)
-  received_moves (message.Cell ends tag c) work = cell_moves ends tag c work
-  received_moves (message.Ack ends k tag) work = stays_moves (acknowledge_stays a ends.file (link_of work.from ends) k tag)
-  received_moves (message.Harbinger ends tag head) work = moves_itself a
-  received_moves (message.Want ends wanted) work = moves_itself a
-  received_moves (message.Delta ends delta) work = moves_itself a
-  received_moves (message.Piece ends piece) work = moves_itself a
-  received_moves (message.Later ends stamp) work = moves_itself a
-  received_moves (message.Fetch file birth) work = fetch_moves file birth work
-  received_moves (message.Grant ends g) work = grant_moves ends g work
-  received_moves (message.NoGrant file birth) work = no_grant_moves file birth work
-  received_moves (message.Full ends) work = full_moves ends work
-  received_moves (message.Seek file birth) work = seek_moves file birth work
-  received_moves (message.Here ends) work = accept_moves ends work
-  received_moves (message.NoneHere what file child) work = none_here_moves what file child work
-  received_moves (message.Gone file birth) work = unlink_moves a file work.from birth
-  received_moves (message.Bye ends) work = moves_itself a
-  received_moves (message.ByeOk file birth) work = moves_itself a
-  received_moves (message.Confirm dir e) work = confirm_moves dir e work
-  received_moves (message.PlaceIs dir e) work = place_is_moves dir e work
-  received_moves (message.Tell dir e) work = tell_moves dir e work
-  received_moves (message.TellOk dir child stamp) work = tell_ok_moves dir child stamp work
-  received_moves (message.Leave ends stamp) work = moves_itself a
-  received_moves (message.LeaveOk ends stamp) work = moves_itself a
-  received_moves (message.Invite ends) work = moves_itself a
-  received_moves (message.Walk ends origin birth hops word) work = walk_moves ends origin birth hops word work
-  received_moves (message.Meet ends) work = accept_moves ends work
+  pub received_moves : (m : Message) (work : Work) → Lets V a m work → To (receive a m work)
+  received_moves (message.Cell ends tag c) work lets = cell_moves ends tag c work
+  received_moves (message.Ack ends k tag) work lets = stays_moves (acknowledge_stays a ends.file (link_of work.from ends) k tag)
+  received_moves (message.Harbinger ends tag head) work lets = moves_itself a
+  received_moves (message.Want ends wanted) work lets = moves_itself a
+  received_moves (message.Delta ends delta) work lets = moves_itself a
+  received_moves (message.Piece ends piece) work lets = moves_itself a
+  received_moves (message.Later ends stamp) work lets = moves_itself a
+  received_moves (message.Fetch file birth) work lets = fetch_moves file birth work
+  received_moves (message.Grant ends g) work lets = grant_moves ends g work
+  received_moves (message.NoGrant file birth) work lets = no_grant_moves file birth work
+  received_moves (message.Full ends) work lets = full_moves ends work
+  received_moves (message.Seek file birth) work lets = seek_moves file birth work
+  received_moves (message.Here ends) work lets = accept_moves ends work
+  received_moves (message.NoneHere what file child) work lets = none_here_moves what file child work
+  received_moves (message.Gone file birth) work lets = unlink_moves V a file work.from birth (lets.gone file birth refl)
+  received_moves (message.Bye ends) work lets = unlink_moves V a ends.file work.from ends.sender (lets.bye ends refl)
+  received_moves (message.ByeOk file birth) work lets = stays_moves (ended_stays a (intent_key.Bye file birth work.from))
+  received_moves (message.Confirm dir e) work lets = confirm_moves dir e work
+  received_moves (message.PlaceIs dir e) work lets = place_is_moves dir e work
+  received_moves (message.Tell dir e) work lets = tell_moves dir e work
+  received_moves (message.TellOk dir child stamp) work lets = tell_ok_moves dir child stamp work
+  received_moves (message.Leave ends stamp) work lets = leave_moves ends stamp work
+  received_moves (message.LeaveOk ends stamp) work lets = leave_ok_moves V a ends stamp work (lets.leave ends stamp refl)
+  received_moves (message.Invite ends) work lets = invite_moves ends work
+  received_moves (message.Walk ends origin birth hops word) work lets = walk_moves ends origin birth hops word work
+  received_moves (message.Meet ends) work lets = accept_moves ends work

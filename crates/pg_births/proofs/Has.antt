@@ -1,7 +1,7 @@
 -- The births that a server has: those of its replicas, and those of replicas that are to come.
 use Rattle.std.proofs.Common.{ℕ, ◌≡◌, ◌≤◌, ◌<◌, ◌+◌, ◌&&◌, ◌||◌, ◌⊎◌, arith, Bool, true, false, not, Option, None, Some, is_some, inl, inr, refl, sym, ap, subst, ◌∙◌, eq-eqb}
 use Rattle.std.specs.Option.{option_map}
-use Rattle.std.proofs.lemmas.Bool.{eqb-true}
+use Rattle.std.proofs.lemmas.Bool.{eqb-true, false≢true}
 use Rattle.pg_base.specs.declared.id.FileId.{FileId}
 use Rattle.pg_intent.specs.declared.intent.Intent.{Intent}
 use Rattle.pg_intent.specs.declared.intent.Intent.TheVariants as intent
@@ -9,12 +9,14 @@ use Rattle.pg_replica.specs.declared.replica.Replica.{Replica}
 use Rattle.pg_store.specs.declared.store.Store.{Store}
 use Rattle.pg_store.specs.declared.wishes.Wish.{Wish}
 use Rattle.pg_store.specs.Store.{is_held, replica_at}
-use Rattle.pg_store.specs.Births.{fill_at, is_fill_at, wish_at}
+use Rattle.pg_replica.specs.Replicas.{is_of_birth}
+use Rattle.pg_store.specs.Births.{fill_at, has_birth, is_fill_at, is_pending, wish_at}
 use Rattle.pg_store.specs.Wishes.{is_with_birth}
-use Rattle.pg_store.specs.Together.{AreBirths, AreTogether, HoldsAsBefore, IsGiven, birth_at}
+use Rattle.pg_store.specs.Together.{AreBirths, AreTogether, HoldsAsBefore, IsGiven, IsOver, birth_at}
 use Rattle.pg_store.proofs.Pairs.{together_as_before}
 use Rattle.pg_store.proofs.Given.{births_as_before, same_fill}
 use Rattle.pg_run.specs.Births.{IsBirthAt}
+use Rattle.pg_births.proofs.Here.{of_birth}
 
 -- ---- which births
 
@@ -29,7 +31,7 @@ Has a file n = (birth_at a file ≡ Some n) ⊎ (IsWished a file n ⊎ IsFilled 
 
 -- ---- the same in the words of runs
 
-born_of : (o : Option Replica) (n : ℕ) → option_map (λ (x : Replica). x.birth) o ≡ Some n → (x : Replica) × (o ≡ Some x) × (x.birth ≡ n)
+pub born_of : (o : Option Replica) (n : ℕ) → option_map (λ (x : Replica). x.birth) o ≡ Some n → (x : Replica) × (o ≡ Some x) × (x.birth ≡ n)
 born_of None n e = cc
 born_of (Some x) n e = (x, refl, let z : x.birth ≡ n = cc in z)
 
@@ -49,10 +51,14 @@ pending_by a file n false false true w e f any = inr (e, filled_of (fill_at a fi
 pending_by a file n false false false w e f any = cc
 pending_by a file n false true t w e f any = cc
 
+-- what is to come
+pub pending_has : (a : Store) (file : FileId) (n : ℕ) → is_pending a file n ≡ true → IsWished a file n ⊎ IsFilled a file n
+pending_has a file n p = pending_by a file n _ _ _ refl refl refl p
+
 pub to_has : (a : Store) (file : FileId) (n : ℕ) → IsBirthAt a file n → Has a file n
 to_has a file n k = elim k [
   | inl x ↦ inl (ap (option_map (λ (y : Replica). y.birth)) x.1 ∙ ap (λ (m : ℕ). Some m) x.2)
-  | inr p ↦ inr (pending_by a file n _ _ _ refl refl refl p)
+  | inr p ↦ inr (pending_has a file n p)
 ]
 
 wish_tests : (o : Option Wish) (w : Wish) (n : ℕ) → o ≡ Some w → w.birth ≡ n → is_with_birth o n ≡ true
@@ -79,6 +85,36 @@ from_has a file n k = elim k [
   ])
 ]
 
+-- ---- births that are over
+
+pub tests_so : (o : Option Replica) (x : Replica) (b : ℕ) → o ≡ Some x → x.birth ≡ b → is_of_birth o b ≡ true
+tests_so o x b there same = ap (λ (z : Option Replica). is_of_birth z b) there ∙ eq-eqb x.birth b same
+
+pub as_was : (a : Store) (f : FileId) (n : ℕ) → Has a f n → (has_birth a f n ≡ true) ⊎ (is_pending a f n ≡ true)
+as_was a f n h = elim (from_has a f n h) [
+  | inl x ↦ inl (tests_so (replica_at a f) x.0 n x.1 x.2)
+  | inr p ↦ inr p
+]
+
+-- one that is over it does not have
+pub over_has : (a : Store) (f : FileId) (n : ℕ) → IsOver a f n → Has a f n → ⊥
+over_has a f n o h = elim (as_was a f n h) [
+  | inl here ↦ false≢true (sym o.away ∙ here)
+  | inr to_come ↦ false≢true (sym o.unasked ∙ to_come)
+]
+
+not_so : (t : Bool) → (t ≡ true → ⊥) → t ≡ false
+not_so true h = absurd (h refl)
+not_so false h = refl
+
+-- and one that was given out, and that it does not have, is over
+pub over_of : (a : Store) (f : FileId) (n : ℕ) → n ≤ a.births → (Has a f n → ⊥) → IsOver a f n
+over_of a f n count none = record {
+  given = count;
+  away = not_so (has_birth a f n) (λ h. none (inl (of_birth (replica_at a f) n h)));
+  unasked = not_so (is_pending a f n) (λ h. none (to_has a f n (inr h)));
+}
+
 -- ---- what is known of them at one server
 
 -- births: they were given out
@@ -101,7 +137,7 @@ module _ (a : Store) (h : AreBirths a) where
     ]
   ]
 
-  held_born : (f : FileId) (n : ℕ) → AreTogether a → birth_at a f ≡ Some n → is_held a f ≡ true
+  pub held_born : (f : FileId) (n : ℕ) → AreTogether a → birth_at a f ≡ Some n → is_held a f ≡ true
   held_born f n together e =
       let x = born_of (replica_at a f) n e in
       sym (together f) ∙ ap (λ (o : Option Replica). is_some o) x.1
@@ -115,7 +151,7 @@ module _ (a : Store) (h : AreBirths a) where
   none_some : (o : Option Intent) (i : Intent) → o ≡ None → o ≡ Some i → ⊥
   none_some o i none there = let z : ◌≡◌ {A = Option Intent} None (Some i) = sym none ∙ there in cc
 
-  unheld : (f : FileId) → is_held a f ≡ true → is_held a f ≡ false → ⊥
+  pub unheld : (f : FileId) → is_held a f ≡ true → is_held a f ≡ false → ⊥
   unheld f stays no_more = let z : true ≡ false = sym stays ∙ no_more in cc
 
   -- of one thing there is one
@@ -171,6 +207,15 @@ goes_then {a} {b} {c} one two = record {
   count = at_most a.births b.births c.births one.count two.count;
   newly = λ f n k. elim (two.newly f n k) [ inl was ↦ one.newly f n was | inr new ↦ inr (above a.births b.births n one.count new) ];
 }
+
+no_more : (m n : ℕ) → m ≤ n → n < m → ⊥
+no_more m n h k = omega arith
+
+-- what is over stays over
+pub over_goes : (a b : Store) (f : FileId) (n : ℕ) → Goes a b → IsOver a f n → IsOver b f n
+over_goes a b f n g o =
+    over_of b f n (at_most n a.births b.births o.given g.count)
+    (λ h. elim (g.newly f n h) [ inl was ↦ over_has a f n o was | inr new ↦ no_more n a.births o.given new ])
 
 -- it has none but those that it had
 pub none_new : (a b : Store) → (IsAlone a → AreTogether b) → (IsAlone a → AreBirths b) → a.births ≤ b.births

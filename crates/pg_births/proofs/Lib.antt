@@ -2,23 +2,31 @@ mod Going
 pub mod Here
 mod Ends
 pub mod Pieces
-mod Has
-mod Begins
+pub mod Has
+pub mod Begins
 mod Moving
-mod Intends
+pub mod Leaves
+pub mod Intends
+mod Losing
 mod Handlers
+mod Entering
 mod Calls
 mod Unmade
+mod HouseUnmade
 mod Makers
 mod Effects
 pub mod Joined
 pub mod NamesSay
 pub mod StoreSays
 mod EndsSay
+pub mod EnterSays
 mod Mails
 mod Saying
 mod Walking
+mod Parting
 mod Received
+mod FineLosses
+mod FineCalls
 mod Forward
 mod Sends
 mod Spoken
@@ -26,3 +34,9 @@ mod Named
 pub mod Alone
 mod Given
 mod Gone
+mod ByeKeys
+mod ByeLosses
+mod ByeCalls
+pub mod ByeEvents
+pub mod Owing
+mod Went

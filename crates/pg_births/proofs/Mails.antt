@@ -7,11 +7,13 @@ use Rattle.pg_msg.specs.declared.message.Message.{Message}
 use Rattle.pg_msg.specs.declared.message.Message.TheVariants as message
 use Rattle.pg_msg.specs.declared.message.Sent.{Sent}
 use Rattle.pg_msg.specs.declared.work.Work.{Work}
-use Rattle.pg_msg.specs.Work.{with_left, with_linked, with_touched, with_unsure}
+use Rattle.pg_intent.specs.declared.key.IntentKey.{IntentKey}
+use Rattle.pg_msg.specs.Work.{with_begun, with_left, with_linked, with_touched, with_unsure}
 use Rattle.pg_register.specs.declared.flag.Flag.{Flag}
 use Rattle.pg_register.specs.declared.place.Place.{Place}
 use Rattle.pg_house.specs.Work.{is_root, note_left}
 use Rattle.pg_cells.specs.Accepting.{with_link}
+use Rattle.pg_cells.specs.Intending.{with_begun_if}
 use Rattle.pg_cells.specs.Taking.{with_doubt, with_left_if, with_news}
 use Rattle.pg_run.specs.Births.{AllNamed}
 use Rattle.pg_births.specs.Flags.{SaysMessage}
@@ -23,7 +25,12 @@ OfBirths P f flag = P f flag.server flag.birth
 -- of births that are gone this is said, and of flags what was said before
 abbrev pub SaysAll : (FileId → Flag → Type 0) → (FileId → ℕ → Type 0) → Message → Type 0
 SaysAll Q G (message.Gone file birth) = G file birth
+SaysAll Q G (message.Bye ends) = G ends.file ends.sender
 SaysAll Q G m = SaysMessage Q m
+
+-- a Bye that is owed names births that were given out, and its own is gone
+abbrev pub Owed : (FileId → ℕ → ℕ → Type 0) → (FileId → ℕ → Type 0) → ℕ → FileId → ℕ → ℕ → ℕ → Type 0
+Owed P G s file birth peer peer_birth = (P file s birth × P file peer peer_birth) × G file birth
 
 -- a message that was sent by server s
 abbrev pub SaysSent : (FileId → ℕ → ℕ → Type 0) → (FileId → Flag → Type 0) → (FileId → ℕ → Type 0) → ℕ → Sent → Type 0
@@ -36,6 +43,8 @@ linking_to (message.Grant ends granted) = Some ends
 linking_to (message.Here ends) = Some ends
 linking_to (message.Walk ends origin birth hops word) = Some ends
 linking_to (message.Meet ends) = Some ends
+linking_to (message.Leave ends stamp) = Some ends
+linking_to (message.Invite ends) = Some ends
 linking_to _ = None
 
 -- so all is said that is said of flags
@@ -55,7 +64,7 @@ says_of Q G (message.Seek file birth) says = says
 says_of Q G (message.Here ends) says = says
 says_of Q G (message.NoneHere what file child) says = says
 says_of Q G (message.Gone file birth) says = tt
-says_of Q G (message.Bye ends) says = says
+says_of Q G (message.Bye ends) says = tt
 says_of Q G (message.ByeOk file birth) says = says
 says_of Q G (message.Confirm dir e) says = says
 says_of Q G (message.PlaceIs dir e) says = says
@@ -92,9 +101,11 @@ named_by P (message.Confirm dir e) from to named ends links = cc
 named_by P (message.PlaceIs dir e) from to named ends links = cc
 named_by P (message.Tell dir e) from to named ends links = cc
 named_by P (message.TellOk dir child stamp) from to named ends links = cc
-named_by P (message.Leave x stamp) from to named ends links = cc
+named_by P (message.Leave x stamp) from to named ends links =
+    subst (λ (z : Ends). P z.file to z.receiver) (let same : x ≡ ends = cc in same) named.1
 named_by P (message.LeaveOk x stamp) from to named ends links = cc
-named_by P (message.Invite x) from to named ends links = cc
+named_by P (message.Invite x) from to named ends links =
+    subst (λ (z : Ends). P z.file to z.receiver) (let same : x ≡ ends = cc in same) named.1
 named_by P (message.Walk x origin birth hops word) from to named ends links =
     subst (λ (z : Ends). P z.file to z.receiver) (let same : x ≡ ends = cc in same) named.0.1
 named_by P (message.Meet x) from to named ends links =
@@ -116,6 +127,9 @@ either_mail w x y false one two = two
 
 pub then_mail : (w x y : Work) → SameMail w x → SameMail x y → SameMail w y
 then_mail w x y one two = record { sent = two.sent ∙ one.sent; tail = two.tail ∙ one.tail; asker = two.asker ∙ one.asker }
+
+pub begun_mail : (t : Bool) (w : Work) (k : IntentKey) → SameMail w (with_begun_if t w k)
+begun_mail t w k = either_mail w (with_begun w k) w t (record { sent = refl; tail = refl; asker = refl }) (same_mail w)
 
 pub news_mail : (t : Bool) (w : Work) (f : FileId) (q : Key) → SameMail w (with_news t w f q)
 news_mail t w f q = either_mail w (with_touched w f q) w t (record { sent = refl; tail = refl; asker = refl }) (same_mail w)

@@ -49,6 +49,10 @@ use Rattle.pg_calls.specs.Bodies.{change, change_file, when_fit}
 use Rattle.pg_calls.specs.Calls.{do_call}
 use Rattle.pg_calls.specs.Checks.{dir_at, empty_dir_at, file_at, in_time, move_of, new_name, target_at}
 use Rattle.pg_calls.specs.Demoting.{demoted_at, lowered}
+use Rattle.pg_calls.specs.Dropping.{clean_gold, dropped_at, leave_of, leaving}
+use Rattle.pg_calls.specs.Forgetting.{forget_lost, lost_at}
+use Rattle.pg_calls.specs.GivingUp.{enter_view, removal_at}
+use Rattle.pg_cells.specs.Intending.{begin_intent}
 use Rattle.pg_calls.specs.Making.{drawn, first_ranges, make_place, make_version, version_of}
 use Rattle.pg_calls.specs.Naming.{begun, dead_place, next_id, place_in, with_first_version, with_id, with_thing}
 use Rattle.pg_calls.proofs.Checked.{fit_found}
@@ -65,7 +69,9 @@ use Rattle.pg_run.proofs.Event.{Comes, FirstHas, effect_is, end_has, first_has}
 use Rattle.pg_run.proofs.Frame.{acts_is}
 use Rattle.pg_births.specs.Premises.{IsMadeHere, MakersHold, StoresAreWhole}
 use Rattle.pg_births.proofs.Pieces.{settle_stays}
-use Rattle.pg_births.proofs.Unmade.{MakesNone, lowered_none, placed_none, raised_none, received_none, settle_none, versions_after, walk_of_none}
+use Rattle.pg_births.proofs.HouseUnmade.{settle_none}
+use Rattle.pg_births.proofs.Losing.{enter_none, lost_none}
+use Rattle.pg_births.proofs.Unmade.{MakesNone, begun_none, lowered_none, placed_none, raised_none, received_none, versions_after, walk_of_none}
 
 -- ---- a server is itself whatever it takes
 
@@ -215,6 +221,10 @@ module _ (s : ℕ) (a : Store) (server : a.names.server ≡ s) (both : AreTogeth
   moved_by : (f : FileId) (place : Place) → IsMade s (make_place f place (idle a W))
   moved_by f place = none_made s (make_place f place (idle a W)) (placed_none a f place W)
 
+  left_made : (f : FileId) (o : Option Flag) → IsAnswer (leaving a f W o)
+  left_made f None = idle_made a W refl
+  left_made f (Some flag) = none_made s (begin_intent a (leave_of f flag) W) (begun_none a (leave_of f flag) W)
+
   -- EVERY CALL
   call_made : (c : Call) → IsAnswer (do_call a c W)
   call_made (call.Mkdir path) =
@@ -231,11 +241,12 @@ module _ (s : ℕ) (a : Store) (server : a.names.server ≡ s) (both : AreTogeth
       answered_by (move_of a from to) _ (λ move found. moved_by move.thing (place_in a moment move.to))
   call_made (call.Unlink path) = answered_by (file_at a path) _ (λ f found. moved_by f (dead_place a moment f))
   call_made (call.Rmdir path) = answered_by (empty_dir_at a path) _ (λ f found. moved_by f (dead_place a moment f))
-  call_made (call.Forget id) = replied_by (in_time a (tt {0})) _
+  call_made (call.Forget id) = answered_by (lost_at a id) _ (λ f found. none_made s (forget_lost a f W) (lost_none f a W))
   call_made (call.Demote target) =
       answered_by (demoted_at a target) _ (λ f found. none_made s (lowered a f W) (lowered_none a f W))
-  call_made (call.Drop target) = replied_by (in_time a (tt {0})) _
-  call_made (call.Giveup view server) = replied_by (in_time a (tt {0})) _
+  call_made (call.Drop target) = answered_by (dropped_at a target) _ (λ f found. left_made f (clean_gold a f))
+  call_made (call.Giveup view peer) =
+      answered_by (removal_at a view peer) _ (λ f found. none_made s (enter_view a peer W) (enter_none a peer W))
   call_made call.Status = replied_by (in_time a (tt {0})) _
   call_made call.Stop = replied_by (in_time a (tt {0})) _
 

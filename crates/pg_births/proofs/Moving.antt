@@ -1,5 +1,5 @@
 -- From one moment of a server to a later one: births are given out, and edges go up.
-use Rattle.std.proofs.Common.{ℕ, ◌≡◌, Bool, true, false, cond, List, length, Option, None, Some, is_some, refl, sym, ap, subst, ◌∙◌}
+use Rattle.std.proofs.Common.{ℕ, ◌≡◌, ◌⊎◌, Bool, true, false, cond, List, length, Option, None, Some, is_some, inl, inr, refl, sym, ap, subst, ◌∙◌}
 use Rattle.std.specs.Option.{option_map}
 use Rattle.pg_base.specs.declared.id.FileId.{FileId}
 use Rattle.pg_base.specs.declared.policy.Policy.{Policy}
@@ -16,57 +16,91 @@ use Rattle.pg_store.specs.declared.store.Store.{Store}
 use Rattle.pg_store.specs.Beginning.{begin, patches_of, put_new}
 use Rattle.pg_store.specs.Links.{is_linked, is_new_link, keys, knows_later, link, put_link, unlink}
 use Rattle.pg_store.specs.Store.{is_held, replica_at, with_drawn}
-use Rattle.pg_store.specs.Together.{AreTogether}
+use Rattle.pg_store.specs.Together.{AreTogether, IsOver}
 use Rattle.pg_store.proofs.Pairs.{link_as_before, unlink_as_before}
-use Rattle.pg_births.proofs.Ends.{AreUp, NoneFalls, born_to, ends, link_lists, link_up, none_falls, unlink_falls_not, up_falls_not, up_itself}
-use Rattle.pg_births.proofs.Has.{Goes, IsAlone, before_goes, goes_itself, goes_then}
+use Rattle.pg_births.proofs.Ends.{AreUp, NoneFalls, UpBut, born_to, ends, link_lists, link_up, none_falls, unlink_falls_not, unlink_up, up_but, up_falls_not, up_itself}
+use Rattle.pg_births.proofs.Has.{Goes, IsAlone, before_goes, goes_itself, goes_then, over_goes}
 use Rattle.pg_births.proofs.Pieces.{Shape, Stays, patches_stay, shape, shape_at}
 
--- what is held stays with its birth, and no birth of a peer falls
-abbrev pub EdgesMove : Store → Store → Type 0
-EdgesMove a b = (file : FileId) (n : ℕ) (es : List (ℕ × ℕ)) → shape_at a file ≡ Some (n, es)
-    → (fs : List (ℕ × ℕ)) × (shape_at b file ≡ Some (n, fs)) × NoneFalls es fs
+-- why an edge to a birth of a peer goes, and why a replica goes
+pub record Why : Type 1 where
+  pub edge : FileId → ℕ → ℕ → Type 0
+  pub replica : FileId → Type 0
 
-pub record Moves (a b : Store) : Type 0 where
+-- where nobody asks
+abbrev pub AnyWhy : Why
+AnyWhy = record { edge = λ file peer birth. Unit {0}; replica = λ file. Unit {0} }
+
+-- a replica is there with its birth, and no birth of a peer has fallen; and an edge that is gone had to go
+abbrev pub Keeps : Why → Store → FileId → ℕ → List (ℕ × ℕ) → Type 0
+Keeps V b file n es = (fs : List (ℕ × ℕ)) × (shape_at b file ≡ Some (n, fs)) × NoneFalls es fs × UpBut (V.edge file) es fs
+
+-- the replica of this birth went: the thing is not held, and the birth is over
+abbrev pub WentOff : Why → Store → FileId → ℕ → Type 0
+WentOff V b file n = (shape_at b file ≡ None) × IsOver b file n × V.replica file
+
+-- what is held stays with its birth, and no birth of a peer falls; or it goes
+abbrev pub EdgesMove : Why → Store → Store → Type 0
+EdgesMove V a b = (file : FileId) (n : ℕ) (es : List (ℕ × ℕ)) → shape_at a file ≡ Some (n, es)
+    → Keeps V b file n es ⊎ WentOff V b file n
+
+pub record Moves (V : Why) (a b : Store) : Type 0 where
   pub goes : Goes a b
-  pub edges : IsAlone a → EdgesMove a b
+  pub edges : IsAlone a → EdgesMove V a b
 
-pub moves_itself : (a : Store) → Moves a a
-moves_itself a = record { goes = goes_itself a; edges = λ k q n es there. (es, there, none_falls es) }
+-- as it was
+pub keeps_same : (V : Why) (b : Store) (file : FileId) (n : ℕ) (es : List (ℕ × ℕ)) → shape_at b file ≡ Some (n, es) → Keeps V b file n es
+keeps_same V b file n es there = (es, there, none_falls es, up_but (V.edge file) es es (up_itself es))
+
+-- with edges that went up
+pub keeps_up : (V : Why) (b : Store) (file : FileId) (n : ℕ) (es : List (ℕ × ℕ))
+    → (fs : List (ℕ × ℕ)) × (shape_at b file ≡ Some (n, fs)) × AreUp es fs → Keeps V b file n es
+keeps_up V b file n es k = (k.0, k.1, up_falls_not es k.0 k.2, up_but (V.edge file) es k.0 k.2)
+
+pub moves_itself : {V : Why} → (a : Store) → Moves V a a
+moves_itself {V} a = record { goes = goes_itself a; edges = λ k q n es there. inl (keeps_same V a q n es there) }
 
 pub stays_goes : {a b : Store} → Stays a b → Goes a b
 stays_goes {a} {b} s = before_goes a b s.before
 
-pub moves_stay : {a b c : Store} → Moves a b → Stays b c → Moves a c
-moves_stay m s = record {
+-- and behind what leaves edges as they are
+kept_on : (V : Why) (b c : Store) (q : FileId) (n : ℕ) (es : List (ℕ × ℕ)) → Goes b c → shape_at c q ≡ shape_at b q → Keeps V b q n es ⊎ WentOff V b q n
+    → Keeps V c q n es ⊎ WentOff V c q n
+kept_on V b c q n es g same k = elim k [
+  | inl e ↦ inl (e.0, same ∙ e.1, e.2, e.3)
+  | inr w ↦ inr (same ∙ w.0, over_goes b c q n g w.1, w.2)
+]
+
+pub moves_stay : {V : Why} {a b c : Store} → Moves V a b → Stays b c → Moves V a c
+moves_stay {V} {a} {b} {c} m s = record {
   goes = goes_then m.goes (stays_goes s);
-  edges = λ k q n es there. (let e = m.edges k q n es there in (e.0, s.shapes q ∙ e.1, e.2));
+  edges = λ k q n es there. kept_on V b c q n es (stays_goes s) (s.shapes q) (m.edges k q n es there);
 }
 
-pub stay_moves : {a b c : Store} → Stays a b → Moves b c → Moves a c
+pub stay_moves : {V : Why} {a b c : Store} → Stays a b → Moves V b c → Moves V a c
 stay_moves s m = record {
   goes = goes_then (stays_goes s) m.goes;
   edges = λ k q n es there. m.edges ((stays_goes s).alone k) q n es (s.shapes q ∙ there);
 }
 
-pub stays_moves : {a b : Store} → Stays a b → Moves a b
-stays_moves s = record {
+pub stays_moves : {V : Why} {a b : Store} → Stays a b → Moves V a b
+stays_moves {V} {a} {b} s = record {
   goes = stays_goes s;
-  edges = λ k q n es there. (es, s.shapes q ∙ there, none_falls es);
+  edges = λ k q n es there. inl (keeps_same V b q n es (s.shapes q ∙ there));
 }
 
 -- births alone
-pub goes_moves : {a b : Store} → Goes a b → ((q : FileId) → shape_at b q ≡ shape_at a q) → Moves a b
-goes_moves g same = record {
+pub goes_moves : {V : Why} {a b : Store} → Goes a b → ((q : FileId) → shape_at b q ≡ shape_at a q) → Moves V a b
+goes_moves {V} {a} {b} g same = record {
   goes = g;
-  edges = λ k q n es there. (es, same q ∙ there, none_falls es);
+  edges = λ k q n es there. inl (keeps_same V b q n es (same q ∙ there));
 }
 
 -- and behind it
-pub moves_goes : {a b c : Store} → Moves a b → Goes b c → ((q : FileId) → shape_at c q ≡ shape_at b q) → Moves a c
-moves_goes m g same = record {
+pub moves_goes : {V : Why} {a b c : Store} → Moves V a b → Goes b c → ((q : FileId) → shape_at c q ≡ shape_at b q) → Moves V a c
+moves_goes {V} {a} {b} {c} m g same = record {
   goes = goes_then m.goes g;
-  edges = λ k q n es there. (let e = m.edges k q n es there in (e.0, same q ∙ e.1, e.2));
+  edges = λ k q n es there. kept_on V b c q n es g (same q) (m.edges k q n es there);
 }
 
 -- ---- one replica changed
@@ -117,10 +151,10 @@ module _ (a : Store) (file : FileId) (p b : ℕ) where
       → (fs : List (ℕ × ℕ)) × (shape_at (link a file p b) q ≡ Some (n, fs)) × AreUp es fs
   link_ups q n es was = linked_by (is_new_link a file p b) q n es was
 
-  pub link_moves : Moves a (link a file p b)
-  link_moves = record {
+  pub link_moves : {V : Why} → Moves V a (link a file p b)
+  link_moves {V} = record {
     goes = before_goes a (link a file p b) (link_as_before a file p b);
-    edges = λ k q n es there. (let l = link_ups q n es there in (l.0, l.1, up_falls_not es l.0 l.2));
+    edges = λ k q n es there. inl (keeps_up V (link a file p b) q n es (link_ups q n es there));
   }
 
   -- where the thing is held, and no later birth of the peer is listed, this one is from then on
@@ -158,23 +192,42 @@ module _ (a : Store) (file : FileId) (p b : ℕ) where
 
 -- ---- an edge that goes
 
-module _ (a : Store) (file : FileId) (p b : ℕ) where
+module _ (V : Why) (a : Store) (file : FileId) (p b : ℕ) (may : V.edge file p b) where
+  abbrev LeftAt : ByFile → FileId → ℕ → List (ℕ × ℕ) → Type 0
+  LeftAt rs q n es = (fs : List (ℕ × ℕ)) × (option_map shape (replica_in rs q) ≡ Some (n, fs)) × NoneFalls es fs × UpBut (V.edge q) es fs
+
+  same_left : (q : FileId) (n : ℕ) (es : List (ℕ × ℕ)) → shape_at a q ≡ Some (n, es) → LeftAt a.replicas q n es
+  same_left q n es was = (es, was, none_falls es, up_but (V.edge q) es es (up_itself es))
+
+  put_left : (x : Replica) → replica_at a file ≡ Some x → (q : FileId) (t : Bool) → is_same_file q file ≡ t → (n : ℕ) (es : List (ℕ × ℕ))
+      → shape_at a q ≡ Some (n, es)
+      → (fs : List (ℕ × ℕ)) × (option_map shape (cond t (Some (with_unlink x p b)) (replica_at a q)) ≡ Some (n, fs)) × NoneFalls es fs × UpBut (V.edge q) es fs
+  put_left x there q true e n es was =
+      let old = some_shape x.birth n (ends x.edges) es
+      (sym (ap (option_map shape) (ap (replica_at a) (is_same_file-true q file e) ∙ there)) ∙ was) in
+      let gs = ends (with_unlink x p b).edges in
+      let R : FileId → List (ℕ × ℕ) → Type 0 = λ f l. NoneFalls l gs × UpBut (V.edge f) l gs in
+      let here : R file (ends x.edges) = (unlink_falls_not x.edges p b, unlink_up (V.edge file) x.edges p b may) in
+      let both : R q es = subst (λ (f : FileId). R f es) (sym (is_same_file-true q file e)) (subst (R file) old.1 here) in
+      (gs, ap (λ (m : ℕ). Some (m, gs)) old.0, both.0, both.1)
+  put_left x there q false e n es was = same_left q n es was
+
   gone_at : (o : Option Replica) → replica_at a file ≡ o → (q : FileId) (n : ℕ) (es : List (ℕ × ℕ)) → shape_at a q ≡ Some (n, es)
-      → (fs : List (ℕ × ℕ)) × (option_map shape (replica_in (replicas_unlinked a.replicas file p b o) q) ≡ Some (n, fs)) × NoneFalls es fs
-  gone_at None there q n es was = (es, was, none_falls es)
+      → LeftAt (replicas_unlinked a.replicas file p b o) q n es
+  gone_at None there q n es was = same_left q n es was
   gone_at (Some x) there q n es was =
-      put_shapes a.replicas file x (with_unlink x p b) there refl q n es was NoneFalls (unlink_falls_not x.edges p b) none_falls
+      let k = put_left x there q (is_same_file q file) refl n es was in
+      (k.0, ap (option_map shape) (lookup-insert_entry file_cmp file_total q file (with_unlink x p b) a.replicas) ∙ k.1, k.2, k.3)
 
   gone_by : (t : Bool) (q : FileId) (n : ℕ) (es : List (ℕ × ℕ)) → shape_at a q ≡ Some (n, es)
-      → (fs : List (ℕ × ℕ))
-      × (shape_at (cond t (record a { replicas = replicas_unlinked a.replicas file p b (replica_at a file) }) a) q ≡ Some (n, fs)) × NoneFalls es fs
+      → Keeps V (cond t (record a { replicas = replicas_unlinked a.replicas file p b (replica_at a file) }) a) q n es
   gone_by true q n es was = gone_at (replica_at a file) refl q n es was
-  gone_by false q n es was = (es, was, none_falls es)
+  gone_by false q n es was = keeps_same V a q n es was
 
-  pub unlink_moves : Moves a (unlink a file p b)
+  pub unlink_moves : Moves V a (unlink a file p b)
   unlink_moves = record {
     goes = before_goes a (unlink a file p b) (unlink_as_before a file p b);
-    edges = λ k q n es there. gone_by (is_linked a file p b) q n es there;
+    edges = λ k q n es there. inl (gone_by (is_linked a file p b) q n es there);
   }
 
 -- ---- a replica begins
@@ -201,13 +254,11 @@ module _ (a : Store) (file : FileId) (birth : ℕ) (policy : Policy) (own : Own)
       ∙ ap (option_map shape) (lookup-insert_entry file_cmp file_total q file (new_replica birth policy) a.replicas)
       ∙ new_by q n es (is_same_file q file) refl there
 
-  pub begin_edges : EdgesMove a (begin a file birth policy own full)
-  begin_edges q n es there = (es, begin_shapes q n es there, none_falls es)
+  pub begin_edges : (V : Why) → EdgesMove V a (begin a file birth policy own full)
+  begin_edges V q n es there = inl (keeps_same V (begin a file birth policy own full) q n es (begin_shapes q n es there))
 
 -- a link behind what leaves edges as they are
-pub edges_then : (a b c : Store)
+pub edges_then : (V : Why) (a b c : Store)
     → ((q : FileId) (n : ℕ) (es : List (ℕ × ℕ)) → shape_at b q ≡ Some (n, es) → (fs : List (ℕ × ℕ)) × (shape_at c q ≡ Some (n, fs)) × AreUp es fs)
-    → ((q : FileId) (n : ℕ) (es : List (ℕ × ℕ)) → shape_at a q ≡ Some (n, es) → shape_at b q ≡ Some (n, es)) → EdgesMove a c
-edges_then a b c two same q n es there =
-    let l = two q n es (same q n es there) in
-    (l.0, l.1, up_falls_not es l.0 l.2)
+    → ((q : FileId) (n : ℕ) (es : List (ℕ × ℕ)) → shape_at a q ≡ Some (n, es) → shape_at b q ≡ Some (n, es)) → EdgesMove V a c
+edges_then V a b c two same q n es there = inl (keeps_up V c q n es (two q n es (same q n es there)))

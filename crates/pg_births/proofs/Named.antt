@@ -17,6 +17,7 @@ use Rattle.pg_entries.specs.declared.entry.Entry.{Entry}
 use Rattle.pg_event.specs.declared.entry.VoidCause.{VoidCause}
 use Rattle.pg_event.specs.declared.event.Event.{Event}
 use Rattle.pg_flood.proofs.Flood.{after_itself}
+use Rattle.pg_intent.specs.declared.intent.Intent.TheVariants as intent
 use Rattle.pg_msg.specs.declared.message.Sent.{Sent}
 use Rattle.pg_msg.specs.declared.update.MadeVersion.{MadeVersion}
 use Rattle.pg_names.specs.declared.own.Own.{Own}
@@ -48,7 +49,7 @@ use Rattle.pg_births.proofs.Here.{birth_is}
 use Rattle.pg_births.proofs.Joined.{join_all}
 use Rattle.pg_births.proofs.NamesSay.{says_begin}
 use Rattle.pg_births.proofs.Pieces.{Shape, shape}
-use Rattle.pg_births.proofs.Mails.{OfBirths, SaysAll, SaysSent, says_of}
+use Rattle.pg_births.proofs.Mails.{OfBirths, Owed, SaysAll, SaysSent, says_of}
 use Rattle.pg_births.proofs.Sends.{Sorted}
 use Rattle.pg_births.proofs.Spoken.{Freshly, IsKnownAt, Known, end_known, end_sent}
 
@@ -68,7 +69,7 @@ map_all {A} P f (x ∷ xs) all =
 -- a message that comes to what is gone is of this
 abbrev pub AreGone : ℕ → List Event → (ℕ → FileId → ℕ → Type 0) → Type 0
 AreGone n events G = (before : List Event) (e : Event) (behind : List Event) → events ≡ before ++ (e ∷ behind) → (t : Taking)
-    → Acts n (run n before) t → Freshly (G t.server) (store_after n before t.server) t.asked
+    → taking_in n (run n before) e ≡ Some t → Acts n (run n before) t → Freshly (G t.server) (store_after n before t.server) t.asked
 
 module _ (n : ℕ) (intends : IntentionsAreInOrder n) (whole : StoresAreWhole n) (makers : MakersHold n) (events : List Event)
     (G : ℕ → FileId → ℕ → Type 0) (gone : AreGone n events G) where
@@ -91,11 +92,12 @@ module _ (n : ℕ) (intends : IntentionsAreInOrder n) (whole : StoresAreWhole n)
         keys = i.keys;
         own = i.held.births.own;
         sought = λ f there. (and_parts (is_held (At es s) f) _ (sym (i.seeks f) ∙ there)).0;
+        left = λ f peer birth there. (i.leaves f peer birth there).2;
       }
 
   -- what is known of a world
   pub record IsNamed (w : World) : Type 0 where
-    pub at : (s : ℕ) → 1 ≤ s → s ≤ n → IsKnownAt P s (w.stores s)
+    pub at : (s : ℕ) → 1 ≤ s → s ≤ n → IsKnownAt P (G s) s (w.stores s)
     pub mail_is : All (λ (m : Sent). SaysSent P (OfBirths P) (G m.packet.from) m.packet.from m) (mail w.journal)
     pub history_is : All (λ (u : Born). P u.made.file u.made.stamp.server u.birth) w.history
 
@@ -121,7 +123,7 @@ module _ (n : ℕ) (intends : IntentionsAreInOrder n) (whole : StoresAreWhole n)
   clean_all s zero = tt
   clean_all s (suc k) = clean_by k (clean_edges s k) (suc k == s) (clean_all s k)
 
-  start_at : (s : ℕ) → IsKnownAt P s (new_store n s)
+  start_at : (s : ℕ) → IsKnownAt P (G s) s (new_store n s)
   start_at s = record {
     store = record {
       names = says_begin (OfBirths P) s (new_names s) root (root_own n) true (first_all n) (record {
@@ -129,7 +131,7 @@ module _ (n : ℕ) (intends : IntentionsAreInOrder n) (whole : StoresAreWhole n)
         own = λ q b there. absurd (let z : ◌≡◌ {A = Option Own} None (Some b) = there in cc);
         cells = λ d g e there. absurd (let z : ◌≡◌ {A = Option Entry} None (Some e) = there in cc);
       });
-      intents = All-nil (SaysIntent (OfBirths P));
+      intents = All-nil (SaysIntent (OfBirths P) (Owed P (G s) s));
     };
     edges = put_says P [] root (first_root s n) (clean_all s n)
         (λ q b es there. absurd (let z : ◌≡◌ {A = Option Shape} None (Some (b, es)) = there in cc));
@@ -188,7 +190,7 @@ module _ (n : ℕ) (intends : IntentionsAreInOrder n) (whole : StoresAreWhole n)
       sorted_behind : Sorted B
       sorted_behind = subst Sorted behind_is (sorted_at (before ++ e ∷ []) S acts.least acts.most)
 
-      here : IsKnownAt P S A
+      here : IsKnownAt P (G S) S A
       here = k.at S acts.least acts.most
 
       sorted_before : Sorted A
@@ -198,7 +200,7 @@ module _ (n : ℕ) (intends : IntentionsAreInOrder n) (whole : StoresAreWhole n)
       came = came_known S t.asked acts.came
 
       new : Freshly (G S) A t.asked
-      new = gone before e behind split t acts
+      new = gone before e behind split t takes acts
 
       sent_is : All (λ (m : Sent). SaysSent P (OfBirths P) (G m.packet.from) m.packet.from m) (effect A t.asked).out.sent
       sent_is =
@@ -219,7 +221,7 @@ module _ (n : ℕ) (intends : IntentionsAreInOrder n) (whole : StoresAreWhole n)
 
       acted_named : IsNamed (world_after W (effect_step W e S t.asked))
       acted_named = record {
-        at = each_after (λ (s : ℕ) (z : Store). 1 ≤ s → s ≤ n → IsKnownAt P s z) W.stores S B k.at
+        at = each_after (λ (s : ℕ) (z : Store). 1 ≤ s → s ≤ n → IsKnownAt P (G s) s z) W.stores S B k.at
             (λ least most. end_known P (G S) S A here knows_before sorted_before t.asked knows_behind sorted_behind came new);
         mail_is = All-append (λ (m : Sent). SaysSent P (OfBirths P) (G m.packet.from) m.packet.from m) (effect A t.asked).out.sent (mail W.journal) sent_is k.mail_is;
         history_is = All-append (λ (u : Born). P u.made.file u.made.stamp.server u.birth) (born_in B (effect A t.asked).out.made) W.history
@@ -262,16 +264,23 @@ module _ (n : ℕ) (intends : IntentionsAreInOrder n) (whole : StoresAreWhole n)
   gone_said m is =
       (all_contained (λ (x : Sent). SaysSent P (OfBirths P) (G x.packet.from) x.packet.from x) (mail (run n events).journal) m all_named.mail_is is).1.0
 
+  -- and of each Bye that a server owes
+  pub bye_said : (s : ℕ) → 1 ≤ s → s ≤ n → (f : FileId) (b peer peer_birth : ℕ)
+      → IsAmong (At events s).intents (intent.Bye f b peer peer_birth) → G s f b
+  bye_said s least most f b peer peer_birth is =
+      (all_at (SaysIntent (OfBirths P) (Owed P (G s) s)) (At events s).intents (intent.Bye f b peer peer_birth)
+      (all_named.at s least most).store.intents is).1
+
 abbrev Anything : ℕ → FileId → ℕ → Type 0
 Anything s f b = Unit {0}
 
 anything : (a : Store) (asked : Input) → Freshly (λ f b. Unit {0}) a asked
 anything a (input.Call moment call) = tt
 anything a (input.Tick moment word) = tt
-anything a (input.Arrival packet) = λ ends links here to_come. tt
+anything a (input.Arrival packet) = (λ ends links here to_come. tt, λ heard x stamp e goes. tt)
 anything a input.Restart = tt
 
 pub births_are_known : (n : ℕ) → IntentionsAreInOrder n → StoresAreWhole n → MakersHold n → BirthsAreKnown n
 births_are_known n intends whole makers events =
     births_were_given_out n intends whole makers events Anything
-    (λ before e behind split t acts. anything (store_after n before t.server) t.asked)
+    (λ before e behind split t takes acts. anything (store_after n before t.server) t.asked)

@@ -1,71 +1,41 @@
 -- What is said of births and flags is said behind each message and each call.
-use Rattle.std.proofs.Common.{ℕ, ◌≡◌, ◌==◌, ◌&&◌, Bool, true, false, cond, not, Option, None, Some, Result, Ok, Err, refl, sym, ap, subst, ◌∙◌}
+use Rattle.std.proofs.Common.{ℕ, ◌≡◌, ◌&&◌, Bool, true, cond, not, Some, refl, sym, subst, ◌∙◌}
 use Rattle.std.specs.Prelude.{nat_lt}
-use Rattle.std.proofs.lemmas.Bool.{and_parts, eqb-true}
-use Rattle.std.proofs.lemmas.List.Elements.{All-nil, All-push}
+use Rattle.std.proofs.lemmas.Bool.{and_parts}
 use Rattle.pg_base.specs.declared.id.FileId.{FileId}
-use Rattle.pg_base.specs.declared.id.Kind.TheVariants.{Dir, File}
-use Rattle.pg_base.specs.declared.policy.Policy.{Policy}
 use Rattle.pg_base.specs.declared.stamp.Stamp.{Stamp}
-use Rattle.pg_base.specs.declared.policy.Policy.TheVariants.{Last}
-use Rattle.pg_patch.specs.Ranges.{RangesValue, cut_to, written}
-use Rattle.pg_call.specs.declared.call.Call.{Call}
 use Rattle.pg_call.specs.declared.call.Call.TheVariants as call
-use Rattle.pg_call.specs.declared.reply.Reply.{Reply}
-use Rattle.pg_call.specs.declared.reply.Reply.TheVariants as reply
-use Rattle.pg_call.specs.declared.refusal.Refusal.TheVariants.{ManyActors, NotYet, TooLong}
 use Rattle.pg_msg.specs.declared.message.Ends.{Ends}
 use Rattle.pg_msg.specs.declared.message.Message.{Message}
 use Rattle.pg_msg.specs.declared.message.Message.TheVariants as message
 use Rattle.pg_msg.specs.declared.update.Update.TheVariants as update
 use Rattle.pg_msg.specs.declared.work.Work.{Work}
 use Rattle.pg_msg.specs.Work.{with_made}
-use Rattle.pg_names.specs.Names.{blank_own, fill as fill_names, known, own_or_blank}
+use Rattle.pg_names.specs.Names.{fill as fill_names}
 use Rattle.pg_register.specs.declared.flag.Flag.{Flag}
-use Rattle.pg_register.specs.declared.place.Place.{Place}
-use Rattle.pg_register.specs.Flag.{flag_of, is_raised_with}
-use Rattle.pg_replica.specs.Replica.{has_many_actors, is_too_long}
-use Rattle.pg_walk.specs.declared.paths.Found.{Found}
-use Rattle.pg_walk.specs.declared.paths.Stop.{Stop}
-use Rattle.pg_walk.specs.declared.paths.Stop.TheVariants as stop
 use Rattle.pg_store.specs.declared.store.Store.{Store}
-use Rattle.pg_store.specs.declared.wishes.Wish.{Wish}
-use Rattle.pg_store.specs.Beginning.{begin}
-use Rattle.pg_store.specs.Births.{birth_of, draw_birth, has_birth, with_birth, with_wish}
-use Rattle.pg_store.specs.Store.{is_full, replica_at, replica_of, with_names}
+use Rattle.pg_store.specs.Births.{birth_of, has_birth}
+use Rattle.pg_store.specs.Store.{is_full, replica_at, with_names}
 use Rattle.pg_store.specs.Together.{AreTogether, birth_at}
 use Rattle.pg_cells.specs.declared.accepting.Manner.TheVariants as manner
-use Rattle.pg_cells.specs.Accepting.{is_accepted, is_current}
+use Rattle.pg_cells.specs.Accepting.{accept, is_accepted, is_current, with_gone}
+use Rattle.pg_store.specs.Links.{knows_later}
 use Rattle.pg_cells.specs.Done.{Done, idle}
-use Rattle.pg_cells.specs.Making.{lower_flag, make_flag, own_next, raise_flag}
-use Rattle.pg_cells.specs.Posting.{post, sent_to}
-use Rattle.pg_repair.specs.Filling.{few_golds, fill, full, live_golds}
-use Rattle.pg_calls.specs.Answer.{Answer, answer, answered, replied, told, unless}
-use Rattle.pg_calls.specs.Asking.{ask_by, ask_first, ask_for, fetch, fresh_wish, holder, standing}
-use Rattle.pg_calls.specs.Bodies.{change_file, shown_part, when_fit}
-use Rattle.pg_calls.specs.Calls.{do_call}
-use Rattle.pg_calls.specs.Checks.{dir_at, empty_dir_at, file_at, in_time, move_of, new_name, target_at}
-use Rattle.pg_cells.specs.Golds.{is_gold}
-use Rattle.pg_calls.specs.Demoting.{demoted_at, lowered}
-use Rattle.pg_calls.specs.Looks.{counts, listing, page, stat_of}
-use Rattle.pg_calls.specs.Making.{drawn, first_ranges, make_place, make_version}
-use Rattle.pg_calls.specs.Naming.{dead_place, moved, next_id, place_in, taken_away, with_first_version, with_id, with_thing}
-use Rattle.pg_calls.specs.declared.checks.Move.{Move}
-use Rattle.pg_calls.specs.declared.checks.NewName.{NewName}
-use Rattle.pg_calls.proofs.Missing.{IsMissing, demoted_missing, dir_missing, empty_missing, file_missing, move_missing, name_missing, target_missing}
-use Rattle.pg_calls.proofs.Stopping.{StopsAt, stops_then, stops_time, stops_unless}
+use Rattle.pg_cells.specs.Making.{make_flag, own_next, raise_flag}
+use Rattle.pg_repair.specs.Filling.{few_golds, fill, full, invite, invited, is_bronze, live_golds, raise_if_few}
+use Rattle.pg_graph.specs.Leaving.{goes_now}
+use Rattle.pg_intent.specs.declared.key.IntentKey.TheVariants as intent_key
 use Rattle.pg_server.specs.Local.{receive}
 use Rattle.pg_promises.proofs.Choices.{chosen, decided}
-use Rattle.pg_promises.proofs.Flags.{server_of}
 use Rattle.pg_run.specs.Births.{AllNamed}
-use Rattle.pg_births.specs.Flags.{SaysMessage, SaysStore}
-use Rattle.pg_births.proofs.EndsSay.{ends_begin, ends_stay}
-use Rattle.pg_births.proofs.Here.{birth_is, born_here, of_birth}
-use Rattle.pg_births.proofs.Joined.{found_says}
-use Rattle.pg_births.proofs.Pieces.{fill_stays, flag_stays, place_stays, write_stays}
-use Rattle.pg_births.proofs.Mails.{linking_to, OfBirths, SaysSent, same_mail}
-use Rattle.pg_births.proofs.Saying.{Born, Fresh, IsSaid, said_accept, said_ack, said_cell, said_confirm, said_fetch, said_flag, said_gone, said_grant, said_no_grant, said_none_here, said_on, said_place, said_place_is, said_tell, said_tell_ok}
-use Rattle.pg_births.proofs.StoreSays.{own_says, say_begin, say_fill, say_write}
+use Rattle.pg_births.specs.Flags.{SaysMessage}
+use Rattle.pg_births.proofs.EndsSay.{ends_stay}
+use Rattle.pg_births.proofs.Here.{birth_is, of_birth}
+use Rattle.pg_births.proofs.Pieces.{fill_stays}
+use Rattle.pg_births.proofs.Mails.{linking_to, OfBirths, Owed, same_mail}
+use Rattle.pg_births.proofs.Parting.{said_bye, said_ended, said_leave, said_leave_ok}
+use Rattle.pg_births.proofs.Saying.{Born, Fresh, IsSaid, asked_by, said_accept, said_ack, said_cell, said_confirm, said_fetch, said_flag, said_gone, said_grant, said_no_grant, said_none_here, said_on, said_place_is, said_tell, said_tell_ok}
+use Rattle.pg_births.proofs.StoreSays.{say_fill}
 use Rattle.pg_births.proofs.Walking.{said_seek, said_walk}
 
 module _ (P : FileId → ℕ → ℕ → Type 0) (G : FileId → ℕ → Type 0) (s from : ℕ) where
@@ -80,7 +50,7 @@ module _ (P : FileId → ℕ → ℕ → Type 0) (G : FileId → ℕ → Type 0)
   own_fine : (b : Store) (f : FileId) (raised : Bool) → b.names.server ≡ s → P f s (birth_of b f) → Q f (own_next b f raised)
   own_fine b f raised server one = let R : ℕ → Type 0 = λ z. P f z (birth_of b f) in subst R (sym server) one
 
-  fine_flag : (b : Store) (f : FileId) (raised : Bool) (w : Work) → Fine (idle b w) → P f s (birth_of b f)
+  pub fine_flag : (b : Store) (f : FileId) (raised : Bool) (w : Work) → Fine (idle b w) → P f s (birth_of b f)
       → Fine (make_flag b f (own_next b f raised) w)
   fine_flag b f raised w k one =
       let flag = own_next b f raised in
@@ -88,17 +58,19 @@ module _ (P : FileId → ℕ → ℕ → Type 0) (G : FileId → ℕ → Type 0)
       said_flag P Q G s from b f flag v (own_fine b f raised k.store.names.server one)
       (said_on P Q G s from (idle b w) (idle b v) k k.store k.edges (record { sent = refl; tail = refl; asker = refl }))
 
-  fine_raise : (b : Store) (f : FileId) (n : ℕ) (w : Work) → Fine (idle b w) → birth_at b f ≡ Some n → P f s n → Fine (raise_flag b f w)
+  pub fine_raise : (b : Store) (f : FileId) (n : ℕ) (w : Work) → Fine (idle b w) → birth_at b f ≡ Some n → P f s n → Fine (raise_flag b f w)
   fine_raise b f n w k there one = fine_flag b f true w k (subst (P f s) (sym (birth_is b f n there)) one)
 
-  -- ---- what is full
+  -- ---- what is full, and what is asked to be gold
 
-  fine_fill : (a : Store) (f : FileId) (n : ℕ) (w : Work) → Fine (idle a w) → birth_at a f ≡ Some n → P f s n → Fine (fill a f w)
+  pub fine_few : (b : Store) (f : FileId) (n : ℕ) (w : Work) → Fine (idle b w) → birth_at b f ≡ Some n → P f s n → Fine (raise_if_few b f w)
+  fine_few b f n w k there one = chosen Fine (nat_lt (live_golds b f) few_golds) (raise_flag b f w) (idle b w) (fine_raise b f n w k there one) k
+
+  pub fine_fill : (a : Store) (f : FileId) (n : ℕ) (w : Work) → Fine (idle a w) → birth_at a f ≡ Some n → P f s n → Fine (fill a f w)
   fine_fill a f n w k there one =
       let b = with_names a (fill_names a.names f) in
-      let to_b : Fine (idle b w) = said_on P Q G s from (idle a w) (idle b w) k (say_fill Q s a f k.store) (ends_stay P (fill_stays a f) k.edges)
-      (same_mail w) in
-      chosen Fine (nat_lt (live_golds b f) few_golds) (raise_flag b f w) (idle b w) (fine_raise b f n w to_b there one) to_b
+      fine_few b f n w
+      (said_on P Q G s from (idle a w) (idle b w) k (say_fill Q (Owed P G s) s a f k.store) (ends_stay P (fill_stays a f) k.edges) (same_mail w)) there one
 
   fine_full : (a : Store) (ends : Ends) (w : Work) → P ends.file s ends.receiver → Fine (idle a w) → Fine (full a ends w)
   fine_full a ends w one k =
@@ -109,211 +81,60 @@ module _ (P : FileId → ℕ → ℕ → Type 0) (G : FileId → ℕ → Type 0)
       (and_parts (has_birth a ends.file ends.receiver) _ (and_parts (is_current a w.from ends) _ (and_parts accepted _ t).0).0).0) one)
       (λ f. k)
 
+  -- a message that links nobody leaves births
+  asked_births : (a : Store) (ends : Ends) (w : Work) → birth_at (accept a ends manner.Ask w).store ends.file ≡ birth_at a ends.file
+  asked_births a ends w =
+      let later = knows_later a ends.file w.from ends.sender in
+      let Same : Done → Type 0 = λ d. birth_at d.store ends.file ≡ birth_at a ends.file in
+      chosen Same (has_birth a ends.file ends.receiver) (cond later (idle a w) (idle a w)) (idle a (with_gone a ends manner.Ask w))
+      (chosen Same later (idle a w) (idle a w) refl refl) refl
+
+  fine_invite : (a : Store) (ends : Ends) (w : Work) → P ends.file s ends.receiver → Fresh P (OfBirths P) G s from a ends → Fine (idle a w)
+      → Fine (invite a ends w)
+  fine_invite a ends w one fresh k =
+      let met = accept a ends manner.Ask w in
+      let to = asked_by P Q G s from a ends w (has_birth a ends.file ends.receiver) (knows_later a ends.file w.from ends.sender) refl one fresh k in
+      decided Fine (is_accepted a w.from manner.Ask ends) (invited ends met) met
+      (λ t.
+      let here = of_birth (replica_at a ends.file) ends.receiver
+      (and_parts (has_birth a ends.file ends.receiver) _ (and_parts (is_current a w.from ends) _ t).0).0 in
+      chosen Fine (is_bronze met.store ends.file) (raise_if_few met.store ends.file met.work) met
+      (fine_few met.store ends.file ends.receiver met.work to (asked_births a ends w ∙ here) one) to)
+      (λ f. to)
+
   -- ANY MESSAGE
   pub fine_received : (a : Store) (m : Message) (w : Work) → AllNamed P from s m → SaysMessage (OfBirths P) m
-      → ((ends : Ends) → linking_to m ≡ Some ends → Fresh P (OfBirths P) G s from a ends) → Born P (OfBirths P) G s from a → AreTogether a
+      → ((ends : Ends) → linking_to m ≡ Some ends → Fresh P (OfBirths P) G s from a ends)
+      → ((x : Ends) (stamp : Stamp) → m ≡ message.LeaveOk x stamp → goes_now a x stamp w ≡ true → G x.file x.receiver) → Born P (OfBirths P) G s from a → AreTogether a
       → Fine (idle a w)
       → Fine (receive a m w)
-  fine_received a (message.Cell ends tag c) w named says fresh born both k = said_cell P Q G s from a ends tag c w named says (fresh ends refl) k
-  fine_received a (message.Ack ends q tag) w named says fresh born both k = said_ack P Q G s from a ends q tag w k
-  fine_received a (message.Harbinger ends tag head) w named says fresh born both k = k
-  fine_received a (message.Want ends wanted) w named says fresh born both k = k
-  fine_received a (message.Delta ends delta) w named says fresh born both k = k
-  fine_received a (message.Piece ends piece) w named says fresh born both k = k
-  fine_received a (message.Later ends stamp) w named says fresh born both k = k
-  fine_received a (message.Fetch file birth) w named says fresh born both k = said_fetch P Q G s from a file birth w named born k
-  fine_received a (message.Grant ends g) w named says fresh born both k = said_grant P Q G s from a ends g w named says (fresh ends refl) k
-  fine_received a (message.NoGrant file birth) w named says fresh born both k = said_no_grant P Q G s from a file birth w k
-  fine_received a (message.Full ends) w named says fresh born both k = fine_full a ends w named.1 k
-  fine_received a (message.Seek file birth) w named says fresh born both k = said_seek P Q G s from a file birth w both named born k
-  fine_received a (message.Here ends) w named says fresh born both k = said_accept P Q G s from a ends w named (fresh ends refl) k
-  fine_received a (message.NoneHere what file child) w named says fresh born both k = said_none_here P Q G s from a what file child w k
-  fine_received a (message.Gone file birth) w named says fresh born both k = said_gone P Q G s from a file birth w k
-  fine_received a (message.Bye ends) w named says fresh born both k = k
-  fine_received a (message.ByeOk file birth) w named says fresh born both k = k
-  fine_received a (message.Confirm dir e) w named says fresh born both k = said_confirm P Q G s from a dir e w says k
-  fine_received a (message.PlaceIs dir e) w named says fresh born both k = said_place_is P Q G s from a dir e w says k
-  fine_received a (message.Tell dir e) w named says fresh born both k = said_tell P Q G s from a dir e w says k
-  fine_received a (message.TellOk dir child stamp) w named says fresh born both k = said_tell_ok P Q G s from a dir child stamp w k
-  fine_received a (message.Leave ends stamp) w named says fresh born both k = k
-  fine_received a (message.LeaveOk ends stamp) w named says fresh born both k = k
-  fine_received a (message.Invite ends) w named says fresh born both k = k
-  fine_received a (message.Walk ends origin birth hops word) w named says fresh born both k =
+  fine_received a (message.Cell ends tag c) w named says fresh going born both k = said_cell P Q G s from a ends tag c w named says (fresh ends refl) k
+  fine_received a (message.Ack ends q tag) w named says fresh going born both k = said_ack P Q G s from a ends q tag w k
+  fine_received a (message.Harbinger ends tag head) w named says fresh going born both k = k
+  fine_received a (message.Want ends wanted) w named says fresh going born both k = k
+  fine_received a (message.Delta ends delta) w named says fresh going born both k = k
+  fine_received a (message.Piece ends piece) w named says fresh going born both k = k
+  fine_received a (message.Later ends stamp) w named says fresh going born both k = k
+  fine_received a (message.Fetch file birth) w named says fresh going born both k = said_fetch P Q G s from a file birth w named born k
+  fine_received a (message.Grant ends g) w named says fresh going born both k = said_grant P Q G s from a ends g w named says (fresh ends refl) k
+  fine_received a (message.NoGrant file birth) w named says fresh going born both k = said_no_grant P Q G s from a file birth w k
+  fine_received a (message.Full ends) w named says fresh going born both k = fine_full a ends w named.1 k
+  fine_received a (message.Seek file birth) w named says fresh going born both k = said_seek P Q G s from a file birth w both named born k
+  fine_received a (message.Here ends) w named says fresh going born both k = said_accept P Q G s from a ends w named (fresh ends refl) k
+  fine_received a (message.NoneHere what file child) w named says fresh going born both k = said_none_here P Q G s from a what file child w k
+  fine_received a (message.Gone file birth) w named says fresh going born both k = said_gone P Q G s from a file birth w k
+  fine_received a (message.Bye ends) w named says fresh going born both k = said_bye P Q G s from a ends w named.0 k
+  fine_received a (message.ByeOk file birth) w named says fresh going born both k =
+      said_ended P Q G s from a (intent_key.Bye file birth w.from) w k
+  fine_received a (message.Confirm dir e) w named says fresh going born both k = said_confirm P Q G s from a dir e w says k
+  fine_received a (message.PlaceIs dir e) w named says fresh going born both k = said_place_is P Q G s from a dir e w says k
+  fine_received a (message.Tell dir e) w named says fresh going born both k = said_tell P Q G s from a dir e w says k
+  fine_received a (message.TellOk dir child stamp) w named says fresh going born both k = said_tell_ok P Q G s from a dir child stamp w k
+  fine_received a (message.Leave ends stamp) w named says fresh going born both k =
+      said_leave P Q G s from a ends stamp w named (fresh ends refl) k
+  fine_received a (message.LeaveOk ends stamp) w named says fresh going born both k =
+      said_leave_ok P Q G s from a ends stamp w named.1 (going ends stamp refl) k
+  fine_received a (message.Invite ends) w named says fresh going born both k = fine_invite a ends w named.1 (fresh ends refl) k
+  fine_received a (message.Walk ends origin birth hops word) w named says fresh going born both k =
       said_walk P Q G s from a ends origin birth hops word w named.0 named.1 (fresh ends refl) born k
-  fine_received a (message.Meet ends) w named says fresh born both k = said_accept P Q G s from a ends w named (fresh ends refl) k
-
-  -- ---- calls
-
-  -- what is gold has a flag, of a birth that was given out
-  gold_by : (b : Store) (f : FileId) (o : Option Flag) → flag_of (own_or_blank b.names f).flags b.names.server ≡ o
-      → is_raised_with o (birth_of b f) ≡ true → SaysStore Q s b → P f s (birth_of b f)
-  gold_by b f None there gold k = absurd (let z : false ≡ true = gold in cc)
-  gold_by b f (Some g) there gold k =
-      let fs = (own_or_blank b.names f).flags in
-      let server : g.server ≡ s = server_of fs b.names.server g there ∙ k.names.server in
-      let birth = eqb-true g.birth (birth_of b f) (and_parts g.raised (g.birth == birth_of b f) gold).1 in
-      let one : P f g.server g.birth = found_says (Q f) fs b.names.server g (own_says Q s b f k) there in
-      let R : ℕ → Type 0 = λ z. P f z g.birth in
-      subst (P f s) birth (subst R server one)
-
-  fine_lowered : (b : Store) (f : FileId) (w : Work) → Fine (idle b w) → Fine (lowered b f w)
-  fine_lowered b f w k =
-      decided Fine (is_gold b f) (lower_flag b f w) (idle b w)
-      (λ gold. fine_flag b f false w k (gold_by b f (flag_of (own_or_blank b.names f).flags b.names.server) refl gold k.store))
-      (λ bronze. k)
-
-  -- what is known of the births that a call gives out: of the replica that it begins, and of the wish that it leaves
-  pub record Allows (a : Store) (left : Answer) : Type 0 where
-    pub born : (f : FileId) (n : ℕ) → birth_at left.store f ≡ Some n → P f s n
-    pub fresh : (f : FileId) (t : ℕ) → left.store ≡ with_wish (with_birth a) f (fresh_wish a t) → standing a f ≡ None
-        → is_full a f ≡ false → P f s (draw_birth a)
-
-  module _ (a : Store) (w : Work) (k : Fine (idle a w)) (stood : (f : FileId) (wish : Wish) → standing a f ≡ Some wish → P f s wish.birth) where
-    abbrev Leaves : Answer → Type 0
-    Leaves left = Fine (record { store = left.store; work = left.work })
-
-    fetched : (b : Store) (f : FileId) (wish : Wish) → Fine (idle b w) → b.names.server ≡ a.names.server → P f s wish.birth
-        → Fine (idle b (fetch a f wish w))
-    fetched b f wish h server one =
-        chosen (λ (v : Work). Fine (idle b v)) (wish.target == 0) w (post a wish.target (message.Fetch f wish.birth) w) h
-        (record {
-          store = h.store;
-          edges = h.edges;
-          sent = All-push (SaysSent P Q G s) w.sent (sent_to a wish.target (message.Fetch f wish.birth)) h.sent (one, (tt, sym server ∙ h.store.names.server));
-          tail = h.tail;
-          asker = h.asker;
-        })
-
-    fresh_fine : (f : FileId) (t : ℕ) → Fine (idle (with_wish (with_birth a) f (fresh_wish a t)) w)
-    fresh_fine f t = record { store = record { names = k.store.names; intents = k.store.intents }; edges = k.edges; sent = k.sent; tail = k.tail; asker = k.asker }
-
-    asked_first : (f : FileId) (t : ℕ) (zero_is : Bool) → (t == 0) ≡ zero_is
-        → ((ask_first a f t w).store ≡ with_wish (with_birth a) f (fresh_wish a t) → P f s (draw_birth a))
-        → Fine (cond zero_is (idle a w) (idle (with_wish (with_birth a) f (fresh_wish a t)) (fetch a f (fresh_wish a t) w)))
-    asked_first f t true is fresh = k
-    asked_first f t false is fresh =
-        fetched (with_wish (with_birth a) f (fresh_wish a t)) f (fresh_wish a t) (fresh_fine f t) refl
-        (fresh (ap (λ z. (cond z (idle a w) (idle (with_wish (with_birth a) f (fresh_wish a t)) (fetch a f (fresh_wish a t) w))).store) is))
-
-    asked_by : (found : Found) (o : Option Wish) → standing a found.file ≡ o
-        → ((t : ℕ) → (ask_by a found o w).store ≡ with_wish (with_birth a) found.file (fresh_wish a t) → P found.file s (draw_birth a))
-        → Fine (ask_by a found o w)
-    asked_by found None none fresh =
-        asked_first found.file (holder a found) (holder a found == 0) refl (fresh (holder a found))
-    asked_by found (Some wish) some fresh = fetched a found.file wish k refl (stood found.file wish some)
-
-    denied : (found : Found) → IsMissing a.names found → (r : Reply) → Allows a (answer (ask_for a found w) r) → Leaves (answer (ask_for a found w) r)
-    denied found missing r allows =
-        denied_by (standing a found.file) refl
-      where
-        denied_by : (o : Option Wish) → standing a found.file ≡ o → Fine (ask_by a found (standing a found.file) w)
-        denied_by None none =
-            let same : ask_by a found None w ≡ ask_by a found (standing a found.file) w = ap (λ (o : Option Wish). ask_by a found o w) (sym none) in
-            subst Fine same (asked_by found None none (λ t e. allows.fresh found.file t (ap (λ (d : Done). d.store) (sym same) ∙ e) none missing))
-        denied_by (Some wish) some =
-            let same : ask_by a found (Some wish) w ≡ ask_by a found (standing a found.file) w = ap (λ (o : Option Wish). ask_by a found o w) (sym some) in
-            subst Fine same (fetched a found.file wish k refl (stood found.file wish some))
-
-    goes_on : {A : Type 0} (check : Result A Stop) (next : A → Answer) → StopsAt (IsMissing a.names) check
-        → Allows a (answered a w check next) → ((x : A) → check ≡ Ok x → Allows a (next x) → Leaves (next x)) → Leaves (answered a w check next)
-    goes_on (Err (stop.Refused why)) next missing allows each = k
-    goes_on (Err (stop.NotYet found)) next missing allows each = denied found missing (reply.Refused (NotYet found.file)) allows
-    goes_on (Ok x) next missing allows each = each x refl allows
-
-    looks : {A : Type 0} (check : Result A Stop) (tell : A → Reply) → StopsAt (IsMissing a.names) check
-        → Allows a (replied a w check tell) → Leaves (replied a w check tell)
-    looks check tell missing allows = goes_on check (λ x. told a w (tell x)) missing allows (λ x is m. k)
-
-    -- a new thing
-    thing_fine : (id : FileId) (policy : Policy) (new : NewName)
-        → ((f : FileId) (n : ℕ) → birth_at (with_thing (with_id a) w id policy new).store f ≡ Some n → P f s n)
-        → Fine (with_thing (with_id a) w id policy new)
-    thing_fine id policy new born =
-        let b = with_id a in
-        let own = blank_own id in
-        let c = begin (with_birth b) id (draw_birth b) policy own true in
-        let place = place_in b w.now new in
-        let v = with_made w (update.Place id place) in
-        let none : Fine (idle (with_birth b) w) = record { store = record { names = k.store.names; intents = k.store.intents }; edges = k.edges; sent = k.sent; tail = k.tail; asker = k.asker } in
-        let to_c : Fine (idle c v) = said_on P Q G s from (idle (with_birth b) w) (idle c v) none
-        (say_begin Q s (with_birth b) id (draw_birth b) policy own true (All-nil (Q id)) none.store)
-        (ends_begin P (with_birth b) id (draw_birth b) policy own true none.edges) (record { sent = refl; tail = refl; asker = refl }) in
-        let d = make_place id place (idle c w) in
-        let to_d = said_place P Q G s from c id place v to_c in
-        let here : birth_at d.store id ≡ Some (draw_birth b) =
-        (place_stays c id place).before.births id ∙ born_here (with_birth b) id (draw_birth b) policy own true in
-        let there : birth_at (raise_flag d.store id d.work).store id ≡ Some (draw_birth b) =
-        (flag_stays d.store id (own_next d.store id true)).before.births id ∙ here in
-        fine_raise d.store id (draw_birth b) d.work to_d here (born id (draw_birth b) there)
-
-    fine_write : (b : Store) (f : FileId) (stamp : Stamp) (ranges : RangesValue) (v : Work) → Fine (idle b v) → Fine (make_version f stamp ranges (idle b v))
-    fine_write b f stamp ranges v h =
-        said_on P Q G s from (idle b v) (make_version f stamp ranges (idle b v)) h (say_write Q s b f stamp ranges h.store)
-        (ends_stay P (write_stays b f stamp ranges) h.edges) (record { sent = refl; tail = refl; asker = refl })
-
-    fine_place : (f : FileId) (place : Place) → Fine (make_place f place (idle a w))
-    fine_place f place =
-        let v = with_made w (update.Place f place) in
-        said_place P Q G s from a f place v (said_on P Q G s from (idle a w) (idle a v) k k.store k.edges (record { sent = refl; tail = refl; asker = refl }))
-
-    fits_missing : (ranges : RangesValue) (file : FileId) → StopsAt (IsMissing a.names) (when_fit a ranges file)
-    fits_missing ranges file =
-        stops_then (IsMissing a.names) (unless (is_too_long (replica_of a file) ranges) TooLong file)
-        (λ (fit : FileId). unless (has_many_actors (replica_of a fit) a.names.server) ManyActors fit)
-        (stops_unless (IsMissing a.names) (is_too_long (replica_of a file) ranges) TooLong file refl)
-        (λ fit. stops_unless (IsMissing a.names) (has_many_actors (replica_of a fit) a.names.server) ManyActors fit refl)
-
-    change_fine : (ranges : RangesValue) (file : FileId) → Allows a (change_file a ranges w file) → Leaves (change_file a ranges w file)
-    change_fine ranges file allows =
-        goes_on (when_fit a ranges file)
-        (λ (fit : FileId). answer (make_version fit (drawn a w.now) ranges (idle a w)) (reply.Wrote (drawn a w.now)))
-        (fits_missing ranges file) allows (λ fit is m. fine_write a fit (drawn a w.now) ranges w k)
-
-    timed_missing : StopsAt (IsMissing a.names) (in_time a (tt {0}))
-    timed_missing = stops_time (IsMissing a.names) a (tt {0})
-
-    timed : (tell : Unit {0} → Reply) → Allows a (replied a w (in_time a (tt {0})) tell) → Leaves (replied a w (in_time a (tt {0})) tell)
-    timed tell allows = looks (in_time a (tt {0})) tell timed_missing allows
-
-    -- ANY CALL
-    pub fine_call : (c : Call) → Allows a (do_call a c w) → Leaves (do_call a c w)
-    fine_call (call.Mkdir path) m =
-        let id = next_id a Dir in
-        goes_on (new_name a id path) (λ (new : NewName). answer (with_thing (with_id a) w id Last new) (reply.Made id))
-        (name_missing a id path) m (λ new is h. thing_fine id Last new h.born)
-    fine_call (call.Create path policy) m =
-        let id = next_id a File in
-        goes_on (new_name a id path)
-        (λ (new : NewName). answer (with_first_version id (with_thing (with_id a) w id policy new)) (reply.Made id))
-        (name_missing a id path) m (λ new is h. (
-        let d = with_thing (with_id a) w id policy new in
-        let stamp = drawn d.store d.work.now in
-        fine_write d.store id stamp first_ranges d.work (thing_fine id policy new (λ f n there.
-        h.born f n ((write_stays d.store id stamp first_ranges).before.births f ∙ there)))))
-    fine_call (call.Write path offset bytes) m =
-        goes_on (file_at a path) (change_file a (written offset bytes) w) (file_missing a path) m (λ file is h. change_fine (written offset bytes) file h)
-    fine_call (call.Cut path length) m =
-        goes_on (file_at a path) (change_file a (cut_to length) w) (file_missing a path) m (λ file is h. change_fine (cut_to length) file h)
-    fine_call (call.Read path offset count) m =
-        looks (file_at a path) (λ (file : FileId). reply.Bytes (shown_part a file offset count)) (file_missing a path) m
-    fine_call (call.Fresh path) m = looks (file_at a path) (λ (file : FileId). reply.Done) (file_missing a path) m
-    fine_call (call.Ls path at) m =
-        looks (dir_at a path) (λ (dir : FileId). page (listing dir (known a.names dir)) at) (dir_missing a path) m
-    fine_call (call.Stat target) m = looks (target_at a target) (λ (file : FileId). reply.Stat (stat_of a file)) (target_missing a target) m
-    fine_call (call.Rename old new) m =
-        goes_on (move_of a old new) (λ (move : Move). answer (moved a w move) reply.Done) (move_missing a old new) m
-        (λ move is h. fine_place move.thing (place_in a w.now move.to))
-    fine_call (call.Unlink path) m =
-        goes_on (file_at a path) (λ (file : FileId). answer (taken_away a w file) reply.Done) (file_missing a path) m
-        (λ file is h. fine_place file (dead_place a w.now file))
-    fine_call (call.Rmdir path) m =
-        goes_on (empty_dir_at a path) (λ (dir : FileId). answer (taken_away a w dir) reply.Done) (empty_missing a path) m
-        (λ dir is h. fine_place dir (dead_place a w.now dir))
-    fine_call (call.Forget id) m = timed (λ found. reply.Done) m
-    fine_call (call.Demote target) m =
-        goes_on (demoted_at a target) (λ (file : FileId). answer (lowered a file w) reply.Done) (demoted_missing a target) m
-        (λ file is h. fine_lowered a file w k)
-    fine_call (call.Drop target) m = timed (λ found. reply.Done) m
-    fine_call (call.Giveup view server) m = timed (λ found. reply.Done) m
-    fine_call call.Status m = timed (λ found. reply.Status (counts a)) m
-    fine_call call.Stop m = timed (λ found. reply.Done) m
+  fine_received a (message.Meet ends) w named says fresh going born both k = said_accept P Q G s from a ends w named (fresh ends refl) k

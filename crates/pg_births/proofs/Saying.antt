@@ -60,11 +60,11 @@ use Rattle.pg_births.proofs.EndsSay.{SaysEnds, ends_begin, ends_link, ends_stay,
 use Rattle.pg_births.proofs.Here.{birth_is}
 use Rattle.pg_births.proofs.Pieces.{acknowledge_stays, entry_stays, flag_stays, place_stays, version_stays}
 use Rattle.pg_births.proofs.StoreSays.{entry_says, own_says, say_acknowledge, say_aimed, say_begin, say_ended, say_entry, say_flag, say_link, say_place, say_unlink, say_version}
-use Rattle.pg_births.proofs.Mails.{SameMail, SaysAll, SaysSent, doubt_mail, left_mail, link_mail, news_mail, same_mail, then_mail}
+use Rattle.pg_births.proofs.Mails.{Owed, SameMail, SaysAll, SaysSent, doubt_mail, left_mail, link_mail, news_mail, same_mail, then_mail}
 
 -- in the midst of an event at server s, in which a message came from this server
 pub record IsSaid (P : FileId → ℕ → ℕ → Type 0) (Q : FileId → Flag → Type 0) (G : FileId → ℕ → Type 0) (s from : ℕ) (d : Done) : Type 0 where
-  pub store : SaysStore Q s d.store
+  pub store : SaysStore Q (Owed P G s) s d.store
   pub edges : SaysEnds P d.store
   pub sent : All (SaysSent P Q G s) d.work.sent
   pub tail : All (SaysSent P Q G s) d.work.tail
@@ -74,7 +74,7 @@ module _ (P : FileId → ℕ → ℕ → Type 0) (Q : FileId → Flag → Type 0
   abbrev pub Said : Done → Type 0
   Said d = IsSaid P Q G s from d
 
-  pub said_on : (d e : Done) → Said d → SaysStore Q s e.store → SaysEnds P e.store → SameMail d.work e.work → Said e
+  pub said_on : (d e : Done) → Said d → SaysStore Q (Owed P G s) s e.store → SaysEnds P e.store → SameMail d.work e.work → Said e
   said_on d e k store edges mail = record {
     store = store;
     edges = edges;
@@ -89,13 +89,13 @@ module _ (P : FileId → ℕ → ℕ → Type 0) (Q : FileId → Flag → Type 0
   said_place a f place w k =
       let news = is_newer_place a f place in
       let old = (own_or_blank a.names f).place in
-      said_on (idle a w) (take_place_noted a f place w) k (say_place Q s a f place k.store) (ends_stay P (place_stays a f place) k.edges)
+      said_on (idle a w) (take_place_noted a f place w) k (say_place Q (Owed P G s) s a f place k.store) (ends_stay P (place_stays a f place) k.edges)
       (then_mail w (with_left_if news w f old) (with_news news (with_left_if news w f old) f key.Place) (left_mail news w f old)
       (news_mail news (with_left_if news w f old) f key.Place))
 
   pub said_flag : (a : Store) (f : FileId) (flag : Flag) (w : Work) → Q f flag → Said (idle a w) → Said (take_flag_noted a f flag w)
   said_flag a f flag w one k =
-      said_on (idle a w) (take_flag_noted a f flag w) k (say_flag Q s a f flag one k.store) (ends_stay P (flag_stays a f flag) k.edges)
+      said_on (idle a w) (take_flag_noted a f flag w) k (say_flag Q (Owed P G s) s a f flag one k.store) (ends_stay P (flag_stays a f flag) k.edges)
       (news_mail (is_newer_flag a f flag) w f (key.Flag flag.server))
 
   said_flags : (fs : List Flag) (a : Store) (f : FileId) (w : Work) → All (Q f) fs → Said (idle a w) → Said (take_flags_noted a f fs w)
@@ -104,27 +104,27 @@ module _ (P : FileId → ℕ → ℕ → Type 0) (Q : FileId → Flag → Type 0
       let d = take_flag_noted a f g w in
       said_flags gs d.store f d.work (All-tail (Q f) g gs all) (said_flag a f g w (All-head (Q f) g gs all) k)
 
-  said_entry : (a : Store) (dir : FileId) (e : Entry) (w : Work) → SaysEntry Q e → Said (idle a w) → Said (take_entry_noted a dir e w)
+  pub said_entry : (a : Store) (dir : FileId) (e : Entry) (w : Work) → SaysEntry Q e → Said (idle a w) → Said (take_entry_noted a dir e w)
   said_entry a dir e w one k =
-      said_on (idle a w) (take_entry_noted a dir e w) k (say_entry Q s a dir e one k.store) (ends_stay P (entry_stays a dir e) k.edges)
+      said_on (idle a w) (take_entry_noted a dir e w) k (say_entry Q (Owed P G s) s a dir e one k.store) (ends_stay P (entry_stays a dir e) k.edges)
       (news_mail (is_any_news (entry_news a dir e)) w dir (key.Entry e.child))
 
   said_entry_cell : (a : Store) (dir : FileId) (e : Entry) (sure : Bool) (w : Work) → SaysEntry Q e → Said (idle a w)
       → Said (take_entry_cell a dir e sure w)
   said_entry_cell a dir e sure w one k =
       let d = take_entry_noted a dir e w in
-      said_on d (take_entry_cell a dir e sure w) (said_entry a dir e w one k) (say_entry Q s a dir e one k.store)
+      said_on d (take_entry_cell a dir e sure w) (said_entry a dir e w one k) (say_entry Q (Owed P G s) s a dir e one k.store)
       (ends_stay P (entry_stays a dir e) k.edges)
       (doubt_mail (is_place_news (entry_news a dir e) && not sure) d.work dir e.child)
 
   said_version : (a : Store) (f : FileId) (v : VersionValue) (w : Work) → Said (idle a w) → Said (take_version_noted a f v w)
   said_version a f v w k =
-      said_on (idle a w) (take_version_noted a f v w) k (say_version Q s a f v k.store) (ends_stay P (version_stays a f v) k.edges)
+      said_on (idle a w) (take_version_noted a f v w) k (say_version Q (Owed P G s) s a f v k.store) (ends_stay P (version_stays a f v) k.edges)
       (news_mail (is_new_version a f v) w f (key.Version v.head.stamp))
 
   pub said_link : (a : Store) (f : FileId) (p b : ℕ) (w : Work) → P f p b → Said (idle a w) → Said (link_peer a f p b w)
   said_link a f p b w one k =
-      said_on (idle a w) (link_peer a f p b w) k (say_link Q s a f p b k.store) (ends_link P a f p b one k.edges)
+      said_on (idle a w) (link_peer a f p b w) k (say_link Q (Owed P G s) s a f p b k.store) (ends_link P a f p b one k.edges)
       (link_mail (is_new_link a f p b) w f p)
 
   -- one message more
@@ -226,7 +226,7 @@ module _ (P : FileId → ℕ → ℕ → Type 0) (Q : FileId → Flag → Type 0
   given_by a f birth w (Some x) there one born k =
       let ends : Ends = record { file = f; sender = x.birth; receiver = birth } in
       said_reply a (message.Grant ends (granted_from f (own_or_blank a.names f) x)) w
-      (born f x.birth (ap (option_map (λ (y : Replica). y.birth)) there), one) (own_says Q s a f k.store) k
+      (born f x.birth (ap (option_map (λ (y : Replica). y.birth)) there), one) (own_says Q (Owed P G s) s a f k.store) k
 
   full_by : (a : Store) (f : FileId) (birth : ℕ) (w : Work) (o : Option Replica) → replica_at a f ≡ o → P f from birth → Born a → Said (idle a w)
       → (t : Bool) → are_none (keys_at (or_nothing o).edges w.from birth) ≡ t
@@ -271,11 +271,11 @@ module _ (P : FileId → ℕ → ℕ → Type 0) (Q : FileId → Flag → Type 0
       let b = begun_by a ends g in
       let own = granted_own g in
       let N : ℕ → Type 0 = λ z. P ends.file z ends.sender in
-      let to_b : Said (idle b w) = said_on (idle a w) (idle b w) k (say_begin Q s a ends.file ends.receiver g.policy own false all k.store)
+      let to_b : Said (idle b w) = said_on (idle a w) (idle b w) k (say_begin Q (Owed P G s) s a ends.file ends.receiver g.policy own false all k.store)
       (ends_begin P a ends.file ends.receiver g.policy own false k.edges) (same_mail w) in
       let d = link_peer b ends.file w.from ends.sender w in
       let to_d = said_link b ends.file w.from ends.sender w (subst N (sym k.asker) heard.0) to_b in
-      said_on d (begin_granted a ends g w) to_d (say_aimed Q s d.store (intent_key.Fill ends.file) d.work.from to_d.store)
+      said_on d (begin_granted a ends g w) to_d (say_aimed Q (Owed P G s) s d.store (intent_key.Fill ends.file) d.work.from to_d.store)
       to_d.edges (same_mail d.work)
 
   pub said_grant : (a : Store) (ends : Ends) (g : Granted) (w : Work) → Heard ends → All (Q ends.file) g.flags → Fresh a ends → Said (idle a w)
@@ -284,7 +284,7 @@ module _ (P : FileId → ℕ → ℕ → Type 0) (Q : FileId → Flag → Type 0
       chosen Said (is_pending a ends.file ends.receiver) (begin_granted a ends g w) (accept a ends manner.Link w)
       (said_begun a ends g w heard all k) (said_accept a ends w heard fresh k)
 
-  aimed_by : (a b : Store) (t : Bool) (w : Work) → SaysStore Q s b → SaysEnds P b → Said (idle a w) → Said (idle (cond t b a) w)
+  aimed_by : (a b : Store) (t : Bool) (w : Work) → SaysStore Q (Owed P G s) s b → SaysEnds P b → Said (idle a w) → Said (idle (cond t b a) w)
   aimed_by a b true w store edges k = said_on (idle a w) (idle b w) k store edges (same_mail w)
   aimed_by a b false w store edges k = k
 
@@ -295,24 +295,24 @@ module _ (P : FileId → ℕ → ℕ → Type 0) (Q : FileId → Flag → Type 0
       let wished = with_wishes a (aim_wish a.wishes f next) in
       let to_b : Said (idle b w) = aimed_by a wished (wish_asks (wish_at a f) birth w.from) w
       (record { names = k.store.names; intents = k.store.intents }) k.edges k in
-      aimed_by b (aim_fill b f next) (fill_asks (fill_at b f) birth w.from) w (say_aimed Q s b (intent_key.Fill f) next to_b.store) to_b.edges to_b
+      aimed_by b (aim_fill b f next) (fill_asks (fill_at b f) birth w.from) w (say_aimed Q (Owed P G s) s b (intent_key.Fill f) next to_b.store) to_b.edges to_b
 
   pub said_none_here : (a : Store) (what : Ask) (f c : FileId) (w : Work) → Said (idle a w) → Said (none_here a what f c w)
   said_none_here a what f c w k =
       let q = asking_key what f c in
       aimed_by a (with_intents a (aimed a.intents q (next_target a w.from))) (does_ask (intent_at a.intents q) w.from) w
-      (say_aimed Q s a q (next_target a w.from) k.store) k.edges k
+      (say_aimed Q (Owed P G s) s a q (next_target a w.from) k.store) k.edges k
 
   -- ---- what is told of children
 
   pub said_ack : (a : Store) (ends : Ends) (q : Key) (tag : ℕ) (w : Work) → Said (idle a w) → Said (ack a ends q tag w)
   said_ack a ends q tag w k =
-      said_on (idle a w) (ack a ends q tag w) k (say_acknowledge Q s a ends.file (link_of w.from ends) q tag k.store)
+      said_on (idle a w) (ack a ends q tag w) k (say_acknowledge Q (Owed P G s) s a ends.file (link_of w.from ends) q tag k.store)
       (ends_stay P (acknowledge_stays a ends.file (link_of w.from ends) q tag) k.edges) (same_mail w)
 
   pub said_gone : (a : Store) (f : FileId) (birth : ℕ) (w : Work) → Said (idle a w) → Said (gone a f birth w)
   said_gone a f birth w k =
-      said_on (idle a w) (gone a f birth w) k (say_unlink Q s a f w.from birth k.store) (ends_unlink P a f w.from birth k.edges) (same_mail w)
+      said_on (idle a w) (gone a f birth w) k (say_unlink Q (Owed P G s) s a f w.from birth k.store) (ends_unlink P a f w.from birth k.edges) (same_mail w)
 
   pub said_confirm : (a : Store) (dir : FileId) (e : Entry) (w : Work) → SaysEntry Q e → Said (idle a w) → Said (confirm a dir e w)
   said_confirm a dir e w one k =
@@ -321,7 +321,7 @@ module _ (P : FileId → ℕ → ℕ → Type 0) (Q : FileId → Flag → Type 0
       let x = take_told_flags e d in
       let to_x = said_flags e.flags d.store e.child d.work one to_d in
       chosen Said (is_held a e.child) (place_told dir e.child x) (idle a (reply a (message.NoneHere ask.Confirm dir e.child) w))
-      (said_reply x.store (message.PlaceIs dir (own_entry x.store e.child)) x.work tt (entry_says Q s x.store e.child to_x.store) to_x)
+      (said_reply x.store (message.PlaceIs dir (own_entry x.store e.child)) x.work tt (entry_says Q (Owed P G s) s x.store e.child to_x.store) to_x)
       (said_reply a (message.NoneHere ask.Confirm dir e.child) w tt tt k)
 
   pub said_place_is : (a : Store) (dir : FileId) (e : Entry) (w : Work) → SaysEntry Q e → Said (idle a w) → Said (place_is a dir e w)
@@ -331,7 +331,7 @@ module _ (P : FileId → ℕ → ℕ → Type 0) (Q : FileId → Flag → Type 0
       let b = d.store in
       chosen Said (is_held a dir) (confirmed dir e d) (idle a w)
       (aimed_by b (with_intents b (ended b.intents (intent_key.Confirm dir e.child))) (is_confirmed b dir e.child e.place.stamp) d.work
-      (say_ended Q s b (intent_key.Confirm dir e.child) to_d.store) to_d.edges to_d)
+      (say_ended Q (Owed P G s) s b (intent_key.Confirm dir e.child) to_d.store) to_d.edges to_d)
       k
 
   pub said_tell : (a : Store) (dir : FileId) (e : Entry) (w : Work) → SaysEntry Q e → Said (idle a w) → Said (tell a dir e w)
@@ -344,4 +344,4 @@ module _ (P : FileId → ℕ → ℕ → Type 0) (Q : FileId → Flag → Type 0
   pub said_tell_ok : (a : Store) (dir c : FileId) (stamp : Stamp) (w : Work) → Said (idle a w) → Said (tell_ok a dir c stamp w)
   said_tell_ok a dir c stamp w k =
       let q = intent_key.Patch dir c in
-      aimed_by a (with_intents a (ended a.intents q)) (is_told (intent_at a.intents q) stamp w.from) w (say_ended Q s a q k.store) k.edges k
+      aimed_by a (with_intents a (ended a.intents q)) (is_told (intent_at a.intents q) stamp w.from) w (say_ended Q (Owed P G s) s a q k.store) k.edges k

@@ -1,14 +1,16 @@
 -- What is said of births and flags is said of the cells and the requests that a server sends.
-use Rattle.std.proofs.Common.{ℕ, ◌≡◌, Bool, true, false, cond, List, [], ◌∷◌, map, Option, None, Some, is_some, All, get_or, inl, inr, refl, sym, ap, subst, ◌∙◌}
+use Rattle.std.proofs.Common.{ℕ, ◌≡◌, ◌==◌, Bool, true, false, cond, List, [], ◌∷◌, map, Option, None, Some, is_some, All, get_or, inl, inr, refl, sym, ap, subst, ◌∙◌}
 use Rattle.std.specs.Option.{option_map}
 use Rattle.std.specs.List.{AllByRecursion, IsDistinct, flat_map}
 use Rattle.std.specs.List.Sorted.{IsStrictlySortedBy}
 use Rattle.std.specs.Map.{keys_of}
-use Rattle.std.proofs.lemmas.List.Elements.{All-from_recursion, All-weaker}
+use Rattle.std.proofs.lemmas.Bool.{and_parts, eqb-true, false≢true}
+use Rattle.std.proofs.lemmas.List.Elements.{All-from_recursion, All-head, All-tail, All-weaker}
 use Rattle.pg_base.specs.declared.id.FileId.{FileId}
 use Rattle.pg_base.specs.Id.{file_cmp}
 use Rattle.pg_base.specs.Version.{VersionValue}
 use Rattle.pg_edges.specs.declared.edge.Edge.{Edge}
+use Rattle.pg_edges.specs.Edges.{edge_to, is_listed, keys_if_born}
 use Rattle.pg_edges.specs.declared.key.Key.{Key}
 use Rattle.pg_edges.specs.declared.key.Key.TheVariants as key
 use Rattle.pg_entries.specs.declared.cell.Cell.{Cell}
@@ -23,20 +25,25 @@ use Rattle.pg_intent.specs.declared.key.IntentKey.{IntentKey}
 use Rattle.pg_intent.specs.declared.key.IntentKey.TheVariants as intent_key
 use Rattle.pg_intent.proofs.Found.{stands_is}
 use Rattle.pg_intent.proofs.SameKey.{is_same_key-refl, is_same_key-symm}
+use Rattle.pg_msg.specs.declared.message.Ends.{Ends}
 use Rattle.pg_msg.specs.declared.message.Message.{Message}
 use Rattle.pg_msg.specs.declared.message.Message.TheVariants as message
 use Rattle.pg_msg.specs.declared.message.Sent.{Sent}
-use Rattle.pg_names.specs.Names.{cell_at as entry_at, own_or_blank}
+use Rattle.pg_names.specs.declared.own.Own.{Own}
+use Rattle.pg_names.specs.Names.{cell_at as entry_at, own_at, own_or_blank}
 use Rattle.pg_register.specs.declared.flag.Flag.{Flag}
 use Rattle.pg_register.specs.Flag.{flag_of}
 use Rattle.pg_replica.specs.declared.replica.Replica.{Replica}
+use Rattle.pg_replica.specs.Replicas.{lists_peer}
 use Rattle.pg_store.specs.declared.store.Store.{Store}
 use Rattle.pg_store.specs.Births.{birth_of, fill_at}
+use Rattle.pg_store.specs.Links.{is_linked}
 use Rattle.pg_store.specs.Cells.{cell_at, entry_cell, flag_cell, is_sure, version_cell}
 use Rattle.pg_store.specs.Store.{is_held, replica_at}
 use Rattle.pg_store.specs.Together.{AreTogether, birth_at}
 use Rattle.pg_cells.specs.Sending.{Wanted, cells_where}
-use Rattle.pg_repair.specs.Requests.{asks, asks_by, confirm_message}
+use Rattle.pg_graph.specs.Leaving.{may_still_leave}
+use Rattle.pg_repair.specs.Requests.{asks, asks_by, bye_message, confirm_message, leave_message}
 use Rattle.pg_cells.specs.Posting.{sent_to}
 use Rattle.pg_promises.proofs.Found.{entries_known}
 use Rattle.pg_run.proofs.Bags.{All-every}
@@ -48,11 +55,11 @@ use Rattle.pg_births.proofs.Has.{Has}
 use Rattle.pg_births.proofs.Here.{birth_is, birth_of_held}
 use Rattle.pg_births.proofs.Joined.{found_says}
 use Rattle.pg_births.proofs.Pieces.{shape}
-use Rattle.pg_births.proofs.Mails.{OfBirths, SaysSent}
+use Rattle.pg_births.proofs.Mails.{OfBirths, Owed, SaysSent}
 use Rattle.pg_births.proofs.StoreSays.{own_says}
 
 -- what other laws say of a server: its replicas are by file, just what is held has one, its intentions are each of a key of its own,
--- a Fill of what is held has the birth of the replica, and what is sought is held
+-- a Fill of what is held has the birth of the replica, what is sought is held, and who is asked for leave is linked
 pub record Sorted (b : Store) : Type 0 where
   pub order : IsStrictlySortedBy file_cmp (keys_of b.replicas)
   pub together : AreTogether b
@@ -60,6 +67,27 @@ pub record Sorted (b : Store) : Type 0 where
   pub own : (file f : FileId) (birth target : ℕ) → fill_at b file ≡ Some (intent.Fill f birth target) → is_held b file ≡ true
       → birth_at b file ≡ Some birth
   pub sought : (file : FileId) → stands b.intents (intent_key.Seek file) ≡ true → is_held b file ≡ true
+  pub left : (file : FileId) (peer birth : ℕ) → intent_at b.intents (intent_key.Leave file) ≡ Some (intent.Leave file peer birth)
+      → may_still_leave b file peer birth ≡ true
+
+-- an edge that is listed is one of them
+born_to_peer : (R : ℕ → ℕ → Type 0) (p b : ℕ) (e : Edge) (u : Bool) → (e.birth == b) ≡ u → R p e.birth
+    → is_some (cond u (Some e.keys) None) ≡ true → R p b
+born_to_peer R p b e true same one g = subst (R p) (eqb-true e.birth b same) one
+born_to_peer R p b e false apart one g = absurd (false≢true g)
+
+listed_by : (R : ℕ → ℕ → Type 0) (p b : ℕ) (e : Edge) (es : List Edge) → R e.peer e.birth → (is_listed es p b ≡ true → R p b) → (t : Bool)
+    → (e.peer == p) ≡ t → is_some (keys_if_born (cond t (Some e) (edge_to es p)) b) ≡ true → R p b
+listed_by R p b e es one later true same g =
+    let Q : ℕ → Type 0 = λ z. R z e.birth in
+    born_to_peer R p b e (e.birth == b) refl (subst Q (eqb-true e.peer p same) one) g
+listed_by R p b e es one later false apart g = later g
+
+listed_is : (R : ℕ → ℕ → Type 0) (p b : ℕ) (es : List Edge) → All (λ (e : Edge). R e.peer e.birth) es → is_listed es p b ≡ true → R p b
+listed_is R p b [] all h = absurd (false≢true h)
+listed_is R p b (e ∷ es) all h =
+    listed_by R p b e es (All-head (λ (x : Edge). R x.peer x.birth) e es all)
+    (listed_is R p b es (All-tail (λ (x : Edge). R x.peer x.birth) e es all)) (e.peer == p) refl h
 
 -- ---- each intention is found with its key
 
@@ -104,17 +132,17 @@ module _ (P : FileId → ℕ → ℕ → Type 0) (G : FileId → ℕ → Type 0)
   own_child : (child : FileId) (e : Entry) → (e.child ≡ child) × All (Of child) e.flags → SaysEntry Of e
   own_child child e k = let R : FileId → Type 0 = λ z. All (Of z) e.flags in subst R (sym k.0) k.1
 
-  cell_says : (b : Store) (f : FileId) (q : Key) (c : Cell) → SaysStore Of s b → cell_at b f q ≡ Some c → SaysCell Of f c
+  cell_says : (b : Store) (f : FileId) (q : Key) (c : Cell) → SaysStore Of (Owed P G s) s b → cell_at b f q ≡ Some c → SaysCell Of f c
   cell_says b f key.Place c k there =
       subst (SaysCell Of f) (let same : cells.Place (own_or_blank b.names f).place ≡ c = cc in same) tt
   cell_says b f (key.Flag n) c k there =
       flag_says f c (flag_of (own_or_blank b.names f).flags n)
-      (λ g is. found_says (Of f) (own_or_blank b.names f).flags n g (own_says Of s b f k) is) there
+      (λ g is. found_says (Of f) (own_or_blank b.names f).flags n g (own_says Of (Owed P G s) s b f k) is) there
   cell_says b f (key.Entry child) c k there =
       entry_says f c (entry_at b.names f child) (is_sure b f child) (λ e is. own_child child e (k.names.cells f child e is)) there
   cell_says b f (key.Version stamp) c k there = version_says f c _ there
 
-  module _ (b : Store) (k : SaysStore Of s b) (edges : SaysEnds P b) (born : (f : FileId) (n : ℕ) → Has b f n → P f s n) (whole : Sorted b) where
+  module _ (b : Store) (k : SaysStore Of (Owed P G s) s b) (edges : SaysEnds P b) (born : (f : FileId) (n : ℕ) → Has b f n → P f s n) (whole : Sorted b) where
     cell_has : (f : FileId) (x : Replica) (e : Edge) → P f s x.birth → P f e.peer e.birth → (q : Key × ℕ) → CellHas Sends b f x e q
     cell_has f x e here there q c is passes = ((here, there), (cell_says b f q.0 c k is, k.names.server))
 
@@ -149,8 +177,28 @@ module _ (P : FileId → ℕ → ℕ → Type 0) (G : FileId → ℕ → Type 0)
     fill_born f n t there true held = born f n (inl (whole.own f f n t there held))
     fill_born f n t there false held = born f n (inr (inr (held, (f, t, there))))
 
-    ask_says : (i : Intent) → SaysIntent Of i → intent_at b.intents (key_of i) ≡ Some i → AskHas Sends b i
-    ask_says (intent.Bye f n p m) says found q is some = absurd says
+    link_named : (f : FileId) (p m : ℕ) (o : Option Replica) → replica_at b f ≡ o → lists_peer o p m ≡ true → P f s (birth_of b f) × P f p m
+    link_named f p m None there linked = absurd (false≢true linked)
+    link_named f p m (Some x) there linked =
+        let born_so = ap (option_map (λ (y : Replica). y.birth)) there in
+        let found = ap (option_map shape) there in (
+          subst (P f s) (sym (birth_is b f x.birth born_so)) (born f x.birth (inl born_so)),
+          listed_is (λ u v. P f u v) p m x.edges (edges_all P f x.edges (edges f x.birth (ends x.edges) found)) linked,
+        )
+
+    leave_says : (f : FileId) (p m : ℕ) (q : Message) (o : Option Own) → may_still_leave b f p m ≡ true → leave_message b f m o ≡ Some q
+        → Sends (sent_to b p q)
+    leave_says f p m q None may there = absurd (let z : ◌≡◌ {A = Option Message} None (Some q) = there in cc)
+    leave_says f p m q (Some own) may there =
+        let linked = (and_parts (is_linked b f p m) _ may).0 in
+        let named = link_named f p m (replica_at b f) refl linked in
+        let ends_is : Ends = record { file = f; sender = birth_of b f; receiver = m } in
+        subst (λ (z : Message). Sends (sent_to b p z)) (let same : message.Leave ends_is own.place.stamp ≡ q = cc in same)
+        ((named.0, named.1), (tt, k.names.server))
+
+    ask_says : (i : Intent) → SaysIntent Of (Owed P G s) i → intent_at b.intents (key_of i) ≡ Some i → AskHas Sends b i
+    ask_says (intent.Bye f n p m) says found q is some =
+        subst (λ (z : Message). Sends (sent_to b p z)) (let same : bye_message f n m ≡ q = cc in same) (says.0, (says.1, k.names.server))
     ask_says (intent.Seek f t) says found q is some =
         let stood : stands b.intents (intent_key.Seek f) ≡ true = stands_is b.intents (intent_key.Seek f) ∙ ap (λ (o : Option Intent). is_some o) found in
         let n = birth_of_held b whole.together f (whole.sought f stood) in
@@ -163,7 +211,7 @@ module _ (P : FileId → ℕ → ℕ → Type 0) (G : FileId → ℕ → Type 0)
         subst (λ (z : Message). Sends (sent_to b t z)) (let same : message.Tell dir e ≡ q = cc in same) (tt, (says, k.names.server))
     ask_says (intent.Confirm dir child t) says found q is some =
         confirm_says dir child t q (entry_at b.names dir child) (λ e there. own_child child e (k.names.cells dir child e there)) is
-    ask_says (intent.Leave f p m) says found q is some = absurd says
+    ask_says (intent.Leave f p m) says found q is some = leave_says f p m q (own_at b.names f) (whole.left f p m found) is
 
     asks_say : All (AskHas Sends b) b.intents
     asks_say i d lt =

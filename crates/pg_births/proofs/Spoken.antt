@@ -9,7 +9,9 @@ use Rattle.pg_base.proofs.Maps.{lookup-insert_entry}
 use Rattle.pg_base.proofs.Orders.{file_total, is_same_file-refl}
 use Rattle.pg_intent.specs.declared.intent.Intent.{Intent}
 use Rattle.pg_intent.specs.declared.intent.Intent.TheVariants as intent
+use Rattle.pg_base.specs.declared.stamp.Stamp.{Stamp}
 use Rattle.pg_msg.specs.declared.message.Ends.{Ends}
+use Rattle.pg_msg.specs.declared.message.Message.TheVariants as message
 use Rattle.pg_msg.specs.declared.work.Work.{Work}
 use Rattle.pg_msg.specs.Work.{new_work}
 use Rattle.pg_names.specs.Names.{HeldValue, NamesValue, is_held as names_hold, known as names_known}
@@ -30,10 +32,11 @@ use Rattle.pg_cells.specs.Ticks.{tick}
 use Rattle.pg_cells.proofs.Settled.{settle_keeps}
 use Rattle.pg_cells.specs.Sending.{Wanted, cells_where, is_any, is_chosen}
 use Rattle.pg_calls.specs.Asking.{fresh_wish, standing, wish_by}
+use Rattle.pg_graph.specs.Leaving.{goes_now}
 use Rattle.pg_repair.specs.Requests.{ask_all, asks, asks_by}
 use Rattle.pg_repair.proofs.Steady.{begin_end_stays}
 use Rattle.pg_intent.specs.declared.key.IntentKey.{IntentKey}
-use Rattle.pg_promises.proofs.Choices.{chosen}
+use Rattle.pg_promises.proofs.Choices.{chosen, decided}
 use Rattle.pg_run.specs.Births.{AllNamed}
 use Rattle.pg_run.proofs.Event.{all_sent, end_of, store_is}
 use Rattle.pg_births.specs.Flags.{SaysMessage, SaysStore}
@@ -44,8 +47,9 @@ use Rattle.pg_births.proofs.Forward.{settle_wish, wish_comes}
 use Rattle.pg_births.proofs.Has.{Has, IsWished}
 use Rattle.pg_births.proofs.Here.{birth_is, birth_of_held}
 use Rattle.pg_births.proofs.Pieces.{Shape, Stays, flag_stays, rules_stay, settle_stays, shape, shape_at, stays_itself, stays_then}
-use Rattle.pg_births.proofs.Received.{fine_call, fine_received}
-use Rattle.pg_births.proofs.Mails.{OfBirths, SaysSent, linking_to}
+use Rattle.pg_births.proofs.FineCalls.{fine_call}
+use Rattle.pg_births.proofs.Received.{fine_received}
+use Rattle.pg_births.proofs.Mails.{OfBirths, Owed, SaysSent, linking_to}
 use Rattle.pg_births.proofs.Saying.{IsSaid}
 use Rattle.pg_births.proofs.Sends.{Sorted, asks_all, asks_some, cells_say}
 use Rattle.pg_births.proofs.StoreSays.{say_begin_end, say_flag, say_rules}
@@ -58,12 +62,14 @@ Known P s (input.Tick moment word) = Unit {0}
 Known P s (input.Arrival packet) = AllNamed P packet.from s packet.message × SaysMessage (OfBirths P) packet.message
 Known P s input.Restart = Unit {0}
 
--- where a message comes to a replica that is not here and not to come, it is gone
+-- where a message comes to a replica that is not here and not to come, it is gone; and so it is behind the leave with which it goes
 abbrev pub Freshly : (FileId → ℕ → Type 0) → Store → Input → Type 0
 Freshly G a (input.Call moment call) = Unit {0}
 Freshly G a (input.Tick moment word) = Unit {0}
-Freshly G a (input.Arrival packet) = (ends : Ends) → linking_to packet.message ≡ Some ends
-    → has_birth a ends.file ends.receiver ≡ false → is_pending a ends.file ends.receiver ≡ false → G ends.file ends.receiver
+Freshly G a (input.Arrival packet) = ((ends : Ends) → linking_to packet.message ≡ Some ends
+    → has_birth a ends.file ends.receiver ≡ false → is_pending a ends.file ends.receiver ≡ false → G ends.file ends.receiver)
+    × (is_heard a packet ≡ true → (x : Ends) (stamp : Stamp) → packet.message ≡ message.LeaveOk x stamp
+    → goes_now a x stamp (new_work 0 packet.from) ≡ true → G x.file x.receiver)
 Freshly G a input.Restart = Unit {0}
 
 wish_birth : (v w : Wish) → ◌≡◌ {A = Option Wish} (Some v) (Some w) → v.birth ≡ w.birth
@@ -122,8 +128,8 @@ module _ (a : Store) (asked : Input) where
       (inr (wish_comes q n (settled First).store (settled First).work (settle_wish q n First.store First.work there))) (inr (inl there))
 
 -- what is said of a server
-pub record IsKnownAt (P : FileId → ℕ → ℕ → Type 0) (s : ℕ) (a : Store) : Type 0 where
-  pub store : SaysStore (OfBirths P) s a
+pub record IsKnownAt (P : FileId → ℕ → ℕ → Type 0) (G : FileId → ℕ → Type 0) (s : ℕ) (a : Store) : Type 0 where
+  pub store : SaysStore (OfBirths P) (Owed P G s) s a
   pub edges : SaysEnds P a
 
 module _ (P : FileId → ℕ → ℕ → Type 0) (G : FileId → ℕ → Type 0) (s : ℕ) where
@@ -133,7 +139,7 @@ module _ (P : FileId → ℕ → ℕ → Type 0) (G : FileId → ℕ → Type 0)
   abbrev Knows : Store → Type 0
   Knows a = (f : FileId) (n : ℕ) → Has a f n → P f s n
 
-  module _ (a : Store) (k : IsKnownAt P s a) (before : Knows a) (sorted : Sorted a) where
+  module _ (a : Store) (k : IsKnownAt P G s a) (before : Knows a) (sorted : Sorted a) where
     start_said : (moment from : ℕ) → IsSaid P Of G s from (idle a (new_work moment from))
     start_said moment from = record { store = k.store; edges = k.edges; sent = All-nil (SaysSent P Of G s); tail = All-nil (SaysSent P Of G s); asker = refl }
 
@@ -189,7 +195,7 @@ module _ (P : FileId → ℕ → ℕ → Type 0) (G : FileId → ℕ → Type 0)
     first_said : (asked : Input) → Knows (effect a asked).store → Known P s asked → Freshly G a asked → Said0 (first_effect a asked)
     first_said (input.Call moment c) behind came new =
         let asked = input.Call moment c in
-        said_from 0 (first_effect a asked) (fine_call P G s 0 a (new_work moment 0) (start_said moment 0) stood c (record {
+        said_from 0 (first_effect a asked) (fine_call P G s 0 a (new_work moment 0) (start_said moment 0) sorted.together stood c (record {
           born = λ f n there. behind f n (inl (born_on a asked f n there));
           fresh = λ f t same none full. behind f (draw_birth a) (wish_on a asked f (draw_birth a) (wished_now f t _ same));
         }))
@@ -198,10 +204,11 @@ module _ (P : FileId → ℕ → ℕ → Type 0) (G : FileId → ℕ → Type 0)
         (ticked moment word) (said_from 0 (idle a (new_work moment 0)) (start_said moment 0))
     first_said (input.Arrival packet) behind came new =
         let w = new_work 0 packet.from in
-        chosen Said0 (is_heard a packet) (receive a packet.message w) (idle a w)
-        (said_from packet.from (receive a packet.message w)
-        (fine_received P G s packet.from a packet.message w came.0 came.1 new (λ f n there. before f n (inl there)) sorted.together (start_said 0 packet.from)))
-        (said_from packet.from (idle a w) (start_said 0 packet.from))
+        decided Said0 (is_heard a packet) (receive a packet.message w) (idle a w)
+        (λ heard. said_from packet.from (receive a packet.message w)
+        (fine_received P G s packet.from a packet.message w came.0 came.1 new.0 (new.1 heard) (λ f n there. before f n (inl there)) sorted.together
+        (start_said 0 packet.from)))
+        (λ no. said_from packet.from (idle a w) (start_said 0 packet.from))
     first_said input.Restart behind came new = record {
       store = record { names = k.store.names; intents = k.store.intents };
       edges = k.edges;
@@ -218,7 +225,7 @@ module _ (P : FileId → ℕ → ℕ → Type 0) (G : FileId → ℕ → Type 0)
 
       -- the rules run and golds are raised: the same is held, and it is said of all flags
       abbrev Settles : Store → Work → Type 0
-      Settles b w = Stays (first_effect a asked).store b × SaysStore Of s b
+      Settles b w = Stays (first_effect a asked).store b × SaysStore Of (Owed P G s) s b
 
       own_given : (b : Store) → Stays (first_effect a asked).store b → (f : FileId) → is_held b f ≡ true → P f s (birth_of b f)
       own_given b stays f held =
@@ -233,21 +240,21 @@ module _ (P : FileId → ℕ → ℕ → Type 0) (G : FileId → ℕ → Type 0)
           let flag = own_next b f true in
           let R : ℕ → Type 0 = λ z. P f z (birth_of b f) in
           let one : Of f flag = subst R (sym h.1.names.server) (own_given b h.0 f (goldless_there b f is)) in
-          (stays_then h.0 (flag_stays b f flag), say_flag Of s b f flag one h.1)
+          (stays_then h.0 (flag_stays b f flag), say_flag Of (Owed P G s) s b f flag one h.1)
 
-      settled_said : SaysStore Of s (settled (first_effect a asked)).store
+      settled_said : SaysStore Of (Owed P G s) s (settled (first_effect a asked)).store
       settled_said =
           let d = first_effect a asked in
-          (settle_keeps Settles (λ b w h. (stays_then h.0 (rules_stay b w), say_rules Of s b w h.1)) raised_said d.store d.work
+          (settle_keeps Settles (λ b w h. (stays_then h.0 (rules_stay b w), say_rules Of (Owed P G s) s b w h.1)) raised_said d.store d.work
           (stays_itself d.store, first_is.store)).1
 
-      end_store : SaysStore Of s (effect a asked).store
+      end_store : SaysStore Of (Owed P G s) s (effect a asked).store
       end_store =
           let d = first_effect a asked in
-          chosen (λ (e : Effect). SaysStore Of s e.store) (takes_effect a asked) (closed (reply_to a asked) d) (finished (reply_to a asked) d)
-          (say_begin_end Of s (settled d).store (settled d).work settled_said) first_is.store
+          chosen (λ (e : Effect). SaysStore Of (Owed P G s) s e.store) (takes_effect a asked) (closed (reply_to a asked) d) (finished (reply_to a asked) d)
+          (say_begin_end Of (Owed P G s) s (settled d).store (settled d).work settled_said) first_is.store
 
-      pub end_known : IsKnownAt P s (effect a asked).store
+      pub end_known : IsKnownAt P G s (effect a asked).store
       end_known = record {
         store = end_store;
         edges = ends_same P (first_effect a asked).store (effect a asked).store (end_shapes a asked) first_is.edges;

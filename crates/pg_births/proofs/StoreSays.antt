@@ -30,10 +30,11 @@ use Rattle.pg_house.specs.Work.{state_of}
 use Rattle.pg_replica.specs.declared.link.Link.{Link}
 use Rattle.pg_store.specs.declared.store.Store.{Store}
 use Rattle.pg_store.specs.declared.wishes.Wish.{Wish}
-use Rattle.pg_store.specs.Beginning.{begin, patches_of, put_new, take_patch, take_patches, take_told, take_told_in, with_intents}
+use Rattle.pg_store.specs.Beginning.{begin, let_go, patches_of, put_new, take_patch, take_patches, take_told, take_told_in, with_intents}
 use Rattle.pg_store.specs.Births.{fill_at, wish_at}
 use Rattle.pg_store.specs.Links.{is_linked, is_new_link, link, put_link, unlink}
 use Rattle.pg_store.specs.Store.{acknowledge, is_held, is_new_version, is_newer_entry, is_newer_flag, is_newer_place, put_entry, put_flag, put_place, put_version, take_entry, take_flag, take_place, take_version, touch, with_names, write}
+use Rattle.pg_store.proofs.Going.{cell_left, own_left}
 use Rattle.pg_cells.specs.Done.{Done, idle}
 use Rattle.pg_cells.specs.Settling.{rules, touch_all}
 use Rattle.pg_repair.specs.Beginning.{begin_end, end_others, still_stands}
@@ -73,8 +74,8 @@ module _ (P : Intent → Type 0) where
   found_has (i ∷ is) k j all there =
       found_by i j (intent_at is k) (has_key k i) (All-head P i is all) (found_has is k j (All-tail P i is all)) there
 
-module _ (Q : FileId → Flag → Type 0) (n : ℕ) where
-  aimed_says : (to : ℕ) (i : Intent) → SaysIntent Q i → SaysIntent Q (aimed_at to i)
+module _ (Q : FileId → Flag → Type 0) (B : FileId → ℕ → ℕ → ℕ → Type 0) (n : ℕ) where
+  aimed_says : (to : ℕ) (i : Intent) → SaysIntent Q B i → SaysIntent Q B (aimed_at to i)
   aimed_says to (intent.Bye file birth peer peer_birth) k = k
   aimed_says to (intent.Seek file target) k = k
   aimed_says to (intent.Fill file birth target) k = k
@@ -87,29 +88,29 @@ module _ (Q : FileId → Flag → Type 0) (n : ℕ) where
       let R : FileId → Type 0 = λ z. All (Q z) f.flags in
       joins_all (Q e.child) f.flags e.flags one (subst R same two)
 
-  rejoined_says : (held i : Intent) → has_key (key_of i) held ≡ true → SaysIntent Q held → SaysIntent Q i → SaysIntent Q (rejoined held i)
+  rejoined_says : (held i : Intent) → has_key (key_of i) held ≡ true → SaysIntent Q B held → SaysIntent Q B i → SaysIntent Q B (rejoined held i)
   rejoined_says (intent.Patch d e t) (intent.Patch to f u) key one two =
       entry_joined e f (is_same_file-true f.child e.child (and_parts (is_same_file to d) (is_same_file f.child e.child) key).1) one two
   rejoined_says held i key one two = one
 
-  begun_by : (is : List Intent) (i : Intent) (t : Bool) → All (SaysIntent Q) is → SaysIntent Q i
-      → All (SaysIntent Q) (cond t (changed (λ held. rejoined held i) is (key_of i)) (is ++ i ∷ []))
+  begun_by : (is : List Intent) (i : Intent) (t : Bool) → All (SaysIntent Q B) is → SaysIntent Q B i
+      → All (SaysIntent Q B) (cond t (changed (λ held. rejoined held i) is (key_of i)) (is ++ i ∷ []))
   begun_by is i true all one =
-      changed_all (SaysIntent Q) (λ held. rejoined held i) (key_of i) (λ held k was. rejoined_says held i k was one) is all
-  begun_by is i false all one = All-push (SaysIntent Q) is i all one
+      changed_all (SaysIntent Q B) (λ held. rejoined held i) (key_of i) (λ held k was. rejoined_says held i k was one) is all
+  begun_by is i false all one = All-push (SaysIntent Q B) is i all one
 
-  pub begun_says : (is : List Intent) (i : Intent) → All (SaysIntent Q) is → SaysIntent Q i → All (SaysIntent Q) (begun is i)
+  pub begun_says : (is : List Intent) (i : Intent) → All (SaysIntent Q B) is → SaysIntent Q B i → All (SaysIntent Q B) (begun is i)
   begun_says is i all one = begun_by is i (stands is (key_of i)) all one
 
   -- ---- a server
 
   abbrev Says : Store → Type 0
-  Says a = SaysStore Q n a
+  Says a = SaysStore Q B n a
 
   pub say_names : (a : Store) (names : NamesValue) → SaysNames Q n names → Says a → Says (with_names a names)
   say_names a names new k = record { names = new; intents = k.intents }
 
-  pub say_intents : (a : Store) (is : List Intent) → All (SaysIntent Q) is → Says a → Says (with_intents a is)
+  pub say_intents : (a : Store) (is : List Intent) → All (SaysIntent Q B) is → Says a → Says (with_intents a is)
   say_intents a is new k = record { names = k.names; intents = new }
 
   pub say_touch : (a : Store) (file : FileId) (q : Key) → Says a → Says (touch a file q)
@@ -161,19 +162,31 @@ module _ (Q : FileId → Flag → Type 0) (n : ℕ) where
   pub say_aimed : (a : Store) (q : IntentKey) (to : ℕ) → Says a → Says (with_intents a (aimed a.intents q to))
   say_aimed a q to k = record {
     names = k.names;
-    intents = changed_all (SaysIntent Q) (aimed_at to) q (λ i t one. aimed_says to i one) a.intents k.intents;
+    intents = changed_all (SaysIntent Q B) (aimed_at to) q (λ i t one. aimed_says to i one) a.intents k.intents;
   }
 
   pub say_ended : (a : Store) (q : IntentKey) → Says a → Says (with_intents a (ended a.intents q))
-  say_ended a q k = record { names = k.names; intents = All-filter (λ i. not (has_key q i)) (SaysIntent Q) a.intents k.intents }
+  say_ended a q k = record { names = k.names; intents = All-filter (λ i. not (has_key q i)) (SaysIntent Q B) a.intents k.intents }
+
+  -- ---- a replica goes
+
+  pub say_let_go : (a : Store) (file : FileId) → Says a → Says (let_go a file)
+  say_let_go a file k = record {
+    names = record {
+      server = k.names.server;
+      own = λ q own there. k.names.own q own (own_left a file q own there);
+      cells = λ dir child e there. k.names.cells dir child e (cell_left a file dir child e there);
+    };
+    intents = k.intents;
+  }
 
   -- ---- a replica begins
 
-  told_says : (a : Store) (dir : FileId) (i : Intent) → SaysIntent Q i → Says a → Says (take_told a dir i)
+  told_says : (a : Store) (dir : FileId) (i : Intent) → SaysIntent Q B i → Says a → Says (take_told a dir i)
   told_says a dir (intent.Patch to e target) one k = say_entry a dir e one k
   told_says a dir i one k = k
 
-  told_in_says : (a : Store) (dir : FileId) (o : Option Intent) → ((i : Intent) → o ≡ Some i → SaysIntent Q i) → Says a
+  told_in_says : (a : Store) (dir : FileId) (o : Option Intent) → ((i : Intent) → o ≡ Some i → SaysIntent Q B i) → Says a
       → Says (take_told_in a dir o)
   told_in_says a dir None one k = k
   told_in_says a dir (Some i) one k = told_says a dir i (one i refl) k
@@ -183,7 +196,7 @@ module _ (Q : FileId → Flag → Type 0) (n : ℕ) where
   patches_say (q ∷ ks) a dir k =
       patches_say ks (take_patch a dir q) dir
       (told_in_says (with_intents a (ended a.intents q)) dir (intent_at a.intents q)
-      (λ i there. found_has (SaysIntent Q) a.intents q i k.intents there) (say_ended a q k))
+      (λ i there. found_has (SaysIntent Q B) a.intents q i k.intents there) (say_ended a q k))
 
   pub say_begin : (a : Store) (file : FileId) (birth : ℕ) (policy : Policy) (own : Own) (full : Bool) → All (Q file) own.flags → Says a
       → Says (begin a file birth policy own full)
@@ -220,7 +233,7 @@ module _ (Q : FileId → Flag → Type 0) (n : ℕ) where
   pub entry_says : (a : Store) (file : FileId) → Says a → SaysEntry Q (own_entry a file)
   entry_says a file k = own_says a file k
 
-  intends_says : (a : Store) (i : Intent) (work : Work) → SaysIntent Q i → Says a → Says (begin_intent a i work).store
+  pub intends_says : (a : Store) (i : Intent) (work : Work) → SaysIntent Q B i → Says a → Says (begin_intent a i work).store
   intends_says a i work one k = say_intents a (begun a.intents i) (begun_says a.intents i k.intents one) k
 
   each_says : {A : Type 0} (step : Store → A → Work → Done) → ((s : Store) (x : A) (w : Work) → Says s → Says (step s x w).store)
@@ -263,7 +276,7 @@ module _ (Q : FileId → Flag → Type 0) (n : ℕ) where
       let a = end_others s files in
       let p = begin_patches a w in
       let q = begin_fills p.store (to_fill s.names) p.work in
-      let one = say_intents s (filter (still_stands s files) s.intents) (All-filter (still_stands s files) (SaysIntent Q) s.intents k.intents) k in
+      let one = say_intents s (filter (still_stands s files) s.intents) (All-filter (still_stands s files) (SaysIntent Q B) s.intents k.intents) k in
       let r = begin_seeks q.store (to_seek s) q.work in
       each_says begin_confirm confirm_says (in_order r.work.unsure) r.store r.work
       (each_says begin_seek seek_says (to_seek s) q.store q.work

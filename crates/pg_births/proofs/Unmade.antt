@@ -1,8 +1,9 @@
 -- Messages, house rules and intentions make no versions.
-use Rattle.std.proofs.Common.{ℕ, zero, suc, ◌≡◌, ◌==◌, ◌-◌, ◌/◌, ◌%◌, ◌&&◌, ◌||◌, Bool, true, false, cond, not, List, [], ◌∷◌, ◌++◌, length, slice_get, Option, None, Some, refl, ap, ◌∙◌}
+use Rattle.std.proofs.Common.{ℕ, ◌≡◌, ◌==◌, ◌-◌, ◌/◌, ◌%◌, ◌&&◌, ◌||◌, Bool, true, false, cond, not, List, [], ◌∷◌, ◌++◌, length, slice_get, Option, None, Some, refl, ap, ◌∙◌}
 use Rattle.std.specs.Prelude.{nat_lt}
 use Rattle.std.proofs.lemmas.List.{append-nil}
 use Rattle.pg_base.specs.declared.id.FileId.{FileId}
+use Rattle.pg_base.specs.declared.stamp.Stamp.{Stamp}
 use Rattle.pg_edges.specs.declared.edge.Edge.{Edge}
 use Rattle.pg_edges.specs.declared.key.Key.{Key}
 use Rattle.pg_edges.specs.declared.key.Key.TheVariants as key
@@ -18,38 +19,38 @@ use Rattle.pg_msg.specs.declared.update.MadeVersion.{MadeVersion}
 use Rattle.pg_msg.specs.declared.update.Update.{Update}
 use Rattle.pg_msg.specs.declared.update.Update.TheVariants as update
 use Rattle.pg_msg.specs.declared.work.Work.{Work}
-use Rattle.pg_msg.specs.Work.{with_left, with_linked, with_made, with_touched, with_unsure}
+use Rattle.pg_intent.specs.declared.intent.Intent.{Intent}
+use Rattle.pg_intent.specs.Intent.{key_of}
+use Rattle.pg_intent.specs.Intents.{stands}
+use Rattle.pg_msg.specs.Work.{with_begun, with_left, with_linked, with_made, with_touched, with_unsure}
 use Rattle.pg_register.specs.declared.flag.Flag.{Flag}
 use Rattle.pg_register.specs.declared.place.Place.{Place}
-use Rattle.pg_register.specs.Place.{root, tilde_name}
-use Rattle.pg_names.specs.Names.{directories, fill as fill_names, own_or_blank}
-use Rattle.pg_house.specs.Work.{State, is_root, note_left}
-use Rattle.pg_house.specs.Cycles.{break_first, first_moving, moved}
-use Rattle.pg_house.specs.House.{house, movable}
-use Rattle.pg_house.specs.Passing.{pass_all}
-use Rattle.pg_house.specs.Placing.{drawn, live_place, made_at, place_at, placed, repeated}
-use Rattle.pg_house.specs.Returning.{first_returning, return_first, returned}
-use Rattle.pg_house.proofs.Made.{all_made, left_made, pass_made}
+use Rattle.pg_names.specs.Names.{fill as fill_names, own_or_blank}
+use Rattle.pg_house.specs.Work.{is_root, note_left}
+use Rattle.pg_house.specs.House.{house}
+use Rattle.pg_house.specs.Placing.{placed}
 use Rattle.pg_replica.specs.declared.replica.Replica.{Replica}
 use Rattle.pg_store.specs.declared.store.Store.{Store}
 use Rattle.pg_store.specs.Births.{birth_of, has_birth, is_pending}
 use Rattle.pg_store.specs.Links.{is_clean, is_new_link, knows_later}
-use Rattle.pg_store.specs.Store.{entry_news, is_full, is_held, is_new_version, is_newer_flag, is_newer_place, replica_at, with_names}
+use Rattle.pg_store.specs.Beginning.{let_go}
+use Rattle.pg_store.specs.Store.{entry_news, is_full, is_held, is_new_version, is_newer_flag, is_newer_place, replica_at, replica_of, with_names}
 use Rattle.pg_cells.specs.declared.accepting.Manner.{Manner}
 use Rattle.pg_cells.specs.declared.accepting.Manner.TheVariants as manner
 use Rattle.pg_cells.specs.Accepting.{accept, is_accepted, is_answer, link_peer, met, with_gone}
 use Rattle.pg_cells.specs.Cells.{cell, fits, taken, taken_along}
 use Rattle.pg_cells.specs.Done.{Done, idle}
 use Rattle.pg_cells.specs.Making.{lower_flag, own_next, raise_flag}
+use Rattle.pg_cells.specs.Intending.{begin_intent}
 use Rattle.pg_cells.specs.Posting.{reply}
-use Rattle.pg_cells.specs.Settling.{settle}
-use Rattle.pg_cells.proofs.Settled.{settle_keeps}
 use Rattle.pg_cells.specs.Taking.{is_any_news, is_place_news, take_entry_cell, take_entry_noted, take_flag_noted, take_flags_noted, take_place_noted, with_left_if, with_news}
 use Rattle.pg_repair.specs.Confirming.{confirm, confirmed, place_is, place_told, take_told_flags, take_told_place}
 use Rattle.pg_repair.specs.Fetching.{answered_fetch, ends_to, fetch, give, given}
-use Rattle.pg_repair.specs.Filling.{few_golds, fill, full, live_golds}
+use Rattle.pg_repair.specs.Filling.{few_golds, fill, full, invite, invited, is_bronze, live_golds, raise_if_few}
 use Rattle.pg_repair.specs.Granting.{begin_granted, begun_by, grant}
+use Rattle.pg_graph.specs.Leaving.{bye_to, gives_leave, leave, leave_given, leave_ok, without_leave}
 use Rattle.pg_graph.specs.Seeking.{answered_seek, seek}
+use Rattle.pg_graph.proofs.LeaveOk.{byes_by, leave_ok_by}
 use Rattle.pg_graph.specs.Seeks.{edges_of}
 use Rattle.pg_repair.specs.Telling.{tell, told}
 use Rattle.pg_graph.specs.Walks.{goes_on, meet_origin, most_hops, onward, walk, walk_along, walk_from, walk_of, walk_of_tick, walk_on, walked, with_few_edges}
@@ -58,6 +59,7 @@ use Rattle.pg_calls.specs.Demoting.{lowered}
 use Rattle.pg_server.specs.Local.{receive}
 use Rattle.pg_promises.proofs.Choices.{chosen}
 use Rattle.pg_run.specs.Journal.{versions_in}
+use Rattle.pg_run.proofs.Bags.{All-every}
 
 -- ---- versions of lists
 
@@ -67,7 +69,7 @@ versions_after (update.Version made ∷ us) vs = ap (λ (l : List MadeVersion). 
 versions_after (update.Place file place ∷ us) vs = versions_after us vs
 versions_after (update.Flag file flag ∷ us) vs = versions_after us vs
 
-name_after : (us : List Update) (u : Update) → versions_in (u ∷ []) ≡ [] → versions_in (us ++ u ∷ []) ≡ versions_in us
+pub name_after : (us : List Update) (u : Update) → versions_in (u ∷ []) ≡ [] → versions_in (us ++ u ∷ []) ≡ versions_in us
 name_after us u none =
     versions_after us (u ∷ []) ∙ ap (λ (l : List MadeVersion). versions_in us ++ l) none ∙ append-nil (versions_in us)
 
@@ -102,7 +104,7 @@ flags_none [] b f w = refl
 flags_none (flag ∷ fs) b f w =
     let d = take_flag_noted b f flag w in flags_none fs d.store f d.work ∙ flag_none b f flag w
 
-entry_none : (b : Store) (d : FileId) (e : Entry) (w : Work) → MakesNone w (take_entry_noted b d e w).work
+pub entry_none : (b : Store) (d : FileId) (e : Entry) (w : Work) → MakesNone w (take_entry_noted b d e w).work
 entry_none b d e w = news_none (is_any_news (entry_news b d e)) w d (key.Entry e.child)
 
 entry_cell_none : (b : Store) (d : FileId) (e : Entry) (sure : Bool) (w : Work) → MakesNone w (take_entry_cell b d e sure w).work
@@ -116,6 +118,13 @@ pub raised_none : (b : Store) (f : FileId) (w : Work) → MakesNone w (raise_fla
 raised_none b f w =
     let flag = own_next b f true in
     flag_none b f flag (with_made w (update.Flag f flag)) ∙ name_after w.made (update.Flag f flag) refl
+
+pub few_none : (b : Store) (f : FileId) (w : Work) → MakesNone w (raise_if_few b f w).work
+few_none b f w =
+    chosen (λ (d : Done). MakesNone w d.work) (nat_lt (live_golds b f) few_golds) (raise_flag b f w) (idle b w) (raised_none b f w) refl
+
+pub filled_none : (b : Store) (f : FileId) (w : Work) → MakesNone w (fill b f w).work
+filled_none b f w = few_none (with_names b (fill_names b.names f)) f w
 
 -- or lowered
 pub lowered_none : (b : Store) (f : FileId) (w : Work) → MakesNone w (lowered b f w).work
@@ -193,12 +202,16 @@ grant_none b ends g w =
 
 full_none : (b : Store) (ends : Ends) (w : Work) → MakesNone w (full b ends w).work
 full_none b ends w =
-    let whole = with_names b (fill_names b.names ends.file) in
     chosen (λ (d : Done). MakesNone w d.work) (is_accepted b w.from manner.Answer ends && not (is_full b ends.file))
-    (fill b ends.file w) (idle b w)
-    (chosen (λ (d : Done). MakesNone w d.work) (nat_lt (live_golds whole ends.file) few_golds)
-    (raise_flag whole ends.file w) (idle whole w) (raised_none whole ends.file w) refl)
-    refl
+    (fill b ends.file w) (idle b w) (filled_none b ends.file w) refl
+
+invite_none : (b : Store) (ends : Ends) (w : Work) → MakesNone w (invite b ends w).work
+invite_none b ends w =
+    let d = accept b ends manner.Ask w in
+    let one = accept_none b ends manner.Ask w in
+    chosen (λ (e : Done). MakesNone w e.work) (is_accepted b w.from manner.Ask ends) (invited ends d) d
+    (chosen (λ (e : Done). MakesNone w e.work) (is_bronze d.store ends.file) (raise_if_few d.store ends.file d.work) d
+    (few_none d.store ends.file d.work ∙ one) one) one
 
 seek_none : (b : Store) (file : FileId) (birth : ℕ) (w : Work) → MakesNone w (seek b file birth w).work
 seek_none b file birth w =
@@ -258,6 +271,28 @@ tell_none b dir e w =
     chosen (λ (d : Done). MakesNone w d.work) (is_held b dir) (told dir e (take_entry_noted b dir e w))
     (idle b (reply b (message.NoneHere ask.Patch dir e.child) w)) (entry_none b dir e w) refl
 
+-- ---- a replica that goes
+
+pub begun_none : (s : Store) (i : Intent) (w : Work) → MakesNone w (begin_intent s i w).work
+begun_none s i w = chosen (MakesNone w) (not (stands s.intents (key_of i))) (with_begun w (key_of i)) w refl refl
+
+leave_none : (b : Store) (ends : Ends) (stamp : Stamp) (w : Work) → MakesNone w (leave b ends stamp w).work
+leave_none b ends stamp w =
+    let linked = accept b ends manner.Link w in
+    let one = accept_none b ends manner.Link w in
+    chosen (λ (d : Done). MakesNone w d.work) (is_accepted b w.from manner.Link ends) (leave_given ends stamp linked) linked
+    (chosen (MakesNone w) (gives_leave linked.store ends.file stamp)
+    (reply linked.store (message.LeaveOk (ends_to linked.store ends.file ends.sender) stamp) linked.work) linked.work one one) one
+
+leave_ok_none : (b : Store) (ends : Ends) (stamp : Stamp) (w : Work) → MakesNone w (leave_ok b ends stamp w).work
+leave_ok_none b ends stamp w =
+    let left = without_leave b ends.file in
+    let birth = birth_of left ends.file in
+    leave_ok_by (λ (d : Done). MakesNone w d.work) b ends stamp w refl (λ answered. refl)
+    (λ may. byes_by (λ (d : Done). MakesNone w d.work) (λ (e : Edge). Unit {0}) ends.file birth
+    (λ d e one k. begun_none d.store (bye_to ends.file birth e) d.work ∙ k) (replica_of left ends.file).edges
+    (All-every (λ (e : Edge). Unit {0}) (replica_of left ends.file).edges (λ e. tt)) (idle (let_go left ends.file) w) refl)
+
 -- NO MESSAGE makes a version
 pub received_none : (b : Store) (m : Message) (w : Work) → MakesNone w (receive b m w).work
 received_none b (message.Cell ends tag c) w = cell_none b ends tag c w
@@ -268,48 +303,10 @@ received_none b (message.Seek file birth) w = seek_none b file birth w
 received_none b (message.Here ends) w = accept_none b ends manner.Link w
 received_none b (message.Walk ends origin birth hops word) w = walk_none b ends origin birth hops word w
 received_none b (message.Meet ends) w = accept_none b ends manner.Link w
+received_none b (message.Leave ends stamp) w = leave_none b ends stamp w
+received_none b (message.LeaveOk ends stamp) w = leave_ok_none b ends stamp w
 received_none b (message.Confirm dir e) w = confirm_none b dir e w
 received_none b (message.PlaceIs dir e) w = place_is_none b dir e w
 received_none b (message.Tell dir e) w = tell_none b dir e w
+received_none b (message.Invite ends) w = invite_none b ends w
 received_none b m w = refl
-
--- ---- house rules
-
-module _ (moment : ℕ) (ds : List FileId) where
-  abbrev Follows : State → State → Type 0
-  Follows a b = MakesNone a.work b.work
-
-  rule_none : (st : State) (f p : FileId) (name : List ℕ) → Follows st (placed moment ds st f p name)
-  rule_none st f p name =
-      let place = live_place (drawn moment st.names) p name in
-      let work = with_touched (with_made st.work (update.Place f place)) f key.Place in
-      ap versions_in (pass_made (made_at st f place) ds f ∙ left_made work f (place_at st.names f))
-      ∙ name_after st.work.made (update.Place f place) refl
-
-  returned_none : (st : State) (o : Option FileId) → Follows st (returned moment ds st o)
-  returned_none st None = refl
-  returned_none st (Some d) = rule_none st d (place_at st.names d).parent (place_at st.names d).name
-
-  moved_none : (st : State) (o : Option FileId) → Follows st (moved moment ds st o)
-  moved_none st None = refl
-  moved_none st (Some d) = rule_none st d root (tilde_name d)
-
-  repeated_none : (step : State → State) → ((st : State) → Follows st (step st)) → (n : ℕ) (st : State)
-      → Follows st (repeated n step st)
-  repeated_none step each zero st = refl
-  repeated_none step each (suc n) st = repeated_none step each n (step st) ∙ each st
-
-pub house_none : (moment : ℕ) (st : State) → MakesNone st.work (house moment st).work
-house_none moment st =
-    let ds = directories st.names in
-    let one = pass_all st ds (movable st.names) in
-    let two = repeated (length ds) (return_first moment ds) one in
-    repeated_none moment ds (break_first moment ds) (λ t. moved_none moment ds t (first_moving t.names (length ds) None ds)) (length ds) two
-    ∙ repeated_none moment ds (return_first moment ds) (λ t. returned_none moment ds t (first_returning t.names ds)) (length ds) one
-    ∙ ap versions_in (all_made st ds (movable st.names))
-
--- and no flag that is raised behind them does
-pub settle_none : (b : Store) (w : Work) → MakesNone w (settle b w).work
-settle_none b w =
-    settle_keeps (λ (c : Store) (v : Work). MakesNone w v) (λ c v h. house_none v.now (record { names = c.names; work = v }) ∙ h)
-    (λ c f v is h. raised_none c f v ∙ h) b w refl

@@ -65,7 +65,7 @@ module _ (P : FileId → ℕ → ℕ → Type 0) (Q : FileId → Flag → Type 0
   got : {A : Type 0} (R : A → Type 0) (xs : List A) (i : ℕ) (x : A) → All R xs → slice_get xs i ≡ Some x → R x
   got R xs i x all there = subst R (get_or_from_slice_get xs i x x there) (all i x (slice_get_within xs i x there))
 
-  edges_named : (a : Store) (f : FileId) (o : Option Replica) → replica_at a f ≡ o → SaysEnds P a
+  pub edges_named : (a : Store) (f : FileId) (o : Option Replica) → replica_at a f ≡ o → SaysEnds P a
       → All (λ (e : Edge). P f e.peer e.birth) (or_nothing o).edges
   edges_named a f None there ends_said = All-nil (λ (e : Edge). P f e.peer e.birth)
   edges_named a f (Some x) there ends_said = edges_all P f x.edges (ends_said f x.birth (ends x.edges) (ap (option_map shape) there))

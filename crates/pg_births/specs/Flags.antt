@@ -28,18 +28,26 @@ pub record SaysNames (Q : FileId → Flag → Type 0) (s : ℕ) (names : NamesVa
   pub cells : (dir child : FileId) (e : Entry) → cell_at names dir child ≡ Some e
       → (e.child ≡ child) × All (Q child) e.flags
 
--- and of those that are to be told. No replica leaves yet
-abbrev pub SaysIntent : OfFlags → Intent → Type 0
-SaysIntent Q (intent.Bye file birth peer peer_birth) = ⊥
-SaysIntent Q (intent.Seek file target) = Unit {0}
-SaysIntent Q (intent.Fill file birth target) = Unit {0}
-SaysIntent Q (intent.Patch dir e target) = SaysEntry Q e
-SaysIntent Q (intent.Confirm dir child target) = Unit {0}
-SaysIntent Q (intent.Leave file peer peer_birth) = ⊥
+-- a property of Byes: of the thing, the birth that is over, and the peer with its birth
+abbrev pub OfByes : Type 1
+OfByes = FileId → ℕ → ℕ → ℕ → Type 0
 
-pub record SaysStore (Q : FileId → Flag → Type 0) (s : ℕ) (a : Store) : Type 0 where
+abbrev pub AnyBye : OfByes
+AnyBye file birth peer peer_birth = Unit {0}
+
+-- and of those that are to be told; and it holds of each Bye
+abbrev pub SaysIntent : OfFlags → OfByes → Intent → Type 0
+SaysIntent Q B (intent.Bye file birth peer peer_birth) = B file birth peer peer_birth
+SaysIntent Q B (intent.Seek file target) = Unit {0}
+SaysIntent Q B (intent.Fill file birth target) = Unit {0}
+SaysIntent Q B (intent.Patch dir e target) = SaysEntry Q e
+SaysIntent Q B (intent.Confirm dir child target) = Unit {0}
+SaysIntent Q B (intent.Leave file peer peer_birth) = Unit {0}
+
+pub record SaysStore (Q : FileId → Flag → Type 0) (B : FileId → ℕ → ℕ → ℕ → Type 0) (s : ℕ)
+    (a : Store) : Type 0 where
   pub names : SaysNames Q s a.names
-  pub intents : All (SaysIntent Q) a.intents
+  pub intents : All (SaysIntent Q B) a.intents
 
 -- and of those that a message brings
 abbrev pub SaysCell : OfFlags → FileId → Cell → Type 0

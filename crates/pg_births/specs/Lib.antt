@@ -1,3 +1,2 @@
 pub mod Premises
 pub mod Flags
-pub mod Laws

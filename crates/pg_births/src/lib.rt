@@ -3,4 +3,7 @@
 
 mod laws;
 
-pub use laws::{births_are_alone, births_are_known, edges_follow_births, gone_stays_gone};
+pub use laws::{
+    births_are_alone, births_are_known, births_move_on, edges_follow_births, events_of_leaving,
+    gone_stays_gone,
+};

@@ -25,7 +25,7 @@ use Rattle.pg_calls.proofs.Checked.{behind}
 
 -- ---- checks
 
-time_by : {A : Type 0} (b : Bool) (x y : A) → unless (not b) ClockEnd x ≡ Ok y → b ≡ true
+pub time_by : {A : Type 0} (b : Bool) (x y : A) → unless (not b) ClockEnd x ≡ Ok y → b ≡ true
 time_by true x y h = refl
 time_by false x y h = cc
 

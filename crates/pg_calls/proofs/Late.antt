@@ -22,6 +22,9 @@ use Rattle.pg_calls.specs.Answer.{Answer, answered, unless}
 use Rattle.pg_calls.specs.Bodies.{change_file}
 use Rattle.pg_calls.specs.Checks.{dir_at, empty_dir_at, file_at, first_child, in_time, move_along, move_of, new_name, target_at, thing_at, unless_child}
 use Rattle.pg_calls.specs.Demoting.{demoted_at, unless_last, unless_root}
+use Rattle.pg_calls.specs.Dropping.{dropped_at, unless_kept}
+use Rattle.pg_calls.specs.Forgetting.{lost_at, unless_full}
+use Rattle.pg_calls.specs.GivingUp.{removal_at}
 use Rattle.pg_calls.specs.Naming.{next_id}
 use Rattle.pg_calls.specs.Paths.{new_path_of, path_of, paths_of}
 use Rattle.pg_calls.specs.Refused.{LateDoesNothing}
@@ -69,6 +72,11 @@ module _ (store : Store) (late : is_in_time store ≡ false) where
       refused_then (and_then (target_at store t) unless_root) (unless_last store)
       (refused_then (target_at store t) unless_root (target_refused t))
 
+  dropped_refused : (t : Target) → IsRefused (dropped_at store t)
+  dropped_refused t =
+      refused_then (and_then (target_at store t) unless_root) (unless_kept store)
+      (refused_then (target_at store t) unless_root (target_refused t))
+
   name_refused : (child : FileId) (text : List ℕ) → IsRefused (new_name store child text)
   name_refused child text =
       refused_then (and_then (new_path_of text) (in_time store)) _
@@ -84,6 +92,14 @@ module _ (store : Store) (late : is_in_time store ≡ false) where
       refused_then (and_then (dir_at store text) (λ dir. unless (is_root dir) Root dir))
       (λ dir. unless_child dir (first_child dir (known store.names dir)))
       (refused_then (dir_at store text) (λ dir. unless (is_root dir) Root dir) (dir_refused text))
+
+  lost_refused : (id : FileId) → IsRefused (lost_at store id)
+  lost_refused id =
+      refused_then (and_then (in_time store id) unless_root) (unless_full store)
+      (refused_then (in_time store id) unless_root (time_refused id))
+
+  removal_refused : (view server : ℕ) → IsRefused (removal_at store view server)
+  removal_refused view server = refused_then (in_time store (tt {0})) _ (time_refused (tt {0}))
 
 -- ---- each call
 
@@ -113,13 +129,11 @@ late_does_nothing store (call.Rename from to) work late =
 late_does_nothing store (call.Unlink path) work late = idle_by store work (file_at store path) _ (file_refused store late path)
 late_does_nothing store (call.Rmdir path) work late =
     idle_by store work (empty_dir_at store path) _ (empty_refused store late path)
-late_does_nothing store (call.Forget id) work late =
-    idle_by store work (in_time store (tt {0})) _ (time_refused store late (tt {0}))
+late_does_nothing store (call.Forget id) work late = idle_by store work (lost_at store id) _ (lost_refused store late id)
 late_does_nothing store (call.Demote t) work late = idle_by store work (demoted_at store t) _ (demoted_refused store late t)
-late_does_nothing store (call.Drop t) work late =
-    idle_by store work (in_time store (tt {0})) _ (time_refused store late (tt {0}))
+late_does_nothing store (call.Drop t) work late = idle_by store work (dropped_at store t) _ (dropped_refused store late t)
 late_does_nothing store (call.Giveup view server) work late =
-    idle_by store work (in_time store (tt {0})) _ (time_refused store late (tt {0}))
+    idle_by store work (removal_at store view server) _ (removal_refused store late view server)
 late_does_nothing store call.Status work late =
     idle_by store work (in_time store (tt {0})) _ (time_refused store late (tt {0}))
 late_does_nothing store call.Stop work late =

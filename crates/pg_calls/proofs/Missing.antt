@@ -1,10 +1,14 @@
 -- A call that comes to what is not here yet came to what is not held and full.
 use Rattle.std.proofs.Common.{ℕ, ◌≡◌, ◌+◌, ◌-◌, ◌&&◌, ◌||◌, not, Bool, true, false, if◌then◌else◌, List, [], ◌∷◌, Option, None, Some, Ok, Err, length, take, refl}
+use Rattle.std.specs.List.{find}
+use Rattle.std.specs.Option.{option_map, option_or}
 use Rattle.pg_base.specs.declared.id.FileId.{FileId}
+use Rattle.pg_intent.specs.Intent.{is_about}
 use Rattle.pg_register.specs.Place.{root}
 use Rattle.pg_call.specs.declared.call.Target.{Target}
 use Rattle.pg_call.specs.declared.call.Target.TheVariants as target
-use Rattle.pg_call.specs.declared.refusal.Refusal.TheVariants.{DirFull, Exists, IsDir, LastGold, Loop, NotDir, Root}
+use Rattle.pg_call.specs.declared.refusal.Refusal.{Refusal}
+use Rattle.pg_call.specs.declared.refusal.Refusal.TheVariants.{DirFull, Exists, HasChild, Held, IsDir, LastGold, Loop, NotDir, Root, WrongView}
 use Rattle.pg_names.specs.Names.{NamesValue, is_dir, is_full, known}
 use Rattle.pg_house.specs.Returning.{is_root}
 use Rattle.pg_walk.specs.declared.paths.Found.{Found}
@@ -13,13 +17,20 @@ use Rattle.pg_walk.specs.declared.paths.Way.TheVariants as way
 use Rattle.pg_walk.specs.Chain.{is_above}
 use Rattle.pg_walk.specs.Walk.{and_then, has_more, has_no_room, led_to, look_in, look_up, reach, reach_parent, reached, refused, shown_by, start, walk, walk_from}
 use Rattle.pg_store.specs.declared.store.Store.{Store}
+use Rattle.pg_store.specs.Servers.{view_of}
+use Rattle.pg_store.specs.Store.{replica_of}
+use Rattle.pg_cells.specs.Golds.{is_gold}
+use Rattle.pg_cells.specs.Parting.{by_edge, by_intent, first_child as first_inside, has_child, if_gold, is_unclean, stays_for, unsettled_by}
 use Rattle.pg_calls.specs.declared.checks.NewName.{NewName}
 use Rattle.pg_calls.specs.declared.paths.Paths.{Paths}
 use Rattle.pg_calls.specs.Answer.{unless}
 use Rattle.pg_calls.specs.Checks.{dir_at, empty_dir_at, file_at, first_child, in_time, move_along, move_of, move_to, new_name, new_name_in, target_at, thing_at, unless_child, unless_shown, when_free}
 use Rattle.pg_calls.specs.Demoting.{demoted_at, has_clean_gold, unless_last, unless_root}
+use Rattle.pg_calls.specs.Dropping.{dropped_at, refused_for, unless_kept}
+use Rattle.pg_calls.specs.Forgetting.{lost_at, unless_full}
+use Rattle.pg_calls.specs.GivingUp.{may_give_up, removal_at}
 use Rattle.pg_calls.specs.Paths.{is_none, last_of, new_path_of, path_of, paths_of}
-use Rattle.pg_calls.proofs.Stopping.{StopsAt, stops_new_path, stops_path, stops_paths, stops_then, stops_time, stops_unless}
+use Rattle.pg_calls.proofs.Stopping.{StopsAt, is_not_yet, stops_new_path, stops_path, stops_paths, stops_then, stops_time, stops_unless}
 
 -- it is not held, or filling
 abbrev pub IsMissing : NamesValue → Found → Type 0
@@ -61,6 +72,25 @@ reach_missing names needs parts =
     stops_then (IsMissing names) (walk names needs parts) (reached names) (walk_missing names start 1 needs parts)
     (reached_missing names)
 
+-- ---- reasons
+
+-- it is not that a thing is not here yet
+abbrev IsNoMiss : Option Refusal → Type 0
+IsNoMiss None = Unit {0}
+IsNoMiss (Some why) = is_not_yet why ≡ false
+
+first_no_miss : (o p : Option Refusal) → IsNoMiss o → IsNoMiss p → IsNoMiss (option_or o p)
+first_no_miss None p h k = k
+first_no_miss (Some why) p h k = h
+
+mapped_no_miss : {A : Type 0} (f : A → Refusal) → ((x : A) → is_not_yet (f x) ≡ false) → (o : Option A) → IsNoMiss (option_map f o)
+mapped_no_miss f never None = tt
+mapped_no_miss f never (Some x) = never x
+
+gold_no_miss : (t : Bool) → IsNoMiss (if_gold t)
+gold_no_miss true = refl
+gold_no_miss false = tt
+
 -- ---- checks
 
 module _ (store : Store) where
@@ -91,6 +121,40 @@ module _ (store : Store) where
       (stops_then (IsMissing store.names) (target_at store t) unless_root (target_missing t)
       (λ f. stops_unless (IsMissing store.names) (is_root f) Root f refl))
       (λ f. stops_unless (IsMissing store.names) (not (has_clean_gold store f)) LastGold f refl)
+
+  pub lost_missing : (id : FileId) → StopsAt (IsMissing store.names) (lost_at store id)
+  lost_missing id =
+      stops_then (IsMissing store.names) (and_then (in_time store id) unless_root) (unless_full store)
+      (stops_then (IsMissing store.names) (in_time store id) unless_root (stops_time (IsMissing store.names) store id)
+      (λ f. stops_unless (IsMissing store.names) (is_root f) Root f refl))
+      (λ f. stops_unless (IsMissing store.names) (is_full store.names f) Held f refl)
+
+  pub removal_missing : (view server : ℕ) → StopsAt (IsMissing store.names) (removal_at store view server)
+  removal_missing view server =
+      stops_then (IsMissing store.names) (in_time store (tt {0})) _ (stops_time (IsMissing store.names) store (tt {0}))
+      (λ found. stops_unless (IsMissing store.names) (not (may_give_up store view server)) (WrongView (view_of store)) (tt {0}) refl)
+
+  -- what keeps a replica is never that it is not here yet
+  kept_missing : (f : FileId) (o : Option Refusal) → IsNoMiss o → StopsAt (IsMissing store.names) (refused_for f o)
+  kept_missing f None h = tt
+  kept_missing f (Some why) h = h
+
+  stays_here : (f : FileId) → IsNoMiss (stays_for store f)
+  stays_here f =
+      first_no_miss (if_gold (is_gold store f)) (option_or (has_child store f) (unsettled_by store f)) (gold_no_miss (is_gold store f))
+      (first_no_miss (has_child store f) (unsettled_by store f)
+      (mapped_no_miss (λ child. HasChild child) (λ child. refl) (first_inside store.names f))
+      (first_no_miss (option_map (by_intent f) (find (is_about f) store.intents))
+      (option_map (by_edge f) (find is_unclean (replica_of store f).edges))
+      (mapped_no_miss (by_intent f) (λ i. refl) (find (is_about f) store.intents))
+      (mapped_no_miss (by_edge f) (λ e. refl) (find is_unclean (replica_of store f).edges))))
+
+  pub dropped_missing : (t : Target) → StopsAt (IsMissing store.names) (dropped_at store t)
+  dropped_missing t =
+      stops_then (IsMissing store.names) (and_then (target_at store t) unless_root) (unless_kept store)
+      (stops_then (IsMissing store.names) (target_at store t) unless_root (target_missing t)
+      (λ f. stops_unless (IsMissing store.names) (is_root f) Root f refl))
+      (λ f. kept_missing f (stays_for store f) (stays_here f))
 
   -- ---- new names
 

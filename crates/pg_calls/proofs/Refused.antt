@@ -4,6 +4,7 @@ use Rattle.std.proofs.lemmas.Bool.{false≢true}
 use Rattle.pg_base.specs.declared.id.FileId.{FileId}
 use Rattle.pg_base.specs.declared.id.Kind.TheVariants.{Dir, File}
 use Rattle.pg_patch.specs.Ranges.{RangesValue, cut_to, written}
+use Rattle.pg_register.specs.declared.flag.Flag.{Flag}
 use Rattle.pg_replica.specs.Replica.{has_many_actors, is_too_long}
 use Rattle.pg_msg.specs.declared.message.Message.TheVariants.{Fetch}
 use Rattle.pg_msg.specs.declared.work.Work.{Work}
@@ -28,9 +29,12 @@ use Rattle.pg_calls.specs.Asking.{ask_by, ask_first, fetch, fresh_wish, holder, 
 use Rattle.pg_calls.specs.Bodies.{change, change_file, when_fit}
 use Rattle.pg_calls.specs.Checks.{dir_at, empty_dir_at, file_at, in_time, move_of, new_name, target_at}
 use Rattle.pg_calls.specs.Demoting.{demoted_at}
+use Rattle.pg_calls.specs.Dropping.{clean_gold, dropped_at, leaving}
+use Rattle.pg_calls.specs.Forgetting.{lost_at}
+use Rattle.pg_calls.specs.GivingUp.{removal_at}
 use Rattle.pg_calls.specs.Naming.{next_id}
 use Rattle.pg_calls.specs.Refused.{OnlyAsks, RefusedOnlyAsks, SendsFetch}
-use Rattle.pg_calls.proofs.Missing.{IsMissing, demoted_missing, dir_missing, empty_missing, file_missing, move_missing, name_missing, target_missing}
+use Rattle.pg_calls.proofs.Missing.{IsMissing, demoted_missing, dir_missing, dropped_missing, empty_missing, file_missing, lost_missing, move_missing, name_missing, removal_missing, target_missing}
 use Rattle.pg_calls.proofs.Stopping.{StopsAt, is_not_yet, stops_then, stops_time, stops_unless}
 
 -- ---- what is asked for
@@ -113,6 +117,11 @@ is_refusal _ = false
 no_refusal : (r : Reply) (why : Refusal) → r ≡ reply.Refused why → is_refusal r ≡ false → ⊥
 no_refusal r why h e = false≢true (sym e ∙ ap is_refusal h)
 
+-- who goes is told so
+leaving_told : (store : Store) (file : FileId) (work : Work) (o : Option Flag) → is_refusal (leaving store file work o).reply ≡ false
+leaving_told store file work None = refl
+leaving_told store file work (Some flag) = refl
+
 -- ---- each call
 
 module _ (store : Store) (work : Work) (why : Refusal) where
@@ -164,11 +173,15 @@ refused_only_asks store (call.Unlink path) work why =
     passes store work why (file_at store path) _ (file_missing store path) (λ x h. absurd (no_refusal _ why h refl))
 refused_only_asks store (call.Rmdir path) work why =
     passes store work why (empty_dir_at store path) _ (empty_missing store path) (λ x h. absurd (no_refusal _ why h refl))
-refused_only_asks store (call.Forget id) work why = stops store work why
+refused_only_asks store (call.Forget id) work why =
+    passes store work why (lost_at store id) _ (lost_missing store id) (λ x h. absurd (no_refusal _ why h refl))
 refused_only_asks store (call.Demote target) work why =
     passes store work why (demoted_at store target) _ (demoted_missing store target) (λ x h. absurd (no_refusal _ why h refl))
-refused_only_asks store (call.Drop target) work why = stops store work why
-refused_only_asks store (call.Giveup view server) work why = stops store work why
+refused_only_asks store (call.Drop target) work why =
+    passes store work why (dropped_at store target) _ (dropped_missing store target)
+    (λ x h. absurd (no_refusal _ why h (leaving_told store x work (clean_gold store x))))
+refused_only_asks store (call.Giveup view server) work why =
+    passes store work why (removal_at store view server) _ (removal_missing store view server) (λ x h. absurd (no_refusal _ why h refl))
 refused_only_asks store call.Status work why =
     looks store work why (in_time store (tt {0})) _ (timed store work why) (λ x h. no_refusal _ why h refl)
 refused_only_asks store call.Stop work why = stops store work why

@@ -7,5 +7,8 @@ pub mod Naming
 pub mod Bodies
 pub mod Looks
 pub mod Demoting
+pub mod Dropping
+pub mod Forgetting
+pub mod GivingUp
 pub mod Calls
 pub mod Refused

@@ -170,7 +170,7 @@ fn latest_dir(names: &Names, file: FileId) -> Option<FileId>
 }
 
 /// Whether a directory's entry for a thing has a later place than the one in the first, or that has none.
-fn is_later(names: &Names, file: FileId, first: Option<FileId>, dir: &FileId) -> bool
+pub(crate) fn is_later(names: &Names, file: FileId, first: Option<FileId>, dir: &FileId) -> bool
     ensures { result
         ≡ is_later (cell_in names.now file first) (cell_at names.now dir.now file) }
 {

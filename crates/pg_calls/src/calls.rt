@@ -1,10 +1,13 @@
 //! What a server does where a client calls it.
 
 ghost use Rattle.std.specs.Prelude.{◌≡◌, IfOk, OnOk};
-ghost use Rattle.pg_calls.specs.Calls.{do_call, is_built};
+ghost use Rattle.pg_calls.specs.Calls.{do_call};
 
 use crate::bodies::{cut, read, write};
 use crate::demoting::demote;
+use crate::dropping::drop;
+use crate::forgetting::forget;
+use crate::giving_up::giveup;
 use crate::looks::{fresh, ls, stat, status, stop};
 use crate::naming::{create, mkdir, rename, rmdir, unlink};
 use pg_call::{Call, Reply};
@@ -12,31 +15,8 @@ use pg_msg::Work;
 use pg_store::Store;
 use std::alloc::AllocError;
 
-/// Whether the call is built.
-pub fn is_built(call: &Call) -> bool
-    ensures { result ≡ is_built call.now }
-{
-    match call {
-        Call::Mkdir { .. }
-        | Call::Create { .. }
-        | Call::Write { .. }
-        | Call::Cut { .. }
-        | Call::Read { .. }
-        | Call::Fresh { .. }
-        | Call::Ls { .. }
-        | Call::Stat { .. }
-        | Call::Rename { .. }
-        | Call::Unlink { .. }
-        | Call::Rmdir { .. }
-        | Call::Demote { .. }
-        | Call::Status
-        | Call::Stop => true,
-        Call::Forget { .. } | Call::Drop { .. } | Call::Giveup { .. } => false,
-    }
-}
-
-/// A client calls the server. A call that is refused changes nothing, but that what is not here yet is asked for; nor does
-/// one that is not built. Where memory ran out a part may be done.
+/// A client calls the server. A call that is refused changes nothing, but that what is not here yet is asked for. Where
+/// memory ran out a part may be done.
 pub fn do_call(store: &mut Store, call: &Call, work: &mut Work) -> Result<Reply, AllocError>
     ensures store { OnOk result (store.new ≡ (do_call store.old call.now work.old).store) }
     ensures work { OnOk result (work.new ≡ (do_call store.old call.now work.old).work) }
@@ -63,9 +43,10 @@ pub fn do_call(store: &mut Store, call: &Call, work: &mut Work) -> Result<Reply,
         Call::Unlink { path } => unlink(store, path.as_slice(), work)?,
         Call::Rmdir { path } => rmdir(store, path.as_slice(), work)?,
         Call::Demote { target } => demote(store, target, work)?,
+        Call::Drop { target } => drop(store, target, work)?,
         Call::Status => status(store, work)?,
-        Call::Forget { .. } | Call::Drop { .. } | Call::Giveup { .. } | Call::Stop => {
-            stop(store, work)?
-        }
+        Call::Forget { id } => forget(store, *id, work)?,
+        Call::Giveup { view, server } => giveup(store, *view, *server, work)?,
+        Call::Stop => stop(store, work)?,
     })
 }

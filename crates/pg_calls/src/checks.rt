@@ -1,7 +1,6 @@
 //! What a call is about, and why it is refused before anything is done.
 
 ghost use Rattle.std.specs.Prelude.{◌≡◌, IfOk};
-ghost use Rattle.pg_house.specs.Returning.{is_root};
 ghost use Rattle.pg_names.specs.Names.{known};
 ghost use Rattle.pg_calls.specs.Answer.{Tells};
 ghost use Rattle.pg_calls.specs.Checks.{dir_at, empty_dir_at, file_at, first_child, first_row, id_at, in_time, move_along, move_of, move_to, new_name, new_name_in, target_at, thing_at, when_free};
@@ -10,6 +9,7 @@ use crate::denied::Denied;
 use crate::paths::{Paths, last_of, new_path_of, path_of, paths_of};
 use pg_base::{FileId, SharedBytes};
 use pg_call::{Refusal, Target};
+use pg_house::is_root;
 use pg_names::{Names, is_dir};
 use pg_path::{Path, Row};
 use pg_store::Store;
@@ -154,12 +154,6 @@ fn move_to(names: &Names, thing: FileId, path: &Path, dir: FileId) -> Result<Mov
         return Err(Denied::refused(Refusal::Loop));
     }
     Ok(Move { thing, to })
-}
-
-pub(crate) fn is_root(file: &FileId) -> bool
-    ensures { result ≡ is_root file.now }
-{
-    file.compare(&ROOT).is_eq()
 }
 
 /// A directory other than the root, which shows no name.

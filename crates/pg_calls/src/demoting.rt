@@ -5,18 +5,19 @@ ghost use Rattle.pg_calls.specs.Answer.{Tells};
 ghost use Rattle.pg_calls.specs.Demoting.{demote, demoted_at, has_clean_gold, is_clean_gold, lowered, unless_last, unless_root};
 
 use crate::asking::deny;
-use crate::checks::{is_root, target_at};
+use crate::checks::target_at;
 use crate::denied::Denied;
 use pg_base::FileId;
 use pg_call::{Refusal, Reply, Target};
 use pg_cells::{is_gold, lower_flag};
+use pg_house::is_root;
 use pg_msg::Work;
 use pg_register::Flag;
 use pg_store::Store;
 use std::alloc::AllocError;
 
 /// Whether this is the flag of a live gold replica to which there is an edge with nothing unacknowledged.
-fn is_clean_gold(store: &Store, file: &FileId, flag: &Flag) -> bool
+pub(crate) fn is_clean_gold(store: &Store, file: &FileId, flag: &Flag) -> bool
     ensures { result ≡ is_clean_gold store.now file.now flag.now }
 {
     flag.raised
@@ -38,7 +39,7 @@ fn has_clean_gold(store: &Store, file: &FileId) -> bool
     }
 }
 
-fn unless_root(file: FileId) -> Result<FileId, Denied>
+pub(crate) fn unless_root(file: FileId) -> Result<FileId, Denied>
     ensures { Tells result (unless_root file) }
 {
     if is_root(&file) {

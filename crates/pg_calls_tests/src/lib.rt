@@ -10,4 +10,6 @@ mod checks;
 #[cfg(test)]
 mod demoting;
 #[cfg(test)]
+mod losing;
+#[cfg(test)]
 mod servers;

@@ -51,7 +51,12 @@ pub(crate) fn cell(
 }
 
 /// A directory shows the thing by this name.
-fn show(store: &mut Store, thing: FileId, parent: FileId, name: &[u8]) -> Result<(), AllocError> {
+pub(crate) fn show(
+    store: &mut Store,
+    thing: FileId,
+    parent: FileId,
+    name: &[u8],
+) -> Result<(), AllocError> {
     let cell = cell(store.allocator(), thing, parent, name)?;
     store.take_entry(parent, cell)?;
     Ok(())
@@ -106,6 +111,13 @@ pub(crate) fn asked(store: &mut Store, line: &[u8]) -> Result<Option<(NodeId, u6
         },
         _ => None,
     })
+}
+
+/// How many cells are doubted where a client calls the server with these words.
+pub(crate) fn doubted(store: &mut Store, line: &[u8]) -> Result<usize, Fail> {
+    let mut work = Work::new(store.allocator(), 50, 0);
+    called(store, line, &mut work)?;
+    Ok(work.unsure.len())
 }
 
 fn called(store: &mut Store, line: &[u8], work: &mut Work) -> Result<Reply, Fail> {

@@ -11,6 +11,7 @@ pub mod Ticks
 pub mod Golds
 pub mod Finish
 pub mod Settling
+pub mod Parting
 pub mod Raised
 pub mod Counts
 pub mod Choice

@@ -12,6 +12,7 @@ mod golds;
 mod intending;
 mod laws;
 mod making;
+mod parting;
 mod posting;
 mod sending;
 mod settling;
@@ -30,6 +31,7 @@ pub use laws::{
     settled_stores_stay,
 };
 pub use making::{lower_flag, raise_flag};
+pub use parting::stays_for;
 pub use posting::{post, send};
 pub use settling::settle;
 pub use taking::{take_entry, take_flag, take_flags, take_place};

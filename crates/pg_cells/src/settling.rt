@@ -9,11 +9,8 @@ use crate::making::raise_flag;
 use pg_base::FileId;
 use pg_house::house;
 use pg_msg::{Touched, Work};
-use pg_store::Store;
+use pg_store::{LATEST_TIME, Store};
 use std::alloc::AllocError;
-
-/// From a greatest time behind this no house rule draws a stamp: memory ends before.
-const LATEST_TIME: u64 = (1 << 62) + (1 << 40);
 
 /// Touches each of these keys, in their order.
 fn touch_all(store: &mut Store, touched: &[Touched]) -> Result<(), AllocError>

@@ -9,7 +9,8 @@ use pg_msg::{Ends, Granted, Work};
 use pg_names::Own;
 use pg_register::{GoldFlags, Place};
 use pg_repair::{
-    ask_all, ask_begun, begin_end, fetch, full, gone, grant, no_grant, place_is, tell, tell_ok,
+    ask_all, ask_begun, begin_end, fetch, full, gone, grant, invite, invite_all, no_grant,
+    place_is, tell, tell_ok,
 };
 use pg_replica::Link;
 use pg_store::Store;
@@ -190,5 +191,30 @@ fn only_the_place_that_was_told_ends_a_patch(rt: HostRuntime) -> Result<(), Fail
         &work,
     );
     assert_eq!(rt; store.intents.len(), 0);
+    Ok(())
+}
+
+/// The peer sees few gold replicas of the directory, and asks for one more.
+fn take_invite(store: &mut Store, work: &mut Work) -> Result<(), AllocError> {
+    invite(store, ENDS, work)
+}
+
+/// What the server itself would ask for, were a server removed.
+fn invite_peers(store: &Store, work: &mut Work) -> Result<(), AllocError> {
+    invite_all(store, work)
+}
+
+// A replica that is full raises its flag, once, and is then the least gold one: it asks the peer in its turn.
+#[test]
+fn a_bronze_replica_is_invited(rt: HostRuntime) -> Result<(), Fail> {
+    let alloc = rt.alloc();
+    let mut store = Store::new(alloc, 1, 2)?;
+    let mut work = Work::new(alloc, 0, 2);
+    store.begin(DIR, 4, Policy::Last, Own::blank(alloc, DIR)?, true)?;
+    store.link(DIR, 2, 5)?;
+    take_invite(&mut store, &mut work)?;
+    take_invite(&mut store, &mut work)?;
+    invite_peers(&store, &mut work)?;
+    assert_eq!(rt; (work.made.len(), work.tail.len()), (1, 1));
     Ok(())
 }

@@ -31,7 +31,8 @@ use Rattle.pg_contents.proofs.Changes.{Core, IsOrdered, Keeps, by_altered, core_
 use Rattle.pg_contents.proofs.Files.{HoldsFile, covered_upto, file_came}
 use Rattle.pg_contents.proofs.Quiet.{Quiet}
 use Rattle.pg_contents.proofs.Sending.{AllCarry, none_carry}
-use Rattle.pg_contents.proofs.Servers.{Came, IsNamedBy, IsServer, Stands, file_held, head_upto, stands_came, stands_kept, stands_same, with_came}
+use Rattle.pg_contents.proofs.Servers.{Came, IsBy, IsNamedBy, IsServer, Stands, file_held, stands_came, stands_kept, stands_same, with_came}
+use Rattle.pg_contents.proofs.Times.{head_upto}
 use Rattle.pg_contents.proofs.Takes.{HasNone, both_none, each_none, flags_none}
 use Rattle.pg_contents.proofs.Versions.{version_alters, version_last}
 
@@ -60,7 +61,7 @@ module _ (q : FileId) where
   pub entry_none : (dir : FileId) (e : Entry) → HasNone q (entry_takes dir e)
   entry_none dir e = flags_none q (InDir dir) e.child e.flags
 
-  patch_none : (dir : FileId) (i : Intent) → HasNone q (patch_taken dir i)
+  pub patch_none : (dir : FileId) (i : Intent) → HasNone q (patch_taken dir i)
   patch_none dir (intent.Bye file birth peer peer_birth) = refl
   patch_none dir (intent.Seek file target) = refl
   patch_none dir (intent.Fill file birth target) = refl
@@ -132,7 +133,8 @@ module _ {s : ℕ} {a : Store} {us : List Born} {p : FileId → Policy} {N : Fil
     then_stands : Stands s b us p came
     then_stands = stands_kept k.stands b before
 
-    held_there : HoldsFile s (p file) x.content (made_for file us) (came file)
+    held_there
+        : HoldsFile (IsBy s (Some (core_of x))) (p file) x.content (made_for file us) (came file)
     held_there = file_held then_stands file (core_of x) (ap (option_map core_of) is)
 
     abbrev end : Store

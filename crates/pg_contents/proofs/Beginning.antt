@@ -16,7 +16,7 @@ use Rattle.pg_msg.specs.declared.update.Update.{Update}
 use Rattle.pg_msg.specs.declared.update.Update.TheVariants as update
 use Rattle.pg_msg.specs.declared.work.Work.{Work}
 use Rattle.pg_msg.specs.Work.{new_work}
-use Rattle.pg_names.specs.Names.{blank_own}
+use Rattle.pg_names.specs.Names.{blank_own, is_dir, is_dir_kind}
 use Rattle.pg_replica.specs.declared.replica.Replica.{Replica}
 use Rattle.pg_run.specs.Journal.{Born, versions_in}
 use Rattle.pg_run.specs.Took.{stamps_taken, take_of}
@@ -36,7 +36,7 @@ use Rattle.pg_contents.proofs.Making.{Makes, New, drawn_later, made_next, made_s
 use Rattle.pg_contents.proofs.Pieces.{begin_alters, birth_keeps, id_keeps}
 use Rattle.pg_contents.proofs.Quiet.{Quiet, make_place_quiet, quiet_then, raise_quiet}
 use Rattle.pg_contents.proofs.Sending.{none_carry}
-use Rattle.pg_contents.proofs.Servers.{Came, IsNamedBy, IsServer, Stands, none_full, stands_begun, stands_policy, stands_same}
+use Rattle.pg_contents.proofs.Servers.{Came, IsNamedBy, IsServer, Stands, none_full, stands_begun, stands_policy, stands_same, unnamed_unmade}
 use Rattle.pg_contents.proofs.Takes.{HasNone, both_none, stamps_joined}
 use Rattle.pg_contents.proofs.Versions.{WrittenCore, write_alters, write_last}
 
@@ -142,7 +142,8 @@ module _ {s : ℕ} {a : Store} {us : List Born} {p : FileId → Policy} {N : Fil
         order = all_alters.order;
         held = thing_held Thing.store (omega arith);
         stands = stands_same
-            (stands_begun k.stands Thing.store id (a.births + 1) policy all_alters not_held same)
+            (stands_begun k.stands Thing.store id (a.births + 1) policy all_alters not_held
+            (λ m l by. unnamed_unmade k id unnamed m l) same)
             (more_came (map take_of Thing.work.made ++ Began id ∷ []) came)
             (λ f. ap (λ (ts : List Stamp). ts ++ came f)
             (dir_none f));
@@ -164,7 +165,14 @@ module _ {s : ℕ} {a : Store} {us : List Born} {p : FileId → Policy} {N : Fil
   same_named : (f : FileId) → N f → policies_with f ≡ p f
   same_named f named = same_by f (is_same_file id f) refl named
 
-  module _ (in_time : is_in_time a ≡ true) where
+  module _ (in_time : is_in_time a ≡ true) (is_file : is_dir_kind kind ≡ false) where
+    -- it is no directory
+    dir_by : (f : FileId) (t : Bool) → is_same_file id f ≡ t → is_dir f ≡ true → cond t policy (p f) ≡ p f
+    dir_by f true e h =
+        let dir : is_dir id ≡ true = ap is_dir (is_same_file-true id f e) ∙ h in
+        absurd (let z : false ≡ true = sym is_file ∙ dir in cc)
+    dir_by f false e h = refl
+
     abbrev First : Answer
     First = answer (with_first_version id Thing) (reply.Made id)
 
@@ -172,6 +180,7 @@ module _ {s : ℕ} {a : Store} {us : List Born} {p : FileId → Policy} {N : Fil
     thing_stands =
         stands_begun (stands_policy k.stands policies_with (λ f c e. same_named f (k.held f c e)))
         Thing.store id (a.births + 1) policy all_alters not_held
+        (λ m l by. unnamed_unmade k id unnamed m l)
         (sym (ap (λ t. cond t policy (p id)) (is_same_file-refl id)))
 
     there : (x : Replica) × (replica_at Thing.store id ≡ Some x) × (core_of x ≡ FreshCore)
@@ -266,4 +275,5 @@ module _ {s : ℕ} {a : Store} {us : List Born} {p : FileId → Policy} {N : Fil
               (none_carry (version ∷ us) policies_with N);
           same = same_named;
           rest = λ f. rest_by f (is_same_file id f) refl;
+          dirs = λ f h. dir_by f (is_same_file id f) refl h;
         }

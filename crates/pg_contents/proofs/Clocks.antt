@@ -18,11 +18,12 @@ use Rattle.pg_run.specs.Run.{run}
 use Rattle.pg_store.specs.declared.store.Store.{Store}
 use Rattle.pg_store.specs.Store.{has_time, have_own_flag_at_end, replica_at}
 use Rattle.pg_promises.proofs.Found.{entries_known}
-use Rattle.pg_contents.specs.Together.{HoldBoth}
+use Rattle.pg_contents.specs.Together.{StandOn}
 use Rattle.pg_contents.proofs.Changes.{IsOrdered, core_of}
 use Rattle.pg_contents.proofs.Histories.{AreMade}
 use Rattle.pg_contents.proofs.Runs.{run_sound}
-use Rattle.pg_contents.proofs.Servers.{Came, Stands, file_held, number_upto}
+use Rattle.pg_contents.proofs.Servers.{Came, Stands, file_held}
+use Rattle.pg_contents.proofs.Times.{number_upto}
 use Rattle.pg_contents.proofs.Vectors.{IsSorted, none_at_end, sorted_vector}
 
 -- ---- versions
@@ -59,7 +60,7 @@ no_end : (t b c : Bool) → (t ≡ true → b ≡ false) → (t && (not b && c))
 no_end false b c h = refl
 no_end true b c h = ap (λ x. not x && c) (h refl)
 
-pub clock_ends_first : (n : ℕ) → n < 2 ^ 32 → HoldBoth n → ClockEndsFirst n
+pub clock_ends_first : (n : ℕ) → n < 2 ^ 32 → StandOn n → ClockEndsFirst n
 clock_ends_first n small both events s least most =
     let a = (run n events).stores s in
     let k = run_sound n small both events in

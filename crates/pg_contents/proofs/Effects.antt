@@ -1,19 +1,17 @@
 -- What a server's input comes to, to the end of the event.
 use Rattle.std.proofs.Common.{ℕ, ◌≡◌, ◌≤◌, Bool, true, false, cond, List, [], ◌∷◌, ◌++◌, drop, length, map, Option, Some, refl, sym, ap, subst, ◌∙◌, inl, inr, ◌⊎◌, arith}
-use Rattle.std.proofs.lemmas.List.{append-nil}
 use Rattle.pg_base.specs.declared.id.FileId.{FileId}
 use Rattle.pg_base.specs.declared.policy.Policy.{Policy}
 use Rattle.pg_base.specs.declared.stamp.Stamp.{Stamp}
 use Rattle.pg_call.specs.declared.call.Call.{Call}
 use Rattle.pg_call.specs.declared.reply.Reply.{Reply}
 use Rattle.pg_msg.specs.declared.update.MadeVersion.{MadeVersion}
-use Rattle.pg_msg.specs.declared.update.Update.{Update}
 use Rattle.pg_msg.specs.Work.{new_work}
-use Rattle.pg_run.specs.Carried.{begun_by}
 use Rattle.pg_run.specs.Journal.{Born, born_at, born_in, versions_in}
 use Rattle.pg_run.specs.Passed.{passed, passed_with}
-use Rattle.pg_run.specs.Run.{took_after}
+use Rattle.pg_run.specs.Run.{brought, removed_then, took_after}
 use Rattle.pg_run.specs.Took.{Take, stamps_taken, take_of}
+use Rattle.pg_names.specs.Names.{is_dir}
 use Rattle.pg_store.specs.declared.store.Store.{Store}
 use Rattle.pg_store.specs.Births.{birth_of}
 use Rattle.pg_store.specs.Store.{is_in_time}
@@ -27,12 +25,12 @@ use Rattle.pg_contents.proofs.Changes.{Core, IsOrdered, birth_in, birth_is, core
 use Rattle.pg_contents.proofs.Ends.{Ends, closed_ends, finished_ends}
 use Rattle.pg_contents.proofs.Histories.{IsNextUpdate}
 use Rattle.pg_contents.proofs.Making.{Makes}
-use Rattle.pg_contents.proofs.Outcomes.{begun_none, brought_by, call_comes, policies_then}
+use Rattle.pg_contents.proofs.Outcomes.{call_comes, policies_then}
 use Rattle.pg_contents.proofs.Quiet.{Quiet}
 use Rattle.pg_contents.proofs.Rules.{AreNames}
 use Rattle.pg_contents.proofs.Sending.{AllCarry}
 use Rattle.pg_contents.proofs.Servers.{IsNamedBy, IsServer, Stands, came_of, stands_kept, stands_same}
-use Rattle.pg_contents.proofs.Takes.{HasNone, both_none, stamps_after, stamps_joined}
+use Rattle.pg_contents.proofs.Takes.{HasNone, both_none, stamps_after}
 
 -- ---- an event at which a server makes no version, or one
 
@@ -50,6 +48,9 @@ pub record IsPassive (s : ℕ) (a : Store) (us : List Born) (p : FileId → Poli
 pub record IsMaking (s : ℕ) (a : Store) (us : List Born) (p q : FileId → Policy)
     (N : FileId → Type 0) (done : Effect) (takes : List Take) : Type 0 where
   pub version : Born
+  pub core : Core
+  pub here : core_at done.store version.made.file ≡ Some core
+  pub born : core.birth ≡ version.birth
   pub made : born_in done.store done.out.made ≡ version ∷ []
   pub next : IsNextUpdate us version
   pub maker : version.made.stamp.server ≡ s
@@ -64,14 +65,7 @@ pub record IsMaking (s : ℕ) (a : Store) (us : List Born) (p q : FileId → Pol
   pub sent : AllCarry (version ∷ us) q N done.out.sent
   pub same : (f : FileId) → N f → q f ≡ p f
   pub rest : (f : FileId) → IsNamedBy s done.store N f ⊎ (q f ≡ p f)
-
--- no version is among what begins
-brought_made : (f : FileId) (us : List Update) (o : Option Reply)
-    → stamps_taken f (map take_of us ++ begun_by o) ≡ stamps_taken f (map take_of us)
-brought_made f us o =
-    stamps_joined f (map take_of us) (begun_by o)
-    ∙ ap (λ (ts : List Stamp). stamps_taken f (map take_of us) ++ ts) (begun_none f o)
-    ∙ append-nil (stamps_taken f (map take_of us))
+  pub dirs : (f : FileId) → is_dir f ≡ true → q f ≡ p f
 
 -- more ids are given out since
 named_later : (s : ℕ) (b c : Store) (N : FileId → Type 0) (f : FileId) → b.files ≤ c.files
@@ -87,16 +81,20 @@ rest_later s b c N f P up (inr same) = inr same
 
 module _ {s : ℕ} {a : Store} {us : List Born} {p : FileId → Policy} {N : FileId → Type 0}
     (before : List Take) (k : IsServer s a us p N (came_of before)) where
+  -- where this is left of what came before
+  abbrev ComesBehind : List Take → Done → List Take → Type 0
+  ComesBehind left d more = Arrives s a us p N (came_of left) d more
+
   abbrev Comes : Done → List Take → Type 0
-  Comes d more = Arrives s a us p N (came_of before) d more
+  Comes d more = ComesBehind before d more
 
   -- ---- the end of an event at which none is made
 
-  ends_passive : (d : Done) (more : List Take) → Comes d more → (done : Effect)
-      → Ends d.store d.work done → (takes : List Take)
-      → ((q : FileId) → stamps_taken q takes ≡ stamps_taken q more ++ stamps_taken q before)
+  ends_passive : (left : List Take) (d : Done) (more : List Take) → ComesBehind left d more
+      → (done : Effect) → Ends d.store d.work done → (takes : List Take)
+      → ((q : FileId) → stamps_taken q takes ≡ stamps_taken q more ++ stamps_taken q left)
       → IsPassive s a us p N done takes
-  ends_passive d more h done e takes same =
+  ends_passive left d more h done e takes same =
       let low = h.last in
       let high = e.keeps.last in
       let few = h.files in
@@ -114,35 +112,38 @@ module _ {s : ℕ} {a : Store} {us : List Born} {p : FileId → Policy} {N : Fil
         sent = e.sends s us p N (came_of takes) stands h.sent h.tail;
       }
 
-  came_then : (reply : Option Reply) (d : Done) (more : List Take)
+  came_then : (gone : List ℕ) (left : List Take) (reply : Option Reply) (d : Done) (more : List Take)
       → AreNames (drop (length d.work.made) (closed reply d).out.made) → (q : FileId)
-      → stamps_taken q (passed_with a.names.removed (passed a.names.removed (more ++ before))
+      → stamps_taken q (passed_with gone (passed gone (more ++ left))
       (drop (length d.work.made) (closed reply d).out.made))
-      ≡ stamps_taken q more ++ stamps_taken q before
-  came_then reply d more are q =
-      stamps_after q a.names.removed more before
+      ≡ stamps_taken q more ++ stamps_taken q left
+  came_then gone left reply d more are q =
+      stamps_after q gone more left
       (drop (length d.work.made) (closed reply d).out.made) are
 
-  -- where the first effect and what it brings go by whether the input takes effect
-  module _ (reply : Option Reply) (first : Bool → Done) (more : Bool → List Take) where
+  -- where the first effect and what it brings go by whether the input takes effect, and these are
+  -- removed then
+  module _ (gone : List ℕ) (left : List Take) (reply : Option Reply) (first : Bool → Done)
+      (more : Bool → List Take) where
     abbrev pub done_by : Bool → Effect
     done_by t = cond t (closed reply (first t)) (finished reply (first t))
 
     abbrev pub takes_by : Bool → List Take
     takes_by t =
-        cond t (passed_with a.names.removed (passed a.names.removed (more t ++ before))
+        cond t (passed_with gone (passed gone (more t ++ left))
         (drop (length (first t).work.made) (done_by t).out.made)) before
 
-    pub passive_by : (t : Bool) → Comes (first true) (more true) → Comes (first false) []
+    pub passive_by : (t : Bool) → ComesBehind left (first true) (more true)
+        → Comes (first false) []
         → IsPassive s a us p N (done_by t) (takes_by t)
     passive_by true comes none =
         let d = first true in
         let e = closed_ends d.store d.work reply in
-        ends_passive d (more true) comes (closed reply d) e (takes_by true)
-        (came_then reply d (more true) e.behind)
+        ends_passive left d (more true) comes (closed reply d) e (takes_by true)
+        (came_then gone left reply d (more true) e.behind)
     passive_by false comes none =
         let d = first false in
-        ends_passive d [] none (finished reply d) (finished_ends d.store d.work reply) before
+        ends_passive before d [] none (finished reply d) (finished_ends d.store d.work reply) before
         (λ q. refl)
 
   -- nothing came
@@ -176,11 +177,18 @@ module _ {s : ℕ} {a : Store} {us : List Born} {p : FileId → Policy} {N : Fil
     abbrev r : Answer
     r = do_call a asked (new_work moment 0)
 
+    -- who is removed then, and what the call brings
+    abbrev Gone : List ℕ
+    Gone = removed_then a (input.Call moment asked)
+
+    abbrev Brought : List Take
+    Brought = brought a (input.Call moment asked)
+
     abbrev CallDone : Bool → Effect
-    CallDone t = done_by (Some r.reply) (λ b. done_of r) (λ b. brought_by k moment r) t
+    CallDone t = done_by Gone before (Some r.reply) (λ b. done_of r) (λ b. Brought) t
 
     abbrev CallTakes : Bool → List Take
-    CallTakes t = takes_by (Some r.reply) (λ b. done_of r) (λ b. brought_by k moment r) t
+    CallTakes t = takes_by Gone before (Some r.reply) (λ b. done_of r) (λ b. Brought) t
 
     born_same : (done : Store) (u : Born) (us_made : List MadeVersion) → us_made ≡ u.made ∷ []
         → birth_of done u.made.file ≡ u.birth → map (born_at done) us_made ≡ u ∷ []
@@ -189,8 +197,9 @@ module _ {s : ℕ} {a : Store} {us : List Born} {p : FileId → Policy} {N : Fil
         ∙ ap (λ n. record { birth = n; made = u.made } ∷ []) birth
 
     makes_making : (q : FileId → Policy) → Makes s a us p q N (came_of before) r
+        → ((f : FileId) → stamps_taken f Brought ≡ stamps_taken f (map take_of r.work.made))
         → IsMaking s a us p q N (CallDone true) (CallTakes true)
-    makes_making q m =
+    makes_making q m same =
         let d = done_of r in
         let done = closed (Some r.reply) d in
         let e = closed_ends d.store d.work (Some r.reply) in
@@ -203,11 +212,14 @@ module _ {s : ℕ} {a : Store} {us : List Born} {p : FileId → Policy} {N : Fil
         let here = e.keeps.each u.made.file ∙ m.here in
         let stands = stands_same (stands_kept m.stands done.store e.keeps)
         (came_of (CallTakes true))
-        (λ f. came_then (Some r.reply) d (brought_by k moment r) e.behind f
+        (λ f. came_then Gone before (Some r.reply) d Brought e.behind f
         ∙ ap (λ (ts : List Stamp). ts ++ stamps_taken f before)
-        (brought_made f r.work.made (Some r.reply) ∙ m.takes f)) in
+        (same f ∙ m.takes f)) in
         record {
           version = u;
+          core = m.core;
+          here = here;
+          born = m.born;
           made = born_same done.store u (versions_in done.out.made) (e.made ∙ m.made)
               (birth_is done.store u.made.file ∙ ap birth_in here ∙ m.born);
           next = m.next;
@@ -225,6 +237,7 @@ module _ {s : ℕ} {a : Store} {us : List Born} {p : FileId → Policy} {N : Fil
           sent = e.sends s (u ∷ us) q N (came_of (CallTakes true)) stands m.sent m.tail;
           same = m.same;
           rest = λ f. rest_later s d.store done.store N f (q f ≡ p f) many (m.rest f);
+          dirs = m.dirs;
         }
 
     abbrev MakesBy : (FileId → Policy) → Bool → Type 0
@@ -242,10 +255,10 @@ module _ {s : ℕ} {a : Store} {us : List Born} {p : FileId → Policy} {N : Fil
     pub call_ended : CallOutcome
     call_ended = elim (call_comes k moment asked) [
       | inl still ↦ inl (
-        passive_by (Some r.reply) (λ b. done_of r) (λ b. brought_by k moment r) (is_in_time a)
-            still.0.0 (comes_none (done_of r) (brought_by k moment r) still.0.0 still.0.1),
+        passive_by Gone before (Some r.reply) (λ b. done_of r) (λ b. Brought) (is_in_time a)
+            still.0.0 (comes_none (done_of r) Brought still.0.0 still.0.1),
         still.1,
       )
-      | inr makes ↦ inr (subst (MakesBy (policies_then p asked r.reply)) (sym makes.time)
-          (makes_making (policies_then p asked r.reply) makes))
+      | inr makes ↦ inr (subst (MakesBy (policies_then p asked r.reply)) (sym makes.0.time)
+          (makes_making (policies_then p asked r.reply) makes.0 makes.1))
     ]

@@ -21,13 +21,13 @@ use Rattle.pg_run.specs.Journal.{Born}
 use Rattle.pg_store.specs.declared.store.Store.{Store}
 use Rattle.pg_store.specs.Beginning.{with_intents}
 use Rattle.pg_store.specs.Births.{birth_of, fill_at, has_birth, is_pending, wish_at, with_wishes}
-use Rattle.pg_store.specs.Links.{is_clean, knows_later}
+use Rattle.pg_store.specs.Links.{is_clean, knows_later, unlink}
 use Rattle.pg_store.specs.Servers.{next_target}
 use Rattle.pg_store.specs.Store.{is_full, is_held, replica_at, with_names}
 use Rattle.pg_store.specs.Wishes.{aim_wish}
 use Rattle.pg_cells.specs.declared.accepting.Manner.{Manner}
 use Rattle.pg_cells.specs.declared.accepting.Manner.TheVariants as manner
-use Rattle.pg_cells.specs.Accepting.{accept, is_accepted, is_answer, link_peer, met, with_gone}
+use Rattle.pg_cells.specs.Accepting.{accept, ends_to as ends_between, is_accepted, is_answer, link_peer, met, with_gone}
 use Rattle.pg_cells.specs.Acks.{ack}
 use Rattle.pg_cells.specs.Done.{Done, idle, link_of}
 use Rattle.pg_cells.specs.Making.{raise_flag}
@@ -36,9 +36,10 @@ use Rattle.pg_cells.specs.Taking.{take_entry_noted, take_place_noted}
 use Rattle.pg_house.specs.Work.{is_root}
 use Rattle.pg_repair.specs.Confirming.{confirm, end_confirmed, is_confirmed, own_entry, place_is, place_told, take_told_flags, take_told_place, confirmed}
 use Rattle.pg_repair.specs.Fetching.{answered_fetch, ends_to, fetch, give, given, granted_from}
-use Rattle.pg_repair.specs.Filling.{few_golds, fill, full, live_golds}
+use Rattle.pg_repair.specs.Filling.{few_golds, fill, full, invite, invited, is_bronze, live_golds, raise_if_few}
 use Rattle.pg_repair.specs.Granting.{aim_fill, fill_asks, gone, no_grant, turn_fill, turn_wish, wish_asks}
 use Rattle.pg_repair.specs.NoneHere.{asking_key, does_ask, none_here, turn}
+use Rattle.pg_graph.specs.Leaving.{bye, bye_ok, gives_leave, leave, leave_given}
 use Rattle.pg_graph.specs.Seeking.{answered_seek, seek}
 use Rattle.pg_graph.specs.Seeks.{edges_of}
 use Rattle.pg_repair.specs.Telling.{end_told, is_told, tell, tell_ok, told}
@@ -46,7 +47,7 @@ use Rattle.pg_graph.specs.Walks.{goes_on, meet_origin, most_hops, onward, walk, 
 use Rattle.pg_promises.proofs.Choices.{chosen}
 use Rattle.pg_contents.proofs.Changes.{Core, Keeps, Keeps-refl, Keeps-trans, core_at, core_of}
 use Rattle.pg_contents.proofs.Pieces.{acked_keeps, fill_keeps, intents_keep, unlink_keeps, wishes_keep}
-use Rattle.pg_contents.proofs.Quiet.{Quiet, entry_quiet, flags_quiet, link_quiet, place_quiet, quiet_idle, quiet_last, quiet_post, quiet_store, quiet_then, raise_quiet}
+use Rattle.pg_contents.proofs.Quiet.{Quiet, entry_quiet, flags_quiet, link_quiet, place_quiet, quiet_idle, quiet_last, quiet_post, quiet_posted, quiet_store, quiet_then, raise_quiet}
 
 module _ (us : List Born) (p : FileId → Policy) (N : FileId → Type 0) (a : Store) (work : Work) where
   abbrev IsQuiet : Done → Type 0
@@ -180,6 +181,34 @@ module _ (us : List Born) (p : FileId → Policy) (N : FileId → Type 0) (a : S
       (wishes_keep a ws) (Keeps-refl a))
       (turned b file birth work.from next))
 
+  -- ---- replicas that go elsewhere
+
+  pub bye_quiet : (ends : Ends) → IsQuiet (bye a ends work)
+  bye_quiet ends =
+      let b = unlink a ends.file work.from ends.sender in
+      quiet_then us p N (stored b (unlink_keeps a ends.file work.from ends.sender))
+      (quiet_posted us p N a b work.from (message.ByeOk ends.file ends.sender) work tt)
+
+  pub bye_ok_quiet : (file : FileId) (birth : ℕ) → IsQuiet (bye_ok a file birth work)
+  bye_ok_quiet file birth =
+      let rest = ended a.intents (intent_key.Bye file birth work.from) in
+      stored (with_intents a rest) (intents_keep a rest)
+
+  leave_given_quiet : (ends : Ends) (stamp : Stamp) (d : Done)
+      → Quiet us p N d.store d.work (leave_given ends stamp d)
+  leave_given_quiet ends stamp d =
+      let m = message.LeaveOk (ends_between d.store ends.file ends.sender) stamp in
+      chosen (λ (w : Work). Quiet us p N d.store d.work (idle d.store w))
+      (gives_leave d.store ends.file stamp) (reply d.store m d.work) d.work
+      (quiet_post us p N d.store d.work.from m d.work tt) (quiet_idle us p N d.store d.work)
+
+  pub leave_quiet : (ends : Ends) (stamp : Stamp) → IsQuiet (leave a ends stamp work)
+  leave_quiet ends stamp =
+      let d = accept a ends manner.Link work in
+      let linked = accept_quiet ends manner.Link in
+      chosen IsQuiet (is_accepted a work.from manner.Link ends) (leave_given ends stamp d) d
+      (quiet_then us p N linked (leave_given_quiet ends stamp d)) linked
+
   pub tell_ok_quiet : (dir child : FileId) (stamp : Stamp)
       → IsQuiet (tell_ok a dir child stamp work)
   tell_ok_quiet dir child stamp =
@@ -229,13 +258,24 @@ module _ (us : List Born) (p : FileId → Policy) (N : FileId → Type 0) (a : S
 
   -- ---- replicas that are filled
 
-  fill_quiet : (file : FileId) → IsQuiet (fill a file work)
+  few_quiet : (b : Store) (w : Work) (file : FileId) → Quiet us p N b w (raise_if_few b file w)
+  few_quiet b w file =
+      chosen (λ d. Quiet us p N b w d) (nat_lt (live_golds b file) few_golds)
+      (raise_flag b file w) (idle b w) (raise_quiet us p N b file w) (quiet_idle us p N b w)
+
+  pub fill_quiet : (file : FileId) → IsQuiet (fill a file work)
   fill_quiet file =
       let b = with_names a (fill_names a.names file) in
-      quiet_then us p N (stored b (fill_keeps a file))
-      (chosen (λ d. Quiet us p N b work d) (nat_lt (live_golds b file) few_golds)
-      (raise_flag b file work) (idle b work) (raise_quiet us p N b file work)
-      (quiet_idle us p N b work))
+      quiet_then us p N (stored b (fill_keeps a file)) (few_quiet b work file)
+
+  -- one gold more is asked for
+  pub invite_quiet : (ends : Ends) → IsQuiet (invite a ends work)
+  invite_quiet ends =
+      let met = accept a ends manner.Ask work in
+      let first = accept_quiet ends manner.Ask in
+      chosen IsQuiet (is_accepted a work.from manner.Ask ends) (invited ends met) met
+      (chosen IsQuiet (is_bronze met.store ends.file) (raise_if_few met.store ends.file met.work) met
+      (quiet_then us p N first (few_quiet met.store met.work ends.file)) first) first
 
   pub full_quiet : (ends : Ends) → IsQuiet (full a ends work)
   full_quiet ends =

@@ -1,5 +1,6 @@
 -- Ticks, messages and restarts make no version.
-use Rattle.std.proofs.Common.{ℕ, Bool, true, false, cond, List, [], ◌++◌, map, None, Some, refl}
+use Rattle.std.proofs.Common.{ℕ, Bool, true, false, cond, List, [], ◌++◌, map, Option, None, Some, refl, sym, subst}
+use mathlib.Core.Path.{fun_ext}
 use Rattle.pg_base.specs.declared.id.FileId.{FileId}
 use Rattle.pg_base.specs.declared.policy.Policy.{Policy}
 use Rattle.pg_call.specs.declared.refusal.Refusal.TheVariants.{ClockEnd}
@@ -7,10 +8,10 @@ use Rattle.pg_call.specs.declared.reply.Reply.TheVariants as reply
 use Rattle.pg_msg.specs.declared.message.Packet.{Packet}
 use Rattle.pg_msg.specs.declared.work.Work.{Work}
 use Rattle.pg_msg.specs.Work.{new_work}
-use Rattle.pg_run.specs.Carried.{carried}
+use Rattle.pg_run.specs.Carried.{carried, gone_by}
 use Rattle.pg_run.specs.Journal.{Born}
-use Rattle.pg_run.specs.Run.{took_after}
-use Rattle.pg_run.specs.Took.{Take, take_of}
+use Rattle.pg_run.specs.Run.{removed_then, took_after}
+use Rattle.pg_run.specs.Took.{Take, take_of, without_gone}
 use Rattle.pg_store.specs.declared.store.Store.{Store}
 use Rattle.pg_store.specs.Store.{is_in_time}
 use Rattle.pg_cells.specs.Done.{Done, idle}
@@ -24,11 +25,13 @@ use Rattle.pg_contents.proofs.Carrying.{Carries}
 use Rattle.pg_contents.proofs.Changes.{Keeps-refl}
 use Rattle.pg_contents.proofs.Effects.{IsPassive, passive_by, quiet_both}
 use Rattle.pg_contents.proofs.Pieces.{wishes_keep}
+use Rattle.pg_contents.proofs.Arrivals.{Arrives}
+use Rattle.pg_contents.proofs.Going.{came_left}
 use Rattle.pg_contents.proofs.Handlers.{walk_of_quiet}
 use Rattle.pg_contents.proofs.Quiet.{Quiet, quiet_idle, quiet_store, quiet_then}
 use Rattle.pg_contents.proofs.Receiving.{receive_arrives}
 use Rattle.pg_contents.proofs.Sending.{more_carry}
-use Rattle.pg_contents.proofs.Servers.{IsServer, came_of}
+use Rattle.pg_contents.proofs.Servers.{Came, IsServer, came_of}
 
 module _ {s : ℕ} {a : Store} {us : List Born} {p : FileId → Policy} {N : FileId → Type 0}
     (before : List Take) (k : IsServer s a us p N (came_of before)) where
@@ -64,7 +67,7 @@ module _ {s : ℕ} {a : Store} {us : List Born} {p : FileId → Policy} {N : Fil
     pub tick_passive : IsPassive s a us p N (effect a (input.Tick moment word))
         (took_after a before (input.Tick moment word))
     tick_passive =
-        passive_by before k
+        passive_by before k (removed_then a (input.Tick moment word)) before
         (Some (cond (is_in_time a) reply.Done (reply.Refused ClockEnd))) ticked
         (λ t. map take_of (ticked t).work.made ++ []) (is_in_time a)
         (quiet_both before k moment 0 (ticked true) (ticked_quiet true)).0
@@ -78,13 +81,24 @@ module _ {s : ℕ} {a : Store} {us : List Born} {p : FileId → Policy} {N : Fil
         cond t (receive a packet.message (new_work 0 packet.from))
         (idle a (new_work 0 packet.from))
 
+    -- whose replica goes
+    abbrev gone : Option FileId
+    gone = gone_by a packet.from packet.message
+
+    left_arrives : Arrives s a us p N (came_of (without_gone gone before)) (arrived true)
+        (map take_of (arrived true).work.made ++ carried a packet.from packet.message)
+    left_arrives =
+        subst (λ (c : Came). Arrives s a us p N c (arrived true)
+        (map take_of (arrived true).work.made ++ carried a packet.from packet.message))
+        (sym (fun_ext (came_left gone before))) (receive_arrives k packet.from packet.message h)
+
     -- A MESSAGE
     pub arrived_passive : IsPassive s a us p N (effect a (input.Arrival packet))
         (took_after a before (input.Arrival packet))
     arrived_passive =
-        passive_by before k None arrived
+        passive_by before k (removed_then a (input.Arrival packet)) (without_gone gone before) None arrived
         (λ t. map take_of (arrived t).work.made ++ carried a packet.from packet.message)
-        (is_heard a packet) (receive_arrives k packet.from packet.message h)
+        (is_heard a packet) left_arrives
         (quiet_both before k 0 packet.from (arrived false)
         (quiet_idle us p N a (new_work 0 packet.from))).1
 
@@ -100,6 +114,6 @@ module _ {s : ℕ} {a : Store} {us : List Born} {p : FileId → Policy} {N : Fil
   pub restart_passive : IsPassive s a us p N (effect a input.Restart)
       (took_after a before input.Restart)
   restart_passive =
-      passive_by before k None (λ t. restarted) (λ t. map take_of restarted.work.made ++ [])
+      passive_by before k (removed_then a input.Restart) before None (λ t. restarted) (λ t. map take_of restarted.work.made ++ [])
       (is_in_time a) (quiet_both before k 0 0 restarted restarted_quiet).0
       (quiet_both before k 0 0 restarted restarted_quiet).1

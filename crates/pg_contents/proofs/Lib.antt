@@ -8,6 +8,7 @@ pub mod Pieces
 pub mod Versions
 pub mod Rules
 pub mod Servers
+pub mod Times
 pub mod Paired
 pub mod Carrying
 pub mod Cells
@@ -18,14 +19,18 @@ pub mod Ends
 pub mod Writing
 pub mod Quiet
 pub mod Handlers
+pub mod Going
 pub mod Arrivals
 pub mod Receiving
 pub mod Making
 pub mod Beginning
+pub mod Entered
+pub mod Lost
 pub mod Outcomes
 pub mod Effects
 pub mod Inputs
 pub mod Worlds
+pub mod Wanted
 pub mod Start
 pub mod Runs
 pub mod RunLaws

@@ -1,5 +1,5 @@
 -- A version is made of what is held of a file, as a client writes it.
-use Rattle.std.proofs.Common.{ℕ, ◌≡◌, ◌<◌, ◌≤◌, ◌+◌, ◌^◌, true, cond, max, min, List, [], ◌∷◌, ◌++◌, map, Option, Some, Ok, option_map, refl, ap, ◌∙◌, inl, inr, ◌⊎◌, arith}
+use Rattle.std.proofs.Common.{ℕ, ◌≡◌, ◌<◌, ◌≤◌, ◌+◌, ◌^◌, true, cond, max, min, List, [], ◌∷◌, ◌++◌, map, Option, Some, Ok, option_map, refl, sym, ap, subst, ◌∙◌, inl, inr, ◌⊎◌, arith}
 use Rattle.std.proofs.lemmas.List.{append-nil}
 use Rattle.pg_base.specs.declared.id.FileId.{FileId}
 use Rattle.pg_base.specs.declared.policy.Policy.{Policy}
@@ -7,14 +7,16 @@ use Rattle.pg_base.specs.declared.stamp.Stamp.{Stamp}
 use Rattle.pg_base.specs.Id.{is_same_file}
 use Rattle.pg_base.specs.Version.{VersionValue, stamp_of}
 use Rattle.pg_patch.specs.Ranges.{RangesValue}
-use Rattle.pg_content.specs.Content.{Among}
+use Rattle.pg_content.specs.Content.{Among, ContentValue}
+use Rattle.pg_content.specs.History.{Made, maker}
 use Rattle.pg_call.specs.declared.reply.Reply.TheVariants as reply
 use Rattle.pg_msg.specs.declared.update.MadeVersion.{MadeVersion}
 use Rattle.pg_msg.specs.Work.{new_work}
 use Rattle.pg_replica.specs.declared.replica.Replica.{Replica}
 use Rattle.pg_replica.specs.Replicas.{or_nothing}
-use Rattle.pg_run.specs.Journal.{Born, made_for, versions_in}
+use Rattle.pg_run.specs.Journal.{Born, made_for, made_of, versions_in}
 use Rattle.pg_run.specs.Took.{stamps_taken, take_of}
+use Rattle.pg_names.specs.Names.{is_dir}
 use Rattle.pg_store.specs.declared.store.Store.{Store}
 use Rattle.pg_store.specs.Store.{is_in_time, replica_at, write}
 use Rattle.pg_store.proofs.InTime.{births_in_time, last_in_time}
@@ -57,6 +59,7 @@ pub record Makes (s : ℕ) (a : Store) (us : List Born) (p q : FileId → Policy
   pub tail : AllCarry (version ∷ us) q N r.work.tail
   pub same : (f : FileId) → N f → q f ≡ p f
   pub rest : (f : FileId) → IsNamedBy s r.store N f ⊎ (q f ≡ p f)
+  pub dirs : (f : FileId) → is_dir f ≡ true → q f ≡ p f
 
 -- ---- a version is made of what is held of a file
 
@@ -69,8 +72,15 @@ module _ {s : ℕ} {b : Store} {us : List Born} {q : FileId → Policy} {came : 
   abbrev pub New : Born
   New = record { birth = x.birth; made = version_of b file stamp ranges }
 
-  held_there : HoldsFile s (q file) x.content (made_for file us) (came file)
-  held_there = file_held k file (core_of x) (ap (option_map core_of) is)
+  -- the replica of this birth at a server has this of the file
+  abbrev HeldBy : ℕ → Policy → ContentValue → List Made → List Stamp → Type 0
+  HeldBy j policy c h set =
+      HoldsFile (λ m. maker m ≡ record { server = j; birth = x.birth }) policy c h set
+
+  held_there : HeldBy stamp.server (q file) x.content (made_for file us) (came file)
+  held_there =
+      subst (λ (j : ℕ). HeldBy j (q file) x.content (made_for file us) (came file)) (sym own)
+      (file_held k file (core_of x) (ap (option_map core_of) is))
 
   is_write : IsWrite s b.names.last (q file) x.content us (came file) New
   is_write = record {
@@ -97,7 +107,8 @@ module _ {s : ℕ} {b : Store} {us : List Born} {q : FileId → Policy} {came : 
   made_stands =
       stands_wrote New k WroteStore (WrittenCore b file x is stamp ranges)
       (write_alters b file x is stamp ranges) (write_last b file x is stamp ranges)
-      (next_file is_write)
+      (subst (λ (j : ℕ). HeldBy j (q file) (WrittenCore b file x is stamp ranges).content
+      (made_of New ∷ made_for file us) (stamp ∷ came file)) own (next_file is_write))
 
 -- the next stamp is later than the clock
 pub drawn_later : (now last : ℕ) → last < max (min now (2 ^ 62)) (last + 1)
@@ -189,4 +200,5 @@ module _ {s : ℕ} {a : Store} {us : List Born} {p : FileId → Policy} {N : Fil
           tail = none_carry (version ∷ us) p N;
           same = λ f h. refl;
           rest = λ f. inr refl;
+          dirs = λ f h. refl;
         }

@@ -1,5 +1,6 @@
 -- What each call comes to: no version is made, be it that a directory begins, or one is.
-use Rattle.std.proofs.Common.{ℕ, ◌≡◌, ◌==◌, List, ◌++◌, map, Option, None, Some, Result, Ok, Err, refl, sym, subst, inl, inr, ◌⊎◌}
+use Rattle.std.proofs.Common.{ℕ, ◌≡◌, ◌==◌, cond, List, [], ◌++◌, map, ap, ◌∙◌, Option, None, Some, Result, Ok, Err, refl, sym, subst, inl, inr, ◌⊎◌}
+use Rattle.std.proofs.lemmas.List.{append-nil}
 use Rattle.pg_base.specs.declared.id.FileId.{FileId}
 use Rattle.pg_base.specs.declared.id.Kind.TheVariants.{Dir, File}
 use Rattle.pg_base.specs.declared.policy.Policy.{Policy}
@@ -7,6 +8,7 @@ use Rattle.pg_base.specs.declared.policy.Policy.TheVariants.{Last}
 use Rattle.pg_patch.specs.Ranges.{RangesValue, cut_to, written}
 use Rattle.pg_call.specs.declared.call.Call.{Call}
 use Rattle.pg_call.specs.declared.call.Call.TheVariants as call
+use Rattle.pg_call.specs.declared.call.Target.{Target}
 use Rattle.pg_call.specs.declared.reply.Reply.{Reply}
 use Rattle.pg_call.specs.declared.reply.Reply.TheVariants as reply
 use Rattle.pg_call.specs.declared.refusal.Refusal.{Refusal}
@@ -14,15 +16,23 @@ use Rattle.pg_call.specs.declared.refusal.Refusal.TheVariants.{NotYet}
 use Rattle.pg_msg.specs.declared.message.Message.TheVariants as message
 use Rattle.pg_msg.specs.declared.work.Work.{Work}
 use Rattle.pg_msg.specs.Work.{new_work}
+use Rattle.pg_register.specs.declared.flag.Flag.{Flag}
 use Rattle.pg_register.specs.declared.place.Place.{Place}
-use Rattle.pg_run.specs.Carried.{begun_by}
+use Rattle.pg_names.specs.Names.{is_dir}
+use Rattle.pg_base.specs.declared.stamp.Stamp.{Stamp}
+use Rattle.pg_msg.specs.declared.update.Update.{Update}
+use Rattle.pg_run.specs.Carried.{begun_by, forgotten_takes, strikes_out}
 use Rattle.pg_run.specs.Journal.{Born}
 use Rattle.pg_run.specs.State.{is_made, policy_by, policy_named}
-use Rattle.pg_run.specs.Took.{Take, take_of}
+use Rattle.pg_run.specs.Run.{brought}
+use Rattle.pg_run.specs.Took.{Take, stamps_taken, take_of}
+use Rattle.pg_server.specs.declared.input.Input.TheVariants as input
+use Rattle.pg_store.specs.Store.{is_held}
 use Rattle.pg_store.specs.declared.store.Store.{Store}
 use Rattle.pg_store.specs.declared.wishes.Wish.{Wish}
 use Rattle.pg_store.specs.Births.{with_birth, with_wish}
 use Rattle.pg_cells.specs.Done.{Done, idle}
+use Rattle.pg_cells.specs.Intending.{begin_intent}
 use Rattle.pg_cells.specs.Posting.{post}
 use Rattle.pg_server.specs.Local.{done_of}
 use Rattle.pg_walk.specs.declared.paths.Found.{Found}
@@ -36,6 +46,9 @@ use Rattle.pg_calls.specs.Calls.{do_call}
 use Rattle.pg_calls.specs.Checks.{dir_at, empty_dir_at, file_at, in_time, move_of, new_name, target_at}
 use Rattle.pg_cells.specs.Golds.{is_gold}
 use Rattle.pg_calls.specs.Demoting.{demoted_at, lowered}
+use Rattle.pg_calls.specs.Dropping.{clean_gold, dropped_at, leave_of, leaving}
+use Rattle.pg_calls.specs.Forgetting.{forget_lost, lost_at}
+use Rattle.pg_calls.specs.GivingUp.{enter_view, removal_at}
 use Rattle.pg_calls.specs.Making.{make_place}
 use Rattle.pg_calls.specs.Naming.{dead_place, next_id, place_in}
 use Rattle.pg_calls.proofs.Checked.{fit_found}
@@ -43,11 +56,13 @@ use Rattle.pg_calls.proofs.InTime.{name_in_time}
 use Rattle.pg_promises.proofs.Choices.{chosen}
 use Rattle.pg_contents.proofs.Arrivals.{Arrives, quiet_arrives}
 use Rattle.pg_contents.proofs.Beginning.{dir_arrives, dir_none, first_makes, unnamed}
+use Rattle.pg_contents.proofs.Entered.{entered_quiet}
+use Rattle.pg_contents.proofs.Lost.{lost_comes}
 use Rattle.pg_contents.proofs.Making.{Makes, written_makes}
 use Rattle.pg_contents.proofs.Pieces.{wish_keeps}
-use Rattle.pg_contents.proofs.Quiet.{Quiet, lower_quiet, make_place_quiet, quiet_idle, quiet_posted, quiet_store, quiet_then}
+use Rattle.pg_contents.proofs.Quiet.{Quiet, begin_quiet, lower_quiet, make_place_quiet, quiet_idle, quiet_posted, quiet_store, quiet_then}
 use Rattle.pg_contents.proofs.Servers.{Came, IsServer}
-use Rattle.pg_contents.proofs.Takes.{HasNone, both_none}
+use Rattle.pg_contents.proofs.Takes.{HasNone, both_none, stamps_joined}
 
 -- a call goes on with what a check found, or does not
 pub answered_by : {A : Type 0} (P : Answer → Type 0) (store : Store) (work : Work)
@@ -72,6 +87,14 @@ begun_none q (Some (reply.Stat stat)) = refl
 begun_none q (Some (reply.Leaving server)) = refl
 begun_none q (Some (reply.Status counts)) = refl
 begun_none q (Some (reply.Refused why)) = refl
+
+-- so it brings the versions that were made
+brought_made : (f : FileId) (us : List Update) (o : Option Reply)
+    → stamps_taken f (map take_of us ++ begun_by o) ≡ stamps_taken f (map take_of us)
+brought_made f us o =
+    stamps_joined f (map take_of us) (begun_by o)
+    ∙ ap (λ (ts : List Stamp). stamps_taken f (map take_of us) ++ ts) (begun_none f o)
+    ∙ append-nil (stamps_taken f (map take_of us))
 
 -- ---- what is not here is asked for
 
@@ -109,18 +132,29 @@ module _ {s : ℕ} {a : Store} {us : List Born} {p : FileId → Policy} {N : Fil
   work = new_work moment 0
 
   -- what a call brings
-  abbrev pub brought_by : Answer → List Take
+  abbrev brought_by : Answer → List Take
   brought_by r = map take_of r.work.made ++ begun_by (Some r.reply)
 
   -- no version is made
-  abbrev pub Arrived : Answer → Type 0
+  abbrev Arrived : Answer → Type 0
   Arrived r = Arrives s a us p N came (done_of r) (brought_by r)
       × ((q : FileId) → HasNone q (brought_by r))
 
-  -- what comes of a call
-  abbrev pub Outcome : Call → Answer → Type 0
+  -- what comes of a call that brings this
+  abbrev pub OutcomeBy : List Take → Call → Answer → Type 0
+  OutcomeBy more asked r = ((Arrives s a us p N came (done_of r) more × ((q : FileId) → HasNone q more))
+      × ((f : FileId) → policies_then p asked r.reply f ≡ p f))
+      ⊎ (Makes s a us p (policies_then p asked r.reply) N came r
+      × ((f : FileId) → stamps_taken f more ≡ stamps_taken f (map take_of r.work.made)))
+
+  -- and of one that brings what it makes
+  abbrev Outcome : Call → Answer → Type 0
   Outcome asked r = (Arrived r × ((f : FileId) → policies_then p asked r.reply f ≡ p f))
       ⊎ Makes s a us p (policies_then p asked r.reply) N came r
+
+  plain : (asked : Call) (r : Answer) → Outcome asked r → OutcomeBy (brought_by r) asked r
+  plain asked r (inl still) = inl still
+  plain asked r (inr makes) = inr (makes, λ f. brought_made f r.work.made (Some r.reply))
 
   quiet_comes : (d : Done) (r : Reply) → Quiet us p N a work d → Arrived (answer d r)
   quiet_comes d r h = (
@@ -194,7 +228,7 @@ module _ {s : ℕ} {a : Store} {us : List Born} {p : FileId → Policy} {N : Fil
       answered_by (Outcome (call.Create text policy)) a work (new_name a (next_id a File) text) _
       (denied_so (call.Create text policy) (λ why f. refl))
       (λ new found. inr (first_makes k moment File policy new
-      (name_in_time a (next_id a File) text new found)))
+      (name_in_time a (next_id a File) text new found) refl))
 
   -- a file is written
   change_comes : (asked : Call) → ((r : Reply) (f : FileId) → policies_then p asked r f ≡ p f)
@@ -210,47 +244,105 @@ module _ {s : ℕ} {a : Store} {us : List Born} {p : FileId → Policy} {N : Fil
       (λ fit fits. inr (makes _ (written_makes k moment ranges text fit
       (subst (λ g. file_at a text ≡ Ok g) (fit_found a ranges file fit fits) found)))))
 
+  -- a gold replica is asked for leave, or none
+  leaving_comes : (target : Target) (file : FileId) (o : Option Flag)
+      → Outcome (call.Drop target) (leaving a file work o)
+  leaving_comes target file None = inl (told_comes (reply.Leaving 0), λ f. refl)
+  leaving_comes target file (Some flag) = inl (
+    quiet_comes (begin_intent a (leave_of file flag) work) (reply.Leaving flag.server)
+        (begin_quiet us p N a (leave_of file flag) work),
+    λ f. refl,
+  )
+
+  -- what was lost is given up
+  abbrev Lost : Result FileId Stop → Answer
+  Lost o = answered a work o (λ found. answer (forget_lost a found work) reply.Done)
+
+  abbrev LostTakes : Result FileId Stop → List Take
+  LostTakes o =
+      cond (strikes_out a o) [] (map take_of (Lost o).work.made) ++ forgotten_takes a moment o
+
+  forgotten_by : (id : FileId) (o : Result FileId Stop)
+      → OutcomeBy (LostTakes o) (call.Forget id) (Lost o)
+  forgotten_by id (Err (stop.Refused why)) =
+      plain (call.Forget id) (Lost (Err (stop.Refused why)))
+      (denied_so (call.Forget id) (λ why f. refl) (stop.Refused why))
+  forgotten_by id (Err (stop.NotYet found)) =
+      plain (call.Forget id) (Lost (Err (stop.NotYet found)))
+      (denied_so (call.Forget id) (λ why f. refl) (stop.NotYet found))
+  forgotten_by id (Ok f) =
+      inl (lost_comes k moment f (is_held a f) (is_dir f) refl refl, λ g. refl)
+
   -- WHATEVER A CLIENT CALLS
-  pub call_comes : (asked : Call) → Outcome asked (do_call a asked work)
-  call_comes (call.Mkdir text) = mkdir_comes text
-  call_comes (call.Create text policy) = create_comes text policy
+  pub call_comes : (asked : Call)
+      → OutcomeBy (brought a (input.Call moment asked)) asked (do_call a asked work)
+  call_comes (call.Mkdir text) =
+      plain (call.Mkdir text) (do_call a (call.Mkdir text) work)
+      (mkdir_comes text)
+  call_comes (call.Create text policy) =
+      plain (call.Create text policy) (do_call a (call.Create text policy) work)
+      (create_comes text policy)
   call_comes (call.Write text offset bytes) =
-      change_comes (call.Write text offset bytes) (λ r f. refl) (λ r m. m) text
-      (written offset bytes)
+      plain (call.Write text offset bytes) (do_call a (call.Write text offset bytes) work)
+      (change_comes (call.Write text offset bytes) (λ r f. refl) (λ r m. m) text
+      (written offset bytes))
   call_comes (call.Cut text length) =
-      change_comes (call.Cut text length) (λ r f. refl) (λ r m. m) text (cut_to length)
+      plain (call.Cut text length) (do_call a (call.Cut text length) work)
+      (change_comes (call.Cut text length) (λ r f. refl) (λ r m. m) text (cut_to length))
   call_comes (call.Read text offset count) =
-      looked (call.Read text offset count) (λ r f. refl) (file_at a text) _
-  call_comes (call.Fresh text) = looked (call.Fresh text) (λ r f. refl) (file_at a text) _
-  call_comes (call.Ls text from) = looked (call.Ls text from) (λ r f. refl) (dir_at a text) _
+      plain (call.Read text offset count) (do_call a (call.Read text offset count) work)
+      (looked (call.Read text offset count) (λ r f. refl) (file_at a text) _)
+  call_comes (call.Fresh text) =
+      plain (call.Fresh text) (do_call a (call.Fresh text) work)
+      (looked (call.Fresh text) (λ r f. refl) (file_at a text) _)
+  call_comes (call.Ls text from) =
+      plain (call.Ls text from) (do_call a (call.Ls text from) work)
+      (looked (call.Ls text from) (λ r f. refl) (dir_at a text) _)
   call_comes (call.Stat target) =
-      looked (call.Stat target) (λ r f. refl) (target_at a target) _
+      plain (call.Stat target) (do_call a (call.Stat target) work)
+      (looked (call.Stat target) (λ r f. refl) (target_at a target) _)
   call_comes (call.Rename from to) =
-      answered_by (Outcome (call.Rename from to)) a work (move_of a from to) _
+      plain (call.Rename from to) (do_call a (call.Rename from to) work)
+      (answered_by (Outcome (call.Rename from to)) a work (move_of a from to) _
       (denied_so (call.Rename from to) (λ why f. refl))
       (λ move found. moved_comes (call.Rename from to) (λ r f. refl) move.thing
-      (place_in a moment move.to))
+      (place_in a moment move.to)))
   call_comes (call.Unlink text) =
-      answered_by (Outcome (call.Unlink text)) a work (file_at a text) _
+      plain (call.Unlink text) (do_call a (call.Unlink text) work)
+      (answered_by (Outcome (call.Unlink text)) a work (file_at a text) _
       (denied_so (call.Unlink text) (λ why f. refl))
       (λ file found. moved_comes (call.Unlink text) (λ r f. refl) file
-      (dead_place a moment file))
+      (dead_place a moment file)))
   call_comes (call.Rmdir text) =
-      answered_by (Outcome (call.Rmdir text)) a work (empty_dir_at a text) _
+      plain (call.Rmdir text) (do_call a (call.Rmdir text) work)
+      (answered_by (Outcome (call.Rmdir text)) a work (empty_dir_at a text) _
       (denied_so (call.Rmdir text) (λ why f. refl))
-      (λ dir found. moved_comes (call.Rmdir text) (λ r f. refl) dir (dead_place a moment dir))
-  call_comes (call.Forget id) =
-      looked (call.Forget id) (λ r f. refl) (in_time a (tt {0})) _
+      (λ dir found. moved_comes (call.Rmdir text) (λ r f. refl) dir (dead_place a moment dir)))
+  call_comes (call.Forget id) = forgotten_by id (lost_at a id)
   call_comes (call.Demote target) =
-      answered_by (Outcome (call.Demote target)) a work (demoted_at a target) _
+      plain (call.Demote target) (do_call a (call.Demote target) work)
+      (answered_by (Outcome (call.Demote target)) a work (demoted_at a target) _
       (denied_so (call.Demote target) (λ why f. refl))
       (λ file found. inl (
         quiet_comes (lowered a file work) reply.Done (lowered_quiet file),
         λ f. refl,
-      ))
+      )))
   call_comes (call.Drop target) =
-      looked (call.Drop target) (λ r f. refl) (in_time a (tt {0})) _
+      plain (call.Drop target) (do_call a (call.Drop target) work)
+      (answered_by (Outcome (call.Drop target)) a work (dropped_at a target) _
+      (denied_so (call.Drop target) (λ why f. refl))
+      (λ file found. leaving_comes target file (clean_gold a file)))
   call_comes (call.Giveup view server) =
-      looked (call.Giveup view server) (λ r f. refl) (in_time a (tt {0})) _
-  call_comes call.Status = looked call.Status (λ r f. refl) (in_time a (tt {0})) _
-  call_comes call.Stop = looked call.Stop (λ r f. refl) (in_time a (tt {0})) _
+      plain (call.Giveup view server) (do_call a (call.Giveup view server) work)
+      (answered_by (Outcome (call.Giveup view server)) a work (removal_at a view server) _
+      (denied_so (call.Giveup view server) (λ why f. refl))
+      (λ found is. inl (
+        quiet_comes (enter_view a server work) reply.Done (entered_quiet us p N a server work),
+        λ f. refl,
+      )))
+  call_comes call.Status =
+      plain call.Status (do_call a call.Status work)
+      (looked call.Status (λ r f. refl) (in_time a (tt {0})) _)
+  call_comes call.Stop =
+      plain call.Stop (do_call a call.Stop work)
+      (looked call.Stop (λ r f. refl) (in_time a (tt {0})) _)

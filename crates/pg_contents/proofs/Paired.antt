@@ -1,9 +1,10 @@
 -- What is to come is not here, and what is held has a replica, whose birth was given out.
-use Rattle.std.proofs.Common.{ℕ, ◌≡◌, ◌&&◌, true, false, not, is_some, Option, None, Some, option_map, refl, ap, ◌∙◌, inl, inr}
+use Rattle.std.proofs.Common.{ℕ, ◌≡◌, ◌&&◌, Bool, true, false, not, is_some, Option, None, Some, option_map, refl, sym, ap, ◌∙◌, inl, inr, arith}
 use Rattle.std.proofs.lemmas.Bool.{and_parts, or_cases}
 use Rattle.pg_base.specs.declared.id.FileId.{FileId}
 use Rattle.pg_house.proofs.Truths.{not_true}
 use Rattle.pg_replica.specs.declared.replica.Replica.{Replica}
+use Rattle.pg_run.specs.Journal.{Born}
 use Rattle.pg_store.specs.declared.store.Store.{Store}
 use Rattle.pg_store.specs.declared.wishes.Wish.{Wish}
 use Rattle.pg_store.specs.Births.{fill_at, is_fill_at, is_pending, wish_at}
@@ -11,7 +12,7 @@ use Rattle.pg_store.specs.Store.{is_held, replica_at}
 use Rattle.pg_store.specs.Wishes.{is_with_birth}
 use Rattle.pg_contents.specs.Together.{GoTogether}
 use Rattle.pg_contents.proofs.Changes.{Core, core_at, core_of, replica_of_core}
-use Rattle.pg_contents.proofs.Servers.{IsPaired}
+use Rattle.pg_contents.proofs.Servers.{IsPaired, IsPast}
 
 none_there : (o : Option Replica) → is_some o ≡ false → o ≡ None
 none_there None h = refl
@@ -47,9 +48,23 @@ module _ (a : Store) (k : GoTogether a) where
   paired = record {
     pending = pending;
     both = λ file h. one_there (replica_at a file) (k.together file ∙ h);
+    away = λ file h. ap (option_map core_of) (none_there (replica_at a file) (k.together file ∙ h));
     births = λ file c e.
         let x = replica_of_core a file c e in
         let birth = ap (λ (d : Core). d.birth) x.2 in
         (k.births.replicas file c.birth
         (ap (option_map (λ (y : Replica). y.birth)) x.1 ∙ ap Some birth)).1;
   }
+
+-- the birth of what is held was given out, and is not to come
+pub past_now : (b : Store) → IsPaired b → (v : Born) (c : Core) → core_at b v.made.file ≡ Some c
+    → c.birth ≡ v.birth → IsPast b v
+past_now b k v c is born = (
+  (let given = k.births v.made.file c is in omega arith),
+  by (is_pending b v.made.file v.birth) refl,
+)
+  where
+    by : (t : Bool) → is_pending b v.made.file v.birth ≡ t → t ≡ false
+    by false e = refl
+    by true e =
+        absurd (let z : None ≡ Some c = sym (k.pending v.made.file v.birth e) ∙ is in cc)

@@ -6,23 +6,28 @@ use Rattle.pg_edges.specs.declared.key.Key.{Key}
 use Rattle.pg_edges.specs.declared.key.Key.TheVariants as key
 use Rattle.pg_entries.specs.declared.entry.Entry.{Entry}
 use Rattle.pg_house.specs.Work.{is_root, note_left}
+use Rattle.pg_intent.specs.declared.intent.Intent.{Intent}
+use Rattle.pg_intent.specs.Intent.{key_of}
+use Rattle.pg_intent.specs.Intents.{begun, stands}
 use Rattle.pg_msg.specs.declared.message.Message.{Message}
 use Rattle.pg_msg.specs.declared.update.MadeVersion.{MadeVersion}
 use Rattle.pg_msg.specs.declared.update.Update.{Update}
 use Rattle.pg_msg.specs.declared.update.Update.TheVariants as update
 use Rattle.pg_msg.specs.declared.work.Work.{Work}
-use Rattle.pg_msg.specs.Work.{with_left, with_linked, with_made, with_tail, with_unsure}
+use Rattle.pg_msg.specs.Work.{with_begun, with_left, with_linked, with_made, with_tail, with_unsure}
 use Rattle.pg_names.specs.Names.{own_or_blank}
 use Rattle.pg_register.specs.declared.flag.Flag.{Flag}
 use Rattle.pg_register.specs.declared.place.Place.{Place}
 use Rattle.pg_run.specs.Journal.{Born, versions_in}
 use Rattle.pg_run.specs.Took.{stamp_taken_by, stamps_taken, take_of}
 use Rattle.pg_store.specs.declared.store.Store.{Store}
+use Rattle.pg_store.specs.Beginning.{with_intents}
 use Rattle.pg_store.specs.Links.{is_new_link, link}
 use Rattle.pg_store.specs.Store.{entry_news, is_newer_flag, is_newer_place, take_entry, take_flag, take_place}
 use Rattle.pg_cells.proofs.News.{news_made, news_sent}
 use Rattle.pg_cells.specs.Accepting.{link_peer}
 use Rattle.pg_cells.specs.Done.{Done, idle}
+use Rattle.pg_cells.specs.Intending.{begin_intent, with_begun_if}
 use Rattle.pg_cells.specs.Making.{lower_flag, make_flag, own_next, raise_flag}
 use Rattle.pg_cells.specs.Posting.{post, sent_to}
 use Rattle.pg_cells.specs.Taking.{is_any_news, is_place_news, take_entry_cell, take_entry_noted, take_flag_noted, take_flags_noted, take_place_noted, with_left_if, with_news}
@@ -31,7 +36,7 @@ use Rattle.pg_promises.proofs.Choices.{chosen}
 use Rattle.pg_contents.proofs.Asking.{last_carry, post_carry}
 use Rattle.pg_contents.proofs.Carrying.{Carries}
 use Rattle.pg_contents.proofs.Changes.{Keeps, Keeps-refl, Keeps-trans}
-use Rattle.pg_contents.proofs.Pieces.{entry_keeps, flag_keeps, link_keeps, place_keeps}
+use Rattle.pg_contents.proofs.Pieces.{entry_keeps, flag_keeps, intents_keep, link_keeps, place_keeps}
 use Rattle.pg_contents.proofs.Sending.{AllCarry}
 
 -- ---- updates of names
@@ -151,6 +156,15 @@ module _ (us : List Born) (p : FileId → Policy) (N : FileId → Type 0) where
     sent = λ s. s;
     tail = λ s. s;
   }
+
+  -- an intention begins
+  pub begin_quiet : (a : Store) (i : Intent) (work : Work) → Quiet a work (begin_intent a i work)
+  begin_quiet a i work =
+      let k = key_of i in
+      let t = not (stands a.intents k) in
+      quiet_silent a (with_intents a (begun a.intents i)) work (with_begun_if t work k)
+      (intents_keep a (begun a.intents i))
+      (chosen (IsSilent work) t (with_begun work k) work (refl, refl, refl) (refl, refl, refl))
 
   -- ---- what a thing takes
 

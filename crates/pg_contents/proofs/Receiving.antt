@@ -1,5 +1,5 @@
 -- A message comes: the server makes no version, and stands for what it carried.
-use Rattle.std.proofs.Common.{ℕ, ◌≡◌, ◌&&◌, Bool, true, false, cond, not, List, [], ◌∷◌, ◌++◌, map, Option, None, Some, option_map, refl, sym, ap, subst, ◌∙◌, inl, arith}
+use Rattle.std.proofs.Common.{ℕ, ◌≡◌, ◌&&◌, Bool, true, false, cond, not, List, [], ◌∷◌, ◌++◌, map, Option, None, Some, option_map, refl, sym, ap, subst, ◌∙◌, inl, is_some, arith}
 use Rattle.std.proofs.lemmas.Bool.{and_parts}
 use Rattle.std.proofs.lemmas.List.{append-nil}
 use Rattle.pg_base.specs.declared.id.FileId.{FileId}
@@ -11,7 +11,7 @@ use Rattle.pg_edges.specs.declared.key.Key.TheVariants as key
 use Rattle.pg_entries.specs.declared.cell.Cell.{Cell}
 use Rattle.pg_entries.specs.declared.cell.Cell.TheVariants as cell
 use Rattle.pg_intent.specs.declared.key.IntentKey.TheVariants as intent_key
-use Rattle.pg_intent.specs.Intents.{aimed}
+use Rattle.pg_intent.specs.Intents.{aimed, ended}
 use Rattle.pg_msg.specs.declared.message.Ends.{Ends}
 use Rattle.pg_msg.specs.declared.message.Granted.{Granted}
 use Rattle.pg_msg.specs.declared.message.Message.{Message}
@@ -23,31 +23,34 @@ use Rattle.pg_msg.specs.Sent.{cell_key}
 use Rattle.pg_msg.specs.Work.{new_work}
 use Rattle.pg_replica.specs.declared.replica.Replica.{Replica}
 use Rattle.pg_replica.specs.Replicas.{is_of_birth}
-use Rattle.pg_run.specs.Carried.{carried, granted_takes}
+use Rattle.pg_run.specs.Carried.{carried, gone_by, granted_takes}
 use Rattle.pg_run.specs.Journal.{Born, versions_in}
 use Rattle.pg_run.specs.Took.{Take, stamps_taken, take_of, takes_in}
 use Rattle.pg_store.specs.declared.store.Store.{Store}
-use Rattle.pg_store.specs.Beginning.{with_intents}
-use Rattle.pg_store.specs.Births.{has_birth, is_pending}
+use Rattle.pg_store.specs.Beginning.{let_go, with_intents}
+use Rattle.pg_store.specs.Births.{birth_of, has_birth, is_pending}
 use Rattle.pg_store.specs.Links.{knows_later}
-use Rattle.pg_store.specs.Store.{is_new_version, replica_at, take_version}
+use Rattle.pg_store.specs.Store.{is_new_version, replica_at, replica_of, take_version}
 use Rattle.pg_cells.specs.declared.accepting.Manner.TheVariants as manner
 use Rattle.pg_cells.specs.Accepting.{accept, is_current, link_peer}
 use Rattle.pg_cells.specs.Cells.{fits, taken, taken_along}
 use Rattle.pg_cells.specs.Done.{Done, idle}
+use Rattle.pg_cells.specs.Parting.{stays_for}
 use Rattle.pg_cells.specs.Taking.{with_news}
 use Rattle.pg_cells.proofs.News.{news_made, news_sent}
+use Rattle.pg_graph.specs.Leaving.{goes, leave_ok, may_leave, without_leave}
 use Rattle.pg_repair.specs.Granting.{begin_granted, begun_by, fill_from, granted_own}
 use Rattle.pg_server.specs.Local.{receive}
 use Rattle.pg_contents.proofs.Arrivals.{Arrives, confirmed_none, entry_none, granted_none, more_came, quiet_arrives, told_none, version_named, version_stands}
 use Rattle.pg_contents.proofs.Asking.{post_carry}
 use Rattle.pg_contents.proofs.Carrying.{Carries, CarriesCell}
-use Rattle.pg_contents.proofs.Changes.{Core, alters_keeps, by_altered, core_of}
-use Rattle.pg_contents.proofs.Handlers.{IsKnown, accept_quiet, ack_quiet, confirm_quiet, fetch_quiet, full_quiet, gone_quiet, no_grant_quiet, none_here_quiet, place_is_quiet, seek_quiet, tell_ok_quiet, tell_quiet, walk_quiet}
+use Rattle.pg_contents.proofs.Changes.{Core, Keeps, alters_keeps, by_altered, core_of}
+use Rattle.pg_contents.proofs.Going.{byes_quiet, came_without, held_before, order_stays, stands_gone}
+use Rattle.pg_contents.proofs.Handlers.{IsKnown, accept_quiet, ack_quiet, bye_ok_quiet, bye_quiet, confirm_quiet, fetch_quiet, full_quiet, gone_quiet, invite_quiet, leave_quiet, no_grant_quiet, none_here_quiet, place_is_quiet, seek_quiet, tell_ok_quiet, tell_quiet, walk_quiet}
 use Rattle.pg_contents.proofs.Pieces.{begin_alters, intents_keep}
 use Rattle.pg_contents.proofs.Quiet.{Quiet, entry_cell_quiet, flag_quiet, link_quiet, news_tail, place_quiet, quiet_idle, quiet_post, quiet_store, quiet_then}
 use Rattle.pg_contents.proofs.Sending.{AllCarry, none_carry}
-use Rattle.pg_contents.proofs.Servers.{Came, IsServer, none_full, stands_begun, stands_same}
+use Rattle.pg_contents.proofs.Servers.{Came, IsServer, none_full, pending_unmade, stands_begun, stands_kept, stands_same}
 use Rattle.pg_contents.proofs.Takes.{HasNone, both_none, none_joined}
 use Rattle.pg_contents.proofs.Versions.{version_alters}
 
@@ -205,7 +208,8 @@ module _ {s : ℕ} {a : Store} {us : List Born} {p : FileId → Policy} {N : Fil
           held = λ f c e. inl (by_altered (λ q o. (y : Core) → o ≡ Some y → N q) a d.store file
               (Some fresh) all (λ y same. h.1) (λ q apart y same. k.held q y same) f c e);
           stands = stands_same
-              (stands_begun k.stands d.store file ends.receiver g.policy all none h.0)
+              (stands_begun k.stands d.store file ends.receiver g.policy all none
+              (pending_unmade k file ends.receiver pending) h.0)
               (more_came (map take_of d.work.made ++ takes) came)
               (λ q. ap (λ (ts : List Stamp). ts ++ came q)
               (both_none q (map take_of d.work.made) takes (rest.takes q)
@@ -231,9 +235,58 @@ module _ {s : ℕ} {a : Store} {us : List Born} {p : FileId → Policy} {N : Fil
   nothing : Brings (idle a work) []
   nothing = quiet (idle a work) (quiet_idle us p N a work) [] (λ q. refl)
 
+  -- ---- a replica goes, or stays
+
+  -- what comes, where this replica goes
+  abbrev BringsLess : Option FileId → Done → Type 0
+  BringsLess o d =
+      Arrives s a us p N (came_without o came) d (map take_of d.work.made ++ [])
+
+  module _ (ends : Ends) (stamp : Stamp) where
+    abbrev Asked : Store
+    Asked = without_leave a ends.file
+
+    asked_keeps : Keeps a Asked
+    asked_keeps = intents_keep a (ended a.intents (intent_key.Leave ends.file))
+
+    gone_comes : BringsLess (Some ends.file) (goes Asked ends.file work)
+    gone_comes =
+        let b = let_go Asked ends.file in
+        let d = goes Asked ends.file work in
+        let rest : Quiet us p N b work d =
+        byes_quiet us p N ends.file (birth_of Asked ends.file) (replica_of Asked ends.file).edges (idle b work) in
+        let stands = stands_gone Asked ends.file (stands_kept k.stands Asked asked_keeps) in
+        record {
+          server = rest.keeps.server;
+          last = rest.keeps.last;
+          files = rest.keeps.files;
+          order = λ z. rest.keeps.order (order_stays Asked ends.file z);
+          held = λ f c e. inl (k.held f c
+              (held_before Asked ends.file f c (sym (rest.keeps.each f) ∙ e)));
+          stands = stands_same (stands_kept stands d.store rest.keeps)
+              (more_came (map take_of d.work.made ++ []) (came_without (Some ends.file) came))
+              (λ q. ap (λ (ts : List Stamp). ts ++ came_without (Some ends.file) came q)
+              (both_none q (map take_of d.work.made) [] (rest.takes q) refl));
+          none = rest.none;
+          sent = rest.sent (none_carry us p N);
+          tail = rest.tail (none_carry us p N);
+        }
+
+    left_by : (t u : Bool) → BringsLess (cond (t && not u) (Some ends.file) None)
+        (cond t (cond u (idle Asked work) (goes Asked ends.file work)) (idle a work))
+    left_by true true =
+        quiet (idle Asked work) (quiet_store us p N a Asked work asked_keeps) [] (λ q. refl)
+    left_by true false = gone_comes
+    left_by false u = nothing
+
+    leave_ok_comes : BringsLess (gone_by a from (message.LeaveOk ends stamp))
+        (leave_ok a ends stamp work)
+    leave_ok_comes = left_by (may_leave a ends stamp work) (is_some (stays_for Asked ends.file))
+
   -- A MESSAGE COMES
   pub receive_arrives : (m : Message) → Carries us p N m
-      → Brings (receive a m work) (carried a from m)
+      → Arrives s a us p N (came_without (gone_by a from m) came) (receive a m work)
+      (map take_of (receive a m work).work.made ++ carried a from m)
   receive_arrives (message.Cell ends tag c) h =
       cell_by ends tag c (fits ends.file c) (is_current a from ends) refl h
   receive_arrives (message.Ack ends q tag) h =
@@ -258,6 +311,13 @@ module _ {s : ℕ} {a : Store} {us : List Born} {p : FileId → Policy} {N : Fil
       quiet _ (none_here_quiet us p N a work ask file child) [] (λ f. refl)
   receive_arrives (message.Gone file birth) h =
       quiet _ (gone_quiet us p N a work file birth) [] (λ f. refl)
+  receive_arrives (message.Bye ends) h =
+      quiet _ (bye_quiet us p N a work ends) [] (λ f. refl)
+  receive_arrives (message.ByeOk file birth) h =
+      quiet _ (bye_ok_quiet us p N a work file birth) [] (λ f. refl)
+  receive_arrives (message.Leave ends stamp) h =
+      quiet _ (leave_quiet us p N a work ends stamp) [] (λ f. refl)
+  receive_arrives (message.LeaveOk ends stamp) h = leave_ok_comes ends stamp
   receive_arrives (message.Confirm dir entry) h =
       quiet _ (confirm_quiet us p N a work dir entry) _ (λ f. confirmed_none f a entry)
   receive_arrives (message.PlaceIs dir entry) h =
@@ -266,4 +326,6 @@ module _ {s : ℕ} {a : Store} {us : List Born} {p : FileId → Policy} {N : Fil
       quiet _ (tell_quiet us p N a work dir entry) _ (λ f. told_none f a dir entry)
   receive_arrives (message.TellOk dir child stamp) h =
       quiet _ (tell_ok_quiet us p N a work dir child stamp) [] (λ f. refl)
+  receive_arrives (message.Invite ends) h =
+      quiet _ (invite_quiet us p N a work ends) [] (λ f. refl)
   receive_arrives m h = nothing

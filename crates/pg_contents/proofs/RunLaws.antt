@@ -19,7 +19,7 @@ use Rattle.pg_run.specs.Laws.{HoldsWhatItTook}
 use Rattle.pg_run.specs.Run.{World, run}
 use Rattle.pg_run.specs.State.{policy_made, versions_taken}
 use Rattle.pg_run.proofs.Lists.{contained_among}
-use Rattle.pg_contents.specs.Together.{HoldBoth}
+use Rattle.pg_contents.specs.Together.{StandOn}
 use Rattle.pg_contents.proofs.Carrying.{Carries, CarriesCell, policies}
 use Rattle.pg_contents.proofs.Changes.{core_of}
 use Rattle.pg_contents.proofs.Runs.{IsSound, run_sound}
@@ -44,7 +44,7 @@ message_tells w m h = tt
 
 -- ---- after any events
 
-module _ (n : ℕ) (small : n < 2 ^ 32) (both : HoldBoth n) (events : List Event) where
+module _ (n : ℕ) (small : n < 2 ^ 32) (both : StandOn n) (events : List Event) where
   abbrev end : World
   end = run n events
 
@@ -71,7 +71,7 @@ module _ (n : ℕ) (small : n < 2 ^ 32) (both : HoldBoth n) (events : List Event
       (versions_taken file end.history (end.took s)) (closed s file)
 
 -- MERGE
-pub holds_what_it_took : (n : ℕ) → n < 2 ^ 32 → HoldBoth n → HoldsWhatItTook n
+pub holds_what_it_took : (n : ℕ) → n < 2 ^ 32 → StandOn n → HoldsWhatItTook n
 holds_what_it_took n small both events file s least most x is =
     let w = run n events in
     let h = versions file w.history in
@@ -81,10 +81,10 @@ holds_what_it_took n small both events file s least most x is =
     content_is h (histories n small both events file) x.content set f.stood.stands
     ∙ ap (λ q. content_of q h set) f.policy
 
-pub state_is_its_heads : (n : ℕ) → n < 2 ^ 32 → HoldBoth n → StateIsItsHeads n
+pub state_is_its_heads : (n : ℕ) → n < 2 ^ 32 → StandOn n → StateIsItsHeads n
 state_is_its_heads n small both events s file = stands_for n small both events s file
 
-pub state_is_determined : (n : ℕ) → n < 2 ^ 32 → HoldBoth n → StateIsDetermined n
+pub state_is_determined : (n : ℕ) → n < 2 ^ 32 → StandOn n → StateIsDetermined n
 state_is_determined n small both events file s t same =
     let w = run n events in
     let h = versions file w.history in
@@ -94,21 +94,21 @@ state_is_determined n small both events file s t same =
     (content_of (policy_made file w.journal) h two) one two (histories n small both events file)
     (stands_for n small both events s file) (stands_for n small both events t file) refl same
 
-pub makes_histories : (n : ℕ) → n < 2 ^ 32 → HoldBoth n → MakesHistories n
+pub makes_histories : (n : ℕ) → n < 2 ^ 32 → StandOn n → MakesHistories n
 makes_histories n small both events file = histories n small both events file
 
-pub ancestry_by_vectors : (n : ℕ) → n < 2 ^ 32 → HoldBoth n → AncestryByVectors n
+pub ancestry_by_vectors : (n : ℕ) → n < 2 ^ 32 → StandOn n → AncestryByVectors n
 ancestry_by_vectors n small both events file u v p q =
     ancestry (versions file (run n events).history) (histories n small both events file) u v p q
 
-pub carries_the_history : (n : ℕ) → n < 2 ^ 32 → HoldBoth n → CarriesHistory n
+pub carries_the_history : (n : ℕ) → n < 2 ^ 32 → StandOn n → CarriesHistory n
 carries_the_history n small both events m under =
     let w = run n events in
     message_tells w m.packet.message
     (All-contains (CarriesSent w.history (policies w.journal) (IsNamed w.stores)) (mail w.journal) m
     (sound n small both events).carried under)
 
-pub one_version_a_stamp : (n : ℕ) → n < 2 ^ 32 → HoldBoth n → OneVersionAStamp n
+pub one_version_a_stamp : (n : ℕ) → n < 2 ^ 32 → StandOn n → OneVersionAStamp n
 one_version_a_stamp n small both events u v p q same =
     let us = (run n events).history in
     (sound n small both events).made.one u v (contained_among us u p) (contained_among us v q) same

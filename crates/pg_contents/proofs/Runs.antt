@@ -1,42 +1,50 @@
 -- After any events every server stands for what came to it.
-use Rattle.std.proofs.Common.{ℕ, ◌≡◌, ◌<◌, ◌^◌, true, false, Option, None, Some, List, [], ◌∷◌, ◌++◌, map, refl, sym, ap, subst, ◌∙◌, inl, inr, arith}
-use Rattle.std.specs.Prelude.{nat_le}
-use Rattle.std.proofs.lemmas.Bool.{and_parts, leb-true}
+use Rattle.std.proofs.Common.{ℕ, ◌≡◌, ◌<◌, ◌≤◌, ◌^◌, Bool, cond, true, false, Option, None, Some, List, [], ◌∷◌, ◌++◌, map, refl, sym, ap, subst, ◌∙◌, inl, inr, arith}
+use Rattle.std.proofs.lemmas.List.Elements.{All-contains}
+use Rattle.std.proofs.lemmas.Option.{none-some, same_Some}
 use mathlib.Core.Path.{fun_ext}
 use Rattle.pg_base.specs.declared.id.FileId.{FileId}
 use Rattle.pg_base.specs.declared.policy.Policy.{Policy}
 use Rattle.pg_call.specs.declared.call.Call.{Call}
+use Rattle.pg_flood.proofs.Flood.{after_itself}
 use Rattle.pg_event.specs.declared.entry.VoidCause.{VoidCause}
-use Rattle.pg_event.specs.declared.entry.VoidCause.TheVariants.{NoMessage, NoServer, Unbuilt}
 use Rattle.pg_event.specs.declared.event.Event.{Event}
 use Rattle.pg_event.specs.declared.event.Event.TheVariants.{Call as Called, Tick, Deliver, Lose, Repeat, Restart, Remove}
 use Rattle.pg_msg.specs.declared.message.Sent.{Sent}
 use Rattle.pg_msg.specs.declared.update.MadeVersion.{MadeVersion}
 use Rattle.pg_msg.specs.Work.{new_work}
-use Rattle.pg_calls.specs.Calls.{do_call, is_built}
-use Rattle.pg_run.specs.Journal.{Born, bag, born_at, mail, message_at}
+use Rattle.pg_calls.specs.Calls.{do_call}
+use Rattle.pg_run.specs.Journal.{Born, bag, born_at, mail, message_at, removals}
 use Rattle.pg_run.specs.Laws.{AtEach}
-use Rattle.pg_run.specs.Run.{Step, World, bag_step, delivery_step, effect_step, idle_step, is_server, next, run, run_from, server_step, start, took_after, world_after}
-use Rattle.pg_run.specs.State.{is_made, policy_asked, policy_by, policy_made}
+use Rattle.pg_run.specs.Run.{Step, Taking, World, effect_step, idle_step, is_due, is_live, run, start, taking_in, taking_message, took_after, world_after}
+use Rattle.pg_run.specs.State.{is_made, policy_asked, policy_named, policy_by, policy_made}
 use Rattle.pg_run.specs.Took.{Take}
-use Rattle.pg_run.proofs.Bags.{at_message}
-use Rattle.pg_run.proofs.Frame.{all_under_way}
+use Rattle.pg_run.proofs.Frame.{Acts, HasCome, holds_in_runs, next_is, run_more}
 use Rattle.pg_server.specs.declared.input.Input.{Input}
 use Rattle.pg_server.specs.declared.input.Input.TheVariants as input
 use Rattle.pg_server.specs.Local.{Effect, closed, done_of, effect, finished}
 use Rattle.pg_store.specs.declared.store.Store.{Store}
+use Rattle.pg_store.specs.Together.{BirthsMove}
 use Rattle.pg_store.specs.Store.{is_in_time}
-use Rattle.pg_promises.proofs.Choices.{chosen, decided}
-use Rattle.pg_contents.specs.Together.{GoTogether, HoldBoth}
+use Rattle.pg_promises.proofs.Choices.{chosen}
+use Rattle.pg_contents.specs.Together.{GoTogether, StandOn}
 use Rattle.pg_contents.proofs.Carrying.{policies}
 use Rattle.pg_contents.proofs.Effects.{IsMaking, IsPassive, call_ended}
 use Rattle.pg_contents.proofs.Inputs.{arrived_passive, restart_passive, tick_passive}
 use Rattle.pg_contents.proofs.Outcomes.{policies_then}
-use Rattle.pg_contents.proofs.Paired.{paired}
+use Rattle.pg_contents.proofs.Paired.{paired, past_now}
 use Rattle.pg_contents.proofs.Sending.{CarriesSent}
 use Rattle.pg_contents.proofs.Servers.{IsServer, came_of}
 use Rattle.pg_contents.proofs.Start.{sound_start}
+use Rattle.pg_calls.specs.Forgetting.{is_wanted}
+use Rattle.pg_store.specs.Store.{is_held}
+use Rattle.pg_contents.proofs.Wanted.{wanted_run}
 use Rattle.pg_contents.proofs.Worlds.{IsNamed, Sound, making_sound, passive_sound, server_of}
+
+-- the policy that an input names, if it makes a file
+abbrev policy_input : Input → Option Policy
+policy_input (input.Call moment asked) = policy_named asked
+policy_input _ = None
 
 abbrev pub IsSound : World → Type 0
 IsSound w = Sound w.stores w.history (policies w.journal) w.took (mail w.journal)
@@ -64,12 +72,10 @@ call_reply a moment asked =
     chosen (λ (done : Effect). done.out.reply ≡ Some r.reply) (is_in_time a)
     (closed (Some r.reply) (done_of r)) (finished (Some r.reply) (done_of r)) refl refl
 
-few_servers : (n s : ℕ) → n < 2 ^ 32 → is_server n s ≡ true → s < 2 ^ 32
-few_servers n s small h =
-    let most = leb-true s n (and_parts (nat_le 1 s) (nat_le s n) h).1 in omega arith
-
 module _ (n : ℕ) (small : n < 2 ^ 32) (w : World)
-    (both : AtEach n (λ s. GoTogether (w.stores s))) (k : IsSound w) where
+    (both : AtEach n (λ s. GoTogether (w.stores s)))
+    (wanted : AtEach n (λ s. (file : FileId) → is_wanted (w.stores s) file ≡ true
+    → is_held (w.stores s) file ≡ false → IsNamed w.stores file)) (k : IsSound w) where
   abbrev us : List Born
   us = w.history
 
@@ -79,23 +85,20 @@ module _ (n : ℕ) (small : n < 2 ^ 32) (w : World)
   abbrev N : FileId → Type 0
   N f = IsNamed w.stores f
 
+  -- names and replicas go together then, and births have moved on
+  pub record Follows (step : Step) : Type 0 where
+    pub go_together : AtEach n (λ s. GoTogether ((world_after w step).stores s))
+    pub move_on : AtEach n (λ s. BirthsMove (w.stores s) ((world_after w step).stores s))
+
   abbrev SoundAfter : Step → Type 0
-  SoundAfter step = IsSound (world_after w step)
+  SoundAfter step = Follows step → IsSound (world_after w step)
 
-  -- no server does anything
-  idle_sound : (e : Event) (cause : Option VoidCause) → SoundAfter (idle_step w e cause)
-  idle_sound e cause =
-      sound_same refl (λ f. policy_stays (policy_asked e) (policy_made f w.journal)) k
+  module _ (e : Event) (s : ℕ) (asked : Input) (least : 1 ≤ s) (most : s ≤ n) where
+    -- one server acts
+    server_now : IsServer s (w.stores s) us p N (came_of (w.took s))
+    server_now =
+        server_of k s (omega (arith, small, most)) (paired (w.stores s) (both s least most)) (wanted s least most)
 
-  -- one server acts
-  server_now : (s : ℕ) → is_server n s ≡ true
-      → IsServer s (w.stores s) us p N (came_of (w.took s))
-  server_now s h =
-      let parts = and_parts (nat_le 1 s) (nat_le s n) h in
-      server_of k s (few_servers n s small h)
-      (paired (w.stores s) (both s (leb-true 1 s parts.0) (leb-true s n parts.1)))
-
-  module _ (e : Event) (s : ℕ) (asked : Input) where
     abbrev done : Effect
     done = effect (w.stores s) asked
 
@@ -105,107 +108,120 @@ module _ (n : ℕ) (small : n < 2 ^ 32) (w : World)
     abbrev then_policy : FileId → Policy
     then_policy f = policy_by (is_made f done.out.reply) (policy_asked e) (p f)
 
+    moved_here : Follows (effect_step w e s asked) → BirthsMove (w.stores s) done.store
+    moved_here follows =
+        subst (λ (b : Store). BirthsMove (w.stores s) b) (after_itself w.stores s done.store)
+        (follows.move_on s least most)
+
+    together_here : Follows (effect_step w e s asked) → GoTogether done.store
+    together_here follows =
+        subst GoTogether (after_itself w.stores s done.store) (follows.go_together s least most)
+
     -- one server makes no version
     passive_next : ((f : FileId) → then_policy f ≡ p f)
         → IsPassive s (w.stores s) us p N done takes → SoundAfter (effect_step w e s asked)
-    passive_next same act =
+    passive_next same act follows =
         sound_same (ap (λ (vs : List MadeVersion). map (born_at done.store) vs ++ us) act.none) same
-        (passive_sound k s done takes act)
+        (passive_sound k s done takes (moved_here follows) act)
 
     -- it makes one
     making_next : (q : FileId → Policy) → ((f : FileId) → then_policy f ≡ q f)
         → IsMaking s (w.stores s) us p q N done takes → SoundAfter (effect_step w e s asked)
-    making_next q same act =
+    making_next q same act follows =
         sound_same (ap (λ (vs : List Born). vs ++ us) act.made) same
-        (making_sound k s done takes q act)
+        (making_sound k s done takes (moved_here follows) q act
+        (past_now done.store (paired done.store (together_here follows)) act.version act.core act.here
+        act.born))
 
-  -- ---- calls
+  -- ---- what is asked
 
-  call_sound : (s moment : ℕ) (asked : Call) → is_server n s ≡ true
-      → SoundAfter (effect_step w (Called s moment asked) s (input.Call moment asked))
-  call_sound s moment asked there =
-      let e = Called s moment asked in
+  call_sound : (e : Event) (s moment : ℕ) (asked : Call) → 1 ≤ s → s ≤ n → policy_asked e ≡ policy_named asked
+      → SoundAfter (effect_step w e s (input.Call moment asked))
+  call_sound e s moment asked least most same =
       let i = input.Call moment asked in
       let r = do_call (w.stores s) asked (new_work moment 0) in
       let told : (f : FileId) → policy_by (is_made f (effect (w.stores s) i).out.reply)
       (policy_asked e) (p f) ≡ policies_then p asked r.reply f =
       (λ f. ap (λ o. policy_by (is_made f o) (policy_asked e) (p f))
-      (call_reply (w.stores s) moment asked)) in
-      elim (call_ended (w.took s) (server_now s there) moment asked) [
-        | inl passive ↦ passive_next e s i (λ f. told f ∙ passive.1 f) passive.0
-        | inr making ↦ making_next e s i (policies_then p asked r.reply) told making
+      (call_reply (w.stores s) moment asked) ∙ ap (λ o. policy_by (is_made f (Some r.reply)) o (p f)) same) in
+      elim (call_ended (w.took s) (server_now e s i least most) moment asked) [
+        | inl passive ↦ passive_next e s i least most (λ f. told f ∙ passive.1 f) passive.0
+        | inr making ↦ making_next e s i least most (policies_then p asked r.reply) told making
       ]
 
-  called_sound : (s moment : ℕ) (asked : Call) → SoundAfter (next n w (Called s moment asked))
-  called_sound s moment asked =
-      let e = Called s moment asked in
-      chosen SoundAfter (is_built asked) (server_step n w e s (input.Call moment asked))
-      (idle_step w e (Some Unbuilt))
-      (decided SoundAfter (is_server n s) (effect_step w e s (input.Call moment asked))
-      (idle_step w e (Some NoServer)) (call_sound s moment asked)
-      (λ f. idle_sound e (Some NoServer)))
-      (idle_sound e (Some Unbuilt))
+  quiet_sound : (e : Event) (s : ℕ) (asked : Input) (least : 1 ≤ s) (most : s ≤ n) → policy_asked e ≡ None
+      → IsPassive s (w.stores s) us p N (effect (w.stores s) asked) (took_after (w.stores s) (w.took s) asked)
+      → SoundAfter (effect_step w e s asked)
+  quiet_sound e s asked least most none act =
+      passive_next e s asked least most
+      (λ f. ap (λ o. policy_by (is_made f (effect (w.stores s) asked).out.reply) o (p f)) none) act
 
-  -- ---- all other events
+  -- WHATEVER IS ASKED
+  pub input_sound : (e : Event) (s : ℕ) (asked : Input) (least : 1 ≤ s) (most : s ≤ n) → HasCome w s asked
+      → policy_asked e ≡ policy_input asked → SoundAfter (effect_step w e s asked)
+  input_sound e s (input.Call moment asked) least most come same = call_sound e s moment asked least most same
+  input_sound e s (input.Tick moment word) least most come same =
+      quiet_sound e s (input.Tick moment word) least most same
+      (tick_passive (w.took s) (server_now e s (input.Tick moment word) least most) moment word)
+  input_sound e s (input.Arrival packet) least most come same =
+      quiet_sound e s (input.Arrival packet) least most same
+      (arrived_passive (w.took s) (server_now e s (input.Arrival packet) least most) packet
+      (All-contains (CarriesSent us p N) (mail w.journal) (record { to = s; packet = packet }) k.carried come))
+  input_sound e s input.Restart least most come same =
+      quiet_sound e s input.Restart least most same
+      (restart_passive (w.took s) (server_now e s input.Restart least most))
 
-  tick_sound : (s moment word : ℕ) → SoundAfter (next n w (Tick s moment word))
-  tick_sound s moment word =
-      let e = Tick s moment word in
-      let i = input.Tick moment word in
-      decided SoundAfter (is_server n s) (effect_step w e s i) (idle_step w e (Some NoServer))
-      (λ there. passive_next e s i (λ f. refl)
-      (tick_passive (w.took s) (server_now s there) moment word))
-      (λ f. idle_sound e (Some NoServer))
+-- ---- which policy an event names
 
-  restart_sound : (s : ℕ) → SoundAfter (next n w (Restart s))
-  restart_sound s =
-      let e = Restart s in
-      decided SoundAfter (is_server n s) (effect_step w e s input.Restart)
-      (idle_step w e (Some NoServer))
-      (λ there. passive_next e s input.Restart (λ f. refl)
-      (restart_passive (w.took s) (server_now s there)))
-      (λ f. idle_sound e (Some NoServer))
+module _ (n : ℕ) (w : World) (t : Taking) where
+  taken_by : (r : Taking) (live : Bool) → cond live (Some r) None ≡ Some t → policy_input r.asked ≡ policy_input t.asked
+  taken_by r true h = ap (λ (x : Taking). policy_input x.asked) (same_Some r t h)
+  taken_by r false h = absurd (none-some t h)
 
-  delivery_sound : (number : ℕ) (o : Option Sent) → message_at (bag w.journal) number ≡ o
-      → SoundAfter (delivery_step n w (Deliver number) o)
-  delivery_sound number None is = idle_sound (Deliver number) (Some NoMessage)
-  delivery_sound number (Some m) is =
-      let e = Deliver number in
-      let i = input.Arrival m.packet in
-      let P = CarriesSent us p N in
-      decided SoundAfter (is_server n m.to) (effect_step w e m.to i) (idle_step w e None)
-      (λ there. passive_next e m.to i (λ f. refl)
-      (arrived_passive (w.took m.to) (server_now m.to there) m.packet
-      (at_message P (bag w.journal) number m (all_under_way P w.journal k.carried) is)))
-      (λ f. idle_sound e None)
+  due_by : (r : Taking) (due live : Bool) → cond due (cond live (Some r) None) None ≡ Some t
+      → policy_input r.asked ≡ policy_input t.asked
+  due_by r true live h = taken_by r live h
+  due_by r false live h = absurd (none-some t h)
 
-  moved_sound : (e : Event) (o : Option Sent) → SoundAfter (bag_step w e o)
-  moved_sound e None = idle_sound e (Some NoMessage)
-  moved_sound e (Some m) = idle_sound e None
+  come_by : (o : Option Sent) → taking_message n w o ≡ Some t → None ≡ policy_input t.asked
+  come_by None h = absurd (none-some t h)
+  come_by (Some m) h = taken_by (record { server = m.to; asked = input.Arrival m.packet }) (is_live n w m.to) h
 
-  -- WHATEVER HAPPENS
-  pub next_sound : (e : Event) → SoundAfter (next n w e)
-  next_sound (Called s moment asked) = called_sound s moment asked
-  next_sound (Tick s moment word) = tick_sound s moment word
-  next_sound (Deliver number) =
-      delivery_sound number (message_at (bag w.journal) number) refl
-  next_sound (Lose number) = moved_sound (Lose number) (message_at (bag w.journal) number)
-  next_sound (Repeat number) = moved_sound (Repeat number) (message_at (bag w.journal) number)
-  next_sound (Restart s) = restart_sound s
-  next_sound (Remove s) = idle_sound (Remove s) (Some Unbuilt)
+  -- that of the call, where a call is taken
+  pub policy_taken : (e : Event) → taking_in n w e ≡ Some t → policy_asked e ≡ policy_input t.asked
+  policy_taken (Called s moment c) h =
+      due_by (record { server = s; asked = input.Call moment c }) (is_due (removals w.journal) c) (is_live n w s) h
+  policy_taken (Tick s moment word) h =
+      taken_by (record { server = s; asked = input.Tick moment word }) (is_live n w s) h
+  policy_taken (Deliver number) h = come_by (message_at (bag w.journal) number) h
+  policy_taken (Lose number) h = absurd (none-some t h)
+  policy_taken (Repeat number) h = absurd (none-some t h)
+  policy_taken (Restart s) h = taken_by (record { server = s; asked = input.Restart }) (is_live n w s) h
+  policy_taken (Remove s) h = absurd (none-some t h)
 
 -- ---- all events
 
-run_from_sound : (n : ℕ) → n < 2 ^ 32 → (w : World) (events : List Event)
-    → ((some : List Event) → AtEach n (λ s. GoTogether ((run_from n w some).stores s)))
-    → IsSound w → IsSound (run_from n w events)
-run_from_sound n small w [] both k = k
-run_from_sound n small w (e ∷ es) both k =
-    run_from_sound n small (world_after w (next n w e)) es (λ some. both (e ∷ some))
-    (next_sound n small w (both []) k e)
+-- no server does anything
+idle_sound : (w : World) (e : Event) (cause : Option VoidCause) → IsSound w → IsSound (world_after w (idle_step w e cause))
+idle_sound w e cause k = sound_same refl (λ f. policy_stays (policy_asked e) (policy_made f w.journal)) k
 
--- AFTER ANY EVENTS
-pub run_sound : (n : ℕ) → n < 2 ^ 32 → HoldBoth n → (events : List Event)
-    → IsSound (run n events)
-run_sound n small both events =
-    run_from_sound n small (start n) events both (sound_start n)
+module _ (n : ℕ) (small : n < 2 ^ 32) (stand : StandOn n) where
+  acted : (events : List Event) (e : Event) (t : Taking) → taking_in n (run n events) e ≡ Some t → Acts n (run n events) t
+      → IsSound (run n events) → IsSound (world_after (run n events) (effect_step (run n events) e t.server t.asked))
+  acted events e t taken acts k =
+      let w = run n events in
+      let step = effect_step w e t.server t.asked in
+      let more : run n (events ++ e ∷ []) ≡ world_after w step =
+      run_more n (start n) events e ∙ ap (world_after w) (next_is n w e t taken) in
+      let P : World → Type 0 = (λ v. AtEach n (λ s. GoTogether (v.stores s))) in
+      let Q : World → Type 0 = (λ v. AtEach n (λ s. BirthsMove (w.stores s) (v.stores s))) in
+      input_sound n small w (stand.both events) (wanted_run n stand.named stand.intends events) k e t.server t.asked
+      acts.least acts.most acts.came (policy_taken n w t e taken)
+      (record {
+        go_together = subst P more (stand.both (events ++ e ∷ []));
+        move_on = subst Q more (stand.moves events (e ∷ []));
+      })
+
+  -- AFTER ANY EVENTS
+  pub run_sound : (events : List Event) → IsSound (run n events)
+  run_sound events = holds_in_runs n IsSound (record { first = sound_start n; idle = idle_sound; acts = acted }) events

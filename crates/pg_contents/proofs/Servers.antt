@@ -1,5 +1,5 @@
 -- What a server holds of the contents of all files. It changes at one file at a time.
-use Rattle.std.proofs.Common.{[], ℕ, ◌≡◌, ◌≢◌, ◌<◌, ◌≤◌, ◌^◌, Bool, true, false, cond, List, ◌∷◌, ◌++◌, Option, None, Some, refl, sym, subst, ◌∙◌, inl, inr, ◌⊎◌, arith}
+use Rattle.std.proofs.Common.{[], ℕ, ◌≡◌, ◌≢◌, ◌<◌, ◌≤◌, ◌^◌, Bool, true, false, cond, List, ◌∷◌, ◌++◌, Option, None, Some, refl, sym, ap, subst, ◌∙◌, inl, inr, ◌⊎◌, arith}
 use Rattle.std.proofs.lemmas.Option.{same_Some}
 use mathlib.Core.Path.{fun_ext}
 use Rattle.pg_base.specs.declared.id.FileId.{FileId}
@@ -8,23 +8,23 @@ use Rattle.pg_base.specs.declared.policy.Policy.TheVariants.{Last}
 use Rattle.pg_base.specs.declared.stamp.Stamp.{Stamp}
 use Rattle.pg_base.specs.declared.vector.Actor.{Actor}
 use Rattle.pg_base.specs.Id.{is_same_file}
-use Rattle.pg_base.specs.Vector.{number_at}
-use Rattle.pg_base.specs.Version.{VersionValue}
 use Rattle.pg_base.proofs.Orders.{is_same_file-true}
-use Rattle.pg_content.specs.Content.{Among, ContentValue}
-use Rattle.pg_content.specs.History.{IsHistory, IsMember, Made}
-use Rattle.pg_content.specs.StandsFor.{InStrictOrder}
+use Rattle.pg_content.specs.Content.{Among}
+use Rattle.pg_content.specs.History.{IsHistory, IsMember, Made, maker}
 use Rattle.pg_names.proofs.Lookups.{apart_back}
-use Rattle.pg_run.specs.Journal.{Born, made_for, made_of, with_ancestors}
+use Rattle.pg_run.specs.Journal.{Born, made_for, made_of}
 use Rattle.pg_run.specs.Took.{Take, stamps_taken}
 use Rattle.pg_store.specs.declared.store.Store.{Store}
 use Rattle.pg_store.specs.Births.{is_pending}
 use Rattle.pg_store.specs.Store.{is_full, is_held}
+use Rattle.pg_store.specs.Together.{BirthsMove}
+use Rattle.pg_names.specs.Names.{is_dir}
+use Rattle.pg_calls.specs.Forgetting.{is_wanted}
 use Rattle.pg_calls.proofs.Walked.{full_held}
 use Rattle.pg_contents.proofs.Changes.{Alters, Core, Keeps, by_altered, content_in, core_at}
-use Rattle.pg_contents.proofs.Files.{HoldsFile, Stood, stood_begun, stood_later}
-use Rattle.pg_contents.proofs.Histories.{AreMade, by_file, own_file}
-use Rattle.pg_contents.proofs.Sets.{AreMembers, taken_in_time}
+use Rattle.pg_contents.proofs.Files.{HoldsFile, Stood, none_stood, stood_begun, stood_later}
+use Rattle.pg_contents.proofs.Histories.{AreMade, by_file, own_file, update_of}
+use Rattle.pg_contents.proofs.Sets.{AreMembers}
 
 -- ---- what a server stands for
 
@@ -48,24 +48,26 @@ policied_here : (p : FileId → Policy) (file : FileId) (c : Core) → c.content
 policied_here p file c same d e =
     let P : Core → Type 0 = (λ x. x.content.policy ≡ p file) in subst P (same_Some c d e) same
 
-none_stood : (s : ℕ) (c : ContentValue) → c.heads ≡ [] → Stood s c [] []
-none_stood s c none = record {
-  stands = record {
-    closed = record { members = λ t l. l; ancestors = λ t u l a. absurd l };
-    order = subst InStrictOrder (sym none) tt;
-    heads = λ v l. absurd (subst (Among v) none l);
-    all = λ t l. absurd l;
-  };
-  own = λ m l same. absurd l;
-}
+-- the present replica of server s made it
+abbrev pub IsBy : ℕ → Option Core → Made → Type 0
+IsBy s None m = ⊥
+IsBy s (Some k) m = maker m ≡ record { server = s; birth = k.birth }
+
+-- which another server's version is not
+pub not_by : (s : ℕ) (o : Option Core) (m : Made) → m.stamp.server ≢ s → ¬ (IsBy s o m)
+not_by s None m other by = by
+not_by s (Some k) m other by = other (ap (λ (q : Actor). q.server) by)
+
+-- what is held of a file stands for what came to it
+abbrev pub StandsAs : ℕ → Option Core → List Made → List Stamp → Type 0
+StandsAs s o h set = Stood (IsBy s o) (content_in o) h set
 
 -- server s has, of the versions that were made, what those come to that came to it: of what it does
 -- not hold none came. What it holds has the policy of its file; and it has come to the times of
 -- what came
 pub record Stands (s : ℕ) (a : Store) (us : List Born) (p : FileId → Policy) (came : Came)
     : Type 0 where
-  pub files : (file : FileId)
-      → Stood s (content_in (core_at a file)) (made_for file us) (came file)
+  pub files : (file : FileId) → StandsAs s (core_at a file) (made_for file us) (came file)
   pub policies : (file : FileId) (k : Core) → core_at a file ≡ Some k
       → k.content.policy ≡ p file
   pub known : (file : FileId) → AreMembers (made_for file us) (came file)
@@ -75,10 +77,9 @@ module _ {s : ℕ} {a : Store} {us : List Born} {p : FileId → Policy} {came : 
     (k : Stands s a us p came) where
   -- a file that is held
   pub file_held : (file : FileId) (c : Core) → core_at a file ≡ Some c
-      → HoldsFile s (p file) c.content (made_for file us) (came file)
+      → HoldsFile (IsBy s (Some c)) (p file) c.content (made_for file us) (came file)
   file_held file c e =
-      let P : Option Core → Type 0 =
-      (λ o. Stood s (content_in o) (made_for file us) (came file)) in
+      let P : Option Core → Type 0 = (λ o. StandsAs s o (made_for file us) (came file)) in
       record { policy = k.policies file c e; stood = subst P e (k.files file) }
 
   raised : (b : Store) → a.names.last ≤ b.names.last → (file : FileId) (t : Stamp)
@@ -88,7 +89,7 @@ module _ {s : ℕ} {a : Store} {us : List Born} {p : FileId → Policy} {came : 
   pub stands_kept : (b : Store) → Keeps a b → Stands s b us p came
   stands_kept b e = record {
     files = λ file. (let P : Option Core → Type 0 =
-        (λ o. Stood s (content_in o) (made_for file us) (came file)) in
+        (λ o. StandsAs s o (made_for file us) (came file)) in
         subst P (sym (e.each file)) (k.files file));
     policies = λ file c h. k.policies file c (sym (e.each file) ∙ h);
     known = k.known;
@@ -116,8 +117,9 @@ module _ {s : ℕ} {a : Store} {us : List Born} {p : FileId → Policy} {came : 
   pub stands_later : (u : Born) → IsHistory (made_of u ∷ made_for u.made.file us)
       → u.made.stamp.server ≢ s → Stands s a (u ∷ us) p came
   stands_later u history other = record {
-    files = by_file (λ file h. Stood s (content_in (core_at a file)) h (came file)) u us
-        (stood_later (k.files u.made.file) (k.known u.made.file) (made_of u) history other) k.files;
+    files = by_file (λ file h. StandsAs s (core_at a file) h (came file)) u us
+        (stood_later (k.files u.made.file) (k.known u.made.file) (made_of u) history
+        (not_by s (core_at a u.made.file) (made_of u) other)) k.files;
     policies = k.policies;
     known = by_file (λ file h. AreMembers h (came file)) u us
         (λ t l. inr (k.known u.made.file t l)) k.known;
@@ -132,18 +134,22 @@ module _ {s : ℕ} {a : Store} {us : List Born} {p : FileId → Policy} {came : 
     abbrev NewCore : Core
     NewCore = record { birth = birth; content = record { policy = policy; heads = [] } }
 
-    new_stood : Stood s NewCore.content (made_for file us) (came file)
-    new_stood =
-        let P : Option Core → Type 0 =
-        (λ o. Stood s (content_in o) (made_for file us) (came file)) in
-        stood_begun (subst P none (k.files file)) refl policy
+    -- its birth made no version before
+    abbrev pub IsUnmade : Type 0
+    IsUnmade = (m : Made) → Among m (made_for file us)
+        → ¬ (maker m ≡ record { server = s; birth = birth })
 
-    pub stands_begun : policy ≡ p file → Stands s b us p came
-    stands_begun same =
+    new_stood : IsUnmade → StandsAs s (Some NewCore) (made_for file us) (came file)
+    new_stood unmade =
+        let P : Option Core → Type 0 = (λ o. StandsAs s o (made_for file us) (came file)) in
+        stood_begun (subst P none (k.files file)) refl policy (IsBy s (Some NewCore)) unmade
+
+    pub stands_begun : IsUnmade → policy ≡ p file → Stands s b us p came
+    stands_begun unmade same =
         let up = begins.last in
         record {
-          files = by_altered (λ f o. Stood s (content_in o) (made_for f us) (came f)) a b file
-              (Some NewCore) begins new_stood (λ f apart. k.files f);
+          files = by_altered (λ f o. StandsAs s o (made_for f us) (came f)) a b file
+              (Some NewCore) begins (new_stood unmade) (λ f apart. k.files f);
           policies = by_altered (Policied p) a b file (Some NewCore) begins
               (policied_here p file NewCore same) (λ f apart. k.policies f);
           known = k.known;
@@ -198,10 +204,11 @@ module _ {s : ℕ} {a : Store} {us : List Born} {p : FileId → Policy} {came : 
       (λ f apart. k.policies f)
 
   -- a version that comes
-  pub stands_came : HoldsFile s (p file) c.content (made_for file us) (stamp ∷ came file)
+  pub stands_came
+      : HoldsFile (IsBy s (Some c)) (p file) c.content (made_for file us) (stamp ∷ came file)
       → IsMember (made_for file us) stamp → Stands s b us p (with_came file stamp came)
   stands_came here is = record {
-    files = by_came (λ q o set. Stood s (content_in o) (made_for q us) set) a b file stamp (Some c)
+    files = by_came (λ q o set. StandsAs s o (made_for q us) set) a b file stamp (Some c)
         came alters here.stood (λ q apart. k.files q);
     policies = policied here.policy;
     known = by_came (λ q o set. AreMembers (made_for q us) set) a b file stamp (Some c) came alters
@@ -227,16 +234,16 @@ module _ {s : ℕ} {a : Store} {us : List Born} {p : FileId → Policy} {came : 
       subst (λ t. P (cond t (made_of u ∷ made_for q us) (made_for q us))) (sym apart) h
 
   pub stands_wrote
-      : HoldsFile s (p u.made.file) c.content (made_of u ∷ made_for u.made.file us)
-      (u.made.stamp ∷ came u.made.file)
+      : HoldsFile (IsBy s (Some c)) (p u.made.file) c.content
+      (made_of u ∷ made_for u.made.file us) (u.made.stamp ∷ came u.made.file)
       → Stands s b (u ∷ us) p after_write
   stands_wrote here = record {
     files =
-        by_came (λ q o set. Stood s (content_in o) (made_for q (u ∷ us)) set) a b u.made.file
+        by_came (λ q o set. StandsAs s o (made_for q (u ∷ us)) set) a b u.made.file
         u.made.stamp (Some c) came alters
-        (subst (λ h. Stood s c.content h (u.made.stamp ∷ came u.made.file))
+        (subst (λ h. StandsAs s (Some c) h (u.made.stamp ∷ came u.made.file))
         (sym (own_file u us)) here.stood)
-        (λ q apart. same_made (λ h. Stood s (content_in (core_at a q)) h (came q)) q apart
+        (λ q apart. same_made (λ h. StandsAs s (core_at a q) h (came q)) q apart
         (k.files q));
     policies = policied k b u.made.file c alters u.made.stamp time here.policy;
     known =
@@ -257,7 +264,8 @@ pub new_stands : (s : ℕ) (a : Store) (p : FileId → Policy)
     → ((file : FileId) (k : Core) → core_at a file ≡ Some k → k.content.policy ≡ p file)
     → Stands s a [] p (λ file. [])
 new_stands s a p none policies = record {
-  files = λ file. none_stood s (content_in (core_at a file)) (none file);
+  files = λ file. none_stood (IsBy s (core_at a file)) (content_in (core_at a file)) (none file) []
+      (λ m l by. l);
   policies = policies;
   known = λ file t l. absurd l;
   upto = λ file t l. absurd l;
@@ -271,6 +279,7 @@ pub record IsPaired (a : Store) : Type 0 where
   pub pending : (file : FileId) (birth : ℕ) → is_pending a file birth ≡ true
       → core_at a file ≡ None
   pub both : (file : FileId) → is_held a file ≡ true → (k : Core) × (core_at a file ≡ Some k)
+  pub away : (file : FileId) → is_held a file ≡ false → core_at a file ≡ None
   pub births : (file : FileId) (k : Core) → core_at a file ≡ Some k → k.birth ≤ a.births
 
 -- what has no replica is not full
@@ -280,13 +289,33 @@ none_full {a} k file none full =
     let c = k.both file (full_held a.names file full) in
     absurd (let z : None ≡ Some c.0 = sym none ∙ c.1 in cc)
 
+-- the birth of a version's maker was given out, and is not to come any more
+abbrev pub IsPast : Store → Born → Type 0
+IsPast a v = (v.birth ≤ a.births) × (is_pending a v.made.file v.birth ≡ false)
+
+-- as births move one way it stays so
+pub past_later : (a b : Store) (v : Born) → BirthsMove a b → IsPast a v → IsPast b v
+past_later a b v moves past = (
+  (let up = moves.given in let low = past.0 in omega arith),
+  by (is_pending b v.made.file v.birth) refl,
+)
+  where
+    by : (t : Bool) → is_pending b v.made.file v.birth ≡ t → t ≡ false
+    by false e = refl
+    by true e = elim (moves.asked v.made.file v.birth e) [
+      | inl was ↦ absurd (let z : true ≡ false = sym was ∙ past.1 in cc)
+      | inr new ↦ absurd (let low = past.0 in omega arith)
+    ]
+
 -- the id was given out, or the server gives it out in this event
 abbrev pub IsNamedBy : ℕ → Store → (FileId → Type 0) → FileId → Type 0
 IsNamedBy s b N file = N file ⊎ ((file.server ≡ s) × (file.number ≤ b.files))
 
--- Server s: it stands for what came to it; it has come to the times of its own versions.
+-- Server s: it stands for what came to it; it has come to the times of its own versions, and the
+-- births that made them are not to come.
 -- N holds of the ids that were given out: of all that has a version or is held; and the server has
--- come to the numbers of its own. What was not given out has no policy yet
+-- come to the numbers of its own; and of all that a forget may begin. What was not given out has no
+-- policy yet, and no directory has one
 pub record IsServer (s : ℕ) (a : Store) (us : List Born) (p : FileId → Policy)
     (N : FileId → Type 0) (came : Came) : Type 0 where
   pub few : s < 2 ^ 32
@@ -296,30 +325,31 @@ pub record IsServer (s : ℕ) (a : Store) (us : List Born) (p : FileId → Polic
   pub made : AreMade us
   pub dated : (v : Born) → Among v us → v.made.stamp.server ≡ s
       → v.made.stamp.time ≤ a.names.last
+  pub born : (v : Born) → Among v us → v.made.stamp.server ≡ s → IsPast a v
   pub own : (file : FileId) → N file → file.server ≡ s → file.number ≤ a.files
   pub held : (file : FileId) (k : Core) → core_at a file ≡ Some k → N file
   pub named : (v : Born) → Among v us → N v.made.file
   pub bare : (file : FileId) → (N file → ⊥) → p file ≡ Last
+  pub dirs : (file : FileId) → is_dir file ≡ true → p file ≡ Last
+  pub wanted : (file : FileId) → is_wanted a file ≡ true → is_held a file ≡ false → N file
 
--- no version that was taken has a time after the clock's, nor has a head, and no number in its
--- vector is above that
-module _ (us : List Born) (made : AreMade us) (last : ℕ) (file : FileId)
-    (set : List Stamp) (upto : (t : Stamp) → Among t set → t.time ≤ last) where
-  pub taken_upto : (t : Stamp) → Among t (with_ancestors (made_for file us) set) → t.time ≤ last
-  taken_upto t l = taken_in_time (made_for file us) set last (made.order file) upto t l
+-- what is to come made no version, nor did any replica of what was not given out
+module _ {s : ℕ} {a : Store} {us : List Born} {p : FileId → Policy} {N : FileId → Type 0}
+    {came : Came} (k : IsServer s a us p N came) (file : FileId) where
+  pub pending_unmade : (birth : ℕ) → is_pending a file birth ≡ true → (m : Made)
+      → Among m (made_for file us) → ¬ (maker m ≡ record { server = s; birth = birth })
+  pending_unmade birth asked m l by =
+      let r = update_of file m us l in
+      let made : maker (made_of r.0) ≡ record { server = s; birth = birth } =
+      ap maker (sym r.3) ∙ by in
+      let past = k.born r.0 r.1 (ap (λ (q : Actor). q.server) made) in
+      let same : r.0.birth ≡ birth = ap (λ (q : Actor). q.birth) made in
+      let P : FileId → Type 0 = (λ f. is_pending a f r.0.birth ≡ true) in
+      let Q : ℕ → Type 0 = (λ n. is_pending a file n ≡ true) in
+      let there : is_pending a r.0.made.file r.0.birth ≡ true =
+      subst P r.2 (subst Q (sym same) asked) in
+      absurd (let z : true ≡ false = sym there ∙ past.1 in cc)
 
-  module _ {s : ℕ} {c : ContentValue} (f : Stood s c (made_for file us) set) where
-    pub head_upto : (v : VersionValue) → Among v c.heads → v.head.stamp.time ≤ last
-    head_upto v l =
-        let r = f.stands.heads v l in
-        let P : VersionValue → Type 0 = (λ x. x.head.stamp.time ≤ last) in
-        subst P (sym r.version) (taken_upto r.made.stamp r.head.0)
-
-    pub number_upto : (v : VersionValue) → Among v c.heads → (q : Actor)
-        → number_at v.head.vector q ≤ last
-    number_upto v l q =
-        let r = f.stands.heads v l in
-        let P : VersionValue → Type 0 = (λ x. number_at x.head.vector q ≤ last) in
-        let number = made.numbers file r.made r.member q in
-        let time = taken_upto r.made.stamp r.head.0 in
-        subst P (sym r.version) (omega arith)
+  pub unnamed_unmade : (N file → ⊥) → (m : Made) → Among m (made_for file us) → ⊥
+  unnamed_unmade unnamed m l =
+      let r = update_of file m us l in unnamed (subst N (sym r.2) (k.named r.0 r.1))

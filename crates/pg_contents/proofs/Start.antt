@@ -66,9 +66,11 @@ sound_start n = record {
   made = none_made;
   stands = first_stands n;
   dated = λ u l. absurd l;
+  born = λ u l. absurd l;
   named = λ u l. absurd l;
   held = λ s file k e. subst (IsNamed (new_store n)) (sym (only_root n s file k e).0)
       (omega arith);
   bare = λ file none. refl;
+  dirs = λ file is. refl;
   carried = none_carry [] (policies []) (IsNamed (new_store n));
 }

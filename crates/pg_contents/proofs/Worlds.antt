@@ -1,6 +1,6 @@
 -- What every event keeps: each server stands for what came to it, and all messages ever sent are of
 -- the histories of the files.
-use Rattle.std.proofs.Common.{ℕ, ◌≡◌, ◌≢◌, ◌<◌, ◌≤◌, ◌^◌, Bool, cond, List, ◌∷◌, ◌++◌, Some, refl, sym, subst, ◌∙◌, inl, inr, arith}
+use Rattle.std.proofs.Common.{ℕ, ◌≡◌, ◌≢◌, ◌<◌, ◌≤◌, ◌^◌, Bool, true, false, cond, List, ◌∷◌, ◌++◌, Some, refl, sym, subst, ◌∙◌, inl, inr, arith}
 use Rattle.std.proofs.lemmas.Bool.Decides.{eqb_tells}
 use Rattle.std.proofs.lemmas.List.Elements.{All-append}
 use Rattle.pg_base.specs.declared.id.FileId.{FileId}
@@ -13,17 +13,26 @@ use Rattle.pg_msg.specs.declared.message.Sent.{Sent}
 use Rattle.pg_run.specs.Journal.{Born, made_for, made_of}
 use Rattle.pg_run.specs.Took.{Take}
 use Rattle.pg_server.specs.Local.{Effect}
+use Rattle.pg_names.specs.Names.{is_dir}
 use Rattle.pg_store.specs.declared.store.Store.{Store}
+use Rattle.pg_store.specs.Store.{is_held}
+use Rattle.pg_store.specs.Together.{BirthsMove}
+use Rattle.pg_store.proofs.Over.{moves_itself}
+use Rattle.pg_calls.specs.Forgetting.{is_wanted}
 use Rattle.pg_contents.proofs.Changes.{Core, IsOrdered, core_at}
 use Rattle.pg_contents.proofs.Effects.{IsMaking, IsPassive}
 use Rattle.pg_contents.proofs.Histories.{AreMade, last_history, one_more_made}
 use Rattle.pg_contents.proofs.Sending.{AllCarry, CarriesSent, all_carry_more, all_carry_names, all_carry_other}
-use Rattle.pg_contents.proofs.Servers.{IsNamedBy, IsPaired, IsServer, Stands, came_of, stands_later, stands_policy}
+use Rattle.pg_contents.proofs.Servers.{IsNamedBy, IsPaired, IsPast, IsServer, Stands, came_of, past_later, stands_later, stands_policy}
 
 -- each version has a time that its server's clock has come to
 abbrev pub AreDated : (ℕ → Store) → List Born → Type 0
 AreDated stores us = (u : Born) → Among u us
     → u.made.stamp.time ≤ (stores u.made.stamp.server).names.last
+
+-- and its maker's birth was given out there, and is not to come
+abbrev pub AreBorn : (ℕ → Store) → List Born → Type 0
+AreBorn stores us = (u : Born) → Among u us → IsPast (stores u.made.stamp.server) u
 
 -- the id has a number that its server gave out
 abbrev pub IsNamed : (ℕ → Store) → FileId → Type 0
@@ -39,10 +48,12 @@ pub record Sound (stores : ℕ → Store) (us : List Born) (p : FileId → Polic
   pub made : AreMade us
   pub stands : (s : ℕ) → Stands s (stores s) us p (came_of (took s))
   pub dated : AreDated stores us
+  pub born : AreBorn stores us
   pub named : (u : Born) → Among u us → IsNamed stores u.made.file
   pub held : (s : ℕ) (file : FileId) (k : Core) → core_at (stores s) file ≡ Some k
       → IsNamed stores file
   pub bare : (file : FileId) → (IsNamed stores file → ⊥) → p file ≡ Last
+  pub dirs : (file : FileId) → is_dir file ≡ true → p file ≡ Last
   pub carried : AllCarry us p (IsNamed stores) mail
 
 -- ---- servers
@@ -75,16 +86,19 @@ module _ {stores : ℕ → Store} {us : List Born} {p : FileId → Policy} {took
     made = k.made;
     stands = k.stands;
     dated = k.dated;
+    born = k.born;
     named = k.named;
     held = k.held;
     bare = k.bare;
+    dirs = k.dirs;
     carried = carried;
   }
 
   module _ (s : ℕ) where
     pub server_of : s < 2 ^ 32 → IsPaired (stores s)
+        → ((file : FileId) → is_wanted (stores s) file ≡ true → is_held (stores s) file ≡ false → N file)
         → IsServer s (stores s) us p N (came_of (took s))
-    server_of few paired = record {
+    server_of few paired wanted = record {
       few = few;
       server = k.server s;
       paired = paired;
@@ -92,11 +106,15 @@ module _ {stores : ℕ → Store} {us : List Born} {p : FileId → Policy} {took
       made = k.made;
       dated = λ v l own. let P : ℕ → Type 0 = (λ j. v.made.stamp.time ≤ (stores j).names.last) in
           subst P own (k.dated v l);
+      born = λ v l own. let P : ℕ → Type 0 = (λ j. IsPast (stores j) v) in
+          subst P own (k.born v l);
       own = λ file named own. let P : ℕ → Type 0 = (λ j. file.number ≤ (stores j).files) in
           subst P own named;
       held = k.held s;
       named = k.named;
       bare = k.bare;
+      dirs = k.dirs;
+      wanted = wanted;
     }
 
     -- ---- what the server that acted leaves
@@ -146,13 +164,22 @@ module _ {stores : ℕ → Store} {us : List Born} {p : FileId → Policy} {took
           (λ f c e. named_now f (held f c e))
           (λ t other f c e. later_named f (k.held t f c e))
 
+    -- births move on at the server that acted
+    later_born : (b : Store) (takes : List Take) → BirthsMove (stores s) b
+        → AreBorn (after stores s b) us
+    later_born b takes moves u l =
+        past_later (stores u.made.stamp.server) (after stores s b u.made.stamp.server) u
+        (by_server (λ t c ts. BirthsMove (stores t) c) stores took s b takes moves
+        (λ t other. moves_itself (stores t)) u.made.stamp.server)
+        (k.born u l)
+
     later_order : (b : Store) (takes : List Take) → IsOrdered b.replicas → (t : ℕ)
         → IsOrdered (after stores s b t).replicas
     later_order b takes order =
         by_server (λ t c ts. IsOrdered c.replicas) stores took s b takes order
         (λ t other. k.order t)
 
-    module _ (done : Effect) (takes : List Take) where
+    module _ (done : Effect) (takes : List Take) (moves : BirthsMove (stores s) done.store) where
       -- AN EVENT AT WHICH NO VERSION IS MADE
       pub passive_sound : IsPassive s (stores s) us p N done takes
           → Sound (after stores s done.store) us p (after took s takes) (done.out.sent ++ mail)
@@ -168,15 +195,18 @@ module _ {stores : ℕ → Store} {us : List Born} {p : FileId → Policy} {took
                 by_server (λ t c ts. Stands t c us p (came_of ts)) stores took s b takes act.stands
                 (λ t other. k.stands t);
             dated = later_dated b takes act.server act.last act.files;
+            born = later_born b takes moves;
             named = λ u l. more u.made.file (k.named u l);
             held = later_held b takes act.server act.last act.files act.held;
             bare = λ file none. k.bare file (λ old. none (more file old));
+            dirs = k.dirs;
             carried = All-append (CarriesSent us p M) done.out.sent mail
                 (all_carry_other us p p N M k.named (λ f h. refl) more done.out.sent act.sent)
                 (all_carry_other us p p N M k.named (λ f h. refl) more mail k.carried);
           }
 
-      module _ (q : FileId → Policy) (act : IsMaking s (stores s) us p q N done takes) where
+      module _ (q : FileId → Policy) (act : IsMaking s (stores s) us p q N done takes)
+          (past : IsPast done.store act.version) where
         abbrev u : Born
         u = act.version
 
@@ -211,6 +241,16 @@ module _ {stores : ℕ → Store} {us : List Born} {p : FileId → Policy} {took
           | inr old ↦ later_dated b takes act.server act.last act.files v old
         ]
 
+        born_then : AreBorn (after stores s b) more_made
+        born_then v l = elim l [
+          | inl itself ↦
+              let P : Born → Type 0 = (λ x. IsPast (after stores s b x.made.stamp.server) x) in
+              subst P (sym itself)
+              (at_server b takes act.server act.last act.files (λ c. IsPast c u)
+              u.made.stamp.server act.maker past)
+          | inr old ↦ later_born b takes moves v old
+        ]
+
         more_named : (file : FileId) → N file → M file
         more_named = later_named b takes act.server act.last act.files
 
@@ -243,9 +283,11 @@ module _ {stores : ℕ → Store} {us : List Born} {p : FileId → Policy} {took
               by_server (λ t c ts. Stands t c more_made q (came_of ts)) stores took s b takes
               act.stands other_stands;
           dated = dated_then;
+          born = born_then;
           named = named_then;
           held = later_held b takes act.server act.last act.files act.held;
           bare = bare_then;
+          dirs = λ file is. act.dirs file is ∙ k.dirs file is;
           carried = All-append (CarriesSent more_made q M) done.out.sent mail sent_then
               (all_carry_more u us q M made_well.histories mail
               (all_carry_other us p q N M k.named act.same more_named mail k.carried));

@@ -15,7 +15,7 @@ use Rattle.pg_content.proofs.StandsWritten.{may_be_made, stands_written}
 use Rattle.pg_run.specs.Journal.{Born, made_for, made_of, with_ancestors}
 use Rattle.pg_contents.proofs.Files.{HoldsFile, file_wrote}
 use Rattle.pg_contents.proofs.Histories.{AreMade, IsNextUpdate, update_of}
-use Rattle.pg_contents.proofs.Servers.{number_upto, taken_upto}
+use Rattle.pg_contents.proofs.Times.{number_upto, taken_upto}
 use Rattle.pg_contents.proofs.Sets.{AreMembers}
 
 -- a server may make this version now: on all heads of what it holds of the file, with a time that
@@ -23,7 +23,7 @@ use Rattle.pg_contents.proofs.Sets.{AreMembers}
 pub record IsWrite (s : ℕ) (last : ℕ) (p : Policy) (c : ContentValue) (us : List Born)
     (set : List Stamp) (u : Born) : Type 0 where
   pub made : AreMade us
-  pub ready : HoldsFile s p c (made_for u.made.file us) set
+  pub ready : HoldsFile (λ m. maker m ≡ maker (made_of u)) p c (made_for u.made.file us) set
   pub known : AreMembers (made_for u.made.file us) set
   pub upto : (t : Stamp) → Among t set → t.time ≤ last
   pub based : u.made.bases ≡ map stamp_of c.heads
@@ -61,7 +61,7 @@ module _ {s : ℕ} {last : ℕ} {p : Policy} {c : ContentValue} {us : List Born}
   next_may =
       may_be_made m h c before held_stands i.based
       (i.made.histories u.made.file) no_member
-      (λ e l same. i.ready.stood.own e l (ap (λ (q : Actor). q.server) same ∙ i.server))
+      (λ e l same. i.ready.stood.own e l same)
       (let P : ℕ → Type 0 = (λ j. j < 2 ^ 32) in subst P (sym i.server) i.few) i.birth
       (among_all (λ (v : VersionValue). number_at v.head.vector (maker m) < 2 ^ 63)
       c.heads (λ v l. let up = number_upto us i.made last u.made.file set i.upto i.ready.stood v l
@@ -126,6 +126,6 @@ module _ {s : ℕ} {last : ℕ} {p : Policy} {c : ContentValue} {us : List Born}
 
   -- and the server holds what comes of it
   pub next_file
-      : HoldsFile s p (written c (maker m) u.made.stamp u.made.ranges) (m ∷ h)
+      : HoldsFile (λ e. maker e ≡ maker m) p (written c (maker m) u.made.stamp u.made.ranges) (m ∷ h)
       (u.made.stamp ∷ set)
   next_file = file_wrote i.ready i.known m next_history i.based

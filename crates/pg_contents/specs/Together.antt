@@ -1,7 +1,10 @@
--- What the laws of contents ask of servers: that names and replicas go together, and that a birth
--- which is to come is of what is not here.
+-- What the laws of contents ask of servers: that names and replicas go together, that a birth which
+-- is to come is of what is not here, and that births move one way.
 use Rattle.std.specs.Prelude.{ℕ, List}
 use Rattle.pg_event.specs.declared.event.Event.{Event}
+use Rattle.pg_order.specs.Laws.{AllIsNamed}
+use Rattle.pg_run.specs.Births.{BirthsMoveOn}
+use Rattle.pg_run.specs.Intending.{IntentionsAreInOrder}
 use Rattle.pg_run.specs.Laws.{AtEach, store_after}
 use Rattle.pg_store.specs.declared.store.Store.{Store}
 use Rattle.pg_store.specs.Together.{AreBirths, AreTogether}
@@ -16,3 +19,11 @@ pub record GoTogether (a : Store) : Type 0 where
 abbrev pub HoldBoth : ℕ → Type 0
 HoldBoth servers = (events : List Event)
     → AtEach servers (λ s. GoTogether (store_after servers events s))
+
+-- and a birth that is over, or a version's maker, is none that is to come; and what a server knows or
+-- intends to fetch was given out
+pub record StandOn (servers : ℕ) : Type 0 where
+  pub both : HoldBoth servers
+  pub moves : BirthsMoveOn servers
+  pub named : AllIsNamed servers
+  pub intends : IntentionsAreInOrder servers

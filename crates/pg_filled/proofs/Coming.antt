@@ -1,6 +1,9 @@
 -- What each message keeps of names.
 use Rattle.std.proofs.Common.{ℕ, ◌≡◌, ◌==◌, ◌&&◌, not, Bool, true, false, cond, refl, ap}
+use Rattle.std.proofs.lemmas.Bool.{and_parts}
 use Rattle.pg_base.specs.declared.id.FileId.{FileId}
+use Rattle.pg_base.specs.declared.stamp.Stamp.{Stamp}
+use Rattle.pg_edges.specs.declared.edge.Edge.{Edge}
 use Rattle.pg_register.specs.declared.place.Place.{Place}
 use Rattle.pg_entries.specs.declared.cell.Cell.TheVariants as cell
 use Rattle.pg_entries.specs.declared.cell.Cell.{Cell}
@@ -14,41 +17,47 @@ use Rattle.pg_msg.specs.declared.message.Message.{Message}
 use Rattle.pg_msg.specs.declared.message.Message.TheVariants as message
 use Rattle.pg_msg.specs.declared.work.Work.{Work}
 use Rattle.pg_names.specs.declared.own.Own.{Own}
-use Rattle.pg_names.specs.Names.{NamesValue}
+use Rattle.pg_names.specs.Names.{NamesValue, let_go as let_go_names}
 use Rattle.pg_names.specs.Names as names
 use Rattle.pg_store.specs.declared.store.Store.{Store}
-use Rattle.pg_store.specs.Beginning.{with_intents}
-use Rattle.pg_store.specs.Births.{fill_at, has_birth, is_pending, wish_at, with_wishes}
+use Rattle.pg_store.specs.Beginning.{let_go, with_intents}
+use Rattle.pg_store.specs.Births.{birth_of, fill_at, has_birth, is_pending, wish_at, with_wishes}
 use Rattle.pg_store.specs.Links.{knows_later}
 use Rattle.pg_store.specs.Servers.{next_target}
-use Rattle.pg_store.specs.Store.{is_full, is_held, with_names}
+use Rattle.pg_store.specs.Store.{is_full, is_held, replica_of}
 use Rattle.pg_store.specs.Wishes.{aim_wish}
 use Rattle.pg_cells.specs.declared.accepting.Manner.{Manner}
 use Rattle.pg_cells.specs.declared.accepting.Manner.TheVariants as manner
-use Rattle.pg_cells.specs.Accepting.{accept, is_accepted, link_peer, met, with_gone}
+use Rattle.pg_cells.specs.Accepting.{accept, is_accepted, is_current, link_peer, met, with_gone}
 use Rattle.pg_cells.specs.Cells.{cell as cell_comes, fits, taken_along}
 use Rattle.pg_cells.specs.Done.{Done, idle}
-use Rattle.pg_cells.specs.Making.{own_next, raise_flag}
 use Rattle.pg_cells.specs.Posting.{reply}
 use Rattle.pg_cells.specs.Taking.{take_entry_noted, take_place_noted}
 use Rattle.pg_repair.specs.Confirming.{confirm, confirmed, is_confirmed, place_is, place_told, take_told_flags, take_told_place}
 use Rattle.pg_repair.specs.Fetching.{answered_fetch, fetch}
-use Rattle.pg_repair.specs.Filling.{fill, full}
+use Rattle.pg_repair.specs.Filling.{fill, full, invite, invited, is_bronze, raise_if_few}
 use Rattle.pg_repair.specs.Granting.{aim_fill, begin_granted, begun_by, fill_asks, grant, granted_own, no_grant, turn_wish, wish_asks}
 use Rattle.pg_repair.specs.NoneHere.{asking_key, does_ask}
 use Rattle.pg_graph.specs.Seeking.{answered_seek, seek}
 use Rattle.pg_repair.specs.Telling.{is_told, tell, told}
 use Rattle.pg_graph.specs.Walks.{goes_on, meet_origin, onward, walk, walked}
 use Rattle.pg_server.specs.Local.{receive}
-use Rattle.pg_promises.proofs.Choices.{chosen}
-use Rattle.pg_filled.proofs.Pieces.{AreKept, begin_kept, entry_kept, flag_kept, flags_kept, link_kept, place_kept, taken_kept, unlink_kept}
+use Rattle.pg_graph.specs.Leaving.{leave, leave_given, leave_ok, without_leave}
+use Rattle.pg_graph.proofs.LeaveOk.{MayGo, byes_by, leave_ok_by}
+use Rattle.pg_promises.proofs.Choices.{chosen, decided}
+use Rattle.pg_run.proofs.Bags.{All-every}
+use Rattle.pg_filled.proofs.Losing.{few_kept, fill_kept}
+use Rattle.pg_filled.proofs.Pieces.{AreKept, begin_kept, entry_kept, flags_kept, link_kept, place_kept, taken_kept, unlink_kept}
 
--- what a message from a server may bring one that holds this
-pub record MayCome (Places : FileId → Place → Type 0) (Begins : FileId → Own → Bool → Type 0) (Fills : FileId → Type 0) (a : Store) (from : ℕ) (m : Message) : Type 0 where
-  pub cell : (ends : Ends) (tag : ℕ) (p : Place) → m ≡ message.Cell ends tag (cell.Place p) → Places ends.file p
+-- what a message from a server may bring one that holds this, and that where its replica goes with leave names keep it
+pub record MayCome (P : NamesValue → Type 0) (Places : FileId → Place → Type 0) (Begins : FileId → Own → Bool → Type 0) (Fills : FileId → Type 0) (a : Store) (from : ℕ) (m : Message) : Type 0 where
+  pub cell : (ends : Ends) (tag : ℕ) (p : Place) → m ≡ message.Cell ends tag (cell.Place p) → has_birth a ends.file ends.receiver ≡ true
+      → Places ends.file p
   pub confirm : (dir : FileId) (e : Entry) → m ≡ message.Confirm dir e → Places e.child e.place
   pub grant : (ends : Ends) (g : Granted) → m ≡ message.Grant ends g → Begins ends.file (granted_own g) false
-  pub full : (ends : Ends) → m ≡ message.Full ends → Fills ends.file
+  pub full : (ends : Ends) → m ≡ message.Full ends → has_birth a ends.file ends.receiver ≡ true → Fills ends.file
+  pub goes : (ends : Ends) (stamp : Stamp) (work : Work) → m ≡ message.LeaveOk ends stamp → MayGo a ends stamp work
+      → P (let_go_names a.names ends.file)
 
 module _ (P : NamesValue → Type 0) (Places : FileId → Place → Type 0) (Begins : FileId → Own → Bool → Type 0) (Fills : FileId → Type 0) (k : AreKept P Places Begins Fills) (a : Store) (h : P a.names) where
   abbrev Of : Store → Type 0
@@ -68,13 +77,17 @@ module _ (P : NamesValue → Type 0) (Places : FileId → Place → Type 0) (Beg
       (cond (knows_later a ends.file work.from ends.sender) (idle a work) (met a ends how work)) (idle a (with_gone a ends how work))
       (chosen OfDone (knows_later a ends.file work.from ends.sender) (idle a work) (met a ends how work) h (met_kept ends how work)) h
 
-  cell_kept : (ends : Ends) (tag : ℕ) (c : Cell) (work : Work) → ((p : Place) → c ≡ cell.Place p → Places ends.file p) → OfDone (cell_comes a ends tag c work)
+  cell_kept : (ends : Ends) (tag : ℕ) (c : Cell) (work : Work)
+      → ((p : Place) → c ≡ cell.Place p → has_birth a ends.file ends.receiver ≡ true → Places ends.file p) → OfDone (cell_comes a ends tag c work)
   cell_kept ends tag c work may =
       let met_first = accept a ends manner.Link work in
       let first = accept_kept ends manner.Link work in
       chosen OfDone (fits ends.file c) (cond (is_accepted a work.from manner.Link ends) (taken_along ends tag c met_first) met_first) (idle a work)
-      (chosen OfDone (is_accepted a work.from manner.Link ends) (taken_along ends tag c met_first) met_first
-      (taken_kept P Places Begins Fills k met_first.store ends.file c met_first.work may first) first) h
+      (decided OfDone (is_accepted a work.from manner.Link ends) (taken_along ends tag c met_first) met_first
+      (λ t.
+      let born = (and_parts (has_birth a ends.file ends.receiver) _ (and_parts (is_current a work.from ends) _ t).0).0 in
+      taken_kept P Places Begins Fills k met_first.store ends.file c met_first.work (λ p same. may p same born) first)
+      (λ no. first)) h
 
   fetch_kept : (f : FileId) (birth : ℕ) (work : Work) → OfDone (fetch a f birth work)
   fetch_kept f birth work =
@@ -98,12 +111,24 @@ module _ (P : NamesValue → Type 0) (Places : FileId → Place → Type 0) (Beg
       (chosen Of (wish_asks (wish_at a f) birth work.from) (with_wishes a (aim_wish a.wishes f next)) a h h)
       (chosen Of (wish_asks (wish_at a f) birth work.from) (with_wishes a (aim_wish a.wishes f next)) a h h)
 
-  full_kept : (ends : Ends) (work : Work) → Fills ends.file → OfDone (full a ends work)
+  full_kept : (ends : Ends) (work : Work) → (has_birth a ends.file ends.receiver ≡ true → Fills ends.file) → OfDone (full a ends work)
   full_kept ends work may =
-      let b = with_names a (names.fill a.names ends.file) in
-      let now = k.filled a.names ends.file may h in
-      chosen OfDone (is_accepted a work.from manner.Answer ends && not (is_full a ends.file)) (fill a ends.file work) (idle a work)
-      (chosen OfDone _ (raise_flag b ends.file work) (idle b work) (flag_kept P Places Begins Fills k b ends.file (own_next b ends.file true) now) now) h
+      let accepted = is_accepted a work.from manner.Answer ends in
+      decided OfDone (accepted && not (is_full a ends.file)) (fill a ends.file work) (idle a work)
+      (λ t.
+      let born = (and_parts (has_birth a ends.file ends.receiver) _ (and_parts (is_current a work.from ends) _ (and_parts accepted _ t).0).0).0 in
+      fill_kept P Places Begins Fills k a ends.file work (may born) h)
+      (λ no. h)
+
+  -- a full bronze replica is asked to be gold
+  invite_kept : (ends : Ends) (work : Work) → OfDone (invite a ends work)
+  invite_kept ends work =
+      let met_first = accept a ends manner.Ask work in
+      let first = accept_kept ends manner.Ask work in
+      chosen OfDone (is_accepted a work.from manner.Ask ends) (invited ends met_first) met_first
+      (chosen OfDone (is_bronze met_first.store ends.file) (raise_if_few met_first.store ends.file met_first.work) met_first
+      (few_kept P Places Begins Fills k met_first.store ends.file met_first.work first) first)
+      first
 
   confirm_kept : (dir : FileId) (e : Entry) (work : Work) → Places e.child e.place → OfDone (confirm a dir e work)
   confirm_kept dir e work may =
@@ -139,8 +164,24 @@ module _ (P : NamesValue → Type 0) (Places : FileId → Place → Type 0) (Beg
       (chosen OfDone (goes_on hops edges) (idle a _) (meet_origin a ends.file origin birth work) h (link_kept P Places Begins Fills k a ends.file origin birth h)))
       (accept_kept ends manner.Ask work)
 
+  -- ---- a replica that goes
+
+  leave_kept : (ends : Ends) (stamp : Stamp) (work : Work) → OfDone (leave a ends stamp work)
+  leave_kept ends stamp work =
+      let met_first = accept a ends manner.Link work in
+      let first = accept_kept ends manner.Link work in
+      chosen OfDone (is_accepted a work.from manner.Link ends) (leave_given ends stamp met_first) met_first first first
+
+  leave_ok_kept : (ends : Ends) (stamp : Stamp) (work : Work) → (MayGo a ends stamp work → P (let_go_names a.names ends.file))
+      → OfDone (leave_ok a ends stamp work)
+  leave_ok_kept ends stamp work gone =
+      let b = without_leave a ends.file in
+      leave_ok_by OfDone a ends stamp work h (λ answered. h)
+      (λ may. byes_by OfDone (λ (e : Edge). Unit {0}) ends.file (birth_of b ends.file) (λ d e one so. so)
+      (replica_of b ends.file).edges (All-every (λ (e : Edge). Unit {0}) (replica_of b ends.file).edges (λ e. tt)) (idle (let_go b ends.file) work) (gone may))
+
   -- A MESSAGE
-  pub receive_kept : (m : Message) (work : Work) → MayCome Places Begins Fills a work.from m → OfDone (receive a m work)
+  pub receive_kept : (m : Message) (work : Work) → MayCome P Places Begins Fills a work.from m → OfDone (receive a m work)
   receive_kept (message.Cell ends tag c) work may = cell_kept ends tag c work (λ p same. may.cell ends tag p (ap (message.Cell ends tag) same))
   receive_kept (message.Ack ends q tag) work may = h
   receive_kept (message.Harbinger ends tag head) work may = h
@@ -157,15 +198,15 @@ module _ (P : NamesValue → Type 0) (Places : FileId → Place → Type 0) (Beg
   receive_kept (message.NoneHere ask file child) work may =
       chosen Of (does_ask (intent_at a.intents (asking_key ask file child)) work.from) _ a h h
   receive_kept (message.Gone file birth) work may = unlink_kept P Places Begins Fills k a file work.from birth h
-  receive_kept (message.Bye ends) work may = h
+  receive_kept (message.Bye ends) work may = unlink_kept P Places Begins Fills k a ends.file work.from ends.sender h
   receive_kept (message.ByeOk file birth) work may = h
   receive_kept (message.Confirm dir entry) work may = confirm_kept dir entry work (may.confirm dir entry refl)
   receive_kept (message.PlaceIs dir entry) work may = place_is_kept dir entry work
   receive_kept (message.Tell dir entry) work may = tell_kept dir entry work
   receive_kept (message.TellOk dir child stamp) work may =
       chosen Of (is_told (intent_at a.intents (intent_key.Patch dir child)) stamp work.from) _ a h h
-  receive_kept (message.Leave ends stamp) work may = h
-  receive_kept (message.LeaveOk ends stamp) work may = h
-  receive_kept (message.Invite ends) work may = h
+  receive_kept (message.Leave ends stamp) work may = leave_kept ends stamp work
+  receive_kept (message.LeaveOk ends stamp) work may = leave_ok_kept ends stamp work (may.goes ends stamp work refl)
+  receive_kept (message.Invite ends) work may = invite_kept ends work
   receive_kept (message.Walk ends origin birth hops word) work may = walk_kept ends origin birth hops word work
   receive_kept (message.Meet ends) work may = accept_kept ends manner.Link work

@@ -1,6 +1,6 @@
 -- What an event keeps of names: its first effect, then the house rules, and flags that are raised behind them. Intentions
 -- that end and begin leave names.
-use Rattle.std.proofs.Common.{ℕ, true, Option, drop, length, sym, subst}
+use Rattle.std.proofs.Common.{ℕ, ◌≡◌, true, Option, drop, length, sym, subst}
 use Rattle.pg_base.specs.declared.id.FileId.{FileId}
 use Rattle.pg_register.specs.declared.flag.Flag.{Flag}
 use Rattle.pg_msg.specs.declared.work.Work.{Work}
@@ -20,7 +20,7 @@ use Rattle.pg_repair.proofs.Steady.{begin_end_stays}
 use Rattle.pg_server.specs.declared.input.Input.{Input}
 use Rattle.pg_server.specs.declared.input.Input.TheVariants as input
 use Rattle.pg_server.specs.Local.{Effect, closed, effect, finished, first_effect, is_heard, receive, reply_to, settled, takes_effect}
-use Rattle.pg_promises.proofs.Choices.{chosen}
+use Rattle.pg_promises.proofs.Choices.{chosen, decided}
 use Rattle.pg_promises.proofs.Touching.{same_names}
 
 -- what the house rules keep, and a flag that comes, all of it keeps that stands behind the first effect
@@ -56,7 +56,8 @@ module _ (P : NamesValue → Type 0) (k : RulesKeep P) where
       chosen (λ (e : Effect). P e.store.names) (takes_effect a asked) (closed r d) (finished r d) (closed_kept r d h) h
 
 -- where a message is not heard nothing is done
-pub arrival_kept : (P : NamesValue → Type 0) (a : Store) (packet : Packet) → P a.names → P (receive a packet.message (new_work 0 packet.from)).store.names
+pub arrival_kept : (P : NamesValue → Type 0) (a : Store) (packet : Packet) → P a.names
+    → (is_heard a packet ≡ true → P (receive a packet.message (new_work 0 packet.from)).store.names)
     → P (first_effect a (input.Arrival packet)).store.names
 arrival_kept P a packet h come =
-    chosen (λ (d : Done). P d.store.names) (is_heard a packet) (receive a packet.message (new_work 0 packet.from)) (idle a (new_work 0 packet.from)) come h
+    decided (λ (d : Done). P d.store.names) (is_heard a packet) (receive a packet.message (new_work 0 packet.from)) (idle a (new_work 0 packet.from)) come (λ none. h)

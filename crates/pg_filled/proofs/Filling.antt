@@ -1,12 +1,11 @@
 -- Full replicas have places, and who is told that its replica is full holds it with one, along every run.
-use Rattle.std.proofs.Common.{ℕ, ◌≡◌, ◌≤◌, Bool, true, false, List, get_or, Option, None, Some, option_map, All, refl, sym, ap, subst, ◌∙◌, inl, inr}
+use Rattle.std.proofs.Common.{ℕ, ◌≡◌, ◌≤◌, Bool, true, false, List, get_or, Option, None, Some, option_map, All, refl, sym, ap, subst, ◌∙◌, ◌⊎◌, inl, inr}
 use Rattle.std.specs.List.{IsAmong}
 use Rattle.std.proofs.lemmas.Bool.{false≢true}
 use Rattle.std.proofs.lemmas.List.Elements.{All-append, All-contains, All-nil, All-weaker}
-use Rattle.std.proofs.lemmas.Option.{none-some, same_Some}
 use Rattle.pg_base.specs.declared.id.FileId.{FileId}
+use Rattle.pg_base.specs.declared.stamp.Stamp.{Stamp}
 use Rattle.pg_base.specs.Id.{is_same_file}
-use Rattle.pg_base.specs.Version.{VersionValue}
 use Rattle.pg_base.proofs.Orders.{is_same_file-true}
 use Rattle.pg_edges.specs.declared.edge.Edge.{Edge}
 use Rattle.pg_edges.specs.declared.key.Key.{Key}
@@ -16,7 +15,6 @@ use Rattle.pg_entries.specs.declared.cell.Cell.{Cell}
 use Rattle.pg_entries.specs.declared.cell.Cell.TheVariants as cell
 use Rattle.pg_entries.specs.declared.entry.Entry.{Entry}
 use Rattle.pg_event.specs.declared.event.Event.{Event}
-use Rattle.pg_flood.specs.Server.{Holds}
 use Rattle.pg_flood.specs.World.{after}
 use Rattle.pg_flood.proofs.Flood.{here}
 use Rattle.pg_intent.specs.declared.intent.Intent.{Intent}
@@ -30,29 +28,28 @@ use Rattle.pg_msg.specs.declared.message.Packet.{Packet}
 use Rattle.pg_msg.specs.declared.message.Sent.{Sent}
 use Rattle.pg_msg.specs.declared.work.Work.{Work}
 use Rattle.pg_msg.specs.Work.{new_work}
-use Rattle.pg_names.specs.Names.{cell_at as entry_at, is_full_of, new_names, own_or_blank}
+use Rattle.pg_names.specs.Names.{is_full_of, new_names, own_or_blank}
 use Rattle.pg_names.proofs.Holding.{begun_other}
-use Rattle.pg_register.specs.declared.flag.Flag.{Flag}
-use Rattle.pg_register.specs.declared.place.Place.{Place}
-use Rattle.pg_register.specs.Flag.{flag_of}
 use Rattle.pg_register.specs.Place.{root}
 use Rattle.pg_replica.specs.declared.replica.Replica.{Replica}
-use Rattle.pg_replica.specs.Replica.{cell_at as head_at}
 use Rattle.pg_calls.proofs.Walked.{full_held}
 use Rattle.pg_store.specs.declared.store.Store.{Store}
-use Rattle.pg_store.specs.Cells.{cell_at, entry_cell, flag_cell, is_sure, version_cell}
+use Rattle.pg_store.specs.Cells.{cell_at}
 use Rattle.pg_store.specs.Links.{is_clean, is_new_link, link}
 use Rattle.pg_store.specs.Start.{root_own}
-use Rattle.pg_store.specs.Store.{content_of, is_full, new_store, replica_at}
-use Rattle.pg_store.specs.Together.{birth_at}
+use Rattle.pg_store.specs.Store.{is_full, new_store, replica_at}
+use Rattle.pg_store.specs.Births.{has_birth}
+use Rattle.pg_store.specs.Together.{BirthsMove, IsOver, birth_at}
+use Rattle.pg_store.proofs.Over.{moves_then, over_stays}
 use Rattle.pg_cells.specs.Accepting.{with_link}
 use Rattle.pg_repair.specs.Intending.{pieces}
 use Rattle.pg_repair.specs.Requests.{asks}
 use Rattle.pg_promises.specs.Growing.{Grows}
-use Rattle.pg_promises.specs.UpTo.{IsPlaceUpTo, IsUpTo}
 use Rattle.pg_run.specs.Acknowledged.{AcknowledgedKeysAreHad, IsHadThere}
+use Rattle.pg_run.specs.Births.{BirthsMoveInEvents}
 use Rattle.pg_run.specs.Grown.{EventsGrow}
 use Rattle.pg_run.specs.Journal.{mail}
+use Rattle.pg_run.specs.Known.{CarriedIsKnown, PlacesHaveOwnStamps}
 use Rattle.pg_run.specs.Laws.{AtEach, TakesIn}
 use Rattle.pg_run.specs.Run.{World, effect_step, next, run, start, world_after}
 use Rattle.pg_run.proofs.Frame.{HasCome}
@@ -65,33 +62,12 @@ use Rattle.pg_filled.proofs.Calling.{call_kept}
 use Rattle.pg_filled.proofs.Clean.{IsAcknowledged, clean_before}
 use Rattle.pg_filled.proofs.Coming.{receive_kept}
 use Rattle.pg_filled.proofs.Effects.{arrival_kept, effect_kept}
-use Rattle.pg_filled.proofs.Placed.{BeginsOther, FillsIt, FullIf, calls_full, full_kept_if, late_upto, rules_full_if}
+use Rattle.pg_filled.proofs.Given.{ListsLate, calls_full}
+use Rattle.pg_filled.proofs.Known.{lists_late, place_had}
+use Rattle.pg_filled.proofs.Placed.{BeginsOther, FillsIt, FullIf, full_kept_if, late_upto, left_full, rules_full_if}
 use Rattle.pg_filled.proofs.Sends.{MayReply, effect_sends}
 use Rattle.pg_filled.proofs.Told.{all_cells, asks_are}
 use Rattle.pg_filled.proofs.Works.{is_plain}
-
--- ---- the place that a peer has
-
-flag_no : (p : Place) (X : Type 0) (c : Cell) (o : Option Flag) → flag_cell o ≡ Some c → IsUpTo (cell.Place p) c → X
-flag_no p X c None is up = absurd (none-some c is)
-flag_no p X c (Some g) is up = absurd (subst (IsUpTo (cell.Place p)) (sym (same_Some (cell.Flag g) c is)) up)
-
-entry_no : (p : Place) (X : Type 0) (c : Cell) (sure : Bool) (o : Option Entry) → entry_cell o sure ≡ Some c → IsUpTo (cell.Place p) c → X
-entry_no p X c sure None is up = absurd (none-some c is)
-entry_no p X c sure (Some e) is up = absurd (subst (IsUpTo (cell.Place p)) (sym (same_Some (cell.Entry e sure) c is)) up)
-
-version_no : (p : Place) (X : Type 0) (c : Cell) (o : Option VersionValue) → version_cell o ≡ Some c → IsUpTo (cell.Place p) c → X
-version_no p X c None is up = absurd (none-some c is)
-version_no p X c (Some v) is up = absurd (subst (IsUpTo (cell.Place p)) (sym (same_Some (cell.Version v) c is)) up)
-
-had_by : (b : Store) (f : FileId) (p : Place) (q : Key) (c : Cell) → cell_at b f q ≡ Some c → IsUpTo (cell.Place p) c → IsPlaceUpTo p (own_or_blank b.names f).place
-had_by b f p key.Place c is up = subst (IsUpTo (cell.Place p)) (sym (same_Some (cell.Place (own_or_blank b.names f).place) c is)) up
-had_by b f p (key.Flag n) c is up = flag_no p _ c (flag_of (own_or_blank b.names f).flags n) is up
-had_by b f p (key.Entry g) c is up = entry_no p _ c (is_sure b f g) (entry_at b.names f g) is up
-had_by b f p (key.Version stamp) c is up = version_no p _ c (head_at (content_of b f).heads (key.Version stamp)) is up
-
-pub place_had : (b : Store) (f : FileId) (p : Place) → Holds IsUpTo (cell_at b f) (cell.Place p) → IsPlaceUpTo p (own_or_blank b.names f).place
-place_had b f p h = had_by b f p h.key h.cell h.is h.upto
 
 -- ---- messages of other kinds say nothing
 
@@ -112,19 +88,27 @@ same_ends p q h = cc
 
 -- ---- a world
 
--- what each server has is had by peers that acknowledged it
+-- what each server has is had by peers that acknowledged it, or their birth is over
 abbrev pub AckedIn : ℕ → World → Type 0
 AckedIn n w = AtEach n (λ s. (file : FileId) (x : Replica) (e : Edge) (k : Key) (c : Cell)
-    → replica_at (w.stores s) file ≡ Some x → IsAmong x.edges e → tag_in e.keys k ≡ None → cell_at (w.stores s) file k ≡ Some c → IsHadThere w file e c)
+    → replica_at (w.stores s) file ≡ Some x → IsAmong x.edges e → tag_in e.keys k ≡ None → cell_at (w.stores s) file k ≡ Some c
+    → IsHadThere w file e c ⊎ IsOver (w.stores e.peer) file e.birth)
 
--- and no server loses what it held, in whichever event
+-- no server loses what it held, unless the replica goes, in whichever event
 abbrev pub GrowIn : ℕ → World → Type 0
 GrowIn n w = (event : Event) (s : ℕ) (asked : Input) → TakesIn n w event s asked
     → let a = w.stores s in Grows a (first_effect a asked).store × Grows a (effect a asked).store
 
+-- and births move one way
+abbrev pub MoveIn : ℕ → World → Type 0
+MoveIn n w = (event : Event) (s : ℕ) (asked : Input) → TakesIn n w event s asked
+    → let a = w.stores s in BirthsMove a (first_effect a asked).store × BirthsMove (first_effect a asked).store (effect a asked).store
+
 pub record Stands (n : ℕ) (w : World) : Type 0 where
   pub acked : AckedIn n w
   pub grow : GrowIn n w
+  pub move : MoveIn n w
+  pub lists : AtEach n (λ s. ListsLate (w.stores s))
 
 -- what is proved of it
 pub record AreFilled (n : ℕ) (w : World) : Type 0 where
@@ -133,11 +117,27 @@ pub record AreFilled (n : ℕ) (w : World) : Type 0 where
 
 -- ---- what is not lost
 
-placed_on : (a b : Store) → Grows a b → (file : FileId) → IsPlaced a.names file → IsPlaced b.names file
-placed_on a b k file h = late_upto (own_or_blank a.names file).place (own_or_blank b.names file).place (k.names.places file) h
+-- it is filled, or the birth is over
+abbrev IsSo : Store → Ends → Type 0
+IsSo a ends = IsFilled a ends ⊎ IsOver a ends.file ends.receiver
 
-filled_on : (a b : Store) → Grows a b → (ends : Ends) → IsFilled a ends → IsFilled b ends
-filled_on a b k ends h = record { held = k.births ends.file ends.receiver h.held; placed = λ apart. placed_on a b k ends.file (h.placed apart) }
+filled_on : (a b : Store) → Grows a b → (ends : Ends) → IsFilled a ends → IsSo b ends
+filled_on a b k ends h = elim (k ends.file ends.receiver h.held) [
+  | inl g ↦ inl (record {
+    held = g.0;
+    placed = λ apart. late_upto (own_or_blank a.names ends.file).place (own_or_blank b.names ends.file).place g.1.place (h.placed apart);
+  })
+  | inr over ↦ inr over
+]
+
+so_on : (a b : Store) → Grows a b → BirthsMove a b → (ends : Ends) → IsSo a ends → IsSo b ends
+so_on a b k move ends h = elim h [
+  | inl filled ↦ filled_on a b k ends filled
+  | inr over ↦ inr (over_stays a b ends.file ends.receiver move over)
+]
+
+leave_no_full : (p q : Ends) (stamp : Stamp) → message.LeaveOk p stamp ≡ message.Full q → ⊥
+leave_no_full p q stamp h = cc
 
 module _ (n : ℕ) (w : World) (stands : Stands n w) (filled : AreFilled n w) (event : Event) (s : ℕ) (asked : Input) (least : 1 ≤ s) (most : s ≤ n) (takes : TakesIn n w event s asked) (came : HasCome w s asked) where
   abbrev Here : Store
@@ -152,64 +152,98 @@ module _ (n : ℕ) (w : World) (stands : Stands n w) (filled : AreFilled n w) (e
   grows : Grows Here End
   grows = (stands.grow event s asked takes).1
 
+  moves : BirthsMove Here End
+  moves = let m = stands.move event s asked takes in moves_then Here (first_effect Here asked).store End m.0 m.1
+
   -- ---- what was filled stays so
 
-  later_filled : (t : ℕ) (ends : Ends) → IsFilled (w.stores t) ends → IsFilled (Later t) ends
-  later_filled t ends h = elim (here w.stores s End t) [
-    | inl e ↦ (let P : ℕ → Type 0 = λ i. IsFilled (w.stores i) ends in
-        subst (λ (x : Store). IsFilled x ends) (sym e.1) (filled_on Here End grows ends (subst P e.0 h)))
-    | inr e ↦ subst (λ (x : Store). IsFilled x ends) (sym e.1) h
+  later_so : (t : ℕ) (ends : Ends) → IsSo (w.stores t) ends → IsSo (Later t) ends
+  later_so t ends h = elim (here w.stores s End t) [
+    | inl e ↦ (let P : ℕ → Type 0 = λ i. IsSo (w.stores i) ends in
+        subst (λ (x : Store). IsSo x ends) (sym e.1) (so_on Here End grows moves ends (subst P e.0 h)))
+    | inr e ↦ subst (λ (x : Store). IsSo x ends) (sym e.1) h
   ]
 
   -- ---- what is full has a place
 
   module _ (file : FileId) (apart : is_same_file file root ≡ false) where
-    -- which message makes it full
-    sent_full : (packet : Packet) → HasCome w s (input.Arrival packet) → (ends : Ends) → packet.message ≡ message.Full ends → FillsIt Here file ends.file
-    sent_full packet sent ends is same =
+    -- a message comes that makes it full
+    abbrev Fills : Message → Type 0
+    Fills m = (ends : Ends) × (m ≡ message.Full ends) × (is_same_file ends.file file ≡ true) × (has_birth Here ends.file ends.receiver ≡ true)
+
+    abbrev Told : Input → Type 0
+    Told (input.Call moment c) = ⊥
+    Told (input.Tick moment word) = ⊥
+    Told (input.Arrival packet) = Fills packet.message
+    Told input.Restart = ⊥
+
+    -- then it has a place
+    sent_full : (packet : Packet) → HasCome w s (input.Arrival packet) → Fills packet.message → IsPlaced Here.names file
+    sent_full packet sent f =
         let m : Sent = record { to = s; packet = packet } in
         let said : SaysFull w m = All-contains (SaysFull w) (mail w.journal) m filled.said sent in
-        let there : IsFilled Here ends = said ends is in
-        there.placed (ap (λ (f : FileId). is_same_file f root) (is_same_file-true ends.file file same) ∙ apart)
+        let same : f.0.file ≡ file = is_same_file-true f.0.file file f.2 in
+        elim (said f.0 f.1) [
+          | inl there ↦ subst (IsPlaced Here.names) same (there.placed (ap (λ (q : FileId). is_same_file q root) same ∙ apart))
+          | inr over ↦ absurd (false≢true (sym over.away ∙ f.3))
+        ]
 
-    first_full : (x : Input) → HasCome w s x → FullIf Here file (first_effect Here x).store.names
-    first_full (input.Call moment c) is = call_kept (FullIf Here file) Here (new_work moment 0) (calls_full Here file (new_work moment 0)) (λ full. inl (inl full)) c
-    first_full (input.Tick moment word) is = λ full. inl (inl full)
+    told_place : (x : Input) → HasCome w s x → Told x → IsPlaced Here.names file
+    told_place (input.Call moment c) is told = absurd told
+    told_place (input.Tick moment word) is told = absurd told
+    told_place (input.Arrival packet) is told = sent_full packet is told
+    told_place input.Restart is told = absurd told
+
+    begins_full : (x : Input) → HasCome w s x → FullIf Here file (Told x) Here.names
+    begins_full x is = (λ full. filled.placed s least most file full apart, λ told. told_place x is told)
+
+    first_full : (x : Input) → HasCome w s x → FullIf Here file (Told x) (first_effect Here x).store.names
+    first_full (input.Call moment c) is =
+        call_kept (FullIf Here file ⊥) Here (new_work moment 0) (calls_full Here file ⊥ (stands.lists s least most) (new_work moment 0)) (begins_full (input.Call moment c) is) c
+    first_full (input.Tick moment word) is = begins_full (input.Tick moment word) is
     first_full (input.Arrival packet) is =
-        arrival_kept (FullIf Here file) Here packet (λ full. inl (inl full))
-        (receive_kept (FullIf Here file) (λ f p. Unit {0}) (BeginsOther Here file) (FillsIt Here file) (full_kept_if Here file) Here (λ full. inl (inl full)) packet.message (new_work 0 packet.from)
+        let T = Fills packet.message in
+        let now = begins_full (input.Arrival packet) is in
+        arrival_kept (FullIf Here file T) Here packet now
+        (λ heard. receive_kept (FullIf Here file T) (λ f p. Unit {0}) (BeginsOther Here file T) (FillsIt Here file T) (full_kept_if Here file T) Here now packet.message (new_work 0 packet.from)
         (record {
-          cell = λ ends tag p same. tt;
+          cell = λ ends tag p same born. tt;
           confirm = λ dir e same. tt;
-          grant = λ ends g same. inl refl;
-          full = λ ends same. sent_full packet is ends same;
+          grant = λ ends g same. inl (refl, λ f. grant_no_full ends f.0 g (sym same ∙ f.1));
+          full = λ ends same born is_file. (ends, same, is_file, born);
+          goes = λ ends stamp work same may. left_full Here file T Here.names ends.file (λ f. leave_no_full ends f.0 stamp (sym same ∙ f.1)) now;
         }))
-    first_full input.Restart is = λ full. inl (inl full)
+    first_full input.Restart is = begins_full input.Restart is
 
     full_placed : is_full End file ≡ true → IsPlaced End.names file
     full_placed full =
-        elim (effect_kept (FullIf Here file) (rules_full_if Here file) Here asked (first_full asked came) full) [
-          | inl was ↦ placed_on Here End grows file (elim was [ inl before ↦ filled.placed s least most file before apart | inr placed ↦ placed ])
-          | inr now ↦ now
-        ]
+        (effect_kept (FullIf Here file (Told asked)) (rules_full_if Here file (Told asked)) Here asked (first_full asked came)).0 full
 
   -- ---- what is sent
 
-  -- who has acknowledged all has a place
-  peer_filled : (file : FileId) (peer birth : ℕ) (ends : Ends) → ends.file ≡ file → ends.receiver ≡ birth → is_full Here file ≡ true → IsAcknowledged Here file peer birth → IsFilled (w.stores peer) ends
+  over_there : (file f : FileId) (peer to birth b c : ℕ) → IsOver (w.stores peer) file birth → peer ≡ to → f ≡ file → b ≡ c → birth ≡ c
+      → IsOver (w.stores to) f b
+  over_there file f peer to birth b c over a e g h =
+      subst (λ (i : ℕ). IsOver (w.stores i) f b) a
+      (subst (λ (q : FileId). IsOver (w.stores peer) q b) (sym e) (subst (IsOver (w.stores peer) file) (h ∙ sym g) over))
+
+  -- who has acknowledged all has a place, or its birth is over
+  peer_filled : (file : FileId) (peer birth : ℕ) (ends : Ends) → ends.file ≡ file → ends.receiver ≡ birth → is_full Here file ≡ true → IsAcknowledged Here file peer birth → IsSo (w.stores peer) ends
   peer_filled file peer birth ends of_file to_birth full k =
       let place = (own_or_blank Here.names file).place in
-      let had : IsHadThere w file k.edge (cell.Place place) =
-      stands.acked s least most file k.replica k.edge key.Place (cell.Place place) k.is k.among (ap (λ (q : List (Key × ℕ)). tag_in q key.Place) k.none) refl in
-      let P : ℕ → Type 0 = λ i. IsFilled (w.stores i) ends in
-      subst P k.peer_is (record {
-        held = ap (birth_at (w.stores k.edge.peer)) of_file ∙ ap (option_map (λ (x : Replica). x.birth)) had.is ∙ ap Some (had.born ∙ k.birth_is ∙ sym to_birth);
-        placed = λ apart. subst (IsPlaced (w.stores k.edge.peer).names) (sym of_file)
-            (late_upto place (own_or_blank (w.stores k.edge.peer).names file).place (place_had (w.stores k.edge.peer) file place had.had) (filled.placed s least most file full (ap (λ (f : FileId). is_same_file f root) (sym of_file) ∙ apart)));
-      })
+      elim (stands.acked s least most file k.replica k.edge key.Place (cell.Place place) k.is k.among (ap (λ (q : List (Key × ℕ)). tag_in q key.Place) k.none) refl) [
+        | inl had ↦ inl (
+            let P : ℕ → Type 0 = λ i. IsFilled (w.stores i) ends in
+            subst P k.peer_is (record {
+              held = ap (birth_at (w.stores k.edge.peer)) of_file ∙ ap (option_map (λ (x : Replica). x.birth)) had.is ∙ ap Some (had.born ∙ k.birth_is ∙ sym to_birth);
+              placed = λ apart. subst (IsPlaced (w.stores k.edge.peer).names) (sym of_file)
+                  (late_upto place (own_or_blank (w.stores k.edge.peer).names file).place (place_had (w.stores k.edge.peer) file place had.had) (filled.placed s least most file full (ap (λ (f : FileId). is_same_file f root) (sym of_file) ∙ apart)));
+            }))
+        | inr over ↦ inr (over_there file ends.file k.edge.peer peer k.edge.birth ends.receiver birth over k.peer_is of_file to_birth k.birth_is)
+      ]
 
   abbrev Says : Sent → Type 0
-  Says m = (ends : Ends) → m.packet.message ≡ message.Full ends → IsFilled (Later m.to) ends
+  Says m = (ends : Ends) → m.packet.message ≡ message.Full ends → IsSo (Later m.to) ends
 
   linked_from : (t : Bool) (work : Work) (f : FileId) (peer : ℕ) → (with_link t work f peer).from ≡ work.from
   linked_from true work f peer = refl
@@ -224,8 +258,8 @@ module _ (n : ℕ) (w : World) (stands : Stands n w) (filled : AreFilled n w) (e
         let at : IsAcknowledged Here file packet.from birth =
         clean_before Here file packet.from birth (full_held Here.names file holds) (subst (λ (i : ℕ). is_clean (link Here file packet.from birth) file i birth ≡ true) from clean) in
         let p = same_ends _ ends same in
-        let there : IsFilled (w.stores packet.from) ends = peer_filled file packet.from birth ends (sym (ap (λ (z : Ends). z.file) p)) (sym (ap (λ (z : Ends). z.receiver) p)) holds at in
-        subst (λ (i : ℕ). IsFilled (Later i) ends) (sym from) (later_filled packet.from ends there));
+        let there : IsSo (w.stores packet.from) ends = peer_filled file packet.from birth ends (sym (ap (λ (z : Ends). z.file) p)) (sym (ap (λ (z : Ends). z.receiver) p)) holds at in
+        subst (λ (i : ℕ). IsSo (Later i) ends) (sym from) (later_so packet.from ends there));
   }
 
   sent_says : All Says (effect Here asked).out.sent
@@ -253,7 +287,7 @@ module _ (n : ℕ) (w : World) (stands : Stands n w) (filled : AreFilled n w) (e
       | inr e ↦ (let P : Store → Type 0 = λ x. is_full x file ≡ true → IsPlaced x.names file in subst P (sym e.1) (λ f. filled.placed t l m file f apart) full)
     ];
     said = All-append Says (effect Here asked).out.sent (mail w.journal) sent_says
-        (All-weaker (SaysFull w) Says (λ m says ends same. later_filled m.to ends (says ends same)) (mail w.journal) filled.said);
+        (All-weaker (SaysFull w) Says (λ m says ends same. later_so m.to ends (says ends same)) (mail w.journal) filled.said);
   }
 
 -- ---- every run
@@ -275,12 +309,14 @@ starts_filled n = record {
   said = All-nil (SaysFull (start n));
 }
 
-pub filled_run : (n : ℕ) → AcknowledgedKeysAreHad n → EventsGrow n → (events : List Event) → AreFilled n (run n events)
-filled_run n acked grow events =
-    runs_keep n (Stands n) (AreFilled n) (filled_next n) (start n) events (λ some. record { acked = acked some; grow = grow some }) (starts_filled n)
+module _ (n : ℕ) (acked : AcknowledgedKeysAreHad n) (grow : EventsGrow n) (move : BirthsMoveInEvents n) (known : CarriedIsKnown n) (stamps : PlacesHaveOwnStamps n) where
+  filled_run : (events : List Event) → AreFilled n (run n events)
+  filled_run events =
+      runs_keep n (Stands n) (AreFilled n) (filled_next n) (start n) events
+      (λ some. record { acked = acked some; grow = grow some; move = move some; lists = lists_late n known stamps some }) (starts_filled n)
 
-pub full_placed_run : (n : ℕ) → AcknowledgedKeysAreHad n → EventsGrow n → FullPlaced n
-full_placed_run n acked grow events = (filled_run n acked grow events).placed
+  pub full_placed_run : FullPlaced n
+  full_placed_run events = (filled_run events).placed
 
-pub full_says_run : (n : ℕ) → AcknowledgedKeysAreHad n → EventsGrow n → FullSays n
-full_says_run n acked grow events = (filled_run n acked grow events).said
+  pub full_says_run : FullSays n
+  full_says_run events = (filled_run events).said

@@ -14,7 +14,7 @@ use Rattle.pg_intent.specs.declared.key.IntentKey.{IntentKey}
 use Rattle.pg_intent.specs.Intents.{ended, intent_at}
 use Rattle.pg_msg.specs.declared.work.Work.{Work}
 use Rattle.pg_names.specs.declared.own.Own.{Own}
-use Rattle.pg_names.specs.Names.{NamesValue, begin as begin_names, fill, join_entry, join_flag, join_place, raise}
+use Rattle.pg_names.specs.Names.{NamesValue, begin as begin_names, fill, join_entry, join_flag, join_place, raise, remove_server}
 use Rattle.pg_store.specs.declared.store.Store.{Store}
 use Rattle.pg_store.specs.Beginning.{begin, patches_of, put_new, take_patch, take_patches, take_told_in, with_intents}
 use Rattle.pg_store.specs.Links.{is_linked, is_new_link, link, put_link, unlink}
@@ -24,7 +24,7 @@ use Rattle.pg_cells.specs.Taking.{take_flags_noted}
 use Rattle.pg_promises.proofs.Choices.{chosen}
 
 -- a property of names that each piece keeps, where these places may come, such replicas begin, and these things become
--- full
+-- full; and where a server is removed
 pub record AreKept (P : NamesValue → Type 0) (Places : FileId → Place → Type 0) (Begins : FileId → Own → Bool → Type 0) (Fills : FileId → Type 0) : Type 0 where
   pub place : (s : NamesValue) (f : FileId) (p : Place) → Places f p → P s → P (join_place s f p)
   pub flag : (s : NamesValue) (f : FileId) (g : Flag) → P s → P (join_flag s f g)
@@ -32,6 +32,7 @@ pub record AreKept (P : NamesValue → Type 0) (Places : FileId → Place → Ty
   pub raised : (s : NamesValue) (time : ℕ) → P s → P (raise s time)
   pub begun : (s : NamesValue) (f : FileId) (own : Own) (full : Bool) → Begins f own full → P s → P (begin_names s f own full)
   pub filled : (s : NamesValue) (f : FileId) → Fills f → P s → P (fill s f)
+  pub removed : (s : NamesValue) (server : ℕ) → P s → P (remove_server s server)
 
 module _ (P : NamesValue → Type 0) (Places : FileId → Place → Type 0) (Begins : FileId → Own → Bool → Type 0) (Fills : FileId → Type 0) (k : AreKept P Places Begins Fills) where
   abbrev Of : Store → Type 0

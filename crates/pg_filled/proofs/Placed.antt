@@ -1,14 +1,13 @@
 -- A place with a later stamp than the first: it is never replaced by one with the first; and what becomes full.
-use Rattle.std.proofs.Common.{ℕ, ◌≡◌, ◌≤◌, Bool, true, false, cond, List, Option, None, Some, is_some, refl, sym, ap, subst, ◌∙◌, inl, inr, ◌⊎◌, arith}
+use Rattle.std.proofs.Common.{ℕ, ◌≡◌, ◌≤◌, ◌==◌, ◌&&◌, ◌||◌, Bool, true, false, cond, not, List, Option, None, Some, is_some, refl, sym, ap, subst, ◌∙◌, inl, inr, ◌⊎◌, arith}
+use Rattle.std.specs.Prelude.{nat_lt}
 use Rattle.std.proofs.lemmas.Bool.{false≢true}
 use Rattle.std.proofs.lemmas.Bool.Decides.{nat_tests}
 use Rattle.pg_base.specs.declared.id.FileId.{FileId}
-use Rattle.pg_base.specs.declared.id.Kind.{Kind}
-use Rattle.pg_base.specs.declared.policy.Policy.{Policy}
 use Rattle.pg_base.specs.declared.stamp.Stamp.{Stamp}
 use Rattle.pg_base.specs.Id.{is_same_file}
 use Rattle.pg_base.specs.Stamp.{UpTo, is_before}
-use Rattle.pg_base.proofs.Orders.{is_before-false, is_same_file-refl, is_same_file-true}
+use Rattle.pg_base.proofs.Orders.{is_before-false, is_same_file-true, stamp_of_parts}
 use Rattle.pg_register.specs.declared.flag.Flag.{Flag}
 use Rattle.pg_register.specs.declared.place.Place.{Place}
 use Rattle.pg_register.specs.Place.{first_stamp, newer_place}
@@ -16,27 +15,23 @@ use Rattle.pg_entries.specs.declared.entry.Entry.{Entry}
 use Rattle.pg_msg.specs.declared.update.Update.{Update}
 use Rattle.pg_msg.specs.declared.work.Work.{Work}
 use Rattle.pg_names.specs.declared.own.Own.{Own}
-use Rattle.pg_names.specs.Names.{HeldValue, NamesValue, begin as begin_names, blank_own, fill, filled, is_full, is_full_of, is_held, is_place_new, join_entry, join_flag, join_place, known, new_held, or_blank, own_at, own_of, update, with_flag, with_joined, with_place}
+use Rattle.pg_names.specs.Same.{is_same_stamp}
+use Rattle.pg_names.specs.Names.{HeldValue, NamesValue, begin as begin_names, fill, filled, is_full, is_full_of, is_held, is_place_new, let_go, join_entry, join_flag, join_place, known, new_held, or_blank, own_at, own_of, update, with_flag, with_joined, with_place}
 use Rattle.pg_names.proofs.Holding.{begun_known, begun_other, fill_other, fill_own, full_kept}
+use Rattle.pg_names.proofs.Gone.{gone_known}
 use Rattle.pg_names.proofs.Lookups.{flag_other, flag_same, joined_own, known_absent, own_with_flag, own_with_place, place_other, place_same, update_frame}
 use Rattle.pg_house.specs.House.{house}
 use Rattle.pg_house.specs.Passing.{is_held_back}
 use Rattle.pg_house.specs.Work.{state_of}
 use Rattle.pg_house.proofs.Fullness.{rules_full}
 use Rattle.pg_store.specs.declared.store.Store.{Store}
-use Rattle.pg_store.specs.Beginning.{patches_of, put_new}
-use Rattle.pg_store.specs.Births.{draw_birth, with_birth}
 use Rattle.pg_store.specs.Store.{is_newer_place, put_place, take_place}
-use Rattle.pg_cells.specs.Making.{own_next}
-use Rattle.pg_calls.specs.declared.checks.NewName.{NewName}
-use Rattle.pg_calls.specs.Naming.{begun, next_id, place_in, with_id, with_thing}
 use Rattle.pg_promises.proofs.Choices.{chosen, decided}
-use Rattle.pg_promises.proofs.Together.{held_by_keys, own_of_held}
+use Rattle.pg_promises.proofs.Together.{held_by_keys}
 use Rattle.pg_filled.specs.Filled.{IsLate, IsPlaced}
-use Rattle.pg_filled.proofs.Calling.{CallsKeep}
 use Rattle.pg_filled.proofs.Effects.{RulesKeep}
-use Rattle.pg_filled.proofs.HousePlaces.{IsUp, StaysSo, before_further, drawn_some, house_stays, newer_up}
-use Rattle.pg_filled.proofs.Pieces.{AreKept, begin_kept, flag_kept, patches_kept, place_kept}
+use Rattle.pg_filled.proofs.HousePlaces.{IsUp, StaysSo, before_further, house_stays, newer_up}
+use Rattle.pg_filled.proofs.Pieces.{AreKept}
 
 -- ---- later stamps
 
@@ -50,16 +45,30 @@ late_up : (p q : Place) → IsUp p q → IsLate p → IsLate q
 late_up p q (inl same) late = subst IsLate (sym same) late
 late_up p q (inr later) late = before_further first_stamp p.stamp q.stamp late later
 
-late_time : (s : Stamp) → 1 ≤ s.time → is_before first_stamp s ≡ true
+-- a stamp other than the first is later
+pub not_first : (s : Stamp) → is_same_stamp s first_stamp ≡ false → is_before first_stamp s ≡ true
+not_first s other = grind (arith, nat_tests)
+
+time_is : (a b : ℕ) → (nat_lt 0 a || (0 == a && nat_lt 0 b)) ≡ false → a ≡ 0
+time_is a b h = grind (arith, nat_tests)
+
+server_is : (a b : ℕ) → (nat_lt 0 a || (0 == a && nat_lt 0 b)) ≡ false → b ≡ 0
+server_is a b h = grind (arith, nat_tests)
+
+-- and one that is not later is the first
+pub first_is : (s : Stamp) → is_before first_stamp s ≡ false → s ≡ first_stamp
+first_is s none = stamp_of_parts s.time 0 s.server 0 (time_is s.time s.server none) (server_is s.time s.server none)
+
+pub late_time : (s : Stamp) → 1 ≤ s.time → is_before first_stamp s ≡ true
 late_time s some = grind (arith, nat_tests)
 
 -- ---- the place of one thing
 
 module _ (file : FileId) where
-  abbrev At : NamesValue → Type 0
+  abbrev pub At : NamesValue → Type 0
   At s = IsPlaced s file
 
-  abbrev OfOwn : Option Own → Type 0
+  abbrev pub OfOwn : Option Own → Type 0
   OfOwn o = IsLate (or_blank file o).place
 
   place_at_by : (s : NamesValue) (f : FileId) (p : Place) (o : Option Own) → own_at s f ≡ o → At s → (t : Bool) → is_same_file f file ≡ t → At (join_place s f p)
@@ -94,16 +103,16 @@ module _ (file : FileId) where
   filled_at : (s : NamesValue) (f : FileId) → At s → At (fill s f)
   filled_at s f h = subst OfOwn (sym (fill_own s f file)) h
 
-  abbrev AnyPlace : FileId → Place → Type 0
+  abbrev pub AnyPlace : FileId → Place → Type 0
   AnyPlace f p = Unit {0}
 
-  abbrev OtherBegins : FileId → Own → Bool → Type 0
+  abbrev pub OtherBegins : FileId → Own → Bool → Type 0
   OtherBegins f own full = is_same_file file f ≡ false
 
-  abbrev AnyFills : FileId → Type 0
+  abbrev pub AnyFills : FileId → Type 0
   AnyFills f = Unit {0}
 
-  at_kept : AreKept At AnyPlace OtherBegins AnyFills
+  pub at_kept : AreKept At AnyPlace OtherBegins AnyFills
   at_kept = record {
     place = λ s f p may h. place_at s f p h;
     flag = flag_at;
@@ -111,6 +120,7 @@ module _ (file : FileId) where
     raised = λ s time h. h;
     begun = begun_at;
     filled = λ s f may h. filled_at s f h;
+    removed = λ s server h. h;
   }
 
   -- the house rules
@@ -132,7 +142,7 @@ module _ (file : FileId) where
   newer_late a p late =
       decided IsLate (is_before a.stamp p.stamp) p a (λ t. late) (λ f. late_upto p a (is_before-false a.stamp p.stamp f) late)
 
-  taken_at : (b : Store) (own : Own) → own_at b.names file ≡ Some own → (p : Place) → IsLate p → At (take_place b file p).names
+  pub taken_at : (b : Store) (own : Own) → own_at b.names file ≡ Some own → (p : Place) → IsLate p → At (take_place b file p).names
   taken_at b own held p late =
       decided (λ (c : Store). At c.names) (is_newer_place b file p) (put_place b file p) b
       (λ newer. subst OfOwn (sym (place_same b.names file p own held)) (newer_late own.place p late))
@@ -141,17 +151,17 @@ module _ (file : FileId) where
 -- ---- what is held stays held
 
 module _ (file : FileId) where
-  abbrev HeldIn : NamesValue → Type 0
+  abbrev pub HeldIn : NamesValue → Type 0
   HeldIn s = is_held s file ≡ true
 
   changed_held : (s : NamesValue) (f : FileId) (change : HeldValue → HeldValue) → HeldIn s → HeldIn (update s f change)
   changed_held s f change h = held_by_keys (update s f change) s file (update_frame s f change).keys ∙ h
 
-  begun_held : (s : NamesValue) (f : FileId) (own : Own) (full t : Bool) → is_same_file file f ≡ t → HeldIn s → HeldIn (begin_names s f own full)
+  pub begun_held : (s : NamesValue) (f : FileId) (own : Own) (full t : Bool) → is_same_file file f ≡ t → HeldIn s → HeldIn (begin_names s f own full)
   begun_held s f own full true e h = ap is_some (begun_known s f own full file ∙ ap (λ (b : Bool). cond b (Some (new_held own full)) (known s file)) e)
   begun_held s f own full false e h = ap is_some (begun_other s f own full file e) ∙ h
 
-  held_kept : AreKept HeldIn (λ f p. Unit {0}) (λ f own full. Unit {0}) (λ f. Unit {0})
+  pub held_kept : AreKept HeldIn (λ f p. Unit {0}) (λ f own full. Unit {0}) (λ f. Unit {0})
   held_kept = record {
     place = λ s f p may h. changed_held s f (with_place p) h;
     flag = λ s f g h. changed_held s f (with_flag g) h;
@@ -159,36 +169,51 @@ module _ (file : FileId) where
     raised = λ s time h. h;
     begun = λ s f own full may h. begun_held s f own full (is_same_file file f) refl h;
     filled = λ s f may h. changed_held s f filled h;
+    removed = λ s server h. h;
   }
 
 -- ---- what is full
 
--- a server that held this has the thing full only where it was full, it had a place, or it has one
-module _ (a : Store) (file : FileId) where
-  abbrev pub Was : Type 0
-  Was = (is_full a.names file ≡ true) ⊎ IsPlaced a.names file
-
+-- what is full has a place; and it has one in any case where this holds of the event
+module _ (a : Store) (file : FileId) (T : Type 0) where
   abbrev pub FullIf : NamesValue → Type 0
-  FullIf s = is_full s file ≡ true → Was ⊎ IsPlaced s file
+  FullIf s = (is_full s file ≡ true → IsPlaced s file) × (T → IsPlaced s file)
 
   abbrev pub FillsIt : FileId → Type 0
-  FillsIt f = is_same_file f file ≡ true → IsPlaced a.names f
+  FillsIt f = is_same_file f file ≡ true → T
 
   abbrev pub BeginsOther : FileId → Own → Bool → Type 0
-  BeginsOther f own full = (full ≡ false) ⊎ (is_same_file file f ≡ false)
+  BeginsOther f own full = ((full ≡ false) × (T → ⊥)) ⊎ (is_same_file file f ≡ false)
 
   goes_on : (s t : NamesValue) → is_full t file ≡ is_full s file → (IsPlaced s file → IsPlaced t file) → FullIf s → FullIf t
-  goes_on s t same up h full = elim (h (sym same ∙ full)) [ inl was ↦ inl was | inr now ↦ inr (up now) ]
+  goes_on s t same up h = (λ full. up (h.0 (sym same ∙ full)), λ x. up (h.1 x))
 
   begun_by : (s : NamesValue) (f : FileId) (own : Own) (full t : Bool) → is_same_file file f ≡ t → BeginsOther f own full → FullIf s → FullIf (begin_names s f own full)
   begun_by s f own full false e may h = goes_on s (begin_names s f own full) (ap is_full_of (begun_other s f own full file e)) (begun_at file s f own full e) h
   begun_by s f own full true e (inr other) h = absurd (false≢true (sym other ∙ e))
-  begun_by s f own full true e (inl filling) h = λ is. absurd (false≢true
-      (sym filling ∙ sym (ap is_full_of (begun_known s f own full file ∙ ap (λ (b : Bool). cond b (Some (new_held own full)) (known s file)) e)) ∙ is))
+  begun_by s f own full true e (inl filling) h = (
+    λ is. absurd (false≢true (sym filling.0
+        ∙ sym (ap is_full_of (begun_known s f own full file ∙ ap (λ (b : Bool). cond b (Some (new_held own full)) (known s file)) e)) ∙ is)),
+    λ x. absurd (filling.1 x),
+  )
 
   filled_by : (s : NamesValue) (f : FileId) (t : Bool) → is_same_file f file ≡ t → FillsIt f → FullIf s → FullIf (fill s f)
   filled_by s f false e may h = goes_on s (fill s f) (fill_other s f file e) (filled_at file s f) h
-  filled_by s f true e may h = λ is. inl (inr (subst (IsPlaced a.names) (is_same_file-true f file e) (may e)))
+  filled_by s f true e may h = (λ is. filled_at file s f (h.1 (may e)), λ x. filled_at file s f (h.1 x))
+
+  -- a replica goes
+  left_by : (s : NamesValue) (f : FileId) (t : Bool) → is_same_file f file ≡ t → (T → ⊥) → FullIf s → FullIf (let_go s f)
+  left_by s f false e none h =
+      let same : known (let_go s f) file ≡ known s file =
+      gone_known s f file ∙ ap (λ (b : Bool). cond (not b) (known s file) None) e in
+      goes_on s (let_go s f) (ap is_full_of same) (λ at. subst (λ (o : Option HeldValue). OfOwn file (own_of o)) (sym same) at) h
+  left_by s f true e none h = (
+    λ is. absurd (false≢true (sym (ap is_full_of (gone_known s f file ∙ ap (λ (b : Bool). cond (not b) (known s file) None) e)) ∙ is)),
+    λ x. absurd (none x),
+  )
+
+  pub left_full : (s : NamesValue) (f : FileId) → (T → ⊥) → FullIf s → FullIf (let_go s f)
+  left_full s f none h = left_by s f (is_same_file f file) refl none h
 
   pub full_kept_if : AreKept FullIf (λ f p. Unit {0}) BeginsOther FillsIt
   full_kept_if = record {
@@ -198,6 +223,7 @@ module _ (a : Store) (file : FileId) where
     raised = λ s time h. h;
     begun = λ s f own full may h. begun_by s f own full (is_same_file file f) refl may h;
     filled = λ s f may h. filled_by s f (is_same_file f file) refl may h;
+    removed = λ s server h. h;
   }
 
   house_full : (moment : ℕ) (s : NamesValue) (work : Work) → FullIf s → FullIf (house moment (state_of s work)).names
@@ -205,51 +231,3 @@ module _ (a : Store) (file : FileId) where
 
   pub rules_full_if : RulesKeep FullIf
   rules_full_if = record { rules = house_full; flag = full_kept_if.flag }
-
-  -- ---- a call makes a thing
-
-  module _ (work : Work) (kind : Kind) (policy : Policy) (new : NewName) where
-    abbrev Id : FileId
-    Id = next_id a kind
-
-    abbrev Begun : Store
-    Begun = begun (with_id a) Id policy
-
-    abbrev First : Place
-    First = place_in (with_id a) work.now new
-
-    abbrev Thing : Store
-    Thing = (with_thing (with_id a) work Id policy new).store
-
-    thing_other : is_same_file file Id ≡ false → FullIf a.names → FullIf Thing.names
-    thing_other other h =
-        let b = take_place Begun Id First in
-        let one = begin_kept FullIf (λ f p. Unit {0}) BeginsOther FillsIt full_kept_if (with_birth (with_id a)) Id (draw_birth (with_id a)) policy (blank_own Id) true (inr other) h in
-        let two = place_kept FullIf (λ f p. Unit {0}) BeginsOther FillsIt full_kept_if Begun Id First tt one in
-        flag_kept FullIf (λ f p. Unit {0}) BeginsOther FillsIt full_kept_if b Id (own_next b Id true) two
-
-    -- it is held, so it takes its place
-    held_there : is_held Begun.names Id ≡ true
-    held_there =
-        let start = put_new (with_birth (with_id a)) Id (draw_birth (with_id a)) policy (blank_own Id) true in
-        patches_kept (HeldIn Id) (λ f p. Unit {0}) (λ f own full. Unit {0}) (λ f. Unit {0}) (held_kept Id) start Id (patches_of Id a.intents)
-        (ap is_some (begun_known a.names Id (blank_own Id) true Id ∙ ap (λ (b : Bool). cond b (Some (new_held (blank_own Id) true)) (known a.names Id)) (is_same_file-refl Id)))
-
-    placed_there : IsPlaced Thing.names Id
-    placed_there =
-        let own = own_of_held Begun.names Id held_there in
-        let b = take_place Begun Id First in
-        flag_kept (At Id) (AnyPlace Id) (OtherBegins Id) (AnyFills Id) (at_kept Id) b Id (own_next b Id true)
-        (taken_at Id Begun own.0 own.1 First (late_time First.stamp (drawn_some work.now a.names.last)))
-
-    thing_by : (t : Bool) → is_same_file file Id ≡ t → FullIf a.names → FullIf Thing.names
-    thing_by false e h = thing_other e h
-    thing_by true e h = λ is. inr (subst (IsPlaced Thing.names) (sym (is_same_file-true file Id e)) placed_there)
-
-  pub calls_full : (work : Work) → CallsKeep FullIf a work
-  calls_full work = record {
-    thing = λ kind policy new h. thing_by work kind policy new (is_same_file file (next_id a kind)) refl h;
-    place = λ f p drawn h. place_kept FullIf (λ f p. Unit {0}) BeginsOther FillsIt full_kept_if a f p tt h;
-    flag = λ f g h. flag_kept FullIf (λ f p. Unit {0}) BeginsOther FillsIt full_kept_if a f g h;
-    raised = λ s time h. h;
-  }

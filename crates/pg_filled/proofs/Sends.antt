@@ -30,7 +30,8 @@ use Rattle.pg_server.specs.declared.input.Input.TheVariants as input
 use Rattle.pg_server.specs.Local.{effect, first_effect, is_heard, receive, sent_again}
 use Rattle.pg_promises.proofs.Choices.{All-flat_map, chosen}
 use Rattle.pg_run.proofs.Event.{all_sent, end_of, store_is}
-use Rattle.pg_filled.proofs.Replies.{MayAnswer, call_sends, receive_sends, tick_sends}
+use Rattle.pg_filled.proofs.Called.{call_sends}
+use Rattle.pg_filled.proofs.Replies.{MayAnswer, receive_sends, tick_sends}
 use Rattle.pg_filled.proofs.Works.{IsClosed, is_plain}
 
 -- a property of messages: plain ones have it, what is granted does, and, where a server that holds this is asked for a
@@ -66,6 +67,7 @@ module _ (P : Sent → Type 0) (a : Store) where
     left = λ w d f h. h;
     unsure = λ w d f h. h;
     linked = λ w f peer h. h;
+    begun = λ w i h. h;
     flagged = λ w f g h. h;
     sent = λ w x is h. (All-push P w.sent x h.0 (plain x is), h.1);
     last = λ w x is h. (h.0, All-push P w.tail x h.1 (plain x is));

@@ -12,7 +12,9 @@ use Rattle.pg_msg.specs.declared.message.Message.TheVariants as message
 use Rattle.pg_msg.specs.declared.message.Sent.{Sent}
 use Rattle.pg_msg.specs.declared.update.Update.TheVariants as update
 use Rattle.pg_msg.specs.declared.work.Work.{Work}
-use Rattle.pg_msg.specs.Work.{with_left, with_linked, with_made, with_sent, with_tail, with_touched, with_unsure}
+use Rattle.pg_intent.specs.declared.key.IntentKey.{IntentKey}
+use Rattle.pg_cells.specs.Intending.{with_begun_if}
+use Rattle.pg_msg.specs.Work.{with_begun, with_left, with_linked, with_made, with_sent, with_tail, with_touched, with_unsure}
 use Rattle.pg_register.specs.declared.flag.Flag.{Flag}
 use Rattle.pg_register.specs.declared.place.Place.{Place}
 use Rattle.pg_names.specs.Names.{own_or_blank}
@@ -34,13 +36,14 @@ is_plain (message.Full ends) = false
 is_plain (message.Confirm dir entry) = false
 is_plain _ = true
 
--- a property of what comes of an event that these keep: what is noted, flags that are made, and plain messages, also such
+-- a property of what comes of an event that these keep: what is noted, intentions that begin, flags that are made, and plain messages, also such
 -- as go last
 pub record IsClosed (Q : Work → Type 0) : Type 0 where
   pub touched : (w : Work) (f : FileId) (q : Key) → Q w → Q (with_touched w f q)
   pub left : (w : Work) (d f : FileId) → Q w → Q (with_left w d f)
   pub unsure : (w : Work) (d f : FileId) → Q w → Q (with_unsure w d f)
   pub linked : (w : Work) (f : FileId) (peer : ℕ) → Q w → Q (with_linked w f peer)
+  pub begun : (w : Work) (i : IntentKey) → Q w → Q (with_begun w i)
   pub flagged : (w : Work) (f : FileId) (g : Flag) → Q w → Q (with_made w (update.Flag f g))
   pub sent : (w : Work) (x : Sent) → is_plain x.packet.message ≡ true → Q w → Q (with_sent w x)
   pub last : (w : Work) (x : Sent) → is_plain x.packet.message ≡ true → Q w → Q (with_tail w x)
@@ -60,6 +63,9 @@ module _ (Q : Work → Type 0) (k : IsClosed Q) where
 
   pub link_sends : (news : Bool) (w : Work) (f : FileId) (peer : ℕ) → Q w → Q (with_link news w f peer)
   link_sends news w f peer h = chosen Q news (with_linked w f peer) w (k.linked w f peer h) h
+
+  pub begun_sends : (news : Bool) (w : Work) (i : IntentKey) → Q w → Q (with_begun_if news w i)
+  begun_sends news w i h = chosen Q news (with_begun w i) w (k.begun w i h) h
 
   pub place_sends : (a : Store) (f : FileId) (p : Place) (w : Work) → Q w → Q (take_place_noted a f p w).work
   place_sends a f p w h =

@@ -1,5 +1,5 @@
 -- Full replicas have places.
-use Rattle.std.specs.Prelude.{ℕ, ◌≡◌, true, false, All, List, Some}
+use Rattle.std.specs.Prelude.{ℕ, ◌≡◌, ◌⊎◌, true, false, All, List, Some}
 use Rattle.pg_base.specs.declared.id.FileId.{FileId}
 use Rattle.pg_base.specs.Id.{is_same_file}
 use Rattle.pg_base.specs.Stamp.{is_before}
@@ -12,7 +12,7 @@ use Rattle.pg_register.specs.declared.place.Place.{Place}
 use Rattle.pg_register.specs.Place.{first_stamp, root}
 use Rattle.pg_store.specs.declared.store.Store.{Store}
 use Rattle.pg_store.specs.Store.{is_full}
-use Rattle.pg_store.specs.Together.{birth_at}
+use Rattle.pg_store.specs.Together.{IsOver, birth_at}
 use Rattle.pg_run.specs.Journal.{mail}
 use Rattle.pg_run.specs.Laws.{AtEach, store_after}
 use Rattle.pg_run.specs.Run.{World, run}
@@ -40,10 +40,10 @@ pub record IsFilled (a : Store) (ends : Ends) : Type 0 where
   pub held : birth_at a ends.file ≡ Some ends.receiver
   pub placed : is_same_file ends.file root ≡ false → IsPlaced a.names ends.file
 
--- it is so where the message says that the receiver's replica is full
+-- it is so where the message says that the receiver's replica is full, or the birth is over
 abbrev pub SaysFull : World → Sent → Type 0
 SaysFull w m = (ends : Ends) → m.packet.message ≡ message.Full ends
-    → IsFilled (w.stores m.to) ends
+    → IsFilled (w.stores m.to) ends ⊎ IsOver (w.stores m.to) ends.file ends.receiver
 
 -- WHAT IS SAID TO BE FULL IS HELD: of all messages ever sent
 abbrev pub FullSays : ℕ → Type 0

@@ -29,7 +29,9 @@ use Rattle.pg_store.specs.Births.{birth_of, draw_birth, with_birth, with_wish}
 use Rattle.pg_store.specs.Store.{is_full, is_held, write}
 use Rattle.pg_store.specs.Together.{AreTogether}
 use Rattle.pg_cells.specs.Done.{Done, idle}
+use Rattle.pg_cells.specs.Intending.{begin_intent}
 use Rattle.pg_cells.specs.Making.{lower_flag}
+use Rattle.pg_store.proofs.Pairs.{patches_as_before}
 use Rattle.pg_cells.specs.Posting.{post, sent_to}
 use Rattle.pg_server.specs.Local.{done_of}
 use Rattle.pg_walk.specs.declared.paths.Found.{Found}
@@ -43,25 +45,28 @@ use Rattle.pg_calls.specs.Calls.{do_call}
 use Rattle.pg_calls.specs.Checks.{dir_at, empty_dir_at, file_at, in_time, move_of, new_name, target_at}
 use Rattle.pg_cells.specs.Golds.{is_gold}
 use Rattle.pg_calls.specs.Demoting.{demoted_at, lowered}
+use Rattle.pg_calls.specs.Dropping.{clean_gold, dropped_at, leave_of, leaving}
+use Rattle.pg_calls.specs.Forgetting.{lost_at}
+use Rattle.pg_calls.specs.GivingUp.{enter_view, removal_at}
 use Rattle.pg_calls.specs.Making.{drawn, first_ranges, make_place, make_version, version_of}
 use Rattle.pg_calls.specs.Naming.{begun, dead_place, next_id, place_in, with_id, with_thing}
 use Rattle.pg_promises.proofs.Choices.{chosen, decided}
+use Rattle.pg_births.specs.Flags.{AnyBye}
 use Rattle.pg_births.proofs.Pieces.{place_stays, write_stays}
-use Rattle.pg_births.proofs.Here.{born_here}
+use Rattle.pg_births.proofs.Begins.{begin_back}
+use Rattle.pg_births.proofs.Has.{from_has, to_has}
+use Rattle.pg_births.proofs.Here.{birth_of_held, born_here}
 use Rattle.pg_births.proofs.StoreSays.{say_begin, say_write}
 use Rattle.pg_contents.proofs.Outcomes.{answered_by}
 use Rattle.pg_contents.proofs.Pieces.{patches_keep, place_keeps}
 use Rattle.pg_flags.proofs.Filling.{MayGo, own_of_full, own_of_known, still}
-use Rattle.pg_flags.proofs.Fine.{IsFine, Knows, NoFlags, fine_flag, fine_silent, found_is, no_flags, no_more}
-use Rattle.pg_flags.proofs.Kept.{GoesOn, begin_flags, begun_births, flags_at, flags_on, goes_further, place_flags, same_goes_on}
+use Rattle.pg_flags.proofs.Fine.{IsFine, Knows, NoFlags, fine_flag, fine_silent, no_flags, no_more}
+use Rattle.pg_flags.proofs.Kept.{GoesOn, begin_flags, begun_births, flags_at, flags_on, goes_further, held_of, place_flags, same_goes_on}
+use Rattle.pg_flags.proofs.Losing.{entered_says, lost_fine, more_given, one_above, place_no_flag}
+use Rattle.pg_flags.proofs.Received.{said_begun_intent}
 use Rattle.pg_flags.proofs.Says.{Says, SaysSent, said_on, said_place, same_mail}
 
--- a place is no flag
-place_no_flag : (file : FileId) (place : Place) → NoFlags (update.Place file place ∷ [])
-place_no_flag file place f g (inl same) = absurd (let z : update.Flag f g ≡ update.Place file place = same in cc)
-place_no_flag file place f g (inr rest) = absurd rest
-
--- nor is a version
+-- a version is no flag
 version_no_flag : (v : MadeVersion) → NoFlags (update.Version v ∷ [])
 version_no_flag v f g (inl same) = absurd (let z : update.Flag f g ≡ update.Version v = same in cc)
 version_no_flag v f g (inr rest) = absurd rest
@@ -148,8 +153,9 @@ module _ (Q : FileId → Flag → Type 0) (s : ℕ) (a : Store) (together : AreT
       let b = write d.store f stamp ranges in
       fine_silent Q s d (make_version f stamp ranges d) h
       (no_more d.work.made (u ∷ []) (version_no_flag (version_of d.store f stamp ranges)))
-      (say_write (Knows Q s d.work.made) s d.store f stamp ranges h.store) refl refl
-      (same_goes_on d.store b (write_stays d.store f stamp ranges).before.births (λ q. refl))
+      (write_stays d.store f stamp ranges).before.births
+      (say_write (Knows Q s d.work.made) AnyBye s d.store f stamp ranges h.store) refl refl
+      (same_goes_on d.store b (write_stays d.store f stamp ranges).before (λ q. refl))
 
   changed_fine : (text : List ℕ) (ranges : RangesValue) → Fine (change a text ranges w)
   changed_fine text ranges =
@@ -178,7 +184,7 @@ module _ (Q : FileId → Flag → Type 0) (s : ℕ) (a : Store) (together : AreT
     begun_says : Says Q s [] (idle Begun w)
     begun_says =
         said_on Q s [] (idle a w) (idle Begun w) says
-        (say_begin Q s first id (draw_birth (with_id a)) policy (blank_own id) true (All-nil (Q id))
+        (say_begin Q AnyBye s first id (draw_birth (with_id a)) policy (blank_own id) true (All-nil (Q id))
         (record { names = says.store.names; intents = says.store.intents }))
         (same_mail w)
 
@@ -186,11 +192,18 @@ module _ (Q : FileId → Flag → Type 0) (s : ℕ) (a : Store) (together : AreT
     placed_goes =
         goes_further {b = Begun}
         (record {
-          births = begun_births first id (draw_birth (with_id a)) policy true (away kind) together;
-          flags = flags_on first.names Begun.names
-              (begin_flags first id (draw_birth (with_id a)) policy true (away kind));
+          goes = λ f n there. inl (
+            begun_births first id (draw_birth (with_id a)) policy (blank_own id) true (away kind) together f n there,
+            flags_on first.names Begun.names (begin_flags first id (draw_birth (with_id a)) policy (blank_own id) refl true (away kind)) f,
+          );
+          count = more_given a.births Begun.births
+              (patches_as_before (put_new first id (draw_birth (with_id a)) policy (blank_own id) true) id (patches_of id a.intents)).given;
+          newly = λ f n h. elim (begin_back first id (draw_birth (with_id a)) policy (blank_own id) true f n (to_has Begun f n h)) [
+            | inl was ↦ inl (from_has a f n was)
+            | inr new ↦ inr (one_above a.births n new.1)
+          ];
         })
-        (same_goes_on Begun Placed.store (place_stays Begun id place).before.births (place_flags Begun id place))
+        (same_goes_on Begun Placed.store (place_stays Begun id place).before (place_flags Begun id place))
 
     placed : IsFine Q s Placed
     placed =
@@ -222,14 +235,21 @@ module _ (Q : FileId → Flag → Type 0) (s : ℕ) (a : Store) (together : AreT
   lowered_by f (Some g) there gold =
       let found : flag_of (flags_at a.names f) s ≡ Some g =
       ap (flag_of (flags_at a.names f)) (sym k.store.names.server) ∙ there in
-      let r = found_is Q s w.made a k.store f g found in
       let own = own_of_known a.names f s g found in
-      fine_flag Q s a w k f false g.birth (k.own f g r.0 r.1).birth own.0 own.1
+      let birth = birth_of_held a together f (held_of a f own.0 own.1) in
+      fine_flag Q s a w k f false birth.0 birth.1 own.0 own.1
 
   lowered_fine : (f : FileId) → IsFine Q s (lowered a f w)
   lowered_fine f =
       decided (IsFine Q s) (is_gold a f) (lower_flag a f w) (idle a w)
       (lowered_by f (flag_of (flags_at a.names f) a.names.server) refl) (λ bronze. k)
+
+  -- ---- leave is asked for
+
+  left_fine : (file : FileId) (o : Option Flag) → Fine (leaving a file w o)
+  left_fine file None = stays (idle a w) says
+  left_fine file (Some flag) =
+      stays (begin_intent a (leave_of file flag) w) (said_begun_intent Q s [] (idle a w) (leave_of file flag) tt says)
 
   -- ANY CALL
   pub call_fine : (c : Call) → Fine (do_call a c w)
@@ -257,11 +277,15 @@ module _ (Q : FileId → Flag → Type 0) (s : ℕ) (a : Store) (together : AreT
   call_fine (call.Rmdir text) =
       answered_by Fine a w (empty_dir_at a text) _ denied_fine
       (λ dir found. placed_fine dir (dead_place a w.now dir))
-  call_fine (call.Forget _) = looked (in_time a (tt {0})) _
+  call_fine (call.Forget id) =
+      answered_by Fine a w (lost_at a id) _ denied_fine (λ found at. lost_fine Q s a together w k none says found)
   call_fine (call.Demote target) =
       answered_by Fine a w (demoted_at a target) _ denied_fine
       (λ file found on. lowered_fine file)
-  call_fine (call.Drop target) = looked (in_time a (tt {0})) _
-  call_fine (call.Giveup view server) = looked (in_time a (tt {0})) _
+  call_fine (call.Drop target) =
+      answered_by Fine a w (dropped_at a target) _ denied_fine
+      (λ file found. left_fine file (clean_gold a file))
+  call_fine (call.Giveup view server) =
+      answered_by Fine a w (removal_at a view server) _ denied_fine (λ found at. stays (enter_view a server w) (entered_says Q s a w says server))
   call_fine call.Status = looked (in_time a (tt {0})) _
   call_fine call.Stop = looked (in_time a (tt {0})) _

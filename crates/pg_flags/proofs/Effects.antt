@@ -1,11 +1,12 @@
 -- What an event at one server leaves of flags: each that is known then is up to its server's own.
-use Rattle.std.proofs.Common.{ℕ, ◌≡◌, true, false, List, [], ◌∷◌, ◌++◌, Option, None, Some, is_some, All, refl, sym, ap, subst, inl, inr}
+use Rattle.std.proofs.Common.{ℕ, ◌≡◌, true, false, List, [], ◌∷◌, ◌++◌, All, refl, sym, ap, subst, inl, inr}
 use Rattle.std.specs.List.{flat_map}
 use Rattle.std.specs.Option.{option_map}
 use Rattle.std.proofs.lemmas.List.Elements.{All-append, All-nil}
 use Rattle.pg_base.specs.declared.id.FileId.{FileId}
 use Rattle.pg_base.specs.declared.id.Kind.{Kind}
 use Rattle.pg_house.specs.Work.{state_of}
+use Rattle.pg_intent.specs.declared.key.IntentKey.TheVariants as intent_key
 use Rattle.pg_msg.specs.declared.message.Message.{Message}
 use Rattle.pg_msg.specs.declared.message.Message.TheVariants as message
 use Rattle.pg_msg.specs.declared.message.Packet.{Packet}
@@ -13,14 +14,13 @@ use Rattle.pg_msg.specs.declared.update.Update.{Update}
 use Rattle.pg_msg.specs.declared.update.Update.TheVariants as update
 use Rattle.pg_msg.specs.declared.work.Work.{Work}
 use Rattle.pg_msg.specs.Work.{new_work}
-use Rattle.pg_names.specs.declared.own.Own.{Own}
-use Rattle.pg_names.specs.Names.{HeldValue, NamesValue, known, own_at, own_of}
+use Rattle.pg_names.specs.Names.{NamesValue}
 use Rattle.pg_register.specs.declared.flag.Flag.{Flag}
 use Rattle.pg_replica.specs.declared.replica.Replica.{Replica}
 use Rattle.pg_replica.specs.Replicas.{ByFile, replica_in}
 use Rattle.pg_store.specs.declared.store.Store.{Store}
 use Rattle.pg_store.specs.Store.{is_held}
-use Rattle.pg_store.specs.Together.{AreTogether}
+use Rattle.pg_store.specs.Together.{AreTogether, birth_at}
 use Rattle.pg_cells.specs.Done.{Done, idle}
 use Rattle.pg_cells.specs.Golds.{is_goldless}
 use Rattle.pg_cells.specs.Making.{raise_flag}
@@ -39,17 +39,19 @@ use Rattle.pg_promises.proofs.Settling.{goldless_own, rules_steps, whole_raised,
 use Rattle.pg_server.specs.declared.input.Input.{Input}
 use Rattle.pg_server.specs.Local.{effect, first_effect, intended, receive, sent_again, settled, takes_effect, without_wishes}
 use Rattle.pg_run.proofs.Event.{Comes, all_sent, end_of, end_sent, end_tail, first_has}
-use Rattle.pg_births.specs.Flags.{SaysMessage, SaysStore}
+use Rattle.pg_births.specs.Flags.{AnyBye, SaysMessage, SaysStore}
 use Rattle.pg_births.proofs.Here.{birth_of_held}
+use Rattle.pg_births.proofs.Intends.{begin_end_goes}
+use Rattle.pg_births.proofs.Pieces.{rules_stay}
 use Rattle.pg_births.proofs.StoreSays.{say_begin_end, say_rules}
 use Rattle.pg_contents.proofs.Rules.{ArePlaces, house_makes}
 use Rattle.pg_flags.proofs.Calling.{call_fine}
-use Rattle.pg_flags.proofs.Filling.{MayGo, full_fine, still}
+use Rattle.pg_flags.proofs.Filling.{MayGo, full_fine, invite_fine, still}
 use Rattle.pg_flags.proofs.Fine.{IsFine, Knows, NoFlags, SameMade, fine_flag, fine_silent, no_flags, no_more, same_made}
-use Rattle.pg_flags.proofs.Kept.{GoesOn, flags_at, grows_on, same_goes_on}
+use Rattle.pg_flags.proofs.Kept.{GoesOn, before_on, births_on, flags_at, held_of}
 use Rattle.pg_flags.proofs.Known.{store_less}
-use Rattle.pg_flags.proofs.Own.{IsOwn}
-use Rattle.pg_flags.proofs.Received.{said_ack, said_cell, said_confirm, said_fetch, said_gone, said_grant, said_no_grant, said_none_here, said_place_is, said_seek, said_tell, said_tell_ok, said_walk, said_walk_of_tick}
+use Rattle.pg_flags.proofs.Own.{Stands}
+use Rattle.pg_flags.proofs.Received.{said_ack, said_bye, said_cell, said_confirm, said_ended, said_fetch, said_gone, said_grant, said_leave, said_leave_ok, said_no_grant, said_none_here, said_place_is, said_seek, said_tell, said_tell_ok, said_walk, said_walk_of_tick}
 use Rattle.pg_flags.proofs.Says.{Says, SaysSent, said_accept}
 use Rattle.pg_flags.proofs.Sending.{asks_all, asks_some, cells_say}
 
@@ -66,16 +68,9 @@ places_none (update.Place q place ∷ us) are f g (inr rest) = places_none us ar
 places_none (update.Version made ∷ us) are f g there = absurd are
 places_none (update.Flag q flag ∷ us) are f g there = absurd are
 
-held_by : (o : Option HeldValue) (own : Own) → own_of o ≡ Some own → is_some o ≡ true
-held_by None own e = absurd (let z : ◌≡◌ {A = Option Own} None (Some own) = e in cc)
-held_by (Some x) own e = refl
-
-held_of : (b : Store) (f : FileId) (own : Own) → own_at b.names f ≡ Some own → is_held b f ≡ true
-held_of b f own e = held_by (known b.names f) own e
-
 -- server s of n, with this store, takes this; Q was known before
-module _ (n s : ℕ) (a : Store) (asked : Input) (Q : FileId → Flag → Type 0) (k : SaysStore Q s a)
-    (before : (f : FileId) (g : Flag) → Q f g → g.server ≡ s → IsOwn s a f g)
+module _ (n s : ℕ) (a : Store) (asked : Input) (Q : FileId → Flag → Type 0) (k : SaysStore Q AnyBye s a)
+    (before : (f : FileId) (g : Flag) → Q f g → g.server ≡ s → Stands s a f g)
     (one : (f : FileId) (g h : Flag) → Q f g → Q f h → g.server ≡ h.server → g.birth ≡ h.birth
     → g.number ≡ h.number → g ≡ h)
     (together : AreTogether a) (away : (kind : Kind) → is_held a (next_id a kind) ≡ false) where
@@ -141,6 +136,8 @@ module _ (n s : ℕ) (a : Store) (asked : Input) (Q : FileId → Flag → Type 0
       stays 0 from _ (said_no_grant Q s [] a file birth (new_work 0 from) (start_says 0 from))
   received from (message.Full ends) says =
       λ on. full_fine Q s a together (new_work 0 from) (start_fine 0 from) ends
+  received from (message.Invite ends) says =
+      λ on. invite_fine Q s a together (new_work 0 from) (start_fine 0 from) no_flags (start_says 0 from) ends
   received from (message.Seek file birth) says =
       stays 0 from _ (said_seek Q s [] a file birth (new_work 0 from) (start_says 0 from))
   received from (message.Here ends) says =
@@ -149,6 +146,14 @@ module _ (n s : ℕ) (a : Store) (asked : Input) (Q : FileId → Flag → Type 0
       stays 0 from _ (said_none_here Q s [] a what file child (new_work 0 from) (start_says 0 from))
   received from (message.Gone file birth) says =
       stays 0 from _ (said_gone Q s [] a file birth (new_work 0 from) (start_says 0 from))
+  received from (message.Bye ends) says =
+      stays 0 from _ (said_bye Q s [] a ends (new_work 0 from) (start_says 0 from))
+  received from (message.ByeOk file birth) says =
+      stays 0 from _ (said_ended Q s [] a (intent_key.Bye file birth from) (new_work 0 from) (start_says 0 from))
+  received from (message.Leave ends stamp) says =
+      stays 0 from _ (said_leave Q s [] a ends stamp (new_work 0 from) (start_says 0 from))
+  received from (message.LeaveOk ends stamp) says =
+      stays 0 from _ (said_leave_ok Q s [] a ends stamp (new_work 0 from) (start_says 0 from))
   received from (message.Confirm dir e) says =
       stays 0 from _ (said_confirm Q s [] a dir e (new_work 0 from) says (start_says 0 from))
   received from (message.PlaceIs dir e) says =
@@ -195,11 +200,11 @@ module _ (n s : ℕ) (a : Store) (asked : Input) (Q : FileId → Flag → Type 0
       no_more w.made made.places (places_none made.places made.are) in
       let P : List Update → Type 0 = SameMade w.made in (
         whole,
-        fine_silent Q s (idle b w) (rules b w) h.1 (subst P (sym made.made) same)
-            (say_rules (Knows Q s w.made) s b w h.1.store)
+        fine_silent Q s (idle b w) (rules b w) h.1 (subst P (sym made.made) same) (rules_stay b w).before.births
+            (say_rules (Knows Q s w.made) AnyBye s b w h.1.store)
             (house_sent w.now b.names w) (house_tail w.now b.names w)
-            (grows_on b (rules b w).store
-            (grown_by_steps n s b (rules b w).store h.0 whole (rules_steps n s b w h.0))),
+            (before_on b (rules b w).store (rules_stay b w).before
+            (λ f m there. (grown_by_steps n s b (rules b w).store h.0 whole (rules_steps n s b w h.0) f m there).1.flags)),
       )
 
   raises_hold : (b : Store) (f : FileId) (w : Work) → is_goldless b f ≡ true → Holds b w
@@ -217,10 +222,11 @@ module _ (n s : ℕ) (a : Store) (asked : Input) (Q : FileId → Flag → Type 0
   intended_fine : (d : Done) → Fine d → Fine (intended d)
   intended_fine d h =
       let steady = begin_end_stays d.store d.work in
-      fine_silent Q s d (intended d) h (same_made d.work.made (intended d).work.made steady.made)
-      (say_begin_end (Knows Q s d.work.made) s d.store d.work h.store) steady.sent steady.tail
-      (same_goes_on d.store (intended d).store
-      (λ f. ap (λ (rs : ByFile). option_map (λ (x : Replica). x.birth) (replica_in rs f)) steady.replicas)
+      let births : (f : FileId) → birth_at (intended d).store f ≡ birth_at d.store f =
+      λ f. ap (λ (rs : ByFile). option_map (λ (x : Replica). x.birth) (replica_in rs f)) steady.replicas in
+      fine_silent Q s d (intended d) h (same_made d.work.made (intended d).work.made steady.made) births
+      (say_begin_end (Knows Q s d.work.made) AnyBye s d.store d.work h.store) steady.sent steady.tail
+      (births_on d.store (intended d).store (begin_end_goes d.store d.work) births
       (λ f. ap (λ (names : NamesValue). flags_at names f) steady.names))
 
   -- ---- THE WHOLE EVENT

@@ -1,5 +1,5 @@
 -- What a server does that raises no flag, and a filling replica that is full.
-use Rattle.std.proofs.Common.{ℕ, ◌≡◌, ◌&&◌, true, false, not, List, Option, None, Some, is_some, refl, subst, ◌∙◌, inl}
+use Rattle.std.proofs.Common.{ℕ, ◌≡◌, ◌&&◌, true, false, cond, not, List, [], Option, None, Some, is_some, refl, subst, ◌∙◌, inl}
 use Rattle.std.specs.Prelude.{nat_lt}
 use Rattle.std.proofs.lemmas.Bool.{and_parts}
 use Rattle.pg_base.specs.declared.id.FileId.{FileId}
@@ -18,18 +18,21 @@ use Rattle.pg_store.specs.Births.{has_birth}
 use Rattle.pg_store.specs.Store.{is_full, replica_at, with_names}
 use Rattle.pg_store.specs.Together.{AreTogether, birth_at}
 use Rattle.pg_cells.specs.declared.accepting.Manner.TheVariants as manner
-use Rattle.pg_cells.specs.Accepting.{is_accepted, is_current}
+use Rattle.pg_cells.specs.Accepting.{accept, is_accepted, is_current, with_gone}
+use Rattle.pg_store.specs.Links.{knows_later}
+use Rattle.pg_store.proofs.Pairs.{as_before}
 use Rattle.pg_cells.specs.Done.{Done, idle}
 use Rattle.pg_cells.specs.Making.{raise_flag}
-use Rattle.pg_repair.specs.Filling.{few_golds, fill, full, live_golds}
+use Rattle.pg_repair.specs.Filling.{few_golds, fill, full, invite, invited, is_bronze, live_golds, raise_if_few}
 use Rattle.pg_promises.proofs.Choices.{chosen, decided}
+use Rattle.pg_births.specs.Flags.{AnyBye}
 use Rattle.pg_births.proofs.Here.{of_birth}
 use Rattle.pg_births.proofs.Pieces.{fill_stays}
 use Rattle.pg_births.proofs.StoreSays.{say_fill}
-use Rattle.pg_flags.proofs.Fine.{IsFine, Knows, NoFlags, fine_flag, fine_goes, fine_silent, same_made}
+use Rattle.pg_flags.proofs.Fine.{IsFine, Knows, NoFlags, fine_flag, fine_goes, fine_silent, no_flags, same_made}
 use Rattle.pg_flags.proofs.Kept.{GoesOn, fill_flags, flags_at, held_born, same_goes_on}
 use Rattle.pg_flags.proofs.Known.{all_sent_less, store_less}
-use Rattle.pg_flags.proofs.Says.{Says}
+use Rattle.pg_flags.proofs.Says.{Says, said_asked}
 
 -- ---- what is held
 
@@ -70,9 +73,18 @@ module _ (Q : FileId → Flag → Type 0) (s : ℕ) (a : Store) (together : AreT
         on = λ f g there. absurd (none f g there);
         back = λ f g there. absurd (more f g (subst (Among (update.Flag f g)) says.made there));
       })
+      (λ f g there was. absurd (none f g there))
       (store_less Q (Knows Q s d.work.made) less s d.store says.store)
       (all_sent_less Q (Knows Q s d.work.made) less d.work.sent says.sent)
       (all_sent_less Q (Knows Q s d.work.made) less d.work.tail says.tail) on
+
+  -- ---- a flag is raised where few golds are seen
+
+  few_fine : (b : Store) (v : Work) → IsFine Q s (idle b v) → (f : FileId) (n : ℕ) → birth_at b f ≡ Some n → is_full b f ≡ true
+      → IsFine Q s (raise_if_few b f v)
+  few_fine b v k f n birth all =
+      let own = own_of_full b.names f all in
+      chosen (IsFine Q s) (nat_lt (live_golds b f) few_golds) (raise_flag b f v) (idle b v) (fine_flag Q s b v k f true n birth own.0 own.1) k
 
   -- ---- what is filled
 
@@ -81,18 +93,15 @@ module _ (Q : FileId → Flag → Type 0) (s : ℕ) (a : Store) (together : AreT
     filled : (f : FileId) → IsFine Q s (idle (with_names a (fill_names a.names f)) w)
     filled f =
         let b = with_names a (fill_names a.names f) in
-        fine_silent Q s (idle a w) (idle b w) k (same_made w.made w.made refl)
-        (say_fill (Knows Q s w.made) s a f k.store) refl refl
-        (same_goes_on a b (fill_stays a f).before.births (fill_flags a.names f))
+        fine_silent Q s (idle a w) (idle b w) k (same_made w.made w.made refl) (fill_stays a f).before.births
+        (say_fill (Knows Q s w.made) AnyBye s a f k.store) refl refl
+        (same_goes_on a b (fill_stays a f).before (fill_flags a.names f))
 
-    fill_fine : (f : FileId) (n : ℕ) → birth_at a f ≡ Some n → IsFine Q s (fill a f w)
+    pub fill_fine : (f : FileId) (n : ℕ) → birth_at a f ≡ Some n → IsFine Q s (fill a f w)
     fill_fine f n birth =
         let b = with_names a (fill_names a.names f) in
         let x = held_by (known a.names f) (held_born a together f n birth) in
-        let own = own_of_full b.names f (fill_same a.names f x.0 x.1) in
-        chosen (IsFine Q s) (nat_lt (live_golds b f) few_golds) (raise_flag b f w) (idle b w)
-        (fine_flag Q s b w (filled f) f true n ((fill_stays a f).before.births f ∙ birth) own.0 own.1)
-        (filled f)
+        few_fine b w (filled f) f n ((fill_stays a f).before.births f ∙ birth) (fill_same a.names f x.0 x.1)
 
     -- A FILLING REPLICA IS FULL
     pub full_fine : (ends : Ends) → IsFine Q s (full a ends w)
@@ -106,3 +115,34 @@ module _ (Q : FileId → Flag → Type 0) (s : ℕ) (a : Store) (together : AreT
         (and_parts (is_current a w.from ends) _ both.0).0).0 in
         fill_fine f ends.receiver (of_birth (replica_at a f) ends.receiver born))
         (λ e. k)
+
+    -- ---- a full bronze replica is asked to be gold
+
+    module _ (none : NoFlags w.made) (says : Says Q s [] (idle a w)) (ends : Ends) where
+      abbrev Met : Done
+      Met = accept a ends manner.Ask w
+
+      -- a message that links nobody leaves what is held
+      of_met : (P : Store → Type 0) → P a → P Met.store
+      of_met P h =
+          let later = knows_later a ends.file w.from ends.sender in
+          chosen (λ (d : Done). P d.store) (has_birth a ends.file ends.receiver) (cond later (idle a w) (idle a w)) (idle a (with_gone a ends manner.Ask w))
+          (chosen (λ (d : Done). P d.store) later (idle a w) (idle a w) h h) h
+
+      met_fine : IsFine Q s Met
+      met_fine =
+          still w k none [] no_flags Met (said_asked Q s [] a ends w says)
+          (of_met (λ (b : Store). GoesOn a b) (same_goes_on a a (as_before a) (λ q. refl)))
+
+      pub invite_fine : IsFine Q s (invite a ends w)
+      invite_fine =
+          let f = ends.file in
+          decided (IsFine Q s) (is_accepted a w.from manner.Ask ends) (invited ends Met) Met
+          (λ t.
+          let born = (and_parts (has_birth a f ends.receiver) _ (and_parts (is_current a w.from ends) _ t).0).0 in
+          let birth : birth_at Met.store f ≡ Some ends.receiver =
+          of_met (λ (b : Store). birth_at b f ≡ Some ends.receiver) (of_birth (replica_at a f) ends.receiver born) in
+          decided (IsFine Q s) (is_bronze Met.store f) (raise_if_few Met.store f Met.work) Met
+          (λ u. few_fine Met.store Met.work met_fine f ends.receiver birth (and_parts (is_full Met.store f) _ u).0)
+          (λ no. met_fine))
+          (λ no. met_fine)

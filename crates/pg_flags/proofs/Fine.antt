@@ -1,5 +1,6 @@
 -- In the midst of an event: what is known of flags is what was known before, or was made; each is up to its server's own.
 use Rattle.std.proofs.Common.{ℕ, ◌≡◌, ◌<◌, Bool, List, Some, [], ◌∷◌, ◌++◌, All, refl, sym, ap, subst, ◌∙◌, inl, inr, ◌⊎◌, arith}
+use Rattle.std.proofs.lemmas.Option.{same_Some}
 use Rattle.pg_base.specs.declared.id.FileId.{FileId}
 use Rattle.pg_content.specs.Content.{Among}
 use Rattle.pg_edges.specs.declared.key.Key.TheVariants as key
@@ -17,12 +18,14 @@ use Rattle.pg_store.specs.Together.{birth_at}
 use Rattle.pg_cells.specs.Done.{Done, idle}
 use Rattle.pg_cells.specs.Making.{make_flag, own_next}
 use Rattle.pg_promises.proofs.Flags.{server_of}
-use Rattle.pg_births.specs.Flags.{SaysStore}
+use Rattle.pg_births.specs.Flags.{AnyBye, SaysStore}
 use Rattle.pg_births.proofs.Joined.{found_says}
 use Rattle.pg_births.proofs.StoreSays.{own_says, say_flag}
-use Rattle.pg_flags.proofs.Kept.{GoesOn, flags_at}
+use Rattle.pg_births.proofs.Has.{from_has}
+use Rattle.pg_births.proofs.Pieces.{flag_stays}
+use Rattle.pg_flags.proofs.Kept.{GoesOn, flags_at, past_goes}
 use Rattle.pg_flags.proofs.Known.{all_sent_less, store_less}
-use Rattle.pg_flags.proofs.Own.{IsOwn, next_later, next_own, own_goes, own_next_on}
+use Rattle.pg_flags.proofs.Own.{IsOwn, Stands, next_birth, next_later, next_own, own_goes, own_next_on, past_next}
 use Rattle.pg_flags.proofs.Says.{SaysSent, news_mail}
 
 -- ---- lists of what was made
@@ -89,15 +92,15 @@ module _ (Q : FileId → Flag → Type 0) (s : ℕ) where
   abbrev pub Knows : List Update → FileId → Flag → Type 0
   Knows us f g = Q f g ⊎ IsMade us f g
 
-  -- own: those of this server are up to its own
-  -- made: what was made is this server's
+  -- own: those of this server are up to its own, or of births that are past
+  -- made: what was made is this server's, of the birth that its replica has
   -- one: no two flags of a thing, of one server and birth, have one number
   pub record IsFine (d : Done) : Type 0 where
-    pub store : SaysStore (Knows d.work.made) s d.store
+    pub store : SaysStore (Knows d.work.made) AnyBye s d.store
     pub sent : All (SaysSent (Knows d.work.made)) d.work.sent
     pub tail : All (SaysSent (Knows d.work.made)) d.work.tail
-    pub own : (f : FileId) (g : Flag) → Knows d.work.made f g → g.server ≡ s → IsOwn s d.store f g
-    pub made : (f : FileId) (g : Flag) → IsMade d.work.made f g → g.server ≡ s
+    pub own : (f : FileId) (g : Flag) → Knows d.work.made f g → g.server ≡ s → Stands s d.store f g
+    pub made : (f : FileId) (g : Flag) → IsMade d.work.made f g → (g.server ≡ s) × (birth_at d.store f ≡ Some g.birth)
     pub one : (f : FileId) (g h : Flag) → Knows d.work.made f g → Knows d.work.made f h
         → g.server ≡ h.server → g.birth ≡ h.birth → g.number ≡ h.number → g ≡ h
 
@@ -110,56 +113,70 @@ module _ (Q : FileId → Flag → Type 0) (s : ℕ) where
   knows_back us vs same f g (inr there) = inr (same.back f g there)
 
   -- a flag that a server knows of itself is its own, of the birth of its replica
-  pub found_is : (us : List Update) (b : Store) → SaysStore (Knows us) s b → (f : FileId) (y : Flag)
+  pub found_is : (us : List Update) (b : Store) → SaysStore (Knows us) AnyBye s b → (f : FileId) (y : Flag)
       → flag_of (flags_at b.names f) s ≡ Some y → Knows us f y × (y.server ≡ s)
   found_is us b k f y there = (
-    found_says (Knows us f) (flags_at b.names f) s y (own_says (Knows us) s b f k) there,
+    found_says (Knows us f) (flags_at b.names f) s y (own_says (Knows us) AnyBye s b f k) there,
     server_of (flags_at b.names f) s y there,
   )
 
+  -- the replicas of which flags were made are held on
+  abbrev pub HoldsMade : Done → Done → Type 0
+  HoldsMade d e = (f : FileId) (g : Flag) → IsMade d.work.made f g → birth_at d.store f ≡ Some g.birth
+      → birth_at e.store f ≡ Some g.birth
+
   -- IT GOES ON, and no flag is made
-  pub fine_goes : (d e : Done) → IsFine d → SameMade d.work.made e.work.made
-      → SaysStore (Knows e.work.made) s e.store → All (SaysSent (Knows e.work.made)) e.work.sent
+  pub fine_goes : (d e : Done) → IsFine d → SameMade d.work.made e.work.made → HoldsMade d e
+      → SaysStore (Knows e.work.made) AnyBye s e.store → All (SaysSent (Knows e.work.made)) e.work.sent
       → All (SaysSent (Knows e.work.made)) e.work.tail → GoesOn d.store e.store → IsFine e
-  fine_goes d e k same store sent tail on = record {
+  fine_goes d e k same held store sent tail on = record {
     store = store;
     sent = sent;
     tail = tail;
-    own = λ f g there server. own_goes s d.store e.store on f g (k.own f g (back f g there) server)
-        (λ y is. let r = found_is e.work.made e.store store f y is in
-        on.births f y.birth (k.own f y (back f y r.0) r.1).birth)
-        (one_by f g there server);
-    made = λ f g there. k.made f g (same.back f g there);
+    own = λ f g there server. own_by f g (k.own f g (back f g there) server);
+    made = λ f g there. (
+        let there_before = same.back f g there in
+        let was = k.made f g there_before in
+        (was.0, held f g there_before was.1));
     one = λ f g h a b. k.one f g h (back f g a) (back f h b);
   }
     where
       back : (f : FileId) (g : Flag) → Knows e.work.made f g → Knows d.work.made f g
       back f g there = knows_back d.work.made e.work.made same f g there
 
-      one_by : (f : FileId) (g : Flag) (there : Knows e.work.made f g) (server : g.server ≡ s) (y : Flag)
-          → flag_of (flags_at e.store.names f) s ≡ Some y
-          → (k.own f g (back f g there) server).own.birth ≡ y.birth
-          → (k.own f g (back f g there) server).own.number ≡ y.number
-          → (k.own f g (back f g there) server).own ≡ y
-      one_by f g there server y is birth number =
-          let was = k.own f g (back f g there) server in
+      -- a flag that is found then is of the birth of the replica, or of an earlier one
+      born_by : (f : FileId) (g y : Flag) → IsOwn s d.store f g → Stands s d.store f y → (g.birth ≡ y.birth) ⊎ (y.birth < g.birth)
+      born_by f g y was (inl own) = inl (same_Some g.birth y.birth (sym was.birth ∙ own.birth))
+      born_by f g y was (inr past) = inr (past.less g.birth (from_has d.store f g.birth (inl was.birth)))
+
+      one_by : (f : FileId) (g : Flag) (was : IsOwn s d.store f g) (y : Flag) → flag_of (flags_at e.store.names f) s ≡ Some y
+          → was.own.birth ≡ y.birth → was.own.number ≡ y.number → was.own ≡ y
+      one_by f g was y is birth number =
           let x = found_is d.work.made d.store k.store f was.own was.there in
           let r = found_is e.work.made e.store store f y is in
           k.one f was.own y x.0 (back f y r.0) (x.1 ∙ sym r.1) birth number
 
+      own_by : (f : FileId) (g : Flag) → Stands s d.store f g → Stands s e.store f g
+      own_by f g (inl was) =
+          own_goes s d.store e.store on f g was
+          (λ y is. let r = found_is e.work.made e.store store f y is in born_by f g y was (k.own f y (back f y r.0) r.1))
+          (one_by f g was)
+      own_by f g (inr past) = inr (past_goes on f g.birth past)
+
   -- what is said of what is known is said of what is known then
   pub store_on : (d e : Done) → SameMade d.work.made e.work.made → (b : Store)
-      → SaysStore (Knows d.work.made) s b → SaysStore (Knows e.work.made) s b
+      → SaysStore (Knows d.work.made) AnyBye s b → SaysStore (Knows e.work.made) AnyBye s b
   store_on d e same b k =
       store_less (Knows d.work.made) (Knows e.work.made) (knows_on d.work.made e.work.made same) s b k
 
   -- the same was sent
   pub fine_silent : (d e : Done) → IsFine d → SameMade d.work.made e.work.made
-      → SaysStore (Knows d.work.made) s e.store → e.work.sent ≡ d.work.sent → e.work.tail ≡ d.work.tail
+      → ((f : FileId) → birth_at e.store f ≡ birth_at d.store f)
+      → SaysStore (Knows d.work.made) AnyBye s e.store → e.work.sent ≡ d.work.sent → e.work.tail ≡ d.work.tail
       → GoesOn d.store e.store → IsFine e
-  fine_silent d e k same store sent tail on =
+  fine_silent d e k same births store sent tail on =
       let less = knows_on d.work.made e.work.made same in
-      fine_goes d e k same (store_on d e same e.store store)
+      fine_goes d e k same (λ f g there was. births f ∙ was) (store_on d e same e.store store)
       (subst (All (SaysSent (Knows e.work.made))) (sym sent)
       (all_sent_less (Knows d.work.made) (Knows e.work.made) less d.work.sent k.sent))
       (subst (All (SaysSent (Knows e.work.made))) (sym tail)
@@ -181,8 +198,12 @@ module _ (Q : FileId → Flag → Type 0) (s : ℕ) where
     server : b.names.server ≡ s
     server = k.store.names.server
 
-    born : (x : Flag) → flag_of (flags_at b.names f) s ≡ Some x → birth_at b f ≡ Some x.birth
-    born x there = let r = found_is w.made b k.store f x there in (k.own f x r.0 r.1).birth
+    born_of : (x : Flag) → Stands s b f x → (x.birth ≡ n) ⊎ (x.birth < n)
+    born_of x (inl own) = inl (same_Some x.birth n (sym own.birth ∙ here))
+    born_of x (inr past) = inr (past.less n (from_has b f n (inl here)))
+
+    born : (x : Flag) → flag_of (flags_at b.names f) s ≡ Some x → (x.birth ≡ n) ⊎ (x.birth < n)
+    born x there = let r = found_is w.made b k.store f x there in born_of x (k.own f x r.0 r.1)
 
     made_is : Then.work.made ≡ w.made ++ update.Flag f flag ∷ []
     made_is = (news_mail (is_newer_flag b f flag) v f (key.Flag flag.server)).made
@@ -208,39 +229,57 @@ module _ (Q : FileId → Flag → Type 0) (s : ℕ) where
           | inr new ↦ inr (one_of q g new)
         ]
 
-    made_then : (q : FileId) (g : Flag) → IsMade Then.work.made q g → g.server ≡ s
+    abbrev MadeHere : FileId → Flag → Type 0
+    MadeHere q g = (g.server ≡ s) × (birth_at Then.store q ≡ Some g.birth)
+
+    made_now : MadeHere f flag
+    made_now = (server, (next_own s b f raised server n here mine held born).birth)
+
+    made_then : (q : FileId) (g : Flag) → IsMade Then.work.made q g → MadeHere q g
     made_then q g there =
         elim (either_part w.made (update.Flag f flag ∷ []) (update.Flag q g) (subst (Among (update.Flag q g)) made_is there)) [
-          | inl old ↦ k.made q g old
-          | inr new ↦ ap (λ (x : Flag). x.server) (one_of q g new).1 ∙ server
+          | inl old ↦ (let was = k.made q g old in (was.0, (flag_stays b f flag).before.births q ∙ was.1))
+          | inr new ↦ (
+              let one = one_of q g new in
+              subst (λ (x : FileId). MadeHere x g) (sym one.0) (subst (MadeHere f) (sym one.1) made_now))
         ]
 
-    own_then : (q : FileId) (g : Flag) → g.server ≡ s → Knows w.made q g ⊎ ((q ≡ f) × (g ≡ flag)) → IsOwn s Then.store q g
-    own_then q g is (inl was) = own_next_on s b f raised server n here mine held born q g (k.own q g was is)
+    own_on : (q : FileId) (g : Flag) → Stands s b q g → Stands s Then.store q g
+    own_on q g (inl own) = inl (own_next_on s b f raised server n here mine held born q g own)
+    own_on q g (inr past) = inr (past_next s b f raised server n here mine held born q g.birth past)
+
+    own_then : (q : FileId) (g : Flag) → g.server ≡ s → Knows w.made q g ⊎ ((q ≡ f) × (g ≡ flag)) → Stands s Then.store q g
+    own_then q g is (inl was) = own_on q g (k.own q g was is)
     own_then q g is (inr new) =
         let P : FileId → Type 0 = (λ x. IsOwn s Then.store x g) in
         let R : Flag → Type 0 = (λ x. IsOwn s Then.store f x) in
-        subst P (sym new.0) (subst R (sym new.1) (next_own s b f raised server n here mine held born))
+        inl (subst P (sym new.0) (subst R (sym new.1) (next_own s b f raised server n here mine held born)))
 
     -- no flag that was known has its number
     not_equal : (m j : ℕ) → m < j → m ≡ j → ⊥
     not_equal m j less same = absurd (omega arith)
 
-    fresh : (q : FileId) (g h : Flag) → Knows w.made q g → q ≡ f → h ≡ flag → g.server ≡ h.server
+    fresh_by : (g : Flag) → Stands s b f g → g.birth ≡ flag.birth → g.number ≡ flag.number → ⊥
+    fresh_by g (inl own) birth number =
+        not_equal g.number flag.number (next_later s b f raised server n here mine held born g own).1 number
+    fresh_by g (inr past) birth number =
+        not_equal g.birth n (past.less n (from_has b f n (inl here)))
+        (birth ∙ next_birth s b f raised server n here mine held born)
+
+    fresh : (q : FileId) (g h : Flag) → Knows w.made q g → q ≡ f → h ≡ flag → g.server ≡ h.server → g.birth ≡ h.birth
         → g.number ≡ h.number → ⊥
-    fresh q g h was thing is at number =
+    fresh q g h was thing is at birth number =
         let P : FileId → Type 0 = (λ x. Knows w.made x g) in
         let there : g.server ≡ s = at ∙ ap (λ (x : Flag). x.server) is ∙ server in
-        not_equal g.number flag.number
-        (next_later s b f raised server n here mine held born g (k.own f g (subst P thing was) there)).1
+        fresh_by g (k.own f g (subst P thing was) there) (birth ∙ ap (λ (x : Flag). x.birth) is)
         (number ∙ ap (λ (x : Flag). x.number) is)
 
     one_then : (q : FileId) (g h : Flag) → Knows w.made q g ⊎ ((q ≡ f) × (g ≡ flag))
         → Knows w.made q h ⊎ ((q ≡ f) × (h ≡ flag)) → g.server ≡ h.server → g.birth ≡ h.birth
         → g.number ≡ h.number → g ≡ h
     one_then q g h (inl a) (inl b) at birth number = k.one q g h a b at birth number
-    one_then q g h (inl a) (inr b) at birth number = absurd (fresh q g h a b.0 b.1 at number)
-    one_then q g h (inr a) (inl b) at birth number = absurd (fresh q h g b a.0 a.1 (sym at) (sym number))
+    one_then q g h (inl a) (inr b) at birth number = absurd (fresh q g h a b.0 b.1 at birth number)
+    one_then q g h (inr a) (inl b) at birth number = absurd (fresh q h g b a.0 a.1 (sym at) (sym birth) (sym number))
     one_then q g h (inr a) (inr b) at birth number = a.1 ∙ sym b.1
 
     -- A FLAG IS RAISED, OR LOWERED
@@ -248,7 +287,7 @@ module _ (Q : FileId → Flag → Type 0) (s : ℕ) where
     fine_flag =
         let mail = news_mail (is_newer_flag b f flag) v f (key.Flag flag.server) in
         record {
-          store = say_flag (Knows Then.work.made) s b f flag now
+          store = say_flag (Knows Then.work.made) AnyBye s b f flag now
               (store_less (Knows w.made) (Knows Then.work.made) more s b k.store);
           sent = subst (All (SaysSent (Knows Then.work.made))) (sym mail.sent)
               (all_sent_less (Knows w.made) (Knows Then.work.made) more w.sent k.sent);

@@ -1,6 +1,6 @@
 -- What pieces of an event leave of flags: those that a server knows of things themselves, where nothing but a replica
 -- begins, and a place or entries are taken.
-use Rattle.std.proofs.Common.{ℕ, ◌≡◌, Bool, true, false, cond, List, [], ◌∷◌, Option, None, Some, is_some, refl, sym, ap, subst, ◌∙◌}
+use Rattle.std.proofs.Common.{ℕ, ◌≡◌, ◌≤◌, ◌<◌, ◌⊎◌, arith, Bool, true, false, cond, List, [], ◌∷◌, Option, None, Some, is_some, inl, inr, refl, sym, ap, subst, ◌∙◌}
 use Rattle.std.specs.Option.{option_map}
 use Rattle.pg_base.specs.declared.id.FileId.{FileId}
 use Rattle.pg_base.specs.declared.policy.Policy.{Policy}
@@ -13,7 +13,7 @@ use Rattle.pg_intent.specs.declared.intent.Intent.TheVariants as intent
 use Rattle.pg_intent.specs.declared.key.IntentKey.{IntentKey}
 use Rattle.pg_intent.specs.Intents.{ended, intent_at}
 use Rattle.pg_names.specs.declared.own.Own.{Own}
-use Rattle.pg_names.specs.Names.{HeldValue, NamesValue, begin as begin_names, blank_own, fill, filled, join_entry, join_place, known, or_blank, own_at, own_of, own_or_blank, with_joined, with_place}
+use Rattle.pg_names.specs.Names.{HeldValue, NamesValue, begin as begin_names, fill, filled, join_entry, join_place, known, or_blank, own_at, own_of, own_or_blank, with_joined, with_place}
 use Rattle.pg_names.proofs.Holding.{begun_other, begun_same}
 use Rattle.pg_names.proofs.Lookups.{known_absent, own_kept, place_other, place_same}
 use Rattle.pg_register.specs.declared.flag.Flag.{Flag}
@@ -23,29 +23,106 @@ use Rattle.pg_replica.specs.Replica.{new_replica}
 use Rattle.pg_store.specs.declared.store.Store.{Store}
 use Rattle.pg_store.specs.Beginning.{begin, patches_of, put_new, take_patch, take_patches, take_told, take_told_in, with_intents}
 use Rattle.pg_store.specs.Store.{is_held, is_newer_entry, is_newer_place, put_entry, put_place, replica_at, take_entry, take_place}
-use Rattle.pg_store.specs.Together.{AreTogether, birth_at}
+use Rattle.pg_store.specs.Together.{AreBirths, AreTogether, BirthsMove, HoldsAsBefore, IsOver, birth_at}
+use Rattle.pg_store.proofs.Over.{moves_as_before}
 use Rattle.pg_store.proofs.Pairs.{patches_as_before}
 use Rattle.pg_promises.specs.Growing.{Grows}
 use Rattle.pg_promises.specs.UpTo.{AreFlagsUpTo}
 use Rattle.pg_promises.proofs.Choices.{chosen}
 use Rattle.pg_promises.proofs.UpTo.{flags_further, flags_themselves}
+use Rattle.pg_run.specs.Births.{IsBirthAt}
+use Rattle.pg_births.proofs.Has.{Goes, from_has, has_one, over_has, over_of, tests_so, to_has}
+use Rattle.pg_births.proofs.Here.{of_birth}
 
 -- the flags that are known of a thing itself
 abbrev pub flags_at : NamesValue → FileId → List Flag
 flags_at names f = (own_or_blank names f).flags
 
--- what is held is held on, with its birth, and of its flags as much is known, or more
-pub record GoesOn (a b : Store) : Type 0 where
-  pub births : (f : FileId) (n : ℕ) → birth_at a f ≡ Some n → birth_at b f ≡ Some n
-  pub flags : (f : FileId) → AreFlagsUpTo (flags_at a.names f) (flags_at b.names f)
+-- this birth was given out, and whichever the thing has, or is to have, is a later one
+pub record IsPast (b : Store) (f : FileId) (m : ℕ) : Type 0 where
+  pub given : m ≤ b.births
+  pub less : (n : ℕ) → IsBirthAt b f n → m < n
 
-pub grows_on : (a b : Store) → Grows a b → GoesOn a b
-grows_on a b k = record { births = k.births; flags = k.names.flags }
+never : (m : ℕ) → m < m → ⊥
+never m h = omega arith
+
+at_most : (m n k : ℕ) → m ≤ n → n ≤ k → m ≤ k
+at_most m n k h l = omega arith
+
+below : (m n k : ℕ) → m ≤ n → n < k → m < k
+below m n k h l = omega arith
+
+-- so it is over
+pub past_over : (b : Store) (f : FileId) (m : ℕ) → IsPast b f m → IsOver b f m
+past_over b f m p = over_of b f m p.given (λ h. never m (p.less m (from_has b f m h)))
+
+-- the births that a server has it had, or gave out since
+abbrev pub IsNewly : Store → Store → Type 0
+IsNewly a b = (f : FileId) (n : ℕ) → IsBirthAt b f n → IsBirthAt a f n ⊎ (a.births < n)
+
+pub past_by : (a b : Store) (f : FileId) (m : ℕ) → a.births ≤ b.births → IsNewly a b → IsPast a f m → IsPast b f m
+past_by a b f m count newly p = record {
+  given = at_most m a.births b.births p.given count;
+  less = λ n h. elim (newly f n h) [ inl was ↦ p.less n was | inr new ↦ below m a.births n p.given new ];
+}
+
+-- what is held is held on, with its birth, and of its flags as much is known, or more; or it goes, and its birth is past
+pub record GoesOn (a b : Store) : Type 0 where
+  pub goes : (f : FileId) (n : ℕ) → birth_at a f ≡ Some n
+      → ((birth_at b f ≡ Some n) × AreFlagsUpTo (flags_at a.names f) (flags_at b.names f)) ⊎ IsPast b f n
+  pub count : a.births ≤ b.births
+  pub newly : IsNewly a b
+
+pub past_goes : {a b : Store} → GoesOn a b → (f : FileId) (m : ℕ) → IsPast a f m → IsPast b f m
+past_goes {a} {b} on f m p = past_by a b f m on.count on.newly p
+
+pub newly_of : (a b : Store) → BirthsMove a b → IsNewly a b
+newly_of a b move f n h = elim h [
+  | inl x ↦ elim (move.held f n (tests_so (replica_at b f) x.0 n x.1 x.2)) [
+    | inl here ↦ inl (from_has a f n (inl (of_birth (replica_at a f) n here)))
+    | inr r ↦ elim r [ inl p ↦ inl (inr p) | inr new ↦ inr new ]
+  ]
+  | inr p ↦ elim (move.asked f n p) [ inl q ↦ inl (inr q) | inr new ↦ inr new ]
+]
+
+-- where replicas may go
+module _ (a b : Store) (move : BirthsMove a b) (together : AreTogether a) (births : AreBirths a) where
+  -- a birth that the replica had, and that is over, is past
+  over_past : (f : FileId) (n : ℕ) → birth_at a f ≡ Some n → IsOver b f n → IsPast b f n
+  over_past f n there over = record {
+    given = over.given;
+    less = λ m h. elim (newly_of a b move f m h) [
+      | inl was ↦ (
+          let same : m ≡ n = has_one a births f m n together (to_has a f m was) (inl there) in
+          absurd (over_has b f n over (to_has b f n (subst (IsBirthAt b f) same h))))
+      | inr new ↦ below n a.births m (births.replicas f n there).1 new
+    ];
+  }
+
+  pub grows_on : Grows a b → GoesOn a b
+  grows_on k = record {
+    goes = λ f n there. elim (k f n there) [
+      | inl g ↦ inl (g.0, g.1.flags)
+      | inr over ↦ inr (over_past f n there over)
+    ];
+    count = move.given;
+    newly = newly_of a b move;
+  }
 
 pub goes_further : {a b c : Store} → GoesOn a b → GoesOn b c → GoesOn a c
 goes_further {a} {b} {c} k l = record {
-  births = λ f n there. l.births f n (k.births f n there);
-  flags = λ f. flags_further (flags_at a.names f) (flags_at b.names f) (flags_at c.names f) (k.flags f) (l.flags f);
+  goes = λ f n there. elim (k.goes f n there) [
+    | inl x ↦ elim (l.goes f n x.0) [
+      | inl y ↦ inl (y.0, flags_further (flags_at a.names f) (flags_at b.names f) (flags_at c.names f) x.1 y.1)
+      | inr p ↦ inr p
+    ]
+    | inr p ↦ inr (past_goes l f n p)
+  ];
+  count = at_most a.births b.births c.births k.count l.count;
+  newly = λ f n h. elim (l.newly f n h) [
+    | inl was ↦ k.newly f n was
+    | inr new ↦ inr (below a.births b.births n k.count new)
+  ];
 }
 
 -- the same flags are known
@@ -55,11 +132,24 @@ SameFlags s t = (f : FileId) → flags_at t f ≡ flags_at s f
 pub flags_on : (s t : NamesValue) → SameFlags s t → (f : FileId) → AreFlagsUpTo (flags_at s f) (flags_at t f)
 flags_on s t same f = subst (AreFlagsUpTo (flags_at s f)) (sym (same f)) (flags_themselves (flags_at s f))
 
-pub same_goes_on : (a b : Store) → ((f : FileId) → birth_at b f ≡ birth_at a f) → SameFlags a.names b.names
-    → GoesOn a b
-same_goes_on a b births flags = record {
-  births = λ f n there. births f ∙ there;
-  flags = flags_on a.names b.names flags;
+-- where nothing begins
+pub before_on : (a b : Store) → HoldsAsBefore a b
+    → ((f : FileId) (n : ℕ) → birth_at a f ≡ Some n → AreFlagsUpTo (flags_at a.names f) (flags_at b.names f)) → GoesOn a b
+before_on a b before flags = record {
+  goes = λ f n there. inl (before.births f ∙ there, flags f n there);
+  count = before.given;
+  newly = newly_of a b (moves_as_before a b before);
+}
+
+pub same_goes_on : (a b : Store) → HoldsAsBefore a b → SameFlags a.names b.names → GoesOn a b
+same_goes_on a b before flags = before_on a b before (λ f n there. flags_on a.names b.names flags f)
+
+-- and where births are given out
+pub births_on : (a b : Store) → Goes a b → ((f : FileId) → birth_at b f ≡ birth_at a f) → SameFlags a.names b.names → GoesOn a b
+births_on a b g births flags = record {
+  goes = λ f n there. inl (births f ∙ there, flags_on a.names b.names flags f);
+  count = g.count;
+  newly = λ f n h. elim (g.newly f n (to_has b f n h)) [ inl was ↦ inl (from_has a f n was) | inr new ↦ inr new ];
 }
 
 -- ---- pieces
@@ -70,7 +160,7 @@ same_own s t same f = ap (λ (o : Option Own). (or_blank f o).flags) (same f)
 pub fill_flags : (s : NamesValue) (f : FileId) → SameFlags s (fill s f)
 fill_flags s f = same_own s (fill s f) (own_kept s f filled (λ x. refl))
 
-entry_flags : (a : Store) (d : FileId) (e : Entry) → SameFlags a.names (take_entry a d e).names
+pub entry_flags : (a : Store) (d : FileId) (e : Entry) → SameFlags a.names (take_entry a d e).names
 entry_flags a d e =
     chosen (λ (b : Store). SameFlags a.names b.names) (is_newer_entry a d e) (put_entry a d e) a
     (same_own a.names (join_entry a.names d e) (own_kept a.names d (with_joined e) (λ x. refl))) (λ f. refl)
@@ -103,18 +193,19 @@ none_at : (o : Option HeldValue) (f : FileId) → is_some o ≡ false → (or_bl
 none_at None f away = refl
 none_at (Some x) f away = absurd (let z : true ≡ false = away in cc)
 
-module _ (s : NamesValue) (f : FileId) (full : Bool) (away : is_some (known s f) ≡ false) where
+-- a replica begins that has no flag
+module _ (s : NamesValue) (f : FileId) (own : Own) (bare : own.flags ≡ []) (full : Bool) (away : is_some (known s f) ≡ false) where
   begun_by : (q : FileId) (t : Bool) → is_same_file q f ≡ t
-      → flags_at (begin_names s f (blank_own f) full) q ≡ flags_at s q
+      → flags_at (begin_names s f own full) q ≡ flags_at s q
   begun_by q true e =
-      let P : FileId → Type 0 = (λ x. flags_at (begin_names s f (blank_own f) full) x ≡ flags_at s x) in
+      let P : FileId → Type 0 = (λ x. flags_at (begin_names s f own full) x ≡ flags_at s x) in
       subst P (sym (is_same_file-true q f e))
-      (ap (λ (o : Option HeldValue). (or_blank f (own_of o)).flags) (begun_same s f (blank_own f) full)
-      ∙ sym (none_at (known s f) f away))
+      (ap (λ (o : Option HeldValue). (or_blank f (own_of o)).flags) (begun_same s f own full)
+      ∙ bare ∙ sym (none_at (known s f) f away))
   begun_by q false apart =
-      ap (λ (o : Option HeldValue). (or_blank q (own_of o)).flags) (begun_other s f (blank_own f) full q apart)
+      ap (λ (o : Option HeldValue). (or_blank q (own_of o)).flags) (begun_other s f own full q apart)
 
-  begun_flags : SameFlags s (begin_names s f (blank_own f) full)
+  begun_flags : SameFlags s (begin_names s f own full)
   begun_flags q = begun_by q (is_same_file q f) refl
 
 told_flags : (a : Store) (d : FileId) (i : Intent) → SameFlags a.names (take_told a d i).names
@@ -135,11 +226,11 @@ patches_flags (k ∷ ks) a d f =
     patches_flags ks (take_patch a d k) d f
     ∙ told_in_flags (with_intents a (ended a.intents k)) d (intent_at a.intents k) f
 
-pub begin_flags : (a : Store) (f : FileId) (birth : ℕ) (policy : Policy) (full : Bool) → is_held a f ≡ false
-    → SameFlags a.names (begin a f birth policy (blank_own f) full).names
-begin_flags a f birth policy full away q =
-    patches_flags (patches_of f a.intents) (put_new a f birth policy (blank_own f) full) f q
-    ∙ begun_flags a.names f full away q
+pub begin_flags : (a : Store) (f : FileId) (birth : ℕ) (policy : Policy) (own : Own) → own.flags ≡ [] → (full : Bool) → is_held a f ≡ false
+    → SameFlags a.names (begin a f birth policy own full).names
+begin_flags a f birth policy own bare full away q =
+    patches_flags (patches_of f a.intents) (put_new a f birth policy own full) f q
+    ∙ begun_flags a.names f own bare full away q
 
 -- and births
 
@@ -151,7 +242,7 @@ born_by (Some x) n e = refl
 pub held_born : (a : Store) → AreTogether a → (f : FileId) (n : ℕ) → birth_at a f ≡ Some n → is_held a f ≡ true
 held_born a together f n there = sym (together f) ∙ born_by (replica_at a f) n there
 
-module _ (a : Store) (f : FileId) (birth : ℕ) (policy : Policy) (full : Bool) (away : is_held a f ≡ false)
+module _ (a : Store) (f : FileId) (birth : ℕ) (policy : Policy) (own : Own) (full : Bool) (away : is_held a f ≡ false)
     (together : AreTogether a) where
   unborn : (q : FileId) (n : ℕ) → is_same_file q f ≡ true → birth_at a q ≡ Some n → ⊥
   unborn q n same there =
@@ -164,9 +255,17 @@ module _ (a : Store) (f : FileId) (birth : ℕ) (policy : Policy) (full : Bool) 
   stays_born q n false apart there = there
 
   pub begun_births : (q : FileId) (n : ℕ) → birth_at a q ≡ Some n
-      → birth_at (begin a f birth policy (blank_own f) full) q ≡ Some n
+      → birth_at (begin a f birth policy own full) q ≡ Some n
   begun_births q n there =
-      (patches_as_before (put_new a f birth policy (blank_own f) full) f (patches_of f a.intents)).births q
+      (patches_as_before (put_new a f birth policy own full) f (patches_of f a.intents)).births q
       ∙ ap (option_map (λ (x : Replica). x.birth))
       (lookup-insert_entry file_cmp file_total q f (new_replica birth policy) a.replicas)
       ∙ stays_born q n (is_same_file q f) refl there
+
+-- what has an own state is held
+holds_by : (o : Option HeldValue) (own : Own) → own_of o ≡ Some own → is_some o ≡ true
+holds_by None own e = absurd (let z : ◌≡◌ {A = Option Own} None (Some own) = e in cc)
+holds_by (Some x) own e = refl
+
+pub held_of : (b : Store) (f : FileId) (own : Own) → own_at b.names f ≡ Some own → is_held b f ≡ true
+held_of b f own e = holds_by (known b.names f) own e

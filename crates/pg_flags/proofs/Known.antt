@@ -12,7 +12,7 @@ use Rattle.pg_msg.specs.declared.message.Sent.{Sent}
 use Rattle.pg_names.specs.Names.{NamesValue}
 use Rattle.pg_register.specs.declared.flag.Flag.{Flag}
 use Rattle.pg_store.specs.declared.store.Store.{Store}
-use Rattle.pg_births.specs.Flags.{SaysCell, SaysIntent, SaysMessage, SaysNames, SaysStore}
+use Rattle.pg_births.specs.Flags.{AnyBye, SaysCell, SaysIntent, SaysMessage, SaysNames, SaysStore}
 use Rattle.pg_flags.proofs.Says.{SaysSent}
 
 module _ (Q R : FileId → Flag → Type 0) (less : (f : FileId) (g : Flag) → Q f g → R f g) where
@@ -27,7 +27,7 @@ module _ (Q R : FileId → Flag → Type 0) (less : (f : FileId) (g : Flag) → 
         let c = k.cells dir child e h in (c.0, all_less child e.flags c.1);
   }
 
-  intent_less : (i : Intent) → SaysIntent Q i → SaysIntent R i
+  intent_less : (i : Intent) → SaysIntent Q AnyBye i → SaysIntent R AnyBye i
   intent_less (intent.Bye file birth peer peer_birth) k = k
   intent_less (intent.Seek file target) k = k
   intent_less (intent.Fill file birth target) k = k
@@ -35,10 +35,10 @@ module _ (Q R : FileId → Flag → Type 0) (less : (f : FileId) (g : Flag) → 
   intent_less (intent.Confirm dir child target) k = k
   intent_less (intent.Leave file peer peer_birth) k = k
 
-  pub store_less : (s : ℕ) (a : Store) → SaysStore Q s a → SaysStore R s a
+  pub store_less : (s : ℕ) (a : Store) → SaysStore Q AnyBye s a → SaysStore R AnyBye s a
   store_less s a k = record {
     names = names_less s a.names k.names;
-    intents = All-weaker (SaysIntent Q) (SaysIntent R) intent_less a.intents k.intents;
+    intents = All-weaker (SaysIntent Q AnyBye) (SaysIntent R AnyBye) intent_less a.intents k.intents;
   }
 
   cell_less : (f : FileId) (c : Cell) → SaysCell Q f c → SaysCell R f c

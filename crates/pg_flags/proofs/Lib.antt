@@ -5,6 +5,7 @@ mod Kept
 mod Own
 mod Fine
 mod Filling
+mod Losing
 mod Calling
 mod Sending
 mod Effects

@@ -22,7 +22,8 @@ use Rattle.pg_promises.proofs.Choices.{decided}
 use Rattle.pg_run.specs.Known.{IsUpToOwn}
 use Rattle.pg_births.proofs.Here.{birth_is}
 use Rattle.pg_births.proofs.Pieces.{flag_stays}
-use Rattle.pg_flags.proofs.Kept.{GoesOn, flags_at}
+use Rattle.pg_store.proofs.Over.{moves_as_before}
+use Rattle.pg_flags.proofs.Kept.{GoesOn, IsPast, flags_at, newly_of, past_by}
 
 -- a flag of server s, which has this store, is up to its own flag of the thing, of the birth that its replica has
 pub record IsOwn (s : ℕ) (b : Store) (f : FileId) (g : Flag) : Type 0 where
@@ -31,6 +32,10 @@ pub record IsOwn (s : ℕ) (b : Store) (f : FileId) (g : Flag) : Type 0 where
   pub there : flag_of (flags_at b.names f) s ≡ Some own
   pub upto : IsUpToOwn g own
 
+-- or its birth is past
+abbrev pub Stands : ℕ → Store → FileId → Flag → Type 0
+Stands s b f g = IsOwn s b f g ⊎ IsPast b f g.birth
+
 -- ---- numbers
 
 older_not : (b n c m : ℕ) → (nat_lt b c || (b == c && nat_lt n m)) ≡ false → b ≡ c → m ≤ n
@@ -38,6 +43,12 @@ older_not b n c m h same = grind (arith, nat_tests)
 
 older_is : (b n c m : ℕ) → b ≡ c → n < m → (nat_lt b c || (b == c && nat_lt n m)) ≡ true
 older_is b n c m same less = grind (arith, nat_tests)
+
+older_less : (b n c m : ℕ) → b < c → (nat_lt b c || (b == c && nat_lt n m)) ≡ true
+older_less b n c m less = grind (arith, nat_tests)
+
+older_never : (b n c m : ℕ) → (nat_lt b c || (b == c && nat_lt n m)) ≡ false → b < c → ⊥
+older_never b n c m h less = let z : true ≡ false = sym (older_less b n c m less) ∙ h in cc
 
 less_or_same : (m n : ℕ) → m ≤ n → (m < n) ⊎ (m ≡ n)
 less_or_same m n le = grind (arith, nat_tests)
@@ -60,17 +71,24 @@ birth_same g x (inr up) = up.0
 
 -- ---- a server goes on
 
--- where two of its flags with one number are one, and each is of the birth of the replica
+-- where two of its flags with one number are one, and each is of the birth of the replica, or of an earlier one
 module _ (s : ℕ) (b c : Store) (on : GoesOn b c) (f : FileId) (g : Flag) (k : IsOwn s b f g)
-    (born : (y : Flag) → flag_of (flags_at c.names f) s ≡ Some y → birth_at c f ≡ Some y.birth)
+    (born : (y : Flag) → flag_of (flags_at c.names f) s ≡ Some y → (g.birth ≡ y.birth) ⊎ (y.birth < g.birth))
     (one : (y : Flag) → flag_of (flags_at c.names f) s ≡ Some y → k.own.birth ≡ y.birth → k.own.number ≡ y.number
     → k.own ≡ y) where
-  goes_by : (o : Option Flag) → flag_of (flags_at c.names f) s ≡ o → IsFlagKnownBy (Some k.own) o → IsOwn s c f g
-  goes_by None there up = absurd up
-  goes_by (Some y) there up =
-      let was : birth_at c f ≡ Some g.birth = on.births f g.birth k.birth in
-      let same : k.own.birth ≡ y.birth =
-      sym (birth_same g k.own k.upto) ∙ same_Some g.birth y.birth (sym was ∙ born y there) in
+  birth_is_own : g.birth ≡ k.own.birth
+  birth_is_own = birth_same g k.own k.upto
+
+  same_by : (y : Flag) → (nat_lt y.birth k.own.birth || (y.birth == k.own.birth && nat_lt y.number k.own.number)) ≡ false
+      → (g.birth ≡ y.birth) ⊎ (y.birth < g.birth) → k.own.birth ≡ y.birth
+  same_by y up (inl same) = sym birth_is_own ∙ same
+  same_by y up (inr less) =
+      absurd (older_never y.birth y.number k.own.birth k.own.number up (subst (λ (m : ℕ). y.birth < m) birth_is_own less))
+
+  goes_by : birth_at c f ≡ Some g.birth → (o : Option Flag) → flag_of (flags_at c.names f) s ≡ o → IsFlagKnownBy (Some k.own) o → IsOwn s c f g
+  goes_by was None there up = absurd up
+  goes_by was (Some y) there up =
+      let same : k.own.birth ≡ y.birth = same_by y up.1 (born y there) in
       let up_to = older_not y.birth y.number k.own.birth k.own.number up.1 (sym same) in
       record {
         birth = was;
@@ -84,10 +102,13 @@ module _ (s : ℕ) (b c : Store) (on : GoesOn b c) (f : FileId) (g : Flag) (k : 
       either same (inl less) = inl less
       either same (inr equal) = inr (one y there same equal)
 
-  pub own_goes : IsOwn s c f g
+  pub own_goes : Stands s c f g
   own_goes =
       let P : Option Flag → Type 0 = (λ o. IsFlagKnownBy o (flag_of (flags_at c.names f) s)) in
-      goes_by (flag_of (flags_at c.names f) s) refl (subst P k.there (on.flags f s))
+      elim (on.goes f g.birth k.birth) [
+        | inl x ↦ inl (goes_by x.0 (flag_of (flags_at c.names f) s) refl (subst P k.there (x.1 s)))
+        | inr p ↦ inr p
+      ]
 
 -- ---- the next flag
 
@@ -122,7 +143,7 @@ number_next x birth same = ap (λ t. cond t x.number 0) (eq-eqb x.birth birth sa
 -- server s makes its next flag of a thing that it holds: it is later than all that are known
 module _ (s : ℕ) (b : Store) (f : FileId) (raised : Bool) (server : b.names.server ≡ s) (n : ℕ)
     (here : birth_at b f ≡ Some n) (mine : Own) (held : own_at b.names f ≡ Some mine)
-    (born : (x : Flag) → flag_of (flags_at b.names f) s ≡ Some x → birth_at b f ≡ Some x.birth) where
+    (born : (x : Flag) → flag_of (flags_at b.names f) s ≡ Some x → (x.birth ≡ n) ⊎ (x.birth < n)) where
   abbrev pub Next : Flag
   Next = own_next b f raised
 
@@ -132,13 +153,14 @@ module _ (s : ℕ) (b : Store) (f : FileId) (raised : Bool) (server : b.names.se
   flags_are : flags_at b.names f ≡ mine.flags
   flags_are = ap (λ (o : Option Own). (or_blank f o).flags) held
 
-  next_birth : Next.birth ≡ n
+  pub next_birth : Next.birth ≡ n
   next_birth = birth_is b f n here
 
   -- of the flag that was the server's own it is the next
-  next_number : (x : Flag) → flag_of (flags_at b.names f) s ≡ Some x → (x.birth ≡ Next.birth) × (Next.number ≡ x.number + 1)
-  next_number x there =
-      let same : x.birth ≡ Next.birth = same_Some x.birth n (sym (born x there) ∙ here) ∙ sym next_birth in
+  next_number : (x : Flag) → flag_of (flags_at b.names f) s ≡ Some x → x.birth ≡ n
+      → (x.birth ≡ Next.birth) × (Next.number ≡ x.number + 1)
+  next_number x there is =
+      let same : x.birth ≡ Next.birth = is ∙ sym next_birth in
       let mine_is : flag_of (flags_at b.names f) b.names.server ≡ Some x =
       ap (flag_of (flags_at b.names f)) server ∙ there in (
         same,
@@ -151,7 +173,7 @@ module _ (s : ℕ) (b : Store) (f : FileId) (raised : Bool) (server : b.names.se
 
   pub next_later : (g : Flag) → IsOwn s b f g → (g.birth ≡ Next.birth) × (g.number < Next.number)
   next_later g k =
-      let x = next_number k.own k.there in
+      let x = next_number k.own k.there (sym (birth_same g k.own k.upto) ∙ same_Some g.birth n (sym k.birth ∙ here)) in
       let less = one_more k.own.number Next.number x.1 in (
         birth_same g k.own k.upto ∙ x.0,
         elim k.upto [
@@ -162,9 +184,12 @@ module _ (s : ℕ) (b : Store) (f : FileId) (raised : Bool) (server : b.names.se
 
   new_by : (o : Option Flag) → flag_of (flags_at b.names f) s ≡ o → is_new o Next ≡ true
   new_by None there = refl
-  new_by (Some x) there =
-      let k = next_number x there in
-      older_is x.birth x.number Next.birth Next.number k.0 (one_more x.number Next.number k.1)
+  new_by (Some x) there = elim (born x there) [
+    | inl same ↦ (
+        let k = next_number x there same in
+        older_is x.birth x.number Next.birth Next.number k.0 (one_more x.number Next.number k.1))
+    | inr less ↦ older_less x.birth x.number Next.birth Next.number (subst (λ (m : ℕ). x.birth < m) (sym next_birth) less)
+  ]
 
   next_new : is_new (flag_of mine.flags Next.server) Next ≡ true
   next_new =
@@ -206,3 +231,9 @@ module _ (s : ℕ) (b : Store) (f : FileId) (raised : Bool) (server : b.names.se
   -- and the others are up to their own, or to it
   pub own_next_on : (q : FileId) (g : Flag) → IsOwn s b q g → IsOwn s Then q g
   own_next_on q g k = own_by q g (is_same_file f q) refl k
+
+  -- what is past stays so
+  pub past_next : (q : FileId) (m : ℕ) → IsPast b q m → IsPast Then q m
+  past_next q m p =
+      let before = (flag_stays b f Next).before in
+      past_by b Then q m before.given (newly_of b Then (moves_as_before b Then before)) p

@@ -1,5 +1,5 @@
 -- What is said of flags is said of what a server holds and sends in answer to each message that raises none.
-use Rattle.std.proofs.Common.{ℕ, ◌==◌, ◌-◌, ◌/◌, ◌%◌, Bool, true, false, cond, List, length, slice_get, Option, None, Some, All}
+use Rattle.std.proofs.Common.{ℕ, ◌==◌, ◌-◌, ◌/◌, ◌%◌, Bool, true, false, cond, not, List, length, slice_get, Option, None, Some, All}
 use Rattle.pg_base.specs.declared.id.FileId.{FileId}
 use Rattle.pg_base.specs.declared.stamp.Stamp.{Stamp}
 use Rattle.pg_edges.specs.declared.edge.Edge.{Edge}
@@ -9,7 +9,10 @@ use Rattle.pg_entries.specs.declared.cell.Cell.{Cell}
 use Rattle.pg_entries.specs.declared.cell.Cell.TheVariants as cells
 use Rattle.pg_entries.specs.declared.entry.Entry.{Entry}
 use Rattle.pg_intent.specs.declared.key.IntentKey.TheVariants as intent_key
-use Rattle.pg_intent.specs.Intents.{aimed, ended, intent_at}
+use Rattle.pg_intent.specs.declared.intent.Intent.{Intent}
+use Rattle.pg_intent.specs.declared.key.IntentKey.{IntentKey}
+use Rattle.pg_intent.specs.Intent.{key_of}
+use Rattle.pg_intent.specs.Intents.{aimed, ended, intent_at, stands}
 use Rattle.pg_msg.specs.declared.message.Ask.{Ask}
 use Rattle.pg_msg.specs.declared.message.Ask.TheVariants as ask
 use Rattle.pg_msg.specs.declared.message.Ends.{Ends}
@@ -27,17 +30,18 @@ use Rattle.pg_replica.specs.declared.replica.Replica.{Replica}
 use Rattle.pg_replica.specs.Replica.{are_none}
 use Rattle.pg_replica.specs.Replicas.{or_nothing}
 use Rattle.pg_store.specs.declared.store.Store.{Store}
-use Rattle.pg_store.specs.Beginning.{with_intents}
+use Rattle.pg_store.specs.Beginning.{let_go, with_intents}
 use Rattle.pg_store.specs.Births.{birth_of, fill_at, is_pending, wish_at, with_wishes}
 use Rattle.pg_store.specs.Links.{knows_later}
 use Rattle.pg_store.specs.Servers.{next_target}
-use Rattle.pg_store.specs.Store.{is_full, is_held, replica_at}
+use Rattle.pg_store.specs.Store.{is_full, is_held, replica_at, replica_of}
 use Rattle.pg_store.specs.Wishes.{aim_wish}
 use Rattle.pg_cells.specs.declared.accepting.Manner.TheVariants as manner
 use Rattle.pg_cells.specs.Accepting.{accept, is_accepted, link_peer}
 use Rattle.pg_cells.specs.Acks.{ack}
 use Rattle.pg_cells.specs.Cells.{cell, fits, taken, taken_along}
 use Rattle.pg_cells.specs.Done.{Done, idle, link_of}
+use Rattle.pg_cells.specs.Intending.{begin_intent}
 use Rattle.pg_cells.specs.Posting.{reply}
 use Rattle.pg_cells.specs.Taking.{take_entry_noted, take_place_noted}
 use Rattle.pg_repair.specs.Confirming.{confirm, confirmed, is_confirmed, own_entry, place_is, place_told, take_told_flags, take_told_place}
@@ -49,9 +53,12 @@ use Rattle.pg_graph.specs.Seeks.{edges_of}
 use Rattle.pg_repair.specs.Telling.{is_told, tell, tell_ok, told}
 use Rattle.pg_graph.specs.Walks.{goes_on, meet_origin, most_hops, onward, walk, walk_along, walk_from, walk_of, walk_of_tick, walk_on, walked, with_few_edges}
 use Rattle.pg_promises.proofs.Choices.{chosen}
-use Rattle.pg_births.specs.Flags.{SaysCell, SaysEntry, SaysStore}
-use Rattle.pg_births.proofs.StoreSays.{entry_says, own_says, say_acknowledge, say_aimed, say_begin, say_ended, say_unlink}
-use Rattle.pg_flags.proofs.Says.{Says, said_accept, said_asked, said_entry, said_entry_cell, said_flag, said_flags, said_last, said_link, said_on, said_place, said_post, said_version, same_mail}
+use Rattle.pg_graph.specs.Leaving.{bye, bye_to, gives_leave, leave, leave_given, leave_ok, without_leave}
+use Rattle.pg_graph.proofs.LeaveOk.{byes_by, leave_ok_by}
+use Rattle.pg_run.proofs.Bags.{All-every}
+use Rattle.pg_births.specs.Flags.{AnyBye, SaysCell, SaysEntry, SaysIntent, SaysStore}
+use Rattle.pg_births.proofs.StoreSays.{entry_says, intends_says, own_says, say_acknowledge, say_aimed, say_begin, say_ended, say_let_go, say_unlink}
+use Rattle.pg_flags.proofs.Says.{Says, begun_mail, said_accept, said_asked, said_entry, said_entry_cell, said_flag, said_flags, said_last, said_link, said_on, said_place, said_post, said_version, same_mail}
 
 module _ (Q : FileId → Flag → Type 0) (s : ℕ) (us : List Update) where
   abbrev Said : Done → Type 0
@@ -145,7 +152,7 @@ module _ (Q : FileId → Flag → Type 0) (s : ℕ) (us : List Update) where
   given_by a ends w None k = k
   given_by a ends w (Some x) k =
       said_post Q s us a w.from (message.Grant ends (granted_from ends.file (own_or_blank a.names ends.file) x))
-      w (own_says Q s a ends.file k.store) k
+      w (own_says Q AnyBye s a ends.file k.store) k
 
   said_answer : (a : Store) (f : FileId) (birth : ℕ) (w : Work) → Said (idle a w)
       → Said (idle a (answer_fetch a f birth w))
@@ -173,12 +180,12 @@ module _ (Q : FileId → Flag → Type 0) (s : ℕ) (us : List Update) where
   said_begun a ends g w all k =
       let b = begun_by a ends g in
       let to_b : Said (idle b w) = said_on Q s us (idle a w) (idle b w) k
-      (say_begin Q s a ends.file ends.receiver g.policy (granted_own g) false all k.store)
+      (say_begin Q AnyBye s a ends.file ends.receiver g.policy (granted_own g) false all k.store)
       (same_mail w) in
       let d = link_peer b ends.file w.from ends.sender w in
       let to_d = said_link Q s us b ends.file w.from ends.sender w to_b in
       said_on Q s us d (begin_granted a ends g w) to_d
-      (say_aimed Q s d.store (intent_key.Fill ends.file) d.work.from to_d.store) (same_mail d.work)
+      (say_aimed Q AnyBye s d.store (intent_key.Fill ends.file) d.work.from to_d.store) (same_mail d.work)
 
   pub said_grant : (a : Store) (ends : Ends) (g : Granted) (w : Work)
       → All (Q ends.file) g.flags → Said (idle a w) → Said (grant a ends g w)
@@ -186,7 +193,7 @@ module _ (Q : FileId → Flag → Type 0) (s : ℕ) (us : List Update) where
       chosen Said (is_pending a ends.file ends.receiver) (begin_granted a ends g w)
       (accept a ends manner.Link w) (said_begun a ends g w all k) (said_accept Q s us a ends w k)
 
-  aimed_by : (a b : Store) (t : Bool) (w : Work) → SaysStore Q s b → Said (idle a w)
+  aimed_by : (a b : Store) (t : Bool) (w : Work) → SaysStore Q AnyBye s b → Said (idle a w)
       → Said (idle (cond t b a) w)
   aimed_by a b true w store k = said_on Q s us (idle a w) (idle b w) k store (same_mail w)
   aimed_by a b false w store k = k
@@ -200,7 +207,7 @@ module _ (Q : FileId → Flag → Type 0) (s : ℕ) (us : List Update) where
       let to_b : Said (idle b w) = aimed_by a wished (wish_asks (wish_at a f) birth w.from) w
       (record { names = k.store.names; intents = k.store.intents }) k in
       aimed_by b (aim_fill b f next) (fill_asks (fill_at b f) birth w.from) w
-      (say_aimed Q s b (intent_key.Fill f) next to_b.store) to_b
+      (say_aimed Q AnyBye s b (intent_key.Fill f) next to_b.store) to_b
 
   pub said_none_here : (a : Store) (what : Ask) (f c : FileId) (w : Work) → Said (idle a w)
       → Said (none_here a what f c w)
@@ -208,7 +215,7 @@ module _ (Q : FileId → Flag → Type 0) (s : ℕ) (us : List Update) where
       let q = asking_key what f c in
       aimed_by a (with_intents a (aimed a.intents q (next_target a w.from)))
       (does_ask (intent_at a.intents q) w.from) w
-      (say_aimed Q s a q (next_target a w.from) k.store) k
+      (say_aimed Q AnyBye s a q (next_target a w.from) k.store) k
 
   -- ---- what is told of children
 
@@ -216,12 +223,12 @@ module _ (Q : FileId → Flag → Type 0) (s : ℕ) (us : List Update) where
       → Said (ack a ends q tag w)
   said_ack a ends q tag w k =
       said_on Q s us (idle a w) (ack a ends q tag w) k
-      (say_acknowledge Q s a ends.file (link_of w.from ends) q tag k.store) (same_mail w)
+      (say_acknowledge Q AnyBye s a ends.file (link_of w.from ends) q tag k.store) (same_mail w)
 
   pub said_gone : (a : Store) (f : FileId) (birth : ℕ) (w : Work) → Said (idle a w)
       → Said (gone a f birth w)
   said_gone a f birth w k =
-      said_on Q s us (idle a w) (gone a f birth w) k (say_unlink Q s a f w.from birth k.store)
+      said_on Q s us (idle a w) (gone a f birth w) k (say_unlink Q AnyBye s a f w.from birth k.store)
       (same_mail w)
 
   pub said_confirm : (a : Store) (dir : FileId) (e : Entry) (w : Work) → SaysEntry Q e
@@ -235,7 +242,7 @@ module _ (Q : FileId → Flag → Type 0) (s : ℕ) (us : List Update) where
       let no = message.NoneHere ask.Confirm dir e.child in
       chosen Said (is_held a e.child) (place_told dir e.child x) (idle a (reply a no w))
       (said_post Q s us x.store x.work.from (message.PlaceIs dir (own_entry x.store e.child)) x.work
-      (entry_says Q s x.store e.child to_x.store) to_x)
+      (entry_says Q AnyBye s x.store e.child to_x.store) to_x)
       (said_post Q s us a w.from no w tt k)
 
   pub said_place_is : (a : Store) (dir : FileId) (e : Entry) (w : Work) → SaysEntry Q e
@@ -247,7 +254,7 @@ module _ (Q : FileId → Flag → Type 0) (s : ℕ) (us : List Update) where
       chosen Said (is_held a dir) (confirmed dir e d) (idle a w)
       (aimed_by b (with_intents b (ended b.intents (intent_key.Confirm dir e.child)))
       (is_confirmed b dir e.child e.place.stamp) d.work
-      (say_ended Q s b (intent_key.Confirm dir e.child) to_d.store) to_d)
+      (say_ended Q AnyBye s b (intent_key.Confirm dir e.child) to_d.store) to_d)
       k
 
   pub said_tell : (a : Store) (dir : FileId) (e : Entry) (w : Work) → SaysEntry Q e
@@ -265,4 +272,50 @@ module _ (Q : FileId → Flag → Type 0) (s : ℕ) (us : List Update) where
   said_tell_ok a dir c stamp w k =
       let q = intent_key.Patch dir c in
       aimed_by a (with_intents a (ended a.intents q)) (is_told (intent_at a.intents q) stamp w.from) w
-      (say_ended Q s a q k.store) k
+      (say_ended Q AnyBye s a q k.store) k
+
+  -- ---- a replica goes, and its peers hear of it
+
+  pub said_ended : (a : Store) (q : IntentKey) (w : Work) → Said (idle a w)
+      → Said (idle (with_intents a (ended a.intents q)) w)
+  said_ended a q w k =
+      said_on Q s us (idle a w) (idle (with_intents a (ended a.intents q)) w) k
+      (say_ended Q AnyBye s a q k.store) (same_mail w)
+
+  pub said_begun_intent : (d : Done) (i : Intent) → SaysIntent Q AnyBye i → Said d
+      → Said (begin_intent d.store i d.work)
+  said_begun_intent d i one k =
+      said_on Q s us d (begin_intent d.store i d.work) k
+      (intends_says Q AnyBye s d.store i d.work one k.store)
+      (begun_mail (not (stands d.store.intents (key_of i))) d.work (key_of i))
+
+  pub said_bye : (a : Store) (x : Ends) (w : Work) → Said (idle a w) → Said (bye a x w)
+  said_bye a x w k =
+      let m = message.ByeOk x.file x.sender in
+      said_on Q s us (idle a (reply a m w)) (bye a x w) (said_post Q s us a w.from m w tt k)
+      (say_unlink Q AnyBye s a x.file w.from x.sender k.store) (same_mail (reply a m w))
+
+  pub said_leave : (a : Store) (x : Ends) (stamp : Stamp) (w : Work) → Said (idle a w)
+      → Said (leave a x stamp w)
+  said_leave a x stamp w k =
+      let met = accept a x manner.Link w in
+      let to = said_accept Q s us a x w k in
+      let m = message.LeaveOk (ends_to met.store x.file x.sender) stamp in
+      chosen Said (is_accepted a w.from manner.Link x) (leave_given x stamp met) met
+      (chosen (λ (v : Work). Said (idle met.store v)) (gives_leave met.store x.file stamp)
+      (reply met.store m met.work) met.work
+      (said_post Q s us met.store met.work.from m met.work tt to) to)
+      to
+
+  pub said_leave_ok : (a : Store) (x : Ends) (stamp : Stamp) (w : Work) → Said (idle a w)
+      → Said (leave_ok a x stamp w)
+  said_leave_ok a x stamp w k =
+      let f = x.file in
+      let b = without_leave a f in
+      let to_b : Said (idle b w) = said_ended a (intent_key.Leave f) w k in
+      let to_go : Said (idle (let_go b f) w) = said_on Q s us (idle b w) (idle (let_go b f) w) to_b
+      (say_let_go Q AnyBye s b f to_b.store) (same_mail w) in
+      leave_ok_by Said a x stamp w k (λ answered. to_b)
+      (λ may. byes_by Said (λ (e : Edge). Unit {0}) f (birth_of b f)
+      (λ d e one h. said_begun_intent d (bye_to f (birth_of b f) e) tt h) (replica_of b f).edges
+      (All-every (λ (e : Edge). Unit {0}) (replica_of b f).edges (λ e. tt)) (idle (let_go b f) w) to_go)

@@ -13,7 +13,9 @@ use Rattle.pg_msg.specs.declared.message.Message.TheVariants as message
 use Rattle.pg_msg.specs.declared.message.Sent.{Sent}
 use Rattle.pg_msg.specs.declared.update.Update.{Update}
 use Rattle.pg_msg.specs.declared.work.Work.{Work}
-use Rattle.pg_msg.specs.Work.{with_left, with_linked, with_tail, with_touched, with_unsure}
+use Rattle.pg_intent.specs.declared.key.IntentKey.{IntentKey}
+use Rattle.pg_cells.specs.Intending.{with_begun_if}
+use Rattle.pg_msg.specs.Work.{with_begun, with_left, with_linked, with_tail, with_touched, with_unsure}
 use Rattle.pg_names.specs.Names.{own_or_blank}
 use Rattle.pg_register.specs.declared.flag.Flag.{Flag}
 use Rattle.pg_register.specs.declared.place.Place.{Place}
@@ -29,7 +31,7 @@ use Rattle.pg_cells.specs.Done.{Done, idle}
 use Rattle.pg_cells.specs.Posting.{post, reply, sent_to}
 use Rattle.pg_cells.specs.Taking.{is_any_news, is_place_news, take_entry_cell, take_entry_noted, take_flag_noted, take_flags_noted, take_place_noted, take_version_noted, with_doubt, with_left_if, with_news}
 use Rattle.pg_promises.proofs.Choices.{chosen}
-use Rattle.pg_births.specs.Flags.{SaysEntry, SaysMessage, SaysStore}
+use Rattle.pg_births.specs.Flags.{AnyBye, SaysEntry, SaysMessage, SaysStore}
 use Rattle.pg_births.proofs.StoreSays.{say_entry, say_flag, say_link, say_place, say_version}
 
 -- it is said of what a message brings
@@ -66,6 +68,10 @@ note_mail w f old =
 left_mail : (t : Bool) (w : Work) (f : FileId) (old : Place) → SameMail w (with_left_if t w f old)
 left_mail t w f old = either_mail w (note_left w f old) w t (note_mail w f old) (same_mail w)
 
+pub begun_mail : (t : Bool) (w : Work) (k : IntentKey) → SameMail w (with_begun_if t w k)
+begun_mail t w k =
+    either_mail w (with_begun w k) w t (record { sent = refl; tail = refl; made = refl }) (same_mail w)
+
 link_mail : (t : Bool) (w : Work) (f : FileId) (p : ℕ) → SameMail w (with_link t w f p)
 link_mail t w f p =
     either_mail w (with_linked w f p) w t (record { sent = refl; tail = refl; made = refl }) (same_mail w)
@@ -84,7 +90,7 @@ place_mail a f place w =
 
 -- in the midst of an event at server s, in which just this was made
 pub record Says (Q : FileId → Flag → Type 0) (s : ℕ) (us : List Update) (d : Done) : Type 0 where
-  pub store : SaysStore Q s d.store
+  pub store : SaysStore Q AnyBye s d.store
   pub sent : All (SaysSent Q) d.work.sent
   pub tail : All (SaysSent Q) d.work.tail
   pub made : d.work.made ≡ us
@@ -93,7 +99,7 @@ module _ (Q : FileId → Flag → Type 0) (s : ℕ) (us : List Update) where
   abbrev pub Said : Done → Type 0
   Said d = Says Q s us d
 
-  pub said_on : (d e : Done) → Said d → SaysStore Q s e.store → SameMail d.work e.work → Said e
+  pub said_on : (d e : Done) → Said d → SaysStore Q AnyBye s e.store → SameMail d.work e.work → Said e
   said_on d e k store mail = record {
     store = store;
     sent = subst (All (SaysSent Q)) (sym mail.sent) k.sent;
@@ -106,13 +112,13 @@ module _ (Q : FileId → Flag → Type 0) (s : ℕ) (us : List Update) where
   pub said_place : (a : Store) (f : FileId) (place : Place) (w : Work) → Said (idle a w)
       → Said (take_place_noted a f place w)
   said_place a f place w k =
-      said_on (idle a w) (take_place_noted a f place w) k (say_place Q s a f place k.store)
+      said_on (idle a w) (take_place_noted a f place w) k (say_place Q AnyBye s a f place k.store)
       (place_mail a f place w)
 
   pub said_flag : (a : Store) (f : FileId) (flag : Flag) (w : Work) → Q f flag → Said (idle a w)
       → Said (take_flag_noted a f flag w)
   said_flag a f flag w one k =
-      said_on (idle a w) (take_flag_noted a f flag w) k (say_flag Q s a f flag one k.store)
+      said_on (idle a w) (take_flag_noted a f flag w) k (say_flag Q AnyBye s a f flag one k.store)
       (news_mail (is_newer_flag a f flag) w f (key.Flag flag.server))
 
   pub said_flags : (fs : List Flag) (a : Store) (f : FileId) (w : Work) → All (Q f) fs
@@ -126,7 +132,7 @@ module _ (Q : FileId → Flag → Type 0) (s : ℕ) (us : List Update) where
   pub said_entry : (a : Store) (dir : FileId) (e : Entry) (w : Work) → SaysEntry Q e
       → Said (idle a w) → Said (take_entry_noted a dir e w)
   said_entry a dir e w one k =
-      said_on (idle a w) (take_entry_noted a dir e w) k (say_entry Q s a dir e one k.store)
+      said_on (idle a w) (take_entry_noted a dir e w) k (say_entry Q AnyBye s a dir e one k.store)
       (news_mail (is_any_news (entry_news a dir e)) w dir (key.Entry e.child))
 
   pub said_entry_cell : (a : Store) (dir : FileId) (e : Entry) (sure : Bool) (w : Work)
@@ -134,19 +140,19 @@ module _ (Q : FileId → Flag → Type 0) (s : ℕ) (us : List Update) where
   said_entry_cell a dir e sure w one k =
       let d = take_entry_noted a dir e w in
       said_on d (take_entry_cell a dir e sure w) (said_entry a dir e w one k)
-      (say_entry Q s a dir e one k.store)
+      (say_entry Q AnyBye s a dir e one k.store)
       (doubt_mail (is_place_news (entry_news a dir e) && not sure) d.work dir e.child)
 
   pub said_version : (a : Store) (f : FileId) (v : VersionValue) (w : Work) → Said (idle a w)
       → Said (take_version_noted a f v w)
   said_version a f v w k =
-      said_on (idle a w) (take_version_noted a f v w) k (say_version Q s a f v k.store)
+      said_on (idle a w) (take_version_noted a f v w) k (say_version Q AnyBye s a f v k.store)
       (news_mail (is_new_version a f v) w f (key.Version v.head.stamp))
 
   pub said_link : (a : Store) (f : FileId) (p b : ℕ) (w : Work) → Said (idle a w)
       → Said (link_peer a f p b w)
   said_link a f p b w k =
-      said_on (idle a w) (link_peer a f p b w) k (say_link Q s a f p b k.store)
+      said_on (idle a w) (link_peer a f p b w) k (say_link Q AnyBye s a f p b k.store)
       (link_mail (is_new_link a f p b) w f p)
 
   -- one message more

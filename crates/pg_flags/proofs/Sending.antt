@@ -12,24 +12,26 @@ use Rattle.pg_entries.specs.declared.entry.Entry.{Entry}
 use Rattle.pg_intent.specs.declared.intent.Intent.{Intent}
 use Rattle.pg_intent.specs.declared.intent.Intent.TheVariants as intent
 use Rattle.pg_intent.specs.declared.key.IntentKey.{IntentKey}
+use Rattle.pg_msg.specs.declared.message.Ends.{Ends}
 use Rattle.pg_msg.specs.declared.message.Message.{Message}
 use Rattle.pg_msg.specs.declared.message.Message.TheVariants as message
-use Rattle.pg_names.specs.Names.{cell_at as entry_at, own_or_blank}
+use Rattle.pg_names.specs.declared.own.Own.{Own}
+use Rattle.pg_names.specs.Names.{cell_at as entry_at, own_at, own_or_blank}
 use Rattle.pg_register.specs.declared.flag.Flag.{Flag}
 use Rattle.pg_register.specs.Flag.{flag_of}
 use Rattle.pg_store.specs.declared.store.Store.{Store}
 use Rattle.pg_store.specs.Births.{birth_of}
 use Rattle.pg_store.specs.Cells.{cell_at, entry_cell, flag_cell, is_sure, version_cell}
 use Rattle.pg_cells.specs.Sending.{Wanted, cells_where}
-use Rattle.pg_repair.specs.Requests.{asks, asks_by, confirm_message}
+use Rattle.pg_repair.specs.Requests.{asks, asks_by, bye_message, confirm_message, leave_message}
 use Rattle.pg_run.proofs.Bags.{All-every}
 use Rattle.pg_run.proofs.Event.{AskHas, CellHas, asks_by_have, asks_have, cells_have}
-use Rattle.pg_births.specs.Flags.{SaysCell, SaysEntry, SaysIntent, SaysMessage, SaysStore}
+use Rattle.pg_births.specs.Flags.{AnyBye, SaysCell, SaysEntry, SaysIntent, SaysMessage, SaysStore}
 use Rattle.pg_births.proofs.Joined.{found_says}
 use Rattle.pg_births.proofs.StoreSays.{own_says}
 use Rattle.pg_flags.proofs.Says.{SaysSent}
 
-module _ (Q : FileId → Flag → Type 0) (s : ℕ) (b : Store) (k : SaysStore Q s b) where
+module _ (Q : FileId → Flag → Type 0) (s : ℕ) (b : Store) (k : SaysStore Q AnyBye s b) where
   -- ---- cells
 
   flag_says : (f : FileId) (c : Cell) (o : Option Flag) → ((g : Flag) → o ≡ Some g → Q f g)
@@ -61,7 +63,7 @@ module _ (Q : FileId → Flag → Type 0) (s : ℕ) (b : Store) (k : SaysStore Q
       (let same : cells.Place (own_or_blank b.names f).place ≡ c = cc in same) tt
   cell_says f (key.Flag n) c there =
       flag_says f c (flag_of (own_or_blank b.names f).flags n)
-      (λ g is. found_says (Q f) (own_or_blank b.names f).flags n g (own_says Q s b f k) is) there
+      (λ g is. found_says (Q f) (own_or_blank b.names f).flags n g (own_says Q AnyBye s b f k) is) there
   cell_says f (key.Entry child) c there =
       entry_says f c (entry_at b.names f child) (is_sure b f child)
       (λ e is. own_child child e (k.names.cells f child e is)) there
@@ -84,8 +86,15 @@ module _ (Q : FileId → Flag → Type 0) (s : ℕ) (b : Store) (k : SaysStore Q
   confirm_says dir m (Some e) says there =
       subst (SaysMessage Q) (let same : message.Confirm dir e ≡ m = cc in same) (says e refl)
 
-  ask_says : (i : Intent) → SaysIntent Q i → AskHas (SaysSent Q) b i
-  ask_says (intent.Bye file birth peer peer_birth) says m is some = absurd says
+  leave_says : (file : FileId) (birth : ℕ) (m : Message) (o : Option Own) → leave_message b file birth o ≡ Some m → SaysMessage Q m
+  leave_says file birth m None is = absurd (let z : ◌≡◌ {A = Option Message} None (Some m) = is in cc)
+  leave_says file birth m (Some own) is =
+      let x : Ends = record { file = file; sender = birth_of b file; receiver = birth } in
+      subst (SaysMessage Q) (let same : message.Leave x own.place.stamp ≡ m = cc in same) tt
+
+  ask_says : (i : Intent) → SaysIntent Q AnyBye i → AskHas (SaysSent Q) b i
+  ask_says (intent.Bye file birth peer peer_birth) says m is some =
+      subst (SaysMessage Q) (let same : bye_message file birth peer_birth ≡ m = cc in same) tt
   ask_says (intent.Seek file target) says m is some =
       subst (SaysMessage Q) (let same : message.Seek file (birth_of b file) ≡ m = cc in same) tt
   ask_says (intent.Fill file birth target) says m is some =
@@ -95,10 +104,10 @@ module _ (Q : FileId → Flag → Type 0) (s : ℕ) (b : Store) (k : SaysStore Q
   ask_says (intent.Confirm dir child target) says m is some =
       confirm_says dir m (entry_at b.names dir child)
       (λ e there. own_child child e (k.names.cells dir child e there)) is
-  ask_says (intent.Leave file peer peer_birth) says m is some = absurd says
+  ask_says (intent.Leave file peer peer_birth) says m is some = leave_says file peer_birth m (own_at b.names file) is
 
   asks_say : All (AskHas (SaysSent Q) b) b.intents
-  asks_say = All-weaker (SaysIntent Q) (AskHas (SaysSent Q) b) ask_says b.intents k.intents
+  asks_say = All-weaker (SaysIntent Q AnyBye) (AskHas (SaysSent Q) b) ask_says b.intents k.intents
 
   pub asks_all : All (SaysSent Q) (flat_map (asks b) b.intents)
   asks_all = asks_have (SaysSent Q) b b.intents asks_say

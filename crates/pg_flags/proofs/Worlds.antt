@@ -30,14 +30,16 @@ use Rattle.pg_store.specs.Together.{AreTogether, birth_at}
 use Rattle.pg_server.specs.declared.input.Input.{Input}
 use Rattle.pg_server.specs.declared.input.Input.TheVariants as input
 use Rattle.pg_server.specs.Local.{Effect, effect, first_effect}
+use Rattle.pg_run.specs.Births.{BirthsMoveInEvents}
+use Rattle.pg_run.specs.Going.{FlagsAreMadeWhereHeld}
 use Rattle.pg_run.specs.Grown.{EventsGrow}
 use Rattle.pg_run.specs.Journal.{mail}
 use Rattle.pg_run.specs.Known.{IsFlagOf}
 use Rattle.pg_run.specs.Run.{Taking, World, effect_step, idle_step, run, start, taking_in, world_after}
 use Rattle.pg_run.proofs.Event.{Comes, effect_is, end_of, store_is}
-use Rattle.pg_run.proofs.Frame.{Acts, HasCome, each_after, holds_in_runs}
+use Rattle.pg_run.proofs.Frame.{Acts, HasCome, acts_is, each_after, holds_in_runs}
 use Rattle.pg_run.proofs.Lists.{contained_among}
-use Rattle.pg_births.specs.Flags.{SaysIntent, SaysStore}
+use Rattle.pg_births.specs.Flags.{AnyBye, SaysIntent, SaysStore}
 use Rattle.pg_births.proofs.Joined.{join_all}
 use Rattle.pg_births.proofs.NamesSay.{says_begin}
 use Rattle.pg_contents.specs.Together.{HoldBoth}
@@ -46,16 +48,16 @@ use Rattle.pg_flags.proofs.Effects.{SaysPacket, end_fine, sent_fine}
 use Rattle.pg_flags.proofs.Fine.{IsFine}
 use Rattle.pg_flags.proofs.Kept.{GoesOn, flags_at, grows_on}
 use Rattle.pg_flags.proofs.Known.{all_sent_less, store_less}
-use Rattle.pg_flags.proofs.Own.{IsOwn}
+use Rattle.pg_flags.proofs.Own.{IsOwn, Stands}
 use Rattle.pg_flags.proofs.Says.{SaysSent}
 
 -- stores, mail: servers have and messages bring only flags that are known
--- each: and each is up to its server's own
+-- each: and each is up to its server's own, or of a birth that is past
 -- one: no two of one server and birth have one number
 pub record AreOwn (n : ℕ) (w : World) : Type 0 where
-  pub stores : (s : ℕ) → SaysStore (IsFlagOf n w) s (w.stores s)
+  pub stores : (s : ℕ) → SaysStore (IsFlagOf n w) AnyBye s (w.stores s)
   pub mail_is : All (SaysSent (IsFlagOf n w)) (mail w.journal)
-  pub each : (f : FileId) (g : Flag) → IsFlagOf n w f g → IsOwn g.server (w.stores g.server) f g
+  pub each : (f : FileId) (g : Flag) → IsFlagOf n w f g → Stands g.server (w.stores g.server) f g
   pub one : (f : FileId) (g h : Flag) → IsFlagOf n w f g → IsFlagOf n w f h → g.server ≡ h.server
       → g.birth ≡ h.birth → g.number ≡ h.number → g ≡ h
 
@@ -115,8 +117,8 @@ module _ (n : ℕ) where
         upto = inl refl;
       })
 
-  start_each : (f : FileId) (g : Flag) → IsFlagOf n (start n) f g → IsOwn g.server ((start n).stores g.server) f g
-  start_each f g (inl first) = first_own f g first.0 first.1
+  start_each : (f : FileId) (g : Flag) → IsFlagOf n (start n) f g → Stands g.server ((start n).stores g.server) f g
+  start_each f g (inl first) = inl (first_own f g first.0 first.1)
   start_each f g (inr raised) = absurd raised
 
   start_one : (f : FileId) (g h : Flag) → IsFlagOf n (start n) f g → IsFlagOf n (start n) f h
@@ -137,7 +139,7 @@ module _ (n : ℕ) where
         own = λ q b there. absurd (let z : ◌≡◌ {A = Option Own} None (Some b) = there in cc);
         cells = λ d g e there. absurd (let z : ◌≡◌ {A = Option Entry} None (Some e) = there in cc);
       });
-      intents = All-nil (SaysIntent (IsFlagOf n (start n)));
+      intents = All-nil (SaysIntent (IsFlagOf n (start n)) AnyBye);
     };
     mail_is = All-nil (SaysSent (IsFlagOf n (start n)));
     each = start_each;
@@ -169,7 +171,7 @@ module _ (n : ℕ) where
 
 -- ---- a server takes an input
 
-module _ (n : ℕ) (both : HoldBoth n) (grow : EventsGrow n) (whole : FirstEffectsAreWhole n)
+module _ (n : ℕ) (both : HoldBoth n) (grow : EventsGrow n) (moves : BirthsMoveInEvents n) (whole : FirstEffectsAreWhole n)
     (away : NextIdsAreAway n) where
   module _ (events : List Event) (event : Event) (t : Taking)
       (is : taking_in n (run n events) event ≡ Some t) (act : Acts n (run n events) t)
@@ -197,15 +199,17 @@ module _ (n : ℕ) (both : HoldBoth n) (grow : EventsGrow n) (whole : FirstEffec
         all_among (SaysSent Q) (mail W.journal) m k.mail_is (contained_among (mail W.journal) m came)
     came_by input.Restart came = tt
 
-    before : (f : FileId) (g : Flag) → Q f g → g.server ≡ S → IsOwn S A f g
+    before : (f : FileId) (g : Flag) → Q f g → g.server ≡ S → Stands S A f g
     before f g there same =
-        let P : ℕ → Type 0 = (λ j. IsOwn j (W.stores j) f g) in subst P same (k.each f g there)
+        let P : ℕ → Type 0 = (λ j. Stands j (W.stores j) f g) in subst P same (k.each f g there)
 
     together : AreTogether A
     together = (both events S act.least act.most).together
 
     on : GoesOn A (first_effect A t.asked).store
-    on = grows_on A (first_effect A t.asked).store (grow events event S t.asked is).0
+    on =
+        grows_on A (first_effect A t.asked).store (moves events event S t.asked is).0 together (both events S act.least act.most).births
+        (grow events event S t.asked is).0
 
     fine : IsFine Q S (end_of A t.asked)
     fine =
@@ -237,33 +241,40 @@ module _ (n : ℕ) (both : HoldBoth n) (grow : EventsGrow n) (whole : FirstEffec
     from_then f g (inl was) = old f g was
     from_then f g (inr made) = inr (inl (subst (Among (update.Flag f g)) (sym made_is) made))
 
-    store_then : SaysStore (IsFlagOf n V) S (effect A t.asked).store
+    store_then : SaysStore (IsFlagOf n V) AnyBye S (effect A t.asked).store
     store_then =
-        subst (SaysStore (IsFlagOf n V) S) (sym (store_is A t.asked))
+        subst (SaysStore (IsFlagOf n V) AnyBye S) (sym (store_is A t.asked))
         (store_less Then (IsFlagOf n V) from_then S (end_of A t.asked).store fine.store)
 
     -- of this server, and of another
     at_end : V.stores S ≡ (end_of A t.asked).store
     at_end = after_itself W.stores S (effect A t.asked).store ∙ store_is A t.asked
 
-    here : (f : FileId) (g : Flag) → Then f g → g.server ≡ S → IsOwn g.server (V.stores g.server) f g
+    here : (f : FileId) (g : Flag) → Then f g → g.server ≡ S → Stands g.server (V.stores g.server) f g
     here f g there same =
-        let P : ℕ → Type 0 = (λ j. IsOwn j (V.stores j) f g) in
-        let R : Store → Type 0 = (λ b. IsOwn S b f g) in
+        let P : ℕ → Type 0 = (λ j. Stands j (V.stores j) f g) in
+        let R : Store → Type 0 = (λ b. Stands S b f g) in
         subst P (sym same) (subst R (sym at_end) (fine.own f g there same))
 
     each_by : (f : FileId) (g : Flag) (u : Bool) → (g.server == S) ≡ u → Then f g
-        → IsOwn g.server (V.stores g.server) f g
+        → Stands g.server (V.stores g.server) f g
     each_by f g true same there = here f g there (eqb-true g.server S same)
     each_by f g false apart (inl was) =
-        subst (λ (b : Store). IsOwn g.server b f g)
+        subst (λ (b : Store). Stands g.server b f g)
         (sym (ap (λ u. cond u (effect A t.asked).store (W.stores g.server)) apart)) (k.each f g was)
     each_by f g false apart (inr made) =
-        absurd (let z : true ≡ false = sym (eq-eqb g.server S (fine.made f g made)) ∙ apart in cc)
+        absurd (let z : true ≡ false = sym (eq-eqb g.server S (fine.made f g made).0) ∙ apart in cc)
+
+    -- what is made is of the birth that is held then
+    held_then : (f : FileId) (g : Flag) → Among (update.Flag f g) (effect A t.asked).out.made
+        → (g.server ≡ S) × (birth_at (effect A t.asked).store f ≡ Some g.birth)
+    held_then f g made =
+        let there = fine.made f g (subst (Among (update.Flag f g)) made_is made) in
+        (there.0, ap (λ (b : Store). birth_at b f) (store_is A t.asked) ∙ there.1)
 
     acts_own : AreOwn n V
     acts_own = record {
-      stores = each_after (λ j b. SaysStore (IsFlagOf n V) j b) W.stores S (effect A t.asked).store
+      stores = each_after (λ j b. SaysStore (IsFlagOf n V) AnyBye j b) W.stores S (effect A t.asked).store
           (λ j. store_less Q (IsFlagOf n V) old j (W.stores j) (k.stores j)) store_then;
       mail_is = All-append (SaysSent (IsFlagOf n V)) (effect A t.asked).out.sent (mail W.journal)
           (all_sent_less Then (IsFlagOf n V) from_then (effect A t.asked).out.sent sent)
@@ -280,3 +291,10 @@ module _ (n : ℕ) (both : HoldBoth n) (grow : EventsGrow n) (whole : FirstEffec
         idle = idle_own n;
         acts = acts_own;
       }) events
+
+  -- FLAGS ARE MADE WHERE HELD
+  pub flags_made : FlagsAreMadeWhereHeld n
+  flags_made events event s asked takes f g there =
+      let t : Taking = record { server = s; asked = asked } in
+      held_then events event t takes (acts_is n (run n events) event t takes) (own_run events) f g
+      (contained_among (effect ((run n events).stores s) asked).out.made (update.Flag f g) there)

@@ -79,11 +79,11 @@ module _ {N M C : Type 0} (p : Protocol N M C) where
 
   answered_covers : (a b : N) (file : FileId) (x : Replica C) (peer birth : ℕ) (key : Key) (g : ℕ) → OverStays p a b → (q : Slot) (c : C)
       → AtFile (p.see a) (p.see b) file (Some x) (Some (with_answered x peer birth key g)) q.file → Covers p a q c → Covers p b q c
-  answered_covers a b file x peer birth key g over q c w (inr o) = inr (over q.file q.birth c o)
+  answered_covers a b file x peer birth key g over q c w (inr o) = inr (over.over q.file q.birth c o)
   answered_covers a b file x peer birth key g over q c (inl w) (inl h) =
-      let t = there_parts p.IsUpTo (p.see a) q c x w.1 h in
-      inl (record { replica = with_answered x peer birth key g; is = w.2; other = t.0; holds = t.1 })
-  answered_covers a b file x peer birth key g over q c (inr w) (inl h) = inl (there_same p.IsUpTo (p.see a) (p.see b) q c w h)
+      let t = there_parts p.IsUpTo (p.see a) q c x w.1 h.0 in
+      inl (record { replica = with_answered x peer birth key g; is = w.2; other = t.0; holds = t.1 }, over.taken q.file q.birth c h.1)
+  answered_covers a b file x peer birth key g over q c (inr w) (inl h) = inl (there_same p.IsUpTo (p.see a) (p.see b) q c w h.0, over.taken q.file q.birth c h.1)
 
   answered_owed : (a b : N) (file : FileId) (x : Replica C) (peer birth : ℕ) (key : Key) (g : ℕ) (q : Slot) (c : C) (j : ℕ)
       → AtFile (p.see a) (p.see b) file (Some x) (Some (with_answered x peer birth key g)) q.file → Has p b q c → tag p b q ≡ Some j → Has p a q c × (tag p a q ≡ Some j)

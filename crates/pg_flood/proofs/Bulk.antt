@@ -4,7 +4,7 @@ use Rattle.pg_base.specs.declared.id.FileId.{FileId}
 use Rattle.pg_edges.specs.declared.key.Key.{Key}
 use Rattle.pg_edges.specs.Edges.{is_listed, tag_at}
 use Rattle.pg_flood.specs.Server.{Replica, Slot, tag_on, HoldsAll}
-use Rattle.pg_flood.specs.Protocol.{Protocol, IsSound, tags_of, tag, Has, Covers}
+use Rattle.pg_flood.specs.Protocol.{Protocol, IsOrdered, tags_of, tag, Has, Covers}
 use Rattle.pg_flood.proofs.Draws.{IsFreshAt, IsAsBefore}
 use Rattle.pg_flood.proofs.Servers.{has_none, has_parts, there_parts}
 use Rattle.pg_flood.proofs.Steps.{IsSamePlace, HasSoundTags, OverStays, Steps}
@@ -35,15 +35,15 @@ module _ {N M C : Type 0} (p : Protocol N M C) where
   abbrev At : N → N → Slot → Option (Replica C) → Option (Replica C) → Type 0
   At a b q o n = ((p.see a).replicas q.file ≡ o) × ((p.see b).replicas q.file ≡ n) × GoesIf (tags_of p a) (tags_of p b) o n
 
-  bulk_covers : IsSound p → (a b : N) → OverStays p a b → (q : Slot) (c : C) (o n : Option (Replica C)) → At a b q o n → Covers p a q c → Covers p b q c
-  bulk_covers k a b over q c o n w (inr h) = inr (over q.file q.birth c h)
-  bulk_covers k a b over q c None n w (inl h) = absurd (let z : None ≡ Some h.replica = sym w.0 ∙ h.is in cc)
+  bulk_covers : IsOrdered p → (a b : N) → OverStays p a b → (q : Slot) (c : C) (o n : Option (Replica C)) → At a b q o n → Covers p a q c → Covers p b q c
+  bulk_covers k a b over q c o n w (inr h) = inr (over.over q.file q.birth c h)
+  bulk_covers k a b over q c None n w (inl h) = absurd (let t = h.0 in let z : None ≡ Some t.replica = sym w.0 ∙ t.is in cc)
   bulk_covers k a b over q c (Some x) None w (inl h) = absurd w.2
   bulk_covers k a b over q c (Some x) (Some y) w (inl h) =
-      let t = there_parts p.IsUpTo (p.see a) q c x w.0 h in
+      let t = there_parts p.IsUpTo (p.see a) q c x w.0 h.0 in
       let old = t.1 in
       let new = w.2.holds old.key old.cell old.is in
-      inl (record { replica = y; is = w.1; other = w.2.birth ∙ t.0; holds = record { key = new.key; cell = new.cell; is = new.is; upto = k.further c old.cell new.cell old.upto new.upto } })
+      inl (record { replica = y; is = w.1; other = w.2.birth ∙ t.0; holds = record { key = new.key; cell = new.cell; is = new.is; upto = k.further c old.cell new.cell old.upto new.upto } }, over.taken q.file q.birth c h.1)
 
   bulk_slots : (a b : N) (q : Slot) (c : C) (o n : Option (Replica C)) → At a b q o n → Has p b q c
       → ((g : ℕ) × (tag p b q ≡ Some g) × (tags_of p a ≤ g)) ⊎ (Has p a q c × (tag p b q ≡ tag p a q))
@@ -73,7 +73,7 @@ module _ {N M C : Type 0} (p : Protocol N M C) where
   bulk_below a b up k q g (inr new) = new
 
   -- ALL REPLICAS ARE CHANGED AT ONCE, and hold no less than before
-  pub bulk_steps : IsSound p → (a b : N) → AllGo a b → Steps p a b
+  pub bulk_steps : IsOrdered p → (a b : N) → AllGo a b → Steps p a b
   bulk_steps sound a b k =
       let at : (q : Slot) → At a b q ((p.see a).replicas q.file) ((p.see b).replicas q.file) = λ q. (refl, refl, k.files q.file) in
       record {

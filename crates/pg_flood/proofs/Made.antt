@@ -23,9 +23,9 @@ module _ {C : Type 0} where
 
 module _ {N M C : Type 0} (p : Protocol N M C) where
   made_covers : (a b : N) (file : FileId) (y : Replica C) → OverStays p a b → (q : Slot) (c : C) → AtFile (p.see a) (p.see b) file None (Some y) q.file → Covers p a q c → Covers p b q c
-  made_covers a b file y over q c w (inr o) = inr (over q.file q.birth c o)
-  made_covers a b file y over q c (inl w) (inl h) = absurd (let z : None ≡ Some h.replica = sym w.1 ∙ h.is in cc)
-  made_covers a b file y over q c (inr w) (inl h) = inl (there_same p.IsUpTo (p.see a) (p.see b) q c w h)
+  made_covers a b file y over q c w (inr o) = inr (over.over q.file q.birth c o)
+  made_covers a b file y over q c (inl w) (inl h) = absurd (let t = h.0 in let z : None ≡ Some t.replica = sym w.1 ∙ t.is in cc)
+  made_covers a b file y over q c (inr w) (inl h) = inl (there_same p.IsUpTo (p.see a) (p.see b) q c w h.0, over.taken q.file q.birth c h.1)
 
   made_slots : (a b : N) (file : FileId) (x y : Replica C) → x.edges ≡ [] → Draws (tags_of p a) x (tags_of p b) y → (q : Slot) (c : C) → AtFile (p.see a) (p.see b) file None (Some y) q.file → Has p b q c
       → ((g : ℕ) × (tag p b q ≡ Some g) × (tags_of p a ≤ g)) ⊎ (Has p a q c × (tag p b q ≡ tag p a q))

@@ -2,22 +2,22 @@
 use Rattle.std.proofs.Common.{ℕ, ◌≡◌, ◌<◌, ◌≤◌, Some, sym, ap, ◌∙◌, inl, inr, arith, ◌⊎◌}
 use Rattle.pg_base.specs.declared.id.FileId.{FileId}
 use Rattle.pg_flood.specs.Server.{Replica, Slot, slot, tag_on, HoldsAll}
-use Rattle.pg_flood.specs.Protocol.{Protocol, IsSound, tags_of, tag, Has, Covers}
+use Rattle.pg_flood.specs.Protocol.{Protocol, IsOrdered, tags_of, tag, Has, Covers}
 use Rattle.pg_flood.proofs.Servers.{OthersStay, AtFile, by_file, has_parts, there_parts, has_same, there_same}
 use Rattle.pg_flood.proofs.Steps.{IsSamePlace, HasSoundTags, fewer_tags, OverStays, Steps}
 use Rattle.pg_flood.proofs.Draws.{Draws, Draws-below}
 use Rattle.pg_flood.proofs.Single.{IsBelow, IsSingle}
 
 module _ {N M C : Type 0} (p : Protocol N M C) where
-  file_covers : IsSound p → (a b : N) (file : FileId) (x y : Replica C) → y.birth ≡ x.birth → HoldsAll p.IsUpTo x.cells y.cells → OverStays p a b → (q : Slot) (c : C)
+  file_covers : IsOrdered p → (a b : N) (file : FileId) (x y : Replica C) → y.birth ≡ x.birth → HoldsAll p.IsUpTo x.cells y.cells → OverStays p a b → (q : Slot) (c : C)
       → AtFile (p.see a) (p.see b) file (Some x) (Some y) q.file → Covers p a q c → Covers p b q c
-  file_covers k a b file x y same grows over q c w (inr o) = inr (over q.file q.birth c o)
+  file_covers k a b file x y same grows over q c w (inr o) = inr (over.over q.file q.birth c o)
   file_covers k a b file x y same grows over q c (inl w) (inl h) =
-      let t = there_parts p.IsUpTo (p.see a) q c x w.1 h in
+      let t = there_parts p.IsUpTo (p.see a) q c x w.1 h.0 in
       let old = t.1 in
       let new = grows old.key old.cell old.is in
-      inl (record { replica = y; is = w.2; other = same ∙ t.0; holds = record { key = new.key; cell = new.cell; is = new.is; upto = k.further c old.cell new.cell old.upto new.upto } })
-  file_covers k a b file x y same grows over q c (inr w) (inl h) = inl (there_same p.IsUpTo (p.see a) (p.see b) q c w h)
+      inl (record { replica = y; is = w.2; other = same ∙ t.0; holds = record { key = new.key; cell = new.cell; is = new.is; upto = k.further c old.cell new.cell old.upto new.upto } }, over.taken q.file q.birth c h.1)
+  file_covers k a b file x y same grows over q c (inr w) (inl h) = inl (there_same p.IsUpTo (p.see a) (p.see b) q c w h.0, over.taken q.file q.birth c h.1)
 
   file_slots : (a b : N) (file : FileId) (x y : Replica C) → Draws (tags_of p a) x (tags_of p b) y → (q : Slot) (c : C)
       → AtFile (p.see a) (p.see b) file (Some x) (Some y) q.file → Has p b q c
@@ -69,7 +69,7 @@ module _ {N M C : Type 0} (p : Protocol N M C) where
       omega arith
 
   -- one replica is changed, and holds no less than before
-  pub file_steps : IsSound p → (a b : N) (file : FileId) (x y : Replica C) → (p.see a).replicas file ≡ Some x → (p.see b).replicas file ≡ Some y
+  pub file_steps : IsOrdered p → (a b : N) (file : FileId) (x y : Replica C) → (p.see a).replicas file ≡ Some x → (p.see b).replicas file ≡ Some y
       → Draws (tags_of p a) x (tags_of p b) y → HoldsAll p.IsUpTo x.cells y.cells → OthersStay (p.see a) (p.see b) file → OverStays p a b → Steps p a b
   file_steps sound a b file x y old new d grows others over =
       let split = by_file (p.see a) (p.see b) file (Some x) (Some y) old new others in
@@ -90,7 +90,7 @@ module _ {N M C : Type 0} (p : Protocol N M C) where
   idle_steps a b same up over = record {
     moves = record {
       tags_up = up;
-      covers = λ q c h. elim h [ inl t ↦ inl (there_same p.IsUpTo (p.see a) (p.see b) q c (same q.file) t) | inr o ↦ inr (over q.file q.birth c o) ];
+      covers = λ q c h. elim h [ inl t ↦ inl (there_same p.IsUpTo (p.see a) (p.see b) q c (same q.file) t.0, over.taken q.file q.birth c t.1) | inr o ↦ inr (over.over q.file q.birth c o) ];
       slots = λ q c h. inr (has_same (p.see a) (p.see b) q c (same q.file) h, ap (λ o. tag_on o q) (same q.file));
     };
     tags = fewer_tags p a b up (λ q g h. sym (ap (λ o. tag_on o q) (same q.file)) ∙ h);

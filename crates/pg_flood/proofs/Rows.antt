@@ -29,10 +29,10 @@ abbrev server : Server ℕ
 server = record { tags = 1; replicas = λ f. Some replica }
 
 abbrev numbers : Protocol (Server ℕ) (Saying Slot ℕ) ℕ
-numbers = record { see = λ a. a; IsUpTo = λ a b. a ≤ b; IsOver = λ a f b c. ⊥; says = λ m. m; Noted = λ a x. ⊥ }
+numbers = record { see = λ a. a; IsUpTo = λ a b. a ≤ b; IsOver = λ a f b c. ⊥; Took = λ a f b c. Unit {0}; says = λ m. m; Noted = λ a x. ⊥ }
 
 sound : IsSound numbers
-sound = record { same = λ c. omega arith; further = λ a b c h k. omega arith; ends = λ a f b c x h. absurd h }
+sound = record { order = record { same = λ c. omega arith; further = λ a b c h k. omega arith }; ends = λ a f b c x h. absurd h }
 
 named : (b : ℕ) (u : Bool) → (1 == b) ≡ u → is_some (cond u (Some first.keys) None) ≡ true → 1 ≡ b
 named b true e h = eqb-true 1 b e
@@ -46,12 +46,15 @@ born_by b false false h = absurd (let z : false ≡ true = h in cc)
 covered : (q : Slot) (c : ℕ) → HasCell server q c → Covers numbers server q c
 covered q c h =
     let t = has_parts server q c replica refl h in
-    inl (record {
-      replica = replica;
-      is = refl;
-      other = born_by q.birth (1 == q.peer) (2 == q.peer) t.1;
-      holds = record { key = Place; cell = 7; is = refl; upto = (let z : Some 7 ≡ Some c = t.2 in let e : 7 ≡ c = cc in omega arith) };
-    })
+    inl (
+      record {
+        replica = replica;
+        is = refl;
+        other = born_by q.birth (1 == q.peer) (2 == q.peer) t.1;
+        holds = record { key = Place; cell = 7; is = refl; upto = (let z : Some 7 ≡ Some c = t.2 in let e : 7 ≡ c = cc in omega arith) };
+      },
+      tt,
+    )
 
 kept : KeepsEdges numbers (λ s. server) []
 kept = start_keeps numbers (λ s. server) (λ s q c h tag. covered q c h) (λ s x h. h)

@@ -37,9 +37,9 @@ module _ {N M C : Type 0} (p : Protocol N M C) where
       → May p s a b heard (CellFor s q g c)
   cell_may s a b heard q y c g sound is own cell stands = (refl, sound.below q g stands, λ r d h t. one_slot b q r y c d is own cell (sound.single r q g t stands) h)
 
-  -- the held replica covers what it holds
-  pub held_covers : (b : N) (q : Slot) (c : C) (y : Replica C) → (p.see b).replicas q.file ≡ Some y → y.birth ≡ q.birth → Holds p.IsUpTo y.cells c → Covers p b q c
-  held_covers b q c y is other holds = inl (record { replica = y; is = is; other = other; holds = holds })
+  -- the held replica covers what it holds and took
+  pub held_covers : (b : N) (q : Slot) (c : C) (y : Replica C) → (p.see b).replicas q.file ≡ Some y → y.birth ≡ q.birth → Holds p.IsUpTo y.cells c → p.Took b q.file q.birth c → Covers p b q c
+  held_covers b q c y is other holds took = inl (record { replica = y; is = is; other = other; holds = holds }, took)
 
   -- the answer to the cell that was heard in this event
   pub answer_may : (s : ℕ) (a b : N) (owner : ℕ) (q : Slot) (g : ℕ) (c : C) → q.peer ≡ s → Covers p b q c → May p s a b (CellFor owner q g c) (AckTo owner q g)

@@ -23,9 +23,10 @@ module _ {N M C : Type 0} (p : Protocol N M C) where
     single = λ q r g h i. k.single q r g (old q g h) (old r g i);
   }
 
-  -- births that are over stay over
-  abbrev pub OverStays : N → N → Type 0
-  OverStays a b = (file : FileId) (birth : ℕ) (c : C) → p.IsOver a file birth c → p.IsOver b file birth c
+  -- births that are over stay over, and what was taken stays taken
+  pub record OverStays (a b : N) : Type 0 where
+    pub over : (file : FileId) (birth : ℕ) (c : C) → p.IsOver a file birth c → p.IsOver b file birth c
+    pub taken : (file : FileId) (birth : ℕ) (c : C) → p.Took a file birth c → p.Took b file birth c
 
   -- the rule for one server, and what it may send
   abbrev pub Rule : ℕ → N → N → Saying Slot C → List M → Type 0

@@ -63,7 +63,17 @@ module _ {N M C : Type 0} (p : Protocol N M C) where
   across sound nodes bag k file s t x y one two there clean key c is =
       let q = slot file x.birth t y.birth key in
       elim (k.edges s q c (record { replica = x; is = one; own = refl; listed = there; cell = is }) (ap (λ o. tag_on o q) one ∙ clean key)) [
-        | inl h ↦ (there_parts p.IsUpTo (p.see (nodes t)) q c y two h).1
+        | inl h ↦ (there_parts p.IsUpTo (p.see (nodes t)) q c y two h.0).1
+        | inr over ↦ absurd (sound.ends (nodes t) file y.birth c y over two refl)
+      ]
+
+  -- and took what its cells tell
+  pub across_took : IsSound p → (nodes : ℕ → N) (bag : List M) → KeepsEdges p nodes bag → (file : FileId) (s t : ℕ) (x y : Replica C) → (p.see (nodes s)).replicas file ≡ Some x → (p.see (nodes t)).replicas file ≡ Some y
+      → is_listed x.edges t y.birth ≡ true → ((key : Key) → tag_at x.edges t y.birth key ≡ None) → (key : Key) (c : C) → x.cells key ≡ Some c → p.Took (nodes t) file y.birth c
+  across_took sound nodes bag k file s t x y one two there clean key c is =
+      let q = slot file x.birth t y.birth key in
+      elim (k.edges s q c (record { replica = x; is = one; own = refl; listed = there; cell = is }) (ap (λ o. tag_on o q) one ∙ clean key)) [
+        | inl h ↦ h.1
         | inr over ↦ absurd (sound.ends (nodes t) file y.birth c y over two refl)
       ]
 
@@ -75,8 +85,8 @@ module _ {N M C : Type 0} (p : Protocol N M C) where
 
   Agree-trans : IsSound p → (x y z : Replica C) → Agree p x y → Agree p y z → Agree p x z
   Agree-trans sound x y z one two = (
-    HoldsAll-trans p.IsUpTo sound.further x.cells y.cells z.cells one.0 two.0,
-    HoldsAll-trans p.IsUpTo sound.further z.cells y.cells x.cells two.1 one.1,
+    HoldsAll-trans p.IsUpTo sound.order.further x.cells y.cells z.cells one.0 two.0,
+    HoldsAll-trans p.IsUpTo sound.order.further z.cells y.cells x.cells two.1 one.1,
   )
 
   pub connected_agree : ConnectedAgree p

@@ -1,19 +1,13 @@
 -- A removal is unknown before its maker makes it; from then on the gate stands.
-use Rattle.std.proofs.Common.{[], ℕ, ◌≡◌, ◌<◌, ◌≤◌, ◌++◌, Bool, true, false, cond, List, ◌∷◌, filter, Contains, Option, None, Some, All, refl, sym, ap, subst, ◌∙◌, inl, inr, arith}
-use Rattle.std.specs.Ordering.{is_lt}
-use Rattle.std.specs.Map.{values_of}
-use Rattle.pg_promises.proofs.Choices.{chosen}
-use Rattle.std.specs.BTreeMap.{is_at}
+use Rattle.std.proofs.Common.{[], ℕ, ◌≡◌, ◌<◌, ◌≤◌, ◌++◌, Bool, true, false, List, ◌∷◌, get_or, Contains, Option, None, Some, All, refl, sym, ap, subst, ◌∙◌, inl, inr, arith}
 use Rattle.std.proofs.lemmas.Bool.{false≢true}
 use Rattle.std.proofs.lemmas.List.Elements.{All-append, All-contains, All-nil}
-use Rattle.std.proofs.lemmas.Option.{none-some, same_Some}
 use Rattle.pg_base.specs.declared.id.FileId.{FileId}
 use Rattle.pg_base.specs.declared.stamp.Stamp.{Stamp}
-use Rattle.pg_base.specs.Id.{file_cmp, is_same_file}
+use Rattle.pg_base.specs.Id.{is_same_file}
 use Rattle.pg_base.proofs.Orders.{is_same_file-true}
 use Rattle.pg_entries.specs.declared.entry.Entry.{Entry}
-use Rattle.pg_entries.specs.Entry.{entry_of, is_listed}
-use Rattle.pg_entries.specs.Shown.{children_of, insert_row, listing_of, row_cmp, row_of, rows_in_order, rows_of}
+use Rattle.pg_entries.specs.Entry.{is_listed}
 use Rattle.pg_call.specs.declared.call.Call.{Call}
 use Rattle.pg_event.specs.declared.event.Event.{Event}
 use Rattle.pg_event.specs.declared.entry.Entry.{Entry as Line}
@@ -23,73 +17,36 @@ use Rattle.pg_msg.specs.declared.message.Sent.{Sent}
 use Rattle.pg_msg.specs.declared.update.Update.{Update}
 use Rattle.pg_msg.specs.declared.update.Update.TheVariants as update
 use Rattle.pg_names.specs.declared.own.Own.{Own}
-use Rattle.pg_names.specs.Names.{HeldValue, NamesValue, cell_at, entry_in, is_dir, known, new_names, or_blank, own_at, own_of}
+use Rattle.pg_names.specs.Names.{HeldValue, NamesValue, cell_at, is_dir, known, new_names, or_blank, own_at, own_of}
 use Rattle.pg_names.proofs.Holding.{begun_other, begun_same}
-use Rattle.pg_path.specs.declared.row.Row.{Row}
 use Rattle.pg_register.specs.declared.place.Place.{Place}
 use Rattle.pg_register.specs.Place.{blank_place, root}
 use Rattle.pg_house.specs.Facts.{IsLast}
 use Rattle.pg_house.proofs.Lasting.{drawn_late}
 use Rattle.pg_store.specs.declared.store.Store.{Store}
 use Rattle.pg_store.specs.Start.{first_names, root_own}
-use Rattle.pg_calls.specs.Checks.{first_child, first_row}
 use Rattle.pg_calls.specs.Making.{drawn}
 use Rattle.pg_server.specs.declared.input.Input.{Input}
 use Rattle.pg_server.specs.declared.input.Input.TheVariants as input
-use Rattle.pg_server.specs.Local.{effect}
+use Rattle.pg_server.specs.Local.{effect, is_heard}
 use Rattle.pg_promises.proofs.Growth.{entry_known_itself}
 use Rattle.pg_run.specs.Journal.{mail}
 use Rattle.pg_run.specs.Laws.{TakesIn}
-use Rattle.pg_run.specs.Run.{World, effect_step, next, run, run_from, start, world_after}
-use Rattle.pg_run.proofs.QuietAnswers.{map_empty}
-use Rattle.pg_gate.specs.Gate.{Brings, EdgesAreKept, GateStands, IsGated, IsUnknown, IsUnknownAtFirst, KnowsChildren, RemovedAreEmpty, Removes, place_at}
+use Rattle.pg_run.specs.Run.{Step, World, effect_step, idle_step, next, run, run_from, start, world_after}
+use Rattle.pg_run.specs.Views.{removed_by}
+use Rattle.pg_run.proofs.Lists.{contained_among}
+use Rattle.pg_gate.specs.Gate.{Brings, EdgesAreKept, GateStands, IsDated, IsGated, IsStillThere, IsUnknown, IsUnknownAtFirst, KnowsChildren, KnowsOrOver, RemovedAreEmpty, Removes, place_at}
 use Rattle.pg_run.proofs.Frame.{HasCome}
 use Rattle.pg_filled.proofs.Acting.{next_by, runs_keep}
 use Rattle.pg_filled.proofs.HousePlaces.{drawn_some}
-use Rattle.pg_filled.proofs.Replies.{IsGoing}
+use Rattle.pg_filled.proofs.Called.{IsGoing}
 use Rattle.pg_gate.proofs.Deaths.{IsCaused}
-use Rattle.pg_gate.proofs.Gated.{Later, Stands, all_sent, caused, gated_from, grown, knows_on, later_knows, sent_known}
+use Rattle.pg_gate.proofs.Fronts.{heard_view, still_on, still_view, within_on}
+use Rattle.pg_gate.proofs.Gated.{Later, Stands, all_sent, caused, dated_before, dated_behind, gated_from, lasts, sent_known, still_sent, still_then, then_knows}
+use Rattle.pg_gate.proofs.Lasting.{still_before}
 use Rattle.pg_gate.proofs.Letters.{mindful_run, stands_run}
 use Rattle.pg_gate.proofs.MadeDeaths.{GoesIn, IsOfGoing, effect_made}
-use Rattle.pg_gate.proofs.Lasting.{last_up}
-
--- ---- a directory that shows no child lists none
-
-no_row : (rows : List Row) → first_row rows ≡ None → rows ≡ []
-no_row [] h = refl
-no_row (row ∷ rows) h = absurd (none-some row.child (sym h))
-
-cons_empty : {A : Type 0} (x : A) (xs : List A) → x ∷ xs ≡ [] → ⊥
-cons_empty x xs h = cc
-
-some_row : (rows : List Row) (row : Row) → insert_row rows row ≡ [] → ⊥
-some_row [] row h = cons_empty row [] h
-some_row (first ∷ rows) row h =
-    chosen (λ (rs : List Row). rs ≡ [] → ⊥) (is_lt (row_cmp first row)) (first ∷ insert_row rows row) (row ∷ first ∷ rows) (cons_empty first (insert_row rows row)) (cons_empty row (first ∷ rows)) h
-
-none_in_order : (rows : List Row) → rows_in_order rows ≡ [] → rows ≡ []
-none_in_order [] h = refl
-none_in_order (row ∷ rows) h = absurd (some_row (rows_in_order rows) row h)
-
-none_kept : (p : Entry → Bool) (x : Entry) (xs : List Entry) (t : Bool) → p x ≡ t → cond t (x ∷ filter p xs) (filter p xs) ≡ [] → (p x ≡ false) × (filter p xs ≡ [])
-none_kept p x xs true e h = absurd (cons_empty x (filter p xs) h)
-none_kept p x xs false e h = (e, h)
-
-found_not : (p : Entry → Bool) (x e : Entry) (t : Bool) (o : Option Entry) → cond t (Some x) o ≡ Some e → p x ≡ false → (o ≡ Some e → p e ≡ false) → p e ≡ false
-found_not p x e true o h first rest = ap p (sym (same_Some x e h)) ∙ first
-found_not p x e false o h first rest = rest h
-
-none_listed : (p : Entry → Bool) (es : List (FileId × Entry)) (child : FileId) (e : Entry) → filter p (values_of es) ≡ [] → entry_of es child ≡ Some e → p e ≡ false
-none_listed p [] child e none h = absurd (none-some e h)
-none_listed p (x ∷ es) child e none h =
-    let k = none_kept p x.1 (values_of es) (p x.1) refl none in
-    found_not p x.1 e (is_at (file_cmp child) x.0) (entry_of es child) h k.0 (λ g. none_listed p es child e k.1 g)
-
-empty_by : (dir : FileId) (o : Option HeldValue) → first_child dir o ≡ None → (child : FileId) (e : Entry) → entry_in child o ≡ Some e → is_listed dir e ≡ false
-empty_by dir None none child e h = absurd (none-some e h)
-empty_by dir (Some x) none child e h =
-    let rows = none_in_order (rows_of x.entries dir) (no_row (listing_of x.entries dir) none) in
-    none_listed (is_listed dir) x.entries child e (map_empty (row_of x.entries dir) (children_of x.entries dir) rows) h
+use Rattle.pg_gate.proofs.Empty.{empty_by}
 
 -- ---- places are not later than the greatest time
 
@@ -127,13 +84,13 @@ module _ (n : ℕ) (dir : FileId) (is : is_dir dir ≡ true) (removal : Place) (
   abbrev Maker : ℕ
   Maker = removal.stamp.server
 
-  abbrev NotBrought : Sent → Type 0
-  NotBrought m = ¬ (Brings dir removal m.packet.message)
+  abbrev NotBrought : World → Sent → Type 0
+  NotBrought v m = Brings dir removal m.packet.message → IsDated v m × ¬ (IsStillThere (removed_by v m.packet.view) removal)
 
   pub unknown_start : IsUnknownAtFirst n dir removal (start n)
   unknown_start early = record {
-    there = λ s least most at. start_by n s dir removal (is_same_file dir root) refl dead late at;
-    brought = All-nil NotBrought;
+    there = λ s least most there at. start_by n s dir removal (is_same_file dir root) refl dead late at;
+    brought = All-nil (NotBrought (start n));
   }
 
   module _ (w : World) (k : Stands n w) (u : IsUnknownAtFirst n dir removal w) where
@@ -144,56 +101,79 @@ module _ (n : ℕ) (dir : FileId) (is : is_dir dir ≡ true) (removal : Place) (
       abbrev Now : ℕ → Store
       Now = Later n dir is removal dead late w k event s asked least most takes sent
 
-      lasts : (t : ℕ) → (w.stores t).names.last ≤ (Now t).names.last
-      lasts t = elim (here w.stores s End t) [
-        | inl e ↦ (let P : Store → Type 0 = λ x. (w.stores t).names.last ≤ x.names.last in
-            let Q : ℕ → Type 0 = λ i. (w.stores i).names.last ≤ End.names.last in
-            subst P (sym e.1) (subst Q (sym e.0) (last_up (w.stores s) asked)))
-        | inr e ↦ (let P : Store → Type 0 = λ x. (w.stores t).names.last ≤ x.names.last in subst P (sym e.1) (omega arith))
-      ]
-
       at_itself : Now s ≡ End
       at_itself = after_itself w.stores s End
 
-      not_sent : (packet : Packet) → All NotBrought (mail w.journal) → HasCome w s (input.Arrival packet) → Brings dir removal packet.message → ⊥
-      not_sent packet none way b = All-contains NotBrought (mail w.journal) (record { to = s; packet = packet }) none way b
+      abbrev Step_by : Step
+      Step_by = effect_step w event s asked
+
+      abbrev Next : World
+      Next = world_after w Step_by
+
+      not_sent : (packet : Packet) → is_heard (w.stores s) packet ≡ true → IsStillThere (w.stores s).names.removed removal → All (NotBrought w) (mail w.journal)
+          → HasCome w s (input.Arrival packet) → Brings dir removal packet.message → ⊥
+      not_sent packet heard there none way b =
+          (All-contains (NotBrought w) (mail w.journal) (record { to = s; packet = packet }) none way b).1
+          (still_view w s (w.stores s) packet.view removal (k.on.views s least most) (heard_view (w.stores s) packet heard) there)
 
       -- it does not come about, but at its maker
-      not_caused : (x : Input) → HasCome w s x → IsUnknown n dir removal w → (Maker ≡ s → ⊥) → IsCaused (w.stores s) x dir removal → ⊥
-      not_caused (input.Call moment c) way v other (inl same) = v.there s least most (sym same)
-      not_caused (input.Call moment c) way v other (inr server) = other (server ∙ (k.on.whole s).server)
-      not_caused (input.Tick moment word) way v other same = v.there s least most (sym same)
-      not_caused (input.Arrival packet) way v other (inl same) = v.there s least most (sym same)
-      not_caused (input.Arrival packet) way v other (inr b) = not_sent packet v.brought way b
-      not_caused input.Restart way v other same = v.there s least most (sym same)
+      not_caused : (x : Input) → HasCome w s x → IsUnknown n dir removal w → IsStillThere (w.stores s).names.removed removal → (Maker ≡ s → ⊥) → IsCaused (w.stores s) x dir removal → ⊥
+      not_caused (input.Call moment c) way v there other (inl same) = v.there s least most there (sym same)
+      not_caused (input.Call moment c) way v there other (inr now) = other (ap (λ (x : Stamp). x.server) now ∙ (k.on.whole s).server)
+      not_caused (input.Tick moment word) way v there other same = v.there s least most there (sym same)
+      not_caused (input.Arrival packet) way v there other (inl same) = v.there s least most there (sym same)
+      not_caused (input.Arrival packet) way v there other (inr b) = not_sent packet b.0 there v.brought way b.1
+      not_caused input.Restart way v there other same = v.there s least most there (sym same)
 
       unknown_acted : IsUnknownAtFirst n dir removal (world_after w (effect_step w event s asked))
       unknown_acted early =
-          let before : (w.stores Maker).names.last < removal.stamp.time = up_to (w.stores Maker).names.last (Now Maker).names.last removal.stamp.time (lasts Maker) early in
+          let before : (w.stores Maker).names.last < removal.stamp.time = up_to (w.stores Maker).names.last (Now Maker).names.last removal.stamp.time (lasts n dir is removal dead late w k event s asked least most takes sent Maker) early in
           let v = u before in
-          let not_then : place_at End.names dir ≡ removal → ⊥ =
-          λ at. not_caused asked sent v
+          let not_then : IsStillThere End.names.removed removal → place_at End.names dir ≡ removal → ⊥ =
+          λ there at. not_caused asked sent v (still_before (w.stores s) asked removal there)
           (λ same.
           let last : IsLast End.names = subst (λ (x : Store). IsLast x.names) at_itself (next.on.whole s).names.last in
           let time : removal.stamp.time ≤ End.names.last = subst (λ (p : Place). p.stamp.time ≤ End.names.last) at (place_last End.names dir last) in
           let here_now : Now Maker ≡ End = ap Now same ∙ at_itself in
           not_both removal.stamp.time End.names.last (Now Maker).names.last time (subst (λ (x : Store). End.names.last ≤ x.names.last) (sym here_now) (omega arith)) early)
-          (caused n dir is removal dead late w k event s asked least most takes sent at) in
+          (caused n dir is removal dead late w k event s asked least most takes sent there at) in
           record {
-            there = λ t l m at. elim (here w.stores s End t) [
-              | inl e ↦ not_then (ap (λ (x : Store). place_at x.names dir) (sym e.1) ∙ at)
-              | inr e ↦ v.there t l m (ap (λ (x : Store). place_at x.names dir) (sym e.1) ∙ at)
+            there = λ t l m there at. elim (here w.stores s End t) [
+              | inl e ↦ not_then (subst (λ (x : Store). IsStillThere x.names.removed removal) e.1 there)
+                  (ap (λ (x : Store). place_at x.names dir) (sym e.1) ∙ at)
+              | inr e ↦ v.there t l m (subst (λ (x : Store). IsStillThere x.names.removed removal) e.1 there)
+                  (ap (λ (x : Store). place_at x.names dir) (sym e.1) ∙ at)
             ];
-            brought = All-append NotBrought (effect (w.stores s) asked).out.sent (mail w.journal)
-                (all_sent n dir is removal dead late w k event s asked least most takes sent next.on NotBrought (λ m none. none) (λ m g b. v.there s least most (g b).place)
-                (λ m g b. not_then (ap (λ (x : Store). place_at x.names dir) (sym at_itself) ∙ (g b).place)))
-                v.brought;
+            brought = All-append (NotBrought Next) (effect (w.stores s) asked).out.sent (mail w.journal)
+                (all_sent n dir is removal dead late w k event s asked least most takes sent next.on (NotBrought Next) (λ m none b. absurd (none b))
+                (λ m g b. let h = g b in (
+                  dated_before n dir is removal dead late w k event s asked least most takes sent next.on m h.view,
+                  λ there. v.there s least most (still_sent n dir is removal dead late w k event s asked least most takes sent next.on m h.view there) h.place,
+                ))
+                (λ m g b. let h = g b in (
+                  dated_behind n dir is removal dead late w k event s asked least most takes sent next.on m h.view,
+                  λ there. not_then (still_then n dir is removal dead late w k event s asked least most takes sent next.on m h.view there)
+                      (ap (λ (x : Store). place_at x.names dir) (sym at_itself) ∙ h.place),
+                )))
+                (λ i d lt b.
+                let m = get_or (mail w.journal) i d in
+                let old = v.brought i d lt b in
+                (within_on w Step_by m.packet.view old.0, λ there. old.1 (still_on w Step_by m.packet.view removal old.0 there)));
           }
 
     pub unknown_next : (e : Event) → Stands n (world_after w (next n w e)) → IsUnknownAtFirst n dir removal (world_after w (next n w e))
     unknown_next e then =
         next_by n w (λ (v : World). Stands n v → IsUnknownAtFirst n dir removal v) (record {
-          still = λ event cause after early. (let v = u early in record { there = v.there; brought = v.brought });
+          still = λ event cause after early.
+              (let v = u early in
+              let step = idle_step w event cause in
+              record {
+                there = v.there;
+                brought = λ i d lt b.
+                    (let m = get_or (mail w.journal) i d in
+                    let old = v.brought i d lt b in
+                    (within_on w step m.packet.view old.0, λ there. old.1 (still_on w step m.packet.view removal old.0 there)));
+              });
           acted = λ event s asked least most takes sent after. unknown_acted event s asked least most takes sent after;
         }) e then
 
@@ -222,8 +202,10 @@ module _ (n : ℕ) (dir : FileId) (is : is_dir dir ≡ true) (removal : Place) (
     itself t same = subst (λ (i : ℕ). KnowsChildren dir Known (w.stores i).names) same (λ child. entry_known_itself (cell_at Known dir child))
 
     goes_by : (event : Event) (s moment : ℕ) (c : Call) → 1 ≤ s → s ≤ n → TakesIn n w event s (input.Call moment c) → IsGoing (w.stores s) moment dir removal
-        → Stands n (world_after w (effect_step w event s (input.Call moment c))) → Begins (world_after w (effect_step w event s (input.Call moment c)))
-    goes_by event s moment c least most takes goes next =
+        → Stands n (world_after w (effect_step w event s (input.Call moment c)))
+        → Contains (effect (w.stores s) (input.Call moment c)).out.made (update.Place dir removal)
+        → Begins (world_after w (effect_step w event s (input.Call moment c)))
+    goes_by event s moment c least most takes goes next made =
         let asked = input.Call moment c in
         let a = w.stores s in
         let end = (effect a asked).store in
@@ -231,20 +213,28 @@ module _ (n : ℕ) (dir : FileId) (is : is_dir dir ≡ true) (removal : Place) (
         let same : Maker ≡ s = ap (λ (x : Stamp). x.server) goes.now ∙ (k.on.whole s).server in
         let later : a.names.last < removal.stamp.time = subst (λ (x : Stamp). a.names.last < x.time) (sym goes.now) (drawn_late moment a.names.last (drawn a moment).time refl) in
         let v = u (subst (λ (i : ℕ). (w.stores i).names.last < removal.stamp.time) (sym same) later) in
-        let now_known : KnowsChildren dir Known end.names = knows_on dir Known a.names end.names (itself s same) (grown n dir is removal dead late w k event s asked least most takes tt) in
-        let P : Sent → Type 0 = λ m. Brings dir removal m.packet.message → 1 ≤ m.to → m.to ≤ n → KnowsChildren dir Known (now m.to).names in
+        let now_known : place_at end.names dir ≡ removal → KnowsChildren dir Known end.names =
+        then_knows n dir is removal dead late w k event s asked least most takes tt Known (itself s same) in
+        let step = effect_step w event s asked in
+        let P : Sent → Type 0 = λ m. (b : Brings dir removal m.packet.message) → IsDated (world_after w step) m
+        × (IsStillThere (removed_by (world_after w step) m.packet.view) removal → 1 ≤ m.to → m.to ≤ n → KnowsOrOver dir Known (now m.to) b.ends.receiver) in
         record {
           least = subst (λ (i : ℕ). 1 ≤ i) (sym same) least;
           most = subst (λ (i : ℕ). i ≤ n) (sym same) most;
           gated = record {
-            own = λ l m. later_knows n dir is removal dead late w k event s asked least most takes tt Known Maker (itself Maker refl);
-            there = λ t l m at. elim (here w.stores s end t) [
-              | inl e ↦ subst (λ (x : Store). KnowsChildren dir Known x.names) (sym e.1) now_known
-              | inr e ↦ absurd (v.there t l m (ap (λ (x : Store). place_at x.names dir) (sym e.1) ∙ at))
+            passed = next.on.made dir removal (inl (contained_among (effect a asked).out.made (update.Place dir removal) made));
+            there = λ t l m there at. elim (here w.stores s end t) [
+              | inl e ↦ subst (λ (x : Store). KnowsChildren dir Known x.names) (sym e.1)
+                  (now_known (ap (λ (x : Store). place_at x.names dir) (sym e.1) ∙ at))
+              | inr e ↦ absurd (v.there t l m (subst (λ (x : Store). IsStillThere x.names.removed removal) e.1 there)
+                  (ap (λ (x : Store). place_at x.names dir) (sym e.1) ∙ at))
             ];
             brought = All-append P (effect a asked).out.sent (mail w.journal)
-                (sent_known n dir is removal dead late w k event s asked least most takes tt next.on Known (λ at. itself s same) (λ at. now_known))
-                (λ i d lt b l m. absurd (v.brought i d lt b));
+                (sent_known n dir is removal dead late w k event s asked least most takes tt next.on Known (λ there at. itself s same) (λ there at. now_known at))
+                (λ i d lt b.
+                let m = get_or (mail w.journal) i d in
+                let old = v.brought i d lt b in
+                (within_on w step m.packet.view old.0, λ there l q. absurd (old.1 (still_on w step m.packet.view removal old.0 there))));
           };
           empty = λ child e at.
               (let here_at : cell_at a.names dir child ≡ Some e = ap (λ (i : ℕ). cell_at (w.stores i).names dir child) (sym same) ∙ at in
@@ -252,11 +242,12 @@ module _ (n : ℕ) (dir : FileId) (is : is_dir dir ≡ true) (removal : Place) (
         }
 
     begins_by : (event : Event) (s : ℕ) (asked : Input) → 1 ≤ s → s ≤ n → TakesIn n w event s asked → GoesIn (w.stores s) asked dir removal
-        → Stands n (world_after w (effect_step w event s asked)) → Begins (world_after w (effect_step w event s asked))
-    begins_by event s (input.Call moment c) least most takes goes next = goes_by event s moment c least most takes goes next
-    begins_by event s (input.Tick moment word) least most takes goes next = absurd goes
-    begins_by event s (input.Arrival packet) least most takes goes next = absurd goes
-    begins_by event s input.Restart least most takes goes next = absurd goes
+        → Stands n (world_after w (effect_step w event s asked)) → Contains (effect (w.stores s) asked).out.made (update.Place dir removal)
+        → Begins (world_after w (effect_step w event s asked))
+    begins_by event s (input.Call moment c) least most takes goes next made = goes_by event s moment c least most takes goes next made
+    begins_by event s (input.Tick moment word) least most takes goes next made = absurd goes
+    begins_by event s (input.Arrival packet) least most takes goes next made = absurd goes
+    begins_by event s input.Restart least most takes goes next made = absurd goes
 
     pub begins_next : (e : Event) → BeginsIf (world_after w (next n w e))
     begins_next e =
@@ -264,7 +255,7 @@ module _ (n : ℕ) (dir : FileId) (is : is_dir dir ≡ true) (removal : Place) (
           still = λ event cause next made. absurd (none_made made);
           acted = λ event s asked least most takes sent next made.
               begins_by event s asked least most takes
-              (All-contains (IsOfGoing (w.stores s) asked) (effect (w.stores s) asked).out.made (update.Place dir removal) (effect_made (w.stores s) asked) made dir removal refl dead) next;
+              (All-contains (IsOfGoing (w.stores s) asked) (effect (w.stores s) asked).out.made (update.Place dir removal) (effect_made (w.stores s) asked) made dir removal refl dead) next made;
         }) e
 
 run_further : (n : ℕ) (w : World) (xs ys : List Event) → run_from n w (xs ++ ys) ≡ run_from n (run_from n w xs) ys
@@ -321,7 +312,8 @@ module _ (n : ℕ) (edges : EdgesAreKept n) (before : List Event) (removing : Ev
 
 -- THE GATE STANDS
 pub gate_stands : (n : ℕ) → EdgesAreKept n → GateStands n
-gate_stands n edges before removing between dir removal r s least most at = (gated_behind n edges before removing dir removal r between).there s least most at
+gate_stands n edges before removing between dir removal r s least most there at =
+    (gated_behind n edges before removing dir removal r between).there s least most there at
 
 -- AND THE REMOVER LISTED NOTHING
 pub removed_are_empty : (n : ℕ) → EdgesAreKept n → RemovedAreEmpty n

@@ -1,8 +1,7 @@
 -- Which event gives a directory a dead place: a message that brings it, or a call at its maker.
-use Rattle.std.proofs.Common.{ℕ, ◌≡◌, ◌≤◌, not, Bool, true, false, [], Option, None, Some, refl, sym, ap, subst, ◌∙◌, inl, inr, ◌⊎◌, arith}
+use Rattle.std.proofs.Common.{ℕ, ◌≡◌, ◌≤◌, not, Bool, true, false, cond, List, [], ◌∷◌, ◌++◌, Option, None, Some, refl, sym, ap, subst, ◌∙◌, inl, inr, ◌⊎◌, arith}
 use Rattle.std.proofs.lemmas.Bool.{and_parts, false≢true}
 use Rattle.pg_base.specs.declared.id.FileId.{FileId}
-use Rattle.pg_base.specs.declared.stamp.Stamp.{Stamp}
 use Rattle.pg_base.specs.Id.{is_same_file}
 use Rattle.pg_base.specs.Stamp.{is_before}
 use Rattle.pg_base.proofs.Orders.{is_same_file-true}
@@ -17,7 +16,8 @@ use Rattle.pg_msg.specs.declared.update.Update.{Update}
 use Rattle.pg_msg.specs.declared.work.Work.{Work}
 use Rattle.pg_msg.specs.Work.{new_work}
 use Rattle.pg_names.specs.declared.own.Own.{Own}
-use Rattle.pg_names.specs.Names.{HeldValue, NamesValue, begin, blank_own, filled, is_dir, join_flag, join_place, known, or_blank, own_at, own_of, with_flag, with_joined, with_place}
+use Rattle.pg_names.specs.Names.{HeldValue, NamesValue, begin, blank_own, filled, is_dir, join_flag, join_place, known, let_go, or_blank, own_at, own_of, with_flag, with_joined, with_place}
+use Rattle.pg_names.proofs.Gone.{gone_known}
 use Rattle.pg_names.proofs.Holding.{begun_other, begun_same, fill_own}
 use Rattle.pg_names.proofs.Lookups.{flag_other, flag_same, joined_own, known_absent, own_with_flag, own_with_place, place_other, place_same, update_frame}
 use Rattle.pg_house.specs.House.{house}
@@ -25,27 +25,34 @@ use Rattle.pg_house.specs.Passing.{is_held_back, own_taken}
 use Rattle.pg_house.specs.Work.{state_of}
 use Rattle.pg_house.proofs.Truths.{both_true, not_false}
 use Rattle.pg_store.specs.declared.store.Store.{Store}
-use Rattle.pg_store.specs.Births.{draw_birth, with_birth}
+use Rattle.pg_store.specs.Births.{draw_birth, has_birth, with_birth}
 use Rattle.pg_store.specs.Store.{take_place}
 use Rattle.pg_cells.specs.Making.{own_next}
 use Rattle.pg_call.specs.declared.call.Call.{Call}
+use Rattle.pg_calls.specs.Making.{drawn}
 use Rattle.pg_calls.specs.Naming.{begun, next_id, place_in, with_id}
 use Rattle.pg_server.specs.declared.input.Input.{Input}
 use Rattle.pg_server.specs.declared.input.Input.TheVariants as input
-use Rattle.pg_server.specs.Local.{effect, first_effect}
+use Rattle.pg_server.specs.Local.{effect, first_effect, is_heard}
 use Rattle.pg_promises.proofs.Choices.{chosen}
 use Rattle.pg_filled.proofs.Calling.{CallsKeep, call_kept}
 use Rattle.pg_filled.proofs.Coming.{MayCome, receive_kept}
 use Rattle.pg_filled.proofs.Effects.{arrival_kept, effect_kept}
 use Rattle.pg_filled.proofs.HousePlaces.{IsUp, StaysSo, house_stays}
 use Rattle.pg_filled.proofs.Pieces.{AreKept, begin_kept, flag_kept, place_kept}
-use Rattle.pg_gate.specs.Gate.{Brings, IsMindful, place_at}
+use Rattle.pg_filled.proofs.Given.{last_live}
+use Rattle.pg_filled.proofs.Losing.{lost_kept}
+use Rattle.pg_gate.specs.Gate.{Brings, IsMindful, IsStillThere, place_at}
+use Rattle.pg_gate.proofs.Lasting.{before_by, house_removed, more_removed}
+use Rattle.pg_calls.specs.Forgetting.{root_place}
 
--- a dead place is the one that the directory had, or its maker is this server, or the message brings it
+-- a dead place is the one that the directory had, or has the stamp that is drawn now, or the message, which is heard, brings it
+-- to the replica that is here
 abbrev pub IsCaused : Store → Input → FileId → Place → Type 0
-IsCaused a (input.Call moment c) d p = (p ≡ place_at a.names d) ⊎ (p.stamp.server ≡ a.names.server)
+IsCaused a (input.Call moment c) d p = (p ≡ place_at a.names d) ⊎ (p.stamp ≡ drawn a moment)
 IsCaused a (input.Tick moment word) d p = p ≡ place_at a.names d
-IsCaused a (input.Arrival packet) d p = (p ≡ place_at a.names d) ⊎ Brings d p packet.message
+IsCaused a (input.Arrival packet) d p = (p ≡ place_at a.names d)
+    ⊎ ((is_heard a packet ≡ true) × (b : Brings d p packet.message) × (has_birth a d b.ends.receiver ≡ true))
 IsCaused a input.Restart d p = p ≡ place_at a.names d
 
 -- what a server hears is mindful
@@ -58,9 +65,9 @@ HearsMindful input.Restart = Unit {0}
 -- ---- one directory, and one of its dead places: where it has that, something holds
 
 module _ (dir : FileId) (is : is_dir dir ≡ true) (removal : Place) (dead : removal.live ≡ false) (late : 1 ≤ removal.stamp.time) (Cause : Type 0) where
-  -- no server is removed, and the place is caused
+  -- where its maker is not removed, the place is caused
   abbrev pub At : NamesValue → Type 0
-  At s = (s.removed ≡ []) × (place_at s dir ≡ removal → Cause)
+  At s = IsStillThere s.removed removal → place_at s dir ≡ removal → Cause
 
   abbrev If : Place → Type 0
   If p = p ≡ removal → Cause
@@ -106,42 +113,65 @@ module _ (dir : FileId) (is : is_dir dir ≡ true) (removal : Place) (dead : rem
       let one : dir ≡ f = is_same_file-true dir f e in
       subst (λ (o : Option HeldValue). OfOwn (own_of o)) (sym (ap (known (begin s f own full)) one ∙ begun_same s f own full)) (may (sym one))
 
+  still : {r q : List ℕ} → r ≡ q → IsStillThere r removal → IsStillThere q removal
+  still e h = ap (λ (rs : List ℕ). is_removed rs removal.stamp.server) (sym e) ∙ h
+
+  -- who is not among more is not among fewer
+  fewer : (rs : List ℕ) (server : ℕ) → IsStillThere (rs ++ server ∷ []) removal → IsStillThere rs removal
+  fewer rs server h = before_by (is_removed rs removal.stamp.server) _ (more_removed rs server removal.stamp.server) h
+
   pub dead_kept : AreKept At MayPlace MayBegin MayFill
   dead_kept = record {
-    place = λ s f p may h. ((update_frame s f (with_place p)).removed ∙ h.0, placed_by s f p (own_at s f) refl may h.1 (is_same_file f dir) refl);
-    flag = λ s f g h. ((update_frame s f (with_flag g)).removed ∙ h.0, flagged_by s f g (own_at s f) refl h.1 (is_same_file f dir) refl);
-    entry = λ s d e h. ((update_frame s d (with_joined e)).removed ∙ h.0, subst OfOwn (sym (joined_own s d e dir)) h.1);
+    place = λ s f p may h there. placed_by s f p (own_at s f) refl may (h (still (update_frame s f (with_place p)).removed there)) (is_same_file f dir) refl;
+    flag = λ s f g h there. flagged_by s f g (own_at s f) refl (h (still (update_frame s f (with_flag g)).removed there)) (is_same_file f dir) refl;
+    entry = λ s d e h there. subst OfOwn (sym (joined_own s d e dir)) (h (still (update_frame s d (with_joined e)).removed there));
     raised = λ s time h. h;
-    begun = λ s f own full may h. (h.0, begun_by s f own full (is_same_file dir f) refl may h.1);
-    filled = λ s f may h. ((update_frame s f filled).removed ∙ h.0, subst OfOwn (sym (fill_own s f dir)) h.1);
+    begun = λ s f own full may h there. begun_by s f own full (is_same_file dir f) refl may (h there);
+    filled = λ s f may h there. subst OfOwn (sym (fill_own s f dir)) (h (still (update_frame s f filled).removed there));
+    removed = λ s server h there. h (fewer s.removed server there);
   }
+
+  -- ---- a replica goes
+
+  left_by : (s : NamesValue) (f : FileId) (t : Bool) → is_same_file f dir ≡ t → If (place_at s dir) → If (place_at (let_go s f) dir)
+  left_by s f false e h =
+      subst (λ (o : Option HeldValue). OfOwn (own_of o)) (sym (gone_known s f dir ∙ ap (λ (b : Bool). cond (not b) (known s dir) None) e)) h
+  left_by s f true e h =
+      subst (λ (o : Option HeldValue). OfOwn (own_of o)) (sym (gone_known s f dir ∙ ap (λ (b : Bool). cond (not b) (known s dir) None) e))
+      (blank_not dir)
+
+  pub left_kept : (s : NamesValue) (f : FileId) → At s → At (let_go s f)
+  left_kept s f h there = left_by s f (is_same_file f dir) refl (h there)
 
   -- ---- the house rules
 
-  taken_by : (own top : Own) (t : Bool) → is_held_back [] dir own top ≡ t → IsUp own.place top.place → If own.place → If (own_taken own top t).place
-  taken_by own top true back up h = h
-  taken_by own top false back (inl same) h = λ e. h (sym same ∙ e)
-  taken_by own top false back (inr later) h = λ e.
-      let gone : top.place.live ≡ false = ap (λ (p : Place). p.live) e ∙ dead in
-      absurd (false≢true (sym back ∙ both_true (is_dir dir) _ is
-      (both_true (not top.place.live) _ (not_false top.place.live gone)
-      (both_true (is_before own.place.stamp top.place.stamp) _ later (not_false (is_removed [] top.place.stamp.server) refl)))))
+  module _ (R : List ℕ) (there : IsStillThere R removal) where
+    taken_by : (own top : Own) (t : Bool) → is_held_back R dir own top ≡ t → IsUp own.place top.place → If own.place → If (own_taken own top t).place
+    taken_by own top true back up h = h
+    taken_by own top false back (inl same) h = λ e. h (sym same ∙ e)
+    taken_by own top false back (inr later) h = λ e.
+        let gone : top.place.live ≡ false = ap (λ (p : Place). p.live) e ∙ dead in
+        let kept : is_removed R top.place.stamp.server ≡ false = ap (λ (p : Place). is_removed R p.stamp.server) e ∙ there in
+        absurd (false≢true (sym back ∙ both_true (is_dir dir) _ is
+        (both_true (not top.place.live) _ (not_false top.place.live gone)
+        (both_true (is_before own.place.stamp top.place.stamp) _ later (not_false (is_removed R top.place.stamp.server) kept)))))
 
-  dead_so : StaysSo dir [] If (λ (u : Update). Unit {0})
-  dead_so = record {
-    taken = λ own top up h. taken_by own top (is_held_back [] dir own top) refl up h;
-    live = λ p live some. live_not p live;
-    made = λ f p live. tt;
-  }
+    dead_so : StaysSo dir R If (λ (u : Update). Unit {0})
+    dead_so = record {
+      taken = λ own top up h. taken_by own top (is_held_back R dir own top) refl up h;
+      live = λ p live some. live_not p live;
+      made = λ f p live. tt;
+    }
 
   house_dead : (moment : ℕ) (s : NamesValue) (work : Work) → At s → At (house moment (state_of s work)).names
-  house_dead moment s work h =
-      let k = house_stays dir [] If (λ (u : Update). Unit {0}) dead_so moment (state_of s work) (record { removed = h.0; place = h.1; made = λ i d lt. tt }) in
-      (k.removed, k.place)
+  house_dead moment s work h kept =
+      let there : IsStillThere s.removed removal = still (house_removed moment s work) kept in
+      (house_stays dir s.removed If (λ (u : Update). Unit {0}) (dead_so s.removed there) moment (state_of s work)
+      (record { removed = refl; place = h there; made = λ i d lt. tt })).place
 
 -- ---- an event
 
-module _ (dir : FileId) (is : is_dir dir ≡ true) (removal : Place) (dead : removal.live ≡ false) (late : 1 ≤ removal.stamp.time) (a : Store) (none : a.names.removed ≡ []) where
+module _ (dir : FileId) (is : is_dir dir ≡ true) (removal : Place) (dead : removal.live ≡ false) (late : 1 ≤ removal.stamp.time) (a : Store) where
   abbrev pub Caused : Input → NamesValue → Type 0
   Caused asked s = At dir is removal dead late (IsCaused a asked dir removal) s
 
@@ -175,28 +205,41 @@ module _ (dir : FileId) (is : is_dir dir ≡ true) (removal : Place) (dead : rem
           (begin_kept (Caused (input.Call moment c)) Places Begins Fills Kept (with_birth (with_id a)) id (draw_birth (with_id a)) policy (blank_own id) true (λ same. blank_not dir is removal dead late Cause id) h)));
       place = λ f p now h.
           place_kept (Caused (input.Call moment c)) Places Begins Fills Kept a f p
-          (λ same e. inr (ap (λ (x : Stamp). x.server) (ap (λ (q : Place). q.stamp) (sym e) ∙ now))) h;
+          (λ same e. inr (ap (λ (q : Place). q.stamp) (sym e) ∙ now)) h;
       flag = λ f g h. flag_kept (Caused (input.Call moment c)) Places Begins Fills Kept a f g h;
       raised = λ s time h. h;
+      lost = λ id found at h.
+          lost_kept (Caused (input.Call moment c)) Places Begins Fills Kept a found (new_work moment 0) (record {
+            placed = λ b same. live_not dir is removal dead late Cause (root_place b moment found) refl;
+            fills = tt;
+            known = λ p place same. live_not dir is removal dead late Cause p (last_live a found p place);
+            anew = λ same. blank_not dir is removal dead late Cause found;
+          }) h;
+      removed = λ server h. Kept.removed a.names server h;
     }
 
   start_at : (asked : Input) → (place_at a.names dir ≡ removal → IsCaused a asked dir removal) → Caused asked a.names
-  start_at asked h = (none, h)
+  start_at asked h there = h
 
   -- ---- a message
 
-  comes_dead : (packet : Packet) → IsMindful packet.message
-      → MayCome (MayPlace dir is removal dead late (IsCaused a (input.Arrival packet) dir removal)) (MayBegin dir is removal dead late (IsCaused a (input.Arrival packet) dir removal))
+  comes_dead : (packet : Packet) → is_heard a packet ≡ true → IsMindful packet.message
+      → MayCome (Caused (input.Arrival packet)) (MayPlace dir is removal dead late (IsCaused a (input.Arrival packet) dir removal)) (MayBegin dir is removal dead late (IsCaused a (input.Arrival packet) dir removal))
       (MayFill dir is removal dead late (IsCaused a (input.Arrival packet) dir removal)) a packet.from packet.message
-  comes_dead packet mindful =
+  comes_dead packet heard mindful =
       let Cause : Type 0 = IsCaused a (input.Arrival packet) dir removal in record {
-        cell = λ ends tag p same here e. inr (record { ends = ends; tag = tag; is = same ∙ ap (λ (q : Place). message.Cell ends tag (cell.Place q)) e; here = here });
+        cell = λ ends tag p same born here e. inr (
+          heard,
+          record { ends = ends; tag = tag; is = same ∙ ap (λ (q : Place). message.Cell ends tag (cell.Place q)) e; here = here },
+          subst (λ (f : FileId). has_birth a f ends.receiver ≡ true) here born,
+        );
         confirm = λ d e same here. live_not dir is removal dead late Cause e.place (and_parts e.place.live (is_same_file e.place.parent d) (mindful.confirm d e same)).0;
         grant = λ ends g same here. elim (mindful.grant ends g same (ap is_dir here ∙ is)) [
           | inl live ↦ live_not dir is removal dead late (IsCaused a (input.Arrival packet) dir removal) g.place live
           | inr blank ↦ λ e. blank_not dir is removal dead late (IsCaused a (input.Arrival packet) dir removal) ends.file (sym blank ∙ e)
         ];
-        full = λ ends same. tt;
+        full = λ ends same born. tt;
+        goes = λ ends stamp work same may. left_kept dir is removal dead late Cause a.names ends.file (start_at (input.Arrival packet) (λ e. inl (sym e)));
       }
 
   -- ---- the first effect, and the event
@@ -210,8 +253,8 @@ module _ (dir : FileId) (is : is_dir dir ≡ true) (removal : Place) (dead : rem
       let Cause : Type 0 = IsCaused a asked dir removal in
       let begins = start_at asked (λ e. inl (sym e)) in
       arrival_kept (Caused asked) a packet begins
-      (receive_kept (Caused asked) (MayPlace dir is removal dead late Cause) (MayBegin dir is removal dead late Cause) (MayFill dir is removal dead late Cause)
-      (dead_kept dir is removal dead late Cause) a begins packet.message (new_work 0 packet.from) (comes_dead packet hears))
+      (λ heard. receive_kept (Caused asked) (MayPlace dir is removal dead late Cause) (MayBegin dir is removal dead late Cause) (MayFill dir is removal dead late Cause)
+      (dead_kept dir is removal dead late Cause) a begins packet.message (new_work 0 packet.from) (comes_dead packet heard hears))
   first_dead input.Restart hears = start_at input.Restart (λ e. sym e)
 
   pub effect_dead : (asked : Input) → HearsMindful asked → Caused asked (effect a asked).store.names

@@ -1,8 +1,9 @@
 -- The gate stands along a run: a removal comes to a server only with all that its remover knew of the directory's children.
-use Rattle.std.proofs.Common.{ℕ, ◌≡◌, ◌≤◌, true, false, List, get_or, Option, None, Some, All, sym, ap, subst, ◌∙◌, inl, inr}
+use Rattle.std.proofs.Common.{ℕ, ◌≡◌, ◌≤◌, ◌<◌, arith, true, false, List, get_or, Option, None, Some, All, refl, sym, ap, subst, ◌∙◌, inl, inr}
 use Rattle.std.proofs.lemmas.Bool.{false≢true}
 use Rattle.std.proofs.lemmas.List.Elements.{All-append, All-contains, All-nil, All-weaker}
 use Rattle.pg_base.specs.declared.id.FileId.{FileId}
+use Rattle.pg_base.specs.declared.stamp.Stamp.{Stamp}
 use Rattle.pg_entries.specs.declared.cell.Cell.{Cell}
 use Rattle.pg_entries.specs.declared.entry.Entry.{Entry}
 use Rattle.pg_event.specs.declared.event.Event.{Event}
@@ -17,36 +18,37 @@ use Rattle.pg_msg.specs.declared.message.Message.{Message}
 use Rattle.pg_msg.specs.declared.message.Message.TheVariants as message
 use Rattle.pg_msg.specs.declared.message.Packet.{Packet}
 use Rattle.pg_msg.specs.declared.message.Sent.{Sent}
-use Rattle.pg_names.specs.Names.{NamesValue, cell_at, is_dir}
+use Rattle.pg_calls.specs.Making.{drawn}
+use Rattle.pg_house.proofs.Lasting.{drawn_late}
+use Rattle.pg_names.specs.Names.{NamesValue, is_dir}
 use Rattle.pg_register.specs.declared.place.Place.{Place}
 use Rattle.pg_store.specs.declared.store.Store.{Store}
+use Rattle.pg_store.specs.Servers.{view_of}
+use Rattle.pg_store.specs.Together.{BirthsMove}
+use Rattle.pg_store.proofs.Over.{moves_then}
 use Rattle.pg_cells.specs.Sending.{Wanted, cells_where}
 use Rattle.pg_repair.specs.Intending.{pieces}
 use Rattle.pg_repair.specs.Requests.{asks}
 use Rattle.pg_server.specs.declared.input.Input.{Input}
 use Rattle.pg_server.specs.declared.input.Input.TheVariants as input
-use Rattle.pg_server.specs.Local.{effect}
-use Rattle.pg_promises.specs.Names.{AreNamesUpTo}
-use Rattle.pg_promises.proofs.Growth.{entry_known_further}
+use Rattle.pg_server.specs.Local.{effect, first_effect, is_heard}
+use Rattle.pg_promises.specs.Growing.{Grows}
 use Rattle.pg_run.specs.Journal.{mail}
 use Rattle.pg_run.specs.Laws.{TakesIn}
-use Rattle.pg_run.specs.Run.{World, effect_step, next, run_from, world_after}
+use Rattle.pg_run.specs.Run.{Step, World, effect_step, idle_step, next, run_from, world_after}
+use Rattle.pg_run.specs.Views.{IsInView, removed_by}
 use Rattle.pg_run.proofs.Frame.{HasCome}
 use Rattle.pg_filled.proofs.Acting.{next_by, runs_keep}
 use Rattle.pg_filled.proofs.Sends.{effect_sends}
 use Rattle.pg_filled.proofs.Told.{asks_are}
 use Rattle.pg_filled.proofs.Works.{is_plain}
-use Rattle.pg_gate.specs.Gate.{Brings, IsGated, IsMindful, KnowsChildren, place_at}
+use Rattle.pg_gate.specs.Gate.{Brings, IsDated, IsGated, IsMindful, IsStillThere, KnowsChildren, KnowsOrOver, place_at}
 use Rattle.pg_gate.proofs.Deaths.{HearsMindful, IsCaused, effect_dead}
 use Rattle.pg_gate.proofs.Gating.{Guards, guarded}
+use Rattle.pg_gate.proofs.Fronts.{heard_view, still_on, still_view, view_still, view_within, within_on}
+use Rattle.pg_gate.proofs.Lasting.{last_up, still_before}
 use Rattle.pg_gate.proofs.Letters.{AreMindful, StandsOn}
-
--- what is known of children stays known
-pub knows_on : (dir : FileId) (s t u : NamesValue) → KnowsChildren dir s t → AreNamesUpTo t u → KnowsChildren dir s u
-knows_on dir s t u h g child = entry_known_further (cell_at s dir child) (cell_at t dir child) (cell_at u dir child) (h child) (g.entries dir child)
-
-knows_further : (dir : FileId) (s t u : NamesValue) → KnowsChildren dir s t → KnowsChildren dir t u → KnowsChildren dir s u
-knows_further dir s t u h g child = entry_known_further (cell_at s dir child) (cell_at t dir child) (cell_at u dir child) (h child) (g child)
+use Rattle.pg_gate.proofs.Knowing.{at_most, knows_here, knows_over, knows_stay, not_both, over_on}
 
 -- ---- messages of other kinds bring nothing
 
@@ -84,15 +86,33 @@ module _ (n : ℕ) (dir : FileId) (is : is_dir dir ≡ true) (removal : Place) (
     abbrev pub Next : World
     Next = world_after w (effect_step w event s asked)
 
-    pub grown : AreNamesUpTo Here.names Then.names
-    grown = (k.on.grow event s asked takes).1.names
+    grows : Grows Here Then
+    grows = (k.on.grow event s asked takes).1
 
-    pub later_knows : (known : NamesValue) (t : ℕ) → KnowsChildren dir known (w.stores t).names → KnowsChildren dir known (Later t).names
-    later_knows known t h = elim (here w.stores s Then t) [
-      | inl e ↦ (let P : Store → Type 0 = λ x. KnowsChildren dir known x.names in
-          let Q : ℕ → Type 0 = λ i. KnowsChildren dir known (w.stores i).names in
-          subst P (sym e.1) (knows_on dir known Here.names Then.names (subst Q e.0 h) grown))
-      | inr e ↦ (let P : Store → Type 0 = λ x. KnowsChildren dir known x.names in subst P (sym e.1) h)
+    moves : BirthsMove Here Then
+    moves = let m = k.on.move event s asked takes in moves_then Here (first_effect Here asked).store Then m.0 m.1
+
+    -- where the directory has the removal at the end, what was known of its children is
+    pub then_knows : (known : NamesValue) → KnowsChildren dir known Here.names → place_at Then.names dir ≡ removal
+        → KnowsChildren dir known Then.names
+    then_knows known h at =
+        knows_stay dir removal late known Here Then (k.on.whole s).together grows (k.on.stay event s asked takes).1 h at
+
+    later_over : (known : NamesValue) (birth t : ℕ) → KnowsOrOver dir known (w.stores t) birth → KnowsOrOver dir known (Later t) birth
+    later_over known birth t h = elim (here w.stores s Then t) [
+      | inl e ↦ (let P : Store → Type 0 = λ x. KnowsOrOver dir known x birth in
+          let Q : ℕ → Type 0 = λ i. KnowsOrOver dir known (w.stores i) birth in
+          subst P (sym e.1) (over_on dir known Here Then birth grows moves (subst Q e.0 h)))
+      | inr e ↦ (let P : Store → Type 0 = λ x. KnowsOrOver dir known x birth in subst P (sym e.1) h)
+    ]
+
+    -- times go up
+    pub lasts : (t : ℕ) → (w.stores t).names.last ≤ (Later t).names.last
+    lasts t = elim (here w.stores s Then t) [
+      | inl e ↦ (let P : Store → Type 0 = λ x. (w.stores t).names.last ≤ x.names.last in
+          let Q : ℕ → Type 0 = λ i. (w.stores i).names.last ≤ Then.names.last in
+          subst P (sym e.1) (subst Q (sym e.0) (last_up Here asked)))
+      | inr e ↦ (let P : Store → Type 0 = λ x. (w.stores t).names.last ≤ x.names.last in subst P (sym e.1) (omega arith))
     ]
 
     hears_by : (x : Input) → HasCome w s x → HearsMindful x
@@ -106,8 +126,8 @@ module _ (n : ℕ) (dir : FileId) (is : is_dir dir ≡ true) (removal : Place) (
     hears = hears_by asked came
 
     -- the removal is there behind the event: it was there, or is the server's own, or came in a message
-    pub caused : place_at Then.names dir ≡ removal → IsCaused Here asked dir removal
-    caused at = (effect_dead dir is removal dead late Here (k.mindful.removed s) asked hears).1 at
+    pub caused : IsStillThere Then.names.removed removal → place_at Then.names dir ≡ removal → IsCaused Here asked dir removal
+    caused there at = effect_dead dir is removal dead late Here asked hears there at
 
     -- ---- what is sent in the event
 
@@ -150,70 +170,141 @@ module _ (n : ℕ) (dir : FileId) (is : is_dir dir ≡ true) (removal : Place) (
           asked_none q None = All-nil P
           asked_none q (Some i) = asks_none Then i
 
+      -- ---- views
+
+      view_here : IsInView w s Here
+      view_here = k.on.views s least most
+
+      view_then : IsInView Next s (Later s)
+      view_then = next.views s least most
+
+      abbrev Taken : Step
+      Taken = effect_step w event s asked
+
+      -- what is sent from before has a front of the removals behind the event
+      pub dated_before : (m : Sent) → m.packet.view ≡ view_of Here → IsDated Next m
+      dated_before m same = within_on w Taken m.packet.view (view_within w s Here m.packet.view view_here same)
+
+      pub still_sent : (m : Sent) → m.packet.view ≡ view_of Here → IsStillThere (removed_by Next m.packet.view) removal → IsStillThere Here.names.removed removal
+      still_sent m same there =
+          view_still w s Here m.packet.view removal view_here same
+          (still_on w Taken m.packet.view removal (view_within w s Here m.packet.view view_here same) there)
+
+      pub dated_behind : (m : Sent) → m.packet.view ≡ view_of (Later s) → IsDated Next m
+      dated_behind m same = view_within Next s (Later s) m.packet.view view_then same
+
+      pub still_then : (m : Sent) → m.packet.view ≡ view_of (Later s) → IsStillThere (removed_by Next m.packet.view) removal → IsStillThere Then.names.removed removal
+      still_then m same there =
+          subst (λ (x : Store). IsStillThere x.names.removed removal) itself
+          (view_still Next s (Later s) m.packet.view removal view_then same there)
+
       -- ---- who knows the removal knows the children
 
-      module _ (known : NamesValue) (before : place_at Here.names dir ≡ removal → KnowsChildren dir known Here.names) (behind : place_at Then.names dir ≡ removal → KnowsChildren dir known Then.names) where
+      module _ (known : NamesValue) (before : IsStillThere Here.names.removed removal → place_at Here.names dir ≡ removal → KnowsChildren dir known Here.names) (behind : IsStillThere Then.names.removed removal → place_at Then.names dir ≡ removal → KnowsChildren dir known Then.names) where
         abbrev pub OfMessage : Sent → Type 0
-        OfMessage m = Brings dir removal m.packet.message → 1 ≤ m.to → m.to ≤ n → KnowsChildren dir known (Later m.to).names
+        OfMessage m = (b : Brings dir removal m.packet.message) → IsDated Next m
+            × (IsStillThere (removed_by Next m.packet.view) removal → 1 ≤ m.to → m.to ≤ n → KnowsOrOver dir known (Later m.to) b.ends.receiver)
 
         behind_known : (m : Sent) → Behind m → OfMessage m
-        behind_known m g b l q =
+        behind_known m g b =
             let h = g b in
             let at : place_at Then.names dir ≡ removal = ap (λ (x : Store). place_at x.names dir) (sym itself) ∙ h.place in
-            let there : KnowsChildren dir Then.names (Later m.to).names = subst (λ (x : Store). KnowsChildren dir x.names (Later m.to).names) itself h.knows in
-            knows_further dir known Then.names (Later m.to).names (behind at) there
+            let knows : KnowsOrOver dir Then.names (Later m.to) b.ends.receiver =
+            subst (λ (x : Store). KnowsOrOver dir x.names (Later m.to) b.ends.receiver) itself h.knows in
+            (dated_behind m h.view, λ there l q. knows_over dir known Then.names (Later m.to) b.ends.receiver (behind (still_then m h.view there) at) knows)
+
+        before_known : (m : Sent) → Before m → OfMessage m
+        before_known m g b =
+            let h = g b in (
+              dated_before m h.view,
+              λ there l q. later_over known b.ends.receiver m.to
+                  (knows_over dir known Here.names (w.stores m.to) b.ends.receiver (before (still_sent m h.view there) h.place) h.knows),
+            )
 
         pub sent_known : All OfMessage (effect Here asked).out.sent
-        sent_known =
-            all_sent OfMessage (λ m none b. absurd (none b))
-            (λ m g b l q. let h = g b in later_knows known m.to (knows_further dir known Here.names (w.stores m.to).names (before h.place) h.knows)) behind_known
+        sent_known = all_sent OfMessage (λ m none b. absurd (none b)) before_known behind_known
 
   -- ---- the gate stands on
 
   module _ (known : NamesValue) (w : World) (k : Stands n w) (gated : IsGated n known dir removal w) where
-    own_known : (s : ℕ) → 1 ≤ s → s ≤ n → removal.stamp.server ≡ s → KnowsChildren dir known (w.stores s).names
-    own_known s least most same =
-        let P : ℕ → Type 0 = λ i. 1 ≤ i → i ≤ n → KnowsChildren dir known (w.stores i).names in
-        subst P same gated.own least most
+    -- the stamp that is drawn now is later
+    not_now : (s moment : ℕ) → removal.stamp ≡ drawn (w.stores s) moment → ⊥
+    not_now s moment now =
+        let a = w.stores s in
+        let maker : removal.stamp.server ≡ s = ap (λ (x : Stamp). x.server) now ∙ (k.on.whole s).server in
+        let past : removal.stamp.time ≤ a.names.last =
+        subst (λ (i : ℕ). removal.stamp.time ≤ (w.stores i).names.last) maker gated.passed in
+        let later : a.names.last < removal.stamp.time =
+        subst (λ (x : Stamp). a.names.last < x.time) (sym now) (drawn_late moment a.names.last (drawn a moment).time refl) in
+        not_both removal.stamp.time a.names.last past later
 
-    came_known : (s : ℕ) → 1 ≤ s → s ≤ n → (packet : Packet) → HasCome w s (input.Arrival packet) → Brings dir removal packet.message → KnowsChildren dir known (w.stores s).names
-    came_known s least most packet sent b =
-        let P : Sent → Type 0 = λ m. Brings dir removal m.packet.message → 1 ≤ m.to → m.to ≤ n → KnowsChildren dir known (w.stores m.to).names in
-        All-contains P (mail w.journal) (record { to = s; packet = packet }) gated.brought sent b least most
+    -- what a message that is heard brings is known, where the maker is not removed in the view
+    came_known : (s : ℕ) → 1 ≤ s → s ≤ n → IsStillThere (w.stores s).names.removed removal → (packet : Packet) → is_heard (w.stores s) packet ≡ true
+        → HasCome w s (input.Arrival packet) → (b : Brings dir removal packet.message) → KnowsOrOver dir known (w.stores s) b.ends.receiver
+    came_known s least most there packet heard sent b =
+        let P : Sent → Type 0 = λ m. (c : Brings dir removal m.packet.message) → IsDated w m
+        × (IsStillThere (removed_by w m.packet.view) removal → 1 ≤ m.to → m.to ≤ n → KnowsOrOver dir known (w.stores m.to) c.ends.receiver) in
+        let said = All-contains P (mail w.journal) (record { to = s; packet = packet }) gated.brought sent b in
+        said.1 (still_view w s (w.stores s) packet.view removal (k.on.views s least most) (heard_view (w.stores s) packet heard) there) least most
 
-    pub first_known : (s : ℕ) (asked : Input) → 1 ≤ s → s ≤ n → HasCome w s asked → IsCaused (w.stores s) asked dir removal → KnowsChildren dir known (w.stores s).names
-    first_known s (input.Call moment c) least most sent (inl same) = gated.there s least most (sym same)
-    first_known s (input.Call moment c) least most sent (inr server) = own_known s least most (server ∙ (k.on.whole s).server)
-    first_known s (input.Tick moment word) least most sent same = gated.there s least most (sym same)
-    first_known s (input.Arrival packet) least most sent (inl same) = gated.there s least most (sym same)
-    first_known s (input.Arrival packet) least most sent (inr b) = came_known s least most packet sent b
-    first_known s input.Restart least most sent same = gated.there s least most (sym same)
+    pub first_known : (s : ℕ) (asked : Input) → 1 ≤ s → s ≤ n → IsStillThere (w.stores s).names.removed removal → HasCome w s asked → IsCaused (w.stores s) asked dir removal
+        → KnowsChildren dir known (w.stores s).names
+    first_known s (input.Call moment c) least most there sent (inl same) = gated.there s least most there (sym same)
+    first_known s (input.Call moment c) least most there sent (inr now) = absurd (not_now s moment now)
+    first_known s (input.Tick moment word) least most there sent same = gated.there s least most there (sym same)
+    first_known s (input.Arrival packet) least most there sent (inl same) = gated.there s least most there (sym same)
+    first_known s (input.Arrival packet) least most there sent (inr c) =
+        knows_here dir known (w.stores s) c.1.ends.receiver (came_known s least most there packet c.0 sent c.1) c.2
+    first_known s input.Restart least most there sent same = gated.there s least most there (sym same)
 
     gated_acted : (event : Event) (s : ℕ) (asked : Input) → 1 ≤ s → s ≤ n → TakesIn n w event s asked → HasCome w s asked
         → Stands n (world_after w (effect_step w event s asked)) → IsGated n known dir removal (world_after w (effect_step w event s asked))
     gated_acted event s asked least most takes sent next =
+        let a = w.stores s in
+        let step = effect_step w event s asked in
         let now = Later w k event s asked least most takes sent in
         let end = Then w k event s asked least most takes sent in
-        let behind : place_at end.names dir ≡ removal → KnowsChildren dir known end.names =
-        λ at. knows_on dir known (w.stores s).names end.names (first_known s asked least most sent (caused w k event s asked least most takes sent at)) (grown w k event s asked least most takes sent) in
-        let P : Sent → Type 0 = λ m. Brings dir removal m.packet.message → 1 ≤ m.to → m.to ≤ n → KnowsChildren dir known (now m.to).names in
+        let behind : IsStillThere end.names.removed removal → place_at end.names dir ≡ removal → KnowsChildren dir known end.names =
+        λ there at. then_knows w k event s asked least most takes sent known
+        (first_known s asked least most (still_before a asked removal there) sent (caused w k event s asked least most takes sent there at)) at in
+        let P : Sent → Type 0 = λ m. (b : Brings dir removal m.packet.message) → IsDated (world_after w step) m
+        × (IsStillThere (removed_by (world_after w step) m.packet.view) removal → 1 ≤ m.to → m.to ≤ n → KnowsOrOver dir known (now m.to) b.ends.receiver) in
         record {
-          own = λ l m. later_knows w k event s asked least most takes sent known removal.stamp.server (gated.own l m);
-          there = λ t l m at. elim (here w.stores s end t) [
+          passed = at_most removal.stamp.time (w.stores removal.stamp.server).names.last (now removal.stamp.server).names.last gated.passed
+              (lasts w k event s asked least most takes sent removal.stamp.server);
+          there = λ t l m there at. elim (here w.stores s end t) [
             | inl e ↦ (let Q : Store → Type 0 = λ x. KnowsChildren dir known x.names in
-                subst Q (sym e.1) (behind (ap (λ (x : Store). place_at x.names dir) (sym e.1) ∙ at)))
-            | inr e ↦ later_knows w k event s asked least most takes sent known t (gated.there t l m (ap (λ (x : Store). place_at x.names dir) (sym e.1) ∙ at))
+                subst Q (sym e.1) (behind (subst (λ (x : Store). IsStillThere x.names.removed removal) e.1 there)
+                (ap (λ (x : Store). place_at x.names dir) (sym e.1) ∙ at)))
+            | inr e ↦ (let Q : Store → Type 0 = λ x. KnowsChildren dir known x.names in
+                subst Q (sym e.1) (gated.there t l m (subst (λ (x : Store). IsStillThere x.names.removed removal) e.1 there)
+                (ap (λ (x : Store). place_at x.names dir) (sym e.1) ∙ at)))
           ];
-          brought = All-append P (effect (w.stores s) asked).out.sent (mail w.journal)
+          brought = All-append P (effect a asked).out.sent (mail w.journal)
               (sent_known w k event s asked least most takes sent next.on known (gated.there s least most) behind)
-              (λ i d lt b l m. later_knows w k event s asked least most takes sent known (get_or (mail w.journal) i d).to (gated.brought i d lt b l m));
+              (λ i d lt b.
+              let m = get_or (mail w.journal) i d in
+              let old = gated.brought i d lt b in (
+                within_on w step m.packet.view old.0,
+                λ there l q. later_over w k event s asked least most takes sent known b.ends.receiver m.to
+                    (old.1 (still_on w step m.packet.view removal old.0 there) l q),
+              ));
         }
 
   -- AN EVENT KEEPS THE GATE
   pub gated_next : (known : NamesValue) (w : World) (e : Event) → Stands n w → Stands n (world_after w (next n w e)) → IsGated n known dir removal w → IsGated n known dir removal (world_after w (next n w e))
   gated_next known w e k then gated =
       next_by n w (λ (v : World). Stands n v → IsGated n known dir removal v) (record {
-        still = λ event cause after. record { own = gated.own; there = gated.there; brought = gated.brought };
+        still = λ event cause after.
+            (let step = idle_step w event cause in
+            record {
+              passed = gated.passed;
+              there = gated.there;
+              brought = λ i d lt b.
+                  (let m = get_or (mail w.journal) i d in
+                  let old = gated.brought i d lt b in
+                  (within_on w step m.packet.view old.0, λ there l q. old.1 (still_on w step m.packet.view removal old.0 there) l q));
+            });
         acted = λ event s asked least most takes sent after. gated_acted known w k gated event s asked least most takes sent after;
       }) e then
 

@@ -1,5 +1,5 @@
 -- Where the dead place of a directory is sent, the peer knows all entries of the directory that the sender does.
-use Rattle.std.proofs.Common.{ℕ, ◌≡◌, ◌≤◌, ◌&&◌, not, cond, Bool, true, false, List, [], ◌∷◌, get_or, Option, None, Some, All, refl, sym, ap, subst, ◌∙◌}
+use Rattle.std.proofs.Common.{ℕ, ◌≡◌, ◌≤◌, ◌&&◌, not, cond, Bool, true, false, List, [], ◌∷◌, get_or, Option, None, Some, option_map, All, refl, sym, ap, subst, ◌∙◌, inl, inr}
 use Rattle.std.specs.Prelude.{Contains}
 use Rattle.std.specs.List.{IsAmong, list_any}
 use Rattle.std.specs.Map.{keys_of}
@@ -24,6 +24,7 @@ use Rattle.pg_register.specs.declared.place.Place.{Place}
 use Rattle.pg_replica.specs.declared.replica.Replica.{Replica}
 use Rattle.pg_store.specs.declared.store.Store.{Store}
 use Rattle.pg_store.specs.Cells.{cell_at, entry_cell, is_sure}
+use Rattle.pg_store.specs.Servers.{view_of}
 use Rattle.pg_store.specs.Store.{replica_at}
 use Rattle.pg_cells.specs.Sending.{Wanted, cells_where, waits}
 use Rattle.pg_promises.specs.Names.{IsEntryKnownBy}
@@ -31,12 +32,11 @@ use Rattle.pg_promises.specs.UpTo.{IsUpTo}
 use Rattle.pg_promises.specs.Whole.{AreByChild, IsWhole}
 use Rattle.pg_promises.proofs.Found.{entries_known}
 use Rattle.pg_promises.proofs.Sending.{own_key}
-use Rattle.pg_run.specs.Acknowledged.{IsHadThere}
 use Rattle.pg_run.specs.Run.{World}
 use Rattle.pg_run.proofs.Event.{CellHas, cells_have}
 use Rattle.pg_filled.proofs.Clean.{among_of}
 use Rattle.pg_filled.proofs.Filling.{AckedIn}
-use Rattle.pg_gate.specs.Gate.{Brings, KnowsChildren, place_at}
+use Rattle.pg_gate.specs.Gate.{Brings, KnowsOrOver, place_at}
 
 -- ---- edges without entries
 
@@ -88,26 +88,27 @@ module _ (n : ℕ) (v : World) (acked : AckedIn n v) (whole : (t : ℕ) → IsWh
   Sender = v.stores s
 
   -- of a message that brings the removal
-  pub record IsGuarded (m : Sent) : Type 0 where
+  pub record IsGuarded (m : Sent) (birth : ℕ) : Type 0 where
+    pub view : m.packet.view ≡ view_of Sender
     pub place : place_at Sender.names dir ≡ removal
-    pub knows : KnowsChildren dir Sender.names (v.stores m.to).names
+    pub knows : KnowsOrOver dir Sender.names (v.stores m.to) birth
 
   abbrev pub Guards : Sent → Type 0
-  Guards m = Brings dir removal m.packet.message → IsGuarded m
+  Guards m = (b : Brings dir removal m.packet.message) → IsGuarded m b.ends.receiver
 
   module _ (x : Replica) (here : replica_at Sender dir ≡ Some x) (e : Edge) (edge : IsAmong x.edges e) (none : has_entry e.keys ≡ false) where
-    known_entry : (child : FileId) (o : Option Entry) → entry_at Sender.names dir child ≡ o → IsEntryKnownBy o (entry_at (v.stores e.peer).names dir child)
-    known_entry child None h = tt
-    known_entry child (Some y) h =
+    knows_all : KnowsOrOver dir Sender.names (v.stores e.peer) e.birth
+    knows_all child y h =
         let sure = is_sure Sender dir child in
         let c : Cell = cell.Entry y sure in
-        let had : IsHadThere v dir e c =
-        acked s least most dir x e (key.Entry child) c here edge (no_entry e.keys child none) (ap (λ (o : Option Entry). entry_cell o sure) h) in
-        let held = had.had in
-        known_by (v.stores e.peer) dir child y sure held.key held.cell (whole e.peer).names.children ((whole s).names.children dir child y h) held.is held.upto
-
-    knows_all : KnowsChildren dir Sender.names (v.stores e.peer).names
-    knows_all child = known_entry child (entry_at Sender.names dir child) refl
+        elim (acked s least most dir x e (key.Entry child) c here edge (no_entry e.keys child none) (ap (λ (o : Option Entry). entry_cell o sure) h)) [
+          | inl had ↦ inl (
+            ap (option_map (λ (z : Replica). z.birth)) had.is ∙ ap Some had.born,
+            known_by (v.stores e.peer) dir child y sure had.had.key had.had.cell (whole e.peer).names.children ((whole s).names.children dir child y h) had.had.is
+                had.had.upto,
+          )
+          | inr over ↦ inr over
+        ]
 
   -- ---- what is sent of one key
 
@@ -118,7 +119,7 @@ module _ (n : ℕ) (v : World) (acked : AckedIn n v) (whole : (t : ℕ) → IsWh
     by_gate true false t h k g = absurd (false≢true k)
 
     -- the place of the directory does not wait, so no entry's key is on the edge
-    guarded_place : (q : Key) → waits Sender f e q ≡ false → f ≡ dir → cell_at Sender f q ≡ Some (cell.Place removal) → (place_at Sender.names dir ≡ removal) × KnowsChildren dir Sender.names (v.stores e.peer).names
+    guarded_place : (q : Key) → waits Sender f e q ≡ false → f ≡ dir → cell_at Sender f q ≡ Some (cell.Place removal) → (place_at Sender.names dir ≡ removal) × KnowsOrOver dir Sender.names (v.stores e.peer) e.birth
     guarded_place q free same at =
         let own : key.Place ≡ q = own_key Sender (whole s).names.children f q (cell.Place removal) at in
         let at_place : cell_at Sender dir key.Place ≡ Some (cell.Place removal) = ap (λ (z : FileId). cell_at Sender z key.Place) (sym same) ∙ ap (cell_at Sender f) own ∙ at in
@@ -133,7 +134,11 @@ module _ (n : ℕ) (v : World) (acked : AckedIn n v) (whole : (t : ℕ) → IsWh
         let ends = same_ends _ b.ends q.1 b.tag c (cell.Place removal) b.is in
         let brought : c ≡ cell.Place removal = same_cell _ b.ends q.1 b.tag c (cell.Place removal) b.is in
         let t = guarded_place q.0 free (ap (λ (z : Ends). z.file) ends ∙ b.here) (at ∙ ap Some brought) in
-        record { place = t.0; knows = t.1 }
+        record {
+          view = refl;
+          place = t.0;
+          knows = subst (KnowsOrOver dir Sender.names (v.stores e.peer)) (ap (λ (z : Ends). z.receiver) ends) t.1;
+        }
 
   guarded_replica : (r : FileId × Replica) → replica_at Sender r.0 ≡ Some r.1 → All (λ (e : Edge). All (CellHas Guards Sender r.0 r.1 e) e.keys) r.1.edges
   guarded_replica r here =

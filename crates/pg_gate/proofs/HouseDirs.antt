@@ -115,6 +115,7 @@ module _ (base : List Update) where
     left = λ w d f h. record { news = h.news; is = h.is; dirs = h.dirs };
     unsure = λ w d f h. record { news = h.news; is = h.is; dirs = h.dirs };
     linked = λ w f peer h. record { news = h.news; is = h.is; dirs = h.dirs };
+    begun = λ w i h. record { news = h.news; is = h.is; dirs = h.dirs };
     flagged = λ w f g h. flag_makes f g w h;
     sent = λ w x is h. record { news = h.news; is = h.is; dirs = h.dirs };
     last = λ w x is h. record { news = h.news; is = h.is; dirs = h.dirs };

@@ -3,7 +3,7 @@ use Rattle.std.proofs.Common.{[], ℕ, ◌≡◌, ◌++◌, ◌&&◌, Bool, true
 use Rattle.std.specs.List.{flat_map}
 use Rattle.std.proofs.lemmas.Bool.{false≢true}
 use Rattle.std.proofs.lemmas.Grind.{flat_map-append}
-use Rattle.std.proofs.lemmas.Option.{none-some, same_Some}
+use Rattle.std.proofs.lemmas.Option.{none-some, same_Some, slice_get_within}
 use Rattle.pg_base.specs.declared.id.FileId.{FileId}
 use Rattle.pg_base.specs.Id.{is_same_file}
 use Rattle.pg_base.specs.Stamp.{is_before}
@@ -14,29 +14,34 @@ use Rattle.pg_msg.specs.declared.update.Update.{Update}
 use Rattle.pg_msg.specs.declared.update.Update.TheVariants as update
 use Rattle.pg_names.specs.Names.{cell_at, is_dir}
 use Rattle.pg_register.specs.declared.place.Place.{Place}
+use Rattle.pg_register.specs.Flag.{is_removed}
 use Rattle.pg_register.specs.Place.{newer_place}
 use Rattle.pg_house.proofs.Truths.{both_true, or_left, or_right}
 use Rattle.pg_store.specs.declared.store.Store.{Store}
 use Rattle.pg_server.specs.declared.input.Input.{Input}
+use Rattle.pg_server.specs.Local.{first_effect, takes_effect}
 use Rattle.pg_promises.specs.Names.{IsEntryKnownBy}
 use Rattle.pg_promises.specs.UpTo.{IsPlaceUpTo}
 use Rattle.pg_promises.proofs.Flags.{newer_of_both}
 use Rattle.pg_run.specs.Laws.{NamesMerge, ReturnsAreJustified, took_behind}
 use Rattle.pg_run.specs.Passed.{has_cell, has_taken, passed, passed_with, passes}
-use Rattle.pg_run.specs.Run.{brought, made_behind, run}
+use Rattle.pg_run.specs.Carried.{gone_in}
+use Rattle.pg_run.specs.Run.{brought, made_behind, removed_then, run, took_first}
 use Rattle.pg_run.specs.State.{entry_state}
-use Rattle.pg_run.specs.Took.{Take, Taker, first_place, flags_in, held, is_same_taker, latest_place, own_place, place_in, place_taken_by, places_taken, take_of}
+use Rattle.pg_run.specs.Took.{Take, Taker, first_place, flags_in, held, is_same_taker, latest_place, own_place, place_in, place_taken_by, places_taken, take_of, without_gone}
 use Rattle.pg_run.specs.Took.Take.{Began, TookFlag, TookPlace, TookVersion}
 use Rattle.pg_run.specs.Took.Taker.{InDir}
 use Rattle.pg_run.proofs.Bags.{found}
 use Rattle.pg_run.proofs.Frame.{acts_is}
 use Rattle.pg_run.proofs.Lists.{among_contained, among_parts, contained_among}
-use Rattle.pg_gate.specs.Gate.{EdgesAreKept, KnowsChildren, Removes}
+use Rattle.pg_gate.specs.Gate.{EdgesAreKept, IsStillThere, KnowsChildren, Removes, place_at}
 use Rattle.pg_gate.specs.Returns.{DeadPlacesStay, TakesHaveOwnStamps}
 use Rattle.pg_gate.proofs.Begun.{begins, gated_behind, is_late, removed_are_empty, stands_all}
 use Rattle.pg_gate.proofs.Deaths.{IsCaused, first_dead}
 use Rattle.pg_gate.proofs.Gated.{first_known, hears}
+use Rattle.pg_gate.proofs.Lasting.{still_first}
 use Rattle.pg_gate.proofs.HouseDirs.{IsLiveOfDir, made_live}
+use Rattle.pg_gate.proofs.Staying.{going_by, places_still}
 
 -- ---- the latest of some places
 
@@ -95,12 +100,14 @@ passed_with_grown removed takes (u ∷ us) =
     let next = passed removed one in
     grown_further takes next (passed_with removed next us) (grown_further takes one next (grown_front (take_of u ∷ []) takes) (passed_grown removed one)) (passed_with_grown removed next us)
 
-behind_grown : (a : Store) (takes : List Take) (asked : Input) (k : ℕ) → IsGrown takes (took_behind a takes asked k)
+-- of the replicas that do not go
+behind_grown : (a : Store) (takes : List Take) (asked : Input) (k : ℕ) → IsGrown (without_gone (gone_in a asked) takes) (took_behind a takes asked k)
 behind_grown a takes asked k =
-    let first = brought a asked ++ takes in
-    let then = passed a.names.removed first in
-    grown_further takes first (took_behind a takes asked k) (grown_front (brought a asked) takes)
-    (grown_further first then (took_behind a takes asked k) (passed_grown a.names.removed first) (passed_with_grown a.names.removed then (take k (made_behind a asked))))
+    let left = without_gone (gone_in a asked) takes in
+    let first = took_first a takes asked in
+    let then = passed (removed_then a asked) first in
+    grown_further left first (took_behind a takes asked k) (grown_front (brought a asked) left)
+    (grown_further first then (took_behind a takes asked k) (passed_grown (removed_then a asked) first) (passed_with_grown (removed_then a asked) then (take k (made_behind a asked))))
 
 -- ---- a directory that took a place of a child has a cell for it
 
@@ -152,24 +159,31 @@ justified n edges merge stamps stay before removing between last s m asked dir c
     let late = is_late n edges before removing dir removal removes in
     let hear = hears n dir directory removal r.dead late w k last s asked reach.least reach.most takes reach.came in
     let gone : (own_place dir (took_behind a took asked r.k)).live ≡ false = ap (λ (p : Place). p.live) r.was ∙ r.dead in
-    let there = stay events last s asked takes (k.mindful.removed s) r.k (update.Place dir r.place) r.made dir directory gone ∙ r.was in
-    let caused : IsCaused a asked dir removal = (first_dead dir directory removal r.dead late a (k.mindful.removed s) asked hear).1 there in
+    let kept : IsStillThere (removed_then a asked) (own_place dir (took_behind a took asked r.k)) =
+    ap (λ (p : Place). is_removed (removed_then a asked) p.stamp.server) r.was ∙ r.kept in
+    let had : place_at (first_effect a asked).store.names dir ≡ removal = stay events last s asked takes r.k (update.Place dir r.place) r.made dir directory gone kept ∙ r.was in
+    let caused : IsCaused a asked dir removal = first_dead dir directory removal r.dead late a asked hear r.kept had in
     let begun = begins n edges before removing dir removal removes in
     let maker_is = removal.stamp.server in
     let old = (run n before).stores maker_is in
     let old_took = (run n before).took maker_is in
     let gated = gated_behind n edges before removing dir removal removes between in
     let knows : KnowsChildren dir old.names a.names =
-    first_known n dir directory removal r.dead late old.names w k gated s asked reach.least reach.most reach.came caused in
+    first_known n dir directory removal r.dead late old.names w k gated s asked reach.least reach.most (still_first a asked removal r.kept) reach.came caused in
     let ps = places_taken (InDir dir) child old_took in
     let among : Among listed ps = contained_among ps listed (subst (λ (i : ℕ). Contains (places_taken (InDir dir) child ((run n before).took i)) listed) (sym maker) knew) in
     let e = state_of_cell dir child old_took in
     let there : cell_at old.names dir child ≡ Some e = (merge before maker_is begun.least begun.most).entries dir child ∙ state_some dir child old_took (cell_taken dir child old_took listed among) in
     let here = known_some e (cell_at a.names dir child) (subst (λ o. IsEntryKnownBy o (cell_at a.names dir child)) there (knows child)) in
-    let kept : here.0.place ≡ place_in (InDir dir) child took = state_by dir child took here.0 (has_cell dir child took) (sym ((merge events s reach.least reach.most).entries dir child) ∙ here.1) in
-    let grown : IsPlaceUpTo (place_in (InDir dir) child took) listed = subst (λ (p : Place). IsPlaceUpTo (place_in (InDir dir) child took) p) r.cell (behind_grown a took asked r.k (InDir dir) child) in
+    let told : here.0.place ≡ place_in (InDir dir) child took = state_by dir child took here.0 (has_cell dir child took) (sym ((merge events s reach.least reach.most).entries dir child) ∙ here.1) in
+    let going : takes_effect a asked ≡ true = going_by a asked r.k (slice_get_within (made_behind a asked) r.k (update.Place dir r.place) r.made) (takes_effect a asked) refl in
+    let still : place_in (InDir dir) child (without_gone (gone_in a asked) took) ≡ place_in (InDir dir) child took =
+    ap (latest_place child) (places_still a dir removal late asked going had child took) in
+    let grown : IsPlaceUpTo (place_in (InDir dir) child took) listed =
+    subst (λ (p : Place). IsPlaceUpTo p listed) still
+    (subst (λ (p : Place). IsPlaceUpTo (place_in (InDir dir) child (without_gone (gone_in a asked) took)) p) r.cell (behind_grown a took asked r.k (InDir dir) child)) in
     let low : IsPlaceUpTo e.place listed =
-    UpTo-trans e.place.stamp here.0.place.stamp listed.stamp here.2 (subst (λ (p : Place). IsPlaceUpTo p listed) (sym kept) grown) in
+    UpTo-trans e.place.stamp here.0.place.stamp listed.stamp here.2 (subst (λ (p : Place). IsPlaceUpTo p listed) (sym told) grown) in
     let high : IsPlaceUpTo listed e.place = latest_among child ps listed among in
     let latest_taken = latest_is child ps in
     let same : e.place ≡ listed =

@@ -1,12 +1,14 @@
--- The greatest time of a server never falls, and no server is removed.
-use Rattle.std.proofs.Common.{ℕ, ◌≡◌, ◌≤◌, ◌+◌, ◌^◌, max, min, List, [], length, Bool, true, Option, None, Some, refl, ◌∙◌, arith}
+-- The greatest time of a server never falls, and who is removed in its view stays so.
+use Rattle.std.proofs.Common.{ℕ, ◌≡◌, ◌==◌, ◌||◌, ◌≤◌, ◌+◌, ◌++◌, ◌∷◌, ◌^◌, max, min, List, [], length, Bool, true, false, Option, None, Some, refl, sym, ap, ◌∙◌, arith}
+use Rattle.std.proofs.lemmas.Bool.{false≢true}
 use Rattle.pg_base.specs.declared.id.FileId.{FileId}
 use Rattle.pg_register.specs.declared.place.Place.{Place}
+use Rattle.pg_register.specs.Flag.{is_removed}
 use Rattle.pg_register.specs.Place.{root, tilde_name}
 use Rattle.pg_msg.specs.declared.work.Work.{Work}
 use Rattle.pg_msg.specs.Work.{new_work}
 use Rattle.pg_names.specs.declared.own.Own.{Own}
-use Rattle.pg_names.specs.Names.{HeldValue, NamesValue, blank_own, directories, filled, update, with_flag, with_joined, with_place}
+use Rattle.pg_names.specs.Names.{HeldValue, NamesValue, blank_own, directories, fill, filled, join_entry, join_flag, join_place, let_go, update, with_flag, with_joined, with_place}
 use Rattle.pg_names.proofs.Lookups.{update_frame}
 use Rattle.pg_house.specs.Cycles.{break_first, first_moving, moved}
 use Rattle.pg_house.specs.House.{house, movable}
@@ -28,7 +30,9 @@ use Rattle.pg_filled.proofs.Calling.{CallsKeep, call_kept}
 use Rattle.pg_filled.proofs.Coming.{receive_kept}
 use Rattle.pg_filled.proofs.Effects.{arrival_kept, effect_kept}
 use Rattle.pg_filled.proofs.HousePlaces.{house_stays}
+use Rattle.pg_filled.proofs.Losing.{lost_kept}
 use Rattle.pg_filled.proofs.Pieces.{AreKept, begin_kept, flag_kept, place_kept}
+use Rattle.pg_gate.specs.Gate.{IsStillThere}
 
 -- ---- what any piece keeps, whatever comes
 
@@ -41,7 +45,13 @@ AnyBegins f own full = Unit {0}
 abbrev pub AnyFills : FileId → Type 0
 AnyFills f = Unit {0}
 
-module _ (P : NamesValue → Type 0) (k : AreKept P AnyPlace AnyBegins AnyFills) (rules : (moment : ℕ) (s : NamesValue) (work : Work) → P s → P (house moment (state_of s work)).names) where
+-- the house rules remove nobody
+pub house_removed : (moment : ℕ) (s : NamesValue) (work : Work) → (house moment (state_of s work)).names.removed ≡ s.removed
+house_removed moment s work =
+    (house_stays root s.removed (λ (p : Place). Unit {0}) (λ u. Unit {0}) (record { taken = λ own top up q. tt; live = λ p live some. tt; made = λ f p live. tt }) moment (state_of s work)
+    (record { removed = refl; place = tt; made = λ i d lt. tt })).removed
+
+module _ (P : NamesValue → Type 0) (k : AreKept P AnyPlace AnyBegins AnyFills) (gone : (s : NamesValue) (f : FileId) → P s → P (let_go s f)) (rules : (moment : ℕ) (s : NamesValue) (work : Work) → P s → P (house moment (state_of s work)).names) where
   calls_any : (a : Store) (work : Work) → CallsKeep P a work
   calls_any a work = record {
     thing = λ kind policy new h.
@@ -55,43 +65,77 @@ module _ (P : NamesValue → Type 0) (k : AreKept P AnyPlace AnyBegins AnyFills)
     place = λ f p now h. place_kept P AnyPlace AnyBegins AnyFills k a f p tt h;
     flag = λ f g h. flag_kept P AnyPlace AnyBegins AnyFills k a f g h;
     raised = k.raised;
+    lost = λ id found is h. lost_kept P AnyPlace AnyBegins AnyFills k a found work (record { placed = λ b. tt; fills = tt; known = λ p is. tt; anew = tt }) h;
+    removed = λ server h. k.removed a.names server h;
   }
 
-  first_any : (a : Store) (asked : Input) → P a.names → P (first_effect a asked).store.names
+  pub first_any : (a : Store) (asked : Input) → P a.names → P (first_effect a asked).store.names
   first_any a (input.Call moment c) h = call_kept P a (new_work moment 0) (calls_any a (new_work moment 0)) h c
   first_any a (input.Tick moment word) h = h
   first_any a (input.Arrival packet) h =
       arrival_kept P a packet h
-      (receive_kept P AnyPlace AnyBegins AnyFills k a h packet.message (new_work 0 packet.from)
-      (record { cell = λ ends tag p same. tt; confirm = λ dir e same. tt; grant = λ ends g same. tt; full = λ ends same. tt }))
+      (λ heard. receive_kept P AnyPlace AnyBegins AnyFills k a h packet.message (new_work 0 packet.from)
+      (record {
+        cell = λ ends tag p same born. tt;
+        confirm = λ dir e same. tt;
+        grant = λ ends g same. tt;
+        full = λ ends same born. tt;
+        goes = λ ends stamp work same may. gone a.names ends.file h;
+      }))
   first_any a input.Restart h = h
 
   -- AN EVENT
   pub effect_any : (a : Store) (asked : Input) → P a.names → P (effect a asked).store.names
   effect_any a asked h = effect_kept P (record { rules = rules; flag = k.flag }) a asked (first_any a asked h)
 
--- ---- no server is removed
+-- ---- who is removed
 
-abbrev pub NoneRemoved : NamesValue → Type 0
-NoneRemoved s = s.removed ≡ []
+pub more_removed : (rs : List ℕ) (server t : ℕ) → is_removed rs t ≡ true → is_removed (rs ++ server ∷ []) t ≡ true
+more_removed [] server t h = absurd (false≢true h)
+more_removed (r ∷ rs) server t h = by (r == t) h (more_removed rs server t)
+  where
+    by : (b : Bool) → (b || is_removed rs t) ≡ true → (is_removed rs t ≡ true → is_removed (rs ++ server ∷ []) t ≡ true)
+        → (b || is_removed (rs ++ server ∷ []) t) ≡ true
+    by true k rest = refl
+    by false k rest = rest k
 
-removed_kept : AreKept NoneRemoved AnyPlace AnyBegins AnyFills
-removed_kept = record {
-  place = λ s f p may h. (update_frame s f (with_place p)).removed ∙ h;
-  flag = λ s f g h. (update_frame s f (with_flag g)).removed ∙ h;
-  entry = λ s d e h. (update_frame s d (with_joined e)).removed ∙ h;
-  raised = λ s time h. h;
-  begun = λ s f own full may h. h;
-  filled = λ s f may h. (update_frame s f filled).removed ∙ h;
-}
+module _ (t : ℕ) where
+  abbrev RemovedIn : NamesValue → Type 0
+  RemovedIn s = is_removed s.removed t ≡ true
 
-house_removed : (moment : ℕ) (s : NamesValue) (work : Work) → NoneRemoved s → NoneRemoved (house moment (state_of s work)).names
-house_removed moment s work h =
-    (house_stays root [] (λ (p : Place). Unit {0}) (λ u. Unit {0}) (record { taken = λ own top up q. tt; live = λ p live some. tt; made = λ f p live. tt }) moment (state_of s work)
-    (record { removed = h; place = tt; made = λ i d lt. tt })).removed
+  same_removed : (r q : List ℕ) → r ≡ q → is_removed q t ≡ true → is_removed r t ≡ true
+  same_removed r q e h = ap (λ (rs : List ℕ). is_removed rs t) e ∙ h
 
-pub none_removed : (a : Store) (asked : Input) → NoneRemoved a.names → NoneRemoved (effect a asked).store.names
-none_removed a asked h = effect_any NoneRemoved removed_kept house_removed a asked h
+  removed_kept : AreKept RemovedIn AnyPlace AnyBegins AnyFills
+  removed_kept = record {
+    place = λ s f p may h. same_removed (join_place s f p).removed s.removed (update_frame s f (with_place p)).removed h;
+    flag = λ s f g h. same_removed (join_flag s f g).removed s.removed (update_frame s f (with_flag g)).removed h;
+    entry = λ s d e h. same_removed (join_entry s d e).removed s.removed (update_frame s d (with_joined e)).removed h;
+    raised = λ s time h. h;
+    begun = λ s f own full may h. h;
+    filled = λ s f may h. same_removed (fill s f).removed s.removed (update_frame s f filled).removed h;
+    removed = λ s server h. more_removed s.removed server t h;
+  }
+
+  ruled_removed : (moment : ℕ) (s : NamesValue) (work : Work) → RemovedIn s → RemovedIn (house moment (state_of s work)).names
+  ruled_removed moment s work h = same_removed (house moment (state_of s work)).names.removed s.removed (house_removed moment s work) h
+
+  removed_first : (a : Store) (asked : Input) → RemovedIn a.names → RemovedIn (first_effect a asked).store.names
+  removed_first a asked h = first_any RemovedIn removed_kept (λ s f k. k) ruled_removed a asked h
+
+  removed_behind : (a : Store) (asked : Input) → RemovedIn a.names → RemovedIn (effect a asked).store.names
+  removed_behind a asked h = effect_any RemovedIn removed_kept (λ s f k. k) ruled_removed a asked h
+
+pub before_by : (b c : Bool) → (b ≡ true → c ≡ true) → c ≡ false → b ≡ false
+before_by true c up h = absurd (false≢true (sym h ∙ up refl))
+before_by false c up h = refl
+
+-- who is not removed in the view behind an event, or behind its first effect, was not removed before it
+pub still_first : (a : Store) (asked : Input) (p : Place) → IsStillThere (first_effect a asked).store.names.removed p → IsStillThere a.names.removed p
+still_first a asked p h = before_by (is_removed a.names.removed p.stamp.server) _ (removed_first p.stamp.server a asked) h
+
+pub still_before : (a : Store) (asked : Input) (p : Place) → IsStillThere (effect a asked).store.names.removed p → IsStillThere a.names.removed p
+still_before a asked p h = before_by (is_removed a.names.removed p.stamp.server) _ (removed_behind p.stamp.server a asked) h
 
 -- ---- the greatest time
 
@@ -120,6 +164,7 @@ module _ (n : ℕ) where
     raised = λ s time h. raised_most n s.last time h;
     begun = λ s f own full may h. h;
     filled = λ s f may h. changed_comes s f filled h;
+    removed = λ s server h. h;
   }
 
   -- ---- the house rules
@@ -152,4 +197,4 @@ itself : (n : ℕ) → n ≤ n
 itself n = omega arith
 
 pub last_up : (a : Store) (asked : Input) → a.names.last ≤ (effect a asked).store.names.last
-last_up a asked = effect_any (Comes a.names.last) (comes_kept a.names.last) (house_comes a.names.last) a asked (itself a.names.last)
+last_up a asked = effect_any (Comes a.names.last) (comes_kept a.names.last) (λ s f k. k) (house_comes a.names.last) a asked (itself a.names.last)

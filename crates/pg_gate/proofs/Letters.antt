@@ -1,5 +1,5 @@
--- Messages are mindful of dead directories, and no server is removed, along every run.
-use Rattle.std.proofs.Common.{ℕ, ◌≡◌, ◌&&◌, not, Bool, true, false, cond, List, [], ◌∷◌, Option, None, Some, All, refl, sym, ap, subst, ◌∙◌, inl, inr, ◌⊎◌}
+-- Messages are mindful of dead directories, along every run.
+use Rattle.std.proofs.Common.{ℕ, ◌≡◌, ◌≤◌, ◌&&◌, not, Bool, true, false, cond, List, [], ◌∷◌, Option, None, Some, All, refl, sym, ap, subst, ◌∙◌, inl, inr, ◌⊎◌}
 use Rattle.std.specs.Prelude.{Contains}
 use Rattle.std.proofs.lemmas.Bool.{false≢true}
 use Rattle.std.proofs.lemmas.List.Elements.{All-append, All-contains_itself, All-nil, All-weaker}
@@ -10,7 +10,7 @@ use Rattle.pg_entries.specs.declared.cell.Cell.{Cell}
 use Rattle.pg_entries.specs.declared.entry.Entry.{Entry}
 use Rattle.pg_entries.specs.Entry.{is_listed}
 use Rattle.pg_event.specs.declared.event.Event.{Event}
-use Rattle.pg_flood.proofs.Flood.{after_itself, here}
+use Rattle.pg_flood.proofs.Flood.{after_itself}
 use Rattle.pg_house.proofs.Truths.{or_left, or_right}
 use Rattle.pg_intent.specs.declared.intent.Intent.{Intent}
 use Rattle.pg_intent.specs.declared.key.IntentKey.{IntentKey}
@@ -33,40 +33,58 @@ use Rattle.pg_repair.specs.Fetching.{granted_from, place_to_grant}
 use Rattle.pg_repair.specs.Intending.{pieces}
 use Rattle.pg_repair.specs.Requests.{asks}
 use Rattle.pg_server.specs.declared.input.Input.{Input}
-use Rattle.pg_server.specs.Local.{effect}
+use Rattle.pg_server.specs.Local.{effect, first_effect}
 use Rattle.pg_promises.specs.Whole.{IsWhole}
 use Rattle.pg_run.specs.Intending.{ConfirmsStand, IntendsInOrder}
 use Rattle.pg_run.specs.Journal.{mail}
-use Rattle.pg_run.specs.Laws.{AtEach}
+use Rattle.pg_run.specs.Births.{StaysOrGoes}
+use Rattle.pg_run.specs.Known.{WasMade}
+use Rattle.pg_run.specs.Laws.{AtEach, TakesIn}
 use Rattle.pg_run.specs.Run.{World, next, run, start, world_after}
+use Rattle.pg_run.specs.Views.{IsInView}
 use Rattle.pg_run.proofs.Lists.{contained_among}
 use Rattle.pg_filled.proofs.Acting.{next_by, runs_keep}
-use Rattle.pg_filled.proofs.Filling.{AckedIn, GrowIn}
+use Rattle.pg_filled.proofs.Filling.{AckedIn, GrowIn, MoveIn}
 use Rattle.pg_filled.proofs.Sends.{effect_sends}
 use Rattle.pg_filled.proofs.Told.{all_cells, asks_are}
 use Rattle.pg_filled.proofs.Works.{is_plain}
 use Rattle.pg_gate.specs.Gate.{EdgesAreKept, IsMindful, MessagesAreMindful}
-use Rattle.pg_gate.proofs.Lasting.{none_removed}
 
 -- ---- a world that a run comes to
+
+-- no replica goes and begins again in an event
+abbrev pub StayIn : ℕ → World → Type 0
+StayIn n w = (event : Event) (s : ℕ) (asked : Input) → TakesIn n w event s asked
+    → let a = w.stores s in StaysOrGoes a (first_effect a asked).store × StaysOrGoes a (effect a asked).store
+
+-- what was made is past
+abbrev pub IsPastIn : World → Type 0
+IsPastIn w = (f : FileId) (p : Place) → WasMade w.journal f p → p.stamp.time ≤ (w.stores p.stamp.server).names.last
 
 pub record StandsOn (n : ℕ) (w : World) : Type 0 where
   pub acked : AckedIn n w
   pub grow : GrowIn n w
+  pub move : MoveIn n w
+  pub stay : StayIn n w
+  pub made : IsPastIn w
   pub whole : (s : ℕ) → IsWhole n s (w.stores s)
   pub intends : AtEach n (λ s. IntendsInOrder (w.stores s))
+  pub views : AtEach n (λ s. IsInView w s (w.stores s))
 
 pub stands_run : (n : ℕ) → EdgesAreKept n → (events : List Event) → StandsOn n (run n events)
 stands_run n edges events = record {
   acked = edges.acknowledged events;
   grow = edges.grow events;
+  move = edges.moves events;
+  stay = edges.stay events;
+  made = edges.made events;
   whole = edges.whole events;
   intends = edges.intentions events;
+  views = edges.views events;
 }
 
 -- what is proved of it
 pub record AreMindful (w : World) : Type 0 where
-  pub removed : (s : ℕ) → (w.stores s).names.removed ≡ []
   pub said : All (λ (m : Sent). IsMindful m.packet.message) (mail w.journal)
 
 -- ---- messages of other kinds say nothing
@@ -200,15 +218,11 @@ sent_mindful a asked before behind =
 mindful_next : (n : ℕ) (w : World) (e : Event) → StandsOn n w → StandsOn n (world_after w (next n w e)) → AreMindful w → AreMindful (world_after w (next n w e))
 mindful_next n w e stands then k =
     next_by n w (λ (v : World). StandsOn n v → AreMindful v) (record {
-      still = λ event cause after. record { removed = k.removed; said = k.said };
+      still = λ event cause after. record { said = k.said };
       acted = λ event s asked least most takes asks after.
           (let a = w.stores s in
           let end = (effect a asked).store in
           record {
-            removed = λ t. elim (here w.stores s end t) [
-              | inl e ↦ ap (λ (x : Store). x.names.removed) e.1 ∙ none_removed a asked (k.removed s)
-              | inr e ↦ ap (λ (x : Store). x.names.removed) e.1 ∙ k.removed t
-            ];
             said = All-append Says (effect a asked).out.sent (mail w.journal)
                 (sent_mindful a asked (stands.intends s least most).confirms
                 (subst ConfirmsStand (after_itself w.stores s end) (after.intends s least most).confirms)) k.said;
@@ -217,7 +231,7 @@ mindful_next n w e stands then k =
 
 pub mindful_run : (n : ℕ) → EdgesAreKept n → (events : List Event) → AreMindful (run n events)
 mindful_run n edges events =
-    runs_keep n (StandsOn n) AreMindful (mindful_next n) (start n) events (stands_run n edges) (record { removed = λ s. refl; said = All-nil Says })
+    runs_keep n (StandsOn n) AreMindful (mindful_next n) (start n) events (stands_run n edges) (record { said = All-nil Says })
 
 pub messages_are_mindful : (n : ℕ) → EdgesAreKept n → MessagesAreMindful n
 messages_are_mindful n edges events = (mindful_run n edges events).said

@@ -26,7 +26,8 @@ use Rattle.pg_server.specs.declared.input.Input.TheVariants as input
 use Rattle.pg_server.specs.Local.{Effect, closed, effect, finished, first_effect, is_heard, receive, reply_to, sent_again, settled, takes_effect}
 use Rattle.pg_promises.proofs.Choices.{chosen}
 use Rattle.pg_filled.proofs.HousePlaces.{StaysSo, house_stays}
-use Rattle.pg_filled.proofs.Replies.{IsGoing, MayAnswer, call_sends, receive_sends, tick_sends}
+use Rattle.pg_filled.proofs.Called.{IsGoing, call_sends}
+use Rattle.pg_filled.proofs.Replies.{MayAnswer, receive_sends, tick_sends}
 use Rattle.pg_filled.proofs.Works.{IsClosed, settled_sends}
 
 -- a thing goes in a call
@@ -77,6 +78,7 @@ module _ (a : Store) (asked : Input) where
     left = λ w d f h. h;
     unsure = λ w d f h. h;
     linked = λ w f peer h. h;
+    begun = λ w i h. h;
     flagged = λ w f g h. All-push IsOfGoing w.made (update.Flag f g) h (flag_made f g);
     sent = λ w x is h. h;
     last = λ w x is h. h;

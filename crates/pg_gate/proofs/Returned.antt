@@ -11,11 +11,13 @@ use Rattle.pg_run.proofs.Frame.{acts_is}
 use Rattle.pg_gate.specs.Gate.{EdgesAreKept, KnowsChildren, ReturnsFindNewPlaces}
 use Rattle.pg_gate.proofs.Begun.{gated_behind, is_late, removed_are_empty, stands_all}
 use Rattle.pg_gate.proofs.Deaths.{IsCaused, first_dead}
-use Rattle.pg_gate.proofs.Gated.{first_known, hears, knows_on}
+use Rattle.pg_gate.proofs.Gated.{first_known, hears}
+use Rattle.pg_gate.proofs.Knowing.{knows_on, knows_stay}
+use Rattle.pg_gate.proofs.Lasting.{still_first}
 
 -- JUSTIFIED RETURN
 pub returns_find_new : (n : ℕ) → EdgesAreKept n → ReturnsFindNewPlaces n
-returns_find_new n edges before removing between last dir removal r s asked takes at found grew child e c was is listed =
+returns_find_new n edges before removing between last dir removal r s asked takes there at found grew child e c was is listed =
     let events = before ++ removing ∷ between in
     let w = run n events in
     let a = w.stores s in
@@ -25,12 +27,14 @@ returns_find_new n edges before removing between last dir removal r s asked take
     let gated = gated_behind n edges before removing dir removal r between in
     let k = stands_all n edges events in
     let caused : IsCaused a asked dir removal =
-    (first_dead dir r.directory removal r.dead late a (k.mindful.removed s) asked (hears n dir r.directory removal r.dead late w k last s asked reach.least reach.most takes reach.came)).1 at in
+    first_dead dir r.directory removal r.dead late a asked (hears n dir r.directory removal r.dead late w k last s asked reach.least reach.most takes reach.came) there at in
     let first : KnowsChildren dir old.names a.names =
-    first_known n dir r.directory removal r.dead late old.names w k gated s asked reach.least reach.most reach.came caused in
+    first_known n dir r.directory removal r.dead late old.names w k gated s asked reach.least reach.most (still_first a asked removal there) reach.came caused in
     let behind = (first_effect a asked).store.names in
     let then : KnowsChildren dir old.names found =
-    knows_on dir old.names behind found (knows_on dir old.names a.names behind first (k.on.grow last s asked takes).0.names) grew in
+    knows_on dir old.names behind found
+    (knows_stay dir removal late old.names a (first_effect a asked).store (k.on.whole s).together (k.on.grow last s asked takes).0
+    (k.on.stay last s asked takes).0 first at) grew in
     let both : IsEntryKnownBy (Some e) (Some c) = subst (λ o. IsEntryKnownBy (Some e) o) is (subst (λ o. IsEntryKnownBy o (cell_at found dir child)) was (then child)) in (
       both.place,
       λ same.

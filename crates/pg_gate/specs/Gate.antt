@@ -1,8 +1,9 @@
 -- The gate: a server that knows the removal of a directory knows all that its remover knew of its
 -- children. Statements and invariants.
-use Rattle.std.specs.Prelude.{ℕ, ◌≡◌, ◌≢◌, ◌<◌, ◌≤◌, ◌⊎◌, ◌++◌, ◌∷◌, true, false, All, Contains, List, Some}
+use Rattle.std.specs.Prelude.{ℕ, ◌≡◌, ◌≢◌, ◌<◌, ◌≤◌, ◌⊎◌, ◌++◌, ◌∷◌, true, false, All, Contains, List, Some, length}
 use Rattle.pg_base.specs.declared.id.FileId.{FileId}
 use Rattle.pg_register.specs.declared.place.Place.{Place}
+use Rattle.pg_register.specs.Flag.{is_removed}
 use Rattle.pg_register.specs.Place.{blank_place}
 use Rattle.pg_entries.specs.declared.cell.Cell.TheVariants as cell
 use Rattle.pg_entries.specs.declared.entry.Entry.{Entry}
@@ -12,29 +13,40 @@ use Rattle.pg_msg.specs.declared.message.Ends.{Ends}
 use Rattle.pg_msg.specs.declared.message.Granted.{Granted}
 use Rattle.pg_msg.specs.declared.message.Message.{Message}
 use Rattle.pg_msg.specs.declared.message.Message.TheVariants as message
+use Rattle.pg_msg.specs.declared.message.Sent.{Sent}
 use Rattle.pg_msg.specs.declared.update.Update.TheVariants as update
 use Rattle.pg_names.specs.Names.{NamesValue, cell_at, is_dir, own_or_blank}
 use Rattle.pg_server.specs.declared.input.Input.{Input}
 use Rattle.pg_server.specs.Local.{first_effect}
+use Rattle.pg_store.specs.declared.store.Store.{Store}
+use Rattle.pg_store.specs.Together.{IsOver, birth_at}
 use Rattle.pg_promises.specs.Names.{AreNamesUpTo, IsEntryKnownBy}
 use Rattle.pg_promises.specs.UpTo.{IsPlaceUpTo}
 use Rattle.pg_promises.specs.Whole.{IsWhole}
 use Rattle.pg_run.specs.Acknowledged.{AcknowledgedKeysAreHad}
+use Rattle.pg_run.specs.Births.{BirthsMoveInEvents, ReplicasStayOrGo}
 use Rattle.pg_run.specs.Grown.{EventsGrow}
 use Rattle.pg_run.specs.Intending.{IntentionsAreInOrder}
-use Rattle.pg_run.specs.Journal.{mail}
+use Rattle.pg_run.specs.Journal.{mail, removals}
+use Rattle.pg_run.specs.Known.{PlacesMadeArePast}
 use Rattle.pg_run.specs.Laws.{AtEach, TakesIn, names_after}
-use Rattle.pg_run.specs.Run.{World, next, run}
+use Rattle.pg_run.specs.Run.{World, next, removed_then, run}
+use Rattle.pg_run.specs.Views.{ViewsAreFronts, removed_by}
 
 -- ---- what it stands on
 
--- peers have what they acknowledged, servers lose nothing that they hold, each server is as it
--- should be, and Confirms stand only where the child is listed
+-- peers have what they acknowledged, servers lose nothing that they hold unless a replica goes, births
+-- move one way, each server is as it should be, Confirms stand only where the child is listed, the time
+-- of what was made is past, and views are fronts of the removals
 pub record EdgesAreKept (servers : ℕ) : Type 0 where
   pub acknowledged : AcknowledgedKeysAreHad servers
   pub grow : EventsGrow servers
   pub whole : (events : List Event) (s : ℕ) → IsWhole servers s ((run servers events).stores s)
+  pub moves : BirthsMoveInEvents servers
+  pub stay : ReplicasStayOrGo servers
   pub intentions : IntentionsAreInOrder servers
+  pub made : PlacesMadeArePast servers
+  pub views : ViewsAreFronts servers
 
 -- ---- messages
 
@@ -63,6 +75,12 @@ abbrev pub KnowsChildren : FileId → NamesValue → NamesValue → Type 0
 KnowsChildren dir before after =
     (child : FileId) → IsEntryKnownBy (cell_at before dir child) (cell_at after dir child)
 
+-- of each of these entries the replica of this birth knows as much, or the birth is over
+abbrev pub KnowsOrOver : FileId → NamesValue → Store → ℕ → Type 0
+KnowsOrOver dir known a birth = (child : FileId) (e : Entry) → cell_at known dir child ≡ Some e
+    → ((birth_at a dir ≡ Some birth) × IsEntryKnownBy (Some e) (cell_at a.names dir child))
+    ⊎ IsOver a dir birth
+
 -- behind these events the next one removes a directory
 pub record Removes (servers : ℕ) (before : List Event) (removing : Event) (dir : FileId)
     (removal : Place) : Type 0 where
@@ -70,13 +88,18 @@ pub record Removes (servers : ℕ) (before : List Event) (removing : Event) (dir
   pub dead : removal.live ≡ false
   pub made : Contains (next servers (run servers before) removing).entry.made (update.Place dir removal)
 
+-- the place is of a server that is not removed among these
+abbrev pub IsStillThere : List ℕ → Place → Type 0
+IsStillThere removed place = is_removed removed place.stamp.server ≡ false
+
 -- THE GATE: wherever a directory has this dead place later on, all is known that its remover knew of
--- its children
+-- its children, unless the remover is removed in the server's view
 abbrev pub GateStands : ℕ → Type 0
 GateStands servers = (before : List Event) (removing : Event) (between : List Event)
     (dir : FileId) (removal : Place) → Removes servers before removing dir removal
     → let after = before ++ removing ∷ between in
-    AtEach servers (λ s. place_at (names_after servers after s) dir ≡ removal
+    AtEach servers (λ s. IsStillThere (names_after servers after s).removed removal
+    → place_at (names_after servers after s) dir ≡ removal
     → KnowsChildren dir (names_after servers before removal.stamp.server)
     (names_after servers after s))
 
@@ -90,14 +113,15 @@ RemovedAreEmpty servers = (before : List Event) (removing : Event) (dir : FileId
 
 -- ---- return
 
--- JUSTIFIED RETURN: where the house rules find a directory removed, each child that it lists, in
--- whatever its entries have grown to by then, has another place than the remover knew, and no
--- earlier one
+-- JUSTIFIED RETURN: where the house rules find a directory removed, by a server that is not removed in
+-- the view behind the first effect, each child that it lists, in whatever its entries have grown to by
+-- then, has another place than the remover knew, and no earlier one
 abbrev pub ReturnsFindNewPlaces : ℕ → Type 0
 ReturnsFindNewPlaces servers = (before : List Event) (removing : Event) (between : List Event)
     (last : Event) (dir : FileId) (removal : Place) → Removes servers before removing dir removal
     → let w = run servers (before ++ removing ∷ between) in
     (s : ℕ) (asked : Input) → TakesIn servers w last s asked
+    → IsStillThere (removed_then (w.stores s) asked) removal
     → place_at (first_effect (w.stores s) asked).store.names dir ≡ removal
     → (found : NamesValue)
     → AreNamesUpTo (first_effect (w.stores s) asked).store.names found
@@ -115,20 +139,32 @@ pub record Brings (dir : FileId) (removal : Place) (m : Message) : Type 0 where
   pub is : m ≡ message.Cell ends tag (cell.Place removal)
   pub here : ends.file ≡ dir
 
+-- what a message was sent with is a front of the removals
+abbrev pub IsDated : World → Sent → Type 0
+IsDated w m = m.packet.view ≤ length (removals w.journal)
+
 -- known: what the remover knew of names before it removed the directory
+-- passed: its time is past there
+-- there: a server in whose view the remover is not removed has the removal only with what was known
+-- brought: where a message of such a view brings the removal, the replica to which it goes knows as
+--   much, or is gone
 pub record IsGated (servers : ℕ) (known : NamesValue) (dir : FileId) (removal : Place) (w : World)
     : Type 0 where
-  pub own : 1 ≤ removal.stamp.server → removal.stamp.server ≤ servers
-      → KnowsChildren dir known (w.stores removal.stamp.server).names
-  pub there : AtEach servers (λ s. place_at (w.stores s).names dir ≡ removal
+  pub passed : removal.stamp.time ≤ (w.stores removal.stamp.server).names.last
+  pub there : AtEach servers (λ s. IsStillThere (w.stores s).names.removed removal
+      → place_at (w.stores s).names dir ≡ removal
       → KnowsChildren dir known (w.stores s).names)
-  pub brought : All (λ m. Brings dir removal m.packet.message → 1 ≤ m.to → m.to ≤ servers
-      → KnowsChildren dir known (w.stores m.to).names) (mail w.journal)
+  pub brought : All (λ m. (b : Brings dir removal m.packet.message) → IsDated w m
+      × (IsStillThere (removed_by w m.packet.view) removal → 1 ≤ m.to → m.to ≤ servers
+      → KnowsOrOver dir known (w.stores m.to) b.ends.receiver)) (mail w.journal)
 
--- no server knows this place of the directory, and no message ever brought it
+-- no server knows this place of the directory, and no message ever brought it; unless its maker is removed
+-- in the view
 pub record IsUnknown (servers : ℕ) (dir : FileId) (place : Place) (w : World) : Type 0 where
-  pub there : AtEach servers (λ s. place_at (w.stores s).names dir ≢ place)
-  pub brought : All (λ m. ¬ (Brings dir place m.packet.message)) (mail w.journal)
+  pub there : AtEach servers (λ s. IsStillThere (w.stores s).names.removed place
+      → place_at (w.stores s).names dir ≢ place)
+  pub brought : All (λ m. Brings dir place m.packet.message → IsDated w m
+      × ¬ (IsStillThere (removed_by w m.packet.view) place)) (mail w.journal)
 
 -- and so it is until its maker has come to its time
 abbrev pub IsUnknownAtFirst : ℕ → FileId → Place → World → Type 0

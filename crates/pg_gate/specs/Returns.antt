@@ -1,5 +1,5 @@
 -- What justified return stands on, of what servers take, besides the gate.
-use Rattle.std.specs.Prelude.{ℕ, ◌≡◌, ◌⊎◌, true, false, Contains, List, [], Some, slice_get}
+use Rattle.std.specs.Prelude.{ℕ, ◌≡◌, ◌⊎◌, true, false, Contains, List, Some, slice_get}
 use Rattle.pg_base.specs.declared.id.FileId.{FileId}
 use Rattle.pg_register.specs.declared.place.Place.{Place}
 use Rattle.pg_event.specs.declared.event.Event.{Event}
@@ -8,9 +8,9 @@ use Rattle.pg_names.specs.Names.{is_dir}
 use Rattle.pg_server.specs.declared.input.Input.{Input}
 use Rattle.pg_server.specs.Local.{first_effect}
 use Rattle.pg_run.specs.Laws.{AtEach, TakesIn, took_behind}
-use Rattle.pg_run.specs.Run.{made_behind, run}
+use Rattle.pg_run.specs.Run.{made_behind, removed_then, run}
 use Rattle.pg_run.specs.Took.{Take, Taker, first_place, own_place, places_taken}
-use Rattle.pg_gate.specs.Gate.{place_at}
+use Rattle.pg_gate.specs.Gate.{IsStillThere, place_at}
 
 -- ---- no two places of a thing have one stamp
 
@@ -26,13 +26,15 @@ TakesHaveOwnStamps servers = (events : List Event) → AtEach servers (λ s.
 
 -- ---- in the midst of an event
 
--- where no server is removed: where a directory's own place is a dead one while the house rules make
--- updates, it had this place behind the first effect
+-- where a directory's own place is a dead one while the house rules make updates, and its maker is not
+-- removed in the view behind the first effect, it had this place behind the first effect
 abbrev pub DeadPlacesStay : ℕ → Type 0
 DeadPlacesStay servers = (events : List Event) (last : Event) (s : ℕ) (asked : Input)
-    → let w = run servers events in TakesIn servers w last s asked → (w.stores s).names.removed ≡ []
+    → let w = run servers events in TakesIn servers w last s asked
     → (k : ℕ) (u : Update) → slice_get (made_behind (w.stores s) asked) k ≡ Some u
     → (dir : FileId) → is_dir dir ≡ true
     → (own_place dir (took_behind (w.stores s) (w.took s) asked k)).live ≡ false
+    → IsStillThere (removed_then (w.stores s) asked)
+    (own_place dir (took_behind (w.stores s) (w.took s) asked k))
     → place_at (first_effect (w.stores s) asked).store.names dir
     ≡ own_place dir (took_behind (w.stores s) (w.took s) asked k)

@@ -8,9 +8,9 @@ ghost use Rattle.pg_run.specs.Laws.{NamesMerge, ReturnsAreJustified};
 
 /// Where the edges of a run keep what they promise: no message grants a directory with a dead place, but the blank one, or
 /// asks to confirm what is not listed; the remover of a directory listed no child of it; its removal comes to a server only
-/// with all that the remover knew of the children; and so, where a directory comes back, each child that it lists has a
-/// place that the remover did not know. The last says it of what servers took, where that is what they know, in the midst
-/// of events too.
+/// with all that the remover knew of the children, unless the remover is removed in that server's view; and so, where a
+/// directory comes back, each child that it lists has a place that the remover did not know, but for such a remover. The
+/// last says it of what servers took, where that is what they know, in the midst of events too.
 pub fn returns_are_justified()
     ensures messages { (servers : ℕ) → EdgesAreKept servers → MessagesAreMindful servers }
     ensures empty { (servers : ℕ) → EdgesAreKept servers → RemovedAreEmpty servers }

@@ -37,13 +37,13 @@ use Rattle.pg_promises.proofs.Choices.{decided}
 use Rattle.pg_promises.proofs.Flags.{flag_there}
 use Rattle.pg_run.specs.Births.{BirthsAreAlone, BirthsAreKnown}
 use Rattle.pg_run.specs.Golds.{FullReplicasSeeGold}
+use Rattle.pg_run.specs.Views.{ViewsAreFronts}
 use Rattle.pg_run.specs.Run.{Taking, World, effect_step, run, start, taking_in, world_after}
 use Rattle.pg_run.proofs.Event.{store_is}
 use Rattle.pg_run.proofs.Found.{flag_found}
 use Rattle.pg_run.proofs.Frame.{Acts, each_after, holds_in_runs, next_is, run_more}
 use Rattle.pg_order.proofs.FlagsSay.{all_join}
 use Rattle.pg_order.proofs.Runs.{first_ordered, first_runs, sound_run}
-use Rattle.pg_intends.proofs.Runs.{all_rest}
 use Rattle.pg_golds.proofs.Seen.{NoneGoldless, full_see_gold, goldless_alike}
 
 -- ---- the start
@@ -103,7 +103,7 @@ settled_removed d of_dirs sorted last ordered =
     ∙ (rules_by d.work.now st).1
 
 module _ (n s : ℕ) (a : Store) (none : NoneGoldless a) (asked : Input) (whole : IsWhole n s (first_effect a asked).store)
-    (ordered : AreOrdered (first_effect a asked).store.names) (all_live : (effect a asked).store.names.removed ≡ []) where
+    (ordered : AreOrdered (first_effect a asked).store.names) (own : is_removed (effect a asked).store.names.removed s ≡ false) where
   abbrev Sees : Done → Type 0
   Sees d = NoneGoldless d.store
 
@@ -113,23 +113,28 @@ module _ (n s : ℕ) (a : Store) (none : NoneGoldless a) (asked : Input) (whole 
   abbrev End : Done
   End = intended (settled First)
 
-  -- no server is removed before the house rules
-  first_live : takes_effect a asked ≡ true → First.store.names.removed ≡ []
-  first_live takes =
+  -- the same servers are removed before the house rules
+  first_removed : takes_effect a asked ≡ true → First.store.names.removed ≡ (effect a asked).store.names.removed
+  first_removed takes =
       let end_is : (effect a asked).store ≡ End.store = store_is a asked ∙ ap (λ (t : Bool). (cond t End First).store) takes in
       let stays = begin_end_stays (settled First).store (settled First).work in
       sym (settled_removed First whole.names.dirs whole.names.sorted whole.names.last ordered)
       ∙ sym (ap (λ (x : NamesValue). x.removed) stays.names)
-      ∙ sym (ap (λ (b : Store). b.names.removed) end_is) ∙ all_live
+      ∙ sym (ap (λ (b : Store). b.names.removed) end_is)
+
+  -- and the server itself is none of them
+  first_live : takes_effect a asked ≡ true → is_removed First.store.names.removed First.store.names.server ≡ false
+  first_live takes =
+      ap (λ (j : ℕ). is_removed First.store.names.removed j) whole.server
+      ∙ ap (λ (rs : List ℕ). is_removed rs s) (first_removed takes) ∙ own
 
   -- behind them nothing is goldless, and what is intended changes nothing of it
   going : takes_effect a asked ≡ true → Sees End
   going takes =
       let m = settled First in
       let stays = begin_end_stays m.store m.work in
-      let live : is_removed First.store.names.removed First.store.names.server ≡ false = ap (λ (rs : List ℕ). is_removed rs First.store.names.server) (first_live takes) in
       goldless_alike m.store End.store stays.names (births_by m.store End.store stays.replicas)
-      (none_goldless First.store First.work whole.names.dirs whole.names.sorted whole.names.last ordered live)
+      (none_goldless First.store First.work whole.names.dirs whole.names.sorted whole.names.last ordered (first_live takes))
 
   -- without effect
   late : (x : Input) → takes_effect a x ≡ false → Sees (first_effect a x)
@@ -154,9 +159,9 @@ NoneIn n s a = 1 ≤ s → s ≤ n → NoneGoldless a
 abbrev AllNone : ℕ → World → Type 0
 AllNone n w = (s : ℕ) → NoneIn n s (w.stores s)
 
-acted : (n : ℕ) (events : List Event) (event : Event) (t : Taking) → taking_in n (run n events) event ≡ Some t → Acts n (run n events) t → AllNone n (run n events)
+acted : (n : ℕ) → ViewsAreFronts n → (events : List Event) (event : Event) (t : Taking) → taking_in n (run n events) event ≡ Some t → Acts n (run n events) t → AllNone n (run n events)
     → AllNone n (world_after (run n events) (effect_step (run n events) event t.server t.asked))
-acted n events event t taken act all =
+acted n views events event t taken act all =
     let w = run n events in
     let a = w.stores t.server in
     let whole = first_runs n w (sound_run n events) t.server act.least act.most t.asked act.came in
@@ -165,20 +170,20 @@ acted n events event t taken act all =
     run_more n (start n) events event ∙ ap (world_after w) (next_is n w event t taken) in
     let now : (run n (events ++ event ∷ [])).stores t.server ≡ (effect a t.asked).store =
     ap (λ (v : World). v.stores t.server) more ∙ after_itself w.stores t.server (effect a t.asked).store in
-    let live : (effect a t.asked).store.names.removed ≡ [] =
-    sym (ap (λ (b : Store). b.names.removed) now) ∙ (all_rest n (events ++ event ∷ []) t.server).removed in
+    let own : is_removed (effect a t.asked).store.names.removed t.server ≡ false =
+    sym (ap (λ (b : Store). is_removed b.names.removed t.server) now) ∙ (views (events ++ event ∷ []) t.server act.least act.most).own in
     each_after (λ j b. NoneIn n j b) w.stores t.server (effect a t.asked).store all
-    (λ least most. effect_none n t.server a (all t.server least most) t.asked whole ordered live)
+    (λ least most. effect_none n t.server a (all t.server least most) t.asked whole ordered own)
 
-none_in_runs : (n : ℕ) (events : List Event) → AllNone n (run n events)
-none_in_runs n events =
+none_in_runs : (n : ℕ) → ViewsAreFronts n → (events : List Event) → AllNone n (run n events)
+none_in_runs n views events =
     holds_in_runs n (AllNone n) (record {
       first = λ s least most. first_none n s least most;
       idle = λ w event cause k. k;
-      acts = λ before event t is act k. acted n before event t is act k;
+      acts = λ before event t is act k. acted n views before event t is act k;
     }) events
 
 -- GOLDS ARE SEEN
-pub full_replicas_see_gold : (n : ℕ) → BirthsAreKnown n → BirthsAreAlone n → FullReplicasSeeGold n
-full_replicas_see_gold n births alone events s least most =
-    full_see_gold n births alone events s least most ((sound_run n events).servers s).sound.whole (none_in_runs n events s least most)
+pub full_replicas_see_gold : (n : ℕ) → ViewsAreFronts n → BirthsAreKnown n → BirthsAreAlone n → FullReplicasSeeGold n
+full_replicas_see_gold n views births alone events s least most =
+    full_see_gold n births alone events s least most ((sound_run n events).servers s).sound.whole (none_in_runs n views events s least most)

@@ -1,1 +1,3 @@
+pub mod LeaveOk
 pub mod Each
+pub mod Byes

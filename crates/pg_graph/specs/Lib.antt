@@ -1,3 +1,4 @@
 pub mod Seeks
 pub mod Seeking
 pub mod Walks
+pub mod Leaving

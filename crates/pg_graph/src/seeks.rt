@@ -48,7 +48,7 @@ fn first_apart<'a>(store: &Store, edges: &Edges, flags: &'a [Flag]) -> Option<&'
 }
 
 /// Whether the flag of the edge's peer is raised with the birth that the edge names, and the peer is not removed.
-fn matches(store: &Store, flags: &GoldFlags, edge: &Edge) -> bool
+pub fn matches(store: &Store, flags: &GoldFlags, edge: &Edge) -> bool
     ensures { result ≡ matches store.now.names.removed flags.now edge.now }
 {
     flags.is_raised(edge.peer, edge.birth) && !store.names.is_removed(edge.peer)

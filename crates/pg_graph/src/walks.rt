@@ -5,10 +5,10 @@ ghost use Rattle.std.specs.Option.{option_copied};
 ghost use Rattle.pg_graph.specs.Seeks.{edges_of};
 ghost use Rattle.pg_graph.specs.Walks.{has_few_edges, is_onward, meet_origin, onward, walk, walk_along, walk_from, walk_of, walk_of_tick, walk_on, walked, with_few_edges};
 
-use crate::root::is_root;
 use pg_base::{FileId, Items, NodeId};
 use pg_cells::{Manner, accept, ends_to, is_accepted, link_peer, post, send};
 use pg_edges::Edge;
+use pg_house::is_root;
 use pg_msg::{Ends, Message, Work};
 use pg_store::Store;
 use std::alloc::AllocError;

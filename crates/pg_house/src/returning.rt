@@ -13,7 +13,8 @@ use pg_names::Names;
 use pg_register::Place;
 use std::alloc::AllocError;
 
-pub(crate) fn is_root(file: &FileId) -> bool
+/// Whether this is the root, the directory above all others.
+pub fn is_root(file: &FileId) -> bool
     ensures { result ≡ is_root file.now }
 {
     let root = FileId {

@@ -18,7 +18,7 @@ use Rattle.pg_msg.specs.Work.{with_begun}
 use Rattle.pg_names.specs.declared.own.Own.{Own}
 use Rattle.pg_names.specs.Names.{NamesValue, cell_at, or_blank, own_at}
 use Rattle.pg_register.specs.declared.flag.Flag.{Flag}
-use Rattle.pg_register.specs.Flag.{first_other_gold, is_live}
+use Rattle.pg_register.specs.Flag.{first_other_gold, is_live, is_removed}
 use Rattle.pg_register.specs.Flag.{is_live_other as is_live_other_flag}
 use Rattle.pg_store.specs.declared.store.Store.{Store}
 use Rattle.pg_store.specs.declared.wishes.Wish.{Wish}
@@ -33,16 +33,15 @@ use Rattle.pg_repair.specs.Fills.{begin_fill, begin_fills, fill_of, files_to_fil
 use Rattle.pg_repair.specs.Intending.{begin_intent, each, in_order, with_begun_if}
 use Rattle.pg_repair.specs.Patches.{begin_patch, begin_patches, patch_of}
 use Rattle.pg_graph.specs.Seeks.{aim_seek, begin_seek, begin_seeks, edges_of, has_seek, is_apart, seek_again, seek_target, target_or_next, to_seek, was_linked}
-use Rattle.pg_promises.specs.Whole.{IsOther}
 use Rattle.pg_promises.proofs.Choices.{chosen}
 use Rattle.pg_order.specs.Named.{IsOfServer}
 use Rattle.pg_order.proofs.Intended.{all_begun, all_changed}
-use Rattle.pg_intends.proofs.Aimed.{first_aims, next_aims, not_equal}
-use Rattle.pg_intends.proofs.Far.{Aims, AreAimed, aimed_target}
+use Rattle.pg_intends.proofs.Aimed.{first_aims, next_aims, not_equal, not_true}
+use Rattle.pg_intends.proofs.Far.{Aims, AreAimed, IsLive, aimed_target}
 
 -- ---- who is asked by what begins
 
-rejoined_target : (held i : Intent) → target_of (rejoined held i) ≡ target_of held
+pub rejoined_target : (held i : Intent) → target_of (rejoined held i) ≡ target_of held
 rejoined_target (intent.Patch d e t) (intent.Patch dir entry target) = refl
 rejoined_target (intent.Patch d e t) i = refl
 rejoined_target (intent.Bye file birth peer peer_birth) i = refl
@@ -56,140 +55,161 @@ pub record FlagsAreOfServers (n : ℕ) (m : NamesValue) : Type 0 where
   pub own : (file : FileId) (own : Own) → own_at m file ≡ Some own → All (IsOfServer n) own.flags
   pub cells : (dir child : FileId) (e : Entry) → cell_at m dir child ≡ Some e → All (IsOfServer n) e.flags
 
-pub record IsAiming (n s : ℕ) (b : Store) (w : Work) : Type 0 where
+pub record IsAiming (n s : ℕ) (r : List ℕ) (b : Store) (w : Work) : Type 0 where
   pub servers : b.servers ≡ n
   pub server : b.names.server ≡ s
-  pub from : Aims n s w.from
+  pub removed : b.names.removed ≡ r
+  pub from : Aims n s r w.from
   pub flags : FlagsAreOfServers n b.names
-  pub aims : AreAimed n s b.intents
+  pub aims : AreAimed n s r b.intents
 
-module _ (n s : ℕ) where
+module _ (n s : ℕ) (r : List ℕ) where
   begun_from : (t : Bool) (w : Work) (i : Intent) → (with_begun_if t w (key_of i)).from ≡ w.from
   begun_from t w i = chosen (λ (v : Work). v.from ≡ w.from) t (with_begun w (key_of i)) w refl refl
 
-  aiming_begun : (b : Store) (i : Intent) (w : Work) → IsAiming n s b w → Aims n s (target_of i) → IsAiming n s (begin_intent b i w).store (begin_intent b i w).work
+  aiming_begun : (b : Store) (i : Intent) (w : Work) → IsAiming n s r b w → Aims n s r (target_of i) → IsAiming n s r (begin_intent b i w).store (begin_intent b i w).work
   aiming_begun b i w k here = record {
     servers = k.servers;
     server = k.server;
-    from = subst (Aims n s) (sym (begun_from (not (stands b.intents (key_of i))) w i)) k.from;
+    removed = k.removed;
+    from = subst (Aims n s r) (sym (begun_from (not (stands b.intents (key_of i))) w i)) k.from;
     flags = k.flags;
-    aims = all_begun (λ (j : Intent). Aims n s (target_of j)) b.intents i k.aims here
-        (λ held same was. subst (Aims n s) (sym (rejoined_target held i)) was);
+    aims = all_begun (λ (j : Intent). Aims n s r (target_of j)) b.intents i k.aims here
+        (λ held same was. subst (Aims n s r) (sym (rejoined_target held i)) was);
   }
 
-  aiming_either : (t : Bool) (d e : Done) → IsAiming n s d.store d.work → IsAiming n s e.store e.work → IsAiming n s (cond t d e).store (cond t d e).work
-  aiming_either t d e one other = chosen (λ (x : Done). IsAiming n s x.store x.work) t d e one other
+  aiming_either : (t : Bool) (d e : Done) → IsAiming n s r d.store d.work → IsAiming n s r e.store e.work → IsAiming n s r (cond t d e).store (cond t d e).work
+  aiming_either t d e one other = chosen (λ (x : Done). IsAiming n s r x.store x.work) t d e one other
 
   each_aiming : {A : Type 0} (step : Store → A → Work → Done)
-      → ((b : Store) (x : A) (w : Work) → IsAiming n s b w → IsAiming n s (step b x w).store (step b x w).work)
-      → (xs : List A) (b : Store) (w : Work) → IsAiming n s b w → IsAiming n s (each step b xs w).store (each step b xs w).work
+      → ((b : Store) (x : A) (w : Work) → IsAiming n s r b w → IsAiming n s r (step b x w).store (step b x w).work)
+      → (xs : List A) (b : Store) (w : Work) → IsAiming n s r b w → IsAiming n s r (each step b xs w).store (each step b xs w).work
   each_aiming step one [] b w k = k
   each_aiming step one (x ∷ xs) b w k = each_aiming step one xs (step b x w).store (step b x w).work (one b x w k)
 
-  patch_aiming : (b : Store) (x : Slot) (w : Work) → IsAiming n s b w → IsAiming n s (begin_patch b x w).store (begin_patch b x w).work
+  patch_aiming : (b : Store) (x : Slot) (w : Work) → IsAiming n s r b w → IsAiming n s r (begin_patch b x w).store (begin_patch b x w).work
   patch_aiming b x w k =
       aiming_either (is_held b x.dir) (idle b w) (begin_intent b (patch_of b x w) w) k
-      (aiming_begun b (patch_of b x w) w k (first_aims n s b k.servers k.server w.from k.from))
+      (aiming_begun b (patch_of b x w) w k (first_aims n s r b k.servers k.server k.removed w.from k.from))
 
-  wished_aiming : (b : Store) (f : FileId) (o : Option Wish) (w : Work) → IsAiming n s b w → IsAiming n s (without_wished b f o) w
-  wished_aiming b f None w k = record { servers = k.servers; server = k.server; from = k.from; flags = k.flags; aims = k.aims }
-  wished_aiming b f (Some wish) w k = record { servers = k.servers; server = k.server; from = k.from; flags = k.flags; aims = k.aims }
+  wished_aiming : (b : Store) (f : FileId) (o : Option Wish) (w : Work) → IsAiming n s r b w → IsAiming n s r (without_wished b f o) w
+  wished_aiming b f None w k = record { servers = k.servers; server = k.server; removed = k.removed; from = k.from; flags = k.flags; aims = k.aims }
+  wished_aiming b f (Some wish) w k = record { servers = k.servers; server = k.server; removed = k.removed; from = k.from; flags = k.flags; aims = k.aims }
 
-  fill_aiming : (b : Store) (f : FileId) (w : Work) → IsAiming n s b w → IsAiming n s (begin_fill b f w).store (begin_fill b f w).work
+  fill_aiming : (b : Store) (f : FileId) (w : Work) → IsAiming n s r b w → IsAiming n s r (begin_fill b f w).store (begin_fill b f w).work
   fill_aiming b f w k =
       let c = with_fill_birth b f in
-      let ready = chosen (λ (x : Store). IsAiming n s x w) (is_held b f) b (without_wished b f (wish_at b f)) k (wished_aiming b f (wish_at b f) w k) in
+      let ready = chosen (λ (x : Store). IsAiming n s r x w) (is_held b f) b (without_wished b f (wish_at b f)) k (wished_aiming b f (wish_at b f) w k) in
       aiming_either (is_some (fill_at b f)) (idle b w) (begin_intent c (fill_of b f w) w) k
-      (aiming_begun c (fill_of b f w) w ready (first_aims n s c ready.servers ready.server w.from k.from))
+      (aiming_begun c (fill_of b f w) w ready (first_aims n s r c ready.servers ready.server ready.removed w.from k.from))
+
+  -- a live flag of another server
+  live_flag : (flag : Flag) → IsOfServer n flag → is_live_other_flag s r flag ≡ true → IsLive n s r flag.server
+  live_flag flag here is =
+      let parts = and_parts (is_live r flag) (not (flag.server == s)) is in
+      let live = and_parts flag.raised (not (is_removed r flag.server)) parts.0 in
+      record {
+        other = record { least = here.least; most = here.most; apart = not_equal flag.server s parts.1 };
+        stays = not_true (is_removed r flag.server) live.1;
+      }
 
   -- the holder of a child
-  found_gold : (removed : List ℕ) (flags : List Flag) (t : ℕ) → All (IsOfServer n) flags → first_other_gold s removed flags ≡ Some t → IsOther n s t
-  found_gold removed [] t all h = absurd (none-some t h)
-  found_gold removed (flag ∷ flags) t all h =
-      by (is_live_other_flag s removed flag) refl (found_gold removed flags t (All-tail (IsOfServer n) flag flags all)) h
+  found_gold : (flags : List Flag) (t : ℕ) → All (IsOfServer n) flags → first_other_gold s r flags ≡ Some t → IsLive n s r t
+  found_gold [] t all h = absurd (none-some t h)
+  found_gold (flag ∷ flags) t all h =
+      by (is_live_other_flag s r flag) refl (found_gold flags t (All-tail (IsOfServer n) flag flags all)) h
     where
-      by : (u : Bool) → is_live_other_flag s removed flag ≡ u → (first_other_gold s removed flags ≡ Some t → IsOther n s t)
-          → option_map (λ (f : Flag). f.server) (cond u (Some flag) (find (is_live_other_flag s removed) flags)) ≡ Some t → IsOther n s t
+      by : (u : Bool) → is_live_other_flag s r flag ≡ u → (first_other_gold s r flags ≡ Some t → IsLive n s r t)
+          → option_map (λ (f : Flag). f.server) (cond u (Some flag) (find (is_live_other_flag s r) flags)) ≡ Some t → IsLive n s r t
       by true is more e =
-          let here = All-head (IsOfServer n) flag flags all in
-          subst (IsOther n s) (same_Some flag.server t e) (record { least = here.least; most = here.most; apart = not_equal flag.server s (and_parts (is_live removed flag) (not (flag.server == s)) is).1 })
+          subst (IsLive n s r) (same_Some flag.server t e) (live_flag flag (All-head (IsOfServer n) flag flags all) is)
       by false is more e = more e
 
-  holder_of : (b : Store) (next : ℕ) (flags : List Flag) (o : Option ℕ) → first_other_gold b.names.server b.names.removed flags ≡ o → b.names.server ≡ s → All (IsOfServer n) flags → Aims n s next
-      → Aims n s (unwrap_or o next)
-  holder_of b next flags None at server all here = here
-  holder_of b next flags (Some t) at server all here =
-      λ some. found_gold b.names.removed flags t all (sym (ap (λ (j : ℕ). first_other_gold j b.names.removed flags) server) ∙ at)
+  -- in its own view
+  gold_here : (b : Store) (flags : List Flag) → b.names.server ≡ s → b.names.removed ≡ r
+      → first_other_gold s r flags ≡ first_other_gold b.names.server b.names.removed flags
+  gold_here b flags server removed =
+      sym (ap (λ (l : List ℕ). first_other_gold s l flags) removed) ∙ sym (ap (λ (j : ℕ). first_other_gold j b.names.removed flags) server)
 
-  holder_by_aims : (b : Store) (dir child : FileId) (next : ℕ) (o : Option Entry) → cell_at b.names dir child ≡ o → b.names.server ≡ s → FlagsAreOfServers n b.names → Aims n s next
-      → Aims n s (holder_by b next o)
-  holder_by_aims b dir child next None at server all here = here
-  holder_by_aims b dir child next (Some e) at server all here =
-      holder_of b next e.flags (first_other_gold b.names.server b.names.removed e.flags) refl server (all.cells dir child e at) here
+  holder_of : (b : Store) (next : ℕ) (flags : List Flag) (o : Option ℕ) → first_other_gold b.names.server b.names.removed flags ≡ o → b.names.server ≡ s
+      → b.names.removed ≡ r → All (IsOfServer n) flags → Aims n s r next → Aims n s r (unwrap_or o next)
+  holder_of b next flags None at server removed all here = here
+  holder_of b next flags (Some t) at server removed all here = λ some. found_gold flags t all (gold_here b flags server removed ∙ at)
 
-  confirm_aiming : (b : Store) (x : Slot) (w : Work) → IsAiming n s b w → IsAiming n s (begin_confirm b x w).store (begin_confirm b x w).work
+  holder_by_aims : (b : Store) (dir child : FileId) (next : ℕ) (o : Option Entry) → cell_at b.names dir child ≡ o → b.names.server ≡ s → b.names.removed ≡ r
+      → FlagsAreOfServers n b.names → Aims n s r next → Aims n s r (holder_by b next o)
+  holder_by_aims b dir child next None at server removed all here = here
+  holder_by_aims b dir child next (Some e) at server removed all here =
+      holder_of b next e.flags (first_other_gold b.names.server b.names.removed e.flags) refl server removed (all.cells dir child e at) here
+
+  confirm_aiming : (b : Store) (x : Slot) (w : Work) → IsAiming n s r b w → IsAiming n s r (begin_confirm b x w).store (begin_confirm b x w).work
   confirm_aiming b x w k =
       aiming_either (is_doubtful b x.dir x.child) (begin_intent b (confirm_of b x) w) (idle b w)
       (aiming_begun b (confirm_of b x) w k
-      (holder_by_aims b x.dir x.child (next_target b b.names.server) (cell_at b.names x.dir x.child) refl k.server k.flags
-      (next_aims n s b k.servers k.server b.names.server))) k
+      (holder_by_aims b x.dir x.child (next_target b b.names.server) (cell_at b.names x.dir x.child) refl k.server k.removed k.flags
+      (next_aims n s r b k.servers k.server k.removed b.names.server))) k
 
   -- a gold replica to which there is no edge
-  found_apart : (removed : List ℕ) (edges : List Edge) (flags : List Flag) (flag : Flag) → All (IsOfServer n) flags
-      → find (is_apart s removed edges) flags ≡ Some flag → IsOther n s flag.server
-  found_apart removed edges [] flag all h = absurd (none-some flag h)
-  found_apart removed edges (g ∷ gs) flag all h =
-      by (is_apart s removed edges g) refl (found_apart removed edges gs flag (All-tail (IsOfServer n) g gs all)) h
+  found_apart : (edges : List Edge) (flags : List Flag) (flag : Flag) → All (IsOfServer n) flags
+      → find (is_apart s r edges) flags ≡ Some flag → IsLive n s r flag.server
+  found_apart edges [] flag all h = absurd (none-some flag h)
+  found_apart edges (g ∷ gs) flag all h =
+      by (is_apart s r edges g) refl (found_apart edges gs flag (All-tail (IsOfServer n) g gs all)) h
     where
-      by : (t : Bool) → is_apart s removed edges g ≡ t → (find (is_apart s removed edges) gs ≡ Some flag → IsOther n s flag.server)
-          → cond t (Some g) (find (is_apart s removed edges) gs) ≡ Some flag → IsOther n s flag.server
+      by : (t : Bool) → is_apart s r edges g ≡ t → (find (is_apart s r edges) gs ≡ Some flag → IsLive n s r flag.server)
+          → cond t (Some g) (find (is_apart s r edges) gs) ≡ Some flag → IsLive n s r flag.server
       by true is more e =
-          let here = All-head (IsOfServer n) g gs all in
-          let other = (and_parts (is_live_other_flag s removed g) _ is).0 in
-          let apart = (and_parts (is_live removed g) (not (g.server == s)) other).1 in
-          subst (λ (x : Flag). IsOther n s x.server) (same_Some g flag e) (record { least = here.least; most = here.most; apart = not_equal g.server s apart })
+          subst (λ (x : Flag). IsLive n s r x.server) (same_Some g flag e)
+          (live_flag g (All-head (IsOfServer n) g gs all) (and_parts (is_live_other_flag s r g) _ is).0)
       by false is more e = more e
 
   known_flags : (b : Store) (f : FileId) (o : Option Own) → own_at b.names f ≡ o → FlagsAreOfServers n b.names → All (IsOfServer n) (or_blank f o).flags
   known_flags b f None at all = All-nil (IsOfServer n)
   known_flags b f (Some own) at all = all.own f own at
 
+  apart_here : (b : Store) (f : FileId) → b.names.server ≡ s → b.names.removed ≡ r
+      → find (is_apart s r (edges_of b f)) (flags_of b f) ≡ find (is_apart b.names.server b.names.removed (edges_of b f)) (flags_of b f)
+  apart_here b f server removed =
+      sym (ap (λ (l : List ℕ). find (is_apart s l (edges_of b f)) (flags_of b f)) removed)
+      ∙ sym (ap (λ (j : ℕ). find (is_apart j b.names.removed (edges_of b f)) (flags_of b f)) server)
+
   seek_by : (b : Store) (f : FileId) (o : Option Flag) → find (is_apart b.names.server b.names.removed (edges_of b f)) (flags_of b f) ≡ o
-      → b.servers ≡ n → b.names.server ≡ s → FlagsAreOfServers n b.names → Aims n s (target_or_next b o)
-  seek_by b f None at servers server all = next_aims n s b servers server b.names.server
-  seek_by b f (Some flag) at servers server all = λ some.
-      found_apart b.names.removed (edges_of b f) (flags_of b f) flag (known_flags b f (own_at b.names f) refl all)
-      (sym (ap (λ (j : ℕ). find (is_apart j b.names.removed (edges_of b f)) (flags_of b f)) server) ∙ at)
+      → b.servers ≡ n → b.names.server ≡ s → b.names.removed ≡ r → FlagsAreOfServers n b.names → Aims n s r (target_or_next b o)
+  seek_by b f None at servers server removed all = next_aims n s r b servers server removed b.names.server
+  seek_by b f (Some flag) at servers server removed all = λ some.
+      found_apart (edges_of b f) (flags_of b f) flag (known_flags b f (own_at b.names f) refl all) (apart_here b f server removed ∙ at)
 
-  seek_aims : (b : Store) (f : FileId) (w : Work) → IsAiming n s b w → Aims n s (seek_target b f)
+  seek_aims : (b : Store) (f : FileId) (w : Work) → IsAiming n s r b w → Aims n s r (seek_target b f)
   seek_aims b f w k =
-      seek_by b f (find (is_apart b.names.server b.names.removed (edges_of b f)) (flags_of b f)) refl k.servers k.server k.flags
+      seek_by b f (find (is_apart b.names.server b.names.removed (edges_of b f)) (flags_of b f)) refl k.servers k.server k.removed k.flags
 
-  seek_aiming : (b : Store) (f : FileId) (w : Work) → IsAiming n s b w → IsAiming n s (begin_seek b f w).store (begin_seek b f w).work
+  seek_aiming : (b : Store) (f : FileId) (w : Work) → IsAiming n s r b w → IsAiming n s r (begin_seek b f w).store (begin_seek b f w).work
   seek_aiming b f w k =
       let to = seek_target b f in
       let here = seek_aims b f w k in
-      let aimed : IsAiming n s (aim_seek b f) w = record {
+      let aimed : IsAiming n s r (aim_seek b f) w = record {
         servers = k.servers;
         server = k.server;
+        removed = k.removed;
         from = k.from;
         flags = k.flags;
-        aims = all_changed (λ (i : Intent). Aims n s (target_of i)) (aimed_at to) (intent_key.Seek f)
-            (λ held same was. aimed_target n s to held here was) b.intents k.aims;
+        aims = all_changed (λ (i : Intent). Aims n s r (target_of i)) (aimed_at to) (intent_key.Seek f)
+            (λ held same was. aimed_target n s r to held here was) b.intents k.aims;
       } in
       aiming_either (has_seek b f) (idle (seek_again b f w) w) (begin_intent b (intent.Seek f to) w)
-      (chosen (λ (x : Store). IsAiming n s x w) (was_linked w.linked f) (aim_seek b f) b aimed k)
+      (chosen (λ (x : Store). IsAiming n s r x w) (was_linked w.linked f) (aim_seek b f) b aimed k)
       (aiming_begun b (intent.Seek f to) w k here)
 
-  pub end_aiming : (a : Store) (w : Work) → IsAiming n s a w → IsAiming n s (begin_end a w).store (begin_end a w).work
+  pub end_aiming : (a : Store) (w : Work) → IsAiming n s r a w → IsAiming n s r (begin_end a w).store (begin_end a w).work
   end_aiming a w k =
       let e = end_others a (files_to_fill a.names) in
-      let ended : IsAiming n s e w = record {
+      let ended : IsAiming n s r e w = record {
         servers = k.servers;
         server = k.server;
+        removed = k.removed;
         from = k.from;
         flags = k.flags;
-        aims = All-filter (still_stands a (files_to_fill a.names)) (λ (j : Intent). Aims n s (target_of j)) a.intents k.aims;
+        aims = All-filter (still_stands a (files_to_fill a.names)) (λ (j : Intent). Aims n s r (target_of j)) a.intents k.aims;
       } in
       let p = begin_patches e w in
       let f = begin_fills p.store (to_fill a.names) p.work in

@@ -80,25 +80,25 @@ told_in a dir (Some (intent.Confirm to child target)) = record { servers = refl;
 told_in a dir (Some (intent.Leave file peer peer_birth)) = record { servers = refl; names = alike_itself a.names; intents = refl }
 
 -- those with these keys have ended
-record AreTaken (n s : ℕ) (a : Store) (ks : List IntentKey) (b : Store) : Type 0 where
+record AreTaken (n s : ℕ) (r : List ℕ) (a : Store) (ks : List IntentKey) (b : Store) : Type 0 where
   pub servers : b.servers ≡ a.servers
   pub names : IsAlike a.names b.names
-  pub aims : AreAimed n s a.intents → AreAimed n s b.intents
+  pub aims : AreAimed n s r a.intents → AreAimed n s r b.intents
   pub told : (dir child : FileId) (e : Entry) → told_at b.intents dir child ≡ Some e
       → (told_at a.intents dir child ≡ Some e) × (list_any (is_same_key (intent_key.Patch dir child)) ks ≡ false)
 
-are_taken : (n s : ℕ) (a : Store) (dir : FileId) (ks : List IntentKey) → AreTaken n s a ks (take_patches a dir ks)
-are_taken n s a dir [] = record { servers = refl; names = alike_itself a.names; aims = λ k. k; told = λ d c e h. (h, refl) }
-are_taken n s a dir (q ∷ ks) =
+are_taken : (n s : ℕ) (r : List ℕ) (a : Store) (dir : FileId) (ks : List IntentKey) → AreTaken n s r a ks (take_patches a dir ks)
+are_taken n s r a dir [] = record { servers = refl; names = alike_itself a.names; aims = λ k. k; told = λ d c e h. (h, refl) }
+are_taken n s r a dir (q ∷ ks) =
     let b = with_intents a (ended a.intents q) in
     let c = take_patch a dir q in
     let one = told_in b dir (intent_at a.intents q) in
-    let rest = are_taken n s c dir ks in
+    let rest = are_taken n s r c dir ks in
     record {
       servers = rest.servers ∙ one.servers;
       names = alike_then a.names c.names (take_patches c dir ks).names one.names rest.names;
-      aims = λ k. rest.aims (subst (AreAimed n s) (sym one.intents)
-          (All-filter (λ (i : Intent). not (has_key q i)) (λ (i : Intent). Aims n s (target_of i)) a.intents k));
+      aims = λ k. rest.aims (subst (AreAimed n s r) (sym one.intents)
+          (All-filter (λ (i : Intent). not (has_key q i)) (λ (i : Intent). Aims n s r (target_of i)) a.intents k));
       told = λ d g e h. (let later = rest.told d g e h in
           let here = told_ended a.intents q d g e (sym (ap (λ (is : List Intent). told_at is d g) one.intents) ∙ later.0) in
           (here.0, ap (λ (t : Bool). t || list_any (is_same_key (intent_key.Patch d g)) ks) here.1 ∙ later.1));
@@ -150,7 +150,7 @@ held_of : (y : Option HeldValue) (o : Own) → own_of y ≡ Some o → is_some y
 held_of None o h = absurd (none-some o h)
 held_of (Some x) o h = refl
 
-module _ (n s : ℕ) (d : Done) (k : Far n s d) (f : FileId) (birth : ℕ) (policy : Policy) (own : Own) (full : Bool) (away : is_held d.store.names f ≡ false) where
+module _ (n s : ℕ) (r : List ℕ) (d : Done) (k : Far n s r d) (f : FileId) (birth : ℕ) (policy : Policy) (own : Own) (full : Bool) (away : is_held d.store.names f ≡ false) where
   abbrev Before : Store
   Before = d.store
 
@@ -163,8 +163,8 @@ module _ (n s : ℕ) (d : Done) (k : Far n s d) (f : FileId) (birth : ℕ) (poli
   abbrev Behind : Store
   Behind = take_patches Put f Keys
 
-  took : AreTaken n s Put Keys Behind
-  took = are_taken n s Put f Keys
+  took : AreTaken n s r Put Keys Behind
+  took = are_taken n s r Put f Keys
 
   apart_by : (q : FileId) (t : Bool) → is_same_file q f ≡ t → is_held Before.names q ≡ true → t ≡ false
   apart_by q false apart held = refl
@@ -191,7 +191,7 @@ module _ (n s : ℕ) (d : Done) (k : Far n s d) (f : FileId) (birth : ℕ) (poli
       let some = subst P (sym is) (among_patches f child Before.intents e) told in
       absurd (false≢true (sym none ∙ some))
 
-  pub far_begin : Far n s (idle (begin d.store f birth policy own full) d.work)
+  pub far_begin : Far n s r (idle (begin d.store f birth policy own full) d.work)
   far_begin = record {
     servers = took.servers ∙ k.servers;
     server = took.names.server ∙ k.server;

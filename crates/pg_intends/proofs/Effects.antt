@@ -1,7 +1,9 @@
 -- An event at a server leaves its intentions in order.
-use Rattle.std.proofs.Common.{ℕ, ◌≡◌, ◌==◌, Bool, true, false, cond, refl, sym, ap, subst, ◌∙◌}
+use Rattle.std.proofs.Common.{ℕ, ◌≡◌, ◌==◌, Bool, true, false, cond, List, refl, sym, ap, subst, ◌∙◌}
 use Rattle.std.proofs.lemmas.Bool.{and_parts, false≢true}
 use Rattle.pg_base.specs.declared.id.Kind.{Kind}
+use Rattle.pg_intent.specs.Intents.{HaveOwnKeys}
+use Rattle.pg_msg.specs.declared.message.Packet.{Packet}
 use Rattle.pg_msg.specs.declared.work.Work.{Work}
 use Rattle.pg_msg.specs.Numbers.{is_in_range}
 use Rattle.pg_msg.specs.Work.{new_work}
@@ -14,81 +16,106 @@ use Rattle.pg_cells.specs.Done.{Done, idle}
 use Rattle.pg_cells.specs.Settling.{settle}
 use Rattle.pg_cells.specs.Ticks.{tick}
 use Rattle.pg_repair.specs.Requests.{ask_all}
+use Rattle.pg_repair.proofs.Leaves.{all_moved}
 use Rattle.pg_repair.proofs.Steady.{begin_end_stays}
 use Rattle.pg_calls.specs.Naming.{next_id}
 use Rattle.pg_calls.proofs.Late.{late_does_nothing}
 use Rattle.pg_server.specs.declared.input.Input.{Input}
 use Rattle.pg_server.specs.declared.input.Input.TheVariants as input
-use Rattle.pg_server.specs.Local.{Effect, closed, effect, finished, first_effect, is_heard, receive, reply_to, sent_again, takes_effect}
+use Rattle.pg_server.specs.Local.{Effect, closed, effect, finished, first_effect, is_heard, receive, reply_to, sent_again, takes_effect, without_wishes}
 use Rattle.pg_promises.specs.Whole.{IsWhole}
 use Rattle.pg_promises.proofs.Choices.{chosen, decided}
-use Rattle.pg_intends.proofs.Aimed.{heard_other}
+use Rattle.pg_intends.proofs.Aimed.{heard_live}
 use Rattle.pg_intends.proofs.Called.{far_called}
 use Rattle.pg_intends.proofs.Asked.{FlagsAreOfServers}
 use Rattle.pg_intends.proofs.Ends.{IsResting, resting_end}
-use Rattle.pg_intends.proofs.Far.{Aims, Far}
+use Rattle.pg_intends.proofs.Far.{Aims, Far, IsFarThen, far_then}
 use Rattle.pg_intends.proofs.Heard.{far_received, far_tick}
+use Rattle.pg_intends.proofs.Leaving.{EdgesAreLive}
 use Rattle.pg_intends.proofs.Settled.{far_settle}
 
 -- what is known of the server, and of what the input makes of it
 pub record IsGiven (n s : ℕ) (a : Store) (asked : Input) : Type 0 where
   pub births : AreBirths a
+  pub keys : HaveOwnKeys a.intents
+  pub live : EdgesAreLive a a.names.removed
+  pub held : IsWhole n s a
   pub fresh : (kind : Kind) → is_held a (next_id a kind) ≡ false
   pub whole : IsWhole n s (first_effect a asked).store
   pub flags : FlagsAreOfServers n (effect a asked).store.names
 
 module _ (n s : ℕ) (a : Store) (k : IsResting n s a) where
-  abbrev Fine : Done → Type 0
-  Fine d = Far n s d
+  -- those that were removed before
+  abbrev Old : List ℕ
+  Old = a.names.removed
 
-  begins : (now from : ℕ) → Aims n s from → Fine (idle a (new_work now from))
+  abbrev Fine : Done → Type 0
+  Fine d = Far n s Old d
+
+  -- and those that are removed then
+  abbrev Then : Done → Type 0
+  Then d = IsFarThen n s d
+
+  begins : (now from : ℕ) → Aims n s Old from → Fine (idle a (new_work now from))
   begins now from here = record {
     servers = k.servers;
     server = k.server;
-    removed = k.removed;
+    removed = refl;
     from = here;
     aims = k.aims;
     slots = λ x h. absurd h;
     patches = k.patches;
   }
 
-  nobody : Aims n s 0
+  nobody : Aims n s Old 0
   nobody h = absurd (h refl)
 
   -- ---- what takes effect
 
-  first_far : (asked : Input) → AreBirths a → ((kind : Kind) → is_held a (next_id a kind) ≡ false) → takes_effect a asked ≡ true → Fine (first_effect a asked)
-  first_far (input.Call moment x) births fresh going = far_called n s a fresh (new_work moment 0) (begins moment 0 nobody) x
-  first_far (input.Tick moment word) births fresh going =
+  first_tick : (moment word : ℕ) → Fine (first_effect a (input.Tick moment word))
+  first_tick moment word =
       chosen (λ (w : Work). Fine (idle a w)) (is_in_time a) (sent_again a word (new_work moment 0)) (new_work moment 0)
-      (far_tick n s (idle a (ask_all a (tick a (new_work moment 0)))) word (record {
+      (far_tick n s Old (idle a (ask_all a (tick a (new_work moment 0)))) word (record {
         servers = k.servers;
         server = k.server;
-        removed = k.removed;
+        removed = refl;
         from = nobody;
         aims = k.aims;
         slots = λ x h. absurd h;
         patches = k.patches;
       }))
       (begins moment 0 nobody)
-  first_far (input.Arrival packet) births fresh going =
+
+  first_arrival : (packet : Packet) → IsGiven n s a (input.Arrival packet) → takes_effect a (input.Arrival packet) ≡ true → Fine (first_effect a (input.Arrival packet))
+  first_arrival packet given going =
       decided Fine (is_heard a packet) (receive a packet.message (new_work 0 packet.from)) (idle a (new_work 0 packet.from))
       (λ heard.
       let one = and_parts (is_in_time a) _ heard in
       let two = and_parts (packet.view == view_of a) _ one.1 in
       let three = and_parts (is_live_other a packet.from) (is_in_range packet.message) two.1 in
-      far_received n s (idle a (new_work 0 packet.from)) packet.message births
-      (begins 0 packet.from (λ some. heard_other n s packet.from a k.servers k.server three.0)))
+      far_received n s Old (idle a (new_work 0 packet.from)) packet.message
+      (record { births = given.births; whole = given.held; live = given.live; none = λ x h. absurd h })
+      (begins 0 packet.from (λ some. heard_live n s Old a k.servers k.server refl packet.from three.0)))
       (λ no. absurd (false≢true (sym no ∙ going)))
-  first_far input.Restart births fresh going = record {
+
+  first_restart : Fine (first_effect a input.Restart)
+  first_restart = record {
     servers = k.servers;
     server = k.server;
-    removed = k.removed;
+    removed = refl;
     from = nobody;
     aims = k.aims;
     slots = λ x h. absurd h;
     patches = k.patches;
   }
+
+  first_far : (asked : Input) → IsGiven n s a asked → takes_effect a asked ≡ true → Then (first_effect a asked)
+  first_far (input.Call moment x) given going =
+      far_called n s Old a given.fresh given.held given.keys (new_work moment 0) refl (begins moment 0 nobody) x
+  first_far (input.Tick moment word) given going = far_then n s Old (first_effect a (input.Tick moment word)) (first_tick moment word)
+  first_far (input.Arrival packet) given going =
+      far_then n s Old (first_effect a (input.Arrival packet)) (first_arrival packet given going)
+  first_far input.Restart given going = far_then n s Old (first_effect a input.Restart) first_restart
 
   abbrev Rests : Effect → Type 0
   Rests e = IsResting n s e.store
@@ -96,12 +123,13 @@ module _ (n s : ℕ) (a : Store) (k : IsResting n s a) where
   closed_rests : (asked : Input) → IsGiven n s a asked → takes_effect a asked ≡ true → Rests (closed (reply_to a asked) (first_effect a asked))
   closed_rests asked given going =
       let d = first_effect a asked in
-      let far = far_settle n s d (first_far asked given.births given.fresh going) given.whole in
+      let late = d.store.names.removed in
+      let far = far_settle n s late d (first_far asked given going) given.whole in
       let m = settle d.store d.work in
       let is : effect a asked ≡ closed (reply_to a asked) d = ap (λ (t : Bool). cond t (closed (reply_to a asked) d) (finished (reply_to a asked) d)) going in
       let ended : FlagsAreOfServers n (closed (reply_to a asked) d).store.names = subst (λ (e : Effect). FlagsAreOfServers n e.store.names) is given.flags in
       let flags : FlagsAreOfServers n m.store.names = subst (λ (b : NamesValue). FlagsAreOfServers n b) (begin_end_stays m.store m.work).names ended in
-      resting_end n s m.store m.work far flags
+      resting_end n s late m.store m.work far flags
 
   -- ---- what does not
 
@@ -115,11 +143,11 @@ module _ (n s : ℕ) (a : Store) (k : IsResting n s a) where
   late_rests input.Restart late = record {
     servers = k.servers;
     server = k.server;
-    removed = k.removed;
     aims = k.aims;
     confirms = k.confirms;
     seeks = k.seeks;
     patches = k.patches;
+    leaves = all_moved a (without_wishes a) refl refl a.intents k.leaves;
   }
 
   -- AN EVENT AT A SERVER

@@ -23,7 +23,8 @@ use Rattle.pg_cells.specs.Done.{idle}
 use Rattle.pg_repair.specs.Beginning.{begin_end}
 use Rattle.pg_repair.specs.Confirming.{own_entry}
 use Rattle.pg_repair.specs.Patches.{is_slot, patch_again, patch_of, was_left}
-use Rattle.pg_repair.proofs.Idle.{ConfirmsFit, SeeksFit, confirms_fit, seeks_fit}
+use Rattle.pg_repair.proofs.Idle.{ConfirmsFit, SeeksFit, confirms_fit, leaves_pass, seeks_fit}
+use Rattle.pg_repair.proofs.Leaves.{AllPass}
 use Rattle.pg_repair.proofs.Patched.{is_patched}
 use Rattle.pg_repair.proofs.Steady.{begin_end_stays}
 use Rattle.pg_promises.proofs.Choices.{chosen}
@@ -35,11 +36,11 @@ use Rattle.pg_intends.proofs.Asked.{FlagsAreOfServers, end_aiming}
 pub record IsResting (n s : ℕ) (a : Store) : Type 0 where
   pub servers : a.servers ≡ n
   pub server : a.names.server ≡ s
-  pub removed : a.names.removed ≡ []
-  pub aims : AreAimed n s a.intents
+  pub aims : AreAimed n s a.names.removed a.intents
   pub confirms : ConfirmsFit a
   pub seeks : 1 ≤ s → s ≤ n → SeeksFit a
   pub patches : ArePatchesSoFar a.names [] a.intents
+  pub leaves : AllPass a a.intents
 
 -- ---- Patches behind the end
 
@@ -67,7 +68,7 @@ module _ (dir child : FileId) where
           inl (ap (λ (y : FileId). slot y x.child) (sym (is_same_file-true dir x.dir parts.0)) ∙ ap (λ (y : FileId). slot dir y) (sym (is_same_file-true child x.child parts.1)))
       by false other more rest = inr (more rest)
 
-module _ (n s : ℕ) (a : Store) (w : Work) (k : Far n s (idle a w)) (dir child : FileId) where
+module _ (n s : ℕ) (r : List ℕ) (a : Store) (w : Work) (k : Far n s r (idle a w)) (dir child : FileId) where
   abbrev Told : Entry → Type 0
   Told e = IsPatchSoFar a.names [] dir child e
 
@@ -141,15 +142,16 @@ module _ (n s : ℕ) (a : Store) (w : Work) (k : Far n s (idle a w)) (dir child 
       (told_by (was_left w dir child) (is_held a dir) e refl refl (sym (ap told_of (is_patched dir child a w)) ∙ h))
 
 -- INTENTIONS BEGIN AND END
-pub resting_end : (n s : ℕ) (a : Store) (w : Work) → Far n s (idle a w) → FlagsAreOfServers n a.names → IsResting n s (begin_end a w).store
-resting_end n s a w k flags =
+pub resting_end : (n s : ℕ) (r : List ℕ) (a : Store) (w : Work) → Far n s r (idle a w) → FlagsAreOfServers n a.names → IsResting n s (begin_end a w).store
+resting_end n s r a w k flags =
     let stays = begin_end_stays a w in
+    let ended = end_aiming n s r a w (record { servers = k.servers; server = k.server; removed = k.removed; from = k.from; flags = flags; aims = k.aims }) in
     record {
       servers = stays.servers ∙ k.servers;
       server = ap (λ (m : NamesValue). m.server) stays.names ∙ k.server;
-      removed = ap (λ (m : NamesValue). m.removed) stays.names ∙ k.removed;
-      aims = (end_aiming n s a w (record { servers = k.servers; server = k.server; from = k.from; flags = flags; aims = k.aims })).aims;
+      aims = subst (λ (l : List ℕ). AreAimed n s l (begin_end a w).store.intents) (sym (ap (λ (m : NamesValue). m.removed) stays.names ∙ k.removed)) ended.aims;
       confirms = confirms_fit a w;
       seeks = λ least most. seeks_fit a w;
-      patches = λ dir child e h. patch_end n s a w k dir child e h;
+      patches = λ dir child e h. patch_end n s r a w k dir child e h;
+      leaves = leaves_pass a w;
     }

@@ -27,6 +27,7 @@ use Rattle.pg_names.specs.declared.own.Own.{Own}
 use Rattle.pg_names.specs.Names.{is_place_new, join_entry, or_blank, own_at, own_or_blank, with_flag, with_joined}
 use Rattle.pg_register.specs.declared.flag.Flag.{Flag}
 use Rattle.pg_register.specs.declared.place.Place.{Place}
+use Rattle.pg_register.specs.Flag.{is_removed}
 use Rattle.pg_house.specs.Facts.{IsOneOf}
 use Rattle.pg_house.specs.Work.{is_root, note_left}
 use Rattle.pg_store.specs.declared.store.Store.{Store}
@@ -38,27 +39,40 @@ use Rattle.pg_cells.specs.Cells.{taken}
 use Rattle.pg_cells.specs.Done.{Done, idle}
 use Rattle.pg_cells.specs.Making.{make_flag, own_next, raise_flag}
 use Rattle.pg_cells.specs.Taking.{is_any_news, is_place_news, take_entry_cell, take_entry_noted, take_flag_noted, take_flags_noted, take_place_noted, take_version_noted, with_doubt, with_left_if, with_news}
+use Rattle.pg_calls.specs.Making.{make_place}
 use Rattle.pg_promises.specs.Whole.{IsOther}
 use Rattle.pg_promises.proofs.Choices.{chosen}
 use Rattle.pg_order.proofs.Intended.{all_changed}
 use Rattle.pg_intends.proofs.Goes.{ArePatchesSoFar, GoesOn, IsSlot, goes_place, goes_raised, goes_same, goes_update, patch_goes, slot_goes, told_at, told_of}
 
--- nobody is asked, or another server
-abbrev pub Aims : ℕ → ℕ → ℕ → Type 0
-Aims n s t = t ≢ 0 → IsOther n s t
+-- another server of n than s, that is none of the removed ones
+pub record IsLive (n s : ℕ) (removed : List ℕ) (t : ℕ) : Type 0 where
+  pub other : IsOther n s t
+  pub stays : is_removed removed t ≡ false
 
-abbrev pub AreAimed : ℕ → ℕ → List Intent → Type 0
-AreAimed n s is = All (λ (i : Intent). Aims n s (target_of i)) is
+-- nobody is asked, or such a server
+abbrev pub Aims : ℕ → ℕ → List ℕ → ℕ → Type 0
+Aims n s removed t = t ≢ 0 → IsLive n s removed t
 
--- server s of n, in the midst of an event
-pub record IsFar (n s : ℕ) (d : Done) : Type 0 where
+abbrev pub AreAimed : ℕ → ℕ → List ℕ → List Intent → Type 0
+AreAimed n s removed is = All (λ (i : Intent). Aims n s removed (target_of i)) is
+
+-- server s of n, in whose view these are removed, in the midst of an event
+pub record IsFar (n s : ℕ) (r : List ℕ) (d : Done) : Type 0 where
   pub servers : d.store.servers ≡ n
   pub server : d.store.names.server ≡ s
-  pub removed : d.store.names.removed ≡ []
-  pub from : Aims n s d.work.from
-  pub aims : AreAimed n s d.store.intents
+  pub removed : d.store.names.removed ≡ r
+  pub from : Aims n s r d.work.from
+  pub aims : AreAimed n s r d.store.intents
   pub slots : (x : Slot) → IsOneOf x d.work.left → IsSlot d.store.names x
   pub patches : ArePatchesSoFar d.store.names d.work.left d.store.intents
+
+-- in the view that it has then
+abbrev pub IsFarThen : ℕ → ℕ → Done → Type 0
+IsFarThen n s d = IsFar n s d.store.names.removed d
+
+pub far_then : (n s : ℕ) (r : List ℕ) (d : Done) → IsFar n s r d → IsFarThen n s d
+far_then n s r d k = subst (λ (l : List ℕ). IsFar n s l d) (sym k.removed) k
 
 -- ---- what stays
 
@@ -98,7 +112,7 @@ left_from w f old = chosen (λ (v : Work). v.from ≡ w.from) (old.live && not (
 
 -- ---- Patches behind a change of what is intended
 
-aimed_told : (to : ℕ) (o : Option Intent) → told_of (option_map (aimed_at to) o) ≡ told_of o
+pub aimed_told : (to : ℕ) (o : Option Intent) → told_of (option_map (aimed_at to) o) ≡ told_of o
 aimed_told to None = refl
 aimed_told to (Some (intent.Bye file birth peer peer_birth)) = refl
 aimed_told to (Some (intent.Seek file target)) = refl
@@ -126,17 +140,17 @@ told_ended is q dir child e h =
     let k = intent_key.Patch dir child in
     ended_by (is_same_key k q) (intent_at is k) e (sym (ap told_of (ended_found is q k)) ∙ h)
 
-pub aimed_target : (n s to : ℕ) (i : Intent) → Aims n s to → Aims n s (target_of i) → Aims n s (target_of (aimed_at to i))
-aimed_target n s to (intent.Bye file birth peer peer_birth) here was = was
-aimed_target n s to (intent.Seek file target) here was = here
-aimed_target n s to (intent.Fill file birth target) here was = here
-aimed_target n s to (intent.Patch dir entry target) here was = here
-aimed_target n s to (intent.Confirm dir child target) here was = here
-aimed_target n s to (intent.Leave file peer peer_birth) here was = was
+pub aimed_target : (n s : ℕ) (r : List ℕ) (to : ℕ) (i : Intent) → Aims n s r to → Aims n s r (target_of i) → Aims n s r (target_of (aimed_at to i))
+aimed_target n s r to (intent.Bye file birth peer peer_birth) here was = was
+aimed_target n s r to (intent.Seek file target) here was = here
+aimed_target n s r to (intent.Fill file birth target) here was = here
+aimed_target n s r to (intent.Patch dir entry target) here was = here
+aimed_target n s r to (intent.Confirm dir child target) here was = here
+aimed_target n s r to (intent.Leave file peer peer_birth) here was = was
 
-module _ (n s : ℕ) where
+module _ (n s : ℕ) (r : List ℕ) where
   abbrev pub Far : Done → Type 0
-  Far d = IsFar n s d
+  Far d = IsFar n s r d
 
   -- ---- one step
 
@@ -146,8 +160,8 @@ module _ (n s : ℕ) where
     servers = servers ∙ k.servers;
     server = g.server ∙ k.server;
     removed = g.removed ∙ k.removed;
-    from = subst (Aims n s) (sym from) k.from;
-    aims = subst (AreAimed n s) (sym intents) k.aims;
+    from = subst (Aims n s r) (sym from) k.from;
+    aims = subst (AreAimed n s r) (sym intents) k.aims;
     slots = λ x h. slots_by x (g.slots x h);
     patches = λ dir child e h. patch_goes d.store.names d.work.left b.names v.left g dir child e
         (k.patches dir child e (sym (ap (λ (is : List Intent). told_at is dir child) intents) ∙ h));
@@ -168,13 +182,13 @@ module _ (n s : ℕ) where
 
   -- ---- intentions ask another server, or end
 
-  pub far_aimed : (d : Done) (q : IntentKey) (to : ℕ) → Aims n s to → Far d → Far (idle (with_intents d.store (aimed d.store.intents q to)) d.work)
+  pub far_aimed : (d : Done) (q : IntentKey) (to : ℕ) → Aims n s r to → Far d → Far (idle (with_intents d.store (aimed d.store.intents q to)) d.work)
   far_aimed d q to here k = record {
     servers = k.servers;
     server = k.server;
     removed = k.removed;
     from = k.from;
-    aims = all_changed (λ (i : Intent). Aims n s (target_of i)) (aimed_at to) q (λ held same was. aimed_target n s to held here was) d.store.intents k.aims;
+    aims = all_changed (λ (i : Intent). Aims n s r (target_of i)) (aimed_at to) q (λ held same was. aimed_target n s r to held here was) d.store.intents k.aims;
     slots = k.slots;
     patches = λ dir child e h. k.patches dir child e (sym (told_aimed d.store.intents q to dir child) ∙ h);
   }
@@ -185,7 +199,7 @@ module _ (n s : ℕ) where
     server = k.server;
     removed = k.removed;
     from = k.from;
-    aims = All-filter (λ (i : Intent). not (has_key q i)) (λ (i : Intent). Aims n s (target_of i)) d.store.intents k.aims;
+    aims = All-filter (λ (i : Intent). not (has_key q i)) (λ (i : Intent). Aims n s r (target_of i)) d.store.intents k.aims;
     slots = k.slots;
     patches = λ dir child e h. k.patches dir child e (told_ended d.store.intents q dir child e h).0;
   }
@@ -224,6 +238,12 @@ module _ (n s : ℕ) where
           subst P (sym is)
           (far_on d (put_place d.store f place) (with_touched (note_left d.work f own.0.place) f key.Place) k refl refl (left_from d.work f own.0.place)
           (goes_place d.store.names d.work f place own.0 own.1 later))
+
+  -- one is made
+  pub far_made : (d : Done) (f : FileId) (place : Place) → Far d → Far (make_place f place d)
+  far_made d f place k =
+      let w = with_made d.work (update.Place f place) in
+      far_place (idle d.store w) f place (far_work d w k (record { left = refl; from = refl }))
 
   -- ---- flags
 

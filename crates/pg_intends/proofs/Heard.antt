@@ -41,9 +41,10 @@ use Rattle.pg_cells.specs.Posting.{post, reply}
 use Rattle.pg_cells.specs.Taking.{take_entry_noted, take_place_noted}
 use Rattle.pg_repair.specs.Confirming.{confirm, confirmed, is_confirmed, own_entry, place_is, place_told, take_told_flags, take_told_place}
 use Rattle.pg_repair.specs.Fetching.{answered_fetch, ends_to, fetch, give, given, granted_from}
-use Rattle.pg_repair.specs.Filling.{few_golds, fill, full, live_golds}
+use Rattle.pg_repair.specs.Filling.{few_golds, fill, full, invite, invited, is_bronze, live_golds, raise_if_few}
 use Rattle.pg_repair.specs.Granting.{aim_fill, begin_granted, begun_by, fill_asks, gone, grant, granted_own, no_grant, turn_wish, wish_asks}
 use Rattle.pg_repair.specs.NoneHere.{asking_key, does_ask, none_here}
+use Rattle.pg_graph.specs.Leaving.{bye, gives_leave, leave, leave_given}
 use Rattle.pg_graph.specs.Seeking.{answered_seek, seek}
 use Rattle.pg_graph.specs.Seeks.{edges_of}
 use Rattle.pg_repair.specs.Telling.{is_told, tell, tell_ok, told}
@@ -54,20 +55,21 @@ use Rattle.pg_intends.proofs.Aimed.{next_aims}
 use Rattle.pg_intends.proofs.Begun.{far_begin}
 use Rattle.pg_intends.proofs.Far.{Aims, Far, IsBeside, beside_either, beside_itself, far_aimed, far_ended, far_entry, far_flags, far_link, far_on, far_place, far_raised, far_taken, far_with, far_work, same_either, same_itself}
 use Rattle.pg_intends.proofs.Goes.{goes_update}
+use Rattle.pg_intends.proofs.Leaving.{IsOpening, far_leave_ok}
 
-module _ (n s : ℕ) where
+module _ (n s : ℕ) (r : List ℕ) where
   abbrev Fine : Done → Type 0
-  Fine d = Far n s d
+  Fine d = Far n s r d
 
   -- a message is sent
   pub far_sent : (d : Done) (to : ℕ) (m : Message) → Fine d → Fine (idle d.store (post d.store to m d.work))
-  far_sent d to m k = far_work n s d (post d.store to m d.work) k (record { left = refl; from = refl })
+  far_sent d to m k = far_work n s r d (post d.store to m d.work) k (record { left = refl; from = refl })
 
   far_reply : (d : Done) (m : Message) → Fine d → Fine (idle d.store (reply d.store m d.work))
   far_reply d m k = far_sent d d.work.from m k
 
-  next_here : (d : Done) → Fine d → (t : ℕ) → Aims n s (next_target d.store t)
-  next_here d k t = next_aims n s d.store k.servers k.server t
+  next_here : (d : Done) → Fine d → (t : ℕ) → Aims n s r (next_target d.store t)
+  next_here d k t = next_aims n s r d.store k.servers k.server k.removed t
 
   -- ---- messages along edges
 
@@ -76,14 +78,14 @@ module _ (n s : ℕ) where
       let a = d.store in
       let w = d.work in
       chosen Fine (has_birth a ends.file ends.receiver) (cond (knows_later a ends.file w.from ends.sender) (idle a w) (met a ends m w)) (idle a (with_gone a ends m w))
-      (chosen Fine (knows_later a ends.file w.from ends.sender) (idle a w) (met a ends m w) (far_work n s d w k (beside_itself w)) (met_by m))
+      (chosen Fine (knows_later a ends.file w.from ends.sender) (idle a w) (met a ends m w) (far_work n s r d w k (beside_itself w)) (met_by m))
       (chosen (λ (v : Work). Fine (idle a v)) (is_answer m || is_pending a ends.file ends.receiver) w (reply a (message.Gone ends.file ends.receiver) w)
-      (far_work n s d w k (beside_itself w)) (far_reply d (message.Gone ends.file ends.receiver) k))
+      (far_work n s r d w k (beside_itself w)) (far_reply d (message.Gone ends.file ends.receiver) k))
     where
       met_by : (x : Manner) → Fine (met d.store ends x d.work)
-      met_by manner.Link = far_link n s d ends.file d.work.from ends.sender k
-      met_by manner.Ask = far_work n s d d.work k (beside_itself d.work)
-      met_by manner.Answer = far_work n s d d.work k (beside_itself d.work)
+      met_by manner.Link = far_link n s r d ends.file d.work.from ends.sender k
+      met_by manner.Ask = far_work n s r d d.work k (beside_itself d.work)
+      met_by manner.Answer = far_work n s r d d.work k (beside_itself d.work)
 
   far_cell : (d : Done) (ends : Ends) (tag : ℕ) (x : Cell) → Fine d → Fine (cell d.store ends tag x d.work)
   far_cell d ends tag x k =
@@ -94,17 +96,17 @@ module _ (n s : ℕ) where
       let t = taken e.store ends.file x e.work in
       chosen Fine (fits ends.file x) (cond (is_accepted a w.from manner.Link ends) (taken_along ends tag x e) e) (idle a w)
       (chosen Fine (is_accepted a w.from manner.Link ends) (taken_along ends tag x e) e
-      (far_reply t (message.Ack (back ends) (cell_key x) tag) (far_taken n s e ends.file x linked)) linked)
-      (far_work n s d w k (beside_itself w))
+      (far_reply t (message.Ack (back ends) (cell_key x) tag) (far_taken n s r e ends.file x linked)) linked)
+      (far_work n s r d w k (beside_itself w))
 
   far_ack : (d : Done) (ends : Ends) (q : Key) (tag : ℕ) → Fine d → Fine (ack d.store ends q tag d.work)
   far_ack d ends q tag k =
-      far_with n s d (acknowledge d.store ends.file (link_of d.work.from ends) q tag) d.work k (record { servers = refl; names = refl; intents = refl }) (beside_itself d.work)
+      far_with n s r d (acknowledge d.store ends.file (link_of d.work.from ends) q tag) d.work k (record { servers = refl; names = refl; intents = refl }) (beside_itself d.work)
 
   -- ---- a replica is to be filled
 
   far_given : (d : Done) (ends : Ends) (o : Option Replica) → Fine d → Fine (idle d.store (given d.store ends o d.work))
-  far_given d ends None k = far_work n s d d.work k (beside_itself d.work)
+  far_given d ends None k = far_work n s r d d.work k (beside_itself d.work)
   far_given d ends (Some x) k = far_reply d (message.Grant ends (granted_from ends.file (own_or_blank d.store.names ends.file) x)) k
 
   far_answer : (d : Done) (f : FileId) (birth : ℕ) → Fine d → Fine (answered_fetch f birth d)
@@ -119,8 +121,8 @@ module _ (n s : ℕ) where
       let w = d.work in
       let linked = link_peer a f w.from birth w in
       chosen Fine (is_full a f) (cond (knows_later a f w.from birth) (idle a w) (answered_fetch f birth linked)) (idle a (reply a (message.NoGrant f birth) w))
-      (chosen Fine (knows_later a f w.from birth) (idle a w) (answered_fetch f birth linked) (far_work n s d w k (beside_itself w))
-      (far_answer linked f birth (far_link n s d f w.from birth k)))
+      (chosen Fine (knows_later a f w.from birth) (idle a w) (answered_fetch f birth linked) (far_work n s r d w k (beside_itself w))
+      (far_answer linked f birth (far_link n s r d f w.from birth k)))
       (far_reply d (message.NoGrant f birth) k)
 
   -- ---- who seeks
@@ -131,8 +133,8 @@ module _ (n s : ℕ) where
       let w = d.work in
       let linked = link_peer a f w.from birth w in
       chosen Fine (is_held a f) (cond (knows_later a f w.from birth) (idle a w) (answered_seek f birth linked)) (idle a (reply a (message.NoneHere ask.Seek f f) w))
-      (chosen Fine (knows_later a f w.from birth) (idle a w) (answered_seek f birth linked) (far_work n s d w k (beside_itself w))
-      (far_reply linked (message.Here (ends_to linked.store f birth)) (far_link n s d f w.from birth k)))
+      (chosen Fine (knows_later a f w.from birth) (idle a w) (answered_seek f birth linked) (far_work n s r d w k (beside_itself w))
+      (far_reply linked (message.Here (ends_to linked.store f birth)) (far_link n s r d f w.from birth k)))
       (far_reply d (message.NoneHere ask.Seek f f) k)
 
   -- ---- walks
@@ -151,7 +153,7 @@ module _ (n s : ℕ) where
   far_tick d word k =
       let files = with_few_edges d.store in
       let w = d.work in
-      far_work n s d (walk_of_tick d.store word w) k
+      far_work n s r d (walk_of_tick d.store word w) k
       (beside_either w (word == 0) w (walk_of d.store word files w) (beside_itself w) (from_beside d.store (word / length files) w (slice_get files (word % length files))))
 
   far_walked : (d : Done) (ends : Ends) (origin birth hops word : ℕ) (edges : List Edge) → Fine d → Fine (walked d.store ends origin birth hops word edges d.work)
@@ -159,8 +161,8 @@ module _ (n s : ℕ) where
       let linked = link_peer d.store ends.file origin birth d.work in
       let on = walk_on d.store ends.file origin birth hops word edges d.work in
       chosen Fine (goes_on hops edges) (idle d.store on) (meet_origin d.store ends.file origin birth d.work)
-      (far_work n s d on k (along_beside d.store ends.file origin birth (hops - 1) (word / length edges) d.work (slice_get edges (word % length edges))))
-      (far_sent linked origin (message.Meet (ends_to linked.store ends.file birth)) (far_link n s d ends.file origin birth k))
+      (far_work n s r d on k (along_beside d.store ends.file origin birth (hops - 1) (word / length edges) d.work (slice_get edges (word % length edges))))
+      (far_sent linked origin (message.Meet (ends_to linked.store ends.file birth)) (far_link n s r d ends.file origin birth k))
 
   far_walk : (d : Done) (ends : Ends) (origin birth hops word : ℕ) → Fine d → Fine (walk d.store ends origin birth hops word d.work)
   far_walk d ends origin birth hops word k =
@@ -169,7 +171,7 @@ module _ (n s : ℕ) where
       let edges = onward a ends.file w.from origin in
       chosen Fine (is_accepted a w.from manner.Ask ends)
       (cond (origin == a.names.server) (idle a w) (walked a ends origin birth hops word edges w)) (accept a ends manner.Ask w)
-      (chosen Fine (origin == a.names.server) (idle a w) (walked a ends origin birth hops word edges w) (far_work n s d w k (beside_itself w))
+      (chosen Fine (origin == a.names.server) (idle a w) (walked a ends origin birth hops word edges w) (far_work n s r d w k (beside_itself w))
       (far_walked d ends origin birth hops word edges k))
       (far_accept d ends manner.Ask k)
 
@@ -180,10 +182,10 @@ module _ (n s : ℕ) where
       let a = d.store in
       let b = begun_by a ends g in
       let may = pending_may a ends.file ends.receiver births pending in
-      let begun = far_begin n s d k ends.file ends.receiver g.policy (granted_own g) false may.away in
+      let begun = far_begin n s r d k ends.file ends.receiver g.policy (granted_own g) false may.away in
       let linked = link_peer b ends.file d.work.from ends.sender d.work in
-      let there = far_link n s (idle b d.work) ends.file d.work.from ends.sender begun in
-      far_aimed n s linked (intent_key.Fill ends.file) linked.work.from there.from there
+      let there = far_link n s r (idle b d.work) ends.file d.work.from ends.sender begun in
+      far_aimed n s r linked (intent_key.Fill ends.file) linked.work.from there.from there
 
   far_grant : (d : Done) (ends : Ends) (g : Granted) → AreBirths d.store → Fine d → Fine (grant d.store ends g d.work)
   far_grant d ends g births k =
@@ -198,41 +200,55 @@ module _ (n s : ℕ) where
       let b = turn_wish a f birth w.from next in
       let one : Fine (idle b w) =
       chosen (λ (x : Store). Fine (idle x w)) (wish_asks (wish_at a f) birth w.from) (with_wishes a (aim_wish a.wishes f next)) a
-      (far_with n s d (with_wishes a (aim_wish a.wishes f next)) w k (record { servers = refl; names = refl; intents = refl }) (beside_itself w))
-      (far_work n s d w k (beside_itself w)) in
+      (far_with n s r d (with_wishes a (aim_wish a.wishes f next)) w k (record { servers = refl; names = refl; intents = refl }) (beside_itself w))
+      (far_work n s r d w k (beside_itself w)) in
       chosen (λ (x : Store). Fine (idle x w)) (fill_asks (fill_at b f) birth w.from) (aim_fill b f next) b
-      (far_aimed n s (idle b w) (intent_key.Fill f) next (next_here d k w.from) one) one
+      (far_aimed n s r (idle b w) (intent_key.Fill f) next (next_here d k w.from) one) one
 
   far_gone : (d : Done) (f : FileId) (birth : ℕ) → Fine d → Fine (gone d.store f birth d.work)
   far_gone d f birth k =
-      far_with n s d (unlink d.store f d.work.from birth) d.work k
+      far_with n s r d (unlink d.store f d.work.from birth) d.work k
       (same_either d.store (is_linked d.store f d.work.from birth) _ d.store (record { servers = refl; names = refl; intents = refl }) (same_itself d.store)) (beside_itself d.work)
 
   -- ---- a replica is full
 
-  far_fill : (d : Done) (f : FileId) → Fine d → Fine (fill d.store f d.work)
+  pub far_fill : (d : Done) (f : FileId) → Fine d → Fine (fill d.store f d.work)
   far_fill d f k =
       let b = with_names d.store (fill_names d.store.names f) in
-      let here = far_on n s d b d.work k refl refl refl (goes_update d.store.names f filled (λ x. refl) d.work.left) in
-      chosen Fine (nat_lt (live_golds b f) few_golds) (raise_flag b f d.work) (idle b d.work) (far_raised n s (idle b d.work) f here) here
+      let here = far_on n s r d b d.work k refl refl refl (goes_update d.store.names f filled (λ x. refl) d.work.left) in
+      chosen Fine (nat_lt (live_golds b f) few_golds) (raise_flag b f d.work) (idle b d.work) (far_raised n s r (idle b d.work) f here) here
 
   far_full : (d : Done) (ends : Ends) → Fine d → Fine (full d.store ends d.work)
   far_full d ends k =
       chosen Fine (is_accepted d.store d.work.from manner.Answer ends && not (is_full d.store ends.file)) (fill d.store ends.file d.work) (idle d.store d.work)
-      (far_fill d ends.file k) (far_work n s d d.work k (beside_itself d.work))
+      (far_fill d ends.file k) (far_work n s r d d.work k (beside_itself d.work))
+
+  -- few golds are seen
+  far_few : (d : Done) (f : FileId) → Fine d → Fine (raise_if_few d.store f d.work)
+  far_few d f k =
+      chosen Fine (nat_lt (live_golds d.store f) few_golds) (raise_flag d.store f d.work) (idle d.store d.work)
+      (far_raised n s r d f k) (far_work n s r d d.work k (beside_itself d.work))
+
+  far_invite : (d : Done) (ends : Ends) → Fine d → Fine (invite d.store ends d.work)
+  far_invite d ends k =
+      let e = accept d.store ends manner.Ask d.work in
+      let far = far_accept d ends manner.Ask k in
+      chosen Fine (is_accepted d.store d.work.from manner.Ask ends) (invited ends e) e
+      (chosen Fine (is_bronze e.store ends.file) (raise_if_few e.store ends.file e.work) e (far_few e ends.file far) far)
+      far
 
   -- ---- children of directories
 
   far_told_place : (d : Done) (e : Entry) → Fine d → Fine (take_told_place d.store e d.work)
   far_told_place d e k =
       chosen Fine (is_root e.child) (idle d.store d.work) (take_place_noted d.store e.child e.place d.work)
-      (far_work n s d d.work k (beside_itself d.work)) (far_place n s d e.child e.place k)
+      (far_work n s r d d.work k (beside_itself d.work)) (far_place n s r d e.child e.place k)
 
   far_confirm : (d : Done) (dir : FileId) (e : Entry) → Fine d → Fine (confirm d.store dir e d.work)
   far_confirm d dir e k =
       let placed = take_told_place d.store e d.work in
       let t = take_told_flags e placed in
-      let there = far_flags n s placed e.child e.flags (far_told_place d e k) in
+      let there = far_flags n s r placed e.child e.flags (far_told_place d e k) in
       chosen Fine (is_held d.store e.child) (place_told dir e.child t) (idle d.store (reply d.store (message.NoneHere ask.Confirm dir e.child) d.work))
       (far_reply t (message.PlaceIs dir (own_entry t.store e.child)) there)
       (far_reply d (message.NoneHere ask.Confirm dir e.child) k)
@@ -240,48 +256,72 @@ module _ (n s : ℕ) where
   far_place_is : (d : Done) (dir : FileId) (e : Entry) → Fine d → Fine (place_is d.store dir e d.work)
   far_place_is d dir e k =
       let t = take_entry_noted d.store dir e d.work in
-      let there = far_entry n s d dir e k in
+      let there = far_entry n s r d dir e k in
       chosen Fine (is_held d.store dir) (confirmed dir e t) (idle d.store d.work)
       (chosen (λ (x : Store). Fine (idle x t.work)) (is_confirmed t.store dir e.child e.place.stamp) (with_intents t.store (ended t.store.intents (intent_key.Confirm dir e.child))) t.store
-      (far_ended n s t (intent_key.Confirm dir e.child) there) there)
-      (far_work n s d d.work k (beside_itself d.work))
+      (far_ended n s r t (intent_key.Confirm dir e.child) there) there)
+      (far_work n s r d d.work k (beside_itself d.work))
 
   far_tell : (d : Done) (dir : FileId) (e : Entry) → Fine d → Fine (tell d.store dir e d.work)
   far_tell d dir e k =
       let t = take_entry_noted d.store dir e d.work in
       chosen Fine (is_held d.store dir) (told dir e t) (idle d.store (reply d.store (message.NoneHere ask.Patch dir e.child) d.work))
-      (far_reply t (message.TellOk dir e.child e.place.stamp) (far_entry n s d dir e k))
+      (far_reply t (message.TellOk dir e.child e.place.stamp) (far_entry n s r d dir e k))
       (far_reply d (message.NoneHere ask.Patch dir e.child) k)
 
   far_tell_ok : (d : Done) (dir child : FileId) (stamp : Stamp) → Fine d → Fine (tell_ok d.store dir child stamp d.work)
   far_tell_ok d dir child stamp k =
       let q = intent_key.Patch dir child in
       chosen (λ (x : Store). Fine (idle x d.work)) (is_told (intent_at d.store.intents q) stamp d.work.from) (with_intents d.store (ended d.store.intents q)) d.store
-      (far_ended n s d q k) (far_work n s d d.work k (beside_itself d.work))
+      (far_ended n s r d q k) (far_work n s r d d.work k (beside_itself d.work))
 
   far_none_here : (d : Done) (what : Ask) (f child : FileId) → Fine d → Fine (none_here d.store what f child d.work)
   far_none_here d what f child k =
       let q = asking_key what f child in
       let next = next_target d.store d.work.from in
       chosen (λ (x : Store). Fine (idle x d.work)) (does_ask (intent_at d.store.intents q) d.work.from) (with_intents d.store (aimed d.store.intents q next)) d.store
-      (far_aimed n s d q next (next_here d k d.work.from) k) (far_work n s d d.work k (beside_itself d.work))
+      (far_aimed n s r d q next (next_here d k d.work.from) k) (far_work n s r d d.work k (beside_itself d.work))
+
+  -- ---- replicas that leave
+
+  far_bye : (d : Done) (ends : Ends) → Fine d → Fine (bye d.store ends d.work)
+  far_bye d ends k =
+      let m = message.ByeOk ends.file ends.sender in
+      let answered = idle d.store (reply d.store m d.work) in
+      far_with n s r answered (unlink d.store ends.file d.work.from ends.sender) answered.work (far_reply d m k)
+      (same_either d.store (is_linked d.store ends.file d.work.from ends.sender) _ d.store (record { servers = refl; names = refl; intents = refl }) (same_itself d.store)) (beside_itself answered.work)
+
+  far_leave : (d : Done) (ends : Ends) (stamp : Stamp) → Fine d → Fine (leave d.store ends stamp d.work)
+  far_leave d ends stamp k =
+      let e = accept d.store ends manner.Link d.work in
+      let m = message.LeaveOk (ends_to e.store ends.file ends.sender) stamp in
+      let far = far_accept d ends manner.Link k in
+      chosen Fine (is_accepted d.store d.work.from manner.Link ends) (leave_given ends stamp e) e
+      (chosen (λ (w : Work). Fine (idle e.store w)) (gives_leave e.store ends.file stamp) (reply e.store m e.work) e.work
+      (far_reply e m far) (far_work n s r e e.work far (beside_itself e.work)))
+      far
 
   -- A MESSAGE
-  pub far_received : (d : Done) (m : Message) → AreBirths d.store → Fine d → Fine (receive d.store m d.work)
-  far_received d (message.Cell ends tag x) births k = far_cell d ends tag x k
-  far_received d (message.Ack ends q tag) births k = far_ack d ends q tag k
-  far_received d (message.Fetch file birth) births k = far_fetch d file birth k
-  far_received d (message.Grant ends granted) births k = far_grant d ends granted births k
-  far_received d (message.NoGrant file birth) births k = far_no_grant d file birth k
-  far_received d (message.Full ends) births k = far_full d ends k
-  far_received d (message.Seek file birth) births k = far_seek d file birth k
-  far_received d (message.Here ends) births k = far_accept d ends manner.Link k
-  far_received d (message.NoneHere what file child) births k = far_none_here d what file child k
-  far_received d (message.Gone file birth) births k = far_gone d file birth k
-  far_received d (message.Confirm dir entry) births k = far_confirm d dir entry k
-  far_received d (message.PlaceIs dir entry) births k = far_place_is d dir entry k
-  far_received d (message.Tell dir entry) births k = far_tell d dir entry k
-  far_received d (message.TellOk dir child stamp) births k = far_tell_ok d dir child stamp k
-  far_received d (message.Walk ends origin birth hops word) births k = far_walk d ends origin birth hops word k
-  far_received d (message.Meet ends) births k = far_accept d ends manner.Link k
-  far_received d m births k = far_work n s d d.work k (beside_itself d.work)
+  pub far_received : (d : Done) (m : Message) → IsOpening n s r d → Fine d → Fine (receive d.store m d.work)
+  far_received d (message.Cell ends tag x) first k = far_cell d ends tag x k
+  far_received d (message.Ack ends q tag) first k = far_ack d ends q tag k
+  far_received d (message.Fetch file birth) first k = far_fetch d file birth k
+  far_received d (message.Grant ends granted) first k = far_grant d ends granted first.births k
+  far_received d (message.NoGrant file birth) first k = far_no_grant d file birth k
+  far_received d (message.Full ends) first k = far_full d ends k
+  far_received d (message.Seek file birth) first k = far_seek d file birth k
+  far_received d (message.Here ends) first k = far_accept d ends manner.Link k
+  far_received d (message.NoneHere what file child) first k = far_none_here d what file child k
+  far_received d (message.Gone file birth) first k = far_gone d file birth k
+  far_received d (message.Confirm dir entry) first k = far_confirm d dir entry k
+  far_received d (message.PlaceIs dir entry) first k = far_place_is d dir entry k
+  far_received d (message.Tell dir entry) first k = far_tell d dir entry k
+  far_received d (message.TellOk dir child stamp) first k = far_tell_ok d dir child stamp k
+  far_received d (message.Walk ends origin birth hops word) first k = far_walk d ends origin birth hops word k
+  far_received d (message.Meet ends) first k = far_accept d ends manner.Link k
+  far_received d (message.Bye ends) first k = far_bye d ends k
+  far_received d (message.ByeOk file birth) first k = far_ended n s r d (intent_key.Bye file birth d.work.from) k
+  far_received d (message.Leave ends stamp) first k = far_leave d ends stamp k
+  far_received d (message.LeaveOk ends stamp) first k = far_leave_ok n s r d ends stamp first k
+  far_received d (message.Invite ends) first k = far_invite d ends k
+  far_received d m first k = far_work n s r d d.work k (beside_itself d.work)

@@ -2,10 +2,13 @@ pub mod Goes
 pub mod Far
 pub mod Begun
 pub mod Aimed
+pub mod Asked
+pub mod Leaving
 pub mod Heard
+pub mod Lost
+pub mod Entered
 pub mod Called
 pub mod Settled
-pub mod Asked
 pub mod Ends
 pub mod Start
 pub mod Effects

@@ -1,5 +1,5 @@
 -- Along every run.
-use Rattle.std.proofs.Common.{ℕ, ◌≡◌, List, refl, sym, subst}
+use Rattle.std.proofs.Common.{ℕ, ◌≡◌, List, [], refl, sym, subst}
 use Rattle.std.proofs.lemmas.Bool.{false≢true}
 use Rattle.std.proofs.lemmas.List.Elements.{All-nil}
 use Rattle.std.proofs.lemmas.Option.{none-some}
@@ -14,6 +14,7 @@ use Rattle.pg_server.specs.Local.{effect}
 use Rattle.pg_run.specs.Run.{World, effect_step, run, world_after}
 use Rattle.pg_run.proofs.Frame.{Acts, each_after, holds_in_runs}
 use Rattle.pg_run.specs.Run.{Taking}
+use Rattle.pg_run.specs.Views.{ViewsAreFronts}
 use Rattle.pg_order.specs.Laws.{files_of}
 use Rattle.pg_order.specs.Named.{naming}
 use Rattle.pg_order.proofs.Ended.{IsAtRest}
@@ -32,11 +33,11 @@ first_rests : (n s : ℕ) → IsResting n s (new_store n s)
 first_rests n s = record {
   servers = refl;
   server = refl;
-  removed = refl;
-  aims = All-nil (λ (i : Intent). Aims n s (target_of i));
+  aims = All-nil (λ (i : Intent). Aims n s [] (target_of i));
   confirms = λ dir child there. absurd (false≢true there);
   seeks = λ least most file. sym (none_seeks n s least most file);
   patches = λ dir child e h. absurd (none-some e h);
+  leaves = tt;
 }
 
 flags_at : (n s : ℕ) (files : ℕ → ℕ) (a : Store) → IsAtRest (naming n files) n s a → FlagsAreOfServers n a.names
@@ -45,7 +46,7 @@ flags_at n s files a k = record {
   cells = λ dir child e at. (k.sound.named.said.cells dir child e at).flags;
 }
 
-module _ (n : ℕ) (events : List Event) (event : Event) (t : Taking) (act : Acts n (run n events) t) where
+module _ (n : ℕ) (views : ViewsAreFronts n) (events : List Event) (event : Event) (t : Taking) (act : Acts n (run n events) t) where
   abbrev Now : World
   Now = run n events
 
@@ -70,6 +71,9 @@ module _ (n : ℕ) (events : List Event) (event : Event) (t : Taking) (act : Act
   given : IsGiven n t.server Here t.asked
   given = record {
     births = (sound.servers t.server).sound.births;
+    keys = (sound.servers t.server).sound.keys;
+    live = (views events t.server act.least act.most).edges;
+    held = (sound.servers t.server).sound.whole;
     fresh = λ kind. is_away n t.server Here (files_of Now.stores) act.least refl (sound.servers t.server) kind;
     whole = first_runs n Now sound t.server act.least act.most t.asked act.came;
     flags = flags;
@@ -79,10 +83,10 @@ module _ (n : ℕ) (events : List Event) (event : Event) (t : Taking) (act : Act
   acted_rests all = each_after (λ s b. IsResting n s b) Now.stores t.server Then all (effect_rests n t.server Here (all t.server) t.asked given)
 
 -- IN EVERY RUN
-pub all_rest : (n : ℕ) (events : List Event) → AllRest n (run n events)
-all_rest n events =
+pub all_rest : (n : ℕ) → ViewsAreFronts n → (events : List Event) → AllRest n (run n events)
+all_rest n views events =
     holds_in_runs n (AllRest n) (record {
       first = λ s. first_rests n s;
       idle = λ w event cause k. k;
-      acts = λ before event t is act k. acted_rests n before event t act k;
+      acts = λ before event t is act k. acted_rests n views before event t act k;
     }) events

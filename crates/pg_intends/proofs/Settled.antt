@@ -37,7 +37,7 @@ touched_names a (t ∷ ts) = touched_names (touch a t.file t.key) ts
 before_not : (p : Place) → is_before p.stamp p.stamp ≡ true → ⊥
 before_not p h = grind (arith, nat_tests)
 
-module _ (n s : ℕ) (d : Done) (k : Far n s d) (whole : IsWhole n s d.store) where
+module _ (n s : ℕ) (r : List ℕ) (d : Done) (k : Far n s r d) (whole : IsWhole n s d.store) where
   abbrev Here : State
   Here = state_of d.store.names d.work
 
@@ -81,12 +81,12 @@ module _ (n s : ℕ) (d : Done) (k : Far n s d) (whole : IsWhole n s d.store) wh
       was_held : (f : FileId) → IsHeld Then.names f → IsHeld d.store.names f
       was_held f h = was_by f h (own_at d.store.names f) refl
 
-  far_rules : Far n s Ruled
+  far_rules : Far n s r Ruled
   far_rules =
       let after = whole_rules n s d.store d.work whole in
-      let frame = house_frame [] d.work d.work.now Here (record { removed = k.removed; work = sends_same d.work }) in
+      let frame = house_frame r d.work d.work.now Here (record { removed = k.removed; work = sends_same d.work }) in
       let names : Ruled.store.names ≡ Then.names = touched_names (with_names d.store Then.names) (drop (length d.work.touched) Then.work.touched) in
-      far_on n s d Ruled.store Ruled.work k (after.servers ∙ sym whole.servers) (rules_intents d.store d.work) frame.work.from
+      far_on n s r d Ruled.store Ruled.work k (after.servers ∙ sym whole.servers) (rules_intents d.store d.work) frame.work.from
       (record {
         server = after.server ∙ sym whole.server;
         removed = ap (λ (m : NamesValue). m.removed) names ∙ frame.removed ∙ sym k.removed;
@@ -98,11 +98,11 @@ module _ (n s : ℕ) (d : Done) (k : Far n s d) (whole : IsWhole n s d.store) wh
 
 -- ---- and golds are raised
 
-module _ (n s : ℕ) where
+module _ (n s : ℕ) (r : List ℕ) where
   abbrev Both : Done → Type 0
-  Both d = Far n s d × IsWhole n s d.store
+  Both d = Far n s r d × IsWhole n s d.store
 
-  pub far_settle : (d : Done) → Far n s d → IsWhole n s d.store → Far n s (settle d.store d.work)
+  pub far_settle : (d : Done) → Far n s r d → IsWhole n s d.store → Far n s r (settle d.store d.work)
   far_settle d k whole =
-      (settle_gives Both Both (λ e b. (far_rules n s e b.0 b.1, whole_rules n s e.store e.work b.1))
-      (λ e f b none. (far_raised n s e f b.0, whole_raised n s e.store f e.work b.1)) d (k, whole)).0
+      (settle_gives Both Both (λ e b. (far_rules n s r e b.0 b.1, whole_rules n s e.store e.work b.1))
+      (λ e f b none. (far_raised n s r e f b.0, whole_raised n s e.store f e.work b.1)) d (k, whole)).0

@@ -1,13 +1,13 @@
 -- What is intended, in the words of the laws.
-use Rattle.std.proofs.Common.{ℕ, ◌≡◌, ◌≢◌, ◌⊎◌, ◌↔◌, ◌≤◌, ◌==◌, ◌&&◌, Bool, true, false, not, nat_le, List, [], ◌∷◌, Option, None, Some, All, inl, inr, refl, sym, ap, subst, ◌∙◌}
+use Rattle.std.proofs.Common.{ℕ, ◌≡◌, ◌≢◌, ◌⊎◌, ◌↔◌, ◌≤◌, ◌==◌, ◌&&◌, Bool, true, false, cond, not, nat_le, is_some, List, [], ◌∷◌, Option, None, Some, All, inl, inr, refl, sym, ap, subst, ◌∙◌}
 use Rattle.std.specs.List.{IsAmong}
 use Rattle.std.proofs.lemmas.Bool.{and_parts, false≢true, le-leb, ne_eqb}
 use Rattle.std.proofs.lemmas.List.Elements.{All-cons, All-head, All-nil, All-tail}
-use Rattle.std.proofs.lemmas.Option.{none-some}
+use Rattle.std.proofs.lemmas.Option.{none-some, same_Some}
 use Rattle.pg_base.specs.declared.id.FileId.{FileId}
 use Rattle.pg_base.specs.Id.{is_same_file}
 use Rattle.pg_base.specs.Stamp.{UpTo}
-use Rattle.pg_base.proofs.Orders.{UpTo-refl, is_before-true}
+use Rattle.pg_base.proofs.Orders.{UpTo-refl, is_before-true, is_same_file-true}
 use Rattle.pg_entries.specs.declared.entry.Entry.{Entry}
 use Rattle.pg_entries.specs.Entry.{is_listed}
 use Rattle.pg_intent.specs.declared.intent.Intent.{Intent}
@@ -22,34 +22,43 @@ use Rattle.pg_msg.specs.declared.message.Message.TheVariants as message
 use Rattle.pg_names.specs.declared.own.Own.{Own}
 use Rattle.pg_names.specs.Names.{HeldValue, cell_at, known, own_at, own_of}
 use Rattle.pg_register.specs.declared.place.Place.{Place}
-use Rattle.pg_register.specs.Flag.{is_removed}
+use Rattle.pg_register.specs.Flag.{is_raised, is_removed}
 use Rattle.pg_register.specs.Place.{root}
+use Rattle.pg_replica.specs.declared.replica.Replica.{Replica}
+use Rattle.pg_replica.specs.Replicas.{lists_peer}
 use Rattle.pg_store.specs.declared.store.Store.{Store}
 use Rattle.pg_store.specs.Births.{birth_of}
+use Rattle.pg_store.specs.Links.{is_linked}
 use Rattle.pg_store.specs.Servers.{is_live_other}
-use Rattle.pg_store.specs.Store.{is_held}
+use Rattle.pg_store.specs.Store.{is_held, replica_at}
+use Rattle.pg_cells.specs.Golds.{flags_of}
+use Rattle.pg_graph.specs.Leaving.{may_still_leave}
+use Rattle.pg_graph.proofs.LeaveOk.{found_keyed}
 use Rattle.pg_repair.specs.Confirms.{is_doubtful_cell}
 use Rattle.pg_repair.specs.Fills.{files_to_fill, is_in}
 use Rattle.pg_repair.specs.Needed.{IsToFill as IsNeeded}
-use Rattle.pg_repair.specs.Requests.{confirm_message}
+use Rattle.pg_repair.specs.Requests.{bye_message, confirm_message, leave_message}
 use Rattle.pg_repair.proofs.Idle.{nothing_to_do}
+use Rattle.pg_repair.proofs.Leaves.{AllPass, Passes, all_moved}
 use Rattle.pg_repair.proofs.Needs.{first_true, second_true, what_is_needed}
 use Rattle.pg_server.specs.Local.{without_wishes}
-use Rattle.pg_promises.specs.Whole.{IsOther}
-use Rattle.pg_run.specs.Intending.{IntendsInOrder, IntentionsAreInOrder, IsPatchOf, IsToFill}
+use Rattle.pg_promises.proofs.Together.{held_of_replica, own_of_held}
+use Rattle.pg_run.specs.Intending.{IntendsInOrder, IntentionsAreInOrder, IsPatchOf, IsToFill, LeavesStand}
 use Rattle.pg_run.specs.Run.{run}
+use Rattle.pg_run.specs.Views.{ViewsAreFronts}
 use Rattle.pg_order.specs.Laws.{files_of}
 use Rattle.pg_order.specs.Named.{naming}
 use Rattle.pg_order.specs.Saying.{AreIntended, IsIntended, Saying}
 use Rattle.pg_order.proofs.Ended.{IsAtRest}
+use Rattle.pg_order.proofs.Pieces.{found_has}
 use Rattle.pg_order.proofs.Runs.{sound_run}
 use Rattle.pg_intends.specs.Laws.{HasRequest, IntentionsHaveRequests, IsStill, NothingIsLeftToDo}
 use Rattle.pg_intends.proofs.Ends.{IsResting}
-use Rattle.pg_intends.proofs.Far.{Aims}
+use Rattle.pg_intends.proofs.Far.{Aims, IsLive}
 use Rattle.pg_intends.proofs.Goes.{IsToldOf, told_of}
 use Rattle.pg_intends.proofs.Runs.{all_rest}
 
-module _ (p : Saying) (n s : ℕ) (least : 1 ≤ s) (most : s ≤ n) (a : Store) (k : IsAtRest p n s a) (r : IsResting n s a) where
+module _ (p : Saying) (other : (file : FileId) → p.IsChild file → is_same_file file root ≡ false) (n s : ℕ) (least : 1 ≤ s) (most : s ≤ n) (a : Store) (k : IsAtRest p n s a) (r : IsResting n s a) where
   -- ---- Fills
 
   known_by : (child : FileId) (own : Own) (o : Option HeldValue) → known a.names child ≡ o → own_of o ≡ Some own → (x : HeldValue) × (known a.names child ≡ Some x) × (x.own ≡ own)
@@ -139,22 +148,66 @@ module _ (p : Saying) (n s : ℕ) (least : 1 ≤ s) (most : s ≤ n) (a : Store)
         same = same_place dir child e.place was.own.place was.place;
       }
 
+  -- ---- Leaves
+
+  passes_at : (is : List Intent) (q : IntentKey) (i : Intent) → AllPass a is → intent_at is q ≡ Some i → Passes a i
+  passes_at [] q i all h = absurd (none-some i h)
+  passes_at (j ∷ is) q i all h = by (has_key q j) (passes_at is q i all.1) h
+    where
+      by : (t : Bool) → (intent_at is q ≡ Some i → Passes a i) → cond t (Some j) (intent_at is q) ≡ Some i → Passes a i
+      by true more same = subst (Passes a) (same_Some j i same) all.0
+      by false more later = more later
+
+  -- what lists a peer is held
+  lists_by : (file : FileId) (peer birth : ℕ) (o : Option Replica) → replica_at a file ≡ o → lists_peer o peer birth ≡ true → is_held a file ≡ true
+  lists_by file peer birth None at h = absurd (false≢true h)
+  lists_by file peer birth (Some x) at h = held_of_replica a k.sound.whole.together file x at
+
+  may_held : (file : FileId) (peer birth : ℕ) → may_still_leave a file peer birth ≡ true → is_held a file ≡ true
+  may_held file peer birth h =
+      lists_by file peer birth (replica_at a file) refl (and_parts (is_linked a file peer birth) (is_raised (flags_of a file) peer birth) h).0
+
+  leaves : LeavesStand a
+  leaves file peer birth at =
+      let i = intent.Leave file peer birth in
+      let passes : may_still_leave a file peer birth ≡ true = passes_at a.intents (key.Leave file) i r.leaves at in
+      let said : IsIntended p i = found_has (IsIntended p) (key.Leave file) i a.intents k.sound.named.intents at in
+      (may_held file peer birth passes, other file said.1, passes)
+
+  leave_held : (file : FileId) (i : Intent) → has_key (key.Leave file) i ≡ true → Passes a i → is_held a file ≡ true
+  leave_held file (intent.Leave f peer birth) same passes =
+      subst (λ (g : FileId). is_held a g ≡ true) (sym (is_same_file-true file f same)) (may_held f peer birth passes)
+  leave_held file (intent.Bye f birth peer peer_birth) same passes = absurd (false≢true same)
+  leave_held file (intent.Seek f target) same passes = absurd (false≢true same)
+  leave_held file (intent.Fill f birth target) same passes = absurd (false≢true same)
+  leave_held file (intent.Patch dir entry target) same passes = absurd (false≢true same)
+  leave_held file (intent.Confirm dir child target) same passes = absurd (false≢true same)
+
+  leaving_by : (file : FileId) (o : Option Intent) → intent_at a.intents (key.Leave file) ≡ o → is_some o ≡ true → is_held a file ≡ true
+  leaving_by file None at h = absurd (false≢true h)
+  leaving_by file (Some i) at h =
+      leave_held file i (found_keyed (key.Leave file) i a.intents at) (passes_at a.intents (key.Leave file) i r.leaves at)
+
+  leaving_held : (file : FileId) → stands a.intents (key.Leave file) ≡ true → is_held a file ≡ true
+  leaving_held file there =
+      leaving_by file (intent_at a.intents (key.Leave file)) refl (sym (stands_is a.intents (key.Leave file)) ∙ there)
+
   -- ---- targets
 
-  live_other : (t : ℕ) → IsOther n s t → is_live_other a t ≡ true
+  live_other : (t : ℕ) → IsLive n s a.names.removed t → is_live_other a t ≡ true
   live_other t o =
-      let one : nat_le 1 t ≡ true = le-leb 1 t o.least in
-      let two : nat_le t a.servers ≡ true = le-leb t a.servers (subst (λ (m : ℕ). t ≤ m) (sym r.servers) o.most) in
-      let three : (t == a.names.server) ≡ false = ne_eqb t a.names.server (λ e. o.apart (e ∙ r.server)) in
-      let four : is_removed a.names.removed t ≡ false = ap (λ (ss : List ℕ). is_removed ss t) r.removed in
+      let one : nat_le 1 t ≡ true = le-leb 1 t o.other.least in
+      let two : nat_le t a.servers ≡ true = le-leb t a.servers (subst (λ (m : ℕ). t ≤ m) (sym r.servers) o.other.most) in
+      let three : (t == a.names.server) ≡ false = ne_eqb t a.names.server (λ e. o.other.apart (e ∙ r.server)) in
       ap (λ (x : Bool). x && (nat_le t a.servers && (not (t == a.names.server) && not (is_removed a.names.removed t)))) one
       ∙ ap (λ (x : Bool). x && (not (t == a.names.server) && not (is_removed a.names.removed t))) two
       ∙ ap (λ (x : Bool). not x && not (is_removed a.names.removed t)) three
-      ∙ ap (λ (x : Bool). not x) four
+      ∙ ap (λ (x : Bool). not x) o.stays
 
   targets : (i : Intent) → IsAmong a.intents i → target_of i ≢ 0 → is_live_other a (target_of i) ≡ true
   targets i at some =
-      let here : Aims n s (target_of i) = subst (λ (j : Intent). Aims n s (target_of j)) (sym at.1.1) (r.aims at.0 i at.1.0) in
+      let here : Aims n s a.names.removed (target_of i) =
+      subst (λ (j : Intent). Aims n s a.names.removed (target_of j)) (sym at.1.1) (r.aims at.0 i at.1.0) in
       live_other (target_of i) (here some)
 
   pub intends : IntendsInOrder a
@@ -166,6 +219,7 @@ module _ (p : Saying) (n s : ℕ) (least : 1 ≤ s) (most : s ≤ n) (a : Store)
     confirms = confirms;
     patches = patches;
     seeks = r.seeks least most;
+    leaves = leaves;
     targets = targets;
   }
 
@@ -173,21 +227,23 @@ module _ (p : Saying) (n s : ℕ) (least : 1 ≤ s) (most : s ≤ n) (a : Store)
 
   pub still : IsStill a
   still = (
-    λ work left unsure linked. nothing_to_do a k.fills (r.seeks least most) r.confirms work left unsure linked,
-    λ work left unsure linked. nothing_to_do (without_wishes a) k.fills (r.seeks least most) r.confirms work left unsure linked,
+    λ work left unsure linked. nothing_to_do a k.fills (r.seeks least most) r.confirms r.leaves work left unsure linked,
+    λ work left unsure linked. nothing_to_do (without_wishes a) k.fills (r.seeks least most) r.confirms (all_moved a (without_wishes a) refl refl a.intents r.leaves) work left unsure linked,
   )
 
   -- ---- requests
 
   has_request : (i : Intent) → IsIntended p i → stands a.intents (key_of i) ≡ true → HasRequest a i
-  has_request (intent.Bye file birth peer peer_birth) said there = absurd said
+  has_request (intent.Bye file birth peer peer_birth) said there = (bye_message file birth peer_birth, refl)
   has_request (intent.Seek file target) said there = (message.Seek file (birth_of a file), refl)
   has_request (intent.Fill file birth target) said there = (message.Fetch file birth, refl)
   has_request (intent.Patch dir entry target) said there = (message.Tell dir entry, refl)
   has_request (intent.Confirm dir child target) said there =
       let cell = confirms dir child there in
       (message.Confirm dir cell.0, ap (confirm_message dir) cell.1)
-  has_request (intent.Leave file peer peer_birth) said there = absurd said
+  has_request (intent.Leave file peer peer_birth) said there =
+      let own = own_of_held a.names file (leaving_held file there) in
+      (message.Leave (record { file = file; sender = birth_of a file; receiver = peer_birth }) own.0.place.stamp, ap (leave_message a file peer_birth) own.1)
 
   all_ask : (is : List Intent) → AreIntended p is → ((q : IntentKey) → stands is q ≡ true → stands a.intents q ≡ true) → All (HasRequest a) is
   all_ask [] all part = All-nil (HasRequest a)
@@ -201,17 +257,17 @@ module _ (p : Saying) (n s : ℕ) (least : 1 ≤ s) (most : s ≤ n) (a : Store)
 
 -- ---- the laws
 
-pub in_order : (n : ℕ) → IntentionsAreInOrder n
-in_order n events s least most =
+pub in_order : (n : ℕ) → ViewsAreFronts n → IntentionsAreInOrder n
+in_order n views events s least most =
     let w = run n events in
-    intends (naming n (files_of w.stores)) n s least most (w.stores s) ((sound_run n events).servers s) (all_rest n events s)
+    intends (naming n (files_of w.stores)) (λ file apart. apart) n s least most (w.stores s) ((sound_run n events).servers s) (all_rest n views events s)
 
-pub nothing_left : (n : ℕ) → NothingIsLeftToDo n
-nothing_left n events s least most =
+pub nothing_left : (n : ℕ) → ViewsAreFronts n → NothingIsLeftToDo n
+nothing_left n views events s least most =
     let w = run n events in
-    still (naming n (files_of w.stores)) n s least most (w.stores s) ((sound_run n events).servers s) (all_rest n events s)
+    still (naming n (files_of w.stores)) (λ file apart. apart) n s least most (w.stores s) ((sound_run n events).servers s) (all_rest n views events s)
 
-pub have_requests : (n : ℕ) → IntentionsHaveRequests n
-have_requests n events s least most =
+pub have_requests : (n : ℕ) → ViewsAreFronts n → IntentionsHaveRequests n
+have_requests n views events s least most =
     let w = run n events in
-    asked (naming n (files_of w.stores)) n s least most (w.stores s) ((sound_run n events).servers s) (all_rest n events s)
+    asked (naming n (files_of w.stores)) (λ file apart. apart) n s least most (w.stores s) ((sound_run n events).servers s) (all_rest n views events s)

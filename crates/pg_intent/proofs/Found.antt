@@ -20,7 +20,7 @@ stands_is (i ∷ is) k = by (has_key k i) (stands_is is k)
     by false rest = rest
 
 -- where one key is another, what is found with it is found with the other
-split : (P : Bool → Type 0) (k q : IntentKey) → (k ≡ q → P true) → (is_same_key k q ≡ false → P false) → P (is_same_key k q)
+pub split : (P : Bool → Type 0) (k q : IntentKey) → (k ≡ q → P true) → (is_same_key k q ≡ false → P false) → P (is_same_key k q)
 split P k q same other = by (is_same_key k q) refl
   where
     by : (t : Bool) → is_same_key k q ≡ t → P t

@@ -6,3 +6,4 @@ pub mod Entries
 pub mod Begun
 pub mod Above
 pub mod Orders
+pub mod Turned

@@ -1,5 +1,5 @@
 -- What tells one intention from another.
-use Rattle.std.specs.Prelude.{ℕ, Bool, ◌==◌, ◌&&◌, false}
+use Rattle.std.specs.Prelude.{ℕ, Bool, ◌==◌, ◌&&◌, true, false}
 use Rattle.std.specs.Ordering.{nat_cmp, ordering_then}
 use Rattle.std.specs.declared.cmp.Ordering.{Ordering}
 use Rattle.std.specs.declared.cmp.Ordering.TheVariants.{Equal}
@@ -17,6 +17,12 @@ is_same_key (key.Patch dir child) (key.Patch d c) = is_same_file dir d && is_sam
 is_same_key (key.Confirm dir child) (key.Confirm d c) = is_same_file dir d && is_same_file child c
 is_same_key (key.Leave file) (key.Leave f) = is_same_file file f
 is_same_key _ _ = false
+
+-- a Bye and a Leave are for their peer alone
+abbrev pub is_for_peer : IntentKey → Bool
+is_for_peer (key.Bye file birth peer) = true
+is_for_peer (key.Leave file) = true
+is_for_peer _ = false
 
 -- ---- which of two begins first, where one event begins both
 

@@ -1,18 +1,18 @@
 //! The intentions of a server.
 
-ghost use Rattle.std.specs.Prelude.{◌≡◌, ◌==◌, [], IfOk, OnErr, OnOk, length, not, slice_get};
+ghost use Rattle.std.specs.Prelude.{◌≡◌, ◌++◌, ◌==◌, [], IfOk, OnErr, OnOk, length, not, slice_get};
 ghost use Rattle.std.specs.List.{find};
 ghost use Rattle.std.specs.Map.Iter.{ShowsInOrder, deref};
 ghost use Rattle.std.specs.Option.{option_copied};
 ghost use Rattle.pg_intent.specs.Intent.{is_about, key_of};
 ghost use Rattle.pg_intent.specs.declared.intent.Intent.{Intent};
-ghost use Rattle.pg_intent.specs.Intents.{HaveOwnKeys, aimed, begun, ended, intent_at, stands};
+ghost use Rattle.pg_intent.specs.Intents.{HaveOwnKeys, aimed, begun, ended, intent_at, key_to, keys_to, stands, turned, turned_each};
 
 use crate::intent::Intent;
 use crate::key::IntentKey;
 use indexmap::IndexMap;
 use indexmap::map::Values;
-use pg_base::{FileId, NodeId};
+use pg_base::{FileId, Items, NodeId};
 use std::alloc::{AllocError, Global};
 use std::marker::Model;
 
@@ -139,4 +139,49 @@ impl Intents {
         };
         intent.aim(target);
     }
+
+    /// The keys of the intentions that ask this server, in the order in which they began.
+    pub fn keys_to(&self, alloc: Global, server: NodeId) -> Result<Items<IntentKey>, AllocError>
+        ensures { IfOk result (λ keys. keys ≡ keys_to server self.now) }
+    {
+        let mut keys = Items::new(alloc);
+        for intent in self.iter() {
+            push_if_to(server, intent, &mut keys)?;
+        }
+        Ok(keys)
+    }
+
+    /// An intention that asks a server which is removed asks this one from now on; a Bye and a Leave end.
+    fn turn(&mut self, key: &IntentKey, to: NodeId)
+        ensures { self.new ≡ turned self.old key.now to }
+    {
+        if key.is_for_peer() {
+            self.end(key);
+        } else {
+            self.aim(key, to);
+        }
+    }
+
+    /// The same of the intentions with these keys, one behind another.
+    pub fn turn_each(&mut self, keys: &[IntentKey], to: NodeId)
+        ensures { self.new ≡ turned_each self.old keys.now to }
+    {
+        for key in keys {
+            self.turn(key, to);
+        }
+    }
+}
+
+/// The key of an intention, where it asks this server.
+fn push_if_to(
+    server: NodeId,
+    intent: &Intent,
+    keys: &mut Items<IntentKey>,
+) -> Result<(), AllocError>
+    ensures { OnOk result (keys.new ≡ keys.old ++ key_to server intent.now) }
+{
+    if intent.target() == server {
+        keys.push(intent.key())?;
+    }
+    Ok(())
 }

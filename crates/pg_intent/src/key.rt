@@ -1,7 +1,7 @@
 //! What tells one intention from another.
 
 ghost use Rattle.std.specs.Prelude.{◌≡◌};
-ghost use Rattle.pg_intent.specs.Key.{is_same_key, key_cmp};
+ghost use Rattle.pg_intent.specs.Key.{is_for_peer, is_same_key, key_cmp};
 
 use pg_base::{FileId, NodeId};
 use std::cmp::Ordering;
@@ -40,6 +40,19 @@ impl IntentKey {
         ensures { result ≡ is_same_key self.now other.now }
     {
         self == other
+    }
+
+    /// Whether it is for one peer alone: that of a Bye or a Leave.
+    pub fn is_for_peer(&self) -> bool
+        ensures { result ≡ is_for_peer self.now }
+    {
+        match self {
+            IntentKey::Bye { .. } | IntentKey::Leave { .. } => true,
+            IntentKey::Patch { .. }
+            | IntentKey::Fill { .. }
+            | IntentKey::Seek { .. }
+            | IntentKey::Confirm { .. } => false,
+        }
     }
 
     /// Which of two begins first, where one event begins both. Kinds stand in the order in which they are listed

@@ -4,7 +4,7 @@ ghost use Rattle.std.specs.Prelude.{◌≡◌, ℕ, List, length};
 ghost use Rattle.std.specs.Cmp.{IsTotalOrder};
 ghost use Rattle.std.specs.Ordering.{is_eq};
 ghost use Rattle.pg_intent.specs.Key.{is_same_key, key_cmp};
-ghost use Rattle.pg_intent.specs.Intents.{AimedIsFound, BegunIsFound, EndedIsFound, HaveOwnKeys, aimed, begun, ended};
+ghost use Rattle.pg_intent.specs.Intents.{AimedIsFound, BegunIsFound, EndedIsFound, HaveOwnKeys, TurnedIsFound, aimed, begun, ended, turned_each};
 ghost use Rattle.pg_intent.specs.declared.intent.Intent.{Intent};
 ghost use Rattle.pg_intent.specs.declared.key.IntentKey.{IntentKey};
 
@@ -25,6 +25,15 @@ pub fn aims_change_targets_only()
         → AimedIsFound is one target k }
     ensures len { (is : List Intent) (one : IntentKey) (target : ℕ)
         → length (aimed is one target) ≡ length is }
+{}
+
+/// What is found where a server is removed: what asked it asks another one, a Bye and a Leave that were for it are none
+/// any more, and with each other key what was found.
+pub fn turned_intents_are_found()
+    ensures found { (is : List Intent) (server to : ℕ) (k : IntentKey)
+        → HaveOwnKeys is → TurnedIsFound is server to k }
+    ensures keys { (is : List Intent) (ks : List IntentKey) (to : ℕ)
+        → HaveOwnKeys is → HaveOwnKeys (turned_each is ks to) }
 {}
 
 /// The order in which one event begins intentions is total, and only keys of one intention tie.

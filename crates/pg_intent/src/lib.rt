@@ -13,6 +13,6 @@ pub use intents::Intents;
 pub use key::IntentKey;
 pub use laws::{
     aims_change_targets_only, begun_intents_are_found, ended_intents_are_gone, keys_are_ordered,
-    keys_stay_single,
+    keys_stay_single, turned_intents_are_found,
 };
 pub use target::next_target;

@@ -1,5 +1,5 @@
 -- What is off an edge its peer has.
-use Rattle.std.proofs.Common.{ℕ, ◌≡◌, true, cond, List, Option, None, Some, is_some, option_map, refl, sym, ap, subst, ◌∙◌, inl, inr, All}
+use Rattle.std.proofs.Common.{ℕ, ◌≡◌, ◌⊎◌, true, cond, List, Option, None, Some, is_some, option_map, refl, sym, ap, subst, ◌∙◌, inl, inr, All}
 use Rattle.std.specs.List.{IsAmong}
 use Rattle.std.proofs.lemmas.Bool.{eq-eqb}
 use Rattle.pg_base.specs.declared.id.FileId.{FileId}
@@ -14,6 +14,8 @@ use Rattle.pg_replica.specs.declared.replica.Replica.{Replica}
 use Rattle.pg_store.specs.declared.store.Store.{Store}
 use Rattle.pg_store.specs.Cells.{cell_at}
 use Rattle.pg_store.specs.Store.{replica_at}
+use Rattle.pg_store.specs.Together.{IsOver}
+use Rattle.pg_store.proofs.Over.{over_tested}
 use Rattle.pg_promises.specs.Seen.{plain, seen}
 use Rattle.pg_promises.specs.UpTo.{IsUpTo}
 use Rattle.pg_promises.specs.Whole.{AreEdges}
@@ -56,7 +58,8 @@ module _ (n : ℕ) (w : World) (k : Keeps n w) (s : ℕ) where
   A = w.stores s
 
   pub had : (file : FileId) (x : Replica) (e : Edge) (q : Key) (c : Cell) → replica_at A file ≡ Some x
-      → IsAmong x.edges e → tag_in e.keys q ≡ None → cell_at A file q ≡ Some c → IsHadThere w file e c
+      → IsAmong x.edges e → tag_in e.keys q ≡ None → cell_at A file q ≡ Some c
+      → IsHadThere w file e c ⊎ IsOver (w.stores e.peer) file e.birth
   had file x e q c here among none is =
       let graph : AreEdges n s x.edges = found_replica (λ z. AreEdges n s z.edges) file x A.replicas (k.whole s).replicas here in
       let edge : edge_to x.edges e.peer ≡ Some e =
@@ -72,8 +75,8 @@ module _ (n : ℕ) (w : World) (k : Keeps n w) (s : ℕ) where
         cell = ap (option_map plain) is;
       })
       (ap (λ (o : Option (Seen Cell)). tag_on o at) visible ∙ tag_on_edge x.edges e q None edge none)) [
-        | inl h ↦ had_by w file e c h.replica (replica_at (w.stores e.peer) file) refl h.is h.other h.holds
-        | inr over ↦ absurd over
+        | inl h ↦ let t = h.0 in inl (had_by w file e c t.replica (replica_at (w.stores e.peer) file) refl t.is t.other t.holds)
+        | inr over ↦ inr ((over_tested (w.stores e.peer) file e.birth).0 over)
       ]
 
 -- ACKNOWLEDGED KEYS ARE HAD

@@ -1,6 +1,5 @@
 -- Calls keep the rule of the edges, where contents are of histories and what begins is not held.
-use Rattle.std.proofs.Common.{ℕ, ◌≡◌, ◌==◌, true, false, List, [], Option, None, Some, Result, Ok, Err, is_some, refl, sym, subst}
-use Rattle.std.specs.List.Sorted.{IsStrictlySortedBy}
+use Rattle.std.proofs.Common.{ℕ, ◌≡◌, ◌==◌, true, false, List, Option, None, Some, Result, Ok, Err, is_some, refl, sym, subst}
 use Rattle.pg_base.specs.declared.id.FileId.{FileId}
 use Rattle.pg_base.specs.declared.id.Kind.TheVariants.{Dir, File}
 use Rattle.pg_base.specs.declared.policy.Policy.{Policy}
@@ -8,18 +7,14 @@ use Rattle.pg_base.specs.declared.policy.Policy.TheVariants.{Last}
 use Rattle.pg_base.specs.declared.stamp.Stamp.{Stamp}
 use Rattle.pg_patch.specs.Ranges.{RangesValue, cut_to, written}
 use Rattle.pg_content.specs.History.{Made}
-use Rattle.pg_flood.specs.Promises.{Saying}
-use Rattle.pg_flood.specs.Server.{Slot}
-use Rattle.pg_entries.specs.declared.cell.Cell.{Cell}
 use Rattle.pg_msg.specs.declared.message.Message.TheVariants as message
-use Rattle.pg_msg.specs.declared.update.Update.TheVariants as update
 use Rattle.pg_msg.specs.declared.work.Work.{Work}
-use Rattle.pg_msg.specs.Work.{new_work, with_made}
+use Rattle.pg_msg.specs.Work.{new_work}
 use Rattle.pg_call.specs.declared.call.Call.{Call}
 use Rattle.pg_call.specs.declared.call.Call.TheVariants as call
+use Rattle.pg_register.specs.declared.flag.Flag.{Flag}
 use Rattle.pg_register.specs.declared.place.Place.{Place}
 use Rattle.pg_names.specs.Names.{blank_own}
-use Rattle.pg_register.specs.Flag.{IsByServer}
 use Rattle.pg_replica.specs.declared.replica.Replica.{Replica}
 use Rattle.pg_store.specs.declared.store.Store.{Store}
 use Rattle.pg_store.specs.declared.wishes.Wish.{Wish}
@@ -39,12 +34,16 @@ use Rattle.pg_calls.specs.Bodies.{change, change_file, when_fit}
 use Rattle.pg_calls.specs.Calls.{do_call}
 use Rattle.pg_calls.specs.Checks.{dir_at, empty_dir_at, file_at, in_time, move_of, new_name, target_at}
 use Rattle.pg_calls.specs.Demoting.{demoted_at}
+use Rattle.pg_calls.specs.Dropping.{clean_gold, dropped_at, leave_of, leaving}
+use Rattle.pg_calls.specs.Forgetting.{lost_at}
+use Rattle.pg_calls.specs.GivingUp.{removal_at}
 use Rattle.pg_calls.specs.Making.{drawn, first_ranges, make_place, make_version}
 use Rattle.pg_calls.specs.Naming.{begun, dead_place, next_id, place_in, with_first_version, with_id, with_thing}
 use Rattle.pg_calls.proofs.Checked.{fit_found}
 use Rattle.pg_calls.proofs.New.{thing_new}
 use Rattle.pg_calls.proofs.Walked.{file_found, full_held}
 use Rattle.pg_call.specs.declared.reply.Reply.{Reply}
+use Rattle.pg_promises.specs.Seen.{Hearing}
 use Rattle.pg_promises.specs.Histories.{IsOfHistory}
 use Rattle.pg_promises.specs.Whole.{IsWhole}
 use Rattle.pg_promises.proofs.Choices.{chosen}
@@ -53,19 +52,18 @@ use Rattle.pg_promises.proofs.Together.{replica_of_held}
 use Rattle.pg_promises.proofs.Whole.{whole_write}
 use Rattle.pg_run.specs.Away.{BeginsWhatIsAway}
 use Rattle.pg_kept.proofs.Contents.{AreOfHistory, content_held, none_of_history}
-use Rattle.pg_kept.proofs.Pieces.{IsDone, Stands, begun_done, beside_done, made_flag_done, nothing_done, on_done, place_done, posted, raised_done}
+use Rattle.pg_kept.proofs.Leaving.{intent_done}
+use Rattle.pg_kept.proofs.Handlers.{none_sorted}
+use Rattle.pg_kept.proofs.Losing.{enter_view_done, forget_done, made_place}
+use Rattle.pg_kept.proofs.Pieces.{IsDone, Stands, begun_done, beside_done, made_flag_done, nothing_done, over_done, posted, raised_done}
 
 replica_by : (b : Store) (f : FileId) (o : Option Replica) → replica_at b f ≡ o → is_some o ≡ true
     → (x : Replica) × (replica_at b f ≡ Some x)
 replica_by b f None is h = absurd (let z : false ≡ true = h in cc)
 replica_by b f (Some x) is h = (x, is)
 
-none_sorted : IsByServer []
-unfolding IsStrictlySortedBy
-none_sorted = tt
-
 -- Server s of n has a, and is called
-module _ (n s : ℕ) (a : Store) (k : IsWhole n s a) (heard : Saying Slot Cell) (of : AreOfHistory a)
+module _ (n s : ℕ) (a : Store) (k : IsWhole n s a) (heard : Hearing) (of : AreOfHistory a)
     (away : BeginsWhatIsAway a) (moment : ℕ) where
   abbrev W : Work
   W = new_work moment 0
@@ -121,16 +119,12 @@ module _ (n s : ℕ) (a : Store) (k : IsWhole n s a) (heard : Saying Slot Cell) 
 
   -- ---- what is made
 
-  made_place : (d : Done) → Is d → (f : FileId) (place : Place) → Is (make_place f place d)
-  made_place d u f place =
-      place_done n s a heard d.store (with_made d.work (update.Place f place)) u f place
-
   made_version : (d : Done) → Is d → (f : FileId) (x : Replica) → replica_at d.store f ≡ Some x
       → (h : List Made) → IsOfHistory h (content_of d.store f) → (stamp : Stamp) (ranges : RangesValue)
       → Is (make_version f stamp ranges d)
   made_version d u f x here h of_h stamp ranges =
-      on_done n s a heard d.store d.work u (write d.store f stamp ranges)
-      (write_of_held d.store f (x, here) h stamp ranges of_h) (whole_write n s d.store u.way.whole f stamp ranges)
+      over_done n s a heard d.store d.work u (write d.store f stamp ranges)
+      (write_of_held d.store f (x, here) h stamp ranges of_h heard.over) (whole_write n s d.store u.way.whole f stamp ranges)
 
   -- ---- new things
 
@@ -157,7 +151,7 @@ module _ (n s : ℕ) (a : Store) (k : IsWhole n s a) (heard : Saying Slot Cell) 
         let place = place_in (with_id a) moment new in
         let first = idle (begun (with_id a) id policy) W in
         let placed = make_place id place first in
-        raised_done n s a heard placed.store placed.work id (made_place first (begun_on id fresh policy) id place)
+        raised_done n s a heard placed.store placed.work id (made_place n s a heard first (begun_on id fresh policy) id place)
 
     first_on : Is (with_first_version id Thing)
     first_on =
@@ -185,7 +179,13 @@ module _ (n s : ℕ) (a : Store) (k : IsWhole n s a) (heard : Saying Slot Cell) 
   -- ---- places
 
   placed_on : (f : FileId) (place : Place) → Is (make_place f place (idle a W))
-  placed_on f place = made_place (idle a W) nothing f place
+  placed_on f place = made_place n s a heard (idle a W) nothing f place
+
+  -- ---- a replica that is to go
+
+  leaving_on : (f : FileId) (o : Option Flag) → IsAnswer (leaving a f W o)
+  leaving_on f None = nothing
+  leaving_on f (Some flag) = intent_done n s a heard a W nothing (leave_of f flag) tt
 
   -- EVERY CALL
   pub call_on : (c : Call) → IsAnswer (do_call a c W)
@@ -207,11 +207,13 @@ module _ (n s : ℕ) (a : Store) (k : IsWhole n s a) (heard : Saying Slot Cell) 
       answered_on (file_at a path) _ (λ f found. placed_on f (dead_place a moment f))
   call_on (call.Rmdir path) =
       answered_on (empty_dir_at a path) _ (λ f found. placed_on f (dead_place a moment f))
-  call_on (call.Forget id) = replied_on (in_time a (tt {0})) _
+  call_on (call.Forget id) = answered_on (lost_at a id) _ (λ found is. forget_done n s a heard a W nothing found)
   call_on (call.Demote target) =
       answered_on (demoted_at a target) _ (λ f found.
       chosen Is (is_gold a f) (lower_flag a f W) (idle a W) (made_flag_done n s a heard a W f (own_next a f false) nothing) nothing)
-  call_on (call.Drop target) = replied_on (in_time a (tt {0})) _
-  call_on (call.Giveup view server) = replied_on (in_time a (tt {0})) _
+  call_on (call.Drop target) =
+      answered_on (dropped_at a target) _ (λ f found. leaving_on f (clean_gold a f))
+  call_on (call.Giveup view server) =
+      answered_on (removal_at a view server) _ (λ found is. enter_view_done n s a heard a W nothing server)
   call_on call.Status = replied_on (in_time a (tt {0})) _
   call_on call.Stop = replied_on (in_time a (tt {0})) _

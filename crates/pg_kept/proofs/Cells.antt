@@ -7,8 +7,7 @@ use Rattle.pg_content.specs.Content.{ContentValue}
 use Rattle.pg_content.specs.History.{version_of}
 use Rattle.pg_entries.specs.declared.cell.Cell.{Cell}
 use Rattle.pg_entries.specs.declared.cell.Cell.TheVariants as cell
-use Rattle.pg_flood.specs.Promises.{Saying}
-use Rattle.pg_flood.specs.Server.{Holds, Slot}
+use Rattle.pg_flood.specs.Server.{Holds}
 use Rattle.pg_msg.specs.declared.message.Ends.{Ends}
 use Rattle.pg_msg.specs.declared.message.Message.TheVariants as message
 use Rattle.pg_msg.specs.declared.work.Work.{Work}
@@ -31,7 +30,7 @@ use Rattle.pg_cells.specs.Done.{Done, idle}
 use Rattle.pg_cells.specs.Posting.{sent_to}
 use Rattle.pg_promises.specs.Histories.{IsOfHistory}
 use Rattle.pg_promises.specs.Laws.{IsTaken, coming}
-use Rattle.pg_promises.specs.Seen.{saying}
+use Rattle.pg_promises.specs.Seen.{Hearing, Overs, hears, saying}
 use Rattle.pg_promises.specs.UpTo.{IsUpTo}
 use Rattle.pg_promises.specs.Whole.{IsOther}
 use Rattle.pg_promises.proofs.Choices.{decided}
@@ -45,7 +44,7 @@ use Rattle.pg_kept.proofs.Pieces.{IsDone, IsSame, Stands, entry_cell_done, entry
 
 -- ---- births
 
-birth_by : (o : Option Replica) (birth : ℕ) → is_of_birth o birth ≡ true
+pub birth_by : (o : Option Replica) (birth : ℕ) → is_of_birth o birth ≡ true
     → option_map (λ (x : Replica). x.birth) o ≡ Some birth
 birth_by None birth h = absurd (let z : false ≡ true = h in cc)
 birth_by (Some x) birth h = ap Some (eqb-true x.birth birth h)
@@ -56,7 +55,7 @@ replica_by : (b : Store) (file : FileId) (birth : ℕ) (o : Option Replica) → 
 replica_by b file birth None is h = absurd (let z : None ≡ Some birth = h in cc)
 replica_by b file birth (Some x) is h = (x, is, let z : Some x.birth ≡ Some birth = h in cc)
 
-replica_with : (b : Store) (file : FileId) (birth : ℕ) → birth_at b file ≡ Some birth
+pub replica_with : (b : Store) (file : FileId) (birth : ℕ) → birth_at b file ≡ Some birth
     → (x : Replica) × (replica_at b file ≡ Some x) × (x.birth ≡ birth)
 replica_with b file birth h = replica_by b file birth (replica_at b file) refl h
 
@@ -83,7 +82,7 @@ Suits a file (cell.Flag flag) = Unit {0}
 Suits a file (cell.Entry entry sure) = Unit {0}
 Suits a file (cell.Version v) = IsComing a file v
 
-module _ (n s : ℕ) (a : Store) (heard : Saying Slot Cell) (file : FileId) where
+module _ (n s : ℕ) (a : Store) (heard : Hearing) (file : FileId) where
   pub record Takes (b : Store) (work : Work) (c : Cell) : Type 0 where
     pub goes : IsDone n s a heard (taken b file c work)
     pub births : HoldsAsBefore b (taken b file c work).store
@@ -142,10 +141,10 @@ comes_linked a file peer birth x y old here v k =
 
 -- ---- A CELL
 
-module _ (n s : ℕ) (a : Store) (ends : Ends) (tag : ℕ) (c : Cell) (work : Work)
+module _ (over : Overs) (n s : ℕ) (a : Store) (ends : Ends) (tag : ℕ) (c : Cell) (work : Work)
     (other : IsOther n s work.from) where
-  abbrev Heard : Saying Slot Cell
-  Heard = saying work.from s (message.Cell ends tag c)
+  abbrev Heard : Hearing
+  Heard = hears over (saying work.from s (message.Cell ends tag c))
 
   abbrev Linked : Done
   Linked = link_peer a ends.file work.from ends.sender work
@@ -186,7 +185,7 @@ module _ (n s : ℕ) (a : Store) (ends : Ends) (tag : ℕ) (c : Cell) (work : Wo
         subst (λ (to : ℕ). Stands n s a Heard Taken.store (with_sent Taken.work (sent_to Taken.store to answer)))
         (sym from)
         (sent_done n s a Heard Taken.store Taken.work t.goes (sent_to Taken.store work.from answer)
-        (answer_sent s a Taken.store work.from ends tag c t.goes.way.whole.server mine.0 mine.1 mine.2 t.holds) tt)
+        (answer_sent over s a Taken.store work.from ends tag c t.goes.way.whole.server mine.0 mine.1 mine.2 t.holds) tt)
 
   accepted_done : Stands n s a Heard a work → Suits a ends.file c → fits ends.file c ≡ true
       → is_accepted a work.from manner.Link ends ≡ true

@@ -14,12 +14,11 @@ use Rattle.pg_cells.specs.Sending.{is_chosen}
 use Rattle.pg_repair.proofs.Steady.{begin_end_stays}
 use Rattle.pg_server.specs.Local.{intended, settled}
 use Rattle.pg_promises.specs.Laws.{AreAlike}
-use Rattle.pg_promises.specs.Seen.{cells, says}
+use Rattle.pg_promises.specs.Seen.{Hearing, cells_in, says}
 use Rattle.pg_promises.specs.Whole.{IsWhole, PatchesAreForDirs}
 use Rattle.pg_promises.proofs.Acks.{none_noted}
-use Rattle.pg_promises.specs.Growing.{Grows}
 use Rattle.pg_promises.proofs.Events.{IsGood}
-use Rattle.pg_promises.proofs.Grown.{GoesOn, goes_on_further, goes_on_itself, grown}
+use Rattle.pg_promises.proofs.Grown.{GoesOn, goes_on_further, goes_on_itself}
 use Rattle.pg_promises.proofs.Sending.{finish_may, others_may}
 use Rattle.pg_promises.proofs.Settling.{settle_steps, settle_work, whole_settle}
 use Rattle.pg_run.proofs.Event.{asks_by_have, asks_sent, cells_sent}
@@ -28,49 +27,52 @@ use Rattle.pg_kept.proofs.Asked.{IsUnread, IsWell, all_unread, all_well, cells_w
 
 -- ---- how an event begins: where the server was, or behind an answer that it heard
 
-pub record Begins (n s : ℕ) (a : Store) (heard : Saying Slot Cell) (b : Store) : Type 0 where
-  pub rule : (c : Store) (sent : List Sent) → Steps cells b c → AllMay cells s a c heard sent
-      → Rule cells s a c heard sent
-  pub on : GoesOn a b
-  pub tags : HasSoundTags cells a → HasSoundTags cells b
+pub record Begins (n s : ℕ) (a : Store) (heard : Hearing) (b : Store) : Type 0 where
+  pub rule : (c : Store) (sent : List Sent) → Steps (cells_in heard.over) b c
+      → AllMay (cells_in heard.over) s a c heard.said sent → Rule (cells_in heard.over) s a c heard.said sent
+  pub on : GoesOn (cells_in heard.over) a b
+  pub tags : HasSoundTags (cells_in heard.over) a → HasSoundTags (cells_in heard.over) b
   pub whole : IsWhole n s b
 
-pub begins_here : (n s : ℕ) (a : Store) (heard : Saying Slot Cell) → IsWhole n s a → Begins n s a heard a
+pub begins_here : (n s : ℕ) (a : Store) (heard : Hearing) → IsWhole n s a → Begins n s a heard a
 begins_here n s a heard k = record {
-  rule = λ c sent f may. by_steps cells s a c heard sent f (none_noted a c heard) may;
-  on = goes_on_itself a;
+  rule = λ c sent f may.
+      by_steps (cells_in heard.over) s a c heard.said sent f (none_noted heard.over a c heard.said) may;
+  on = goes_on_itself (cells_in heard.over) a;
   tags = λ tags. tags;
   whole = k;
 }
 
 -- how it ends: by the rule, and all is well said
-pub record IsKind (n s : ℕ) (a : Store) (heard : Saying Slot Cell) (b : Store) (sent : List Sent) : Type 0 where
+pub record IsKind (n s : ℕ) (a : Store) (heard : Hearing) (b : Store) (sent : List Sent) : Type 0 where
   pub good : IsGood n s a heard b sent
   pub said : AreWellSaid n sent
 
 -- what comes of an event up to here
-pub record IsFirst (n s : ℕ) (a : Store) (heard : Saying Slot Cell) (d : Done) : Type 0 where
+pub record IsFirst (n s : ℕ) (a : Store) (heard : Hearing) (d : Done) : Type 0 where
   pub start : Store
   pub begins : Begins n s a heard start
   pub goes : IsDone n s start heard d
 
--- nothing that the server held is lost
-pub first_grown : (n s : ℕ) (a : Store) (heard : Saying Slot Cell) (d : Done) → IsWhole n s a
-    → IsFirst n s a heard d → Grows a d.store
-first_grown n s a heard d k f =
-    grown n s a d.store k f.goes.way.whole
-    (goes_on_further a f.start d.store f.begins.on f.goes.way.steps.moves.covers)
+-- what it covered it goes on to cover
+pub first_on : (n s : ℕ) (a : Store) (heard : Hearing) (d : Done) → IsFirst n s a heard d
+    → GoesOn (cells_in heard.over) a d.store
+first_on n s a heard d f =
+    goes_on_further (cells_in heard.over) a f.start d.store f.begins.on f.goes.way.steps.moves.covers
 
-module _ (n s : ℕ) (a : Store) (heard : Saying Slot Cell) where
+module _ (n s : ℕ) (a : Store) (heard : Hearing) where
   -- nothing was noted before, so it may be sent whichever store there was
-  may_from : (b c : Store) (x : Saying Slot Cell) → May cells s b c heard x → May cells s a c heard x
+  may_from : (b c : Store) (x : Saying Slot Cell) → May (cells_in heard.over) s b c heard.said x
+      → May (cells_in heard.over) s a c heard.said x
   may_from b c (CellFor owner at tag held) h = h
   may_from b c (AckTo owner at tag) h = h
   may_from b c Other h = tt
 
-  all_from : (b c : Store) (ms : List Sent) → AllMay cells s b c heard ms → AllMay cells s a c heard ms
+  all_from : (b c : Store) (ms : List Sent) → AllMay (cells_in heard.over) s b c heard.said ms
+      → AllMay (cells_in heard.over) s a c heard.said ms
   all_from b c ms h =
-      All-weaker (λ m. May cells s b c heard (says m)) (λ m. May cells s a c heard (says m))
+      All-weaker (λ m. May (cells_in heard.over) s b c heard.said (says m))
+      (λ m. May (cells_in heard.over) s a c heard.said (says m))
       (λ m may. may_from b c (says m) may) ms h
 
   -- ---- the house rules and the intentions
@@ -109,7 +111,7 @@ module _ (n s : ℕ) (a : Store) (heard : Saying Slot Cell) where
 
   -- ---- what is sent in the end
 
-  pub ended_good : (d : Done) → IsFirst n s a heard d → HasSoundTags cells a
+  pub ended_good : (d : Done) → IsFirst n s a heard d → HasSoundTags (cells_in heard.over) a
       → IsKind n s a heard d.store (((d.work.sent ++ cells_sent d) ++ asks_sent d) ++ d.work.tail)
   ended_good d f tags =
       let b = d.store in
@@ -118,12 +120,12 @@ module _ (n s : ℕ) (a : Store) (heard : Saying Slot Cell) where
       let front = all ++ asks_sent d in
       let unread = All-weaker (MayGoLast n) IsUnread (λ m last. last.0) d.work.tail f.goes.last in
       let sound = way.steps.tags (f.begins.tags tags) in
-      let sent = all_from f.start b d.work.sent (way.sends b (Steps-refl cells b)) in
-      let may = All-append (λ m. May cells s a b heard (says m)) front d.work.tail
-      (All-append (λ m. May cells s a b heard (says m)) all (asks_sent d)
-      (finish_may n s a b heard sound way.whole d.work sent)
-      (others_may s a b heard (asks_sent d) (asks_by_have IsUnread b d.work.begun (all_unread b))))
-      (others_may s a b heard d.work.tail unread) in
+      let sent = all_from f.start b d.work.sent (way.sends b (Steps-refl (cells_in heard.over) b)) in
+      let may = All-append (λ m. May (cells_in heard.over) s a b heard.said (says m)) front d.work.tail
+      (All-append (λ m. May (cells_in heard.over) s a b heard.said (says m)) all (asks_sent d)
+      (finish_may heard.over n s a b heard.said sound way.whole d.work sent)
+      (others_may heard.over s a b heard.said (asks_sent d) (asks_by_have IsUnread b d.work.begun (all_unread b))))
+      (others_may heard.over s a b heard.said d.work.tail unread) in
       record {
         good = record {
           rule = f.begins.rule b (front ++ d.work.tail) way.steps may;

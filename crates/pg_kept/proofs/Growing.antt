@@ -1,18 +1,20 @@
--- What servers hold they hold for good.
+-- What servers hold they hold on, until its birth is over.
 use Rattle.std.proofs.Common.{[], ℕ, ◌≡◌, List, ◌∷◌, ◌++◌, Option, None, Some, inl, inr, refl, sym, subst}
 use Rattle.std.proofs.lemmas.List.{append-nil, append_assoc}
 use Rattle.pg_event.specs.declared.event.Event.{Event}
 use Rattle.pg_flood.proofs.Flood.{here}
 use Rattle.pg_store.specs.declared.store.Store.{Store}
+use Rattle.pg_store.specs.Births.{is_over}
 use Rattle.pg_server.specs.Local.{effect, first_effect}
-use Rattle.pg_promises.proofs.Grown.{GoesOn, goes_on_further, goes_on_itself, grown}
+use Rattle.pg_promises.specs.Seen.{cells, hears}
+use Rattle.pg_promises.proofs.Grown.{GoesOn, goes_on_further, goes_on_itself, grown, grown_in}
 use Rattle.pg_run.specs.Grown.{EventsGrow, RunsGrow}
+use Rattle.pg_run.specs.Ruled.{heard_in}
 use Rattle.pg_run.specs.Run.{Step, Taking, World, next, run, start, taking_in}
 use Rattle.pg_run.proofs.Frame.{IsFramed, acts_is, framed, run_more}
 use Rattle.pg_kept.specs.Laws.{StandOn}
-use Rattle.pg_kept.proofs.Effects.{heard_in}
-use Rattle.pg_kept.proofs.Ends.{first_grown}
-use Rattle.pg_kept.proofs.Runs.{first_is, good, run_keeps}
+use Rattle.pg_kept.proofs.Ends.{first_on}
+use Rattle.pg_kept.proofs.Runs.{first_is, good, rule, run_keeps}
 
 module _ (n : ℕ) (on : StandOn n) where
   abbrev At : List Event → ℕ → Store
@@ -25,38 +27,38 @@ module _ (n : ℕ) (on : StandOn n) where
     W = run n events
 
     taken_on : (t : Taking) → taking_in n W event ≡ Some t
-        → GoesOn (W.stores t.server) (effect (W.stores t.server) t.asked).store
+        → GoesOn cells (W.stores t.server) (effect (W.stores t.server) t.asked).store
     taken_on t is =
-        (good n on events event t is (acts_is n W event t is) (run_keeps n on events)).good.rule.onward.covers
+        (rule n on events event t is (acts_is n W event t is) (run_keeps n on events)).onward.covers
 
     step_by : (o : Option Taking) (step : Step) → taking_in n W event ≡ o → IsFramed n W event o step
-        → GoesOn (W.stores s) (step.stores s)
+        → GoesOn cells (W.stores s) (step.stores s)
     step_by None step is f =
-        subst (λ (z : Step). GoesOn (W.stores s) (z.stores s)) (sym f.1) (goes_on_itself (W.stores s))
+        subst (λ (z : Step). GoesOn cells (W.stores s) (z.stores s)) (sym f.1) (goes_on_itself cells (W.stores s))
     step_by (Some t) step is f =
         let b = (effect (W.stores t.server) t.asked).store in
-        subst (λ (z : Step). GoesOn (W.stores s) (z.stores s)) (sym f.1)
+        subst (λ (z : Step). GoesOn cells (W.stores s) (z.stores s)) (sym f.1)
         (elim (here W.stores t.server b s) [
-          | inl e ↦ subst (GoesOn (W.stores s)) (sym e.1)
-              (subst (λ (j : ℕ). GoesOn (W.stores j) b) (sym e.0) (taken_on t is))
-          | inr e ↦ subst (GoesOn (W.stores s)) (sym e.1) (goes_on_itself (W.stores s))
+          | inl e ↦ subst (GoesOn cells (W.stores s)) (sym e.1)
+              (subst (λ (j : ℕ). GoesOn cells (W.stores j) b) (sym e.0) (taken_on t is))
+          | inr e ↦ subst (GoesOn cells (W.stores s)) (sym e.1) (goes_on_itself cells (W.stores s))
         ])
 
-    one_on : GoesOn (At events s) (At (events ++ event ∷ []) s)
+    one_on : GoesOn cells (At events s) (At (events ++ event ∷ []) s)
     one_on =
-        subst (λ (v : World). GoesOn (W.stores s) (v.stores s)) (sym (run_more n (start n) events event))
+        subst (λ (v : World). GoesOn cells (W.stores s) (v.stores s)) (sym (run_more n (start n) events event))
         (step_by (taking_in n W event) (next n W event) refl (framed n W event))
 
   -- ---- any more events
 
-  more_on : (events more : List Event) (s : ℕ) → GoesOn (At events s) (At (events ++ more) s)
+  more_on : (events more : List Event) (s : ℕ) → GoesOn cells (At events s) (At (events ++ more) s)
   more_on events [] s =
-      subst (λ (es : List Event). GoesOn (At events s) (At es s)) (sym (append-nil events))
-      (goes_on_itself (At events s))
+      subst (λ (es : List Event). GoesOn cells (At events s) (At es s)) (sym (append-nil events))
+      (goes_on_itself cells (At events s))
   more_on events (event ∷ more) s =
       let one = events ++ event ∷ [] in
-      subst (λ (es : List Event). GoesOn (At events s) (At es s)) (append_assoc events (event ∷ []) more)
-      (goes_on_further (At events s) (At one s) (At (one ++ more) s) (one_on events event s) (more_on one more s))
+      subst (λ (es : List Event). GoesOn cells (At events s) (At es s)) (append_assoc events (event ∷ []) more)
+      (goes_on_further cells (At events s) (At one s) (At (one ++ more) s) (one_on events event s) (more_on one more s))
 
   pub runs_grow : RunsGrow n
   runs_grow events more s =
@@ -69,7 +71,10 @@ module _ (n : ℕ) (on : StandOn n) where
       let acts = acts_is n (run n events) event t is in
       let k = run_keeps n on events in
       let a = At events s in
-      let kind = good n on events event t is acts k in (
-        first_grown n s a (heard_in s asked) (first_effect a asked) (k.whole s) (first_is n on events event t is acts k),
-        grown n s a (effect a asked).store (k.whole s) kind.good.whole kind.good.rule.onward.covers,
+      let first = first_is n on events event t is acts k in
+      let b = effect a asked in (
+        grown_in n s a (first_effect a asked).store (k.whole s) first.goes.way.whole
+            (first_on n s a (hears (is_over (first_effect a asked).store) (heard_in s asked)) (first_effect a asked) first),
+        grown n s a b.store (k.whole s) (good n on events event t is acts k).good.whole
+            (rule n on events event t is acts k).onward.covers,
       )

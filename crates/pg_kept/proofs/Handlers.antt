@@ -5,10 +5,7 @@ use Rattle.std.specs.List.Sorted.{IsStrictlySortedBy}
 use Rattle.std.proofs.lemmas.Bool.{and_parts}
 use Rattle.pg_base.specs.declared.id.FileId.{FileId}
 use Rattle.pg_base.specs.declared.stamp.Stamp.{Stamp}
-use Rattle.pg_entries.specs.declared.cell.Cell.{Cell}
 use Rattle.pg_entries.specs.declared.entry.Entry.{Entry}
-use Rattle.pg_flood.specs.Promises.{Saying}
-use Rattle.pg_flood.specs.Server.{Slot}
 use Rattle.pg_intent.specs.declared.key.IntentKey.{IntentKey}
 use Rattle.pg_intent.specs.declared.key.IntentKey.TheVariants as intent_key
 use Rattle.pg_intent.specs.Intents.{aimed, ended, intent_at}
@@ -46,11 +43,12 @@ use Rattle.pg_repair.specs.Filling.{few_golds, fill, full, live_golds}
 use Rattle.pg_repair.specs.Granting.{aim_fill, begin_granted, begun_by, fill_asks, gone, grant, granted_own, no_grant, turn_fill, turn_wish, wish_asks}
 use Rattle.pg_repair.specs.NoneHere.{asking_key, does_ask, none_here}
 use Rattle.pg_repair.specs.Telling.{is_told, tell, tell_ok, told}
+use Rattle.pg_promises.specs.Seen.{Hearing}
 use Rattle.pg_promises.specs.Whole.{IsOther}
 use Rattle.pg_promises.proofs.Choices.{chosen, decided}
 use Rattle.pg_promises.proofs.Linking.{unlink_steps}
 use Rattle.pg_promises.proofs.Whole.{whole_unlink}
-use Rattle.pg_kept.proofs.Intents.{aimed_patches, ended_patches, intents_alike}
+use Rattle.pg_promises.proofs.Intents.{aimed_patches, ended_patches, intents_alike}
 use Rattle.pg_kept.proofs.Pieces.{IsDone, Stands, begun_done, beside_done, entry_done, filled_done, flags_done, link_done, on_done, place_done, posted, raised_done}
 
 -- ---- what is pending is not held
@@ -78,7 +76,7 @@ pending_away a file birth wished h =
 
 -- ---- flags stand by server
 
-none_sorted : IsByServer []
+pub none_sorted : IsByServer []
 unfolding IsStrictlySortedBy
 none_sorted = tt
 
@@ -93,7 +91,7 @@ own_sorted b sorted file = sorted_by b.names sorted file (own_at b.names file) r
 
 -- ---- Server s of n came from a, having heard this, and the message came from another server
 
-module _ (n s : ℕ) (a : Store) (heard : Saying Slot Cell) where
+module _ (n s : ℕ) (a : Store) (heard : Hearing) where
   abbrev Is : Done → Type 0
   Is d = IsDone n s a heard d
 
@@ -107,7 +105,7 @@ module _ (n s : ℕ) (a : Store) (heard : Saying Slot Cell) where
       beside_done n s a heard b work u (with_intents b (aimed b.intents k target))
       (intents_alike b (aimed b.intents k target)) (aimed_patches b k target u.way.whole.patches)
 
-  ended_done : (b : Store) (work : Work) → At b work → (k : IntentKey)
+  pub ended_done : (b : Store) (work : Work) → At b work → (k : IntentKey)
       → At (with_intents b (ended b.intents k)) work
   ended_done b work u k =
       beside_done n s a heard b work u (with_intents b (ended b.intents k))
@@ -214,7 +212,7 @@ module _ (n s : ℕ) (a : Store) (heard : Saying Slot Cell) where
       fill_turned turned work (wish_done b work u file birth work.from next) file birth work.from
       (next_target b work.from)
 
-  fill_done : (b : Store) (work : Work) → At b work → (file : FileId) → Is (fill b file work)
+  pub fill_done : (b : Store) (work : Work) → At b work → (file : FileId) → Is (fill b file work)
   fill_done b work u file =
       let whole = with_names b (fill_names b.names file) in
       let v = filled_done n s a heard b work u file in

@@ -1,12 +1,14 @@
 pub mod Pieces
-pub mod Intents
 pub mod Contents
 pub mod Handlers
 pub mod Walks
 pub mod Cells
+pub mod Leaving
+pub mod Losing
 pub mod Calls
 pub mod Asked
 pub mod Ends
+pub mod Gone
 pub mod Effects
 pub mod Histories
 pub mod Runs

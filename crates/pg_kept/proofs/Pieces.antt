@@ -6,11 +6,8 @@ use Rattle.pg_base.specs.declared.policy.Policy.{Policy}
 use Rattle.pg_base.specs.Version.{VersionValue}
 use Rattle.pg_edges.specs.declared.key.Key.{Key}
 use Rattle.pg_edges.specs.declared.key.Key.TheVariants as key
-use Rattle.pg_entries.specs.declared.cell.Cell.{Cell}
 use Rattle.pg_entries.specs.declared.entry.Entry.{Entry}
-use Rattle.pg_flood.specs.Promises.{Saying}
 use Rattle.pg_flood.specs.Promises.Saying.{Other}
-use Rattle.pg_flood.specs.Server.{Slot}
 use Rattle.pg_flood.proofs.Steps.{AllMay, Steps, Steps-refl}
 use Rattle.pg_msg.specs.declared.message.Message.{Message}
 use Rattle.pg_msg.specs.declared.message.Message.TheVariants as message
@@ -27,21 +24,23 @@ use Rattle.pg_house.specs.Work.{is_root, note_left}
 use Rattle.pg_replica.specs.declared.replica.Replica.{Replica}
 use Rattle.pg_replica.specs.Replicas.{takes_link}
 use Rattle.pg_store.specs.declared.store.Store.{Store}
-use Rattle.pg_store.specs.Beginning.{begin}
+use Rattle.pg_store.specs.Beginning.{begin, let_go}
 use Rattle.pg_store.specs.Links.{is_new_link, link, put_link}
 use Rattle.pg_store.specs.Store.{entry_news, is_held, is_new_version, is_newer_flag, is_newer_place, put_flag, put_place, replica_at, take_entry, take_flag, take_place, take_version, with_names}
-use Rattle.pg_store.specs.Together.{AreTogether}
+use Rattle.pg_store.specs.Together.{AreTogether, birth_at}
 use Rattle.pg_cells.specs.Accepting.{link_peer}
 use Rattle.pg_cells.specs.Done.{Done}
 use Rattle.pg_cells.specs.Making.{make_flag, own_next, raise_flag}
 use Rattle.pg_cells.specs.Posting.{post, sent_to}
 use Rattle.pg_cells.specs.Taking.{is_any_news, is_place_news, take_entry_cell, take_entry_noted, take_flag_noted, take_flags_noted, take_place_noted, take_version_noted, with_doubt, with_left_if, with_news}
-use Rattle.pg_promises.specs.Laws.{AreAlike}
-use Rattle.pg_promises.specs.Seen.{cells, says, saying}
+use Rattle.pg_promises.specs.Laws.{AreAlike, StepsOn}
+use Rattle.pg_promises.specs.Seen.{Hearing, cells_in, saying, says, standing}
 use Rattle.pg_promises.specs.Whole.{IsOther, IsWhole, PatchesAreForDirs}
 use Rattle.pg_promises.proofs.Beginning.{begin_steps, entry_steps}
 use Rattle.pg_promises.proofs.Choices.{chosen}
+use Rattle.pg_promises.proofs.Counting.{steps_on}
 use Rattle.pg_promises.proofs.Events.{IsUnderWay, begun, goes_on, sends_on}
+use Rattle.pg_promises.proofs.Leaving.{go_steps, whole_gone}
 use Rattle.pg_promises.proofs.Linking.{alike_steps, fill_steps, held_link_steps}
 use Rattle.pg_promises.proofs.Sending.{others_may}
 use Rattle.pg_promises.proofs.Taking.{flag_taken, place_taken, took_steps}
@@ -52,37 +51,37 @@ use Rattle.pg_promises.proofs.WholeBeginning.{whole_begun, whole_filled}
 -- ---- steps, whatever is held
 
 place_by : (a : Store) (f : FileId) (place : Place) (o : Option Own) → own_at a.names f ≡ o
-    → Steps cells a (take_place a f place)
+    → Steps standing a (take_place a f place)
 place_by a f place None is =
-    subst (λ (o : Option Own). Steps cells a (cond (is_place_new o place) (put_place a f place) a))
-    (sym is) (Steps-refl cells a)
+    subst (λ (o : Option Own). Steps standing a (cond (is_place_new o place) (put_place a f place) a))
+    (sym is) (Steps-refl standing a)
 place_by a f place (Some own) is =
     let t = place_taken a f own is place in took_steps t.keys a (take_place a f place) t.took
 
-pub place_steps : (a : Store) (f : FileId) (place : Place) → Steps cells a (take_place a f place)
+pub place_steps : (a : Store) (f : FileId) (place : Place) → Steps standing a (take_place a f place)
 place_steps a f place = place_by a f place (own_at a.names f) refl
 
 flag_by : (a : Store) (f : FileId) (flag : Flag) (o : Option Own) → own_at a.names f ≡ o
-    → Steps cells a (take_flag a f flag)
+    → Steps standing a (take_flag a f flag)
 flag_by a f flag None is =
-    subst (λ (o : Option Own). Steps cells a (cond (is_flag_new o flag) (put_flag a f flag) a))
-    (sym is) (Steps-refl cells a)
+    subst (λ (o : Option Own). Steps standing a (cond (is_flag_new o flag) (put_flag a f flag) a))
+    (sym is) (Steps-refl standing a)
 flag_by a f flag (Some own) is =
     let t = flag_taken a f own is flag in took_steps t.keys a (take_flag a f flag) t.took
 
-pub flag_steps : (a : Store) (f : FileId) (flag : Flag) → Steps cells a (take_flag a f flag)
+pub flag_steps : (a : Store) (f : FileId) (flag : Flag) → Steps standing a (take_flag a f flag)
 flag_steps a f flag = flag_by a f flag (own_at a.names f) refl
 
 link_by : (a : Store) (f : FileId) (peer birth : ℕ) → AreTogether a → (o : Option Replica)
-    → replica_at a f ≡ o → Steps cells a (link a f peer birth)
+    → replica_at a f ≡ o → Steps standing a (link a f peer birth)
 link_by a f peer birth both None is =
-    subst (λ (o : Option Replica). Steps cells a (cond (takes_link o peer birth) (put_link a f peer birth) a))
-    (sym is) (Steps-refl cells a)
+    subst (λ (o : Option Replica). Steps standing a (cond (takes_link o peer birth) (put_link a f peer birth) a))
+    (sym is) (Steps-refl standing a)
 link_by a f peer birth both (Some x) is =
     held_link_steps a f peer birth (held_of_replica a both f x is)
 
 pub link_steps : (a : Store) (f : FileId) (peer birth : ℕ) → AreTogether a
-    → Steps cells a (link a f peer birth)
+    → Steps standing a (link a f peer birth)
 link_steps a f peer birth both = link_by a f peer birth both (replica_at a f) refl
 
 -- ---- works of which the same was sent, also last, to the same server
@@ -164,12 +163,12 @@ abbrev pub MayGoLast : ℕ → Sent → Type 0
 MayGoLast n m = (says m ≡ Other) × IsWellSaid n m.packet.message
 
 -- it came to b so far, by the rule, these are sent, and those last
-pub record Goes (n s : ℕ) (a : Store) (heard : Saying Slot Cell) (b : Store) (sent tail : List Sent) : Type 0 where
+pub record Goes (n s : ℕ) (a : Store) (heard : Hearing) (b : Store) (sent tail : List Sent) : Type 0 where
   pub way : IsUnderWay n s a heard b sent
   pub said : AreWellSaid n sent
   pub last : All (MayGoLast n) tail
 
-module _ (n s : ℕ) (a : Store) (heard : Saying Slot Cell) where
+module _ (n s : ℕ) (a : Store) (heard : Hearing) where
   abbrev pub Stands : Store → Work → Type 0
   Stands b work = Goes n s a heard b work.sent work.tail
 
@@ -189,15 +188,21 @@ module _ (n s : ℕ) (a : Store) (heard : Saying Slot Cell) where
     last = All-nil (MayGoLast n);
   }
 
-  -- it goes on by steps
-  pub on_done : (b : Store) (work : Work) → Stands b work → (c : Store) → Steps cells b c → IsWhole n s c
-      → Stands c work
-  on_done b work u c steps whole =
+  -- it goes on by steps, with what counts as over
+  pub over_done : (b : Store) (work : Work) → Stands b work → (c : Store)
+      → Steps (cells_in heard.over) b c → IsWhole n s c → Stands c work
+  over_done b work u c steps whole =
       record { way = goes_on n s a heard b work.sent u.way c steps whole; said = u.said; last = u.last }
+
+  -- and by steps in which no replica goes
+  pub on_done : (b : Store) (work : Work) → Stands b work → (c : Store) → Steps standing b c
+      → IsWhole n s c → Stands c work
+  on_done b work u c steps whole = over_done b work u c (steps_on b c steps heard.over) whole
 
   -- one message more is sent
   pub sent_done : (b : Store) (work : Work) → Stands b work → (m : Sent)
-      → ((c : Store) → Steps cells b c → AllMay cells s a c heard (m ∷ [])) → IsWellSaid n m.packet.message
+      → ((c : Store) → Steps (cells_in heard.over) b c
+      → AllMay (cells_in heard.over) s a c heard.said (m ∷ [])) → IsWellSaid n m.packet.message
       → Stands b (with_sent work m)
   sent_done b work u m may well = record {
     way = sends_on n s a heard b work.sent u.way (m ∷ []) may;
@@ -240,12 +245,12 @@ module _ (n s : ℕ) (a : Store) (heard : Saying Slot Cell) where
         (entry_cell_same b d e sure work) (entry_stands d e dir)
 
     -- A VERSION, where it goes by steps
-    pub version_done : (f : FileId) (v : VersionValue) → Steps cells b (take_version b f v)
+    pub version_done : (f : FileId) (v : VersionValue) → StepsOn b (take_version b f v)
         → IsDone (take_version_noted b f v work)
     version_done f v steps =
         same_done (take_version b f v) work (take_version_noted b f v work).work
         (version_same b f v work)
-        (on_done b work u (take_version b f v) steps (whole_version n s b u.way.whole f v))
+        (over_done b work u (take_version b f v) (steps heard.over) (whole_version n s b u.way.whole f v))
 
     -- A LINK
     pub link_done : (f : FileId) (peer birth : ℕ) → IsOther n s peer
@@ -263,6 +268,13 @@ module _ (n s : ℕ) (a : Store) (heard : Saying Slot Cell) where
         on_done b work u (begin b f birth policy own full)
         (begin_steps b f birth policy own full u.way.whole.together away)
         (whole_begun n s b f birth policy own full away sorted u.way.whole)
+
+    -- A REPLICA GOES, whose birth counts as over
+    pub left_done : (f : FileId) (birth : ℕ) → birth_at b f ≡ Some birth → heard.over f birth ≡ true
+        → Stands (let_go b f) work
+    left_done f birth is counts =
+        over_done b work u (let_go b f) (go_steps n s b f birth heard.over u.way.whole is counts)
+        (whole_gone n s b f u.way.whole)
 
     -- IT IS FULL
     pub filled_done : (f : FileId) → Stands (with_names b (fill b.names f)) work
@@ -282,7 +294,7 @@ module _ (n s : ℕ) (a : Store) (heard : Saying Slot Cell) where
     posted to m other well =
         let sent = sent_to b to m in
         sent_done b work u sent
-        (λ c f. others_may s a c heard (sent ∷ [])
+        (λ c f. others_may heard.over s a c heard.said (sent ∷ [])
         (All-cons (λ z. says z ≡ Other) sent [] (other b.names.server) (All-nil (λ z. says z ≡ Other))))
         well
 

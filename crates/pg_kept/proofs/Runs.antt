@@ -1,27 +1,34 @@
 -- In every world that a run reaches, edges and messages keep what they promise.
-use Rattle.std.proofs.Common.{[], ℕ, ◌≡◌, List, ◌∷◌, ◌++◌, Some, refl, ap, subst, ◌∙◌, All}
+use Rattle.std.proofs.Common.{ℕ, ◌≡◌, List, [], ◌∷◌, ◌++◌, Some, refl, sym, ap, subst, ◌∙◌, inl, All}
 use Rattle.std.specs.Prelude.{Contains}
+use Rattle.std.proofs.lemmas.List.{append-nil}
 use Rattle.std.proofs.lemmas.List.Elements.{All-append, All-nil}
 use Rattle.pg_flood.specs.Protocol.{KeepsEdges, Promised}
 use Rattle.pg_flood.specs.World.{after}
 use Rattle.pg_flood.proofs.Flood.{after_itself}
-use Rattle.pg_flood.proofs.Steps.{HasSoundTags}
+use Rattle.pg_flood.proofs.Steps.{HasSoundTags, Rule}
 use Rattle.pg_flood.proofs.Worlds.{event_keeps}
 use Rattle.pg_msg.specs.declared.message.Sent.{Sent}
 use Rattle.pg_event.specs.declared.event.Event.{Event}
 use Rattle.pg_store.specs.declared.store.Store.{Store}
+use Rattle.pg_store.specs.Births.{is_over}
+use Rattle.pg_store.specs.Together.{BirthsMove}
+use Rattle.pg_store.proofs.Over.{moves_then, over_stays, over_tested}
 use Rattle.pg_server.specs.declared.input.Input.{Input}
 use Rattle.pg_server.specs.declared.input.Input.TheVariants as input
 use Rattle.pg_server.specs.Local.{effect, first_effect}
-use Rattle.pg_promises.specs.Seen.{cells, says}
+use Rattle.pg_promises.specs.Seen.{cells, hears, says}
 use Rattle.pg_promises.specs.Whole.{IsWhole, PatchesAreForDirs}
+use Rattle.pg_promises.proofs.Counting.{by_the_rule, tags_in, tags_out}
 use Rattle.pg_promises.proofs.Start.{start_kept, start_tags, start_whole}
 use Rattle.pg_run.specs.Journal.{mail}
+use Rattle.pg_run.specs.Ruled.{EventsKeepTheRule, heard_in}
 use Rattle.pg_run.specs.Run.{Step, Taking, World, effect_step, run, start, taking_in, world_after}
-use Rattle.pg_run.proofs.Frame.{Acts, HasCome, all_parts, each_after, holds_in_runs, next_is, run_more}
+use Rattle.pg_run.proofs.Frame.{Acts, HasCome, acts_is, all_parts, each_after, holds_in_runs, next_is, run_more}
 use Rattle.pg_kept.specs.Laws.{StandOn}
-use Rattle.pg_kept.proofs.Effects.{SuitsInput, effect_good, first_done, heard_in}
+use Rattle.pg_kept.proofs.Effects.{SuitsInput, effect_good, first_done}
 use Rattle.pg_kept.proofs.Ends.{IsFirst, IsKind}
+use Rattle.pg_kept.proofs.Gone.{Counts, HaveBirths, counts_in}
 use Rattle.pg_kept.proofs.Histories.{are_of_history, message_suits}
 use Rattle.pg_kept.proofs.Pieces.{AreWellSaid, IsWellSaid}
 
@@ -104,25 +111,62 @@ module _ (n : ℕ) (on : StandOn n) (events : List Event) (event : Event) (t : T
       all_at (λ (x : Sent). Promised cells W.stores (says x)) (mail W.journal) m k.edges.promises sent
   heard_by input.Restart same = tt
 
-  -- what its first effect leaves, and what it does
-  pub first_is : IsFirst n S A (heard_in S t.asked) (first_effect A t.asked)
-  first_is =
-      first_done n S A (k.whole S) (are_of_history n on.contents events S acts.least acts.most)
-      (on.away events S acts.least acts.most) t.asked acts.least acts.most (suits_by t.asked refl) (k.tags S)
+  -- ---- births
 
-  pub good : IsKind n S A (heard_in S t.asked) B Out
+  have_births : HaveBirths A
+  have_births file x here =
+      let alone = on.alone events S acts.least acts.most file in (
+        alone.counted x.birth (record {
+          before = events;
+          behind = [];
+          split = sym (append-nil events);
+          was = inl (x, here, refl);
+        }),
+        alone.held x here,
+      )
+
+  abbrev First : Store
+  First = (first_effect A t.asked).store
+
+  first_moves : BirthsMove A First
+  first_moves = (on.moves events event S t.asked is).0
+
+  then_moves : BirthsMove First B
+  then_moves = (on.moves events event S t.asked is).1
+
+  counts_first : Counts (is_over First) A t.asked
+  counts_first = counts_in (is_over First) A have_births t.asked (λ file m o. (over_tested First file m).1 o)
+
+  counts_last : Counts (is_over B) A t.asked
+  counts_last =
+      counts_in (is_over B) A have_births t.asked
+      (λ file m o. (over_tested B file m).1 (over_stays First B file m then_moves o))
+
+  -- ---- what its first effect leaves, and what it does
+
+  pub first_is : IsFirst n S A (hears (is_over First) (heard_in S t.asked)) (first_effect A t.asked)
+  first_is =
+      first_done (is_over First) n S A (k.whole S) (are_of_history n on.contents events S acts.least acts.most)
+      (on.away events S acts.least acts.most) t.asked acts.least acts.most (suits_by t.asked refl) counts_first
+      (tags_in (is_over First) A (k.tags S))
+
+  pub good : IsKind n S A (hears (is_over B) (heard_in S t.asked)) B Out
   good =
-      effect_good n S A (k.whole S) (are_of_history n on.contents events S acts.least acts.most)
-      (on.away events S acts.least acts.most) t.asked acts.least acts.most (suits_by t.asked refl) (k.tags S) patches
+      effect_good (is_over B) n S A (k.whole S) (are_of_history n on.contents events S acts.least acts.most)
+      (on.away events S acts.least acts.most) t.asked acts.least acts.most (suits_by t.asked refl) counts_last
+      (tags_in (is_over B) A (k.tags S)) patches
+
+  pub rule : Rule cells S A B (heard_in S t.asked) Out
+  rule = by_the_rule S A B (heard_in S t.asked) Out (moves_then A First B first_moves then_moves) good.good.rule
 
   pub acted : Keeps n (world_after W (effect_step W event S t.asked))
   acted = record {
     whole = each_after (λ j x. IsWhole n j x) W.stores S B k.whole good.good.whole;
-    tags = each_after (λ j x. HasSoundTags cells x) W.stores S B k.tags good.good.tags;
+    tags = each_after (λ j x. HasSoundTags cells x) W.stores S B k.tags (tags_out (is_over B) B good.good.tags);
     edges =
         other_way (after W.stores S B) (mail W.journal) Out
         (event_keeps cells W.stores S B (heard_in S t.asked) Out (mail W.journal) (mail W.journal) k.edges
-        good.good.rule (heard_by t.asked refl) k.edges.promises);
+        rule (heard_by t.asked refl) k.edges.promises);
     said = All-append (λ (m : Sent). IsWellSaid n m.packet.message) Out (mail W.journal) good.said k.said;
   }
 
@@ -133,3 +177,9 @@ run_keeps n on events = holds_in_runs n (Keeps n) (record {
   idle = λ w event cause k. record { whole = k.whole; tags = k.tags; edges = k.edges; said = k.said };
   acts = λ before event t is acts k. acted n on before event t is acts k;
 }) events
+
+-- EVERY EVENT keeps the rule
+pub keeps_the_rule : (n : ℕ) → StandOn n → EventsKeepTheRule n
+keeps_the_rule n on events event s asked is =
+    let t : Taking = record { server = s; asked = asked } in
+    rule n on events event t is (acts_is n (run n events) event t is) (run_keeps n on events)

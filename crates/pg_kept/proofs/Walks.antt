@@ -4,9 +4,6 @@ use Rattle.std.specs.List.{slice_get}
 use Rattle.std.proofs.lemmas.Bool.{eq-eqb}
 use Rattle.pg_base.specs.declared.id.FileId.{FileId}
 use Rattle.pg_edges.specs.declared.edge.Edge.{Edge}
-use Rattle.pg_entries.specs.declared.cell.Cell.{Cell}
-use Rattle.pg_flood.specs.Promises.{Saying}
-use Rattle.pg_flood.specs.Server.{Slot}
 use Rattle.pg_msg.specs.declared.message.Ask.TheVariants as ask
 use Rattle.pg_msg.specs.declared.message.Ends.{Ends}
 use Rattle.pg_msg.specs.declared.message.Message.TheVariants as message
@@ -23,6 +20,7 @@ use Rattle.pg_repair.specs.Fetching.{ends_to}
 use Rattle.pg_graph.specs.Seeking.{answered_seek, seek}
 use Rattle.pg_graph.specs.Seeks.{edges_of}
 use Rattle.pg_graph.specs.Walks.{goes_on, meet_origin, most_hops, onward, walk, walk_along, walk_from, walk_of, walk_of_tick, walk_on, walked, with_few_edges}
+use Rattle.pg_promises.specs.Seen.{Hearing}
 use Rattle.pg_promises.specs.Whole.{IsOther}
 use Rattle.pg_promises.proofs.Choices.{chosen, decided}
 use Rattle.pg_kept.proofs.Pieces.{IsDone, Stands, link_done, posted, posted_last}
@@ -32,7 +30,7 @@ same_not : (i j : ℕ) → i ≡ j → (i == j) ≡ false → ⊥
 same_not i j same apart = let z : true ≡ false = sym (eq-eqb i j same) ∙ apart in cc
 
 -- Server s of n came from a, having heard this, and the message came from another server
-module _ (n s : ℕ) (a : Store) (heard : Saying Slot Cell) where
+module _ (n s : ℕ) (a : Store) (heard : Hearing) where
   abbrev Is : Done → Type 0
   Is d = IsDone n s a heard d
 

@@ -14,7 +14,7 @@ use Rattle.pg_intent.specs.declared.intent.Intent.TheVariants as intent
 use Rattle.pg_intent.specs.Intents.{HaveOwnKeys}
 use Rattle.pg_msg.specs.declared.message.Message.{Message}
 use Rattle.pg_msg.specs.declared.message.Message.TheVariants as message
-use Rattle.pg_births.specs.Flags.{SaysCell, SaysIntent, SaysMessage, SaysStore}
+use Rattle.pg_births.specs.Flags.{AnyBye, SaysCell, SaysIntent, SaysMessage, SaysStore}
 use Rattle.pg_flags.specs.Laws.{FlagsAreKnown}
 use Rattle.pg_run.specs.Intending.{IntentionsAreInOrder}
 use Rattle.pg_run.specs.Known.{AreTold, CarriedIsKnown, IsCellTold, IsFlagOf, IsMessageTold, IsPlaceOf, IsStoreTold, of_run}
@@ -87,7 +87,7 @@ module _ (n : ℕ) (w : World) where
   -- ---- a server
 
   store_joined : (s : ℕ) → HaveOwnKeys (w.stores s).intents → ((f : FileId) (q : Place) → IsKnown w f q → IsPlaceOf w f q)
-      → IsSaidOf P (w.stores s).names → AreIntended P (w.stores s).intents → SaysStore Q s (w.stores s) → IsStoreTold (of_run n w) (w.stores s)
+      → IsSaidOf P (w.stores s).names → AreIntended P (w.stores s).intents → SaysStore Q AnyBye s (w.stores s) → IsStoreTold (of_run n w) (w.stores s)
   store_joined s keys places said intended flags = record {
     own = λ f own h.
         joined f own.place own.flags (places f own.place (inl (s, inl (own, h, refl)))) (flags.names.own f own h) (said.own f own h).order;
@@ -99,7 +99,7 @@ module _ (n : ℕ) (w : World) where
     patches = λ dir e target h. (
         let i = intent.Patch dir e target in
         let here : IsIntended P i = all_among (IsIntended P) (w.stores s).intents i intended h in
-        let of : SaysIntent Q i = all_among (SaysIntent Q) (w.stores s).intents i flags.intents h in
+        let of : SaysIntent Q AnyBye i = all_among (SaysIntent Q AnyBye) (w.stores s).intents i flags.intents h in
         let owed = found_own (w.stores s).intents keys i h in
         let place : IsPlaceOf w e.child e.place =
         places e.child e.place (inr (inl (s, record { dir = dir; entry = e; target = target; owed = owed; is = refl }))) in

@@ -1,6 +1,6 @@
 -- Stores that directories see alike: places, cells and Patches are the same, and Confirms go on. A first
 -- part of a step may begin and end with such a change.
-use Rattle.std.proofs.Common.{ℕ, ◌≡◌, ◌<◌, ◌≤◌, refl, sym, ap, ◌∙◌, inl, inr, arith}
+use Rattle.std.proofs.Common.{ℕ, ◌≡◌, ◌<◌, ◌≤◌, List, length, refl, sym, ap, subst, ◌∙◌, inl, inr}
 use Rattle.pg_base.specs.declared.id.FileId.{FileId}
 use Rattle.pg_base.specs.declared.stamp.Stamp.{Stamp}
 use Rattle.pg_house.specs.Holding.{waits}
@@ -13,15 +13,17 @@ use Rattle.pg_listing.proofs.Handlers.{calm_first}
 use Rattle.pg_names.specs.Names.{cell_at, own_at}
 use Rattle.pg_register.specs.declared.place.Place.{Place}
 use Rattle.pg_store.specs.declared.store.Store.{Store}
+use Rattle.pg_store.specs.Servers.{view_of}
 use Rattle.pg_settled.specs.Listing.{cell_place, own_place}
 use Rattle.pg_settled.proofs.Seen.{own_is}
-use Rattle.pg_listed.specs.Letters.{Letter, of_stores, patch_place}
+use Rattle.pg_listed.specs.Letters.{Letter, patch_place}
+use Rattle.pg_listed.proofs.Places.{IsPart, of_places}
 
 pub record Alike (a b : Store) : Type 0 where
-  pub own : (f : FileId) → of_stores.own b f ≡ of_stores.own a f
-  pub cells : (d c : FileId) → of_stores.cell b d c ≡ of_stores.cell a d c
-  pub patches : (d c : FileId) → of_stores.patch b d c ≡ of_stores.patch a d c
-  pub confirms : (d c : FileId) → of_stores.Confirms a d c → of_stores.Confirms b d c
+  pub own : (f : FileId) → of_places.own b f ≡ of_places.own a f
+  pub cells : (d c : FileId) → of_places.cell b d c ≡ of_places.cell a d c
+  pub patches : (d c : FileId) → of_places.patch b d c ≡ of_places.patch a d c
+  pub confirms : (d c : FileId) → of_places.Confirms a d c → of_places.Confirms b d c
   pub removed : b.names.removed ≡ a.names.removed
 
 pub Alike-refl : (a : Store) → Alike a a
@@ -47,39 +49,45 @@ alike_by a b names intents = record {
 }
 
 module _ (a b : Store) (k : Alike a b) where
-  held_on : (f : FileId) → Holds of_stores a f → Holds of_stores b f
+  held_on : (f : FileId) → Holds of_places a f → Holds of_places b f
   held_on f h = (h.0, k.own f ∙ h.1)
 
-  held_back : (f : FileId) → Holds of_stores b f → Holds of_stores a f
+  held_back : (f : FileId) → Holds of_places b f → Holds of_places a f
   held_back f h = (h.0, sym (k.own f) ∙ h.1)
 
-  pub lists_on : (d c : FileId) (q : Place) → Lists of_stores a d c q → Lists of_stores b d c q
+  pub lists_on : (d c : FileId) (q : Place) → Lists of_places a d c q → Lists of_places b d c q
   lists_on d c q l = record { cell = k.cells d c ∙ l.cell; is_in = l.is_in }
 
-  pub lists_back : (d c : FileId) (q : Place) → Lists of_stores b d c q → Lists of_stores a d c q
+  pub lists_back : (d c : FileId) (q : Place) → Lists of_places b d c q → Lists of_places a d c q
   lists_back d c q l = record { cell = sym (k.cells d c) ∙ l.cell; is_in = l.is_in }
 
-  told_on : (d c : FileId) (t : Stamp) → IsToldAt of_stores a d c t → IsToldAt of_stores b d c t
+  told_on : (d c : FileId) (t : Stamp) → IsToldAt of_places a d c t → IsToldAt of_places b d c t
   told_on d c t h = (h.0, k.cells d c ∙ h.1, h.2)
 
-  patch_on : (d c : FileId) (t : Stamp) → AtLeast of_stores t (of_stores.patch a d c) → AtLeast of_stores t (of_stores.patch b d c)
+  patch_on : (d c : FileId) (t : Stamp) → AtLeast of_places t (of_places.patch a d c) → AtLeast of_places t (of_places.patch b d c)
   patch_on d c t h = (h.0, k.patches d c ∙ h.1, h.2)
 
   -- a place that is held back is so still
-  back_on : (c : FileId) (r : Place) → of_stores.IsBack a c r → of_stores.IsBack b c r
+  back_on : (c : FileId) (r : Place) → of_places.IsBack a c r → of_places.IsBack b c r
   back_on c r back = λ own held.
       let was = own_is (own_at a.names c) own.place (sym (k.own c) ∙ ap own_place held) in
       ap (λ rs. waits rs c own.place r) k.removed ∙ sym (ap (λ (x : Place). waits a.names.removed c x r) was.2) ∙ back was.0 was.1
 
-  none_later_on : (c : FileId) (q : Place) → NoneLater of_stores a c q → NoneLater of_stores b c q
+  none_later_on : (c : FileId) (q : Place) → NoneLater of_places a c q → NoneLater of_places b c q
   none_later_on c q none = λ e r cell low. back_on c r (none e r (sym (k.cells e c) ∙ cell) low)
 
+  -- the server is in the same view
+  pub same_view : view_of b ≡ view_of a
+  same_view = ap (λ (rs : List ℕ). length rs) k.removed
+
+  pub view_on : (heard : Letter) → heard.view ≡ view_of a → heard.view ≡ view_of b
+  view_on heard view = view ∙ sym same_view
+
   module _ (least : ℕ) (heard : Letter) where
-    -- what a server does behind such a change
-    pub behind_alike : (m : Store) → FirstPart of_stores least b m heard → FirstPart of_stores least a m heard
-    behind_alike m x = record {
-      views = x.views;
-      hears = x.hears;
+    behind_at : (m : Store) → FirstPart of_places least b m heard → FirstPart of_places least a m heard
+    behind_at m x = record {
+      views = subst (λ (v : ℕ). v ≤ view_of m) same_view x.views;
+      hears = elim x.hears [ inl other ↦ inl other | inr view ↦ inr (view ∙ same_view) ];
       birth = λ f was now. refl;
       past = λ f n h. h;
       own_grows = λ f q r was now. x.own_grows f q r (k.own f ∙ was) now;
@@ -92,13 +100,12 @@ module _ (a b : Store) (k : Alike a b) where
         | inl was ↦ inl (sym (k.cells d c) ∙ was)
         | inr r ↦ inr r
       ];
-      enters = x.enters;
+      enters = λ low. x.enters (subst (λ (v : ℕ). v < least) (sym same_view) low);
     }
 
-    -- and before it
-    pub before_alike : (z : Store) → FirstPart of_stores least z a heard → FirstPart of_stores least z b heard
-    before_alike z x = record {
-      views = x.views;
+    before_at : (z : Store) → FirstPart of_places least z a heard → FirstPart of_places least z b heard
+    before_at z x = record {
+      views = subst (λ (v : ℕ). view_of z ≤ v) (sym same_view) x.views;
       hears = x.hears;
       birth = λ f was now. refl;
       past = λ f n h. h;
@@ -121,14 +128,23 @@ module _ (a b : Store) (k : Alike a b) where
         | inl was ↦ inl was
         | inr rest ↦ elim rest [ inl asks ↦ inr (inl (k.confirms d c asks)) | inr said ↦ inr (inr said) ]
       ];
-      enters = λ low up. absurd (let h : 0 < least = low in let g : least ≤ 0 = up in omega arith);
+      enters = λ low up d c q l none. k.confirms d c (
+          x.enters low (subst (λ (v : ℕ). least ≤ v) same_view up) d c q (lists_back d c q l) (sym (k.own c) ∙ none));
     }
 
+  -- what a server does behind such a change
+  pub behind_alike : (heard : Letter) (m : Store) → IsPart b m heard → IsPart a m heard
+  behind_alike heard m x = λ least. behind_at least heard m (x least)
+
+  -- and before it
+  pub before_alike : (heard : Letter) (z : Store) → IsPart z a heard → IsPart z b heard
+  before_alike heard z x = λ least. before_at least heard z (x least)
+
 -- nothing but such a change
-pub alike_first : (a b : Store) (heard : Letter) → heard.view ≡ 0 → Alike a b → FirstPart of_stores 0 a b heard
-alike_first a b heard view k = calm_first of_stores 0 a b heard (record {
+pub alike_first : (a b : Store) (heard : Letter) → heard.view ≡ view_of a → Alike a b → IsPart a b heard
+alike_first a b heard view k = λ least. calm_first of_places least a b heard (record {
   hears = inr view;
-  view = refl;
+  view = same_view a b k;
   own = k.own;
   cells = k.cells;
   births = λ f was now. refl;

@@ -25,7 +25,8 @@ use Rattle.pg_settled.specs.Listing.{cell_place, own_place}
 use Rattle.pg_store.specs.declared.store.Store.{Store}
 use Rattle.pg_store.specs.Beginning.{begin as begin_replica, patch_key, patches_of, put_new, take_patch, take_patches, take_told, take_told_in, with_intents}
 use Rattle.pg_store.specs.Store.{is_held, take_entry}
-use Rattle.pg_listed.specs.Letters.{of_stores, patch_place}
+use Rattle.pg_listed.specs.Letters.{patch_place}
+use Rattle.pg_listed.proofs.Places.{of_places}
 use Rattle.pg_listed.proofs.Joined as joined
 use Rattle.pg_listed.proofs.Views.{held_holds, holds_held, told_earlier}
 use Rattle.pg_places.proofs.OnePlace.{found_key}
@@ -77,14 +78,14 @@ module _ (f : FileId) (was : List Intent) where
   -- stood: no intention came
   -- confirms: Confirms go on
   record AreTaken (z b : Store) : Type 0 where
-    own : (g : FileId) → of_stores.own b g ≡ of_stores.own z g
+    own : (g : FileId) → of_places.own b g ≡ of_places.own z g
     removed : b.names.removed ≡ z.names.removed
-    others : (d c : FileId) → (d ≡ f) ⊎ (of_stores.cell b d c ≡ of_stores.cell z d c)
-    cells : (c : FileId) (q : Place) → of_stores.cell b f c ≡ Some q → HadPatch c
+    others : (d c : FileId) → (d ≡ f) ⊎ (of_places.cell b d c ≡ of_places.cell z d c)
+    cells : (c : FileId) (q : Place) → of_places.cell b f c ≡ Some q → HadPatch c
     patches : (d c : FileId) (q : Place) → patch_place (intent_at was (intent_key.Patch d c)) ≡ Some q
-        → AtLeast of_stores q.stamp (of_stores.patch b d c) ⊎ IsToldAt of_stores b d c q.stamp
+        → AtLeast of_places q.stamp (of_places.patch b d c) ⊎ IsToldAt of_places b d c q.stamp
     stood : (k : IntentKey) (i : Intent) → intent_at b.intents k ≡ Some i → intent_at was k ≡ Some i
-    confirms : (d c : FileId) → stands was (intent_key.Confirm d c) ≡ true → of_stores.Confirms b d c
+    confirms : (d c : FileId) → stands was (intent_key.Confirm d c) ≡ true → of_places.Confirms b d c
 
   -- one Patch ends
   ended_by : (is : List Intent) (gone k : IntentKey) (i : Intent) (t : Bool) → cond t None (intent_at is k) ≡ Some i → intent_at is k ≡ Some i
@@ -104,21 +105,21 @@ module _ (f : FileId) (was : List Intent) where
     less_stood : (k : IntentKey) (i : Intent) → intent_at Less.intents k ≡ Some i → intent_at was k ≡ Some i
     less_stood k i h = t.stood k i (ended_by b.intents Gone k i (is_same_key k Gone) (sym (ended_found b.intents Gone k) ∙ h))
 
-    less_confirms : (d c : FileId) → stands was (intent_key.Confirm d c) ≡ true → of_stores.Confirms Less d c
+    less_confirms : (d c : FileId) → stands was (intent_key.Confirm d c) ≡ true → of_places.Confirms Less d c
     less_confirms d c h =
         stands_is Less.intents (intent_key.Confirm d c) ∙ ap is_some (ended_found b.intents Gone (intent_key.Confirm d c))
         ∙ sym (stands_is b.intents (intent_key.Confirm d c)) ∙ t.confirms d c h
 
     -- another Patch stands as it did
-    same_patch : (d c : FileId) → (is_same_file d f && is_same_file c c0) ≡ false → of_stores.patch Less d c ≡ of_stores.patch b d c
+    same_patch : (d c : FileId) → (is_same_file d f && is_same_file c c0) ≡ false → of_places.patch Less d c ≡ of_places.patch b d c
     same_patch d c other =
         ap patch_place (ended_found b.intents Gone (intent_key.Patch d c)) ∙ ap (λ s. patch_place (cond s None (intent_at b.intents (intent_key.Patch d c)))) other
 
-    both_by : (d c : FileId) (s : Bool) → (is_same_file d f && is_same_file c c0) ≡ s → ((d ≡ f) × (c ≡ c0)) ⊎ (of_stores.patch Less d c ≡ of_stores.patch b d c)
+    both_by : (d c : FileId) (s : Bool) → (is_same_file d f && is_same_file c c0) ≡ s → ((d ≡ f) × (c ≡ c0)) ⊎ (of_places.patch Less d c ≡ of_places.patch b d c)
     both_by d c true e = let r = and_parts (is_same_file d f) (is_same_file c c0) e in inl (is_same_file-true d f r.0, is_same_file-true c c0 r.1)
     both_by d c false e = inr (same_patch d c e)
 
-    both : (d c : FileId) → ((d ≡ f) × (c ≡ c0)) ⊎ (of_stores.patch Less d c ≡ of_stores.patch b d c)
+    both : (d c : FileId) → ((d ≡ f) × (c ≡ c0)) ⊎ (of_places.patch Less d c ≡ of_places.patch b d c)
     both d c = both_by d c (is_same_file d f && is_same_file c c0) refl
 
     -- where it was not there, or no Patch
@@ -132,7 +133,7 @@ module _ (f : FileId) (was : List Intent) where
         | inr told ↦ inr told
         | inl stands ↦ elim (both d c) [
           | inr same ↦ inl (stands.0, same ∙ stands.1, stands.2)
-          | inl here ↦ absurd (none-some stands.0 (sym none ∙ sym (ap (λ x. of_stores.patch b x c0) here.0) ∙ sym (ap (of_stores.patch b d) here.1) ∙ stands.1))
+          | inl here ↦ absurd (none-some stands.0 (sym none ∙ sym (ap (λ x. of_places.patch b x c0) here.0) ∙ sym (ap (of_places.patch b d) here.1) ∙ stands.1))
         ]
       ];
       stood = less_stood;
@@ -152,10 +153,10 @@ module _ (f : FileId) (was : List Intent) where
       held_now : is_held Less f ≡ true
       held_now = (let h = held_holds z f held in holds_held Less f (h.0, t.own f ∙ h.1))
 
-      told_here : IsToldAt of_stores Took f c0 e.place.stamp
-      told_here = subst (λ (c : FileId). IsToldAt of_stores Took f c e.place.stamp) child (joined.told_then Less f e held_now)
+      told_here : IsToldAt of_places Took f c0 e.place.stamp
+      told_here = subst (λ (c : FileId). IsToldAt of_places Took f c e.place.stamp) child (joined.told_then Less f e held_now)
 
-      others : (d c : FileId) → (d ≡ f) ⊎ (of_stores.cell Took d c ≡ of_stores.cell z d c)
+      others : (d c : FileId) → (d ≡ f) ⊎ (of_places.cell Took d c ≡ of_places.cell z d c)
       others d c = elim (joined.others_then Less f e d c) [
         | inl here ↦ inl here.0
         | inr same ↦ elim (t.others d c) [ inl at ↦ inl at | inr old ↦ inr (same ∙ old) ]
@@ -164,26 +165,26 @@ module _ (f : FileId) (was : List Intent) where
       had : HadPatch c0
       had = (to, e, target, t.stood Gone (intent.Patch to e target) found)
 
-      cells : (c : FileId) (q : Place) → of_stores.cell Took f c ≡ Some q → HadPatch c
+      cells : (c : FileId) (q : Place) → of_places.cell Took f c ≡ Some q → HadPatch c
       cells c q h = elim (joined.others_then Less f e f c) [
         | inl here ↦ subst HadPatch (sym (here.1 ∙ child)) had
         | inr same ↦ t.cells c q (sym same ∙ h)
       ]
 
-      patch_stays : (d c : FileId) → of_stores.patch Took d c ≡ of_stores.patch Less d c
+      patch_stays : (d c : FileId) → of_places.patch Took d c ≡ of_places.patch Less d c
       patch_stays d c = ap (λ is. patch_place (intent_at is (intent_key.Patch d c))) (joined.intents_then Less f e)
 
       -- the Patch that ended told of this place
-      told_at : (d c : FileId) (q r : Place) → (d ≡ f) × (c ≡ c0) → of_stores.patch b d c ≡ Some r → AtMost of_stores q.stamp r.stamp → IsToldAt of_stores Took d c q.stamp
+      told_at : (d c : FileId) (q r : Place) → (d ≡ f) × (c ≡ c0) → of_places.patch b d c ≡ Some r → AtMost of_places q.stamp r.stamp → IsToldAt of_places Took d c q.stamp
       told_at d c q r here is le =
-          let P : FileId → FileId → Type 0 = λ x y. of_stores.patch b x y ≡ Some r → IsToldAt of_stores Took x y q.stamp in
+          let P : FileId → FileId → Type 0 = λ x y. of_places.patch b x y ≡ Some r → IsToldAt of_places Took x y q.stamp in
           let at : P f c0 = (λ g.
           let same : e.place ≡ r = same_Some e.place r (sym (ap patch_place found) ∙ g) in
-          told_earlier Took f c0 q.stamp e.place.stamp (subst (λ (x : Place). AtMost of_stores q.stamp x.stamp) (sym same) le) told_here) in
+          told_earlier Took f c0 q.stamp e.place.stamp (subst (λ (x : Place). AtMost of_places q.stamp x.stamp) (sym same) le) told_here) in
           subst (λ (x : FileId). P x c) (sym here.0) (subst (P f) (sym here.1) at) is
 
       patches : (d c : FileId) (q : Place) → patch_place (intent_at was (intent_key.Patch d c)) ≡ Some q
-          → AtLeast of_stores q.stamp (of_stores.patch Took d c) ⊎ IsToldAt of_stores Took d c q.stamp
+          → AtLeast of_places q.stamp (of_places.patch Took d c) ⊎ IsToldAt of_places Took d c q.stamp
       patches d c q h = elim (t.patches d c q h) [
         | inr told ↦ (
             let more = joined.grows_then Less f e d c told.0 told.1 in
@@ -241,7 +242,7 @@ module _ (a : Store) (f : FileId) (birth : ℕ) (policy : Policy) (own : Own) (f
   first_held : is_held First f ≡ true
   first_held = ap is_some (begun_same a.names f own full)
 
-  no_cell : (c : FileId) (q : Place) → of_stores.cell First f c ≡ Some q → ⊥
+  no_cell : (c : FileId) (q : Place) → of_places.cell First f c ≡ Some q → ⊥
   no_cell c q h = none-some q (sym (ap (λ k. cell_place (entry_in c k)) (begun_same a.names f own full)) ∙ h)
 
   first_taken : AreTaken f a.intents First First
@@ -259,32 +260,32 @@ module _ (a : Store) (f : FileId) (birth : ℕ) (policy : Policy) (own : Own) (f
   taken = all_taken f a.intents First first_held (patches_of f a.intents) (patch_keys f a.intents) First first_taken
 
   -- it stands at its place
-  pub own_after : of_stores.own After f ≡ Some own.place
+  pub own_after : of_places.own After f ≡ Some own.place
   own_after = taken.own f ∙ ap (λ k. own_place (own_of k)) (begun_same a.names f own full)
 
-  others_by : (g : FileId) → (is_same_file g f ≡ true) ⊎ (is_same_file g f ≡ false) → (g ≡ f) ⊎ (of_stores.own After g ≡ of_stores.own a g)
+  others_by : (g : FileId) → (is_same_file g f ≡ true) ⊎ (is_same_file g f ≡ false) → (g ≡ f) ⊎ (of_places.own After g ≡ of_places.own a g)
   others_by g (inl same) = inl (is_same_file-true g f same)
   others_by g (inr other) = inr (taken.own g ∙ ap (λ k. own_place (own_of k)) (begun_other a.names f own full g other))
 
   -- other things stand as they did
-  pub others_after : (g : FileId) → (g ≡ f) ⊎ (of_stores.own After g ≡ of_stores.own a g)
+  pub others_after : (g : FileId) → (g ≡ f) ⊎ (of_places.own After g ≡ of_places.own a g)
   others_after g = others_by g (bool_cases (is_same_file g f))
 
   -- other directories have the cells that they had
-  pub cells_after : (d c : FileId) → (d ≡ f) ⊎ (of_stores.cell After d c ≡ of_stores.cell a d c)
+  pub cells_after : (d c : FileId) → (d ≡ f) ⊎ (of_places.cell After d c ≡ of_places.cell a d c)
   cells_after d c = elim (taken.others d c) [
     | inl at ↦ inl at
     | inr same ↦ inr (same ∙ ap cell_place (begun_cells a.names f own full none d c))
   ]
 
   -- and this one those of its Patches
-  pub new_cells : (c : FileId) (q : Place) → of_stores.cell After f c ≡ Some q → HadPatch f a.intents c
+  pub new_cells : (c : FileId) (q : Place) → of_places.cell After f c ≡ Some q → HadPatch f a.intents c
   new_cells c q h = taken.cells c q h
 
-  pub patches_after : (d c : FileId) (q : Place) → of_stores.patch a d c ≡ Some q → AtLeast of_stores q.stamp (of_stores.patch After d c) ⊎ IsToldAt of_stores After d c q.stamp
+  pub patches_after : (d c : FileId) (q : Place) → of_places.patch a d c ≡ Some q → AtLeast of_places q.stamp (of_places.patch After d c) ⊎ IsToldAt of_places After d c q.stamp
   patches_after d c q h = taken.patches d c q h
 
-  pub confirms_after : (d c : FileId) → of_stores.Confirms a d c → of_stores.Confirms After d c
+  pub confirms_after : (d c : FileId) → of_places.Confirms a d c → of_places.Confirms After d c
   confirms_after d c h = taken.confirms d c h
 
   pub removed_after : After.names.removed ≡ a.names.removed

@@ -1,5 +1,6 @@
 -- What stands behind the first part of a step is a second part.
-use Rattle.std.proofs.Common.{◌≡◌, not, true, drop, length, Option, None, Some, refl, sym, ap, subst, ◌∙◌, inl, inr, ◌⊎◌}
+use Rattle.std.proofs.Common.{ℕ, ◌≡◌, not, true, drop, length, List, [], ◌∷◌, Option, None, Some, refl, sym, ap, subst, ◌∙◌, inl, inr, ◌⊎◌}
+use Rattle.std.specs.Option.{option_map}
 use Rattle.std.proofs.lemmas.Option.{none-some}
 use Rattle.pg_base.specs.declared.id.FileId.{FileId}
 use Rattle.pg_base.specs.Id.{is_same_file}
@@ -11,6 +12,7 @@ use Rattle.pg_house.specs.Calm.{IsSameOrPlaced, held_place}
 use Rattle.pg_house.specs.Facts.{AreByServer, IsLast, IsLeft, IsOfDirs, IsOneOf}
 use Rattle.pg_house.specs.House.{house}
 use Rattle.pg_house.specs.Work.{State, state_of}
+use Rattle.pg_house.proofs.Keys.{rules_by}
 use Rattle.pg_house.proofs.Replaced.{noted}
 use Rattle.pg_house.proofs.Truths.{both_true, not_false}
 use Rattle.pg_intent.specs.declared.intent.Intent.TheVariants as intent
@@ -20,6 +22,7 @@ use Rattle.pg_listing.specs.Protocol.{Above, AtLeast, IsIn, Lists}
 use Rattle.pg_listing.specs.Parts.{SecondPart}
 use Rattle.pg_listing.specs.Rule.{IsToldAt}
 use Rattle.pg_msg.specs.declared.work.Slot.{Slot}
+use Rattle.pg_msg.specs.declared.work.Touched.{Touched}
 use Rattle.pg_msg.specs.declared.work.Work.{Work}
 use Rattle.pg_names.specs.declared.own.Own.{Own}
 use Rattle.pg_names.specs.Names.{NamesValue, own_at, own_or_blank, or_blank}
@@ -28,6 +31,8 @@ use Rattle.pg_places.proofs.Behind.{touched_intents, touched_names}
 use Rattle.pg_register.specs.declared.place.Place.{Place}
 use Rattle.pg_repair.specs.Confirms.{is_doubtful, is_doubtful_cell}
 use Rattle.pg_repair.proofs.Steady.{begin_end_stays}
+use Rattle.pg_replica.specs.declared.replica.Replica.{Replica}
+use Rattle.pg_replica.specs.Replicas.{ByFile, replica_in}
 use Rattle.pg_run.specs.Intending.{IntendsInOrder}
 use Rattle.pg_server.specs.Local.{intended, settled}
 use Rattle.pg_settled.specs.Listing.{HaveSamePlaces, cell_place, listing, own_place}
@@ -37,16 +42,22 @@ use Rattle.pg_settled.proofs.Second.{rules_are_second_parts}
 use Rattle.pg_settled.proofs.Seen.{cell_is, own_is}
 use Rattle.pg_settled.proofs.Works.{house_unsure}
 use Rattle.pg_store.specs.declared.store.Store.{Store}
-use Rattle.pg_store.specs.Store.{is_held, with_names}
+use Rattle.pg_store.specs.Births.{birth_of}
+use Rattle.pg_store.specs.Servers.{view_of}
+use Rattle.pg_store.specs.Store.{is_held, touch, with_names}
+use Rattle.pg_store.specs.Together.{BirthsMove, birth_at}
+use Rattle.pg_store.proofs.Over.{over_stays}
+use Rattle.pg_store.proofs.Pairs.{touch_as_before}
 use Rattle.pg_cells.specs.Done.{Done}
 use Rattle.pg_cells.specs.Raised.{DiffersByGolds}
-use Rattle.pg_cells.specs.Settling.{ruled}
+use Rattle.pg_cells.specs.Settling.{ruled, touch_all}
 use Rattle.pg_cells.proofs.Calmed.{settle_golds}
 use Rattle.pg_listed.specs.Laws.{MaySettle}
 use Rattle.pg_listed.specs.Letters.{Letter, beside, of_stores, patch_place}
+use Rattle.pg_listed.proofs.Births.{birth_on, not_over, over_back, same_birth}
 use Rattle.pg_listed.proofs.Heard.{IsFirst}
 use Rattle.pg_listed.proofs.Settling.{newly_asked, patch_begins, patch_found, patch_grows, still_asked}
-use Rattle.pg_listed.proofs.Views.{none_away, patch_is}
+use Rattle.pg_listed.proofs.Views.{holds_held, none_away, patch_is}
 
 -- ---- golds that are raised change no place
 
@@ -58,7 +69,13 @@ cell_by : (o p : Option Entry) → IsSameOrPlaced o p → cell_place p ≡ cell_
 cell_by o p (inl same) = ap cell_place same
 cell_by o p (inr k) = ap cell_place k.3 ∙ ap (λ (q : Place). Some q) k.4 ∙ sym (ap cell_place k.2)
 
-module _ (a : Store) (heard : Letter) (d : Done) (k : IsFirst a heard d) (sound : MaySettle d.store.names) (order : IntendsInOrder (intended (settled d)).store) where
+-- keys that are touched change no birth
+touched_births : (ts : List Touched) (a : Store) (f : FileId) → birth_at (touch_all a ts) f ≡ birth_at a f
+touched_births [] a f = refl
+touched_births (t ∷ ts) a f = touched_births ts (touch a t.file t.key) f ∙ (touch_as_before a t.file t.key).births f
+
+module _ (a : Store) (heard : Letter) (d : Done) (k : IsFirst a heard d) (sound : MaySettle d.store.names) (order : IntendsInOrder (intended (settled d)).store)
+    (moves : BirthsMove d.store (intended (settled d)).store) where
   abbrev St : State
   St = state_of d.store.names d.work
 
@@ -107,6 +124,19 @@ module _ (a : Store) (heard : Letter) (d : Done) (k : IsFirst a heard d) (sound 
       ap (λ (n : NamesValue). cell_place (names.cell_at n dir c)) same_names
       ∙ cell_by (names.cell_at R.store.names dir c) (names.cell_at S.store.names dir c) (differs.cells dir c)
       ∙ ap (λ (n : NamesValue). cell_place (names.cell_at n dir c)) r_names
+
+  -- ---- births
+
+  r_births : (f : FileId) → birth_at R.store f ≡ birth_at d.store f
+  r_births f = touched_births (drop (length d.work.touched) End.work.touched) (with_names d.store End.names) f
+
+  pub births_behind : (f : FileId) → birth_at B f ≡ birth_at d.store f
+  births_behind f = ap (λ (rs : ByFile). option_map (λ (x : Replica). x.birth) (replica_in rs f)) (begin_end_stays S.store S.work).replicas ∙ differs.births f ∙ r_births f
+
+  birth_mid : (f : FileId) → birth_of B f ≡ birth_of k.mid f
+  birth_mid f = same_birth d.store B f (births_behind f) ∙ sym (birth_on d.store k.mid k.births f)
+
+  -- ---- places
 
   -- so the places in the end are those behind the rules
   end_places : HaveSamePlaces End.names B.names
@@ -188,12 +218,19 @@ module _ (a : Store) (heard : Letter) (d : Done) (k : IsFirst a heard d) (sound 
         | inr unsure ↦ newly_asked S.store S.work dir c doubt (subst (IsOneOf {A = Slot} (record { dir = dir; child = c })) (sym s_unsure) unsure)
       ]
 
+  -- and who is removed stays so
+  view_behind : view_of B ≡ view_of k.mid
+  view_behind =
+      ap (λ (rs : List ℕ). length rs)
+      (ap (λ (n : NamesValue). n.removed) same_names ∙ differs.removed ∙ ap (λ (n : NamesValue). n.removed) r_names ∙ (rules_by d.work.now St).1)
+      ∙ ap (λ (n : NamesValue). length n.removed) (sym k.names)
+
   intends : Intends (λ (x : Store). x.names) beside a k.mid B
   intends = record {
-    view = refl;
-    birth = λ f h. refl;
-    past = λ f n h. h;
-    not_past = λ f n h g past. past;
+    view = view_behind;
+    birth = λ f h. birth_mid f;
+    past = λ f n h. over_stays d.store B f n moves (over_back d.store k.mid k.births f n h);
+    not_past = λ f n h g past. not_over B order.held.together f n (holds_held B f h) g past;
     patch_of = patch_of;
     patch_begun = patch_begun;
     patch_ends = patch_ends;

@@ -10,23 +10,25 @@ use Rattle.pg_call.specs.declared.call.Call.TheVariants as call
 use Rattle.pg_call.specs.declared.reply.Reply.{Reply}
 use Rattle.pg_call.specs.declared.reply.Reply.TheVariants as reply
 use Rattle.pg_house.specs.Facts.{IsOneOf}
-use Rattle.pg_listing.specs.Parts.{FirstPart}
 use Rattle.pg_msg.specs.declared.update.Update.TheVariants as update
 use Rattle.pg_msg.specs.declared.work.Work.{Work}
 use Rattle.pg_msg.specs.Work.{new_work, with_made}
 use Rattle.pg_names.specs.Names.{blank_own}
 use Rattle.pg_patch.specs.Ranges.{RangesValue, cut_to, written}
 use Rattle.pg_promises.proofs.Choices.{chosen}
+use Rattle.pg_register.specs.declared.flag.Flag.{Flag}
 use Rattle.pg_register.specs.declared.place.Place.{Place}
 use Rattle.pg_run.specs.Intending.{IntendsInOrder, PatchesStand}
 use Rattle.pg_store.specs.declared.store.Store.{Store}
 use Rattle.pg_store.specs.declared.wishes.Wish.{Wish}
 use Rattle.pg_store.specs.Births.{draw_birth, with_birth, with_wish}
+use Rattle.pg_store.specs.Servers.{view_of}
 use Rattle.pg_store.specs.Store.{is_held}
 use Rattle.pg_walk.specs.declared.paths.Found.{Found}
 use Rattle.pg_walk.specs.declared.paths.Stop.{Stop}
 use Rattle.pg_walk.specs.declared.paths.Stop.TheVariants as stop
 use Rattle.pg_cells.specs.Done.{Done, idle}
+use Rattle.pg_cells.specs.Intending.{begin_intent}
 use Rattle.pg_calls.specs.declared.checks.NewName.{NewName}
 use Rattle.pg_calls.specs.Answer.{Answer, answer, answered, deny, replied, told}
 use Rattle.pg_calls.specs.Asking.{ask_by, fetch, fresh_wish, holder, standing}
@@ -34,11 +36,18 @@ use Rattle.pg_calls.specs.Bodies.{change, change_file, when_fit}
 use Rattle.pg_calls.specs.Calls.{do_call}
 use Rattle.pg_calls.specs.Checks.{dir_at, empty_dir_at, file_at, in_time, move_of, new_name, target_at}
 use Rattle.pg_calls.specs.Demoting.{demoted_at, lowered}
+use Rattle.pg_calls.specs.Dropping.{clean_gold, dropped_at, leave_of, leaving}
+use Rattle.pg_calls.specs.Forgetting.{forget_lost, lost_at}
+use Rattle.pg_calls.specs.GivingUp.{enter_view, removal_at}
 use Rattle.pg_calls.specs.Making.{drawn, make_place, make_version}
 use Rattle.pg_calls.specs.Naming.{begun, dead_place, next_id, place_in, with_first_version, with_id, with_thing}
-use Rattle.pg_listed.specs.Letters.{Letter, of_stores}
+use Rattle.pg_listed.specs.Letters.{Letter}
+use Rattle.pg_listed.proofs.Places.{IsPart}
 use Rattle.pg_listed.proofs.Alike.{Alike, Alike-refl, alike_by, before_alike, behind_alike}
 use Rattle.pg_listed.proofs.Heard.{IsBehind, IsFirst, alike_is, idle_first, place_is, plainly}
+use Rattle.pg_listed.proofs.Leaving.{begun_alike}
+use Rattle.pg_listed.proofs.Lost.{lost_first}
+use Rattle.pg_listed.proofs.Entering.{entering_first}
 use Rattle.pg_listed.proofs.Placed.{IsNoted, noted_from, noted_on}
 use Rattle.pg_listed.proofs.Starting.{IsStarted, started, started_first, started_noted, then_placed}
 use Rattle.pg_listed.proofs.Unseen.{later_alike, lowered_alike, raised_alike, raised_left}
@@ -50,7 +59,7 @@ given_behind a k = record { back = k.back }
 given_patches : (a : Store) → PatchesStand a → PatchesStand (with_birth (with_id a))
 given_patches a k d c e target h = (let p = k d c e target h in record { away = p.away; own = p.own; held = p.held; upto = p.upto; same = p.same })
 
-module _ (a : Store) (behind : IsBehind a) (order : IntendsInOrder a) (fresh : (kind : Kind) → is_held a (next_id a kind) ≡ false) (heard : Letter) (view : heard.view ≡ 0) (moment : ℕ) where
+module _ (a : Store) (behind : IsBehind a) (order : IntendsInOrder a) (fresh : (kind : Kind) → is_held a (next_id a kind) ≡ false) (heard : Letter) (view : heard.view ≡ view_of a) (moment : ℕ) where
   abbrev W : Work
   W = new_work moment 0
 
@@ -114,9 +123,9 @@ module _ (a : Store) (behind : IsBehind a) (order : IntendsInOrder a) (fresh : (
     given_order : PatchesStand Given
     given_order = given_patches a order.patches
 
-    placed_first : FirstPart of_stores 0 a Placed.store heard
+    placed_first : IsPart a Placed.store heard
     placed_first =
-        behind_alike a Given is_given 0 heard Placed.store (started_first Given Placed.store Id is_started away (given_behind a behind) given_order heard view)
+        behind_alike a Given is_given heard Placed.store (started_first Given Placed.store Id is_started away (given_behind a behind) given_order heard view)
 
     placed_noted : IsNoted a Placed
     placed_noted = noted_from a Given Placed is_given.own
@@ -125,8 +134,8 @@ module _ (a : Store) (behind : IsBehind a) (order : IntendsInOrder a) (fresh : (
     thing_alike : Alike Placed.store Thing.store
     thing_alike = raised_alike Placed.store Id Placed.work
 
-    thing_part : FirstPart of_stores 0 a Thing.store heard
-    thing_part = before_alike Placed.store Thing.store thing_alike 0 heard a placed_first
+    thing_part : IsPart a Thing.store heard
+    thing_part = before_alike Placed.store Thing.store thing_alike heard a placed_first
 
     thing_noted : IsNoted a Thing
     thing_noted = noted_on a Placed Thing placed_noted thing_alike.own (λ x h. subst (IsOneOf x) (sym (raised_left Placed.store Id Placed.work)) h)
@@ -139,7 +148,7 @@ module _ (a : Store) (behind : IsBehind a) (order : IntendsInOrder a) (fresh : (
         let end = with_first_version Id Thing in
         let stamp = drawn Thing.store Thing.work.now in
         let more : Alike Thing.store end.store = later_alike Thing.store end.store stamp.time refl refl in
-        plainly a heard end (before_alike Thing.store end.store more 0 heard a thing_part) (noted_on a Thing end thing_noted more.own (λ x h. h))
+        plainly a heard end (before_alike Thing.store end.store more heard a thing_part) (noted_on a Thing end thing_noted more.own (λ x h. h))
 
   -- ---- a thing gets a place
 
@@ -156,6 +165,14 @@ module _ (a : Store) (behind : IsBehind a) (order : IntendsInOrder a) (fresh : (
       let d = make_version fit (drawn a moment) ranges (idle a W) in
       alike_is a behind heard view d (later_alike a d.store (drawn a moment).time refl refl))))
 
+  -- ---- leave is asked for
+
+  leaving_first : (f : FileId) (flag : Option Flag) → First (leaving a f W flag)
+  leaving_first f None = idle_is W
+  leaving_first f (Some flag) =
+      let d = begin_intent a (leave_of f flag) W in
+      alike_is a behind heard view d (begun_alike a (leave_of f flag) W (record { patch = λ x c. refl; confirm = λ x c. refl }))
+
   -- A CALL
   pub call_first : (x : Call) → First (do_call a x W)
   call_first (call.Mkdir text) = going (new_name a (next_id a Dir) text) _ (λ new. thing_first Dir Last new (reply.Made (next_id a Dir)))
@@ -169,9 +186,9 @@ module _ (a : Store) (behind : IsBehind a) (order : IntendsInOrder a) (fresh : (
   call_first (call.Rename from to) = going (move_of a from to) _ (λ move. moved_first move.thing (place_in a moment move.to) reply.Done)
   call_first (call.Unlink text) = going (file_at a text) _ (λ f. moved_first f (dead_place a moment f) reply.Done)
   call_first (call.Rmdir text) = going (empty_dir_at a text) _ (λ d. moved_first d (dead_place a moment d) reply.Done)
-  call_first (call.Forget id) = looks (in_time a (tt {0})) _
+  call_first (call.Forget id) = going (lost_at a id) (λ f. answer (forget_lost a f W) reply.Done) (λ f. lost_first a behind order heard view moment f)
   call_first (call.Demote target) = going (demoted_at a target) _ (λ f. alike_is a behind heard view (lowered a f W) (lowered_alike a f W))
-  call_first (call.Drop target) = looks (in_time a (tt {0})) _
-  call_first (call.Giveup view server) = looks (in_time a (tt {0})) _
+  call_first (call.Drop target) = going (dropped_at a target) _ (λ f. leaving_first f (clean_gold a f))
+  call_first (call.Giveup next server) = going (removal_at a next server) (λ found. answer (enter_view a server W) reply.Done) (λ found. entering_first a server heard view moment)
   call_first call.Status = looks (in_time a (tt {0})) _
   call_first call.Stop = looks (in_time a (tt {0})) _

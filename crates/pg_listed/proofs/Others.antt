@@ -1,16 +1,8 @@
 -- Which messages a handler sends: but for a PlaceIs and a TellOk none that tells where a thing stands.
-use Rattle.std.proofs.Common.{ℕ, ◌≡◌, ◌==◌, ◌-◌, ◌/◌, ◌%◌, ◌&&◌, ◌||◌, not, Bool, true, false, List, [], ◌∷◌, length, slice_get, Option, None, Some, Result, Ok, Err, refl, sym, subst, ◌∙◌, All}
+use Rattle.std.proofs.Common.{ℕ, ◌==◌, ◌-◌, ◌/◌, ◌%◌, ◌&&◌, ◌||◌, not, Bool, true, List, [], ◌∷◌, length, slice_get, Option, None, Some, refl, sym, subst}
 use Rattle.std.specs.Prelude.{nat_lt}
 use Rattle.std.proofs.lemmas.List.Elements.{All-append, All-cons, All-nil}
 use Rattle.pg_base.specs.declared.id.FileId.{FileId}
-use Rattle.pg_base.specs.declared.id.Kind.{Kind}
-use Rattle.pg_base.specs.declared.id.Kind.TheVariants.{Dir, File}
-use Rattle.pg_base.specs.declared.policy.Policy.{Policy}
-use Rattle.pg_base.specs.declared.policy.Policy.TheVariants.{Last}
-use Rattle.pg_call.specs.declared.call.Call.{Call}
-use Rattle.pg_call.specs.declared.call.Call.TheVariants as call
-use Rattle.pg_call.specs.declared.reply.Reply.{Reply}
-use Rattle.pg_call.specs.declared.reply.Reply.TheVariants as reply
 use Rattle.pg_edges.specs.declared.edge.Edge.{Edge}
 use Rattle.pg_edges.specs.declared.key.Key.{Key}
 use Rattle.pg_edges.specs.declared.key.Key.TheVariants as key
@@ -18,85 +10,41 @@ use Rattle.pg_entries.specs.declared.cell.Cell.{Cell}
 use Rattle.pg_entries.specs.declared.cell.Cell.TheVariants as cells
 use Rattle.pg_entries.specs.declared.entry.Entry.{Entry}
 use Rattle.pg_house.specs.Work.{is_root, note_left}
-use Rattle.pg_listing.specs.World.Saying.{Other}
 use Rattle.pg_msg.specs.declared.message.Ask.TheVariants as ask
 use Rattle.pg_msg.specs.declared.message.Ends.{Ends}
 use Rattle.pg_msg.specs.declared.message.Granted.{Granted}
-use Rattle.pg_msg.specs.declared.message.Message.{Message}
 use Rattle.pg_msg.specs.declared.message.Message.TheVariants as message
-use Rattle.pg_msg.specs.declared.message.Sent.{Sent}
 use Rattle.pg_msg.specs.declared.update.Update.TheVariants as update
 use Rattle.pg_msg.specs.declared.work.Work.{Work}
-use Rattle.pg_msg.specs.Work.{new_work, with_left, with_linked, with_made, with_touched, with_unsure}
-use Rattle.pg_names.specs.Names.{known, own_or_blank}
+use Rattle.pg_msg.specs.Ends.{back}
+use Rattle.pg_msg.specs.Sent.{cell_key}
+use Rattle.pg_msg.specs.Work.{with_left, with_linked, with_made, with_touched, with_unsure}
+use Rattle.pg_names.specs.Names.{own_or_blank}
 use Rattle.pg_names.specs.Names as names
-use Rattle.pg_patch.specs.Ranges.{RangesValue, cut_to, written}
 use Rattle.pg_promises.proofs.Choices.{chosen}
 use Rattle.pg_register.specs.declared.flag.Flag.{Flag}
 use Rattle.pg_register.specs.declared.place.Place.{Place}
 use Rattle.pg_replica.specs.declared.replica.Replica.{Replica}
 use Rattle.pg_store.specs.declared.store.Store.{Store}
-use Rattle.pg_store.specs.declared.wishes.Wish.{Wish}
-use Rattle.pg_store.specs.Births.{birth_of, has_birth, is_pending, with_birth, with_wish}
+use Rattle.pg_store.specs.Births.{birth_of, has_birth, is_pending}
 use Rattle.pg_store.specs.Links.{is_clean, is_new_link, knows_later}
 use Rattle.pg_store.specs.Store.{entry_news, is_full, is_held, is_new_version, is_newer_flag, is_newer_place, replica_at, with_names}
-use Rattle.pg_walk.specs.declared.paths.Found.{Found}
-use Rattle.pg_walk.specs.declared.paths.Stop.{Stop}
-use Rattle.pg_walk.specs.declared.paths.Stop.TheVariants as stop
 use Rattle.pg_cells.specs.declared.accepting.Manner.{Manner}
 use Rattle.pg_cells.specs.declared.accepting.Manner.TheVariants as manner
 use Rattle.pg_cells.specs.Accepting.{accept, ends_to, is_accepted, is_answer, link_peer, met, with_gone, with_link}
 use Rattle.pg_cells.specs.Cells.{cell as take_cell, fits, taken, taken_along}
 use Rattle.pg_cells.specs.Done.{Done, idle}
-use Rattle.pg_cells.specs.Golds.{is_gold}
-use Rattle.pg_cells.specs.Making.{lower_flag, make_flag, own_next, raise_flag}
-use Rattle.pg_cells.specs.Posting.{post, sent_to}
+use Rattle.pg_cells.specs.Making.{make_flag, own_next, raise_flag}
+use Rattle.pg_cells.specs.Posting.{sent_to}
 use Rattle.pg_cells.specs.Taking.{is_any_news, is_place_news, take_entry_noted, take_flag_noted, take_flags_noted, take_place_noted, with_doubt, with_left_if, with_news}
-use Rattle.pg_calls.specs.declared.checks.NewName.{NewName}
-use Rattle.pg_calls.specs.Answer.{Answer, answer, answered, deny, replied, told}
-use Rattle.pg_calls.specs.Asking.{ask_by, fetch as fetch_wish, fresh_wish, holder, standing}
-use Rattle.pg_calls.specs.Bodies.{change, change_file, shown_part, when_fit}
-use Rattle.pg_calls.specs.Calls.{do_call}
-use Rattle.pg_calls.specs.Checks.{dir_at, empty_dir_at, file_at, in_time, move_of, new_name, target_at}
-use Rattle.pg_calls.specs.Demoting.{demoted_at, lowered}
-use Rattle.pg_calls.specs.Looks.{counts, listing, page, stat_of}
-use Rattle.pg_calls.specs.Making.{drawn, make_place, make_version}
-use Rattle.pg_calls.specs.Naming.{begun, dead_place, moved, next_id, place_in, taken_away, with_first_version, with_id, with_thing}
 use Rattle.pg_repair.specs.Confirming.{confirmed, place_is, take_told_flags, take_told_place}
-use Rattle.pg_repair.specs.Fetching.{answer_fetch, fetch, give, given}
-use Rattle.pg_repair.specs.Filling.{few_golds, fill, full, live_golds}
+use Rattle.pg_repair.specs.Fetching.{answer_fetch, fetch, give, given, granted_from}
+use Rattle.pg_repair.specs.Filling.{few_golds, fill, full, invite, invited, is_bronze, live_golds, raise_if_few}
 use Rattle.pg_repair.specs.Granting.{begin_granted, begun_by, grant}
 use Rattle.pg_graph.specs.Seeking.{answered_seek, seek}
 use Rattle.pg_graph.specs.Seeks.{edges_of}
 use Rattle.pg_graph.specs.Walks.{goes_on, meet_origin, most_hops, onward, walk, walk_along, walk_from, walk_of, walk_of_tick, walk_on, walked, with_few_edges}
-use Rattle.pg_listed.specs.Letters.{says}
-
-abbrev pub IsOther : Sent → Type 0
-IsOther m = says m.packet.message ≡ Other
-
-abbrev pub Others : List Sent → Type 0
-Others ms = All IsOther ms
-
--- what is sent, and what is sent last
-abbrev pub SendsOthers : Work → Type 0
-SendsOthers work = Others work.sent × Others work.tail
-
-pub none : SendsOthers (new_work 0 0)
-none = (All-nil IsOther, All-nil IsOther)
-
-posted : (a : Store) (to : ℕ) (m : Message) (work : Work) → says m ≡ Other → SendsOthers work → SendsOthers (post a to m work)
-posted a to m work is k = (All-append IsOther work.sent (sent_to a to m ∷ []) k.0 (All-cons IsOther (sent_to a to m) [] is (All-nil IsOther)), k.1)
-
--- ---- the same messages
-
-abbrev pub SameMail : Work → Work → Type 0
-SameMail v w = (w.sent ≡ v.sent) × (w.tail ≡ v.tail)
-
-mail_on : (u v w : Work) → SameMail u v → SameMail v w → SameMail u w
-mail_on u v w one two = (two.0 ∙ one.0, two.1 ∙ one.1)
-
-same : (v w : Work) → SameMail v w → SendsOthers v → SendsOthers w
-same v w e k = (subst Others (sym e.0) k.0, subst Others (sym e.1) k.1)
+use Rattle.pg_listed.proofs.Plain.{IsOther, LastOthers, Others, SameMail, SendsOthers, mail_on, posted, same}
 
 news_same : (t : Bool) (work : Work) (f : FileId) (k : Key) → SameMail work (with_news t work f k)
 news_same t work f k = chosen (SameMail work) t (with_touched work f k) work (refl, refl) (refl, refl)
@@ -127,11 +75,11 @@ accept_others a ends way work k =
     let P : Done → Type 0 = λ d. SendsOthers d.work in
     chosen P (has_birth a ends.file ends.receiver) _ (idle a (with_gone a ends way work))
     (chosen P (knows_later a ends.file work.from ends.sender) (idle a work) (met a ends way work) k (met_others a ends way work k))
-    (chosen SendsOthers (is_answer way || is_pending a ends.file ends.receiver) work _ k (posted a work.from (message.Gone ends.file ends.receiver) work refl k))
+    (chosen SendsOthers (is_answer way || is_pending a ends.file ends.receiver) work _ k (posted a work.from (message.Gone ends.file ends.receiver) work (λ b from. (refl, tt)) k))
 
 -- ---- what is taken
 
-place_same : (a : Store) (f : FileId) (place : Place) (work : Work) → SameMail work (take_place_noted a f place work).work
+pub place_same : (a : Store) (f : FileId) (place : Place) (work : Work) → SameMail work (take_place_noted a f place work).work
 place_same a f place work =
     let t = is_newer_place a f place in
     let old = (own_or_blank a.names f).place in
@@ -148,13 +96,13 @@ flags_same (flag ∷ flags) a f work =
     mail_on work one.work (take_flags_noted one.store f flags one.work).work (flag_same a f flag work) (flags_same flags one.store f one.work)
 
 -- a flag is made
-made_same : (a : Store) (f : FileId) (flag : Flag) (work : Work) → SameMail work (make_flag a f flag work).work
+pub made_same : (a : Store) (f : FileId) (flag : Flag) (work : Work) → SameMail work (make_flag a f flag work).work
 made_same a f flag work = flag_same a f flag (with_made work (update.Flag f flag))
 
-raised_same : (a : Store) (f : FileId) (work : Work) → SameMail work (raise_flag a f work).work
+pub raised_same : (a : Store) (f : FileId) (work : Work) → SameMail work (raise_flag a f work).work
 raised_same a f work = made_same a f (own_next a f true) work
 
-entry_same : (a : Store) (dir : FileId) (e : Entry) (work : Work) → SameMail work (take_entry_noted a dir e work).work
+pub entry_same : (a : Store) (dir : FileId) (e : Entry) (work : Work) → SameMail work (take_entry_noted a dir e work).work
 entry_same a dir e work = news_same (is_any_news (entry_news a dir e)) work dir (key.Entry e.child)
 
 taken_same : (a : Store) (f : FileId) (c : Cell) (work : Work) → SameMail work (taken a f c work).work
@@ -175,11 +123,11 @@ cell_others a ends tag c work k =
     let t = taken m.store ends.file c m.work in
     chosen P (fits ends.file c) _ (idle a work)
     (chosen P (is_accepted a work.from manner.Link ends) (taken_along ends tag c m) m
-    (posted t.store t.work.from _ t.work refl (same m.work t.work (taken_same m.store ends.file c m.work) h)) h) k
+    (posted t.store t.work.from (message.Ack (back ends) (cell_key c) tag) t.work (λ b from. (refl, tt)) (same m.work t.work (taken_same m.store ends.file c m.work) h)) h) k
 
 given_others : (a : Store) (ends : Ends) (o : Option Replica) (work : Work) → SendsOthers work → SendsOthers (given a ends o work)
 given_others a ends None work k = k
-given_others a ends (Some x) work k = posted a work.from _ work refl k
+given_others a ends (Some x) work k = posted a work.from (message.Grant ends (granted_from ends.file (own_or_blank a.names ends.file) x)) work (λ b from. (refl, tt)) k
 
 pub fetch_others : (a : Store) (f : FileId) (birth : ℕ) (work : Work) → SendsOthers work → SendsOthers (fetch a f birth work).work
 fetch_others a f birth work k =
@@ -189,9 +137,9 @@ fetch_others a f birth work k =
     let ends = ends_to l.store f birth in
     chosen P (is_full a f) _ _
     (chosen P (knows_later a f work.from birth) (idle a work) (idle l.store (answer_fetch l.store f birth l.work)) k
-    (chosen SendsOthers (is_clean l.store f l.work.from birth) _ (give l.store ends l.work) (posted l.store l.work.from (message.Full ends) l.work refl h)
+    (chosen SendsOthers (is_clean l.store f l.work.from birth) _ (give l.store ends l.work) (posted l.store l.work.from (message.Full ends) l.work (λ b from. (refl, tt)) h)
     (given_others l.store ends (replica_at l.store f) l.work h)))
-    (posted a work.from (message.NoGrant f birth) work refl k)
+    (posted a work.from (message.NoGrant f birth) work (λ b from. (refl, tt)) k)
 
 pub grant_others : (a : Store) (ends : Ends) (g : Granted) (work : Work) → SendsOthers work → SendsOthers (grant a ends g work).work
 grant_others a ends g work k =
@@ -199,12 +147,25 @@ grant_others a ends g work k =
     chosen (λ (d : Done). SendsOthers d.work) (is_pending a ends.file ends.receiver) (begin_granted a ends g work) (accept a ends manner.Link work)
     (linked_others b ends.file work.from ends.sender work k) (accept_others a ends manner.Link work k)
 
+-- a flag is raised where few golds are seen
+pub few_same : (a : Store) (f : FileId) (work : Work) → SameMail work (raise_if_few a f work).work
+few_same a f work =
+    chosen (λ (d : Done). SameMail work d.work) (nat_lt (live_golds a f) few_golds) (raise_flag a f work) (idle a work) (raised_same a f work) (refl, refl)
+
 pub full_others : (a : Store) (ends : Ends) (work : Work) → SendsOthers work → SendsOthers (full a ends work).work
 full_others a ends work k =
-    let P : Done → Type 0 = λ d. SendsOthers d.work in
     let b = with_names a (names.fill a.names ends.file) in
-    chosen P (is_accepted a work.from manner.Answer ends && not (is_full a ends.file)) (fill a ends.file work) (idle a work)
-    (chosen P (nat_lt (live_golds b ends.file) few_golds) (raise_flag b ends.file work) (idle b work) (same work (raise_flag b ends.file work).work (raised_same b ends.file work) k) k) k
+    chosen (λ (d : Done). SendsOthers d.work) (is_accepted a work.from manner.Answer ends && not (is_full a ends.file)) (fill a ends.file work) (idle a work)
+    (same work (fill a ends.file work).work (few_same b ends.file work) k) k
+
+pub invite_others : (a : Store) (ends : Ends) (work : Work) → SendsOthers work → SendsOthers (invite a ends work).work
+invite_others a ends work k =
+    let P : Done → Type 0 = λ d. SendsOthers d.work in
+    let m = accept a ends manner.Ask work in
+    let h = accept_others a ends manner.Ask work k in
+    let few = raise_if_few m.store ends.file m.work in
+    chosen P (is_accepted a work.from manner.Ask ends) (invited ends m) m
+    (chosen P (is_bronze m.store ends.file) few m (same m.work few.work (few_same m.store ends.file m.work) h) h) h
 
 -- before a child answers
 pub told_same : (a : Store) (e : Entry) (work : Work) → SameMail work (take_told_flags e (take_told_place a e work)).work
@@ -232,18 +193,14 @@ seek_others a f birth work k =
     let l = link_peer a f work.from birth work in
     chosen P (is_held a f) _ _
     (chosen P (knows_later a f work.from birth) (idle a work) (answered_seek f birth l) k
-    (posted l.store l.work.from (message.Here (ends_to l.store f birth)) l.work refl (linked_others a f work.from birth work k)))
-    (posted a work.from (message.NoneHere ask.Seek f f) work refl k)
-
--- what is sent stays, and last goes at most such a message
-abbrev LastOthers : Work → Work → Type 0
-LastOthers v w = (w.sent ≡ v.sent) × (Others v.tail → Others w.tail)
+    (posted l.store l.work.from (message.Here (ends_to l.store f birth)) l.work (λ b from. (refl, tt)) (linked_others a f work.from birth work k)))
+    (posted a work.from (message.NoneHere ask.Seek f f) work (λ b from. (refl, tt)) k)
 
 along_last : (a : Store) (f : FileId) (origin birth hops word : ℕ) (work : Work) (o : Option Edge) → LastOthers work (walk_along a f origin birth hops word work o)
 along_last a f origin birth hops word work None = (refl, λ k. k)
 along_last a f origin birth hops word work (Some e) =
     let m = sent_to a e.peer (message.Walk (ends_to a f e.birth) origin birth hops word) in
-    (refl, λ k. All-append IsOther work.tail (m ∷ []) k (All-cons IsOther m [] refl (All-nil IsOther)))
+    (refl, λ k. All-append IsOther work.tail (m ∷ []) k (All-cons IsOther m [] (λ b from. (refl, tt)) (All-nil IsOther)))
 
 from_last : (a : Store) (word : ℕ) (work : Work) (o : Option FileId) → LastOthers work (walk_from a word work o)
 from_last a word work None = (refl, λ k. k)
@@ -265,7 +222,7 @@ walked_others a ends origin birth hops word edges work k =
     let last = along_last a ends.file origin birth (hops - 1) (word / length edges) work (slice_get edges (word % length edges)) in
     chosen (λ (d : Done). SendsOthers d.work) (goes_on hops edges) (idle a (walk_on a ends.file origin birth hops word edges work)) (meet_origin a ends.file origin birth work)
     (subst Others (sym last.0) k.0, last.1 k.1)
-    (posted l.store origin (message.Meet (ends_to l.store ends.file birth)) l.work refl (linked_others a ends.file origin birth work k))
+    (posted l.store origin (message.Meet (ends_to l.store ends.file birth)) l.work (λ b from. (refl, tt)) (linked_others a ends.file origin birth work k))
 
 pub walk_others : (a : Store) (ends : Ends) (origin birth hops word : ℕ) (work : Work) → SendsOthers work → SendsOthers (walk a ends origin birth hops word work).work
 walk_others a ends origin birth hops word work k =
@@ -274,72 +231,3 @@ walk_others a ends origin birth hops word work k =
     chosen P (is_accepted a work.from manner.Ask ends) _ (accept a ends manner.Ask work)
     (chosen P (origin == a.names.server) (idle a work) (walked a ends origin birth hops word edges work) k (walked_others a ends origin birth hops word edges work k))
     (accept_others a ends manner.Ask work k)
-
--- ---- calls
-
-module _ (a : Store) (moment : ℕ) where
-  abbrev W : Work
-  W = new_work moment 0
-
-  abbrev Quiet : Answer → Type 0
-  Quiet b = SendsOthers b.work
-
-  fetch_quiet : (f : FileId) (wish : Wish) → SendsOthers (fetch_wish a f wish W)
-  fetch_quiet f wish = chosen SendsOthers (wish.target == 0) W _ none (posted a wish.target (message.Fetch f wish.birth) W refl none)
-
-  asked_quiet : (found : Found) (o : Option Wish) → SendsOthers (ask_by a found o W).work
-  asked_quiet found (Some wish) = fetch_quiet found.file wish
-  asked_quiet found None =
-      let target = holder a found in
-      let wish = fresh_wish a target in
-      chosen (λ (d : Done). SendsOthers d.work) (target == 0) (idle a W) (idle (with_wish (with_birth a) found.file wish) (fetch_wish a found.file wish W)) none (fetch_quiet found.file wish)
-
-  denied_quiet : (why : Stop) → Quiet (deny a why W)
-  denied_quiet (stop.Refused why) = none
-  denied_quiet (stop.NotYet found) = asked_quiet found (standing a found.file)
-
-  going : {A : Type 0} (r : Result A Stop) (next : A → Answer) → ((x : A) → Quiet (next x)) → Quiet (answered a W r next)
-  going (Err why) next each = denied_quiet why
-  going (Ok x) next each = each x
-
-  looks : {A : Type 0} (r : Result A Stop) (tell : A → Reply) → Quiet (replied a W r tell)
-  looks r tell = going r (λ x. told a W (tell x)) (λ x. none)
-
-  thing_quiet : (kind : Kind) (policy : Policy) (new : NewName) → SendsOthers (with_thing (with_id a) W (next_id a kind) policy new).work
-  thing_quiet kind policy new =
-      let id = next_id a kind in
-      let place = place_in (with_id a) moment new in
-      let b = begun (with_id a) id policy in
-      let put = make_place id place (idle b W) in
-      same put.work (raise_flag put.store id put.work).work (raised_same put.store id put.work) (same (with_made W (update.Place id place)) put.work (place_same b id place (with_made W (update.Place id place))) none)
-
-  moved_quiet : (f : FileId) (place : Place) → SendsOthers (make_place f place (idle a W)).work
-  moved_quiet f place = same (with_made W (update.Place f place)) (make_place f place (idle a W)).work (place_same a f place (with_made W (update.Place f place))) none
-
-  -- a flag is lowered, or nothing changes
-  lowered_quiet : (f : FileId) → SendsOthers (lowered a f W).work
-  lowered_quiet f =
-      let d = lower_flag a f W in
-      chosen (λ (e : Done). SendsOthers e.work) (is_gold a f) d (idle a W) (same W d.work (made_same a f (own_next a f false) W) none) none
-
-  change_quiet : (text : List ℕ) (ranges : RangesValue) → Quiet (change a text ranges W)
-  change_quiet text ranges = going (file_at a text) (change_file a ranges W) (λ f. going (when_fit a ranges f) (λ fit. answer (make_version fit (drawn a moment) ranges (idle a W)) (reply.Wrote (drawn a moment))) (λ fit. none))
-
-  pub call_others : (x : Call) → Quiet (do_call a x W)
-  call_others (call.Mkdir text) = going (new_name a (next_id a Dir) text) (λ new. answer (with_thing (with_id a) W (next_id a Dir) Last new) (reply.Made (next_id a Dir))) (λ new. thing_quiet Dir Last new)
-  call_others (call.Create text policy) = going (new_name a (next_id a File) text) (λ new. answer (with_first_version (next_id a File) (with_thing (with_id a) W (next_id a File) policy new)) (reply.Made (next_id a File))) (λ new. thing_quiet File policy new)
-  call_others (call.Write text offset bytes) = change_quiet text (written offset bytes)
-  call_others (call.Cut text length) = change_quiet text (cut_to length)
-  call_others (call.Read text offset count) = looks (file_at a text) (λ f. reply.Bytes (shown_part a f offset count))
-  call_others (call.Fresh text) = looks (file_at a text) (λ f. reply.Done)
-  call_others (call.Ls text from) = looks (dir_at a text) (λ d. page (listing d (known a.names d)) from)
-  call_others (call.Stat target) = looks (target_at a target) (λ f. reply.Stat (stat_of a f))
-  call_others (call.Rename from to) = going (move_of a from to) (λ move. answer (moved a W move) reply.Done) (λ move. moved_quiet move.thing (place_in a moment move.to))
-  call_others (call.Unlink text) = going (file_at a text) (λ f. answer (taken_away a W f) reply.Done) (λ f. moved_quiet f (dead_place a moment f))
-  call_others (call.Rmdir text) = going (empty_dir_at a text) (λ d. answer (taken_away a W d) reply.Done) (λ d. moved_quiet d (dead_place a moment d))
-  call_others (call.Forget id) = looks (in_time a (tt {0})) (λ found. reply.Done)
-  call_others (call.Demote target) = going (demoted_at a target) (λ f. answer (lowered a f W) reply.Done) (λ f. lowered_quiet f)
-  call_others (call.Drop target) = looks (in_time a (tt {0})) (λ found. reply.Done)
-  call_others (call.Giveup view server) = looks (in_time a (tt {0})) (λ found. reply.Done)
-  call_others call.Status = looks (in_time a (tt {0})) (λ found. reply.Status (counts a))
-  call_others call.Stop = looks (in_time a (tt {0})) (λ found. reply.Done)

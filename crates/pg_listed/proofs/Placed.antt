@@ -1,5 +1,5 @@
 -- A place comes to a thing: the first part of a step, and what is noted.
-use Rattle.std.proofs.Common.{◌≡◌, ◌≢◌, Bool, true, false, cond, Option, None, Some, refl, sym, ap, subst, ◌∙◌, inl, inr, ◌⊎◌}
+use Rattle.std.proofs.Common.{ℕ, List, length, ◌≡◌, ◌≢◌, Bool, true, false, cond, Option, None, Some, refl, sym, ap, subst, ◌∙◌, inl, inr, ◌⊎◌}
 use Rattle.std.proofs.lemmas.Option.{none-some, same_Some}
 use Rattle.pg_base.specs.declared.id.FileId.{FileId}
 use Rattle.pg_base.specs.Id.{is_same_file}
@@ -14,7 +14,6 @@ use Rattle.pg_house.proofs.Truths.{bool_cases}
 use Rattle.pg_intent.specs.declared.key.IntentKey.TheVariants as intent_key
 use Rattle.pg_intent.specs.Intents.{intent_at, stands}
 use Rattle.pg_listing.specs.Protocol.{IsUpTo}
-use Rattle.pg_listing.specs.Parts.{FirstPart}
 use Rattle.pg_listing.proofs.Handlers.{placed_first}
 use Rattle.pg_msg.specs.declared.work.Slot.{Slot}
 use Rattle.pg_msg.specs.declared.work.Work.{Work}
@@ -27,17 +26,19 @@ use Rattle.pg_register.specs.Place.{newer_place, root}
 use Rattle.pg_settled.specs.Listing.{cell_place, own_place}
 use Rattle.pg_settled.proofs.Seen.{apart}
 use Rattle.pg_store.specs.declared.store.Store.{Store}
+use Rattle.pg_store.specs.Servers.{view_of}
 use Rattle.pg_store.specs.Store.{is_newer_place, put_place, take_place}
 use Rattle.pg_cells.specs.Done.{Done}
 use Rattle.pg_cells.specs.Taking.{take_place_noted, with_left_if, with_news}
-use Rattle.pg_listed.specs.Letters.{Letter, of_stores, patch_place}
+use Rattle.pg_listed.specs.Letters.{Letter, patch_place}
+use Rattle.pg_listed.proofs.Places.{IsPart, of_places}
 
 -- the newer of two places is the first, or a later one
-newer_by : (x y : Place) (t : Bool) → is_before x.stamp y.stamp ≡ t → IsUpTo of_stores x (cond t y x)
+newer_by : (x y : Place) (t : Bool) → is_before x.stamp y.stamp ≡ t → IsUpTo of_places x (cond t y x)
 newer_by x y true e = inr e
 newer_by x y false e = inl refl
 
-pub newer_up : (x y : Place) → IsUpTo of_stores x (newer_place x y)
+pub newer_up : (x y : Place) → IsUpTo of_places x (newer_place x y)
 newer_up x y = newer_by x y (is_before x.stamp y.stamp) refl
 
 module _ (a : Store) (f : FileId) (place : Place) where
@@ -72,29 +73,29 @@ module _ (a : Store) (f : FileId) (place : Place) where
       chosen (λ (b : Store). b.names.removed ≡ a.names.removed) (is_newer_place a f place) (put_place a f place) a
       (update_frame a.names f (with_place place)).removed refl
 
-  pub grows_then : (g : FileId) (q : Place) → of_stores.own a g ≡ Some q → (r : Place) × (of_stores.own Then g ≡ Some r) × IsUpTo of_stores q r
+  pub grows_then : (g : FileId) (q : Place) → of_places.own a g ≡ Some q → (r : Place) × (of_places.own Then g ≡ Some r) × IsUpTo of_places q r
   grows_then g q h = elim (own_then g) [
     | inr same ↦ (q, ap own_place same ∙ h, inl refl)
     | inl new ↦
         let x = new.1.0 in
         let is : x.place ≡ q = same_Some x.place q (sym (ap own_place new.1.1) ∙ h) in
-        (newer_place x.place place, ap own_place new.1.2, subst (λ (y : Place). IsUpTo of_stores y (newer_place x.place place)) is (newer_up x.place place))
+        (newer_place x.place place, ap own_place new.1.2, subst (λ (y : Place). IsUpTo of_places y (newer_place x.place place)) is (newer_up x.place place))
   ]
 
-  pub none_then : (g : FileId) → of_stores.own a g ≡ None → of_stores.own Then g ≡ None
+  pub none_then : (g : FileId) → of_places.own a g ≡ None → of_places.own Then g ≡ None
   none_then g h = elim (own_then g) [
     | inr same ↦ ap own_place same ∙ h
     | inl new ↦ absurd (none-some new.1.0.place (sym h ∙ ap own_place new.1.1))
   ]
 
   -- other things stand as they did
-  pub others_then : (g : FileId) → (f ≡ g) ⊎ (of_stores.own Then g ≡ of_stores.own a g)
+  pub others_then : (g : FileId) → (f ≡ g) ⊎ (of_places.own Then g ≡ of_places.own a g)
   others_then g = elim (own_then g) [ inl new ↦ inl new.0 | inr same ↦ inr (ap own_place same) ]
 
-  pub place_first : (heard : Letter) → heard.view ≡ 0 → FirstPart of_stores 0 a Then heard
-  place_first heard view = placed_first of_stores 0 a Then heard (record {
+  pub place_first : (heard : Letter) → heard.view ≡ view_of a → IsPart a Then heard
+  place_first heard view = λ least. placed_first of_places least a Then heard (record {
     hears = inr view;
-    view = refl;
+    view = ap (λ (rs : List ℕ). length rs) removed_then;
     held = grows_then;
     gone = none_then;
     births = λ g was now. refl;
@@ -108,22 +109,22 @@ module _ (a : Store) (f : FileId) (place : Place) where
 
 -- of each live place that was replaced, its directory and the thing
 pub record IsNoted (a : Store) (d : Done) : Type 0 where
-  pub noted : (c : FileId) (q r : Place) → of_stores.own a c ≡ Some q → of_stores.own d.store c ≡ Some r → c ≢ root → q.live ≡ true
+  pub noted : (c : FileId) (q r : Place) → of_places.own a c ≡ Some q → of_places.own d.store c ≡ Some r → c ≢ root → q.live ≡ true
       → (q ≡ r) ⊎ IsLeft d.work q.parent c
 
 -- no own place changes
-pub same_noted : (a : Store) (d : Done) → ((f : FileId) → of_stores.own d.store f ≡ of_stores.own a f) → IsNoted a d
+pub same_noted : (a : Store) (d : Done) → ((f : FileId) → of_places.own d.store f ≡ of_places.own a f) → IsNoted a d
 same_noted a d same = record { noted = λ c q r was now other live. inl (same_Some q r (sym was ∙ sym (same c) ∙ now)) }
 
 -- and further on none does, and what was noted is
-pub noted_on : (a : Store) (d e : Done) → IsNoted a d → ((f : FileId) → of_stores.own e.store f ≡ of_stores.own d.store f)
+pub noted_on : (a : Store) (d e : Done) → IsNoted a d → ((f : FileId) → of_places.own e.store f ≡ of_places.own d.store f)
     → ((x : Slot) → IsOneOf x d.work.left → IsOneOf x e.work.left) → IsNoted a e
 noted_on a d e k same stays = record {
   noted = λ c q r was now other live. elim (k.noted c q r was (sym (same c) ∙ now) other live) [ inl is ↦ inl is | inr left ↦ inr (stays _ left) ];
 }
 
 -- and from before
-pub noted_from : (z a : Store) (d : Done) → ((f : FileId) → of_stores.own a f ≡ of_stores.own z f) → IsNoted a d → IsNoted z d
+pub noted_from : (z a : Store) (d : Done) → ((f : FileId) → of_places.own a f ≡ of_places.own z f) → IsNoted a d → IsNoted z d
 noted_from z a d same k = record { noted = λ c q r was now other live. k.noted c q r (same c ∙ was) now other live }
 
 pub news_left : (t : Bool) (work : Work) (f : FileId) (k : Key) → (with_news t work f k).left ≡ work.left

@@ -21,7 +21,6 @@ use Rattle.pg_intent.specs.declared.key.IntentKey.TheVariants as intent_key
 use Rattle.pg_intent.specs.Intents.{aimed, ended, intent_at}
 use Rattle.pg_intent.proofs.Found.{ended_found, stands_is}
 use Rattle.pg_listing.specs.Protocol.{AtLeast}
-use Rattle.pg_listing.specs.Parts.{FirstPart}
 use Rattle.pg_listing.specs.World.Saying.{TellOk, Told}
 use Rattle.pg_listing.specs.World.Way.{PlaceIs, SureCell, Tell}
 use Rattle.pg_listing.proofs.Handlers.{calm_first}
@@ -39,7 +38,7 @@ use Rattle.pg_store.specs.declared.store.Store.{Store}
 use Rattle.pg_store.specs.Beginning.{with_intents}
 use Rattle.pg_store.specs.Births.{is_pending}
 use Rattle.pg_store.specs.Links.{knows_later}
-use Rattle.pg_store.specs.Servers.{next_target}
+use Rattle.pg_store.specs.Servers.{next_target, view_of}
 use Rattle.pg_store.specs.Store.{is_full, is_held}
 use Rattle.pg_store.proofs.Given.{pending_may}
 use Rattle.pg_cells.specs.declared.accepting.Manner.TheVariants as manner
@@ -49,20 +48,29 @@ use Rattle.pg_cells.specs.Done.{Done, idle}
 use Rattle.pg_cells.specs.Taking.{take_entry_noted, take_place_noted}
 use Rattle.pg_repair.specs.Confirming.{confirm, confirmed, place_is, place_told, take_told_flags, take_told_place}
 use Rattle.pg_repair.specs.Fetching.{answer_fetch, fetch}
-use Rattle.pg_repair.specs.Filling.{fill, full}
+use Rattle.pg_repair.specs.Filling.{fill, full, invite}
 use Rattle.pg_repair.specs.Granting.{aim_fill, begin_granted, begun_by, grant, granted_own, no_grant, turn_wish}
 use Rattle.pg_repair.specs.NoneHere.{asking_key, does_ask, none_here}
 use Rattle.pg_graph.specs.Seeking.{answered_seek, seek}
 use Rattle.pg_repair.specs.Telling.{is_told, tell, tell_ok, told}
 use Rattle.pg_graph.specs.Walks.{goes_on, meet_origin, onward, walk, walk_on, walked}
-use Rattle.pg_listed.specs.Letters.{Letter, of_stores, patch_place, says, told_by}
+use Rattle.pg_listed.specs.Letters.{Letter, patch_place, place_of, says, told_by}
+use Rattle.pg_listed.proofs.Places.{IsPart, of_places}
 use Rattle.pg_listed.proofs.Alike.{Alike, Alike-refl, Alike-trans, alike_by, alike_first, before_alike}
 use Rattle.pg_listed.proofs.Heard.{IsBehind, IsFirst, alike_is, entry_cell_is, idle_first, place_told_is, place_is as placed, plainly, told_entry, with_work}
+use Rattle.pg_listed.proofs.Leaving.{bye_ok_first, leave_first, leave_ok_first}
 use Rattle.pg_listed.proofs.Placed.{IsNoted, noted_on, place_first, place_noted, same_noted}
 use Rattle.pg_listed.proofs.Starting.{started, started_first, started_noted}
-use Rattle.pg_listed.proofs.Unseen.{accept_alike, aimed_alike, fill_alike, flag_alike, flags_alike, flags_left, link_alike, link_left, turn_fill_alike, turn_wish_alike, unlink_alike, version_alike}
+use Rattle.pg_listed.proofs.Unseen.{accept_alike, aimed_alike, fill_alike, flag_alike, flags_alike, flags_left, invite_alike, link_alike, link_left, turn_fill_alike, turn_wish_alike, unlink_alike, version_alike}
 
-module _ (a : Store) (behind : IsBehind a) (order : IntendsInOrder a) (heard : Letter) (view : heard.view ≡ 0) where
+-- what PlaceIs says is the place that the directory has with that stamp, and the place in a LeaveOk of a server that held
+-- this is that of the thing, if it has its stamp
+abbrev pub IsOne : Store → Store → Message → Type 0
+IsOne a z (message.PlaceIs dir e) = (q : Place) → of_places.cell a dir e.child ≡ Some q → q.stamp ≡ e.place.stamp → q ≡ e.place
+IsOne a z (message.LeaveOk ends stamp) = (q : Place) → of_places.own a ends.file ≡ Some q → q.stamp ≡ stamp → q ≡ place_of z ends.file
+IsOne a z _ = Unit {0}
+
+module _ (a : Store) (behind : IsBehind a) (order : IntendsInOrder a) (heard : Letter) (view : heard.view ≡ view_of a) where
   abbrev First : Done → Type 0
   First d = IsFirst a heard d
 
@@ -131,7 +139,7 @@ module _ (a : Store) (behind : IsBehind a) (order : IntendsInOrder a) (heard : L
       Alike-trans (link_alike b ends.file work.from ends.sender) (aimed_alike linked.store (intent_key.Fill ends.file) linked.work.from) in
       let end = begin_granted a ends g work in
       plainly a heard end
-      (before_alike b end.store more 0 heard a (started_first a b ends.file k may.away behind order.patches heard view))
+      (before_alike b end.store more heard a (started_first a b ends.file k may.away behind order.patches heard view))
       (noted_on a (idle b work) end (started_noted a b ends.file k may.away behind order.patches heard view work) more.own
       (λ x h. subst (IsOneOf x) (sym (link_left b ends.file work.from ends.sender work)) h))
 
@@ -153,7 +161,7 @@ module _ (a : Store) (behind : IsBehind a) (order : IntendsInOrder a) (heard : L
   -- ---- children and directories
 
   abbrev Plain : Done → Type 0
-  Plain d = FirstPart of_stores 0 a d.store heard × IsNoted a d
+  Plain d = IsPart a d.store heard × IsNoted a d
 
   told_place : (e : Entry) (work : Work) → Plain (take_told_place a e work)
   told_place e work =
@@ -165,7 +173,7 @@ module _ (a : Store) (behind : IsBehind a) (order : IntendsInOrder a) (heard : L
   told_flags e d k =
       let end = take_told_flags e d in
       let more = flags_alike e.flags d.store e.child d.work in (
-        before_alike d.store end.store more 0 heard a k.0,
+        before_alike d.store end.store more heard a k.0,
         noted_on a d end k.1 more.own (λ x h. subst (IsOneOf x) (sym (flags_left e.flags d.store e.child d.work)) h),
       )
 
@@ -178,7 +186,7 @@ module _ (a : Store) (behind : IsBehind a) (order : IntendsInOrder a) (heard : L
       (plainly a heard (place_told dir e.child end) k.0 (noted_on a end (place_told dir e.child end) k.1 (λ f. refl) (λ x h. h))) (idle_first a behind heard view _)
 
   place_is_first : (dir : FileId) (e : Entry) (work : Work) → heard.says ≡ Told PlaceIs dir e.child e.place
-      → ((q : Place) → of_stores.cell a dir e.child ≡ Some q → q.stamp ≡ e.place.stamp → q ≡ e.place) → First (place_is a dir e work)
+      → ((q : Place) → of_places.cell a dir e.child ≡ Some q → q.stamp ≡ e.place.stamp → q ≡ e.place) → First (place_is a dir e work)
   place_is_first dir e work said one =
       let took = take_entry_noted a dir e work in
       chosen First (is_held a dir) (confirmed dir e took) (idle a work)
@@ -212,19 +220,19 @@ module _ (a : Store) (behind : IsBehind a) (order : IntendsInOrder a) (heard : L
     told_at None is q h = absurd (false≢true is)
     told_at (Some i) is q h = told_of i is q h
 
-    patch_by : (d c : FileId) (q : Place) (t : Bool) → (is_same_file d dir && is_same_file c child) ≡ t → of_stores.patch a d c ≡ Some q → is_told (intent_at a.intents Key) stamp work.from ≡ true
-        → AtLeast of_stores q.stamp (of_stores.patch Ended d c) ⊎ (heard.says ≡ TellOk d c q.stamp)
+    patch_by : (d c : FileId) (q : Place) (t : Bool) → (is_same_file d dir && is_same_file c child) ≡ t → of_places.patch a d c ≡ Some q → is_told (intent_at a.intents Key) stamp work.from ≡ true
+        → AtLeast of_places q.stamp (of_places.patch Ended d c) ⊎ (heard.says ≡ TellOk d c q.stamp)
     patch_by d c q false s h is =
         inl (q, ap patch_place (ended_found a.intents Key (intent_key.Patch d c)) ∙ ap (λ t. patch_place (cond t None (intent_at a.intents (intent_key.Patch d c)))) s ∙ h, inl refl)
     patch_by d c q true s h is =
         let both = and_parts (is_same_file d dir) (is_same_file c child) s in
         let dir_is = is_same_file-true d dir both.0 in
         let child_is = is_same_file-true c child both.1 in
-        let here : of_stores.patch a dir child ≡ Some q = sym (ap (λ x. of_stores.patch a x child) dir_is) ∙ sym (ap (of_stores.patch a d) child_is) ∙ h in
+        let here : of_places.patch a dir child ≡ Some q = sym (ap (λ x. of_places.patch a x child) dir_is) ∙ sym (ap (of_places.patch a d) child_is) ∙ h in
         let stamp_is = told_at (intent_at a.intents Key) is q here in
         inr (said ∙ ap (λ t. TellOk dir child t) (sym stamp_is) ∙ ap (λ x. TellOk dir x q.stamp) (sym child_is) ∙ ap (λ x. TellOk x c q.stamp) (sym dir_is))
 
-    confirms_on : (d c : FileId) → of_stores.Confirms a d c → of_stores.Confirms Ended d c
+    confirms_on : (d c : FileId) → of_places.Confirms a d c → of_places.Confirms Ended d c
     confirms_on d c h =
         let q = intent_key.Confirm d c in
         stands_is (ended a.intents Key) q ∙ ap is_some (ended_found a.intents Key q) ∙ sym (stands_is a.intents q) ∙ h
@@ -232,7 +240,7 @@ module _ (a : Store) (behind : IsBehind a) (order : IntendsInOrder a) (heard : L
     ended_first : is_told (intent_at a.intents Key) stamp work.from ≡ true → First (idle Ended work)
     ended_first is =
         plainly a heard (idle Ended work)
-        (calm_first of_stores 0 a Ended heard (record {
+        (λ least. calm_first of_places least a Ended heard (record {
           hears = inr view;
           view = refl;
           own = λ f. refl;
@@ -253,36 +261,31 @@ module _ (a : Store) (behind : IsBehind a) (order : IntendsInOrder a) (heard : L
       let b = with_intents a (aimed a.intents q (next_target a work.from)) in
       chosen (λ (x : Store). First (idle x work)) (does_ask (intent_at a.intents q) work.from) b a (alike (idle b work) (aimed_alike a q (next_target a work.from))) (idle_first a behind heard view work)
 
-  -- what PlaceIs says is the place that the directory has with that stamp
-  abbrev pub IsOne : Message → Type 0
-  IsOne (message.PlaceIs dir e) = (q : Place) → of_stores.cell a dir e.child ≡ Some q → q.stamp ≡ e.place.stamp → q ≡ e.place
-  IsOne _ = Unit {0}
-
   -- A MESSAGE
-  pub receive_first : (m : Message) (work : Work) → heard.says ≡ says m → IsOne m → First (receive a m work)
-  receive_first (message.Cell ends tag c) work said one = cell_first ends tag c work said
-  receive_first (message.Ack ends key tag) work said one = alike _ (alike_by a _ refl refl)
-  receive_first (message.Harbinger ends tag head) work said one = idle_first a behind heard view work
-  receive_first (message.Want ends wanted) work said one = idle_first a behind heard view work
-  receive_first (message.Delta ends delta) work said one = idle_first a behind heard view work
-  receive_first (message.Piece ends piece) work said one = idle_first a behind heard view work
-  receive_first (message.Later ends stamp) work said one = idle_first a behind heard view work
-  receive_first (message.Fetch file birth) work said one = fetch_first file birth work
-  receive_first (message.Grant ends granted) work said one = grant_first ends granted work
-  receive_first (message.NoGrant file birth) work said one = no_grant_first file birth work
-  receive_first (message.Full ends) work said one = full_first ends work
-  receive_first (message.Seek file birth) work said one = seek_first file birth work
-  receive_first (message.Here ends) work said one = here_first ends work
-  receive_first (message.NoneHere what file child) work said one = none_here_first what file child work
-  receive_first (message.Gone file birth) work said one = alike _ (unlink_alike a file work.from birth)
-  receive_first (message.Bye ends) work said one = idle_first a behind heard view work
-  receive_first (message.ByeOk file birth) work said one = idle_first a behind heard view work
-  receive_first (message.Confirm dir e) work said one = confirm_first dir e work
-  receive_first (message.PlaceIs dir e) work said one = place_is_first dir e work said one
-  receive_first (message.Tell dir e) work said one = tell_first dir e work said
-  receive_first (message.TellOk dir child stamp) work said one = tell_ok_first dir child stamp work said
-  receive_first (message.Leave ends stamp) work said one = idle_first a behind heard view work
-  receive_first (message.LeaveOk ends stamp) work said one = idle_first a behind heard view work
-  receive_first (message.Invite ends) work said one = idle_first a behind heard view work
-  receive_first (message.Walk ends origin birth hops word) work said one = walk_first ends origin birth hops word work
-  receive_first (message.Meet ends) work said one = here_first ends work
+  pub receive_first : (z : Store) (m : Message) (work : Work) → heard.says ≡ says z m → IsOne a z m → First (receive a m work)
+  receive_first z (message.Cell ends tag c) work said one = cell_first ends tag c work said
+  receive_first z (message.Ack ends key tag) work said one = alike _ (alike_by a _ refl refl)
+  receive_first z (message.Harbinger ends tag head) work said one = idle_first a behind heard view work
+  receive_first z (message.Want ends wanted) work said one = idle_first a behind heard view work
+  receive_first z (message.Delta ends delta) work said one = idle_first a behind heard view work
+  receive_first z (message.Piece ends piece) work said one = idle_first a behind heard view work
+  receive_first z (message.Later ends stamp) work said one = idle_first a behind heard view work
+  receive_first z (message.Fetch file birth) work said one = fetch_first file birth work
+  receive_first z (message.Grant ends granted) work said one = grant_first ends granted work
+  receive_first z (message.NoGrant file birth) work said one = no_grant_first file birth work
+  receive_first z (message.Full ends) work said one = full_first ends work
+  receive_first z (message.Seek file birth) work said one = seek_first file birth work
+  receive_first z (message.Here ends) work said one = here_first ends work
+  receive_first z (message.NoneHere what file child) work said one = none_here_first what file child work
+  receive_first z (message.Gone file birth) work said one = alike _ (unlink_alike a file work.from birth)
+  receive_first z (message.Bye ends) work said one = alike _ (unlink_alike a ends.file work.from ends.sender)
+  receive_first z (message.ByeOk file birth) work said one = bye_ok_first a behind order heard view file birth work
+  receive_first z (message.Confirm dir e) work said one = confirm_first dir e work
+  receive_first z (message.PlaceIs dir e) work said one = place_is_first dir e work said one
+  receive_first z (message.Tell dir e) work said one = tell_first dir e work said
+  receive_first z (message.TellOk dir child stamp) work said one = tell_ok_first dir child stamp work said
+  receive_first z (message.Leave ends stamp) work said one = leave_first a behind order heard view ends stamp work
+  receive_first z (message.LeaveOk ends stamp) work said one = leave_ok_first a behind order heard view ends stamp work (place_of z ends.file) said one
+  receive_first z (message.Invite ends) work said one = alike (invite a ends work) (invite_alike a ends work)
+  receive_first z (message.Walk ends origin birth hops word) work said one = walk_first ends origin birth hops word work
+  receive_first z (message.Meet ends) work said one = here_first ends work

@@ -1,17 +1,23 @@
 -- What each handler says, it may say: the place that a child has, and that a directory was told.
-use Rattle.std.proofs.Common.{ℕ, ◌≡◌, true, [], ◌∷◌, Some, refl, sym, ap, subst, ◌∙◌, inl, inr}
+use Rattle.std.proofs.Common.{ℕ, ◌≡◌, ◌&&◌, true, [], ◌∷◌, Some, refl, sym, ap, subst, ◌∙◌, inl, inr}
+use Rattle.std.proofs.lemmas.Bool.{and_parts}
 use Rattle.std.proofs.lemmas.List.Elements.{All-append, All-cons, All-nil}
 use Rattle.pg_base.specs.declared.id.FileId.{FileId}
+use Rattle.pg_base.specs.declared.stamp.Stamp.{Stamp}
+use Rattle.pg_calls.proofs.Walked.{full_held}
+use Rattle.pg_content.proofs.Stamps.{same_stamp}
 use Rattle.pg_entries.specs.declared.entry.Entry.{Entry}
 use Rattle.pg_house.specs.Work.{is_root}
 use Rattle.pg_listing.specs.Protocol.{IsUpTo}
 use Rattle.pg_listing.specs.World.Saying.{Told}
 use Rattle.pg_listing.specs.World.Way.{PlaceIs}
+use Rattle.pg_msg.specs.declared.message.Ends.{Ends}
 use Rattle.pg_msg.specs.declared.message.Message.{Message}
 use Rattle.pg_msg.specs.declared.message.Message.TheVariants as message
-use Rattle.pg_msg.specs.declared.message.Sent.{Sent}
 use Rattle.pg_msg.specs.declared.work.Work.{Work}
 use Rattle.pg_msg.specs.Work.{new_work}
+use Rattle.pg_names.specs.declared.own.Own.{Own}
+use Rattle.pg_names.specs.Same.{is_same_stamp}
 use Rattle.pg_names.specs.Names.{or_blank, own_at, own_or_blank}
 use Rattle.pg_promises.proofs.Choices.{chosen, decided}
 use Rattle.pg_register.specs.declared.place.Place.{Place}
@@ -19,32 +25,35 @@ use Rattle.pg_server.specs.Local.{receive}
 use Rattle.pg_settled.specs.Listing.{cell_place}
 use Rattle.pg_settled.proofs.Seen.{own_is}
 use Rattle.pg_store.specs.declared.store.Store.{Store}
-use Rattle.pg_store.specs.Store.{is_held}
+use Rattle.pg_store.specs.Servers.{view_of}
+use Rattle.pg_store.specs.Store.{is_full, is_held}
 use Rattle.pg_cells.specs.Done.{Done, idle}
 use Rattle.pg_cells.specs.declared.accepting.Manner.TheVariants as manner
-use Rattle.pg_cells.specs.Posting.{post, sent_to}
+use Rattle.pg_cells.specs.Accepting.{accept, ends_to, is_accepted}
+use Rattle.pg_cells.specs.Golds.{is_gold}
+use Rattle.pg_cells.specs.Posting.{post, reply, sent_to}
+use Rattle.pg_graph.specs.Leaving.{gives_leave, leave, leave_given, place_stamp}
 use Rattle.pg_cells.specs.Taking.{take_entry_noted, take_place_noted}
 use Rattle.pg_repair.specs.Confirming.{confirm, own_entry, place_told, take_told_flags, take_told_place}
 use Rattle.pg_repair.specs.Telling.{tell, told}
-use Rattle.pg_listed.specs.Letters.{Letter, of_stores, says}
+use Rattle.pg_listed.specs.Letters.{Letter, of_stores, place_of, says}
 use Rattle.pg_listed.proofs.Heard.{IsBehind, none_later}
 use Rattle.pg_listed.proofs.Joined.{told_then}
-use Rattle.pg_listed.proofs.Others.{SendsOthers, accept_others, cell_others, entry_others, fetch_others, full_others, grant_others, none, place_is_others, seek_others, told_others, walk_others}
+use Rattle.pg_listed.proofs.Alike.{Alike}
+use Rattle.pg_listed.proofs.Others.{accept_others, cell_others, entry_others, fetch_others, full_others, grant_others, invite_others, place_is_others, seek_others, told_others, walk_others}
 use Rattle.pg_listed.proofs.Placed.{cell_then, grows_then, removed_then}
-use Rattle.pg_listed.proofs.Steps.{MaySay, WorkSays, others_say}
-use Rattle.pg_listed.proofs.Unseen.{flags_alike}
+use Rattle.pg_listed.proofs.Plain.{IsStamped, SendsOthers, bye_others, leave_ok_others, none}
+use Rattle.pg_listed.proofs.Steps.{IsToldWell, MaySay, Says, WorkSays, others_say}
+use Rattle.pg_listed.proofs.Unseen.{accept_alike, accept_server, flags_alike}
 use Rattle.pg_listed.proofs.Views.{held_holds}
 
-abbrev Says : Store → Sent → Type 0
-Says m x = MaySay m (says x.packet.message)
-
 -- one message behind others
-one_more : (a m : Store) (work : Work) (to : ℕ) (x : Message) → SendsOthers work → MaySay m (says x) → WorkSays m (post a to x work)
-one_more a m work to x others h =
-    let rest = others_say m work others in
-    (All-append (Says m) work.sent (sent_to a to x ∷ []) rest.0 (All-cons (Says m) (sent_to a to x) [] h (All-nil (Says m))), rest.1)
+one_more : (z a m : Store) (work : Work) (to : ℕ) (x : Message) → SendsOthers work → MaySay m (says z x) × IsStamped z a.names.server x → WorkSays z m (post a to x work)
+one_more z a m work to x others h =
+    let rest = others_say z m work others in
+    (All-append (Says z m) work.sent (sent_to a to x ∷ []) rest.0 (All-cons (Says z m) (sent_to a to x) [] h (All-nil (Says z m))), rest.1)
 
-module _ (a : Store) (behind : IsBehind a) (heard : Letter) (view : heard.view ≡ 0) (from : ℕ) where
+module _ (a : Store) (behind : IsBehind a) (heard : Letter) (view : heard.view ≡ view_of a) (from : ℕ) where
   abbrev W : Work
   W = new_work 0 from
 
@@ -92,47 +101,97 @@ module _ (a : Store) (behind : IsBehind a) (heard : Letter) (view : heard.view �
               (λ x p cell. sym (told_from.cells x e.child) ∙ cell) q.1 (subst (IsUpTo of_stores q.0) (sym is) r.2) now),
         )
 
-    confirm_held : WorkSays (place_told dir e.child End).store (place_told dir e.child End).work
+    confirm_held : WorkSays a (place_told dir e.child End).store (place_told dir e.child End).work
     confirm_held =
-        one_more End.store End.store End.work End.work.from (message.PlaceIs dir (own_entry End.store e.child)) (told_others a e W none) child_says
+        one_more a End.store End.store End.work End.work.from (message.PlaceIs dir (own_entry End.store e.child)) (told_others a e W none) (child_says, tt)
 
-  confirm_says : (dir : FileId) (e : Entry) → WorkSays (confirm a dir e W).store (confirm a dir e W).work
+  confirm_says : (dir : FileId) (e : Entry) → WorkSays a (confirm a dir e W).store (confirm a dir e W).work
   confirm_says dir e =
-      decided (λ (d : Done). WorkSays d.store d.work) (is_held a e.child) (place_told dir e.child (take_told_flags e (take_told_place a e W))) _
-      (confirm_held dir e) (λ away. one_more a a W from _ none tt)
+      decided (λ (d : Done). WorkSays a d.store d.work) (is_held a e.child) (place_told dir e.child (take_told_flags e (take_told_place a e W))) _
+      (confirm_held dir e) (λ away. one_more a a a W from _ none (tt, tt))
 
-  tell_says : (dir : FileId) (e : Entry) → WorkSays (tell a dir e W).store (tell a dir e W).work
+  tell_says : (dir : FileId) (e : Entry) → WorkSays a (tell a dir e W).store (tell a dir e W).work
   tell_says dir e =
       let took = take_entry_noted a dir e W in
-      decided (λ (d : Done). WorkSays d.store d.work) (is_held a dir) (told dir e took) _
-      (λ held. one_more took.store took.store took.work took.work.from (message.TellOk dir e.child e.place.stamp) (entry_others a dir e W none) (told_then a dir e held))
-      (λ away. one_more a a W from _ none tt)
+      decided (λ (d : Done). WorkSays a d.store d.work) (is_held a dir) (told dir e took) _
+      (λ held. one_more a took.store took.store took.work took.work.from (message.TellOk dir e.child e.place.stamp) (entry_others a dir e W none) (told_then a dir e held, tt))
+      (λ away. one_more a a a W from _ none (tt, tt))
+
+  -- ---- leave is given
+
+  module _ (ends : Ends) (stamp : Stamp) (given : gives_leave (accept a ends manner.Link W).store ends.file stamp ≡ true) where
+    abbrev Met : Done
+    Met = accept a ends manner.Link W
+
+    abbrev F : FileId
+    F = ends.file
+
+    met : Alike a Met.store
+    met = accept_alike a ends manner.Link W
+
+    parts : (is_full Met.store F ≡ true) × ((is_gold Met.store F && is_same_stamp (place_stamp Met.store F) stamp) ≡ true)
+    parts = and_parts (is_full Met.store F) (is_gold Met.store F && is_same_stamp (place_stamp Met.store F) stamp) given
+
+    -- the thing is held with the place that it had, which has the stamp
+    own : (o : Own) × (own_at a.names F ≡ Some o) × ((of_stores.own Met.store F ≡ Some o.place) × (o.place.stamp ≡ stamp))
+    own =
+        let now = held_holds Met.store F (full_held Met.store.names F parts.0) in
+        let was = own_is (own_at a.names F) now.0 (sym (met.own F) ∙ now.1) in
+        let o = own_is (own_at Met.store.names F) now.0 now.1 in
+        let is : (own_or_blank Met.store.names F).place ≡ now.0 = ap (λ x. (or_blank F x).place) o.1 ∙ o.2 in
+        let same = same_stamp (place_stamp Met.store F) stamp (and_parts (is_gold Met.store F) (is_same_stamp (place_stamp Met.store F) stamp) parts.1).1 in (
+          was.0,
+          was.1,
+          (now.1 ∙ ap (λ (p : Place). Some p) (sym was.2), ap (λ (p : Place). p.stamp) (was.2 ∙ sym is) ∙ same),
+        )
+
+    told_is : place_of a F ≡ own.0.place
+    told_is = ap (λ x. (or_blank F x).place) own.1
+
+    told_well : (d : FileId) → IsToldWell Met.store d F (place_of a F)
+    told_well d = λ in_.
+        let now : of_stores.own Met.store F ≡ Some (place_of a F) = own.2.0 ∙ ap (λ (p : Place). Some p) (sym told_is) in
+        let was : of_stores.own a F ≡ Some (place_of a F) = sym (met.own F) ∙ now in
+        (now, inr (none_later a behind heard view Met.store F (place_of a F) (place_of a F) met.removed (λ x p cell. sym (met.cells x F) ∙ cell) was (inl refl) now))
+
+    given_says : WorkSays a Met.store (reply Met.store (message.LeaveOk (ends_to Met.store F ends.sender) stamp) Met.work)
+    given_says =
+        one_more a Met.store Met.store Met.work Met.work.from (message.LeaveOk (ends_to Met.store F ends.sender) stamp)
+        (accept_others a ends manner.Link W none) ((refl, told_well), (accept_server a ends manner.Link W, (own.0, own.1, own.2.1)))
+
+  leave_says : (ends : Ends) (stamp : Stamp) → WorkSays a (leave a ends stamp W).store (leave a ends stamp W).work
+  leave_says ends stamp =
+      let m = accept a ends manner.Link W in
+      let plain = others_say a m.store m.work (accept_others a ends manner.Link W none) in
+      let given = reply m.store (message.LeaveOk (ends_to m.store ends.file ends.sender) stamp) m.work in
+      chosen (λ (d : Done). WorkSays a d.store d.work) (is_accepted a from manner.Link ends) (leave_given ends stamp m) m
+      (decided (λ (w : Work). WorkSays a m.store w) (gives_leave m.store ends.file stamp) given m.work (given_says ends stamp) (λ no. plain)) plain
 
   -- A MESSAGE
-  pub receive_says : (m : Message) → WorkSays (receive a m W).store (receive a m W).work
-  receive_says (message.Cell ends tag c) = (let d = receive a (message.Cell ends tag c) W in others_say d.store d.work (cell_others a ends tag c W none))
-  receive_says (message.Ack ends key tag) = (let d = receive a (message.Ack ends key tag) W in others_say d.store d.work none)
-  receive_says (message.Harbinger ends tag head) = (let d = receive a (message.Harbinger ends tag head) W in others_say d.store d.work none)
-  receive_says (message.Want ends wanted) = (let d = receive a (message.Want ends wanted) W in others_say d.store d.work none)
-  receive_says (message.Delta ends delta) = (let d = receive a (message.Delta ends delta) W in others_say d.store d.work none)
-  receive_says (message.Piece ends piece) = (let d = receive a (message.Piece ends piece) W in others_say d.store d.work none)
-  receive_says (message.Later ends stamp) = (let d = receive a (message.Later ends stamp) W in others_say d.store d.work none)
-  receive_says (message.Fetch file birth) = (let d = receive a (message.Fetch file birth) W in others_say d.store d.work (fetch_others a file birth W none))
-  receive_says (message.Grant ends granted) = (let d = receive a (message.Grant ends granted) W in others_say d.store d.work (grant_others a ends granted W none))
-  receive_says (message.NoGrant file birth) = (let d = receive a (message.NoGrant file birth) W in others_say d.store d.work none)
-  receive_says (message.Full ends) = (let d = receive a (message.Full ends) W in others_say d.store d.work (full_others a ends W none))
-  receive_says (message.Seek file birth) = (let d = receive a (message.Seek file birth) W in others_say d.store d.work (seek_others a file birth W none))
-  receive_says (message.Here ends) = (let d = receive a (message.Here ends) W in others_say d.store d.work (accept_others a ends manner.Link W none))
-  receive_says (message.NoneHere what file child) = (let d = receive a (message.NoneHere what file child) W in others_say d.store d.work none)
-  receive_says (message.Gone file birth) = (let d = receive a (message.Gone file birth) W in others_say d.store d.work none)
-  receive_says (message.Bye ends) = (let d = receive a (message.Bye ends) W in others_say d.store d.work none)
-  receive_says (message.ByeOk file birth) = (let d = receive a (message.ByeOk file birth) W in others_say d.store d.work none)
+  pub receive_says : (m : Message) → WorkSays a (receive a m W).store (receive a m W).work
+  receive_says (message.Cell ends tag c) = (let d = receive a (message.Cell ends tag c) W in others_say a d.store d.work (cell_others a ends tag c W none))
+  receive_says (message.Ack ends key tag) = (let d = receive a (message.Ack ends key tag) W in others_say a d.store d.work none)
+  receive_says (message.Harbinger ends tag head) = (let d = receive a (message.Harbinger ends tag head) W in others_say a d.store d.work none)
+  receive_says (message.Want ends wanted) = (let d = receive a (message.Want ends wanted) W in others_say a d.store d.work none)
+  receive_says (message.Delta ends delta) = (let d = receive a (message.Delta ends delta) W in others_say a d.store d.work none)
+  receive_says (message.Piece ends piece) = (let d = receive a (message.Piece ends piece) W in others_say a d.store d.work none)
+  receive_says (message.Later ends stamp) = (let d = receive a (message.Later ends stamp) W in others_say a d.store d.work none)
+  receive_says (message.Fetch file birth) = (let d = receive a (message.Fetch file birth) W in others_say a d.store d.work (fetch_others a file birth W none))
+  receive_says (message.Grant ends granted) = (let d = receive a (message.Grant ends granted) W in others_say a d.store d.work (grant_others a ends granted W none))
+  receive_says (message.NoGrant file birth) = (let d = receive a (message.NoGrant file birth) W in others_say a d.store d.work none)
+  receive_says (message.Full ends) = (let d = receive a (message.Full ends) W in others_say a d.store d.work (full_others a ends W none))
+  receive_says (message.Seek file birth) = (let d = receive a (message.Seek file birth) W in others_say a d.store d.work (seek_others a file birth W none))
+  receive_says (message.Here ends) = (let d = receive a (message.Here ends) W in others_say a d.store d.work (accept_others a ends manner.Link W none))
+  receive_says (message.NoneHere what file child) = (let d = receive a (message.NoneHere what file child) W in others_say a d.store d.work none)
+  receive_says (message.Gone file birth) = (let d = receive a (message.Gone file birth) W in others_say a d.store d.work none)
+  receive_says (message.Bye ends) = (let d = receive a (message.Bye ends) W in others_say a d.store d.work (bye_others a ends W none))
+  receive_says (message.ByeOk file birth) = (let d = receive a (message.ByeOk file birth) W in others_say a d.store d.work none)
   receive_says (message.Confirm dir e) = confirm_says dir e
-  receive_says (message.PlaceIs dir e) = (let d = receive a (message.PlaceIs dir e) W in others_say d.store d.work (place_is_others a dir e W none))
+  receive_says (message.PlaceIs dir e) = (let d = receive a (message.PlaceIs dir e) W in others_say a d.store d.work (place_is_others a dir e W none))
   receive_says (message.Tell dir e) = tell_says dir e
-  receive_says (message.TellOk dir child stamp) = (let d = receive a (message.TellOk dir child stamp) W in others_say d.store d.work none)
-  receive_says (message.Leave ends stamp) = (let d = receive a (message.Leave ends stamp) W in others_say d.store d.work none)
-  receive_says (message.LeaveOk ends stamp) = (let d = receive a (message.LeaveOk ends stamp) W in others_say d.store d.work none)
-  receive_says (message.Invite ends) = (let d = receive a (message.Invite ends) W in others_say d.store d.work none)
-  receive_says (message.Walk ends origin birth hops word) = (let d = receive a (message.Walk ends origin birth hops word) W in others_say d.store d.work (walk_others a ends origin birth hops word W none))
-  receive_says (message.Meet ends) = (let d = receive a (message.Meet ends) W in others_say d.store d.work (accept_others a ends manner.Link W none))
+  receive_says (message.TellOk dir child stamp) = (let d = receive a (message.TellOk dir child stamp) W in others_say a d.store d.work none)
+  receive_says (message.Leave ends stamp) = leave_says ends stamp
+  receive_says (message.LeaveOk ends stamp) = (let d = receive a (message.LeaveOk ends stamp) W in others_say a d.store d.work (leave_ok_others a ends stamp W none))
+  receive_says (message.Invite ends) = (let d = receive a (message.Invite ends) W in others_say a d.store d.work (invite_others a ends W none))
+  receive_says (message.Walk ends origin birth hops word) = (let d = receive a (message.Walk ends origin birth hops word) W in others_say a d.store d.work (walk_others a ends origin birth hops word W none))
+  receive_says (message.Meet ends) = (let d = receive a (message.Meet ends) W in others_say a d.store d.work (accept_others a ends manner.Link W none))

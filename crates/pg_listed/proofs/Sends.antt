@@ -44,15 +44,16 @@ use Rattle.pg_cells.specs.Sending.{Wanted, cell_to, cell_under, cells_where, edg
 use Rattle.pg_repair.specs.Intending.{pieces}
 use Rattle.pg_repair.specs.Requests.{asked_of, asks, asks_by, confirm_message, leave_message, request}
 use Rattle.pg_listed.specs.Letters.{of_stores, patch_place, says, told_by}
-use Rattle.pg_listed.proofs.Others.{IsOther, Others}
+use Rattle.pg_listed.proofs.Plain.{IsOther, IsSentStamped, IsStamped, Others}
 
-module _ (b : Store) where
-  -- by what the server is
-  abbrev pub May : Message → Type 0
-  May m = MaySend of_stores b (says m)
+-- the server held a before the event, and b behind it
+module _ (a b : Store) where
+  -- by what the server was and is
+  abbrev May : Message → Type 0
+  May m = MaySend of_stores b (says a m) × ((from : ℕ) → IsStamped a from m)
 
   abbrev pub MaySent : Sent → Type 0
-  MaySent m = May m.packet.message
+  MaySent x = MaySend of_stores b (says a x.packet.message) × IsSentStamped a x
 
   abbrev pub AllMay : List Sent → Type 0
   AllMay ms = All MaySent ms
@@ -62,7 +63,7 @@ module _ (b : Store) where
 
   -- what tells of no place may be sent
   pub others_may : (ms : List Sent) → Others ms → AllMay ms
-  others_may ms h = All-weaker IsOther MaySent (λ m other. subst (MaySend of_stores b) (sym other) tt) ms h
+  others_may ms h = All-weaker IsOther MaySent (λ m other. (subst (MaySend of_stores b) (sym (other a m.packet.from).0) tt, (other a m.packet.from).1)) ms h
 
   -- ---- cells
 
@@ -103,7 +104,7 @@ module _ (b : Store) where
 
     under_may : (f : FileId) (birth : ℕ) (e : Edge) (q : Key) (tag : ℕ) (o : Option Cell) → cell_at b f q ≡ o → AllMay (cell_under b f birth e tag o)
     under_may f birth e q tag None h = none
-    under_may f birth e q tag (Some c) h = All-cons MaySent (cell_to b f birth e c tag) [] (cell_may f q c h) none
+    under_may f birth e q tag (Some c) h = All-cons MaySent (cell_to b f birth e c tag) [] (cell_may f q c h, tt) none
 
     key_may : (f : FileId) (birth : ℕ) (e : Edge) (q : Key × ℕ) → AllMay (key_cell b f birth e q)
     key_may f birth e q = chosen AllMay (waits b f e q.0) [] (cell_under b f birth e q.1 (cell_at b f q.0)) none (under_may f birth e q.0 q.1 (cell_at b f q.0) refl)
@@ -123,24 +124,24 @@ module _ (b : Store) where
 
   confirm_may : (dir : FileId) (o : Option Entry) (m : Message) → confirm_message dir o ≡ Some m → May m
   confirm_may dir None m h = absurd (none-some m h)
-  confirm_may dir (Some e) m h = subst May (same_Some (message.Confirm dir e) m h) tt
+  confirm_may dir (Some e) m h = subst May (same_Some (message.Confirm dir e) m h) (tt, λ from. tt)
 
   leave_may : (f : FileId) (peer : ℕ) (o : Option Own) (m : Message) → leave_message b f peer o ≡ Some m → May m
   leave_may f peer None m h = absurd (none-some m h)
-  leave_may f peer (Some own) m h = subst May (same_Some _ m h) tt
+  leave_may f peer (Some own) m h = subst May (same_Some _ m h) (tt, λ from. tt)
 
   -- of one that is found by its key
   request_may : (i : Intent) → intent_at b.intents (key_of i) ≡ Some i → (m : Message) → request b i ≡ Some m → May m
-  request_may (intent.Bye f birth peer other) found m h = subst May (same_Some _ m h) tt
-  request_may (intent.Seek f target) found m h = subst May (same_Some _ m h) tt
-  request_may (intent.Fill f birth target) found m h = subst May (same_Some _ m h) tt
-  request_may (intent.Patch d e target) found m h = subst May (same_Some (message.Tell d e) m h) (ap patch_place found)
+  request_may (intent.Bye f birth peer other) found m h = subst May (same_Some _ m h) (tt, λ from. tt)
+  request_may (intent.Seek f target) found m h = subst May (same_Some _ m h) (tt, λ from. tt)
+  request_may (intent.Fill f birth target) found m h = subst May (same_Some _ m h) (tt, λ from. tt)
+  request_may (intent.Patch d e target) found m h = subst May (same_Some (message.Tell d e) m h) (ap patch_place found, λ from. tt)
   request_may (intent.Confirm d c target) found m h = confirm_may d (entry_at b.names d c) m h
   request_may (intent.Leave f peer other) found m h = leave_may f other (own_at b.names f) m h
 
   asked_may : (to : ℕ) (o : Option Message) → ((m : Message) → o ≡ Some m → May m) → AllMay (asked_of b to o)
   asked_may to None may = none
-  asked_may to (Some m) may = All-cons MaySent (sent_to b to m) [] (may m refl) none
+  asked_may to (Some m) may = (let k = may m refl in All-cons MaySent (sent_to b to m) [] (k.0, k.1 (sent_to b to m).packet.from) none)
 
   asks_may : (i : Intent) → intent_at b.intents (key_of i) ≡ Some i → AllMay (asks b i)
   asks_may i found = chosen AllMay (target_of i == 0) [] (asked_of b (target_of i) (request b i)) none (asked_may (target_of i) (request b i) (request_may i found))
@@ -177,10 +178,10 @@ all_found (i ∷ is) h = (
   found_behind i is is h.0 (all_found is h.1),
 )
 
-module _ (b : Store) where
-  each_may : (is : List Intent) → AreFound b.intents is → AllMay b (flat_map (asks b) is)
-  each_may [] h = All-nil (MaySent b)
-  each_may (i ∷ is) h = All-append (MaySent b) (asks b i) (flat_map (asks b) is) (asks_may b i h.0) (each_may is h.1)
+module _ (a b : Store) where
+  each_may : (is : List Intent) → AreFound b.intents is → AllMay a b (flat_map (asks b) is)
+  each_may [] h = All-nil (MaySent a b)
+  each_may (i ∷ is) h = All-append (MaySent a b) (asks b i) (flat_map (asks b) is) (asks_may a b i h.0) (each_may is h.1)
 
-  pub all_may : HaveOwnKeys b.intents → AllMay b (flat_map (asks b) b.intents)
+  pub all_may : HaveOwnKeys b.intents → AllMay a b (flat_map (asks b) b.intents)
   all_may own = each_may b.intents (all_found b.intents own)

@@ -43,7 +43,8 @@ use Rattle.pg_store.specs.declared.store.Store.{Store}
 use Rattle.pg_store.specs.Servers.{first_target}
 use Rattle.pg_store.specs.Store.{is_held}
 use Rattle.pg_cells.specs.Done.{Done, idle}
-use Rattle.pg_listed.specs.Letters.{of_stores, patch_place}
+use Rattle.pg_listed.specs.Letters.{patch_place}
+use Rattle.pg_listed.proofs.Places.{of_places}
 use Rattle.pg_listed.proofs.Slots.{gone_through}
 use Rattle.pg_listed.proofs.Views.{ordered}
 
@@ -70,11 +71,11 @@ later_by q x y false s low = elim (at_most y.stamp x.stamp (is_before-false x.st
 newer_above : (q x y : Place) → is_before q.stamp y.stamp ≡ true → is_before q.stamp (newer_place x y).stamp ≡ true
 newer_above q x y low = later_by q x y (is_before x.stamp y.stamp) refl low
 
-newer_least_by : (x y : Place) (t : Bool) → is_before x.stamp y.stamp ≡ t → AtMost of_stores x.stamp (cond t y x).stamp
+newer_least_by : (x y : Place) (t : Bool) → is_before x.stamp y.stamp ≡ t → AtMost of_places x.stamp (cond t y x).stamp
 newer_least_by x y true s = inr s
 newer_least_by x y false s = inl refl
 
-newer_least : (x y : Place) → AtMost of_stores x.stamp (newer_place x y).stamp
+newer_least : (x y : Place) → AtMost of_places x.stamp (newer_place x y).stamp
 newer_least x y = newer_least_by x y (is_before x.stamp y.stamp) refl
 
 module _ (s : Store) (w : Work) (d c : FileId) where
@@ -88,7 +89,7 @@ module _ (s : Store) (w : Work) (d c : FileId) where
   abbrev Mine : Place
   Mine = (own_or_blank s.names c).place
 
-  above_by : (q : Place) (o : Option Intent) → intent_at s.intents Key ≡ o → is_before q.stamp Mine.stamp ≡ true → (e : Entry) (to : ℕ) → e.place ≡ Mine → Above of_stores q.stamp (patch_place (Some (begun_on o (intent.Patch d e to))))
+  above_by : (q : Place) (o : Option Intent) → intent_at s.intents Key ≡ o → is_before q.stamp Mine.stamp ≡ true → (e : Entry) (to : ℕ) → e.place ≡ Mine → Above of_places q.stamp (patch_place (Some (begun_on o (intent.Patch d e to))))
   above_by q None h low e to is = (e.place, refl, ap (λ (p : Place). is_before q.stamp p.stamp) is ∙ low)
   above_by q (Some (intent.Patch x y t)) h low e to is =
       (newer_place y.place e.place, refl, newer_above q y.place e.place (ap (λ (p : Place). is_before q.stamp p.stamp) is ∙ low))
@@ -99,7 +100,7 @@ module _ (s : Store) (w : Work) (d c : FileId) where
   above_by q (Some (intent.Leave f p m)) h low e to is = absurd (false≢true (found_key s.intents Key (intent.Leave f p m) h))
 
   -- a live place of the child in the directory was replaced: a later one is to be told
-  pub patch_begins : (q : Place) → IsLeft w d c → is_held s d ≡ false → is_before q.stamp Mine.stamp ≡ true → Above of_stores q.stamp (of_stores.patch End d c)
+  pub patch_begins : (q : Place) → IsLeft w d c → is_held s d ≡ false → is_before q.stamp Mine.stamp ≡ true → Above of_places q.stamp (of_places.patch End d c)
   patch_begins q left away low =
       let some = gone_through (record { dir = d; child = c }) w.left left in
       let is = ap patch_place (patched d c s w (sym (in_order_any d c w.left) ∙ some) away) in
@@ -124,15 +125,15 @@ module _ (s : Store) (w : Work) (d c : FileId) where
   held_stays held = behind_at d c s w ∙ held_each (in_order w.left) (end_others s (files_to_fill s.names)) w held ∙ ended_at d c s
 
   least_by : (q : Place) (x : FileId) (y : Entry) (t : ℕ) → intent_at s.intents Key ≡ Some (intent.Patch x y t) → y.place ≡ q → (some : Bool) → list_any (is_slot d c) w.left ≡ some
-      → (held : Bool) → is_held s d ≡ held → AtLeast of_stores q.stamp (of_stores.patch End d c)
+      → (held : Bool) → is_held s d ≡ held → AtLeast of_places q.stamp (of_places.patch End d c)
   least_by q x y t found is false none held h = (y.place, ap patch_place (unpatched d c s w none ∙ found), inl (sym (ap (λ (p : Place). p.stamp) is)))
   least_by q x y t found is true some true held = (y.place, ap patch_place (held_stays held ∙ found), inl (sym (ap (λ (p : Place). p.stamp) is)))
   least_by q x y t found is true some false away =
       let e = own_entry s c in
       let now = ap patch_place (patched d c s w some away ∙ ap (λ o. Some (begun_on o (intent.Patch d e (first_target s w.from)))) found) in
-      (newer_place y.place e.place, now, subst (λ (p : Place). AtMost of_stores p.stamp (newer_place y.place e.place).stamp) is (newer_least y.place e.place))
+      (newer_place y.place e.place, now, subst (λ (p : Place). AtMost of_places p.stamp (newer_place y.place e.place).stamp) is (newer_least y.place e.place))
 
-  pub patch_grows : (q : Place) → of_stores.patch s d c ≡ Some q → AtLeast of_stores q.stamp (of_stores.patch End d c)
+  pub patch_grows : (q : Place) → of_places.patch s d c ≡ Some q → AtLeast of_places q.stamp (of_places.patch End d c)
   patch_grows q h =
       let f = patch_found (intent_at s.intents Key) q h in
       least_by q f.0 f.1 f.2 f.3 f.4 (list_any (is_slot d c) w.left) refl (is_held s d) refl
@@ -186,7 +187,7 @@ module _ (s : Store) (w : Work) (d c : FileId) (doubt : is_doubtful s d c ≡ tr
   each_keeps [] t v h = h
   each_keeps (x ∷ xs) t v h = each_keeps xs (begin_confirm t x v).store (begin_confirm t x v).work (confirm_keeps t x v h)
 
-  pub still_asked : of_stores.Confirms s d c → of_stores.Confirms (begin_end s w).store d c
+  pub still_asked : of_places.Confirms s d c → of_places.Confirms (begin_end s w).store d c
   still_asked h =
       stands_is (begin_end s w).store.intents Asked
       ∙ each_keeps (in_order Three.work.unsure) Three.store Three.work (ap is_some three_is ∙ sym (stands_is s.intents Asked) ∙ h)
@@ -214,7 +215,7 @@ module _ (s : Store) (w : Work) (d c : FileId) (doubt : is_doubtful s d c ≡ tr
       begins_by x xs t v (is_slot d c x) refl some here
       (λ more. each_begins xs (begin_confirm t x v).store (begin_confirm t x v).work more (ap (λ n. is_doubtful_in n d c) (confirm_stays t x v).names ∙ here))
 
-  pub newly_asked : IsOneOf {A = Slot} (record { dir = d; child = c }) w.unsure → of_stores.Confirms (begin_end s w).store d c
+  pub newly_asked : IsOneOf {A = Slot} (record { dir = d; child = c }) w.unsure → of_places.Confirms (begin_end s w).store d c
   newly_asked noted_here =
       let some = ap (λ xs. list_any (is_slot d c) (in_order xs)) three_stays.unsure ∙ gone_through (record { dir = d; child = c }) w.unsure noted_here in
       stands_is (begin_end s w).store.intents Asked

@@ -1,5 +1,5 @@
 -- The first part of a step by which a thing becomes held, and gets a place.
-use Rattle.std.proofs.Common.{ℕ, ◌≡◌, Bool, false, Option, None, Some, refl, sym, ap, ◌∙◌, inl, inr, ◌⊎◌}
+use Rattle.std.proofs.Common.{ℕ, ◌≡◌, Bool, false, length, List, Option, None, Some, refl, sym, ap, ◌∙◌, inl, inr, ◌⊎◌}
 use Rattle.std.proofs.lemmas.Option.{none-some, same_Some}
 use Rattle.pg_base.specs.declared.id.FileId.{FileId}
 use Rattle.pg_base.specs.declared.policy.Policy.{Policy}
@@ -9,7 +9,7 @@ use Rattle.pg_intent.specs.declared.intent.Intent.TheVariants as intent
 use Rattle.pg_intent.specs.declared.key.IntentKey.TheVariants as intent_key
 use Rattle.pg_intent.specs.Intents.{intent_at, stands}
 use Rattle.pg_listing.specs.Protocol.{AtLeast}
-use Rattle.pg_listing.specs.Parts.{FirstPart, NoneLater}
+use Rattle.pg_listing.specs.Parts.{NoneLater}
 use Rattle.pg_listing.specs.Rule.{HasCell, Holds, IsToldAt}
 use Rattle.pg_listing.proofs.Handlers.{begun_first}
 use Rattle.pg_msg.specs.declared.work.Work.{Work}
@@ -19,9 +19,11 @@ use Rattle.pg_register.specs.declared.place.Place.{Place}
 use Rattle.pg_run.specs.Intending.{PatchesStand}
 use Rattle.pg_settled.specs.Listing.{cell_place, own_place}
 use Rattle.pg_store.specs.declared.store.Store.{Store}
+use Rattle.pg_store.specs.Servers.{view_of}
 use Rattle.pg_store.specs.Store.{is_held, take_place}
 use Rattle.pg_cells.specs.Done.{idle}
-use Rattle.pg_listed.specs.Letters.{Letter, of_stores, patch_place}
+use Rattle.pg_listed.specs.Letters.{Letter, patch_place}
+use Rattle.pg_listed.proofs.Places.{IsPart, of_places}
 use Rattle.pg_listed.proofs.Begun.{After, HadPatch, cells_after, confirms_after, new_cells, others_after, patches_after, removed_after}
 use Rattle.pg_listed.proofs.Heard.{IsBehind, none_later}
 use Rattle.pg_listed.proofs.Placed.{IsNoted, cell_then, intents_then, others_then, removed_then}
@@ -30,11 +32,11 @@ use Rattle.pg_listed.proofs.Views.{away_none, patch_is}
 -- one thing stands, which was not held
 -- others: all else stands as it did
 pub record IsStarted (a m : Store) (f : FileId) : Type 0 where
-  pub others : (g : FileId) → (g ≡ f) ⊎ (of_stores.own m g ≡ of_stores.own a g)
-  pub cells : (d c : FileId) → (d ≡ f) ⊎ (of_stores.cell m d c ≡ of_stores.cell a d c)
-  pub new : (c : FileId) (q : Place) → of_stores.cell m f c ≡ Some q → HadPatch f a.intents c
-  pub patches : (d c : FileId) (q : Place) → of_stores.patch a d c ≡ Some q → AtLeast of_stores q.stamp (of_stores.patch m d c) ⊎ IsToldAt of_stores m d c q.stamp
-  pub confirms : (d c : FileId) → of_stores.Confirms a d c → of_stores.Confirms m d c
+  pub others : (g : FileId) → (g ≡ f) ⊎ (of_places.own m g ≡ of_places.own a g)
+  pub cells : (d c : FileId) → (d ≡ f) ⊎ (of_places.cell m d c ≡ of_places.cell a d c)
+  pub new : (c : FileId) (q : Place) → of_places.cell m f c ≡ Some q → HadPatch f a.intents c
+  pub patches : (d c : FileId) (q : Place) → of_places.patch a d c ≡ Some q → AtLeast of_places q.stamp (of_places.patch m d c) ⊎ IsToldAt of_places m d c q.stamp
+  pub confirms : (d c : FileId) → of_places.Confirms a d c → of_places.Confirms m d c
   pub removed : m.names.removed ≡ a.names.removed
 
 pub started : (a : Store) (f : FileId) (birth : ℕ) (policy : Policy) (own : Own) (full : Bool) (away : is_held a f ≡ false) → IsStarted a (After a f birth policy own full away) f
@@ -64,14 +66,14 @@ then_placed a m f place k = record {
   removed = removed_then m f place ∙ k.removed;
 }
 
-module _ (a m : Store) (f : FileId) (k : IsStarted a m f) (away : is_held a f ≡ false) (behind : IsBehind a) (patched : PatchesStand a) (heard : Letter) (view : heard.view ≡ 0) where
-  none : of_stores.own a f ≡ None
+module _ (a m : Store) (f : FileId) (k : IsStarted a m f) (away : is_held a f ≡ false) (behind : IsBehind a) (patched : PatchesStand a) (heard : Letter) (view : heard.view ≡ view_of a) where
+  none : of_places.own a f ≡ None
   none = away_none a f away
 
   -- what was held stands as it did
-  pub kept_own : (g : FileId) (q : Place) → of_stores.own a g ≡ Some q → of_stores.own m g ≡ Some q
+  pub kept_own : (g : FileId) (q : Place) → of_places.own a g ≡ Some q → of_places.own m g ≡ Some q
   kept_own g q h = elim (k.others g) [
-    | inl at ↦ absurd (none-some q (sym none ∙ sym (ap (of_stores.own a) at) ∙ h))
+    | inl at ↦ absurd (none-some q (sym none ∙ sym (ap (of_places.own a) at) ∙ h))
     | inr same ↦ same ∙ h
   ]
 
@@ -79,11 +81,11 @@ module _ (a m : Store) (f : FileId) (k : IsStarted a m f) (away : is_held a f �
   no_cell_by c None h = refl
   no_cell_by c (Some x) h = (let o = cell_held a.names f c x h in absurd (none-some o.0.place (sym none ∙ ap own_place o.1)))
 
-  no_cell : (c : FileId) → of_stores.cell a f c ≡ None
+  no_cell : (c : FileId) → of_places.cell a f c ≡ None
   no_cell c = no_cell_by c (cell_at a.names f c) refl
 
   -- a child of which the directory has a cell is held
-  child_held : (c : FileId) (q : Place) → of_stores.cell m f c ≡ Some q → Holds of_stores m c
+  child_held : (c : FileId) (q : Place) → of_places.cell m f c ≡ Some q → Holds of_places m c
   child_held c q h =
       let had = k.new c q h in
       let dir = had.0 in
@@ -91,29 +93,29 @@ module _ (a m : Store) (f : FileId) (k : IsStarted a m f) (away : is_held a f �
       let is = patch_is a.intents f c dir e had.2 had.3 in
       let p = patched f c e had.2 (had.3 ∙ ap (λ x. Some (intent.Patch x e had.2)) is.0) in
       let at : e.child ≡ c = is.1 in
-      (p.own.place, kept_own c p.own.place (ap (of_stores.own a) (sym at) ∙ ap own_place p.held))
+      (p.own.place, kept_own c p.own.place (ap (of_places.own a) (sym at) ∙ ap own_place p.held))
 
-  cell_by : (d c : FileId) → ((d ≡ f) × ((of_stores.cell a d c ≡ None) × ((q : Place) → of_stores.cell m d c ≡ Some q → Holds of_stores m c))) ⊎ (of_stores.cell m d c ≡ of_stores.cell a d c)
+  cell_by : (d c : FileId) → ((d ≡ f) × ((of_places.cell a d c ≡ None) × ((q : Place) → of_places.cell m d c ≡ Some q → Holds of_places m c))) ⊎ (of_places.cell m d c ≡ of_places.cell a d c)
   cell_by d c = elim (k.cells d c) [
     | inr same ↦ inr same
-    | inl at ↦ inl (at, (ap (λ (x : FileId). of_stores.cell a x c) at ∙ no_cell c, λ q h. child_held c q (sym (ap (λ (x : FileId). of_stores.cell m x c) at) ∙ h)))
+    | inl at ↦ inl (at, (ap (λ (x : FileId). of_places.cell a x c) at ∙ no_cell c, λ q h. child_held c q (sym (ap (λ (x : FileId). of_places.cell m x c) at) ∙ h)))
   ]
 
   -- where the directory has no cell, those of others are as they were
-  old_cells : (c e : FileId) (x : Place) → of_stores.cell m f c ≡ None → of_stores.cell m e c ≡ Some x → of_stores.cell a e c ≡ Some x
+  old_cells : (c e : FileId) (x : Place) → of_places.cell m f c ≡ None → of_places.cell m e c ≡ Some x → of_places.cell a e c ≡ Some x
   old_cells c e x unlisted h = elim (k.cells e c) [
     | inr same ↦ sym same ∙ h
-    | inl at ↦ absurd (none-some x (sym unlisted ∙ sym (ap (λ (y : FileId). of_stores.cell m y c) at) ∙ h))
+    | inl at ↦ absurd (none-some x (sym unlisted ∙ sym (ap (λ (y : FileId). of_places.cell m y c) at) ∙ h))
   ]
 
-  back_by : (c : FileId) (q : Place) → of_stores.own a c ≡ Some q → (o : Option Place) → of_stores.cell m f c ≡ o → HasCell of_stores m f c ⊎ NoneLater of_stores m c q
+  back_by : (c : FileId) (q : Place) → of_places.own a c ≡ Some q → (o : Option Place) → of_places.cell m f c ≡ o → HasCell of_places m f c ⊎ NoneLater of_places m c q
   back_by c q was (Some x) h = inl (x, h)
   back_by c q was None h = inr (none_later a behind heard view m c q q k.removed (λ e x cell. old_cells c e x h cell) was (inl refl) (kept_own c q was))
 
-  pub started_first : FirstPart of_stores 0 a m heard
-  started_first = begun_first of_stores 0 a m heard f (record {
+  pub started_first : IsPart a m heard
+  started_first = λ least. begun_first of_places least a m heard f (record {
     hears = inr view;
-    view = refl;
+    view = ap (λ (rs : List ℕ). length rs) k.removed;
     was = none;
     others = k.others;
     births = λ g was now. refl;
@@ -121,7 +123,7 @@ module _ (a m : Store) (f : FileId) (k : IsStarted a m f) (away : is_held a f �
     cells = cell_by;
     patches = k.patches;
     confirms = λ d c owes gone. k.confirms d c owes;
-    back = λ c q was. back_by c q was (of_stores.cell m f c) refl;
+    back = λ c q was. back_by c q was (of_places.cell m f c) refl;
   })
 
   -- no own place is replaced

@@ -36,15 +36,16 @@ use Rattle.pg_store.specs.Store.{is_new_version, is_newer_flag, put_flag, put_ve
 use Rattle.pg_store.specs.Wishes.{aim_wish}
 use Rattle.pg_cells.specs.declared.accepting.Manner.{Manner}
 use Rattle.pg_cells.specs.declared.accepting.Manner.TheVariants as manner
-use Rattle.pg_cells.specs.Accepting.{accept, is_answer, link_peer, met, with_gone, with_link}
+use Rattle.pg_cells.specs.Accepting.{accept, is_accepted, is_answer, link_peer, met, with_gone, with_link}
 use Rattle.pg_cells.specs.Done.{Done, idle}
 use Rattle.pg_cells.specs.Making.{lower_flag, own_next, raise_flag}
 use Rattle.pg_cells.specs.Taking.{take_flag_noted, take_flags_noted}
 use Rattle.pg_cells.specs.Golds.{is_gold}
 use Rattle.pg_calls.specs.Demoting.{lowered}
-use Rattle.pg_repair.specs.Filling.{few_golds, fill, live_golds}
+use Rattle.pg_repair.specs.Filling.{few_golds, fill, invite, invited, is_bronze, live_golds, raise_if_few}
 use Rattle.pg_repair.specs.Granting.{aim_fill, fill_asks, turn_fill, turn_wish, wish_asks}
-use Rattle.pg_listed.specs.Letters.{of_stores, patch_place}
+use Rattle.pg_listed.specs.Letters.{patch_place}
+use Rattle.pg_listed.proofs.Places.{of_places}
 use Rattle.pg_listed.proofs.Alike.{Alike, Alike-refl, Alike-trans, alike_by}
 use Rattle.pg_listed.proofs.Placed.{news_left}
 
@@ -68,16 +69,29 @@ accept_alike a ends way work =
     chosen P (has_birth a ends.file ends.receiver) _ (idle a (with_gone a ends way work))
     (chosen P (knows_later a ends.file work.from ends.sender) (idle a work) (met a ends way work) (Alike-refl a) (met_alike a ends way work)) (Alike-refl a)
 
+-- it is the same server
+met_server : (a : Store) (ends : Ends) (way : Manner) (work : Work) → (met a ends way work).store.names.server ≡ a.names.server
+met_server a ends manner.Link work =
+    chosen (λ (b : Store). b.names.server ≡ a.names.server) (is_new_link a ends.file work.from ends.sender) (put_link a ends.file work.from ends.sender) a refl refl
+met_server a ends manner.Ask work = refl
+met_server a ends manner.Answer work = refl
+
+pub accept_server : (a : Store) (ends : Ends) (way : Manner) (work : Work) → (accept a ends way work).store.names.server ≡ a.names.server
+accept_server a ends way work =
+    let P : Done → Type 0 = λ d. d.store.names.server ≡ a.names.server in
+    chosen P (has_birth a ends.file ends.receiver) _ (idle a (with_gone a ends way work))
+    (chosen P (knows_later a ends.file work.from ends.sender) (idle a work) (met a ends way work) refl (met_server a ends way work)) refl
+
 -- ---- flags and versions
 
 module _ (a : Store) (f : FileId) (flag : Flag) where
   flag_by : (g : FileId) (o : Option Own) → own_at a.names f ≡ o → (is_same_file f g ≡ true) ⊎ (is_same_file f g ≡ false)
-      → own_place (own_at (join_flag a.names f flag) g) ≡ of_stores.own a g
+      → own_place (own_at (join_flag a.names f flag) g) ≡ of_places.own a g
   flag_by g None e cases = ap (λ n. own_place (own_at n g)) (known_absent a.names f (with_flag flag) e)
   flag_by g (Some b) e (inr other) = ap own_place (flag_other a.names f flag g other)
   flag_by g (Some b) e (inl same) =
       let at : f ≡ g = is_same_file-true f g same in
-      sym (ap (λ x. own_place (own_at (join_flag a.names f flag) x)) at) ∙ ap own_place (flag_same a.names f flag b e) ∙ sym (ap own_place e) ∙ ap (of_stores.own a) at
+      sym (ap (λ x. own_place (own_at (join_flag a.names f flag) x)) at) ∙ ap own_place (flag_same a.names f flag b e) ∙ sym (ap own_place e) ∙ ap (of_places.own a) at
 
   put_flag_alike : Alike a (put_flag a f flag)
   put_flag_alike = record {
@@ -138,16 +152,29 @@ fill_names_alike a f = record {
   removed = (update_frame a.names f names.filled).removed;
 }
 
+few_alike : (a : Store) (f : FileId) (work : Work) → Alike a (raise_if_few a f work).store
+few_alike a f work =
+    chosen (λ (d : Done). Alike a d.store) (nat_lt (live_golds a f) few_golds) (raise_flag a f work) (idle a work) (raised_alike a f work) (Alike-refl a)
+
 pub fill_alike : (a : Store) (f : FileId) (work : Work) → Alike a (fill a f work).store
-fill_alike a f work =
-    let b = with_names a (names.fill a.names f) in
-    chosen (λ (d : Done). Alike a d.store) (nat_lt (live_golds b f) few_golds) (raise_flag b f work) (idle b work)
-    (Alike-trans (fill_names_alike a f) (raised_alike b f work)) (fill_names_alike a f)
+fill_alike a f work = Alike-trans (fill_names_alike a f) (few_alike (with_names a (names.fill a.names f)) f work)
 
 pub fill_left : (a : Store) (f : FileId) (work : Work) → (fill a f work).work.left ≡ work.left
 fill_left a f work =
     let b = with_names a (names.fill a.names f) in
     chosen (λ (d : Done). d.work.left ≡ work.left) (nat_lt (live_golds b f) few_golds) (raise_flag b f work) (idle b work) (raised_left b f work) refl
+
+-- one that is invited to be gold
+invited_alike : (ends : Ends) (d : Done) → Alike d.store (invited ends d).store
+invited_alike ends d =
+    chosen (λ (e : Done). Alike d.store e.store) (is_bronze d.store ends.file) (raise_if_few d.store ends.file d.work) d
+    (few_alike d.store ends.file d.work) (Alike-refl d.store)
+
+pub invite_alike : (a : Store) (ends : Ends) (work : Work) → Alike a (invite a ends work).store
+invite_alike a ends work =
+    let met = accept a ends manner.Ask work in
+    let k = accept_alike a ends manner.Ask work in
+    chosen (λ (d : Done). Alike a d.store) (is_accepted a work.from manner.Ask ends) (invited ends met) met (Alike-trans k (invited_alike ends met)) k
 
 -- ---- whom an intention asks
 
@@ -159,12 +186,12 @@ patch_aimed to (intent.Fill f b t) = refl
 patch_aimed to (intent.Confirm d c t) = refl
 patch_aimed to (intent.Leave f p b) = refl
 
-patch_by : (to : ℕ) (o : Option Intent) (t : Bool) → patch_place (cond t (option_map (aimed_at to) o) o) ≡ patch_place o
+pub patch_by : (to : ℕ) (o : Option Intent) (t : Bool) → patch_place (cond t (option_map (aimed_at to) o) o) ≡ patch_place o
 patch_by to o false = refl
 patch_by to None true = refl
 patch_by to (Some i) true = patch_aimed to i
 
-some_by : (to : ℕ) (o : Option Intent) (t : Bool) → is_some (cond t (option_map (aimed_at to) o) o) ≡ is_some o
+pub some_by : (to : ℕ) (o : Option Intent) (t : Bool) → is_some (cond t (option_map (aimed_at to) o) o) ≡ is_some o
 some_by to o false = refl
 some_by to None true = refl
 some_by to (Some i) true = refl

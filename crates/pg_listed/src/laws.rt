@@ -2,17 +2,13 @@
 //! function that does nothing.
 
 ghost use Rattle.std.specs.Prelude.{ℕ};
-ghost use Rattle.pg_listed.specs.Laws.{FirstEffectsAreSound, ListingsAreKept, RootIsUnlisted};
-ghost use Rattle.pg_places.specs.Laws.{OnePlaceAStamp};
-ghost use Rattle.pg_run.specs.Away.{WhatBeginsIsAway};
-ghost use Rattle.pg_run.specs.Intending.{IntentionsAreInOrder};
-ghost use Rattle.pg_run.specs.Laws.{HouseIsInOrder};
-ghost use Rattle.pg_run.specs.Ticks.{TicksSendWhatIsOwed};
+ghost use Rattle.pg_listed.specs.Laws.{ListingsAreKept, ListingsStandOn, MessagesHaveLetters};
 
-/// Behind each event, a child that a directory lists, and that is not held beside it, is asked after,
-/// or it is known where it is; and every message that was ever sent keeps what it promises.
+/// Behind each event, at each live server that has entered the last removal, a child that a directory
+/// lists, and that is not held beside it, is asked after, or it is known where it is; and every message
+/// of that view, whenever it was sent, keeps what it promises (`kept`). This is said of the letters of
+/// messages, in which a LeaveOk has its sender's place: each message has one (`letters`).
 pub fn listings_are_kept()
-    ensures { (servers : ℕ) → IntentionsAreInOrder servers → HouseIsInOrder servers
-        → OnePlaceAStamp servers → FirstEffectsAreSound servers → RootIsUnlisted servers
-        → WhatBeginsIsAway servers → TicksSendWhatIsOwed servers → ListingsAreKept servers }
+    ensures kept { (servers : ℕ) → ListingsStandOn servers → ListingsAreKept servers }
+    ensures letters { (servers : ℕ) → ListingsStandOn servers → MessagesHaveLetters servers }
 {}

@@ -1,4 +1,6 @@
 pub mod Writes
 pub mod Lookups
 pub mod Holding
+pub mod Gone
 pub mod Alike
+mod Going

@@ -1,6 +1,6 @@
 -- What one server knows of names: where files and directories stand, their flags, and the entries
 -- of directories.
-use Rattle.std.specs.Prelude.{ℕ, Bool, true, false, max, List, [], Option, None, Some, is_some}
+use Rattle.std.specs.Prelude.{ℕ, Bool, true, false, max, not, ◌++◌, List, [], ◌∷◌, Option, None, Some, is_some}
 use Rattle.std.specs.List.{filter}
 use Rattle.std.specs.BTreeMap.{is_at, insert_entry}
 use Rattle.std.specs.Map.{keys_of, lookup, set_value}
@@ -126,6 +126,19 @@ begin names file own full = record {
   last = names.last;
   removed = names.removed;
   held = insert_entry file_cmp names.held file (new_held own full);
+}
+
+-- one server more is removed in its view
+abbrev pub remove_server : NamesValue → ℕ → NamesValue
+remove_server names server = record names { removed = names.removed ++ server ∷ [] }
+
+-- a thing is held no longer
+abbrev pub let_go : NamesValue → FileId → NamesValue
+let_go names file = record {
+  server = names.server;
+  last = names.last;
+  removed = names.removed;
+  held = filter (λ e. not (is_at (file_cmp file) e.0)) names.held;
 }
 
 abbrev pub filled : HeldValue → HeldValue

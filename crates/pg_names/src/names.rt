@@ -5,7 +5,7 @@ ghost use Rattle.std.specs.Option.{option_copied};
 ghost use Rattle.std.specs.List.{filter};
 ghost use Rattle.pg_register.specs.Flag.{is_removed};
 ghost use Rattle.pg_base.specs.Stamp.{next_stamp};
-ghost use Rattle.pg_names.specs.Names.{begin, cell_at, directories, fill, is_dir, is_entry_new, is_flag_new, is_full, is_held, is_place_new, join_entry, join_flag, join_place, known, new_names, own_at, own_or_blank, raise, set_entry, set_own, with_last};
+ghost use Rattle.pg_names.specs.Names.{begin, cell_at, directories, fill, is_dir, is_entry_new, is_flag_new, is_full, is_held, is_place_new, join_entry, join_flag, join_place, known, let_go, new_names, own_at, own_or_blank, raise, remove_server, set_entry, set_own, with_last};
 
 use crate::held::Held;
 use crate::own::Own;
@@ -94,6 +94,14 @@ impl Names {
         ensures { result ≡ is_removed self.now.removed server }
     {
         is_removed(self.removed.as_slice(), server)
+    }
+
+    /// One server more is removed in this view.
+    pub fn remove_server(&mut self, server: NodeId) -> Result<(), AllocError>
+        ensures { OnOk result (self.new ≡ remove_server self.old server) }
+    {
+        self.removed.push(server)?;
+        Ok(())
     }
 
     /// What is held, to go through it by id.
@@ -186,6 +194,14 @@ impl Names {
         let held = Held::new(self.alloc, own, full);
         self.held.insert(file, held)?;
         Ok(())
+    }
+
+    /// A thing is held no longer.
+    pub fn let_go(&mut self, file: &FileId)
+        ensures { self.new ≡ let_go self.old file.now }
+    {
+        let _held = self.held.len();
+        self.held.remove(file);
     }
 
     /// A held thing is full from now on.

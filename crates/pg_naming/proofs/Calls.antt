@@ -1,14 +1,12 @@
--- A call: what it makes, and what begins, is what the server knows more then.
-use Rattle.std.proofs.Common.{ℕ, ◌≡◌, ◌==◌, Bool, true, false, cond, List, [], ◌∷◌, ◌++◌, map, Option, None, Some, Result, Ok, Err, refl, sym, subst, ◌∙◌, inl, inr, ◌⊎◌}
+-- What calls make, and what begins, is what the server knows more then.
+use Rattle.std.proofs.Common.{ℕ, ◌≡◌, ◌==◌, Bool, true, false, cond, List, [], ◌∷◌, ◌++◌, map, Option, None, Some, Result, Ok, Err, refl, sym, subst, ◌∙◌, inl}
 use Rattle.std.specs.List.{flat_map}
 use Rattle.pg_base.specs.declared.id.FileId.{FileId}
 use Rattle.pg_base.specs.declared.id.Kind.{Kind}
 use Rattle.pg_base.specs.declared.id.Kind.TheVariants.{Dir, File}
 use Rattle.pg_base.specs.declared.policy.Policy.{Policy}
 use Rattle.pg_base.specs.declared.policy.Policy.TheVariants.{Last}
-use Rattle.pg_base.specs.declared.stamp.Stamp.{Stamp}
 use Rattle.pg_base.specs.Id.{is_same_file}
-use Rattle.pg_content.specs.Content.{Among}
 use Rattle.pg_register.specs.declared.flag.Flag.{Flag}
 use Rattle.pg_register.specs.declared.place.Place.{Place}
 use Rattle.pg_register.specs.Flag.{is_raised}
@@ -21,11 +19,10 @@ use Rattle.pg_intent.specs.declared.intent.Intent.TheVariants as intent
 use Rattle.pg_intent.specs.declared.key.IntentKey.TheVariants as intent_key
 use Rattle.pg_msg.specs.declared.message.Message.TheVariants as message
 use Rattle.pg_msg.specs.declared.update.Update.{Update}
-use Rattle.pg_msg.specs.declared.update.Update.TheVariants as update
 use Rattle.pg_msg.specs.declared.work.Work.{Work}
-use Rattle.pg_msg.specs.Work.{new_work, with_made}
-use Rattle.pg_call.specs.declared.call.Call.{Call}
+use Rattle.pg_msg.specs.Work.{new_work}
 use Rattle.pg_call.specs.declared.call.Call.TheVariants as call
+use Rattle.pg_call.specs.declared.call.Target.{Target}
 use Rattle.pg_call.specs.declared.refusal.Refusal.TheVariants.{Loop, NotEmpty, Root}
 use Rattle.pg_names.specs.declared.own.Own.{Own}
 use Rattle.pg_names.specs.Names.{NamesValue, blank_own, is_dir, known, or_blank, own_at}
@@ -41,10 +38,10 @@ use Rattle.pg_store.specs.declared.store.Store.{Store}
 use Rattle.pg_store.specs.declared.wishes.Wish.{Wish}
 use Rattle.pg_store.specs.Beginning.{patches_of}
 use Rattle.pg_store.specs.Births.{birth_of, draw_birth, with_birth, with_wish}
-use Rattle.pg_store.specs.Store.{is_held, take_flag, take_place}
+use Rattle.pg_store.specs.Store.{is_held}
 use Rattle.pg_cells.specs.Done.{Done, idle}
 use Rattle.pg_cells.specs.Golds.{is_gold}
-use Rattle.pg_cells.specs.Making.{lower_flag, make_flag, own_next}
+use Rattle.pg_cells.specs.Making.{lower_flag, own_next}
 use Rattle.pg_cells.specs.Posting.{post}
 use Rattle.pg_calls.specs.declared.checks.Move.{Move}
 use Rattle.pg_calls.specs.declared.checks.NewName.{NewName}
@@ -54,7 +51,8 @@ use Rattle.pg_calls.specs.Bodies.{change, change_file, when_fit}
 use Rattle.pg_calls.specs.Calls.{do_call}
 use Rattle.pg_calls.specs.Checks.{dir_at, empty_dir_at, file_at, first_child, in_time, move_along, move_of, move_to, new_name, new_name_in, target_at, unless_child}
 use Rattle.pg_calls.specs.Demoting.{demoted_at, lowered}
-use Rattle.pg_calls.specs.Making.{drawn, first_ranges, make_place, make_version, version_of}
+use Rattle.pg_calls.specs.Dropping.{clean_gold, dropped_at, leave_of, leaving}
+use Rattle.pg_calls.specs.Making.{drawn, first_ranges, make_place}
 use Rattle.pg_calls.specs.Naming.{begun, dead_place, next_id, place_in, with_id, with_thing}
 use Rattle.pg_calls.specs.Paths.{paths_of}
 use Rattle.pg_calls.proofs.Checked.{behind, no_ok, same_ok, unless_ok}
@@ -66,32 +64,16 @@ use Rattle.pg_run.proofs.Lists.{among_back}
 use Rattle.pg_naming.specs.Goes.{Goes}
 use Rattle.pg_naming.specs.Merged.{IsNewId}
 use Rattle.pg_run.specs.Known.{Told}
-use Rattle.pg_naming.proofs.Going.{goes_flag, goes_noted, goes_place, goes_raised, goes_reordered}
-use Rattle.pg_naming.proofs.Messages.{IsReady, away_inner, none_of}
-use Rattle.pg_naming.proofs.Notes.{flag_noted_made, place_noted_made}
+use Rattle.pg_naming.proofs.Held.{away_inner, none_of}
+use Rattle.pg_naming.proofs.Making.{DoneIs, flag_made, place_made, version_made}
+use Rattle.pg_naming.proofs.Messages.{IsReady}
+use Rattle.pg_naming.proofs.Notes.{intent_still}
 use Rattle.pg_naming.proofs.Patched.{goes_with_patches}
 use Rattle.pg_passing.proofs.Takes.{began_held}
 
--- ---- one update more
-
-last_to : (us : List Update) (u : Update) (takes : List Take) (x : Take) → Among x (take_of u ∷ (map take_of us ++ takes)) → Among x (map take_of (us ++ u ∷ []) ++ takes)
-last_to [] u takes x h = h
-last_to (v ∷ us) u takes x (inl e) = inr (last_to us u takes x (inl e))
-last_to (v ∷ us) u takes x (inr (inl e)) = inl e
-last_to (v ∷ us) u takes x (inr (inr more)) = inr (last_to us u takes x (inr more))
-
-behind_first : (v : Update) (u : Take) (xs : List Take) (x : Take) → (x ≡ u) ⊎ Among x xs → (x ≡ u) ⊎ ((x ≡ take_of v) ⊎ Among x xs)
-behind_first v u xs x (inl e) = inl e
-behind_first v u xs x (inr h) = inr (inr h)
-
-last_back : (us : List Update) (u : Update) (takes : List Take) (x : Take) → Among x (map take_of (us ++ u ∷ []) ++ takes) → Among x (take_of u ∷ (map take_of us ++ takes))
-last_back [] u takes x h = h
-last_back (v ∷ us) u takes x (inl e) = inr (inl e)
-last_back (v ∷ us) u takes x (inr more) = behind_first v (take_of u) (map take_of us ++ takes) x (last_back us u takes x more)
-
 -- ---- no Patch, no entry
 
-none_taken : (f : FileId) (is : List Intent) → patches_of f is ≡ [] → flat_map (patch_taken f) is ≡ []
+pub none_taken : (f : FileId) (is : List Intent) → patches_of f is ≡ [] → flat_map (patch_taken f) is ≡ []
 none_taken f [] h = refl
 none_taken f (intent.Bye file birth peer peer_birth ∷ is) h = none_taken f is h
 none_taken f (intent.Seek file target ∷ is) h = none_taken f is h
@@ -147,39 +129,8 @@ module _ (removed : List ℕ) (p : Told) (a : Store) (now : List Take) (k : Goes
   abbrev W : Work
   W = new_work moment 0
 
-  -- behind what began the updates that were made are taken
-  abbrev DoneIs : List Take → Done → Type 0
-  DoneIs base d = Is d.store.names (map take_of d.work.made ++ base)
-
   abbrev pub AnswerIs : Answer → Type 0
   AnswerIs x = Is x.store.names (map take_of x.work.made ++ (begun_by (Some x.reply) ++ now))
-
-  put_last : (base : List Take) (s : NamesValue) (made : List Update) (u : Update) → Is s (take_of u ∷ (map take_of made ++ base)) → Is s (map take_of (made ++ u ∷ []) ++ base)
-  put_last base s made u h =
-      goes_reordered removed s (take_of u ∷ (map take_of made ++ base)) (map take_of (made ++ u ∷ []) ++ base) h (last_to made u base) (last_back made u base)
-
-  place_made : (base : List Take) (d : Done) → DoneIs base d → (f : FileId) → IsHeld d.store.names f → (q : Place) → DoneIs base (make_place f q d)
-  place_made base d h f held q =
-      let u = update.Place f q in
-      let s = (take_place d.store f q).names in
-      let P : List Update → Type 0 = λ us. Is s (map take_of us ++ base) in
-      subst P (sym (place_noted_made d.store f q (with_made d.work u)))
-      (put_last base s d.work.made u (goes_place removed d.store (map take_of d.work.made ++ base) h f held q))
-
-  flag_made : (base : List Take) (d : Done) → DoneIs base d → (f : FileId) → IsHeld d.store.names f → (g : Flag) → DoneIs base (make_flag d.store f g d.work)
-  flag_made base d h f held g =
-      let u = update.Flag f g in
-      let s = (take_flag d.store f g).names in
-      let P : List Update → Type 0 = λ us. Is s (map take_of us ++ base) in
-      subst P (sym (flag_noted_made d.store f g (with_made d.work u)))
-      (put_last base s d.work.made u (goes_flag removed d.store (map take_of d.work.made ++ base) h f held g))
-
-  version_made : (base : List Take) (d : Done) → DoneIs base d → (f : FileId) (stamp : Stamp) (r : RangesValue) → DoneIs base (make_version f stamp r d)
-  version_made base d h f stamp r =
-      let u = update.Version (version_of d.store f stamp r) in
-      put_last base (make_version f stamp r d).store.names d.work.made u
-      (goes_raised removed d.store.names stamp.time (take_of u ∷ (map take_of d.work.made ++ base))
-      (goes_noted removed d.store.names (map take_of d.work.made ++ base) h f stamp))
 
   -- ---- a call that does not go on
 
@@ -203,7 +154,7 @@ module _ (removed : List ℕ) (p : Told) (a : Store) (now : List Take) (k : Goes
       let P : List Update → Type 0 = λ us. Is d.store.names (map take_of us ++ now) in
       subst P (sym i.1) (subst (λ (s : NamesValue). Is s now) (sym i.0) k)
 
-  denied : (why : Stop) → AnswerIs (deny a why W)
+  pub denied : (why : Stop) → AnswerIs (deny a why W)
   denied (stop.Refused why) = k
   denied (stop.NotYet found) = from_idle (ask_by a found (standing a found.file) W) (asked_by found (standing a found.file))
 
@@ -242,53 +193,83 @@ module _ (removed : List ℕ) (p : Told) (a : Store) (now : List Take) (k : Goes
     abbrev Placed : Done
     Placed = make_place Id (place_in (with_id a) W.now new) (idle Begun W)
 
-    placed : DoneIs Base Placed
-    placed = place_made Base (idle Begun W) began Id (began_there Begun.names [] began) (place_in (with_id a) W.now new)
+    placed : DoneIs removed Base Placed
+    placed = place_made removed Base (idle Begun W) began Id (began_there Begun.names [] began) (place_in (with_id a) W.now new)
 
-    thing : DoneIs Base (with_thing (with_id a) W Id policy new)
-    thing = flag_made Base Placed placed Id (began_there Placed.store.names (map take_of Placed.work.made) placed) (own_next Placed.store Id true)
+    thing : DoneIs removed Base (with_thing (with_id a) W Id policy new)
+    thing = flag_made removed Base Placed placed Id (began_there Placed.store.names (map take_of Placed.work.made) placed) (own_next Placed.store Id true)
 
-  mkdir_is : (path : List ℕ) → AnswerIs (do_call a (call.Mkdir path) W)
+  pub mkdir_is : (path : List ℕ) → AnswerIs (do_call a (call.Mkdir path) W)
   mkdir_is path = goes_by (new_name a (next_id a Dir) path) _ (λ new h. thing Dir Last new)
 
-  create_is : (path : List ℕ) (policy : Policy) → AnswerIs (do_call a (call.Create path policy) W)
+  pub create_is : (path : List ℕ) (policy : Policy) → AnswerIs (do_call a (call.Create path policy) W)
   create_is path policy =
       goes_by (new_name a (next_id a File) path) _ (λ new h.
       let d = with_thing (with_id a) W (next_id a File) policy new in
-      version_made (Began (next_id a File) ∷ now) d (thing File policy new) (next_id a File) (drawn d.store d.work.now) first_ranges)
+      version_made removed (Began (next_id a File) ∷ now) d (thing File policy new) (next_id a File) (drawn d.store d.work.now) first_ranges)
 
   -- ---- all calls
 
   change_is : (path : List ℕ) (r : RangesValue) → AnswerIs (change a path r W)
   change_is path r =
       goes_by (file_at a path) (change_file a r W) (λ file h.
-      goes_by (when_fit a r file) _ (λ fit g. version_made now (idle a W) k fit (drawn a moment) r))
+      goes_by (when_fit a r file) _ (λ fit g. version_made removed now (idle a W) k fit (drawn a moment) r))
 
-  place_is : (f : FileId) → IsHeld a.names f → (q : Place) → DoneIs now (make_place f q (idle a W))
-  place_is f held q = place_made now (idle a W) k f held q
+  place_is : (f : FileId) → IsHeld a.names f → (q : Place) → DoneIs removed now (make_place f q (idle a W))
+  place_is f held q = place_made removed now (idle a W) k f held q
 
   -- what is gold is held
-  demoted : (f : FileId) → DoneIs now (lowered a f W)
+  demoted : (f : FileId) → DoneIs removed now (lowered a f W)
   demoted f =
-      decided (DoneIs now) (is_gold a f) (lower_flag a f W) (idle a W)
-      (λ gold. flag_made now (idle a W) k f (gold_held a.names f a.names.server (birth_of a f) (own_at a.names f) refl gold) (own_next a f false)) (λ none. k)
+      decided (DoneIs removed now) (is_gold a f) (lower_flag a f W) (idle a W)
+      (λ gold. flag_made removed now (idle a W) k f (gold_held a.names f a.names.server (birth_of a f) (own_at a.names f) refl gold) (own_next a f false)) (λ none. k)
 
-  -- A CALL
-  pub call_goes : (c : Call) → AnswerIs (do_call a c W)
-  call_goes (call.Mkdir path) = mkdir_is path
-  call_goes (call.Create path policy) = create_is path policy
-  call_goes (call.Write path offset bytes) = change_is path (ranges.written offset bytes)
-  call_goes (call.Cut path length) = change_is path (ranges.cut_to length)
-  call_goes (call.Read path offset count) = goes_by (file_at a path) _ (λ f h. k)
-  call_goes (call.Fresh path) = goes_by (file_at a path) _ (λ f h. k)
-  call_goes (call.Ls path from) = goes_by (dir_at a path) _ (λ f h. k)
-  call_goes (call.Stat t) = goes_by (target_at a t) _ (λ f h. k)
-  call_goes (call.Rename from to) = goes_by (move_of a from to) _ (λ m h. place_is m.thing (moved_held a from to m h) (place_in a moment m.to))
-  call_goes (call.Unlink path) = goes_by (file_at a path) _ (λ f h. place_is f (full_own a.names f (file_found a path f h).0) (dead_place a moment f))
-  call_goes (call.Rmdir path) = goes_by (empty_dir_at a path) _ (λ d h. place_is d (emptied_held a path d h) (dead_place a moment d))
-  call_goes (call.Forget id) = goes_by (in_time a (tt {0})) _ (λ f h. k)
-  call_goes (call.Demote t) = goes_by (demoted_at a t) _ (λ f h. demoted f)
-  call_goes (call.Drop t) = goes_by (in_time a (tt {0})) _ (λ f h. k)
-  call_goes (call.Giveup view server) = goes_by (in_time a (tt {0})) _ (λ f h. k)
-  call_goes call.Status = goes_by (in_time a (tt {0})) _ (λ f h. k)
-  call_goes call.Stop = goes_by (in_time a (tt {0})) _ (λ f h. k)
+  leaving_goes : (f : FileId) (o : Option Flag) → AnswerIs (leaving a f W o)
+  leaving_goes f None = k
+  leaving_goes f (Some flag) =
+      let P : List Update → Type 0 = λ us. Is a.names (map take_of us ++ now) in
+      subst P (sym (intent_still a (leave_of f flag) W).1) k
+
+  -- ---- each of them
+
+  pub write_is : (path : List ℕ) (offset : ℕ) (bytes : List ℕ) → AnswerIs (do_call a (call.Write path offset bytes) W)
+  write_is path offset bytes = change_is path (ranges.written offset bytes)
+
+  pub cut_is : (path : List ℕ) (length : ℕ) → AnswerIs (do_call a (call.Cut path length) W)
+  cut_is path length = change_is path (ranges.cut_to length)
+
+  pub read_is : (path : List ℕ) (offset count : ℕ) → AnswerIs (do_call a (call.Read path offset count) W)
+  read_is path offset count = goes_by (file_at a path) _ (λ f h. k)
+
+  pub fresh_is : (path : List ℕ) → AnswerIs (do_call a (call.Fresh path) W)
+  fresh_is path = goes_by (file_at a path) _ (λ f h. k)
+
+  pub ls_is : (path : List ℕ) (from : ℕ) → AnswerIs (do_call a (call.Ls path from) W)
+  ls_is path from = goes_by (dir_at a path) _ (λ f h. k)
+
+  pub stat_is : (t : Target) → AnswerIs (do_call a (call.Stat t) W)
+  stat_is t = goes_by (target_at a t) _ (λ f h. k)
+
+  pub rename_is : (from to : List ℕ) → AnswerIs (do_call a (call.Rename from to) W)
+  rename_is from to =
+      goes_by (move_of a from to) _ (λ m h. place_is m.thing (moved_held a from to m h) (place_in a moment m.to))
+
+  pub unlink_is : (path : List ℕ) → AnswerIs (do_call a (call.Unlink path) W)
+  unlink_is path =
+      goes_by (file_at a path) _ (λ f h. place_is f (full_own a.names f (file_found a path f h).0) (dead_place a moment f))
+
+  pub rmdir_is : (path : List ℕ) → AnswerIs (do_call a (call.Rmdir path) W)
+  rmdir_is path =
+      goes_by (empty_dir_at a path) _ (λ d h. place_is d (emptied_held a path d h) (dead_place a moment d))
+
+  pub demote_is : (t : Target) → AnswerIs (do_call a (call.Demote t) W)
+  demote_is t = goes_by (demoted_at a t) _ (λ f h. demoted f)
+
+  pub drop_is : (t : Target) → AnswerIs (do_call a (call.Drop t) W)
+  drop_is t = goes_by (dropped_at a t) _ (λ f h. leaving_goes f (clean_gold a f))
+
+  pub status_is : AnswerIs (do_call a call.Status W)
+  status_is = goes_by (in_time a (tt {0})) _ (λ f h. k)
+
+  pub stop_is : AnswerIs (do_call a call.Stop W)
+  stop_is = goes_by (in_time a (tt {0})) _ (λ f h. k)

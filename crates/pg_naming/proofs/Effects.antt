@@ -21,16 +21,16 @@ use Rattle.pg_calls.proofs.Late.{late_does_nothing}
 use Rattle.pg_server.specs.declared.input.Input.{Input}
 use Rattle.pg_server.specs.declared.input.Input.TheVariants as input
 use Rattle.pg_server.specs.Local.{Effect, closed, effect, finished, first_effect, is_heard, receive, reply_to, sent_again, settled, takes_effect}
-use Rattle.pg_run.specs.Carried.{came, carried}
+use Rattle.pg_run.specs.Carried.{came, carried, gone_by}
 use Rattle.pg_run.specs.Known.{Told}
 use Rattle.pg_run.specs.Passed.{passed, passed_with}
-use Rattle.pg_run.specs.Run.{brought, first_made, took_after}
-use Rattle.pg_run.specs.Took.{Take, take_of}
+use Rattle.pg_run.specs.Run.{first_made, made_takes, removed_then, took_after, took_first}
+use Rattle.pg_run.specs.Took.{Take, take_of, without_gone}
 use Rattle.pg_naming.specs.Goes.{Goes}
 use Rattle.pg_naming.specs.Merged.{IsNewId}
 use Rattle.pg_passing.specs.Tells.{AreApart}
-use Rattle.pg_naming.proofs.Calls.{call_goes}
-use Rattle.pg_naming.proofs.Going.{goes_on}
+use Rattle.pg_naming.proofs.Called.{call_goes}
+use Rattle.pg_naming.proofs.Going.{goes_itself, goes_on}
 use Rattle.pg_naming.proofs.Messages.{IsReady, message_goes}
 use Rattle.pg_naming.proofs.Notes.{tick_walk_made}
 use Rattle.pg_naming.proofs.Settling.{Comes, settle_comes}
@@ -67,20 +67,21 @@ module _ (gone : List ℕ) (answer : Option Reply) (d : Done) (now : List Take) 
 -- what is made in the event, with what was taken before it, is told apart
 abbrev pub IsApart : Store → List Take → Input → List Update → Type 0
 IsApart a takes asked all =
-    (us : List Update) → ((u : Update) → Among u us → Among u all) → AreApart (map take_of us ++ (brought a asked ++ takes))
+    (us : List Update) → ((u : Update) → Among u us → Among u all) → AreApart (map take_of us ++ took_first a takes asked)
 
 module _ (p : Told) (a : Store) (takes : List Take) (k : Goes a.names.removed a.names takes) (ready : IsReady p a) (ids : (kind : Kind) → IsNewId a (next_id a kind)) where
-  abbrev Gone : List ℕ
-  Gone = a.names.removed
+  -- who is removed then
+  abbrev Gone : Input → List ℕ
+  Gone asked = removed_then a asked
 
   abbrev FirstIs : Input → Type 0
-  FirstIs asked = Goes Gone (first_effect a asked).store.names (brought a asked ++ takes)
+  FirstIs asked = Goes (Gone asked) (first_effect a asked).store.names (took_first a takes asked)
 
-  -- what was made and came, and what was taken before
-  put_together : (s : NamesValue) (made : List Update) (xs : List Take) → Goes Gone s (map take_of made ++ (xs ++ takes)) → Goes Gone s ((map take_of made ++ xs) ++ takes)
-  put_together s made xs h =
-      let P : List Take → Type 0 = λ ys. Goes Gone s ys in
-      subst P (sym (append_assoc (map take_of made) xs takes)) h
+  -- what was made and came, and what was taken before and is left
+  put_together : (s : NamesValue) (made xs old : List Take) → Goes s.removed s (made ++ (xs ++ old)) → Goes s.removed s ((made ++ xs) ++ old)
+  put_together s made xs old h =
+      let P : List Take → Type 0 = λ ys. Goes s.removed s ys in
+      subst P (sym (append_assoc made xs old)) h
 
   tick_made : (moment word : ℕ) (t : Bool) → (cond t (sent_again a word (new_work moment 0)) (new_work moment 0)).made ≡ []
   tick_made moment word true = tick_walk_made a word (ask_all a (tick a (new_work moment 0)))
@@ -90,16 +91,21 @@ module _ (p : Told) (a : Store) (takes : List Take) (k : Goes a.names.removed a.
   pub first_goes : (asked : Input) → IsInputGood p asked → takes_effect a asked ≡ true → FirstIs asked
   first_goes (input.Call moment c) good going =
       let x = do_call a c (new_work moment 0) in
-      put_together x.store.names x.work.made (came a (input.Call moment c)) (call_goes Gone p a takes k ready ids moment c)
+      put_together x.store.names (made_takes a (input.Call moment c)) (came a (input.Call moment c)) takes
+      (call_goes a.names.removed p a takes k ready ids moment c)
   first_goes (input.Tick moment word) good going =
-      let P : List Update → Type 0 = λ us. Goes Gone a.names ((map take_of us ++ []) ++ takes) in
+      let P : List Update → Type 0 = λ us. Goes a.names.removed a.names ((map take_of us ++ []) ++ takes) in
       subst P (sym (tick_made moment word (is_in_time a))) k
   first_goes (input.Arrival packet) good going =
       let w = new_work 0 packet.from in
       let d = receive a packet.message w in
       let is : first_effect a (input.Arrival packet) ≡ d = chosen_true (is_heard a packet) d (idle a w) going in
-      let P : Done → Type 0 = λ e. Goes Gone e.store.names ((map take_of e.work.made ++ carried a packet.from packet.message) ++ takes) in
-      subst P (sym is) (put_together d.store.names d.work.made (carried a packet.from packet.message) (message_goes Gone p a takes k ready packet.from packet.message good))
+      let old = without_gone (gone_by a packet.from packet.message) takes in
+      let P : Done → Type 0 = λ e. Goes e.store.names.removed e.store.names ((map take_of e.work.made ++ carried a packet.from packet.message) ++ old) in
+      let come = carried a packet.from packet.message in
+      subst P (sym is) (put_together d.store.names (map take_of d.work.made) come old
+      (goes_itself a.names.removed d.store.names (map take_of d.work.made ++ (come ++ old))
+      (message_goes a.names.removed p a takes k ready packet.from packet.message good)))
   first_goes input.Restart good going = k
 
   -- where nothing takes effect names stay
@@ -114,13 +120,15 @@ module _ (p : Told) (a : Store) (takes : List Take) (k : Goes a.names.removed a.
   Ends asked t = cond t (closed (reply_to a asked) (first_effect a asked)) (finished (reply_to a asked) (first_effect a asked))
 
   by_test : (asked : Input) (t : Bool) → takes_effect a asked ≡ t → IsInputGood p asked → (t ≡ true → IsApart a takes asked (Ends asked t).out.made)
-      → Goes Gone (Ends asked t).store.names
-      (cond t (passed_with Gone (passed Gone (brought a asked ++ takes)) (drop (length (first_made a asked)) (Ends asked t).out.made)) takes)
+      → Goes (Gone asked) (Ends asked t).store.names
+      (cond t (passed_with (Gone asked) (passed (Gone asked) (took_first a takes asked)) (drop (length (first_made a asked)) (Ends asked t).out.made)) takes)
   by_test asked true e good apart =
-      closed_goes Gone (reply_to a asked) (first_effect a asked) (brought a asked ++ takes) (first_goes asked good e) (apart refl)
-  by_test asked false e good apart = goes_on Gone a.names (first_effect a asked).store.names takes (still asked e) k
+      closed_goes (Gone asked) (reply_to a asked) (first_effect a asked) (took_first a takes asked) (first_goes asked good e) (apart refl)
+  by_test asked false e good apart =
+      let s = (first_effect a asked).store.names in
+      goes_itself a.names.removed s takes (goes_on a.names.removed a.names s takes (still asked e) k)
 
   -- AN INPUT
   pub input_goes : (asked : Input) → IsInputGood p asked → (takes_effect a asked ≡ true → IsApart a takes asked (effect a asked).out.made)
-      → Goes Gone (effect a asked).store.names (took_after a takes asked)
+      → Goes (Gone asked) (effect a asked).store.names (took_after a takes asked)
   input_goes asked good apart = by_test asked (takes_effect a asked) refl good apart

@@ -1,5 +1,5 @@
 -- What each piece of an event leaves of a server in the midst of it.
-use Rattle.std.proofs.Common.{ℕ, ◌≡◌, ◌≤◌, true, List, ◌∷◌, ◌++◌, Some, sym, subst, ◌∙◌}
+use Rattle.std.proofs.Common.{ℕ, ◌≡◌, ◌≤◌, true, List, ◌∷◌, ◌++◌, Some, refl, sym, subst, ◌∙◌}
 use Rattle.pg_base.specs.declared.id.FileId.{FileId}
 use Rattle.pg_base.specs.declared.stamp.Stamp.{Stamp}
 use Rattle.pg_base.specs.Version.{VersionValue}
@@ -118,3 +118,7 @@ module _ (removed : List ℕ) where
   pub still_held : (s t : NamesValue) (now rest : List Take) → Is s now → Is t rest → ((x : Take) → Among x now → Among x rest) → (q : FileId) → IsHeld s q → IsHeld t q
   still_held s t now rest k l more q h =
       l.tells.held q (began_held rest q (more (Began q) (held_began now q (k.tells.told q h))))
+
+-- in the view that it is in
+pub goes_itself : (removed : List ℕ) (s : NamesValue) (now : List Take) → Goes removed s now → Goes s.removed s now
+goes_itself removed s now k = record { tells = k.tells; dirs = k.dirs; last = k.last; same_removed = refl }

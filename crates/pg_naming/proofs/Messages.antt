@@ -1,14 +1,11 @@
 -- A message comes: what it carries is what the server knows more then.
-use Rattle.std.proofs.Common.{ℕ, ◌≡◌, ◌&&◌, not, Bool, true, false, cond, List, [], ◌∷◌, ◌++◌, map, Option, None, Some, refl, sym, ap, subst, ◌∙◌, inr, arith}
-use Rattle.std.specs.Option.{is_some}
-use Rattle.std.proofs.lemmas.Bool.{false≢true, or_parts}
+use Rattle.std.proofs.Common.{ℕ, ◌≡◌, ◌&&◌, not, Bool, true, false, cond, List, [], ◌∷◌, ◌++◌, map, Some, refl, sym, ap, subst, ◌∙◌, inr, arith}
+use Rattle.std.proofs.lemmas.Bool.{or_parts}
 use Rattle.std.proofs.lemmas.Bool.Decides.{nat_tests}
-use Rattle.std.specs.Prelude.{nat_lt}
 use Rattle.pg_base.specs.declared.id.FileId.{FileId}
 use Rattle.pg_base.specs.declared.stamp.Stamp.{Stamp}
 use Rattle.pg_base.specs.Id.{is_same_file}
 use Rattle.pg_base.specs.Stamp.{is_before}
-use Rattle.pg_base.proofs.Orders.{is_same_file-true}
 use Rattle.pg_content.specs.Content.{Among}
 use Rattle.pg_register.specs.declared.flag.Flag.{Flag}
 use Rattle.pg_register.specs.declared.place.Place.{Place}
@@ -24,77 +21,48 @@ use Rattle.pg_msg.specs.declared.message.Granted.{Granted}
 use Rattle.pg_msg.specs.declared.message.Message.{Message}
 use Rattle.pg_msg.specs.declared.message.Message.TheVariants as message
 use Rattle.pg_msg.specs.declared.update.Update.{Update}
-use Rattle.pg_msg.specs.declared.update.Update.TheVariants as update
 use Rattle.pg_msg.specs.declared.work.Work.{Work}
-use Rattle.pg_msg.specs.Work.{new_work, with_made}
-use Rattle.pg_names.specs.Names.{HeldValue, NamesValue, fill as names_fill, filled, is_dir, is_full_of, is_place_new, known}
-use Rattle.pg_names.proofs.Holding.{fill_cells, fill_own}
-use Rattle.pg_names.proofs.Lookups.{update_frame}
+use Rattle.pg_msg.specs.Work.{new_work}
+use Rattle.pg_names.specs.Names.{NamesValue, cell_at, is_dir, is_place_new, known}
 use Rattle.pg_house.specs.Facts.{IsHeld}
 use Rattle.pg_house.specs.Passing.{is_update}
 use Rattle.pg_house.specs.Returning.{is_root}
 use Rattle.pg_house.proofs.Truths.{and_true, chosen_false}
-use Rattle.pg_promises.proofs.Choices.{chosen}
-use Rattle.pg_promises.proofs.Together.{held_of_replica, own_of_held}
-use Rattle.pg_replica.specs.declared.replica.Replica.{Replica}
-use Rattle.pg_replica.specs.Replicas.{is_of_birth}
+use Rattle.pg_promises.proofs.Together.{own_of_held}
 use Rattle.pg_store.specs.declared.store.Store.{Store}
-use Rattle.pg_store.specs.Births.{has_birth, is_pending}
-use Rattle.pg_store.specs.Links.{knows_later}
+use Rattle.pg_store.specs.Births.{is_pending}
 use Rattle.pg_store.specs.Servers.{next_target}
-use Rattle.pg_store.specs.Store.{is_full, is_held, is_newer_place, put_place, replica_at, take_flag, take_place, with_names}
+use Rattle.pg_store.specs.Store.{is_full, is_held, is_newer_place, put_place, take_place}
 use Rattle.pg_store.specs.Together.{AreTogether}
 use Rattle.pg_store.proofs.Given.{pending_may}
 use Rattle.pg_cells.specs.declared.accepting.Manner.TheVariants as manner
 use Rattle.pg_cells.specs.Accepting.{accept, is_accepted, is_current}
 use Rattle.pg_cells.specs.Cells.{cell as cell_done, fits, taken, taken_along}
 use Rattle.pg_cells.specs.Done.{Done, idle}
-use Rattle.pg_cells.specs.Making.{own_next, raise_flag}
 use Rattle.pg_cells.specs.Posting.{reply}
 use Rattle.pg_cells.specs.Taking.{take_entry_noted, take_flag_noted, take_flags_noted, take_place_noted}
 use Rattle.pg_repair.specs.Confirming.{confirmed, place_told, take_told_flags, take_told_place}
-use Rattle.pg_repair.specs.Filling.{few_golds, fill, live_golds}
+use Rattle.pg_cells.specs.Golds.{is_gold}
+use Rattle.pg_repair.specs.Filling.{fill, invite, is_bronze, raise_if_few}
 use Rattle.pg_repair.specs.Granting.{begin_granted, begun_by, granted_own}
 use Rattle.pg_repair.specs.NoneHere.{asking_key}
 use Rattle.pg_repair.specs.Telling.{told}
+use Rattle.pg_calls.proofs.Walked.{full_own}
 use Rattle.pg_server.specs.Local.{receive}
-use Rattle.pg_run.specs.Carried.{carried, granted_takes}
+use Rattle.pg_run.specs.Carried.{carried, gone_by, granted_takes}
 use Rattle.pg_run.specs.Intending.{IntendsInOrder}
 use Rattle.pg_run.specs.Known.{AreTold, IsCellTold, IsMessageTold, Told}
-use Rattle.pg_run.specs.Took.{Take, entry_takes, first_place, flags_of, places_of, take_of, takes_in}
+use Rattle.pg_run.specs.Took.{Take, entry_takes, first_place, flags_of, places_of, take_of, takes_in, without_gone}
 use Rattle.pg_run.specs.Took.Take.{TookFlag, TookPlace}
 use Rattle.pg_run.specs.Took.Taker.{Itself}
 use Rattle.pg_run.proofs.Lists.{among_back}
 use Rattle.pg_naming.specs.Goes.{Goes}
-use Rattle.pg_naming.proofs.Going.{goes_entry, goes_flag, goes_on, goes_place, goes_reordered, goes_same, goes_version, still_held}
-use Rattle.pg_naming.proofs.Notes.{accepted_still, confirmed_names, entry_noted_made, fetched_still, flag_noted_made, flags_noted_made, linked_still, none_here_names, place_noted_made, seek_still, taken_made, told_names, turned_names, unlink_names, walk_still}
+use Rattle.pg_naming.proofs.Going.{goes_entry, goes_flag, goes_on, goes_place, goes_reordered, goes_version, still_held}
+use Rattle.pg_naming.proofs.Held.{away_inner, current_held, none_of}
+use Rattle.pg_naming.proofs.Leaving.{leave_ok_goes}
+use Rattle.pg_naming.proofs.Making.{few_raised, fill_made}
+use Rattle.pg_naming.proofs.Notes.{accepted_still, confirmed_names, entry_noted_made, fetched_still, flags_noted_made, leave_still, linked_still, none_here_names, place_noted_made, seek_still, taken_made, told_names, turned_names, unlink_names, walk_still}
 use Rattle.pg_naming.proofs.Patched.{from_front, goes_with_patches, to_front}
-
--- ---- held or not
-
-birth_held : (a : Store) → AreTogether a → (f : FileId) (birth : ℕ) (o : Option Replica) → replica_at a f ≡ o → is_of_birth o birth ≡ true → IsHeld a.names f
-birth_held a together f birth None e h = absurd (false≢true h)
-birth_held a together f birth (Some x) e h = own_of_held a.names f (held_of_replica a together f x e)
-
-current_held : (a : Store) → AreTogether a → (from : ℕ) (ends : Ends) → is_current a from ends ≡ true → IsHeld a.names ends.file
-current_held a together from ends h =
-    birth_held a together ends.file ends.receiver (replica_at a ends.file) refl
-    (and_true (has_birth a ends.file ends.receiver) (not (knows_later a ends.file from ends.sender)) h).0
-
-pub none_of : (o : Option HeldValue) → is_some o ≡ false → o ≡ None
-none_of None h = refl
-none_of (Some x) h = absurd (false≢true (sym h))
-
-full_held : (o : Option HeldValue) (t : Bool) → is_some o ≡ false → is_full_of o ≡ true → ⊥
-full_held None t none h = false≢true h
-full_held (Some x) t none h = false≢true (sym none)
-
--- what is not held is not the root, which is
-pub away_inner : (a : Store) (f : FileId) → is_full a root ≡ true → is_held a f ≡ false → (t : Bool) → is_same_file f root ≡ t → t ≡ false
-away_inner a f top away false e = refl
-away_inner a f top away true e =
-    let P : FileId → Type 0 = λ x. is_held a x ≡ false in
-    absurd (full_held (known a.names root) true (subst P (is_same_file-true f root e) away) top)
 
 -- ---- places that are no news
 
@@ -111,6 +79,7 @@ pub record IsReady (p : Told) (a : Store) : Type 0 where
   pub intends : IntendsInOrder a
   pub patches : (dir : FileId) (e : Entry) (target : ℕ) → Among (intent.Patch dir e target) a.intents
       → (is_dir dir ≡ true) × IsByServer e.flags
+  pub cells : (dir child : FileId) (e : Entry) → cell_at a.names dir child ≡ Some e → p.IsPlace child e.place
 
 module _ (removed : List ℕ) (p : Told) (a : Store) (now : List Take) (k : Goes removed a.names now) (ready : IsReady p a) where
   abbrev Is : NamesValue → List Take → Type 0
@@ -277,28 +246,34 @@ module _ (removed : List ℕ) (p : Told) (a : Store) (now : List Take) (k : Goes
     abbrev pub With : List Take → Done → Type 0
     With xs d = Is d.store.names (map take_of d.work.made ++ (xs ++ now))
 
-    filled_goes : (f : FileId) → Is (names_fill a.names f) now
-    filled_goes f =
-        let frame = update_frame a.names f filled in
-        goes_same removed a.names (names_fill a.names f) now k (record { own = fill_own a.names f; cells = fill_cells a.names f }) frame.last frame.removed
-
     full_with : (f : FileId) → IsHeld a.names f → With [] (fill a f W)
-    full_with f held =
-        let b = with_names a (names_fill a.names f) in
-        let g = own_next b f true in
-        let filled_is = filled_goes f in
-        let here = still_held removed a.names b.names now now k filled_is (λ x h. h) f held in
-        let made = with_made W (update.Flag f g) in
-        chosen (With []) (nat_lt (live_golds b f) few_golds) (raise_flag b f W) (idle b W)
-        (let P : List Update → Type 0 = λ us. Is (take_flag b f g).names (map take_of us ++ now) in
-        subst P (sym (flag_noted_made b f g made)) (goes_flag removed b now filled_is f here g))
-        filled_is
+    full_with f held = fill_made removed now (idle a W) k f held
 
     full_by : (t : Bool) (ends : Ends) → (is_accepted a from manner.Answer ends && not (is_full a ends.file)) ≡ t → With [] (cond t (fill a ends.file W) (idle a W))
     full_by true ends h =
         let accepted = (and_true (is_accepted a from manner.Answer ends) (not (is_full a ends.file)) h).0 in
         full_with ends.file (current_held a together from ends (and_true (is_current a from ends) _ accepted).0)
     full_by false ends h = k
+
+    -- ---- one gold more is asked for
+
+    made_none : (d : Done) → d.store.names ≡ a.names → d.work.made ≡ [] → With [] d
+    made_none d e m =
+        let P : List Update → Type 0 = λ us. Is d.store.names (map take_of us ++ now) in
+        subst P (sym m) (goes_on removed a.names d.store.names now e k)
+
+    invite_by : (t u : Bool) (ends : Ends) (d : Done) → With [] d → is_bronze d.store ends.file ≡ u
+        → With [] (cond t (cond u (raise_if_few d.store ends.file d.work) d) d)
+    invite_by true true ends d h bronze =
+        few_raised removed now d h ends.file (full_own d.store.names ends.file (and_true (is_full d.store ends.file) (not (is_gold d.store ends.file)) bronze).0)
+    invite_by true false ends d h bronze = h
+    invite_by false u ends d h bronze = h
+
+    invite_is : (ends : Ends) → With [] (invite a ends W)
+    invite_is ends =
+        let d = accept a ends manner.Ask W in
+        let s = accepted_still a ends manner.Ask W in
+        invite_by (is_accepted a from manner.Ask ends) (is_bronze d.store ends.file) ends d (made_none d s.0 s.1) refl
 
     -- ---- any message
 
@@ -308,7 +283,8 @@ module _ (removed : List ℕ) (p : Told) (a : Store) (now : List Take) (k : Goes
         subst P (sym l.1) l.0
 
     -- A MESSAGE COMES
-    pub message_goes : (m : Message) → IsMessageTold p m → With (carried a from m) (receive a m W)
+    pub message_goes : (m : Message) → IsMessageTold p m
+        → Is (receive a m W).store.names (map take_of (receive a m W).work.made ++ (carried a from m ++ without_gone (gone_by a from m) now))
     message_goes (message.Cell ends tag c) good = leaves_with (message.Cell ends tag c) (cell_came ends tag c good)
     message_goes (message.Ack ends kk tag) good = k
     message_goes (message.Harbinger ends tag head) good = k
@@ -330,16 +306,18 @@ module _ (removed : List ℕ) (p : Told) (a : Store) (now : List Take) (k : Goes
         leaves_with (message.NoneHere what file child) (still_leaves (receive a (message.NoneHere what file child) W) (none_here_names a (asking_key what file child) from) refl)
     message_goes (message.Gone file birth) good =
         leaves_with (message.Gone file birth) (still_leaves (receive a (message.Gone file birth) W) (unlink_names a file from birth) refl)
-    message_goes (message.Bye ends) good = k
+    message_goes (message.Bye ends) good =
+        leaves_with (message.Bye ends) (still_leaves (receive a (message.Bye ends) W) (unlink_names a ends.file from ends.sender) refl)
     message_goes (message.ByeOk file birth) good = k
     message_goes (message.Confirm dir e) good = leaves_with (message.Confirm dir e) (confirm_by dir e (is_held a e.child) refl)
     message_goes (message.PlaceIs dir e) good = leaves_with (message.PlaceIs dir e) (place_is_by dir e good.0 good.1.sorted (is_held a dir) refl)
     message_goes (message.Tell dir e) good = leaves_with (message.Tell dir e) (tell_by dir e good.0 good.1.sorted (is_held a dir) refl)
     message_goes (message.TellOk dir child stamp) good =
         leaves_with (message.TellOk dir child stamp) (still_leaves (receive a (message.TellOk dir child stamp) W) (told_names a dir child stamp from) refl)
-    message_goes (message.Leave ends stamp) good = k
-    message_goes (message.LeaveOk ends stamp) good = k
-    message_goes (message.Invite ends) good = k
+    message_goes (message.Leave ends stamp) good =
+        let s = leave_still a ends stamp W in leaves_with (message.Leave ends stamp) (still_leaves (receive a (message.Leave ends stamp) W) s.0 s.1)
+    message_goes (message.LeaveOk ends stamp) good = leave_ok_goes removed a now k ready.intends.leaves from ends stamp
+    message_goes (message.Invite ends) good = invite_is ends
     message_goes (message.Walk ends origin birth hops word) good =
         let m = message.Walk ends origin birth hops word in
         let s = walk_still a ends origin birth hops word W in leaves_with m (still_leaves (receive a m W) s.0 s.1)

@@ -1,5 +1,5 @@
 -- What the pieces of handlers make, and what names they leave: most make nothing, and leave names as they were.
-use Rattle.std.proofs.Common.{ℕ, ◌≡◌, ◌==◌, ◌-◌, ◌/◌, ◌%◌, ◌||◌, Bool, true, false, cond, List, [], ◌∷◌, length, Option, None, Some, refl, ◌∙◌}
+use Rattle.std.proofs.Common.{ℕ, ◌≡◌, ◌==◌, ◌-◌, ◌/◌, ◌%◌, ◌||◌, Bool, true, false, cond, not, List, [], ◌∷◌, length, Option, None, Some, refl, ◌∙◌}
 use Rattle.std.specs.List.{slice_get}
 use Rattle.pg_base.specs.declared.id.FileId.{FileId}
 use Rattle.pg_base.specs.declared.stamp.Stamp.{Stamp}
@@ -10,15 +10,18 @@ use Rattle.pg_register.specs.declared.place.Place.{Place}
 use Rattle.pg_entries.specs.declared.cell.Cell.{Cell}
 use Rattle.pg_entries.specs.declared.cell.Cell.TheVariants as cell
 use Rattle.pg_entries.specs.declared.entry.Entry.{Entry}
+use Rattle.pg_intent.specs.declared.intent.Intent.{Intent}
 use Rattle.pg_intent.specs.declared.key.IntentKey.{IntentKey}
 use Rattle.pg_intent.specs.declared.key.IntentKey.TheVariants as intent_key
-use Rattle.pg_intent.specs.Intents.{aimed, ended, intent_at}
+use Rattle.pg_intent.specs.Intent.{key_of}
+use Rattle.pg_intent.specs.Intents.{aimed, ended, intent_at, stands}
 use Rattle.pg_cells.specs.declared.accepting.Manner.{Manner}
 use Rattle.pg_cells.specs.declared.accepting.Manner.TheVariants as manner
 use Rattle.pg_msg.specs.declared.message.Ask.TheVariants as ask
 use Rattle.pg_msg.specs.declared.message.Ends.{Ends}
 use Rattle.pg_msg.specs.declared.message.Message.TheVariants as message
 use Rattle.pg_msg.specs.declared.work.Work.{Work}
+use Rattle.pg_msg.specs.Work.{with_begun}
 use Rattle.pg_names.specs.Names.{own_or_blank}
 use Rattle.pg_house.specs.Work.{note_left}
 use Rattle.pg_house.proofs.Made.{left_made}
@@ -34,6 +37,7 @@ use Rattle.pg_store.specs.Wishes.{aim_wish}
 use Rattle.pg_cells.specs.Accepting.{accept, is_accepted, is_answer, link_peer, met, with_gone, with_link}
 use Rattle.pg_cells.specs.Cells.{taken}
 use Rattle.pg_cells.specs.Done.{Done, idle}
+use Rattle.pg_cells.specs.Intending.{begin_intent, with_begun_if}
 use Rattle.pg_cells.specs.Posting.{reply}
 use Rattle.pg_cells.specs.Taking.{is_any_news, take_entry_noted, take_flag_noted, take_flags_noted, take_place_noted, with_doubt, with_left_if}
 use Rattle.pg_cells.proofs.News.{news_made}
@@ -41,7 +45,9 @@ use Rattle.pg_repair.specs.Confirming.{end_confirmed, is_confirmed}
 use Rattle.pg_repair.specs.Fetching.{answered_fetch, ends_to, fetch, give, given}
 use Rattle.pg_repair.specs.Granting.{aim_fill, fill_asks, turn_fill, turn_wish, wish_asks}
 use Rattle.pg_repair.specs.NoneHere.{does_ask, turn}
+use Rattle.pg_graph.specs.Leaving.{begin_byes, bye_to, gives_leave, leave, leave_given}
 use Rattle.pg_graph.specs.Seeking.{answered_seek, seek}
+use Rattle.pg_graph.proofs.LeaveOk.{byes_by}
 use Rattle.pg_graph.specs.Seeks.{edges_of}
 use Rattle.pg_repair.specs.Telling.{end_told, is_told}
 use Rattle.pg_graph.specs.Walks.{goes_on, meet_origin, most_hops, onward, walk, walk_along, walk_from, walk_of, walk_of_tick, walk_on, walked, with_few_edges}
@@ -140,6 +146,28 @@ accepted_still a ends how w =
     chosen (IsStill a w) (has_birth a ends.file ends.receiver) _ (idle a (with_gone a ends how w))
     (chosen (IsStill a w) (knows_later a ends.file w.from ends.sender) (idle a w) (met a ends how w) (refl, refl) (met_still a ends how w))
     (refl, gone_made a ends how w)
+
+-- ---- replicas that leave
+
+pub leave_still : (a : Store) (ends : Ends) (stamp : Stamp) (w : Work) → IsStill a w (leave a ends stamp w)
+leave_still a ends stamp w =
+    let e = accept a ends manner.Link w in
+    let s = accepted_still a ends manner.Link w in
+    chosen (IsStill a w) (is_accepted a w.from manner.Link ends) (leave_given ends stamp e) e
+    (s.0, chosen (λ (v : Work). v.made ≡ w.made) (gives_leave e.store ends.file stamp) _ e.work s.1 s.1) s
+
+begun_made : (t : Bool) (w : Work) (q : IntentKey) → (with_begun_if t w q).made ≡ w.made
+begun_made t w q = chosen (λ (v : Work). v.made ≡ w.made) t (with_begun w q) w refl refl
+
+-- an intention begins
+pub intent_still : (a : Store) (i : Intent) (w : Work) → IsStill a w (begin_intent a i w)
+intent_still a i w = (refl, begun_made (not (stands a.intents (key_of i))) w (key_of i))
+
+pub byes_still : (b : Store) (file : FileId) (birth : ℕ) (es : List Edge) (w : Work) → IsStill b w (begin_byes file birth es (idle b w))
+byes_still b file birth es w =
+    byes_by (IsStill b w) (λ (e : Edge). Unit {0}) file birth
+    (λ d e any k. (let one = intent_still d.store (bye_to file birth e) d.work in (one.0 ∙ k.0, one.1 ∙ k.1)))
+    es (λ i e lt. tt) (idle b w) (refl, refl)
 
 -- ---- golds and walks
 

@@ -1,27 +1,30 @@
 -- After any events each server knows of names what its replicas took.
-use Rattle.std.proofs.Common.{ℕ, ◌≡◌, ◌≤◌, Bool, true, false, cond, List, [], ◌∷◌, ◌++◌, map, Option, Some, refl, sym, ap, subst, ◌∙◌}
+use Rattle.std.proofs.Common.{ℕ, ◌≡◌, ◌≤◌, Bool, true, false, cond, List, [], ◌∷◌, ◌++◌, map, Option, Some, refl, sym, ap, subst, ◌∙◌, inl, inr}
+use Rattle.pg_base.specs.declared.id.FileId.{FileId}
 use Rattle.pg_content.specs.Content.{Among}
 use Rattle.pg_msg.specs.declared.update.Update.{Update}
+use Rattle.pg_msg.specs.declared.update.Update.TheVariants as update
 use Rattle.pg_event.specs.declared.event.Event.{Event}
 use Rattle.pg_event.specs.declared.entry.VoidCause.{VoidCause}
 use Rattle.pg_store.specs.declared.store.Store.{Store}
 use Rattle.pg_server.specs.declared.input.Input.{Input}
 use Rattle.pg_server.specs.declared.input.Input.TheVariants as input
 use Rattle.pg_server.specs.Local.{effect, takes_effect}
-use Rattle.pg_run.specs.Carried.{came}
-use Rattle.pg_run.specs.Known.{Told, of_run}
+use Rattle.pg_run.specs.Carried.{came, gone_in, strikes}
+use Rattle.pg_run.specs.Known.{IsPlaceOf, Told, of_run}
 use Rattle.pg_run.specs.Laws.{NamesMerge}
 use Rattle.pg_run.specs.Passed.{passed, passed_with}
-use Rattle.pg_run.specs.Run.{Taking, World, brought, effect_step, first_made, idle_step, made_behind, run, start, taking_in, took_after, world_after}
-use Rattle.pg_run.specs.Took.{Take, take_of}
+use Rattle.pg_run.specs.Run.{Taking, World, brought, effect_step, first_made, idle_step, made_behind, made_takes, removed_then, run, start, taking_in, took_after, took_first, world_after}
+use Rattle.pg_run.specs.Took.{Take, take_of, without_gone}
 use Rattle.pg_run.proofs.Frame.{Acts, HasCome, holds_in_runs, next_is, pair_after, run_more}
 use Rattle.pg_run.proofs.Lists.{among_back, among_front}
 use Rattle.pg_run.proofs.Makes.{is_made_in_parts}
 use Rattle.pg_naming.specs.Goes.{Goes}
 use Rattle.pg_naming.specs.Merged.{AreMerged, AreTakesTold, IsMerged, NamesStandOn, StandsOn}
 use Rattle.pg_naming.proofs.Effects.{IsApart, input_goes}
+use Rattle.pg_naming.proofs.Gone.{gone_among}
 use Rattle.pg_naming.proofs.Messages.{IsReady}
-use Rattle.pg_naming.proofs.Sources.{IsInputGood, both_told, came_told, later_told, made_told, only_first, takes_apart, within_told}
+use Rattle.pg_naming.proofs.Sources.{IsInputGood, both_told, came_told, later_told, made_told, only_first, takes_apart, unless_told, within_told}
 use Rattle.pg_naming.proofs.Start.{start_merged}
 use Rattle.pg_naming.proofs.Settling.{took_within}
 use Rattle.pg_passing.proofs.States.{entry_is, own_is}
@@ -37,6 +40,9 @@ ready_of n w on s at = record {
   first = only_first n w on;
   intends = on.intends s at.0 at.1;
   patches = λ dir e target h. (let t = (on.known.stores s at.0 at.1).patches dir e target h in (t.0, t.1.sorted));
+  cells = λ dir child e h. (
+      let t = (on.known.stores s at.0 at.1).cells dir child e h in
+      subst (λ (f : FileId). IsPlaceOf w f e.place) t.0 t.1.place_is);
 }
 
 -- a message that came is one of the run
@@ -81,34 +87,40 @@ module _ (n : ℕ) (w : World) (event : Event) (s : ℕ) (asked : Input) (at : A
 
   new_told : AreTakesTold Then (came A asked)
   new_told =
-      later_told n w After (effect_step w event s asked).entry refl (came A asked)
-      (came_told (of_run n w) A (λ dir e target h. ((on.known.stores s at.0 at.1).patches dir e target h).1) asked good)
+      came_told (of_run n w) Then (λ xs h. later_told n w After (effect_step w event s asked).entry refl xs h) A
+      (λ dir e target h. ((on.known.stores s at.0 at.1).patches dir e target h).1) (ready_of n w on s at).cells asked
+      (λ f q h. inr (inl (made_in (update.Place f q) h))) good
 
-  pub first_told : AreTakesTold Then (brought A asked ++ T)
+  -- what is left of what was taken before
+  left_told : AreTakesTold Then (without_gone (gone_in A asked) T)
+  left_told x h = old_told x (gone_among (gone_in A asked) T x h)
+
+  pub first_told : AreTakesTold Then (took_first A T asked)
   first_told =
-      both_told Then (brought A asked) T
-      (both_told Then (map take_of (first_made A asked)) (came A asked)
-      (made_told n After (effect_step w event s asked).entry w.journal refl (first_made A asked) made_in) new_told) old_told
+      both_told Then (brought A asked) (without_gone (gone_in A asked) T)
+      (both_told Then (made_takes A asked) (came A asked)
+      (unless_told Then (strikes A asked) (map take_of (first_made A asked))
+      (made_told n After (effect_step w event s asked).entry w.journal refl (first_made A asked) made_in)) new_told) left_told
 
   end_told : AreTakesTold Then (took_after A T asked)
   end_told = by (takes_effect A asked)
     where
-      by : (t : Bool) → AreTakesTold Then (cond t (passed_with A.names.removed (passed A.names.removed (brought A asked ++ T)) (made_behind A asked)) T)
+      by : (t : Bool) → AreTakesTold Then (cond t (passed_with (removed_then A asked) (passed (removed_then A asked) (took_first A T asked)) (made_behind A asked)) T)
       by true =
-          within_told Then (passed_with A.names.removed (passed A.names.removed (brought A asked ++ T)) (made_behind A asked)) (map take_of (made_behind A asked) ++ (brought A asked ++ T))
-          (took_within A.names.removed (made_behind A asked) (brought A asked ++ T))
-          (both_told Then (map take_of (made_behind A asked)) (brought A asked ++ T)
+          within_told Then (passed_with (removed_then A asked) (passed (removed_then A asked) (took_first A T asked)) (made_behind A asked)) (map take_of (made_behind A asked) ++ took_first A T asked)
+          (took_within (removed_then A asked) (made_behind A asked) (took_first A T asked))
+          (both_told Then (map take_of (made_behind A asked)) (took_first A T asked)
           (made_told n After (effect_step w event s asked).entry w.journal refl (made_behind A asked) behind_in) first_told)
       by false = old_told
 
   module _ (later : StandsOn n After) where
     pub apart : IsApart A T asked (effect A asked).out.made
     apart us within =
-        takes_apart n After later (map take_of us ++ (brought A asked ++ T))
-        (both_told Then (map take_of us) (brought A asked ++ T)
+        takes_apart n After later (map take_of us ++ took_first A T asked)
+        (both_told Then (map take_of us) (took_first A T asked)
         (made_told n After (effect_step w event s asked).entry w.journal refl us within) first_told)
 
-    end_goes : Goes A.names.removed (effect A asked).store.names (took_after A T asked)
+    end_goes : Goes (removed_then A asked) (effect A asked).store.names (took_after A T asked)
     end_goes = input_goes (of_run n w) A T k.goes (ready_of n w on s at) (on.ids s at.0 at.1) asked good (λ going. apart)
 
     -- the server behind it

@@ -1,6 +1,6 @@
 -- What replicas take was made in the run, or was there at the start: so places are told apart by stamps, and flags by server,
 -- birth and number.
-use Rattle.std.proofs.Common.{ℕ, ◌≡◌, ◌==◌, ◌&&◌, ◌||◌, nat_lt, Bool, true, false, cond, List, [], ◌∷◌, ◌++◌, map, Option, None, Some, refl, sym, subst, ◌∙◌, inl, inr, ◌⊎◌, arith}
+use Rattle.std.proofs.Common.{ℕ, ◌≡◌, ◌==◌, ◌&&◌, ◌||◌, nat_lt, Bool, true, false, cond, List, [], ◌∷◌, ◌++◌, map, Option, None, Some, Result, Ok, Err, refl, sym, subst, ◌∙◌, inl, inr, ◌⊎◌, arith}
 use Rattle.std.proofs.lemmas.Bool.Decides.{nat_tests}
 use Rattle.pg_base.specs.declared.id.FileId.{FileId}
 use Rattle.pg_base.specs.Id.{is_same_file}
@@ -21,8 +21,12 @@ use Rattle.pg_msg.specs.declared.message.Message.{Message}
 use Rattle.pg_msg.specs.declared.message.Message.TheVariants as message
 use Rattle.pg_msg.specs.declared.update.Update.{Update}
 use Rattle.pg_msg.specs.declared.update.Update.TheVariants as update
+use Rattle.pg_msg.specs.Work.{new_work, with_made}
+use Rattle.pg_call.specs.declared.call.Call.{Call}
+use Rattle.pg_call.specs.declared.call.Call.TheVariants as call
 use Rattle.pg_call.specs.declared.reply.Reply.{Reply}
 use Rattle.pg_call.specs.declared.reply.Reply.TheVariants as reply
+use Rattle.pg_names.specs.Names.{cell_at, is_dir}
 use Rattle.pg_house.specs.Passing.{is_update}
 use Rattle.pg_house.specs.Returning.{is_root}
 use Rattle.pg_store.specs.declared.store.Store.{Store}
@@ -33,8 +37,12 @@ use Rattle.pg_cells.specs.Accepting.{is_current}
 use Rattle.pg_cells.specs.Cells.{fits}
 use Rattle.pg_server.specs.declared.input.Input.{Input}
 use Rattle.pg_server.specs.declared.input.Input.TheVariants as input
-use Rattle.pg_server.specs.Local.{reply_to}
-use Rattle.pg_run.specs.Carried.{begun_by, came, carried, granted_takes, patch_taken, patches_taken}
+use Rattle.pg_calls.specs.Answer.{answer, answered}
+use Rattle.pg_calls.specs.Calls.{do_call}
+use Rattle.pg_calls.specs.Forgetting.{begin_lost, dead_at, dirs_of, fill_lost, forget_lost, is_wanted, last_place, last_listing, lost_at, strike_out, struck_out, unwished}
+use Rattle.pg_walk.specs.declared.paths.Stop.{Stop}
+use Rattle.pg_server.specs.Local.{first_effect, reply_to}
+use Rattle.pg_run.specs.Carried.{anew_takes, begun_by, came, carried, forgotten_takes, granted_takes, known_takes, patch_taken, patches_taken, struck_by, struck_takes}
 use Rattle.pg_run.specs.Known.{AreTold, IsCellTold, IsEntryTold, IsFlagOf, IsMessageTold, IsPlaceOf, Told, WasMade, WasRaised, of_run}
 use Rattle.pg_run.specs.Run.{World}
 use Rattle.pg_run.specs.Took.{Take, Taker, entry_takes, first_place, flags_of, places_of, take_of, takes_in}
@@ -42,7 +50,9 @@ use Rattle.pg_run.specs.Took.Take.{Began, TookFlag, TookPlace, TookVersion}
 use Rattle.pg_run.specs.Took.Taker.{InDir, Itself}
 use Rattle.pg_run.proofs.Knowing.{Within}
 use Rattle.pg_run.proofs.Lists.{among_parts, among_pieces}
+use Rattle.pg_run.proofs.Striking.{marked_made}
 use Rattle.pg_naming.specs.Merged.{AreTakesTold, IsTakeTold, StandsOn}
+use Rattle.pg_calls.proofs.LastPlace.{last_is}
 use Rattle.pg_passing.specs.Newest.{IsAnyOf}
 use Rattle.pg_passing.specs.Tells.{AreApart, KnowsFlag, KnowsPlace}
 use Rattle.pg_passing.proofs.Latest.{first_stamp_is}
@@ -67,6 +77,10 @@ module _ (p : Told) where
   pub where_told : (t : Bool) (xs : List Take) → AreTakesTold p xs → AreTakesTold p (cond t xs [])
   where_told true xs h = h
   where_told false xs h = none_told
+
+  pub unless_told : (t : Bool) (xs : List Take) → AreTakesTold p xs → AreTakesTold p (cond t [] xs)
+  unless_told true xs h = none_told
+  unless_told false xs h = h
 
   one_told : (x : Take) → IsTakeTold p x → AreTakesTold p (x ∷ [])
   one_told x h y (inl e) = subst (IsTakeTold p) (sym e) h
@@ -120,15 +134,11 @@ module _ (p : Told) where
         both_told (places_of Itself f place) (flags_of Itself f flags ++ patches_taken a f) (places_told Itself f place h.place_is)
         (both_told (flags_of Itself f flags) (patches_taken a f) (flags_told Itself f flags h.flags_are) (patches_told f)) x more
 
-    inner_told : (t : Bool) (xs : List Take) → AreTakesTold p xs → AreTakesTold p (cond t [] xs)
-    inner_told true xs h = none_told
-    inner_told false xs h = h
-
     confirm_told : (e : ChildEntry) → IsEntryTold p e
         → AreTakesTold p (cond (is_root e.child) [] (places_of Itself e.child e.place) ++ flags_of Itself e.child e.flags)
     confirm_told e h =
         both_told (cond (is_root e.child) [] (places_of Itself e.child e.place)) (flags_of Itself e.child e.flags)
-        (inner_told (is_root e.child) (places_of Itself e.child e.place) (places_told Itself e.child e.place h.place_is))
+        (unless_told (is_root e.child) (places_of Itself e.child e.place) (places_told Itself e.child e.place h.place_is))
         (flags_told Itself e.child e.flags h.flags_are)
 
     carried_told : (from : ℕ) (m : Message) → IsMessageTold p m → AreTakesTold p (carried a from m)
@@ -162,7 +172,7 @@ module _ (p : Told) where
     carried_told from (message.Walk ends origin birth hops word) h = none_told
     carried_told from (message.Meet ends) h = none_told
 
-    -- ---- any input
+    -- ---- a reply
 
     reply_told : (r : Option Reply) → AreTakesTold p (begun_by r)
     reply_told None = none_told
@@ -176,11 +186,72 @@ module _ (p : Told) where
     reply_told (Some (reply.Status counts)) = none_told
     reply_told (Some (reply.Refused why)) = none_told
 
-    pub came_told : (asked : Input) → IsInputGood p asked → AreTakesTold p (came a asked)
-    came_told (input.Call moment c) h = reply_told (reply_to a (input.Call moment c))
-    came_told (input.Tick moment word) h = none_told
-    came_told (input.Arrival packet) h = carried_told packet.from packet.message h
-    came_told input.Restart h = none_told
+    -- ---- what was lost
+
+    module _ (cells : (dir child : FileId) (e : ChildEntry) → cell_at a.names dir child ≡ Some e → p.IsPlace child e.place) where
+      known_told : (id : FileId) (o : Option Place) → last_place a.names id ≡ o → AreTakesTold p (known_takes id o)
+      known_told id None e = none_told
+      known_told id (Some q) e =
+          let l = last_is a.names id q e in
+          one_told (TookPlace Itself id q) (subst (p.IsPlace id) l.is (cells l.dir id l.cell l.there))
+
+      anew_told : (id : FileId) → AreTakesTold p (anew_takes a id)
+      anew_told id =
+          let rest = known_takes id (last_place a.names id) ++ patches_taken a id in
+          where_told (is_wanted a id) (Began id ∷ rest)
+          (both_told (Began id ∷ []) rest (one_told (Began id) tt)
+          (both_told (known_takes id (last_place a.names id)) (patches_taken a id) (known_told id (last_place a.names id) refl) (patches_told id)))
+
+-- the dead place with which a file is struck out was made
+struck_made : (a : Store) (moment : ℕ) (id dir : FileId)
+    → Among (update.Place id (dead_at a moment id dir)) (struck_out a id (new_work moment 0) (Some dir)).work.made
+struck_made a moment id dir =
+    let u = update.Place id (dead_at a moment id dir) in
+    let P : List Update → Type 0 = λ us. Among u us in
+    subst P (sym (marked_made (dirs_of a.names id) (unwished a id) id (dead_at a moment id dir) (with_made (new_work moment 0) u))) (inl refl)
+
+-- ---- any input
+
+-- what was told before, in the words of p, is told then, in those of q; and so is what the event makes
+module _ (p q : Told) (later : (xs : List Take) → AreTakesTold p xs → AreTakesTold q xs) (a : Store)
+    (patches : (dir : FileId) (e : ChildEntry) (target : ℕ) → Among (intent.Patch dir e target) a.intents → IsEntryTold p e)
+    (cells : (dir child : FileId) (e : ChildEntry) → cell_at a.names dir child ≡ Some e → p.IsPlace child e.place) where
+  abbrev MadeIs : List Update → Type 0
+  MadeIs us = (f : FileId) (r : Place) → Among (update.Place f r) us → q.IsPlace f r
+
+  struck_told : (moment : ℕ) (id : FileId) (o : Option FileId) → MadeIs (struck_out a id (new_work moment 0) o).work.made
+      → AreTakesTold q (struck_by a moment id o)
+  struck_told moment id None made = none_told q
+  struck_told moment id (Some dir) made =
+      let dead = dead_at a moment id dir in
+      (λ x among. let r = among_map (λ (d : FileId). TookPlace (InDir d) id dead) (dirs_of a.names id) x among in
+      subst (IsTakeTold q) (sym r.2) (made id dead (struck_made a moment id dir)))
+
+  lost_by : (moment : ℕ) (id : FileId) (held dir : Bool)
+      → MadeIs (cond held (fill_lost a id (new_work moment 0)) (cond dir (begin_lost a id (new_work moment 0)) (strike_out a id (new_work moment 0)))).work.made
+      → AreTakesTold q (cond held [] (cond dir (anew_takes a id) (struck_takes a moment id)))
+  lost_by moment id true dir made = none_told q
+  lost_by moment id false true made = later (anew_takes a id) (anew_told p a patches cells id)
+  lost_by moment id false false made = struck_told moment id (last_listing a.names id (dirs_of a.names id)) made
+
+  forgotten_told : (moment : ℕ) (o : Result FileId Stop)
+      → MadeIs (answered a (new_work moment 0) o (λ found. answer (forget_lost a found (new_work moment 0)) reply.Done)).work.made
+      → AreTakesTold q (forgotten_takes a moment o)
+  forgotten_told moment (Err why) made = none_told q
+  forgotten_told moment (Ok id) made = lost_by moment id (is_held a id) (is_dir id) made
+
+  call_told : (moment : ℕ) (c : Call) → MadeIs (do_call a c (new_work moment 0)).work.made → AreTakesTold q (came a (input.Call moment c))
+  call_told moment (call.Forget id) made = forgotten_told moment (lost_at a id) made
+  call_told moment c made =
+      let r = reply_to a (input.Call moment c) in
+      later (begun_by r) (reply_told p a patches r)
+
+  pub came_told : (asked : Input) → MadeIs (first_effect a asked).work.made → IsInputGood p asked → AreTakesTold q (came a asked)
+  came_told (input.Call moment c) made h = call_told moment c made
+  came_told (input.Tick moment word) made h = none_told q
+  came_told (input.Arrival packet) made h =
+      later (carried a packet.from packet.message) (carried_told p a patches packet.from packet.message h)
+  came_told input.Restart made h = none_told q
 
 -- ---- what is made, and was made
 

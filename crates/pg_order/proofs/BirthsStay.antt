@@ -95,7 +95,7 @@ keys_end a w k =
 -- ---- births
 
 -- a Patch, a Seek or a Confirm is no Fill
-other_births : (b : Store) (i : Intent) (w : Work) → ((q : FileId) → is_same_key (intent_key.Fill q) (key_of i) ≡ false) → AreBirths b → AreBirths (begin_intent b i w).store
+pub other_births : (b : Store) (i : Intent) (w : Work) → ((q : FileId) → is_same_key (intent_key.Fill q) (key_of i) ≡ false) → AreBirths b → AreBirths (begin_intent b i w).store
 other_births b i w other h =
     births_as_before b (begin_intent b i w).store
     (intents_as_before b (begun b.intents i) (λ q x there. sym (begun_other b i w (intent_key.Fill q) (other q)) ∙ there)) h

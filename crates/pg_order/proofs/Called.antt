@@ -1,9 +1,9 @@
 -- A call leaves a server sound, and what it asks for is said.
-use Rattle.std.proofs.Common.{ℕ, ◌≡◌, ◌≤◌, ◌+◌, ◌==◌, Bool, true, false, cond, Option, None, Some, is_some, Result, Ok, Err, List, [], ◌∷◌, refl, sym, ap, subst, ◌∙◌, inl, arith}
+use Rattle.std.proofs.Common.{ℕ, ◌≡◌, ◌≤◌, ◌+◌, ◌==◌, Bool, true, false, Option, None, Some, is_some, Result, Ok, Err, List, refl, sym, ap, subst, ◌∙◌, inl, arith}
 use Rattle.std.specs.Option.{option_or}
 use Rattle.std.proofs.lemmas.Bool.{false≢true}
 use Rattle.std.proofs.lemmas.List.Elements.{All-nil}
-use Rattle.std.proofs.lemmas.Option.{none-some, same_Some}
+use Rattle.std.proofs.lemmas.Option.{none-some}
 use Rattle.pg_base.specs.declared.id.FileId.{FileId}
 use Rattle.pg_base.specs.declared.id.Kind.{Kind}
 use Rattle.pg_base.specs.declared.id.Kind.TheVariants.{Dir, File}
@@ -15,19 +15,17 @@ use Rattle.pg_base.proofs.Orders.{is_same_file-true}
 use Rattle.pg_patch.specs.Ranges.{RangesValue, cut_to, written}
 use Rattle.pg_intent.specs.declared.intent.Intent.{Intent}
 use Rattle.pg_intent.specs.declared.intent.Intent.TheVariants as intent
-use Rattle.pg_intent.specs.declared.key.IntentKey.{IntentKey}
 use Rattle.pg_intent.specs.declared.key.IntentKey.TheVariants as intent_key
-use Rattle.pg_intent.specs.Intents.{has_key, intent_at}
+use Rattle.pg_intent.specs.Intents.{has_key}
 use Rattle.pg_msg.specs.declared.message.Message.TheVariants as message
-use Rattle.pg_msg.specs.declared.update.Update.TheVariants as update
 use Rattle.pg_msg.specs.declared.work.Work.{Work}
-use Rattle.pg_msg.specs.Work.{with_made}
 use Rattle.pg_call.specs.declared.call.Call.{Call}
 use Rattle.pg_call.specs.declared.call.Call.TheVariants as call
+use Rattle.pg_call.specs.declared.call.Target.{Target}
 use Rattle.pg_call.specs.declared.refusal.Refusal.TheVariants.{ManyActors, TooLong}
 use Rattle.pg_call.specs.declared.reply.Reply.{Reply}
 use Rattle.pg_call.specs.declared.reply.Reply.TheVariants as reply
-use Rattle.pg_register.specs.declared.place.Place.{Place}
+use Rattle.pg_register.specs.declared.flag.Flag.{Flag}
 use Rattle.pg_register.specs.Place.{root}
 use Rattle.pg_register.proofs.ByServer.{IsByServer-nil}
 use Rattle.pg_names.specs.declared.own.Own.{Own}
@@ -48,6 +46,7 @@ use Rattle.pg_store.proofs.Wishing.{wish_births}
 use Rattle.pg_cells.specs.Done.{Done, idle}
 use Rattle.pg_cells.specs.Golds.{is_gold}
 use Rattle.pg_cells.specs.Making.{lower_flag}
+use Rattle.pg_graph.proofs.LeaveOk.{found_keyed}
 use Rattle.pg_repair.proofs.Needs.{needed_comes}
 use Rattle.pg_calls.specs.declared.checks.NewName.{NewName}
 use Rattle.pg_calls.specs.Answer.{Answer, answer, answered, replied, told, unless}
@@ -56,10 +55,13 @@ use Rattle.pg_calls.specs.Bodies.{change, change_file, when_fit}
 use Rattle.pg_calls.specs.Calls.{do_call}
 use Rattle.pg_calls.specs.Checks.{dir_at, empty_dir_at, file_at, in_time, move_of, new_name, target_at}
 use Rattle.pg_calls.specs.Demoting.{demoted_at}
+use Rattle.pg_calls.specs.Dropping.{clean_gold, drop, dropped_at, leave_of, leaving}
+use Rattle.pg_calls.specs.Forgetting.{lost_at}
+use Rattle.pg_calls.specs.GivingUp.{removal_at}
 use Rattle.pg_calls.specs.Making.{drawn, first_ranges, make_place, make_version, version_of, with_version}
 use Rattle.pg_calls.specs.Naming.{begun, dead_place, next_id, place_in, taken_away, with_first_version, with_id, with_thing}
 use Rattle.pg_calls.proofs.InTime.{name_in_time}
-use Rattle.pg_calls.proofs.Missing.{IsMissing, demoted_missing, dir_missing, empty_missing, file_missing, move_missing, name_missing, target_missing}
+use Rattle.pg_calls.proofs.Missing.{IsMissing, demoted_missing, dir_missing, dropped_missing, empty_missing, file_missing, lost_missing, move_missing, name_missing, removal_missing, target_missing}
 use Rattle.pg_calls.proofs.Stopping.{StopsAt, stops_then, stops_time, stops_unless}
 use Rattle.pg_calls.proofs.Walked.{file_found, full_own}
 use Rattle.pg_server.specs.Local.{done_of}
@@ -67,10 +69,13 @@ use Rattle.pg_promises.proofs.Choices.{chosen}
 use Rattle.pg_order.specs.Saying.{IsClosed, IsSaidOwn, Saying}
 use Rattle.pg_order.proofs.BirthsStay.{fresh_given}
 use Rattle.pg_order.proofs.Ended.{IsAtRest}
+use Rattle.pg_order.proofs.Entering.{so_entered}
 use Rattle.pg_order.proofs.Files.{thing_files}
-use Rattle.pg_order.proofs.Found.{IsFree, empty_found, move_found, name_found}
+use Rattle.pg_order.proofs.Found.{IsFree, IsToGo, dropped_found, empty_found, lost_found, move_found, name_found}
+use Rattle.pg_order.proofs.Leaving.{so_begins}
+use Rattle.pg_order.proofs.Losing.{so_lost}
 use Rattle.pg_order.proofs.Sounding.{Sound, sound_alike, sound_begun, sound_write}
-use Rattle.pg_order.proofs.Taking.{IsMember, SoFar, so_flagged, so_place, so_raised, so_sent, so_with}
+use Rattle.pg_order.proofs.Taking.{IsMember, SoFar, so_flagged, so_made, so_raised, so_sent, so_with}
 
 -- an id that nobody knows yet
 pub record IsNewId (p : Saying) (a : Store) (id : FileId) : Type 0 where
@@ -78,16 +83,6 @@ pub record IsNewId (p : Saying) (a : Store) (id : FileId) : Type 0 where
   pub gap : fill_at a id ≡ None
   pub thing : p.IsThing id
   pub other : is_same_file id root ≡ false
-
--- ---- what is found with a key has it
-
-found_passes : (k : IntentKey) (i : Intent) (is : List Intent) → intent_at is k ≡ Some i → has_key k i ≡ true
-found_passes k i [] h = absurd (none-some i h)
-found_passes k i (j ∷ js) h = at (has_key k j) refl (found_passes k i js) h
-  where
-    at : (t : Bool) → has_key k j ≡ t → (intent_at js k ≡ Some i → has_key k i ≡ true) → cond t (Some j) (intent_at js k) ≡ Some i → has_key k i ≡ true
-    at true has rest same = ap (has_key k) (sym (same_Some j i same)) ∙ has
-    at false has rest later = rest later
 
 -- where neither a Fill nor a wish stands
 no_fill : (f : FileId) (o : Option Intent) (w : Option Wish) → ((i : Intent) → o ≡ Some i → has_key (intent_key.Fill f) i ≡ true) → option_or (wish_by o) w ≡ None → o ≡ None
@@ -133,11 +128,6 @@ module _ (p : Saying) (c : IsClosed p) (n s : ℕ) (mine : IsMember p n s) (a : 
   thing_of : (f : FileId) → IsHeld a.names f → p.IsThing f
   thing_of f held = (k.sound.named.said.own f held.0 held.1).thing
 
-  so_made : (d : Done) (f : FileId) (place : Place) → p.IsPlace f place → Far d → Far (make_place f place d)
-  so_made d f place here h =
-      let w = with_made d.work (update.Place f place) in
-      so_place p c n s (idle d.store w) f place here (so_with p c n s d d.store w h h.store (record { left = refl; sent = refl; tail = refl }))
-
   -- a place where a client wants it
   given_place : (b : Store) (f : FileId) (now : ℕ) (new : NewName) → is_same_file f root ≡ false → IsFree a new → p.IsPlace f (place_in b now new)
   given_place b f now new other free = c.given f (place_in b now new) other (thing_of new.dir free.held) free.dir free.name
@@ -182,7 +172,7 @@ module _ (p : Saying) (c : IsClosed p) (n s : ℕ) (mine : IsMember p n s) (a : 
     so_thing =
         let d = idle (begun (with_id a) Id policy) work in
         let place = place_in (with_id a) work.now new in
-        let placed = so_made d Id place (given_place (with_id a) Id work.now new fresh.other (name_found a Id text new found)) so_begun in
+        let placed = so_made p c n s d Id place (given_place (with_id a) Id work.now new fresh.other (name_found a Id text new found)) so_begun in
         so_raised p c n s (make_place Id place d) Id mine placed
 
   -- ---- what is asked for
@@ -194,7 +184,7 @@ module _ (p : Saying) (c : IsClosed p) (n s : ℕ) (mine : IsMember p n s) (a : 
 
     module _ (f : FileId) (missing : is_full a f ≡ false) (none : standing a f ≡ None) where
       gap : fill_at a f ≡ None
-      gap = no_fill f (fill_at a f) (wish_at a f) (λ i at. found_passes (intent_key.Fill f) i a.intents at) none
+      gap = no_fill f (fill_at a f) (wish_at a f) (λ i at. found_keyed (intent_key.Fill f) i a.intents at) none
 
       away_by : (t : Bool) → is_held a f ≡ t → is_held a f ≡ false
       away_by false there = there
@@ -256,13 +246,13 @@ module _ (p : Saying) (c : IsClosed p) (n s : ℕ) (mine : IsMember p n s) (a : 
     so_rename from to =
         so_answered (move_of a from to) _ (move_missing a from to)
         (λ move found. (let m = move_found a from to move found in
-        so_made (idle a work) move.thing (place_in a work.now move.to) (given_place a move.thing work.now move.to m.other m.free) first))
+        so_made p c n s (idle a work) move.thing (place_in a work.now move.to) (given_place a move.thing work.now move.to m.other m.free) first))
 
     so_away : (f : FileId) → IsHeld a.names f → is_same_file f root ≡ false → Far (taken_away a work f)
     so_away f held other =
         let was = k.sound.named.said.own f held.0 held.1 in
         let here = subst (λ (o : Own). p.IsPlace f o.place) (sym (ap (or_blank f) held.1)) was.place in
-        so_made (idle a work) f (dead_place a work.now f)
+        so_made p c n s (idle a work) f (dead_place a work.now f)
         (c.again f (own_or_blank a.names f).place (dead_place a work.now f) other here refl refl) first
 
     so_unlink : (text : List ℕ) → FarAnswer (do_call a (call.Unlink text) work)
@@ -290,6 +280,16 @@ module _ (p : Saying) (c : IsClosed p) (n s : ℕ) (mine : IsMember p n s) (a : 
     so_timed : (tell : Unit {0} → Reply) → FarAnswer (replied a work (in_time a (tt {0})) tell)
     so_timed tell = so_looked (in_time a (tt {0})) tell (stops_time (IsMissing a.names) a (tt {0}))
 
+    so_leaving : (f : FileId) (o : Option Flag) → IsToGo a f → FarAnswer (leaving a f work o)
+    so_leaving f None going = first
+    so_leaving f (Some flag) going =
+        so_begins p c n s (idle a work) (leave_of f flag) (λ q. refl) (thing_of f (full_own a.names f going.full), c.child f going.other) first
+
+    so_dropped : (t : Target) → FarAnswer (drop a t work)
+    so_dropped t =
+        so_answered (dropped_at a t) _ (dropped_missing a t)
+        (λ f found. so_leaving f (clean_gold a f) (dropped_found a t f found))
+
     -- A CALL
     pub so_called : (x : Call) → GivesNewIds p a x work → FarAnswer (do_call a x work)
     so_called (call.Mkdir path) ids = so_mkdir path ids
@@ -303,11 +303,13 @@ module _ (p : Saying) (c : IsClosed p) (n s : ℕ) (mine : IsMember p n s) (a : 
     so_called (call.Rename from to) ids = so_rename from to
     so_called (call.Unlink path) ids = so_unlink path
     so_called (call.Rmdir path) ids = so_rmdir path
-    so_called (call.Forget id) ids = so_timed _
+    so_called (call.Forget id) ids =
+        so_answered (lost_at a id) _ (lost_missing a id) (λ f found. so_lost p c n s mine a k work first f (lost_found a id f found))
     so_called (call.Demote target) ids =
         so_answered (demoted_at a target) _ (demoted_missing a target)
         (λ f found. chosen Far (is_gold a f) (lower_flag a f work) (idle a work) (so_flagged p c n s (idle a work) f false mine first) first)
-    so_called (call.Drop target) ids = so_timed _
-    so_called (call.Giveup view server) ids = so_timed _
+    so_called (call.Drop target) ids = so_dropped target
+    so_called (call.Giveup view server) ids =
+        so_answered (removal_at a view server) _ (removal_missing a view server) (λ found at. so_entered p c n s (idle a work) server first)
     so_called call.Status ids = so_timed _
     so_called call.Stop ids = so_timed _

@@ -1,33 +1,27 @@
 -- How many ids a server gave out: a call that makes a thing gives out one, and nothing else does.
-use Rattle.std.proofs.Common.{ℕ, ◌≤◌, ◌+◌, ◌==◌, arith, Result, Ok, Err, ◌≡◌, ◌&&◌, Bool, not, cond, List, [], ◌∷◌, drop, length, Option, None, Some, nat_lt, true, false, refl, ◌∙◌}
+use Rattle.std.proofs.Common.{ℕ, ◌≤◌, ◌+◌, ◌==◌, arith, Result, Ok, Err, ◌≡◌, ◌&&◌, not, cond, List, [], ◌∷◌, drop, length, Option, None, Some, nat_lt, true, false, refl, ◌∙◌}
 use Rattle.pg_base.specs.declared.id.FileId.{FileId}
 use Rattle.pg_base.specs.declared.policy.Policy.{Policy}
-use Rattle.pg_base.specs.Version.{VersionValue}
+use Rattle.pg_edges.specs.declared.edge.Edge.{Edge}
 use Rattle.pg_entries.specs.declared.cell.Cell.{Cell}
 use Rattle.pg_entries.specs.declared.cell.Cell.TheVariants as cells
-use Rattle.pg_entries.specs.declared.entry.Entry.{Entry}
-use Rattle.pg_intent.specs.declared.intent.Intent.{Intent}
-use Rattle.pg_intent.specs.declared.intent.Intent.TheVariants as intent
-use Rattle.pg_intent.specs.declared.key.IntentKey.{IntentKey}
 use Rattle.pg_intent.specs.declared.key.IntentKey.TheVariants as intent_key
-use Rattle.pg_intent.specs.Intents.{ended, intent_at}
+use Rattle.pg_intent.specs.Intents.{intent_at}
 use Rattle.pg_msg.specs.declared.message.Ends.{Ends}
 use Rattle.pg_msg.specs.declared.message.Message.{Message}
 use Rattle.pg_msg.specs.declared.message.Message.TheVariants as message
 use Rattle.pg_msg.specs.declared.work.Touched.{Touched}
 use Rattle.pg_msg.specs.declared.work.Work.{Work}
-use Rattle.pg_names.specs.declared.own.Own.{Own}
 use Rattle.pg_names.specs.Names.{fill as fill_names}
 use Rattle.pg_register.specs.declared.flag.Flag.{Flag}
-use Rattle.pg_register.specs.declared.place.Place.{Place}
 use Rattle.pg_house.specs.House.{house}
 use Rattle.pg_house.specs.Work.{is_root, state_of}
 use Rattle.pg_store.specs.declared.store.Store.{Store}
-use Rattle.pg_store.specs.Beginning.{begin, patches_of, put_new, take_patch, take_patches, take_told, take_told_in, with_intents}
-use Rattle.pg_store.specs.Births.{fill_at, has_birth, is_pending, wish_at, with_birth}
-use Rattle.pg_store.specs.Links.{is_linked, is_new_link, knows_later, link, put_link, unlink}
+use Rattle.pg_store.specs.Beginning.{let_go}
+use Rattle.pg_store.specs.Births.{birth_of, fill_at, has_birth, is_pending, wish_at, with_birth}
+use Rattle.pg_store.specs.Links.{knows_later}
 use Rattle.pg_store.specs.Servers.{next_target}
-use Rattle.pg_store.specs.Store.{is_full, is_held, is_new_version, is_newer_entry, is_newer_flag, is_newer_place, put_entry, put_flag, put_place, put_version, take_entry, take_flag, take_place, take_version, touch, with_names}
+use Rattle.pg_store.specs.Store.{is_full, is_held, replica_of, take_entry, touch, with_names}
 use Rattle.pg_cells.specs.declared.accepting.Manner.{Manner}
 use Rattle.pg_cells.specs.declared.accepting.Manner.TheVariants as manner
 use Rattle.pg_cells.specs.Accepting.{accept, is_accepted, met}
@@ -36,16 +30,18 @@ use Rattle.pg_cells.specs.Done.{Done, idle}
 use Rattle.pg_cells.specs.Golds.{is_gold}
 use Rattle.pg_cells.specs.Making.{lower_flag, own_next}
 use Rattle.pg_cells.specs.Settling.{rules, settle, touch_all}
-use Rattle.pg_cells.specs.Taking.{take_flag_noted, take_flags_noted}
 use Rattle.pg_repair.specs.Confirming.{is_confirmed, take_told_place}
-use Rattle.pg_repair.specs.Filling.{few_golds, live_golds}
+use Rattle.pg_repair.specs.Filling.{few_golds, invited, is_bronze, live_golds, raise_if_few}
 use Rattle.pg_repair.specs.Granting.{begun_by, fill_asks, turn_wish, wish_asks}
 use Rattle.pg_repair.specs.NoneHere.{asking_key, does_ask}
 use Rattle.pg_repair.specs.Telling.{is_told}
+use Rattle.pg_graph.specs.Leaving.{without_leave}
 use Rattle.pg_graph.specs.Walks.{goes_on, onward, walked}
+use Rattle.pg_graph.proofs.LeaveOk.{byes_by, leave_ok_by}
 use Rattle.pg_repair.proofs.Steady.{begin_end_stays}
 use Rattle.pg_calls.specs.declared.checks.NewName.{NewName}
 use Rattle.pg_calls.specs.Demoting.{demoted_at}
+use Rattle.pg_calls.specs.Dropping.{clean_gold, dropped_at, leaving}
 use Rattle.pg_calls.specs.Making.{make_place}
 use Rattle.pg_calls.specs.Naming.{begun, dead_place, next_id, place_in, with_id, with_thing}
 use Rattle.pg_server.specs.Local.{closed, receive}
@@ -58,6 +54,8 @@ use Rattle.pg_patch.specs.Ranges.{RangesValue, cut_to, written}
 use Rattle.pg_call.specs.declared.call.Call.{Call}
 use Rattle.pg_call.specs.declared.call.Call.TheVariants as call
 use Rattle.pg_msg.specs.Work.{new_work}
+use Rattle.pg_calls.specs.Forgetting.{lost_at}
+use Rattle.pg_calls.specs.GivingUp.{removal_at}
 use Rattle.pg_walk.specs.declared.paths.Found.{Found}
 use Rattle.pg_walk.specs.declared.paths.Stop.{Stop}
 use Rattle.pg_walk.specs.declared.paths.Stop.TheVariants as stop
@@ -70,61 +68,9 @@ use Rattle.pg_calls.specs.Checks.{dir_at, empty_dir_at, file_at, in_time, move_o
 use Rattle.pg_server.specs.declared.input.Input.{Input}
 use Rattle.pg_server.specs.declared.input.Input.TheVariants as input
 use Rattle.pg_server.specs.Local.{Effect, effect, finished, first_effect, is_heard, reply_to, takes_effect}
+use Rattle.pg_order.proofs.NoIds.{begin_files, either_done, either_files, enter_files, entry_files, few_files, flag_files, flags_files, link_files, lost_files, place_files, unlink_files, version_files}
 
--- ---- the pieces
-
--- of two
-either_files : (a : Store) (t : Bool) (b d : Store) → b.files ≡ a.files → d.files ≡ a.files → (cond t b d).files ≡ a.files
-either_files a t b d one other = chosen (λ (x : Store). x.files ≡ a.files) t b d one other
-
-either_done : (a : Store) (t : Bool) (d e : Done) → d.store.files ≡ a.files → e.store.files ≡ a.files → (cond t d e).store.files ≡ a.files
-either_done a t d e one other = chosen (λ (x : Done). x.store.files ≡ a.files) t d e one other
-
-place_files : (a : Store) (f : FileId) (place : Place) → (take_place a f place).files ≡ a.files
-place_files a f place = either_files a (is_newer_place a f place) (put_place a f place) a refl refl
-
-flag_files : (a : Store) (f : FileId) (flag : Flag) → (take_flag a f flag).files ≡ a.files
-flag_files a f flag = either_files a (is_newer_flag a f flag) (put_flag a f flag) a refl refl
-
-entry_files : (a : Store) (d : FileId) (e : Entry) → (take_entry a d e).files ≡ a.files
-entry_files a d e = either_files a (is_newer_entry a d e) (put_entry a d e) a refl refl
-
-version_files : (a : Store) (f : FileId) (v : VersionValue) → (take_version a f v).files ≡ a.files
-version_files a f v = either_files a (is_new_version a f v) (put_version a f v) a refl refl
-
-link_files : (a : Store) (f : FileId) (peer birth : ℕ) → (link a f peer birth).files ≡ a.files
-link_files a f peer birth = either_files a (is_new_link a f peer birth) (put_link a f peer birth) a refl refl
-
-unlink_files : (a : Store) (f : FileId) (peer birth : ℕ) → (unlink a f peer birth).files ≡ a.files
-unlink_files a f peer birth = either_files a (is_linked a f peer birth) _ a refl refl
-
-flags_files : (a : Store) (f : FileId) (flags : List Flag) (w : Work) → (take_flags_noted a f flags w).store.files ≡ a.files
-flags_files a f [] w = refl
-flags_files a f (flag ∷ flags) w =
-    let d = take_flag_noted a f flag w in
-    flags_files d.store f flags d.work ∙ flag_files a f flag
-
--- ---- a replica begins
-
-told_files : (a : Store) (d : FileId) (i : Intent) → (take_told a d i).files ≡ a.files
-told_files a d (intent.Bye file birth peer peer_birth) = refl
-told_files a d (intent.Seek file target) = refl
-told_files a d (intent.Fill file birth target) = refl
-told_files a d (intent.Patch to entry target) = entry_files a d entry
-told_files a d (intent.Confirm to child target) = refl
-told_files a d (intent.Leave file peer peer_birth) = refl
-
-told_in_files : (a : Store) (d : FileId) (o : Option Intent) → (take_told_in a d o).files ≡ a.files
-told_in_files a d None = refl
-told_in_files a d (Some i) = told_files a d i
-
-patches_files : (d : FileId) (qs : List IntentKey) (a : Store) → (take_patches a d qs).files ≡ a.files
-patches_files d [] a = refl
-patches_files d (q ∷ qs) a =
-    patches_files d qs (take_patch a d q) ∙ told_in_files (with_intents a (ended a.intents q)) d (intent_at a.intents q)
-
-begin_files : (a : Store) (f : FileId) (birth : ℕ) (policy : Policy) (own : Own) (full : Bool) → (begin a f birth policy own full).files ≡ a.files
-begin_files a f birth policy own full = patches_files f (patches_of f a.intents) (put_new a f birth policy own full)
+-- ---- a thing begins
 
 -- of a new thing
 pub thing_files : (a : Store) (w : Work) (id : FileId) (policy : Policy) (new : NewName) → (with_thing a w id policy new).store.files ≡ a.files
@@ -197,6 +143,22 @@ receive_files a (message.Walk ends origin birth hops word) w =
     (either_done a (goes_on hops edges) _ _ refl (link_files a ends.file origin birth)))
     (accept_files a ends manner.Ask w)
 receive_files a (message.Meet ends) w = accept_files a ends manner.Link w
+receive_files a (message.Bye ends) w = unlink_files a ends.file w.from ends.sender
+receive_files a (message.Leave ends stamp) w =
+    either_done a (is_accepted a w.from manner.Link ends) _ (accept a ends manner.Link w)
+    (accept_files a ends manner.Link w) (accept_files a ends manner.Link w)
+receive_files a (message.LeaveOk ends stamp) w =
+    let b = without_leave a ends.file in
+    let edges = (replica_of b ends.file).edges in
+    leave_ok_by (λ (d : Done). d.store.files ≡ a.files) a ends stamp w refl (λ answered. refl)
+    (λ may. byes_by (λ (d : Done). d.store.files ≡ a.files) (λ (e : Edge). Unit {0}) ends.file (birth_of b ends.file) (λ d e any h. h) edges
+    (λ i d lt. tt) (idle (let_go b ends.file) w) refl)
+receive_files a (message.Invite ends) w =
+    let e = accept a ends manner.Ask w in
+    let accepted = accept_files a ends manner.Ask w in
+    either_done a (is_accepted a w.from manner.Ask ends) (invited ends e) e
+    (either_done a (is_bronze e.store ends.file) (raise_if_few e.store ends.file e.work) e (few_files e.store ends.file e.work ∙ accepted) accepted)
+    accepted
 receive_files a m w = refl
 
 -- ---- the end of an event
@@ -250,6 +212,10 @@ module _ (a : Store) (w : Work) where
       up_answered (file_at a text) (change_file a ranges w)
       (λ f. up_answered (when_fit a ranges f) _ (λ fit. up_same a.files a.files refl))
 
+  left_files : (f : FileId) (o : Option Flag) → (leaving a f w o).store.files ≡ a.files
+  left_files f None = refl
+  left_files f (Some flag) = refl
+
   -- A CALL never takes an id back
   pub call_files : (x : Call) → GoesUp (do_call a x w)
   call_files (call.Mkdir path) =
@@ -266,12 +232,14 @@ module _ (a : Store) (w : Work) where
       up_answered (move_of a from to) _ (λ move. up_same a.files _ (place_files a move.thing (place_in a w.now move.to)))
   call_files (call.Unlink path) = up_answered (file_at a path) _ (λ f. up_same a.files _ (place_files a f (dead_place a w.now f)))
   call_files (call.Rmdir path) = up_answered (empty_dir_at a path) _ (λ d. up_same a.files _ (place_files a d (dead_place a w.now d)))
-  call_files (call.Forget id) = up_looked (in_time a (tt {0})) _
+  call_files (call.Forget id) = up_answered (lost_at a id) _ (λ f. up_same a.files _ (lost_files f a w))
   call_files (call.Demote target) =
       up_answered (demoted_at a target) _
       (λ f. up_same a.files _ (either_done a (is_gold a f) (lower_flag a f w) (idle a w) (flag_files a f (own_next a f false)) refl))
-  call_files (call.Drop target) = up_looked (in_time a (tt {0})) _
-  call_files (call.Giveup view server) = up_looked (in_time a (tt {0})) _
+  call_files (call.Drop target) =
+      up_answered (dropped_at a target) _ (λ f. up_same a.files _ (left_files f (clean_gold a f)))
+  call_files (call.Giveup view server) =
+      up_answered (removal_at a view server) _ (λ found. up_same a.files _ (enter_files a server))
   call_files call.Status = up_looked (in_time a (tt {0})) _
   call_files call.Stop = up_looked (in_time a (tt {0})) _
 

@@ -6,24 +6,33 @@ use Rattle.pg_base.specs.declared.id.FileId.{FileId}
 use Rattle.pg_path.specs.Tested.{is_client_name}
 use Rattle.pg_path.specs.Name.{IsNameByte}
 use Rattle.pg_path.proofs.Tested.{client_name_is}
-use Rattle.pg_call.specs.declared.refusal.Refusal.TheVariants.{BadPath, ClockEnd, DirFull, Exists, Loop, Root}
+use Rattle.pg_call.specs.declared.call.Target.{Target}
+use Rattle.pg_call.specs.declared.call.Target.TheVariants as target
+use Rattle.pg_call.specs.declared.refusal.Refusal.{Refusal}
+use Rattle.pg_call.specs.declared.refusal.Refusal.TheVariants.{BadPath, ClockEnd, DirFull, Exists, Held, Loop, Root}
 use Rattle.pg_register.specs.Place.{root}
 use Rattle.pg_names.specs.Names.{NamesValue, is_dir, is_full, known}
 use Rattle.pg_walk.specs.Chain.{is_above}
 use Rattle.pg_walk.specs.declared.paths.Stop.TheVariants as stop
-use Rattle.pg_walk.specs.Walk.{and_then, has_no_room, reach, reach_parent, refused, shown_by}
+use Rattle.pg_walk.specs.declared.paths.Way.TheVariants as way
+use Rattle.pg_walk.specs.Walk.{and_then, has_no_room, reach, reach_parent, reached, refused, shown_by}
 use Rattle.pg_house.specs.Facts.{IsHeld}
 use Rattle.pg_house.specs.Returning.{is_root}
 use Rattle.pg_store.specs.declared.store.Store.{Store}
 use Rattle.pg_store.specs.Store.{is_in_time}
+use Rattle.pg_store.specs.Store.{is_full as is_full_at}
+use Rattle.pg_cells.specs.Parting.{stays_for}
 use Rattle.pg_calls.specs.declared.checks.Move.{Move}
 use Rattle.pg_calls.specs.declared.checks.NewName.{NewName}
 use Rattle.pg_calls.specs.declared.paths.Paths.{Paths}
 use Rattle.pg_calls.specs.Answer.{unless}
-use Rattle.pg_calls.specs.Checks.{dir_at, empty_dir_at, first_child, in_time, move_along, move_of, move_to, new_name, new_name_in, unless_child, unless_shown, when_free}
+use Rattle.pg_calls.specs.Checks.{dir_at, empty_dir_at, first_child, in_time, move_along, move_of, move_to, new_name, new_name_in, target_at, unless_child, unless_shown, when_free}
+use Rattle.pg_calls.specs.Demoting.{unless_root}
+use Rattle.pg_calls.specs.Dropping.{dropped_at, refused_for, unless_kept}
+use Rattle.pg_calls.specs.Forgetting.{lost_at, unless_full}
 use Rattle.pg_calls.specs.Paths.{is_none, last_of, new_path_of, path_of, paths_of, with_new_name}
 use Rattle.pg_calls.proofs.Checked.{behind, no_ok, same_ok, unless_ok}
-use Rattle.pg_calls.proofs.Walked.{full_own, parent_found, reach_ok, thing_found}
+use Rattle.pg_calls.proofs.Walked.{full_own, parent_found, reach_ok, reached_ok, thing_found}
 
 -- ---- things
 
@@ -40,6 +49,46 @@ empty_found a text g h =
     let none = child_ok b.0 g (first_child b.0 (known a.names b.0)) b.2 in
     let same : c.0 ≡ g = u.1 ∙ none.0 in
     (full_own a.names g (subst (λ (d : FileId). is_full a.names d ≡ true) same (thing_found a true text c.0 c.1)), ap is_root (sym same) ∙ u.0, ap (λ (d : FileId). first_child d (known a.names d)) (sym none.0) ∙ none.1)
+
+-- what a target names is full
+pub target_found : (a : Store) (t : Target) (g : FileId) → target_at a t ≡ Ok g → is_full a.names g ≡ true
+target_found a (target.Path text) g h = thing_found a false text g h
+target_found a (target.Id id) g h =
+    let next = λ (f : FileId). reached a.names (record { file = f; way = way.Id }) in
+    let b = behind (in_time a id) next g h in
+    (reached_ok a.names (record { file = b.0; way = way.Id }) g b.2).1
+
+-- what is to go is full, and no root, and nothing keeps it here
+pub record IsToGo (a : Store) (g : FileId) : Type 0 where
+  pub full : is_full a.names g ≡ true
+  pub other : is_root g ≡ false
+  pub free : stays_for a g ≡ None
+
+kept_ok : (f g : FileId) (o : Option Refusal) → refused_for f o ≡ Ok g → (f ≡ g) × (o ≡ None)
+kept_ok f g None h = (same_ok f g h, refl)
+kept_ok f g (Some why) h = absurd (no_ok (stop.Refused why) g h)
+
+pub dropped_found : (a : Store) (t : Target) (g : FileId) → dropped_at a t ≡ Ok g → IsToGo a g
+dropped_found a t g h =
+    let b = behind (and_then (target_at a t) unless_root) (unless_kept a) g h in
+    let c = behind (target_at a t) unless_root b.0 b.1 in
+    let u = unless_ok (is_root c.0) Root c.0 b.0 c.2 in
+    let k = kept_ok b.0 g (stays_for a b.0) b.2 in
+    let same : c.0 ≡ g = u.1 ∙ k.0 in
+    record {
+      full = subst (λ (f : FileId). is_full a.names f ≡ true) same (target_found a t c.0 c.1);
+      other = ap is_root (sym same) ∙ u.0;
+      free = ap (stays_for a) (sym k.0) ∙ k.1;
+    }
+
+-- what was lost is no root
+pub lost_found : (a : Store) (id g : FileId) → lost_at a id ≡ Ok g → is_root g ≡ false
+lost_found a id g h =
+    let b = behind (and_then (in_time a id) unless_root) (unless_full a) g h in
+    let c = behind (in_time a id) unless_root b.0 b.1 in
+    let u = unless_ok (is_root c.0) Root c.0 b.0 c.2 in
+    let f = unless_ok (is_full_at a b.0) Held b.0 g b.2 in
+    ap is_root (sym (u.1 ∙ f.1)) ∙ u.0
 
 -- ---- names that clients give
 

@@ -1,5 +1,5 @@
 -- Intentions begin and end behind the house rules, and what is intended then is said too.
-use Rattle.std.proofs.Common.{ℕ, ◌≡◌, ◌++◌, Bool, true, false, cond, is_some, List, [], ◌∷◌, Option, None, Some, All, refl, ap, subst}
+use Rattle.std.proofs.Common.{ℕ, ◌≡◌, ◌++◌, Bool, true, false, cond, not, is_some, List, [], ◌∷◌, Option, None, Some, All, refl, ap, subst}
 use Rattle.std.specs.BTreeMap.{insert_entry}
 use Rattle.std.specs.List.{AllByRecursion, filter}
 use Rattle.std.specs.Map.{keys_of}
@@ -16,7 +16,8 @@ use Rattle.pg_intent.specs.declared.intent.Intent.TheVariants as intent
 use Rattle.pg_intent.specs.declared.key.IntentKey.{IntentKey}
 use Rattle.pg_intent.specs.declared.key.IntentKey.TheVariants as intent_key
 use Rattle.pg_intent.specs.Intent.{aimed_at, key_of, rejoined}
-use Rattle.pg_intent.specs.Intents.{aimed, begun, changed, has_key, stands}
+use Rattle.pg_intent.specs.Intents.{aimed, begun, changed, ended, has_key, stands, turned, turned_each}
+use Rattle.pg_intent.specs.Key.{is_for_peer}
 use Rattle.pg_msg.specs.declared.work.Slot.{Slot}
 use Rattle.pg_msg.specs.declared.work.Work.{Work}
 use Rattle.pg_msg.specs.Work.{slot_cmp}
@@ -130,6 +131,16 @@ module _ (p : Saying) where
 
   pub all_aimed : (is : List Intent) (q : IntentKey) (to : ℕ) → AreIntended p is → AreIntended p (aimed is q to)
   all_aimed is q to all = all_changed (IsIntended p) (aimed_at to) q (λ held same was. aimed_said to held was) is all
+
+  -- who is removed is asked no more
+  turned_said : (is : List Intent) (q : IntentKey) (to : ℕ) → AreIntended p is → AreIntended p (turned is q to)
+  turned_said is q to all =
+      chosen (λ (js : List Intent). AreIntended p js) (is_for_peer q) (ended is q) (aimed is q to)
+      (All-filter (λ i. not (has_key q i)) (IsIntended p) is all) (all_aimed is q to all)
+
+  pub turns_said : (qs : List IntentKey) (is : List Intent) (to : ℕ) → AreIntended p is → AreIntended p (turned_each is qs to)
+  turns_said [] is to all = all
+  turns_said (q ∷ qs) is to all = turns_said qs (turned is q to) to (turned_said is q to all)
 
   abbrev Keeps : Store → Type 0
   Keeps b = IsSaidOf p b.names × AreIntended p b.intents

@@ -8,7 +8,7 @@ use Rattle.pg_base.proofs.Orders.{is_same_file-true}
 use Rattle.pg_entries.specs.declared.entry.Entry.{Entry}
 use Rattle.pg_entries.specs.Entry.{joined_to}
 use Rattle.pg_names.specs.declared.own.Own.{Own}
-use Rattle.pg_names.specs.Names.{NamesValue, begin, cell_at, fill, join_entry, join_flag, join_place, known, new_held, own_at, own_of, raise}
+use Rattle.pg_names.specs.Names.{NamesValue, begin, cell_at, fill, join_entry, join_flag, join_place, known, new_held, own_at, own_of, raise, remove_server}
 use Rattle.pg_names.proofs.Holding.{begun_cells, begun_known, fill_cells, fill_own}
 use Rattle.pg_names.proofs.Lookups.{flag_cell, joined_own, joined_same, own_with_flag, own_with_place, place_cell}
 use Rattle.pg_register.specs.declared.flag.Flag.{Flag}
@@ -103,7 +103,7 @@ module _ (p : Saying) where
       cells = λ d g e h. k.cells d g e (sym (begun_cells s f own full none d g) ∙ h);
     }
 
-  -- ---- a thing is full, a stamp is taken
+  -- ---- a thing is full, a stamp is taken, a server is removed
 
   pub said_filled : (s : NamesValue) (f : FileId) → IsSaidOf p s → IsSaidOf p (fill s f)
   said_filled s f k = record {
@@ -113,3 +113,7 @@ module _ (p : Saying) where
 
   pub said_raised : (s : NamesValue) (time : ℕ) → IsSaidOf p s → IsSaidOf p (raise s time)
   said_raised s time k = record { own = k.own; cells = k.cells }
+
+  -- a server is removed
+  pub said_removed : (s : NamesValue) (server : ℕ) → IsSaidOf p s → IsSaidOf p (remove_server s server)
+  said_removed s server k = record { own = k.own; cells = k.cells }

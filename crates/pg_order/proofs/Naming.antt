@@ -89,12 +89,12 @@ module _ (n : ℕ) (f g : ℕ → ℕ) (more : (k : ℕ) → f k ≤ g k) where
   told_later dir e k = record { dir = k.dir; of = made_later dir k.of; cell = child_later e.child e k.cell }
 
   intended_later : (i : Intent) → IsIntended (naming n f) i → IsIntended (naming n g) i
-  intended_later (intent.Bye file birth peer peer_birth) k = k
+  intended_later (intent.Bye file birth peer peer_birth) k = made_later file k
   intended_later (intent.Seek file target) k = made_later file k
   intended_later (intent.Fill file birth target) k = k
   intended_later (intent.Patch dir entry target) k = told_later dir entry k
   intended_later (intent.Confirm dir child target) k = k
-  intended_later (intent.Leave file peer peer_birth) k = k
+  intended_later (intent.Leave file peer peer_birth) k = (made_later file k.0, k.1)
 
   pub rest_later : (s : ℕ) (a : Store) → IsAtRest (naming n f) n s a → IsAtRest (naming n g) n s a
   rest_later s a k =

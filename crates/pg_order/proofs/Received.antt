@@ -48,7 +48,7 @@ use Rattle.pg_cells.specs.Posting.{reply}
 use Rattle.pg_cells.specs.Taking.{take_entry_noted, take_place_noted}
 use Rattle.pg_repair.specs.Confirming.{confirm, confirmed, end_confirmed, is_confirmed, own_entry, place_is, place_told, take_told_flags, take_told_place}
 use Rattle.pg_repair.specs.Fetching.{answered_fetch, ends_to, fetch, give, given, granted_from, place_to_grant}
-use Rattle.pg_repair.specs.Filling.{few_golds, fill, full, live_golds}
+use Rattle.pg_repair.specs.Filling.{few_golds, fill, full, invite, invited, is_bronze, live_golds, raise_if_few}
 use Rattle.pg_repair.specs.Granting.{aim_fill, begin_granted, begun_by, fill_asks, gone, grant, granted_own, no_grant, turn_fill, turn_wish, wish_asks}
 use Rattle.pg_repair.specs.NoneHere.{asking_key, does_ask, none_here, turn}
 use Rattle.pg_repair.specs.Telling.{end_told, is_told, tell, tell_ok, told}
@@ -59,6 +59,7 @@ use Rattle.pg_promises.proofs.Together.{held_of_replica, own_of_held}
 use Rattle.pg_order.specs.Saying.{IsClosed, IsSaidCell, IsSaidGranted, IsSaidLeft, IsSaidOfCell, IsSaidOfMessage, IsSaidOwn, IsSaidTold, Saying}
 use Rattle.pg_order.proofs.Accepting.{so_accept, so_reply, so_seek, so_store, so_walk}
 use Rattle.pg_order.proofs.Intended.{all_aimed, own_said as own_told}
+use Rattle.pg_order.proofs.Leaving.{so_bye, so_bye_ok, so_leave, so_leave_ok}
 use Rattle.pg_order.proofs.Sent.{own_said}
 use Rattle.pg_order.proofs.Sounding.{Sound, sound_acknowledge, sound_alike, sound_begun, sound_ended, sound_filled, sound_unlink}
 use Rattle.pg_order.proofs.Taking.{IsMember, SoFar, so_entry, so_flags, so_link, so_place, so_raised, so_taken}
@@ -193,6 +194,19 @@ module _ (p : Saying) (c : IsClosed p) (n s : ℕ) (mine : IsMember p n s) where
       chosen Far (is_accepted d.store d.work.from manner.Answer ends && not (is_full d.store ends.file)) (fill d.store ends.file d.work) (idle d.store d.work)
       (so_fill d ends.file k) k
 
+  -- few golds are seen
+  so_few : (d : Done) (f : FileId) → Far d → Far (raise_if_few d.store f d.work)
+  so_few d f k =
+      chosen Far (nat_lt (live_golds d.store f) few_golds) (raise_flag d.store f d.work) (idle d.store d.work) (so_raised p c n s d f mine k) k
+
+  so_invite : (d : Done) (ends : Ends) → IsOther n s d.work.from → Far d → Far (invite d.store ends d.work)
+  so_invite d ends other k =
+      let e = accept d.store ends manner.Ask d.work in
+      let far = so_accept p c n s d ends manner.Ask other k in
+      chosen Far (is_accepted d.store d.work.from manner.Ask ends) (invited ends e) e
+      (chosen Far (is_bronze e.store ends.file) (raise_if_few e.store ends.file e.work) e (so_few e ends.file far) far)
+      far
+
   -- ---- children of directories
 
   so_told_place : (d : Done) (e : Entry) → IsSaidCell p e.child e → Far d → Far (take_told_place d.store e d.work)
@@ -260,4 +274,9 @@ module _ (p : Saying) (c : IsClosed p) (n s : ℕ) (mine : IsMember p n s) where
   so_received d (message.TellOk dir child stamp) other said k = so_tell_ok d dir child stamp k
   so_received d (message.Walk ends origin birth hops word) other said k = so_walk p c n s d ends origin birth hops word other mine said k
   so_received d (message.Meet ends) other said k = so_accept p c n s d ends manner.Link other k
+  so_received d (message.Bye ends) other said k = so_bye p c n s d ends k
+  so_received d (message.ByeOk file birth) other said k = so_bye_ok p c n s d file birth k
+  so_received d (message.Leave ends stamp) other said k = so_leave p c n s d ends stamp other k
+  so_received d (message.LeaveOk ends stamp) other said k = so_leave_ok p c n s d ends stamp k
+  so_received d (message.Invite ends) other said k = so_invite d ends other k
   so_received d m other said k = k

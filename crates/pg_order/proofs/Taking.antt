@@ -28,6 +28,7 @@ use Rattle.pg_cells.specs.Making.{make_flag, own_next, raise_flag}
 use Rattle.pg_cells.specs.Posting.{post, sent_to}
 use Rattle.pg_cells.specs.Settling.{ruled}
 use Rattle.pg_cells.specs.Taking.{is_any_news, is_place_news, take_entry_cell, take_entry_noted, take_flag_noted, take_flags_noted, take_place_noted, take_version_noted, with_doubt, with_left_if, with_news}
+use Rattle.pg_calls.specs.Making.{make_place}
 use Rattle.pg_promises.specs.Whole.{IsOther}
 use Rattle.pg_promises.proofs.Choices.{chosen, decided}
 use Rattle.pg_order.specs.Saying.{IsClosed, IsSaidOfCell, IsSaidOfMessage, IsSaidTold, Saying}
@@ -45,7 +46,7 @@ pub record IsBeside (w v : Work) : Type 0 where
 pub beside_itself : (w : Work) → IsBeside w w
 beside_itself w = record { left = refl; sent = refl; tail = refl }
 
-beside_either : (w : Work) (t : Bool) (u v : Work) → IsBeside w u → IsBeside w v → IsBeside w (cond t u v)
+pub beside_either : (w : Work) (t : Bool) (u v : Work) → IsBeside w u → IsBeside w v → IsBeside w (cond t u v)
 beside_either w t u v one other = chosen (λ (x : Work). IsBeside w x) t u v one other
 
 pub beside_news : (t : Bool) (w : Work) (f : FileId) (q : Key) → IsBeside w (with_news t w f q)
@@ -138,6 +139,12 @@ module _ (p : Saying) (c : IsClosed p) (n s : ℕ) where
         sent = subst (AreSaidOf p) (sym (same.sent ∙ was.sent)) k.sent;
         tail = subst (AreSaidOf p) (sym (same.tail ∙ was.tail)) k.tail;
       }
+
+  -- one is made
+  pub so_made : (d : Done) (f : FileId) (place : Place) → p.IsPlace f place → SoFar d → SoFar (make_place f place d)
+  so_made d f place here k =
+      let w = with_made d.work (update.Place f place) in
+      so_place (idle d.store w) f place here (so_with d d.store w k k.store (record { left = refl; sent = refl; tail = refl }))
 
   -- ---- flags
 

@@ -10,7 +10,7 @@ use Rattle.pg_base.proofs.Entries.{IsStrictlySortedBy-insert_entry}
 use Rattle.pg_base.proofs.Orders.{file_total, is_same_file-true}
 use Rattle.pg_entries.specs.declared.entry.Entry.{Entry}
 use Rattle.pg_names.specs.declared.own.Own.{Own}
-use Rattle.pg_names.specs.Names.{HeldValue, NamesValue, begin, fill, filled, is_full, is_full_of, join_entry, join_flag, join_place, known, new_held, raise, update, with_flag, with_joined, with_place}
+use Rattle.pg_names.specs.Names.{HeldValue, NamesValue, begin, fill, filled, is_full, is_full_of, join_entry, join_flag, join_place, known, new_held, raise, remove_server, update, with_flag, with_joined, with_place}
 use Rattle.pg_names.proofs.Holding.{begun_known, begun_stays, fill_other, fill_same, full_kept}
 use Rattle.pg_names.proofs.Lookups.{update_frame}
 use Rattle.pg_register.specs.declared.flag.Flag.{Flag}
@@ -30,6 +30,10 @@ IsInOrder x = IsStrictlySortedBy file_cmp (keys_of x.entries)
 -- a stamp is taken
 pub tidy_raised : (s : NamesValue) (time : ℕ) → AreTidy s → AreTidy (raise s time)
 tidy_raised s time k = record { ordered = k.ordered; keys = k.keys; top = k.top }
+
+-- a server is removed
+pub tidy_removed : (s : NamesValue) (server : ℕ) → AreTidy s → AreTidy (remove_server s server)
+tidy_removed s server k = record { ordered = k.ordered; keys = k.keys; top = k.top }
 
 -- ---- what is held of one thing changes, and it is as full as it was
 

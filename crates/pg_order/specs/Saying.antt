@@ -53,14 +53,14 @@ pub record IsSaidTold (p : Saying) (to : FileId) (e : Entry) : Type 0 where
   pub of : p.IsThing to
   pub cell : IsSaidCell p e.child e
 
--- of what is intended. Of the kinds of leaving none begins yet
+-- of what is intended; what is to go is no root
 abbrev pub IsIntended : Saying → Intent → Type 0
-IsIntended p (intent.Bye file birth peer peer_birth) = ⊥
+IsIntended p (intent.Bye file birth peer peer_birth) = p.IsThing file
 IsIntended p (intent.Seek file target) = p.IsThing file
 IsIntended p (intent.Fill file birth target) = Unit {0}
 IsIntended p (intent.Patch dir entry target) = IsSaidTold p dir entry
 IsIntended p (intent.Confirm dir child target) = Unit {0}
-IsIntended p (intent.Leave file peer peer_birth) = ⊥
+IsIntended p (intent.Leave file peer peer_birth) = p.IsThing file × p.IsChild file
 
 abbrev pub AreIntended : Saying → List Intent → Type 0
 AreIntended p is = All (IsIntended p) is

@@ -11,7 +11,8 @@ pub fn house_is_in_order()
 {}
 
 /// After every event, and behind the first effect of each, each server is whole: only directories have entries, flags
-/// are by server, no stamp of a place is later than the greatest time, just what is held has a replica, and entries are by id.
+/// are by server, no stamp of a place is later than the greatest time, just what is held has a replica, and entries are by
+/// id.
 pub fn servers_are_whole()
     ensures whole { (servers : ℕ) → ServersAreWhole servers }
     ensures first { (servers : ℕ) → FirstEffectsAreWhole servers }

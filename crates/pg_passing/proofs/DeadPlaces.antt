@@ -1,5 +1,5 @@
--- Passing gives a directory no dead place, where no server is removed; nor does a live place that is made, nor a flag.
-use Rattle.std.proofs.Common.{◌≡◌, ◌&&◌, not, Bool, true, false, cond, List, [], ◌∷◌, ◌++◌, map, refl, sym, ap, subst, ◌∙◌, inl, inr, ◌⊎◌}
+-- Passing gives a directory no dead place, unless its maker is removed; nor does a live place that is made, nor a flag.
+use Rattle.std.proofs.Common.{ℕ, ◌≡◌, ◌&&◌, not, Bool, true, false, cond, List, [], ◌∷◌, ◌++◌, map, refl, sym, ap, subst, ◌∙◌, inl, inr, ◌⊎◌}
 use Rattle.std.proofs.lemmas.Bool.{false≢true}
 use Rattle.pg_base.specs.declared.id.FileId.{FileId}
 use Rattle.pg_base.specs.Id.{is_same_file}
@@ -7,6 +7,7 @@ use Rattle.pg_base.specs.Stamp.{is_before}
 use Rattle.pg_base.proofs.Orders.{UpTo-same, UpTo-trans, is_before-false}
 use Rattle.pg_content.specs.Content.{Among}
 use Rattle.pg_register.specs.declared.place.Place.{Place}
+use Rattle.pg_register.specs.Flag.{is_removed}
 use Rattle.pg_msg.specs.declared.update.Update.{Update}
 use Rattle.pg_msg.specs.declared.update.Update.TheVariants as update
 use Rattle.pg_names.specs.Names.{is_dir}
@@ -36,13 +37,15 @@ newer_dead a p true live dead = absurd (false≢true (sym dead ∙ live))
 newer_dead a p false live dead = refl
 
 -- what is dead, later than the own place, and of a server that is not removed is held back
-not_back : (dir live later : Bool) → dir ≡ true → (dir && (not live && (later && true))) ≡ false → (live ≡ true) ⊎ (later ≡ false)
-not_back true true later is h = inl refl
-not_back true false false is h = inr refl
-not_back true false true is h = absurd (false≢true (sym h))
-not_back false live later is h = absurd (false≢true is)
+not_back : (dir live later gone : Bool) → dir ≡ true → (dir && (not live && (later && not gone))) ≡ false
+    → (live ≡ true) ⊎ ((later ≡ false) ⊎ (gone ≡ true))
+not_back true true later gone is h = inl refl
+not_back true false false gone is h = inr (inl refl)
+not_back true false true true is h = inr (inr refl)
+not_back true false true false is h = absurd (false≢true (sym h))
+not_back false live later gone is h = absurd (false≢true is)
 
-module _ (d : FileId) (is : is_dir d ≡ true) where
+module _ (d : FileId) (is : is_dir d ≡ true) (R : List ℕ) where
   own_latest : (takes : List Take) → IsLatest d (HasPlace takes Itself d) (own_place d takes)
   own_latest takes = latest_same {f = d} (place_there Itself d takes) (there_place Itself d takes) (own_place d takes) (latest_of d (places_taken Itself d takes))
 
@@ -53,7 +56,7 @@ module _ (d : FileId) (is : is_dir d ≡ true) where
 
   module _ (takes : List Take) (apart : AreApart takes) where
     abbrev Then : List Take
-    Then = passed [] takes
+    Then = passed R takes
 
     abbrev Old : Place
     Old = own_place d takes
@@ -68,7 +71,7 @@ module _ (d : FileId) (is : is_dir d ≡ true) where
     one a b h k up down = apart.places d a b h k (UpTo-same a.stamp b.stamp up down)
 
     new_known : IsKnown New
-    new_known = any_of d (HasPlace Then Itself d) (KnowsPlace takes d) (λ p h. same_places [] takes d p (Itself, h)) New (own_latest Then).there
+    new_known = any_of d (HasPlace Then Itself d) (KnowsPlace takes d) (λ p h. same_places R takes d p (Itself, h)) New (own_latest Then).there
 
     old_known : IsKnown Old
     old_known = any_of d (HasPlace takes Itself d) (KnowsPlace takes d) (λ p h. (Itself, h)) Old (own_latest takes).there
@@ -77,29 +80,29 @@ module _ (d : FileId) (is : is_dir d ≡ true) where
     grown : IsPlaceUpTo Old New
     grown =
         any_up (own_latest Then) Old
-        (any_of d (HasPlace takes Itself d) (HasPlace Then Itself d) (λ p h. old_there [] takes (TookPlace Itself d p) h) Old (own_latest takes).there)
+        (any_of d (HasPlace takes Itself d) (HasPlace Then Itself d) (λ p h. old_there R takes (TookPlace Itself d p) h) Old (own_latest takes).there)
 
     as_before : IsPlaceUpTo New Old → New ≡ Old
     as_before up = one New Old new_known old_known up grown
 
     -- what is brought is known, and not held back
-    brought : IsBrought [] takes (TookPlace Itself d New) → New.live ≡ false → New ≡ Old
-    brought b dead =
+    brought : IsBrought R takes (TookPlace Itself d New) → New.live ≡ false → is_removed R New.stamp.server ≡ false → New ≡ Old
+    brought b dead there =
         let t = top d takes in
         let up : IsPlaceUpTo New t = (top_latest takes).up New b.1 in
-        elim (not_back (is_dir d) t.live (is_before Old.stamp t.stamp) is b.2.1) [
-          | inl live ↦ (
-              let there = any_of d (KnowsPlace takes d) (HasPlace Then Itself d) (λ p h. place_brought [] takes d p Itself b.0 h b.2) t (top_latest takes).there in
-              let same : New ≡ t = one New t new_known (top_latest takes).there up (any_up (own_latest Then) t there) in
-              absurd (false≢true (sym dead ∙ ap (λ (p : Place). p.live) same ∙ live)))
-          | inr early ↦ as_before (UpTo-trans New.stamp t.stamp Old.stamp up (is_before-false Old.stamp t.stamp early))
+        let at = any_of d (KnowsPlace takes d) (HasPlace Then Itself d) (λ p h. place_brought R takes d p Itself b.0 h b.2) t (top_latest takes).there in
+        let same : New ≡ t = one New t new_known (top_latest takes).there up (any_up (own_latest Then) t at) in
+        elim (not_back (is_dir d) t.live (is_before Old.stamp t.stamp) (is_removed R t.stamp.server) is b.2.1) [
+          | inl live ↦ absurd (false≢true (sym dead ∙ ap (λ (p : Place). p.live) same ∙ live))
+          | inr (inl early) ↦ as_before (UpTo-trans New.stamp t.stamp Old.stamp up (is_before-false Old.stamp t.stamp early))
+          | inr (inr gone) ↦ absurd (false≢true (sym there ∙ ap (λ (p : Place). is_removed R p.stamp.server) same ∙ gone))
         ]
 
-    passed_dead : New.live ≡ false → New ≡ Old
-    passed_dead dead = elim (own_latest Then).there [
+    passed_dead : New.live ≡ false → is_removed R New.stamp.server ≡ false → New ≡ Old
+    passed_dead dead there = elim (own_latest Then).there [
       | inl first ↦ (let P : Place → Type 0 = λ x. IsPlaceUpTo x Old in as_before (subst P (sym first) (first_up d Old)))
-      | inr has ↦ elim (brought_or_old [] takes (TookPlace Itself d New) has) [
-        | inl new ↦ brought new dead
+      | inr has ↦ elim (brought_or_old R takes (TookPlace Itself d New) has) [
+        | inl new ↦ brought new dead there
         | inr was ↦ as_before ((own_latest takes).up New was)
       ]
     ]
@@ -121,24 +124,31 @@ module _ (d : FileId) (is : is_dir d ≡ true) where
   abbrev IsDead : List Take → Type 0
   IsDead takes = (own_place d takes).live ≡ false
 
+  abbrev IsStill : List Take → Type 0
+  IsStill takes = is_removed R (own_place d takes).stamp.server ≡ false
+
   dead_on : (a b : List Take) → own_place d a ≡ own_place d b → IsDead a → IsDead b
   dead_on a b same dead = sym (ap (λ (p : Place). p.live) same) ∙ dead
 
-  -- WHERE THE OWN PLACE IS DEAD IT WAS THERE BEFORE
+  still_on : (a b : List Take) → own_place d a ≡ own_place d b → IsStill a → IsStill b
+  still_on a b same still = sym (ap (λ (p : Place). is_removed R p.stamp.server) same) ∙ still
+
+  -- WHERE THE OWN PLACE IS DEAD, and its maker is not removed, IT WAS THERE BEFORE
   pub dead_behind : (us : List Update) (takes : List Take) → ((u : Update) → Among u us → IsLiveMade u) → AreApart (map take_of us ++ takes)
-      → IsDead (passed_with [] (passed [] takes) us) → own_place d (passed_with [] (passed [] takes) us) ≡ own_place d takes
-  dead_behind [] takes live apart dead = passed_dead takes apart dead
-  dead_behind (u ∷ us) takes live apart dead =
-      let next = passed [] takes in
+      → IsDead (passed_with R (passed R takes) us) → IsStill (passed_with R (passed R takes) us)
+      → own_place d (passed_with R (passed R takes) us) ≡ own_place d takes
+  dead_behind [] takes live apart dead still = passed_dead takes apart dead still
+  dead_behind (u ∷ us) takes live apart dead still =
+      let next = passed R takes in
       let since = take_of u ∷ next in
-      let end = passed_with [] (passed [] since) us in
+      let end = passed_with R (passed R since) us in
       let made = map take_of us in
       let all = take_of u ∷ (made ++ takes) in
       let first : Within takes (made ++ takes) = within_back made takes in
-      let mine : Within since all = one_more (take_of u) next (made ++ takes) (within_then next takes (made ++ takes) (passed_within [] takes) first) in
+      let mine : Within since all = one_more (take_of u) next (made ++ takes) (within_then next takes (made ++ takes) (passed_within R takes) first) in
       let rest : Within (made ++ since) all = within_parts made since all (λ v k. told_itself v all (inr (among_front v made takes k))) mine in
       let before : Within takes all = within_then takes (made ++ takes) all first (within_back (take_of u ∷ []) (made ++ takes)) in
-      let a = dead_behind us since (λ v h. live v (inr h)) (apart_within (made ++ since) all rest apart) dead in
+      let a = dead_behind us since (λ v h. live v (inr h)) (apart_within (made ++ since) all rest apart) dead still in
       let at_since = dead_on end since a dead in
       let b = made_dead u next (live u (inl refl)) at_since in
-      a ∙ b ∙ passed_dead takes (apart_within takes all before apart) (dead_on since next b at_since)
+      a ∙ b ∙ passed_dead takes (apart_within takes all before apart) (dead_on since next b at_since) (still_on since next b (still_on end since a still))

@@ -1,17 +1,17 @@
 -- One line more of a journal that is drawn, and where the drawing ends.
-use Rattle.std.proofs.Common.{ℕ, ◌≡◌, ◌+◌, ◌-◌, ◌*◌, ◌≤◌, true, false, List, [], ◌∷◌, Option, None, Some, length, suc, refl, ap, sym, ◌∙◌, arith, subst, if◌then◌else◌}
+use Rattle.std.proofs.Common.{ℕ, ◌≡◌, ◌+◌, ◌-◌, ◌*◌, ◌≤◌, true, false, List, [], ◌∷◌, Option, None, Some, length, suc, ap, sym, ◌∙◌, arith, subst, if◌then◌else◌}
 use Rattle.std.specs.List.{slice_get}
 use Rattle.pg_picture.specs.Course.{after, lack_of}
 use Rattle.pg_picture.specs.Part.{is_ended}
 use Rattle.pg_picture.specs.Picture.{Drawing, draw_from, hung, or_lack}
 use Rattle.pg_picture.specs.Picture.Drawing.{Drawn, Lacking}
-use Rattle.pg_picture.specs.Sketch.{bag_after, drawn, rise}
+use Rattle.pg_picture.specs.Sketch.{bag_after, drawn, height_after}
 use Rattle.pg_picture.specs.declared.course.Course.{Course}
 use Rattle.pg_picture.specs.declared.lack.Lack.{Lack}
 use Rattle.pg_picture.specs.declared.lack.Lack.TheVariants as lack
 use Rattle.pg_picture.specs.declared.sketch.Sketch.{Sketch}
 use Rattle.pg_trace.specs.declared.printed.Printed.{Printed}
-use Rattle.pg_picture.proofs.Bounds.{bag_most, rise_most}
+use Rattle.pg_picture.proofs.Bounds.{room_most}
 
 -- a line that lacks nothing is drawn
 pub goes_on_by : (n : ℕ) (c : Course) (s : Sketch) (p : Printed) (rest : List Printed)
@@ -61,22 +61,15 @@ same_on all whole c d s z line rest behind next cut first none new course within
     ∙ ap (λ k. draw_from n c s k) (sym cut)
     ∙ same
 
-pub height_on : (all : ℕ) (s z : Sketch) (line : Printed) (rest behind : List Printed)
+pub room_on : (all : ℕ) (s z : Sketch) (line : Printed) (rest behind : List Printed)
     (next : Option Printed) → rest ≡ line ∷ behind → z ≡ drawn s line next
-    → s.height + 2 * length rest ≤ 2 * all → z.height + 2 * length behind ≤ 2 * all
-height_on all s z line rest behind next cut new within =
+    → s.height + length s.bag + 3 * length rest ≤ 3 * all
+    → z.height + length z.bag + 3 * length behind ≤ 3 * all
+room_on all s z line rest behind next cut new within =
     let one = one_less rest behind line cut in
-    let high : z.height ≡ s.height + rise line = ap (λ (k : Sketch). k.height) new in
-    let most = rise_most line in
-    omega arith
-
-pub bag_on : (all : ℕ) (s z : Sketch) (line : Printed) (rest behind : List Printed)
-    (next : Option Printed) → rest ≡ line ∷ behind → z ≡ drawn s line next
-    → length s.bag + length rest ≤ all → length z.bag + length behind ≤ all
-bag_on all s z line rest behind next cut new within =
-    let one = one_less rest behind line cut in
+    let high : z.height ≡ height_after s line next = ap (λ (k : Sketch). k.height) new in
     let many : length z.bag ≡ length (bag_after s line next) = ap (λ (k : Sketch). length k.bag) new in
-    let most = bag_most s line next in
+    let most = room_most s line next in
     omega arith
 
 pub whole_on : (all : ℕ) (line : Printed) (rest behind : List Printed) → rest ≡ line ∷ behind

@@ -1,5 +1,6 @@
 -- The messages under way, in the order in which they were sent, as `bag` of a run has them.
-use Rattle.std.specs.Prelude.{ℕ, ◌-◌, ◌==◌, List, [], ◌∷◌, ◌++◌, Bool, true, Option, None, Some, if◌then◌else◌, slice_get, slice_set, remove}
+use Rattle.std.specs.Prelude.{ℕ, ◌-◌, ◌==◌, List, [], ◌∷◌, ◌++◌, Bool, true, not, Option, None, Some, if◌then◌else◌, filter, slice_get, slice_set, remove}
+use Rattle.std.specs.List.{list_any}
 use Rattle.pg_picture.specs.declared.messages.Message.{Message}
 
 -- the message with this number; messages are counted from 1
@@ -20,3 +21,15 @@ abbrev pub with_copy : List Message → ℕ → ℕ → Option Message → List 
 with_copy bag number height None = bag
 with_copy bag number height (Some m) =
     slice_set bag (number - 1) (split m height) ++ split m height ∷ []
+
+-- the server is one of the removed ones
+abbrev pub is_gone : List ℕ → ℕ → Bool
+is_gone removed server = list_any (λ one. one == server) removed
+
+-- the message is for this server
+abbrev pub is_for : ℕ → Message → Bool
+is_for server m = m.summary.to == server
+
+-- the messages that are not
+abbrev pub without_to : ℕ → List Message → List Message
+without_to server bag = filter (λ m. not (is_for server m)) bag

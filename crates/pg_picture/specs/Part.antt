@@ -1,5 +1,5 @@
 -- A full journal: which line may follow which.
-use Rattle.std.specs.Prelude.{Bool, true, false, not, ◌||◌}
+use Rattle.std.specs.Prelude.{Bool, true, false, not}
 use Rattle.pg_event.specs.declared.event.Event.{Event}
 use Rattle.pg_event.specs.declared.event.Event.TheVariants as event
 use Rattle.pg_sched.specs.declared.line.Line.{Line}

@@ -3,13 +3,11 @@ use Rattle.std.specs.Prelude.{ℕ, ◌+◌, false, List, [], ◌∷◌, ◌++◌
 use Rattle.pg_trace.specs.declared.printed.Printed.{Printed}
 use Rattle.pg_picture.specs.Course.{after, lack_of}
 use Rattle.pg_picture.specs.Part.{is_ended}
-use Rattle.pg_picture.specs.Sketch.{drawn}
+use Rattle.pg_picture.specs.Sketch.{drawn, hanging}
 use Rattle.pg_picture.specs.declared.course.Course.{Course}
 use Rattle.pg_picture.specs.declared.lack.Lack.{Lack}
 use Rattle.pg_picture.specs.declared.lack.Lack.TheVariants as lack
-use Rattle.pg_picture.specs.declared.mark.Leg.{Leg}
 use Rattle.pg_picture.specs.declared.mark.LegEnd.TheVariants as ending
-use Rattle.pg_picture.specs.declared.messages.Message.{Message}
 use Rattle.pg_picture.specs.declared.part.Part.TheVariants as part
 use Rattle.pg_picture.specs.declared.sketch.Sketch.{Sketch}
 
@@ -20,17 +18,12 @@ start = record { line = 2; settles = false; before = part.Outside; left = 2000 }
 
 -- nothing is drawn
 abbrev pub empty : Sketch
-empty = record { servers = 1; row = 0; height = 0; bag = []; marks = []; legs = []; notes = [] }
+empty = record { servers = 1; row = 0; height = 0; bag = []; removed = []; marks = []; legs = []; notes = [] }
 
--- the ways of what is still under way, each a line lower than the one before
-abbrev pub hanging : ℕ → List Message → List Leg
-hanging height [] = []
-hanging height (m ∷ ms) =
-    record { message = m; until = height + 1; end = ending.UnderWay } ∷ hanging (height + 1) ms
-
+-- the ways of what is still under way
 abbrev pub hung : Sketch → Sketch
 hung s = record s
-    { height = s.height + 1 + length s.bag; legs = s.legs ++ hanging (s.height + 1) s.bag }
+    { height = s.height + 1 + length s.bag; legs = s.legs ++ hanging ending.UnderWay (s.height + 1) s.bag }
 
 -- what comes of a journal: its picture, or the number of the first line that lacks something, and what
 pub data Drawing : Type 0 where

@@ -1,5 +1,5 @@
 -- What is drawn of each line of a journal.
-use Rattle.std.specs.Prelude.{ℕ, ◌+◌, Bool, true, false, not, List, [], ◌∷◌, ◌++◌, Option, None, Some, max, nat_lt, if◌then◌else◌}
+use Rattle.std.specs.Prelude.{ℕ, ◌+◌, false, not, List, [], ◌∷◌, ◌++◌, Option, None, Some, filter, length, max, nat_lt, if◌then◌else◌}
 use Rattle.pg_event.specs.declared.event.Event.{Event}
 use Rattle.pg_event.specs.declared.event.Event.TheVariants as event
 use Rattle.pg_msg.specs.declared.summary.Summary.{Summary}
@@ -10,7 +10,7 @@ use Rattle.pg_trace.specs.declared.printed.Printed.TheVariants as printed
 use Rattle.pg_trace.specs.declared.printed.Word.{Word}
 use Rattle.pg_trace.specs.declared.printed.Word.TheVariants as word
 use Rattle.pg_picture.specs.Course.{event_server, greatest_server}
-use Rattle.pg_picture.specs.Messages.{message_at, with_copy, without}
+use Rattle.pg_picture.specs.Messages.{is_for, is_gone, message_at, with_copy, without, without_to}
 use Rattle.pg_picture.specs.Note.{event_text, is_done, is_void, line_text, outcome_of}
 use Rattle.pg_picture.specs.declared.mark.Leg.{Leg}
 use Rattle.pg_picture.specs.declared.mark.LegEnd.{LegEnd}
@@ -84,7 +84,14 @@ with_leg legs height end None = legs
 with_leg legs height end (Some m) =
     legs ++ record { message = m; until = height; end = end } ∷ []
 
--- an arrow where a message is delivered, a cross where it is lost, a fork where it is copied
+-- pieces of ways that all end so, each a line lower than the one before
+abbrev pub hanging : LegEnd → ℕ → List Message → List Leg
+hanging end height [] = []
+hanging end height (m ∷ ms) =
+    record { message = m; until = height + 1; end = end } ∷ hanging end (height + 1) ms
+
+-- an arrow where a message is delivered, a cross where it is lost, a fork where it is copied, and
+-- crosses where the receiver is removed
 abbrev pub happening_legs : List Leg → List Message → ℕ → Event → List Leg
 happening_legs legs bag height (event.Deliver number) =
     with_leg legs height ending.Delivered (message_at bag number)
@@ -92,36 +99,70 @@ happening_legs legs bag height (event.Lose number) =
     with_leg legs height ending.Lost (message_at bag number)
 happening_legs legs bag height (event.Repeat number) =
     with_leg legs height ending.Copied (message_at bag number)
+happening_legs legs bag height (event.Remove server) =
+    legs ++ hanging ending.Fallen height (filter (is_for server) bag)
 happening_legs legs bag height _ = legs
 
 abbrev pub line_legs : List Leg → List Message → ℕ → Line → List Leg
 line_legs legs bag height (line.Happens event) = happening_legs legs bag height event
 line_legs legs bag height _ = legs
 
+-- what is sent
+abbrev pub sent_now : Sketch → Summary → Message
+sent_now s summary = record { summary = summary; since = s.row; split = false }
+
+-- what is sent to a removed server has a cross at once
+abbrev pub sent_legs : Sketch → Summary → List Leg
+sent_legs s summary =
+    if is_gone s.removed summary.to
+    then s.legs ++ record { message = sent_now s summary; until = s.height + 1; end = ending.Fallen } ∷ []
+    else s.legs
+
 -- a void event moves nothing
 abbrev pub legs_after : Sketch → Printed → Option Printed → List Leg
 legs_after s (printed.Event number what) next =
     if is_void (outcome_of next) then s.legs else line_legs s.legs s.bag (s.height + 2) what
+legs_after s (printed.Sent summary) next = sent_legs s summary
 legs_after s _ next = s.legs
 
--- what is under way behind an event: what was delivered or lost is not, and what was repeated is twice
+-- what is under way behind an event: what was delivered or lost is not, what was
+-- repeated is twice, and nothing is for a removed server
 abbrev pub happening_bag : List Message → ℕ → Event → List Message
 happening_bag bag height (event.Deliver number) = without bag number (message_at bag number)
 happening_bag bag height (event.Lose number) = without bag number (message_at bag number)
 happening_bag bag height (event.Repeat number) =
     with_copy bag number height (message_at bag number)
+happening_bag bag height (event.Remove server) = without_to server bag
 happening_bag bag height _ = bag
 
 abbrev pub line_bag : List Message → ℕ → Line → List Message
 line_bag bag height (line.Happens event) = happening_bag bag height event
 line_bag bag height _ = bag
 
+abbrev pub sent_bag : Sketch → Summary → List Message
+sent_bag s summary =
+    if is_gone s.removed summary.to then s.bag else s.bag ++ sent_now s summary ∷ []
+
 abbrev pub bag_after : Sketch → Printed → Option Printed → List Message
 bag_after s (printed.Event number what) next =
     if is_void (outcome_of next) then s.bag else line_bag s.bag (s.height + 2) what
-bag_after s (printed.Sent summary) next =
-    s.bag ++ record { summary = summary; since = s.row; split = false } ∷ []
+bag_after s (printed.Sent summary) next = sent_bag s summary
 bag_after s _ next = s.bag
+
+-- ---- removed servers
+
+abbrev pub happening_removed : List ℕ → Event → List ℕ
+happening_removed removed (event.Remove server) = removed ++ server ∷ []
+happening_removed removed _ = removed
+
+abbrev pub line_removed : List ℕ → Line → List ℕ
+line_removed removed (line.Happens event) = happening_removed removed event
+line_removed removed _ = removed
+
+abbrev pub removed_after : Sketch → Printed → Option Printed → List ℕ
+removed_after s (printed.Event number what) next =
+    if is_void (outcome_of next) then s.removed else line_removed s.removed what
+removed_after s _ next = s.removed
 
 -- ---- notes
 
@@ -158,6 +199,26 @@ abbrev pub notes_after : Sketch → Printed → Option Printed → List Note
 notes_after s (printed.Event number what) next = s.notes ++ event_note (s.height + 2) what next ∷ []
 notes_after s line next = with_note s.notes (s.height + rise line) line
 
+-- ---- heights
+
+-- each message that ends because its receiver is removed has a line of its own
+abbrev pub happening_height : List Message → ℕ → Event → ℕ
+happening_height bag height (event.Remove server) = height + length (filter (is_for server) bag)
+happening_height bag height _ = height
+
+abbrev pub line_height : List Message → ℕ → Line → ℕ
+line_height bag height (line.Happens event) = happening_height bag height event
+line_height bag height _ = height
+
+abbrev pub sent_height : Sketch → Summary → ℕ
+sent_height s summary = if is_gone s.removed summary.to then s.height + 1 else s.height
+
+abbrev pub height_after : Sketch → Printed → Option Printed → ℕ
+height_after s (printed.Event number what) next =
+    if is_void (outcome_of next) then s.height + 2 else line_height s.bag (s.height + 2) what
+height_after s (printed.Sent summary) next = sent_height s summary
+height_after s line next = s.height + rise line
+
 -- ---- all of it
 
 -- the height of the last event
@@ -170,8 +231,9 @@ abbrev pub drawn : Sketch → Printed → Option Printed → Sketch
 drawn s line next = record {
   servers = max s.servers (greatest_server line next);
   row = row_after s line;
-  height = s.height + rise line;
+  height = height_after s line next;
   bag = bag_after s line next;
+  removed = removed_after s line next;
   marks = marks_after s line next;
   legs = legs_after s line next;
   notes = notes_after s line next;
@@ -179,30 +241,47 @@ drawn s line next = record {
 
 -- ---- by kinds of lines
 
--- a message more is under way
+-- a message more is under way, unless it is to a removed server
 abbrev pub with_sent : Sketch → Summary → Sketch
 with_sent s summary = record s
-    { bag = s.bag ++ record { summary = summary; since = s.row; split = false } ∷ [] }
+    { height = sent_height s summary; bag = sent_bag s summary; legs = sent_legs s summary }
 
 -- a line that is no event's and sends nothing
 abbrev pub with_told : Sketch → Printed → Sketch
 with_told s line = record s
     { height = s.height + rise line; notes = with_note s.notes (s.height + rise line) line }
 
--- an event, whose message goes at this height
-abbrev pub with_moved : Sketch → ℕ → Line → Sketch
-with_moved s height what = record s
-    { bag = line_bag s.bag height what; legs = line_legs s.legs s.bag height what }
+-- an event, whose message goes at the height at hand
+abbrev pub with_moved : Sketch → Line → Sketch
+with_moved s what = record s {
+  height = line_height s.bag s.height what;
+  bag = line_bag s.bag s.height what;
+  removed = line_removed s.removed what;
+  legs = line_legs s.legs s.bag s.height what;
+}
 
-abbrev pub with_gone : Sketch → ℕ → Event → Sketch
-with_gone s height event = record s
-    { bag = happening_bag s.bag height event; legs = happening_legs s.legs s.bag height event }
+abbrev pub with_gone : Sketch → Event → Sketch
+with_gone s event = record s {
+  height = happening_height s.bag s.height event;
+  bag = happening_bag s.bag s.height event;
+  removed = happening_removed s.removed event;
+  legs = happening_legs s.legs s.bag s.height event;
+}
+
+abbrev pub with_fallen : Sketch → ℕ → Sketch
+with_fallen s server = record s {
+  height = s.height + length (filter (is_for server) s.bag);
+  bag = without_to server s.bag;
+  removed = s.removed ++ server ∷ [];
+  legs = s.legs ++ hanging ending.Fallen s.height (filter (is_for server) s.bag);
+}
 
 abbrev pub with_event : Sketch → ℕ → Line → Option Printed → Sketch
 with_event s number what next = record s {
   row = s.height + 2;
-  height = s.height + 2;
+  height = height_after s (printed.Event number what) next;
   bag = bag_after s (printed.Event number what) next;
+  removed = removed_after s (printed.Event number what) next;
   marks = marks_after s (printed.Event number what) next;
   legs = legs_after s (printed.Event number what) next;
   notes = notes_after s (printed.Event number what) next;

@@ -11,6 +11,8 @@ pub enum LegEnd {
     Lost,
     /// It goes on, and so does a copy.
     Copied,
+    /// The receiver is removed.
+    Fallen,
     /// It is still under way at the end of the run.
     UnderWay,
 }

@@ -1,8 +1,9 @@
 //! The messages under way.
 
 ghost use Rattle.std.specs.Prelude.{◌≡◌, ◌++◌, ◌∷◌, [], List, length, IfOk, OnOk, ◌==◌};
-ghost use Rattle.pg_picture.specs.Messages.{message_at, split, with_copy, without};
+ghost use Rattle.pg_picture.specs.Messages.{is_for, message_at, split, with_copy, without, without_to};
 
+use pg_base::NodeId;
 use pg_msg::Summary;
 use std::alloc::{AllocError, Global};
 use std::marker::Model;
@@ -40,6 +41,13 @@ fn split(message: Message, height: u32) -> Message
         since: height,
         split: true,
     }
+}
+
+/// Whether the message is for this server.
+pub(crate) fn is_for(server: NodeId, message: &Message) -> bool
+    ensures { result ≡ is_for server message.now }
+{
+    message.summary.to == server
 }
 
 impl Messages {
@@ -84,6 +92,13 @@ impl Messages {
         let found = self.get(number)?;
         self.values.remove(number as usize - 1);
         Some(found)
+    }
+
+    /// Takes all messages for this server.
+    pub fn drop_to(&mut self, server: NodeId)
+        ensures { self.new ≡ without_to server self.old }
+    {
+        self.values.retain(|m| !is_for(server, m));
     }
 
     /// Copies the message with this number, if there is one, to the end. Both go on from this height.

@@ -4,7 +4,9 @@ ghost use Rattle.std.specs.Prelude.{◌≡◌, ◌≤◌, ◌<◌, ◌+◌, ◌+
 ghost use Rattle.pg_picture.specs.Counts.{IsWholePicture};
 ghost use Rattle.pg_picture.specs.declared.lack.Lack.{Lack};
 ghost use Rattle.pg_picture.specs.declared.lack.NoPicture.TheVariants as no_picture;
-ghost use Rattle.pg_picture.specs.Picture.{draw, hanging, hung};
+ghost use Rattle.pg_picture.specs.Picture.{draw, hung};
+ghost use Rattle.pg_picture.specs.Sketch.{hanging};
+ghost use Rattle.pg_picture.specs.declared.mark.LegEnd.TheVariants.{UnderWay};
 ghost use Rattle.pg_picture.specs.Picture.Drawing.{Drawn, Lacking};
 ghost use Rattle.pg_picture.specs.declared.sketch.Sketch.{Sketch};
 ghost use Rattle.pg_trace.specs.declared.printed.Printed.{Printed};
@@ -22,7 +24,7 @@ use std::alloc::{AllocError, Global};
 /// Draws the ways of what is still under way, each a line lower than the one before, from this height on.
 fn hang_each(bag: &[Message], height: u32, legs: &mut Items<Leg>) -> Result<(), AllocError>
     requires { height + length bag.now < 2 ^ 32 }
-    ensures { OnOk result (legs.new ≡ legs.old ++ hanging height bag.now) }
+    ensures { OnOk result (legs.new ≡ legs.old ++ hanging UnderWay height bag.now) }
 {
     let mut until = height;
     for message in bag {
@@ -76,7 +78,8 @@ pub fn draw(alloc: Global, journal: &[Printed]) -> Result<Sketch, NoPicture>
 }
 
 /// Whatever journal is drawn, there is one mark for each event, one arrow for each message that was delivered, one cross for
-/// each that was lost, one fork for each that was repeated, and one open end for each that is still under way.
+/// each that was lost and for each whose receiver is removed, one fork for each that was repeated, and one open end for each
+/// that is still under way.
 pub fn pictures_are_whole()
     ensures { (journal : List Printed) (s : Sketch) → draw journal ≡ Drawn s
         → IsWholePicture journal s }

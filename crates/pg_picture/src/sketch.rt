@@ -2,11 +2,14 @@
 
 ghost use Rattle.std.specs.Prelude.{◌≡◌};
 ghost use Rattle.std.specs.Option.{option_copied};
-ghost use Rattle.pg_picture.specs.Sketch.{column_of, event_note, happening_column, happening_kind, kind_of, line_column, line_kind, mark_of, receiver, rise, word_rise};
+ghost use Rattle.pg_picture.specs.Sketch.{column_of, event_note, happening_column, happening_kind, hanging, kind_of, line_column, line_kind, mark_of, receiver, rise, word_rise};
+ghost use Rattle.std.specs.Prelude.{◌+◌, ◌<◌, ◌^◌, ◌++◌, IfOk, OnOk, filter, length};
+ghost use Rattle.pg_picture.specs.Messages.{is_for, is_gone};
+ghost use Rattle.pg_picture.specs.declared.mark.LegEnd.TheVariants.{Fallen};
 
 use crate::course::{event_server, greatest_server};
 use crate::mark::{Leg, LegEnd, Mark, MarkKind, Note};
-use crate::messages::{Message, Messages};
+use crate::messages::{Message, Messages, is_for};
 use crate::note::{Outcome, event_text, line_text, outcome_of};
 use pg_base::{Items, NodeId};
 use pg_event::Event;
@@ -25,6 +28,8 @@ pub struct Sketch {
     pub height: u32,
     /// What is under way.
     pub bag: Messages,
+    /// The servers that are removed.
+    pub removed: Items<NodeId>,
     pub marks: Items<Mark>,
     pub legs: Items<Leg>,
     pub notes: Items<Note>,
@@ -126,10 +131,43 @@ fn rise(line: &Printed) -> u32
     }
 }
 
+/// Whether the server is one of the removed ones.
+fn is_gone(removed: &[NodeId], server: NodeId) -> bool
+    ensures { result ≡ is_gone removed.now server }
+{
+    removed.contains(&server)
+}
+
+/// Draws the ways of what is under way to a server that is removed, each a line lower than the one before, from this height on.
+/// The answer is the height of the last one.
+fn fall_each(
+    bag: &[Message],
+    server: NodeId,
+    height: u32,
+    legs: &mut Items<Leg>,
+) -> Result<u32, AllocError>
+    requires { height + length bag.now < 2 ^ 32 }
+    ensures low { IfOk result (λ n. n ≡ height + length (filter (is_for server) bag.now)) }
+    ensures legs { OnOk result (legs.new
+        ≡ legs.old ++ hanging Fallen height (filter (is_for server) bag.now)) }
+{
+    let mut until = height;
+    for message in bag {
+        if is_for(server, message) {
+            until += 1;
+            legs.push(Leg {
+                message: *message,
+                until,
+                end: LegEnd::Fallen,
+            })?;
+        }
+    }
+    Ok(until)
+}
+
 impl Sketch {
-    ghost use Rattle.std.specs.Prelude.{◌+◌, ◌<◌, ◌^◌, OnOk};
     ghost use Rattle.pg_picture.specs.Picture.{empty};
-    ghost use Rattle.pg_picture.specs.Sketch.{drawn, with_ended, with_event, with_fork, with_gone, with_moved, with_sent, with_told};
+    ghost use Rattle.pg_picture.specs.Sketch.{drawn, with_ended, with_event, with_fallen, with_fork, with_gone, with_moved, with_sent, with_told};
 
     /// Nothing is drawn.
     pub(crate) fn new(alloc: Global) -> Sketch
@@ -140,6 +178,7 @@ impl Sketch {
             row: 0,
             height: 0,
             bag: Messages::new(alloc),
+            removed: Items::new(alloc),
             marks: Items::new(alloc),
             legs: Items::new(alloc),
             notes: Items::new(alloc),
@@ -153,7 +192,7 @@ impl Sketch {
         line: &Printed,
         next: Option<&Printed>,
     ) -> Result<(), AllocError>
-        requires { self.old.height + 2 < 2 ^ 32 }
+        requires { self.old.height + length self.old.bag + 2 < 2 ^ 32 }
         ensures { OnOk result (self.new ≡ drawn self.old line.now (option_copied next.entry)) }
     {
         self.servers = self.servers.max(greatest_server(line, next));
@@ -171,14 +210,26 @@ impl Sketch {
         }
     }
 
+    /// What is sent to a server that is removed never is under way.
     fn send(&mut self, summary: Summary) -> Result<(), AllocError>
+        requires { self.old.height + 2 < 2 ^ 32 }
         ensures { OnOk result (self.new ≡ with_sent self.old summary) }
     {
-        self.bag.push(Message {
+        let message = Message {
             summary,
             since: self.row,
             split: false,
-        })
+        };
+        if is_gone(self.removed.as_slice(), summary.to) {
+            self.height += 1;
+            self.legs.push(Leg {
+                message,
+                until: self.height,
+                end: LegEnd::Fallen,
+            })
+        } else {
+            self.bag.push(message)
+        }
     }
 
     /// Writes the line beside the picture, where it has a note of its own.
@@ -206,7 +257,7 @@ impl Sketch {
         what: &Line,
         next: Option<&Printed>,
     ) -> Result<(), AllocError>
-        requires { self.old.height + 2 < 2 ^ 32 }
+        requires { self.old.height + length self.old.bag + 2 < 2 ^ 32 }
         ensures { OnOk result (self.new ≡ with_event self.old number what.now (option_copied next.entry)) }
     {
         let outcome = outcome_of(next);
@@ -226,29 +277,42 @@ impl Sketch {
         if outcome.is_void() {
             return Ok(());
         }
-        let height = self.row;
-        self.go(height, what)
+        self.go(what)
     }
 
     /// The message of an event that was done goes where it goes.
-    fn go(&mut self, height: u32, what: &Line) -> Result<(), AllocError>
-        ensures { OnOk result (self.new ≡ with_moved self.old height what.now) }
+    fn go(&mut self, what: &Line) -> Result<(), AllocError>
+        requires { self.old.height + length self.old.bag < 2 ^ 32 }
+        ensures { OnOk result (self.new ≡ with_moved self.old what.now) }
     {
         match what {
-            Line::Happens(event) => self.go_on(height, event),
+            Line::Happens(event) => self.go_on(event),
             _ => Ok(()),
         }
     }
 
-    fn go_on(&mut self, height: u32, event: &Event) -> Result<(), AllocError>
-        ensures { OnOk result (self.new ≡ with_gone self.old height event.now) }
+    fn go_on(&mut self, event: &Event) -> Result<(), AllocError>
+        requires { self.old.height + length self.old.bag < 2 ^ 32 }
+        ensures { OnOk result (self.new ≡ with_gone self.old event.now) }
     {
+        let height = self.height;
         match event {
             Event::Deliver(number) => self.end(*number, height, LegEnd::Delivered),
             Event::Lose(number) => self.end(*number, height, LegEnd::Lost),
             Event::Repeat(number) => self.fork(*number, height),
+            Event::Remove(server) => self.fall(*server),
             _ => Ok(()),
         }
+    }
+
+    /// The server is removed, and what is under way to it ends.
+    fn fall(&mut self, server: NodeId) -> Result<(), AllocError>
+        requires { self.old.height + length self.old.bag < 2 ^ 32 }
+        ensures { OnOk result (self.new ≡ with_fallen self.old server) }
+    {
+        self.height = fall_each(self.bag.as_slice(), server, self.height, &mut self.legs)?;
+        self.bag.drop_to(server);
+        self.removed.push(server)
     }
 
     /// The message with this number ends so.

@@ -14,24 +14,15 @@ use Rattle.pg_call.specs.declared.call.Call.TheVariants as call
 use Rattle.pg_call.specs.declared.refusal.Refusal.TheVariants.{Loop, NotEmpty, Root}
 use Rattle.pg_call.specs.declared.reply.Reply.{Reply}
 use Rattle.pg_call.specs.declared.reply.Reply.TheVariants as reply
-use Rattle.pg_edges.specs.declared.key.Key.TheVariants as key
-use Rattle.pg_entries.specs.declared.entry.Entry.{Entry}
 use Rattle.pg_house.specs.Facts.{IsHeld}
 use Rattle.pg_house.specs.Work.{is_root}
 use Rattle.pg_house.proofs.Lasting.{drawn_late}
-use Rattle.pg_intent.specs.declared.intent.Intent.{Intent}
-use Rattle.pg_intent.specs.declared.intent.Intent.TheVariants as intent
-use Rattle.pg_intent.specs.declared.key.IntentKey.{IntentKey}
-use Rattle.pg_intent.specs.Intents.{ended, intent_at}
 use Rattle.pg_msg.specs.declared.message.Message.TheVariants as message
 use Rattle.pg_msg.specs.declared.update.Update.{Update}
 use Rattle.pg_msg.specs.declared.update.Update.TheVariants as update
 use Rattle.pg_msg.specs.declared.work.Work.{Work}
-use Rattle.pg_msg.specs.Work.{new_work, with_made}
-use Rattle.pg_names.specs.declared.own.Own.{Own}
-use Rattle.pg_names.specs.Names.{blank_own, is_dir, is_full, known, own_at, own_of, own_or_blank}
-use Rattle.pg_names.proofs.Holding.{begun_same}
-use Rattle.pg_names.proofs.Lookups.{joined_own}
+use Rattle.pg_msg.specs.Work.{new_work}
+use Rattle.pg_names.specs.Names.{blank_own, is_dir, is_full, known}
 use Rattle.pg_patch.specs.Ranges.{RangesValue, cut_to, written}
 use Rattle.pg_promises.proofs.Choices.{chosen}
 use Rattle.pg_register.specs.declared.flag.Flag.{Flag}
@@ -39,9 +30,8 @@ use Rattle.pg_register.specs.declared.place.Place.{Place}
 use Rattle.pg_register.specs.Place.{blank_place, root}
 use Rattle.pg_store.specs.declared.store.Store.{Store}
 use Rattle.pg_store.specs.declared.wishes.Wish.{Wish}
-use Rattle.pg_store.specs.Beginning.{begin as begin_replica, patches_of, put_new, take_patch, take_patches, take_told, take_told_in, with_intents}
 use Rattle.pg_store.specs.Births.{draw_birth, with_birth, with_wish}
-use Rattle.pg_store.specs.Store.{is_newer_entry, is_newer_flag, is_newer_place, put_entry, take_entry, write}
+use Rattle.pg_store.specs.Store.{write}
 use Rattle.pg_walk.specs.declared.paths.Found.{Found}
 use Rattle.pg_walk.specs.declared.paths.Stop.{Stop}
 use Rattle.pg_walk.specs.declared.paths.Stop.TheVariants as stop
@@ -50,7 +40,6 @@ use Rattle.pg_walk.specs.Walk.{and_then, reach, reach_parent}
 use Rattle.pg_cells.specs.Done.{Done, idle}
 use Rattle.pg_cells.specs.Golds.{is_gold}
 use Rattle.pg_cells.specs.Making.{lower_flag, own_next}
-use Rattle.pg_cells.specs.Taking.{with_left_if}
 use Rattle.pg_calls.specs.declared.checks.Move.{Move}
 use Rattle.pg_calls.specs.declared.checks.NewName.{NewName}
 use Rattle.pg_calls.specs.Answer.{Answer, answer, answered, deny, replied, told, unless}
@@ -59,55 +48,21 @@ use Rattle.pg_calls.specs.Bodies.{change, change_file, when_fit}
 use Rattle.pg_calls.specs.Calls.{do_call}
 use Rattle.pg_calls.specs.Checks.{dir_at, empty_dir_at, file_at, first_child, in_time, move_along, move_of, move_to, new_name, new_name_in, target_at, unless_child}
 use Rattle.pg_calls.specs.Demoting.{demoted_at}
+use Rattle.pg_calls.specs.Dropping.{clean_gold, dropped_at, leave_of, leaving}
+use Rattle.pg_calls.specs.Forgetting.{lost_at}
+use Rattle.pg_calls.specs.GivingUp.{removal_at}
 use Rattle.pg_calls.specs.Making.{drawn, first_ranges, make_place, make_version, version_of, with_version}
-use Rattle.pg_calls.specs.Naming.{begun, dead_place, next_id, place_in, raised, with_first_version, with_id, with_thing}
+use Rattle.pg_calls.specs.Naming.{begun, dead_place, next_id, place_in, with_first_version, with_id, with_thing}
 use Rattle.pg_calls.specs.Paths.{paths_of}
 use Rattle.pg_calls.proofs.Checked.{behind, no_ok, same_ok, unless_ok}
 use Rattle.pg_calls.proofs.Walked.{file_found, full_own, reach_ok, thing_found}
 use Rattle.pg_places.proofs.Origins.{IsMade}
 use Rattle.pg_places.proofs.Begun.{begin_fine}
-use Rattle.pg_places.proofs.Fine.{IsFine, as_before, left_made, made_flag, made_place, making, news_made, posted, raised_flag, write_fine}
-
--- ---- what is made
-
-place_made : (d : Done) (f : FileId) (place : Place) → (make_place f place d).work.made ≡ d.work.made ++ update.Place f place ∷ []
-place_made d f place =
-    let t = is_newer_place d.store f place in
-    let work = with_made d.work (update.Place f place) in
-    let old = (own_or_blank d.store.names f).place in
-    news_made t (with_left_if t work f old) f key.Place ∙ left_made t work f old
-
-flag_made : (f : FileId) (d : Done) → (raised f d).work.made ≡ d.work.made ++ update.Flag f (own_next d.store f true) ∷ []
-flag_made f d =
-    let flag = own_next d.store f true in
-    news_made (is_newer_flag d.store f flag) (with_made d.work (update.Flag f flag)) f (key.Flag flag.server)
-
--- ---- what is held behind a beginning
-
-took_own : (a : Store) (d : FileId) (e : Entry) (q : FileId) → own_at (take_entry a d e).names q ≡ own_at a.names q
-took_own a d e q =
-    chosen (λ (b : Store). own_at b.names q ≡ own_at a.names q) (is_newer_entry a d e) (put_entry a d e) a (joined_own a.names d e q) refl
-
-told_own : (a : Store) (f : FileId) (i : Intent) (q : FileId) → own_at (take_told a f i).names q ≡ own_at a.names q
-told_own a f (intent.Patch to e target) q = took_own a f e q
-told_own a f (intent.Bye x b p c) q = refl
-told_own a f (intent.Seek x t) q = refl
-told_own a f (intent.Fill x b t) q = refl
-told_own a f (intent.Confirm x c t) q = refl
-told_own a f (intent.Leave x p b) q = refl
-
-told_in_own : (a : Store) (f : FileId) (o : Option Intent) (q : FileId) → own_at (take_told_in a f o).names q ≡ own_at a.names q
-told_in_own a f None q = refl
-told_in_own a f (Some i) q = told_own a f i q
-
-patches_own : (ks : List IntentKey) (a : Store) (f q : FileId) → own_at (take_patches a f ks).names q ≡ own_at a.names q
-patches_own [] a f q = refl
-patches_own (k ∷ ks) a f q =
-    patches_own ks (take_patch a f k) f q ∙ told_in_own (with_intents a (ended a.intents k)) f (intent_at a.intents k) q
-
-begun_own : (a : Store) (f : FileId) (birth : ℕ) (policy : Policy) (own : Own) (full : Bool) → own_at (begin_replica a f birth policy own full).names f ≡ Some own
-begun_own a f birth policy own full =
-    patches_own (patches_of f a.intents) (put_new a f birth policy own full) f f ∙ ap own_of (begun_same a.names f own full)
+use Rattle.pg_places.proofs.Leaving.{intent_begun}
+use Rattle.pg_places.proofs.Placing.{begun_own, flag_made, place_made}
+use Rattle.pg_places.proofs.Lost.{forgotten}
+use Rattle.pg_places.proofs.Entered.{given_up}
+use Rattle.pg_places.proofs.Fine.{IsFine, as_before, made_flag, made_place, making, posted, raised_flag, write_fine}
 
 -- ---- ids are not the root's
 
@@ -259,6 +214,11 @@ module _ (P : FileId → Place → Type 0) (blanks : (f : FileId) → is_same_fi
       let same : c.0 ≡ dir = (unless_ok (is_root c.0) Root c.0 b.0 c.2).1 ∙ empty_by b.0 (first_child b.0 (known a.names b.0)) dir b.2 in
       full_own a.names dir (subst (λ x. is_full a.names x ≡ true) same (thing_found a true text c.0 c.1))
 
+  -- a gold replica is asked for leave, or none
+  leaving_called : (f : FileId) (o : Option Flag) → Fine (idle a W) → Called (leaving a f W o)
+  leaving_called f None k mades = k
+  leaving_called f (Some flag) k mades = intent_begun P s least (idle a W) (leave_of f flag) tt k
+
   -- A CALL
   pub called : (x : Call) → Fine (idle a W) → Called (do_call a x W)
   called (call.Mkdir text) k =
@@ -279,11 +239,11 @@ module _ (P : FileId → Place → Type 0) (blanks : (f : FileId) → is_same_fi
       (λ f is. moved_called k f (dead_place a moment f) (full_own a.names f (file_found a text f is).0) refl reply.Done) k
   called (call.Rmdir text) k =
       going (empty_dir_at a text) _ (λ d is. moved_called k d (dead_place a moment d) (empty_held text d is) refl reply.Done) k
-  called (call.Forget id) k = looks (in_time a (tt {0})) _ k
+  called (call.Forget id) k = going (lost_at a id) _ (λ f is mades. forgotten P blanks s least a moment k f mades) k
   called (call.Demote target) k =
       going (demoted_at a target) _
       (λ f is mades. chosen Fine (is_gold a f) (lower_flag a f W) (idle a W) (made_flag P s least f (own_next a f false) (idle a W) k) k) k
-  called (call.Drop target) k = looks (in_time a (tt {0})) _ k
-  called (call.Giveup view server) k = looks (in_time a (tt {0})) _ k
+  called (call.Drop target) k = going (dropped_at a target) _ (λ f is. leaving_called f (clean_gold a f) k) k
+  called (call.Giveup view server) k = going (removal_at a view server) _ (λ found is mades. given_up P s least a moment k server) k
   called call.Status k = looks (in_time a (tt {0})) _ k
   called call.Stop k = looks (in_time a (tt {0})) _ k

@@ -1,6 +1,6 @@
 -- What an event does at a server: each place that is known then, and each that is told, may stand, where
 -- those that it makes may; and what these are.
-use Rattle.std.proofs.Common.{ℕ, ◌≡◌, ◌≤◌, true, false, Option, refl, sym, subst, All, arith}
+use Rattle.std.proofs.Common.{ℕ, ◌≡◌, ◌≤◌, false, Option, refl, sym, subst, All, arith}
 use Rattle.std.proofs.lemmas.List.Elements.{All-nil}
 use Rattle.pg_base.specs.declared.id.FileId.{FileId}
 use Rattle.pg_base.specs.Id.{is_same_file}
@@ -17,19 +17,19 @@ use Rattle.pg_server.specs.declared.input.Input.{Input}
 use Rattle.pg_server.specs.declared.input.Input.TheVariants as input
 use Rattle.pg_server.specs.Local.{Effect, closed, effect, finished, first_effect, intended, is_heard, receive, reply_to, sent_again, settled, takes_effect, without_wishes}
 use Rattle.pg_store.specs.declared.store.Store.{Store}
-use Rattle.pg_store.specs.Births.{is_pending}
 use Rattle.pg_store.specs.Store.{is_in_time}
 use Rattle.pg_cells.specs.Done.{Done, idle}
 use Rattle.pg_cells.specs.Ticks.{tick}
 use Rattle.pg_repair.specs.Requests.{ask_all}
 use Rattle.pg_run.proofs.Event.{nothing_last}
-use Rattle.pg_run.proofs.LastWalks.{walks_have}
+use Rattle.pg_run.proofs.LastWalks.{lasts_have}
 use Rattle.pg_places.proofs.Origins.{IsMade}
 use Rattle.pg_places.proofs.Behind.{MayMake, again_fine, ends_told, intended_fine, settle_fine, settle_made}
 use Rattle.pg_places.proofs.Called.{called}
 use Rattle.pg_places.proofs.Fine.{AreKnown, IsFine, as_before}
 use Rattle.pg_places.proofs.Messages.{OfMessage, OfSent, message_further}
 use Rattle.pg_places.proofs.Timed.{AreTimed}
+use Rattle.pg_places.proofs.Leaving.{RootStays}
 use Rattle.pg_places.proofs.Handled.{receive_fine}
 use Rattle.pg_places.proofs.Walks.{tick_fine}
 
@@ -85,7 +85,7 @@ module _ (P : FileId → Place → Type 0) (blanks : (f : FileId) → is_same_fi
 
   -- ---- an input
 
-  module _ (known : AreKnown P a) (timed : AreTimed a.names) (server : a.names.server ≡ s) (apart : (f : FileId) (birth : ℕ) → is_pending a f birth ≡ true → is_same_file f root ≡ false) where
+  module _ (known : AreKnown P a) (timed : AreTimed a.names) (server : a.names.server ≡ s) (stays : RootStays a) where
     begins : (now from : ℕ) → Fine (idle a (new_work now from))
     begins now from = record {
       known = known;
@@ -103,7 +103,7 @@ module _ (P : FileId → Place → Type 0) (blanks : (f : FileId) → is_same_fi
     first_fine (input.Arrival packet) asks may =
         let work = new_work 0 packet.from in
         chosen Fine (is_heard a packet) (receive a packet.message work) (idle a work)
-        (receive_fine P blanks s a.names.last packet.message (idle a work) apart asks (begins 0 packet.from)) (begins 0 packet.from)
+        (receive_fine P blanks s a.names.last packet.message (idle a work) stays asks (begins 0 packet.from)) (begins 0 packet.from)
     first_fine input.Restart asks may =
         as_before P s a.names.last (idle a (new_work 0 0)) (idle (without_wishes a) (new_work 0 0)) refl refl refl refl (begins 0 0)
 
@@ -112,7 +112,7 @@ module _ (P : FileId → Place → Type 0) (blanks : (f : FileId) → is_same_fi
     effect_leaves asked asks =
         let d = first_effect a asked in
         let r = reply_to a asked in
-        let last = walks_have (OfSent P) a asked (λ file e origin birth hops word. tt) in
+        let last = lasts_have (OfSent P) a asked (λ file e origin birth hops word. tt) (λ b file e. tt) in
         chosen (λ (e : Effect). May e → Leaves e) (takes_effect a asked) (closed r d) (finished r d)
         (λ may. closed_leaves r d (first_fine asked asks (λ f p h. may f p (closed_made r d f p h))) last may)
         (λ may. finished_leaves r d (first_fine asked asks may) last)

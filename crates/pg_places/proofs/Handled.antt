@@ -41,7 +41,7 @@ use Rattle.pg_cells.specs.Posting.{reply}
 use Rattle.pg_cells.specs.Taking.{take_entry_noted, take_place_noted}
 use Rattle.pg_repair.specs.Confirming.{confirm, is_confirmed, own_entry, place_is, place_told, confirmed, take_told_flags, take_told_place}
 use Rattle.pg_repair.specs.Fetching.{answer_fetch, ends_to, fetch, give, given, granted_from, place_to_grant}
-use Rattle.pg_repair.specs.Filling.{few_golds, fill, full, live_golds}
+use Rattle.pg_repair.specs.Filling.{few_golds, fill, full, invite, invited, is_bronze, live_golds, raise_if_few}
 use Rattle.pg_repair.specs.Granting.{aim_fill, begin_granted, begun_by, fill_asks, grant, granted_own, no_grant, turn_fill, turn_wish, wish_asks}
 use Rattle.pg_repair.specs.NoneHere.{asking_key, does_ask, none_here}
 use Rattle.pg_repair.specs.Telling.{is_told, tell, tell_ok, told}
@@ -52,6 +52,7 @@ use Rattle.pg_places.proofs.Messages.{OfCell, OfEntry, OfMessage}
 use Rattle.pg_places.proofs.Timed.{fill_timed}
 use Rattle.pg_places.proofs.Fine.{IsFine, as_before, entry_cell_fine, entry_fine, flag_fine, flags_fine, intending, linked, place_fine, posted, raised_flag, same_drawn, unlinked, version_fine}
 use Rattle.pg_places.proofs.Known.{aimed_is, filled_names, filter_is, or_is}
+use Rattle.pg_places.proofs.Leaving.{RootStays, bye_fine, bye_ok_fine, leave_fine, leave_ok_fine}
 use Rattle.pg_places.proofs.Walks.{seek_fine, walk_fine}
 use Rattle.std.specs.Prelude.{nat_lt}
 
@@ -155,7 +156,11 @@ module _ (P : FileId → Place → Type 0) (blanks : (f : FileId) → is_same_fi
       let next = next_target d.store d.work.from in
       fill_turns f birth d.work.from next (idle (turn_wish d.store f birth d.work.from next) d.work) (wish_fine f birth d.work.from next d k)
 
-  fill_fine : (f : FileId) (d : Done) → Fine d → Fine (fill d.store f d.work)
+  few_fine : (f : FileId) (d : Done) → Fine d → Fine (raise_if_few d.store f d.work)
+  few_fine f d k =
+      chosen Fine (nat_lt (live_golds d.store f) few_golds) (raise_flag d.store f d.work) (idle d.store d.work) (raised_flag P s least f d k) k
+
+  pub fill_fine : (f : FileId) (d : Done) → Fine d → Fine (fill d.store f d.work)
   fill_fine f d k =
       let a = with_names d.store (names.fill d.store.names f) in
       let first : Fine (idle a d.work) = record {
@@ -164,12 +169,19 @@ module _ (P : FileId → Place → Type 0) (blanks : (f : FileId) → is_same_fi
         sent = k.sent;
         drawn = (let frame = update_frame d.store.names f names.filled in same_drawn P s least d (idle a d.work) frame.server (let e = frame.last in omega arith) refl k);
       } in
-      chosen Fine (nat_lt (live_golds a f) few_golds) (raise_flag a f d.work) (idle a d.work) (raised_flag P s least f (idle a d.work) first) first
+      few_fine f (idle a d.work) first
 
   full_fine : (ends : Ends) (d : Done) → Fine d → Fine (full d.store ends d.work)
   full_fine ends d k =
       chosen Fine (is_accepted d.store d.work.from manner.Answer ends && not (is_full d.store ends.file)) (fill d.store ends.file d.work) (idle d.store d.work)
       (fill_fine ends.file d k) k
+
+  invite_fine : (ends : Ends) (d : Done) → Fine d → Fine (invite d.store ends d.work)
+  invite_fine ends d k =
+      let met = accept d.store ends manner.Ask d.work in
+      let h = accept_fine d ends manner.Ask k in
+      chosen Fine (is_accepted d.store d.work.from manner.Ask ends) (invited ends met) met
+      (chosen Fine (is_bronze met.store ends.file) (raise_if_few met.store ends.file met.work) met (few_fine ends.file met h) h) h
 
   -- ---- children and directories
 
@@ -215,31 +227,30 @@ module _ (P : FileId → Place → Type 0) (blanks : (f : FileId) → is_same_fi
       (intending P s least d _ (aimed_is P d.store.intents q _ k.known.intents) k) k
 
   -- A MESSAGE
-  pub receive_fine : (m : Message) (d : Done) → ((f : FileId) (birth : ℕ) → is_pending d.store f birth ≡ true → is_same_file f root ≡ false) → OfMessage P m → Fine d
-      → Fine (receive d.store m d.work)
-  receive_fine (message.Cell ends tag c) d apart of k = cell_fine ends tag c of d k
-  receive_fine (message.Ack ends key tag) d apart of k = ack_fine ends key tag d k
-  receive_fine (message.Harbinger ends tag head) d apart of k = k
-  receive_fine (message.Want ends wanted) d apart of k = k
-  receive_fine (message.Delta ends delta) d apart of k = k
-  receive_fine (message.Piece ends piece) d apart of k = k
-  receive_fine (message.Later ends stamp) d apart of k = k
-  receive_fine (message.Fetch file birth) d apart of k = fetch_fine file birth d k
-  receive_fine (message.Grant ends granted) d apart of k = grant_fine ends granted d (apart ends.file ends.receiver) of k
-  receive_fine (message.NoGrant file birth) d apart of k = no_grant_fine file birth d k
-  receive_fine (message.Full ends) d apart of k = full_fine ends d k
-  receive_fine (message.Seek file birth) d apart of k = seek_fine P s least file birth d k
-  receive_fine (message.Here ends) d apart of k = accept_fine d ends manner.Link k
-  receive_fine (message.NoneHere what file child) d apart of k = none_here_fine what file child d k
-  receive_fine (message.Gone file birth) d apart of k = unlinked P s least d file d.work.from birth k
-  receive_fine (message.Bye ends) d apart of k = k
-  receive_fine (message.ByeOk file birth) d apart of k = k
-  receive_fine (message.Confirm dir e) d apart of k = confirm_fine dir e d of k
-  receive_fine (message.PlaceIs dir e) d apart of k = place_is_fine dir e d of k
-  receive_fine (message.Tell dir e) d apart of k = tell_fine dir e d of k
-  receive_fine (message.TellOk dir child stamp) d apart of k = tell_ok_fine dir child stamp d k
-  receive_fine (message.Leave ends stamp) d apart of k = k
-  receive_fine (message.LeaveOk ends stamp) d apart of k = k
-  receive_fine (message.Invite ends) d apart of k = k
-  receive_fine (message.Walk ends origin birth hops word) d apart of k = walk_fine P s least ends origin birth hops word d (accept_fine d ends manner.Ask k) k
-  receive_fine (message.Meet ends) d apart of k = accept_fine d ends manner.Link k
+  pub receive_fine : (m : Message) (d : Done) → RootStays d.store → OfMessage P m → Fine d → Fine (receive d.store m d.work)
+  receive_fine (message.Cell ends tag c) d stays of k = cell_fine ends tag c of d k
+  receive_fine (message.Ack ends key tag) d stays of k = ack_fine ends key tag d k
+  receive_fine (message.Harbinger ends tag head) d stays of k = k
+  receive_fine (message.Want ends wanted) d stays of k = k
+  receive_fine (message.Delta ends delta) d stays of k = k
+  receive_fine (message.Piece ends piece) d stays of k = k
+  receive_fine (message.Later ends stamp) d stays of k = k
+  receive_fine (message.Fetch file birth) d stays of k = fetch_fine file birth d k
+  receive_fine (message.Grant ends granted) d stays of k = grant_fine ends granted d (stays.pending ends.file ends.receiver) of k
+  receive_fine (message.NoGrant file birth) d stays of k = no_grant_fine file birth d k
+  receive_fine (message.Full ends) d stays of k = full_fine ends d k
+  receive_fine (message.Seek file birth) d stays of k = seek_fine P s least file birth d k
+  receive_fine (message.Here ends) d stays of k = accept_fine d ends manner.Link k
+  receive_fine (message.NoneHere what file child) d stays of k = none_here_fine what file child d k
+  receive_fine (message.Gone file birth) d stays of k = unlinked P s least d file d.work.from birth k
+  receive_fine (message.Bye ends) d stays of k = bye_fine P s least ends d k
+  receive_fine (message.ByeOk file birth) d stays of k = bye_ok_fine P s least file birth d k
+  receive_fine (message.Confirm dir e) d stays of k = confirm_fine dir e d of k
+  receive_fine (message.PlaceIs dir e) d stays of k = place_is_fine dir e d of k
+  receive_fine (message.Tell dir e) d stays of k = tell_fine dir e d of k
+  receive_fine (message.TellOk dir child stamp) d stays of k = tell_ok_fine dir child stamp d k
+  receive_fine (message.Leave ends stamp) d stays of k = leave_fine P s least ends stamp d (accept_fine d ends manner.Link k)
+  receive_fine (message.LeaveOk ends stamp) d stays of k = leave_ok_fine P s least ends stamp d stays k
+  receive_fine (message.Invite ends) d stays of k = invite_fine ends d k
+  receive_fine (message.Walk ends origin birth hops word) d stays of k = walk_fine P s least ends origin birth hops word d (accept_fine d ends manner.Ask k) k
+  receive_fine (message.Meet ends) d stays of k = accept_fine d ends manner.Link k

@@ -18,7 +18,8 @@ use Rattle.pg_intent.specs.declared.key.IntentKey.{IntentKey}
 use Rattle.pg_intent.specs.Intent.{aimed_at, key_of, rejoined}
 use Rattle.pg_intent.specs.Intents.{aimed, begun, changed, has_key, intent_at, stands}
 use Rattle.pg_names.specs.declared.own.Own.{Own}
-use Rattle.pg_names.specs.Names.{NamesValue, begin, cell_at, entry_in, fill, join_entry, join_flag, join_place, known, new_held, own_at, own_of, own_or_blank, or_blank, raise, with_flag, with_joined, with_place}
+use Rattle.pg_names.specs.Names.{NamesValue, begin, cell_at, entry_in, fill, join_entry, join_flag, join_place, known, new_held, own_at, own_of, own_or_blank, or_blank, raise, with_flag, with_joined, with_place, let_go}
+use Rattle.pg_names.proofs.Gone.{gone_cell, gone_own, gone_own_other}
 use Rattle.pg_names.proofs.Holding.{begun_known, fill_cells, fill_own}
 use Rattle.pg_names.proofs.Lookups.{flag_cell, flag_other, flag_same, joined_other_child, joined_other_dir, joined_own, joined_same, known_absent, own_with_flag, own_with_place, place_cell, place_other, place_same}
 use Rattle.pg_register.specs.declared.flag.Flag.{Flag}
@@ -177,6 +178,16 @@ module _ (P : FileId → Place → Type 0) where
         cells = λ q c x h. k.cells q c x (begun_cell q c x h);
         top = (let r = begun_top (is_same_file root f) in (r.0, ap own_of (begun_known s f own full root) ∙ r.1));
       }
+
+    -- ---- a thing but the root is held no longer
+
+    pub gone_names : (f : FileId) → is_same_file f root ≡ false → AreNames (let_go s f)
+    gone_names f apart = record {
+      own = λ q o h. k.own q o (gone_own s f q o h).1;
+      child = λ d c e h. k.child d c e (gone_cell s f d c e h).1;
+      cells = λ d c e h. k.cells d c e (gone_cell s f d c e h).1;
+      top = (k.top.0, gone_own_other s f root apart ∙ k.top.1);
+    }
 
     -- ---- what is known of a thing
 

@@ -5,7 +5,11 @@ pub mod Timed
 pub mod Fine
 pub mod Begun
 pub mod Walks
+pub mod Leaving
 pub mod Handled
+pub mod Placing
+pub mod Lost
+pub mod Entered
 pub mod Called
 pub mod Behind
 pub mod Effects

@@ -24,7 +24,7 @@ use Rattle.pg_store.specs.declared.store.Store.{Store}
 use Rattle.pg_run.specs.Intending.{IntentionsAreInOrder}
 use Rattle.pg_run.specs.Journal.{mail}
 use Rattle.pg_run.specs.Run.{World, run}
-use Rattle.pg_run.specs.Known.{PlacesHaveOwnStamps}
+use Rattle.pg_run.specs.Known.{PlacesHaveOwnStamps, PlacesMadeArePast}
 use Rattle.pg_places.specs.Laws.{IsKnown, KnowsPlace, OneMadePlaceAStamp, OnePlaceAStamp, OwesPlace, PlacesWereMade, cell_tells, tells}
 use Rattle.pg_places.proofs.Origins.{IsFirstPlace, IsFrom, all_made, from_run, made_of, of_run}
 use Rattle.pg_places.proofs.Fine.{AreKnown}
@@ -123,3 +123,7 @@ pub places_have_own_stamps : (n : ℕ) → IntentionsAreInOrder n → PlacesHave
 places_have_own_stamps n order events f p q a b e =
     let w = run n events in
     one_by w (run_known n order events) f p q (from_run w.journal f p a) (from_run w.journal f q b) e
+
+-- and the time of what was made is past at its maker
+pub places_made_are_past : (n : ℕ) → IntentionsAreInOrder n → PlacesMadeArePast n
+places_made_are_past n order events f p a = ((run_known n order events).each f p (made_of (run n events).journal f p a)).1

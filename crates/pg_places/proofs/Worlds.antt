@@ -1,30 +1,25 @@
 -- In every world that a run reaches each place that is known or told was made, or there from the start on,
 -- and no two that were made have one stamp.
-use Rattle.std.proofs.Common.{[], ℕ, ◌≡◌, ◌≢◌, ◌≤◌, ◌&&◌, not, Bool, true, false, cond, List, ◌∷◌, ◌++◌, Option, None, Some, refl, sym, ap, subst, ◌∙◌, inl, inr, ◌⊎◌, arith, All}
-use Rattle.std.specs.Prelude.{nat_le}
-use Rattle.std.proofs.lemmas.Bool.{and_parts, false≢true, leb-true}
-use Rattle.std.proofs.lemmas.List.Elements.{All-append, All-nil}
+use Rattle.std.proofs.Common.{[], ℕ, ◌≡◌, ◌≢◌, ◌≤◌, ◌&&◌, not, Bool, true, false, cond, List, ◌++◌, Option, None, Some, refl, sym, ap, subst, ◌∙◌, inl, inr, ◌⊎◌, arith, All}
+use Rattle.std.proofs.lemmas.Bool.{false≢true}
+use Rattle.std.proofs.lemmas.List.Elements.{All-append, All-contains, All-nil}
 use Rattle.std.proofs.lemmas.Option.{none-some, same_Some}
 use Rattle.pg_base.specs.declared.id.FileId.{FileId}
 use Rattle.pg_base.specs.declared.stamp.Stamp.{Stamp}
 use Rattle.pg_base.specs.Id.{is_same_file}
 use Rattle.pg_base.proofs.Orders.{is_same_file-refl, is_same_file-true}
-use Rattle.pg_calls.specs.Calls.{is_built}
 use Rattle.pg_event.specs.declared.event.Event.{Event}
-use Rattle.pg_event.specs.declared.event.Event.TheVariants.{Call as Called, Tick, Deliver, Lose, Repeat, Restart, Remove}
+use Rattle.pg_event.specs.declared.event.Event.TheVariants.{Tick, Restart}
 use Rattle.pg_event.specs.declared.entry.VoidCause.{VoidCause}
-use Rattle.pg_event.specs.declared.entry.VoidCause.TheVariants.{NoMessage, NoServer, Unbuilt}
 use Rattle.pg_flood.specs.World.{after}
 use Rattle.pg_flood.proofs.Flood.{after_itself, here}
 use Rattle.pg_house.proofs.Noting.{one_front}
 use Rattle.pg_house.proofs.Truths.{or_cases}
-use Rattle.pg_msg.specs.declared.message.Sent.{Sent}
 use Rattle.pg_msg.specs.declared.update.Update.{Update}
 use Rattle.pg_msg.specs.declared.update.Update.TheVariants as update
 use Rattle.pg_names.specs.declared.own.Own.{Own}
 use Rattle.pg_names.specs.Names.{entry_in, new_held, new_names, own_of}
 use Rattle.pg_names.proofs.Holding.{begun_known}
-use Rattle.pg_promises.proofs.Choices.{chosen, decided}
 use Rattle.pg_register.specs.declared.place.Place.{Place}
 use Rattle.pg_register.specs.Place.{blank_place, root, root_place}
 use Rattle.pg_server.specs.declared.input.Input.{Input}
@@ -37,14 +32,14 @@ use Rattle.pg_store.specs.Start.{first_names, root_own}
 use Rattle.pg_store.specs.Store.{is_held}
 use Rattle.pg_store.specs.Wishes.{is_with_birth}
 use Rattle.pg_calls.proofs.Walked.{full_held}
-use Rattle.pg_run.specs.Intending.{HoldsBoth, IntentionsAreInOrder}
-use Rattle.pg_run.specs.Journal.{bag, mail, message_at}
-use Rattle.pg_run.specs.Run.{Step, World, bag_step, delivery_step, effect_step, idle_step, is_server, next, run, run_from, server_step, start, world_after}
-use Rattle.pg_run.proofs.Bags.{at_message}
-use Rattle.pg_run.proofs.Frame.{all_under_way}
+use Rattle.pg_run.specs.Intending.{HoldsBoth, IntendsInOrder, IntentionsAreInOrder}
+use Rattle.pg_run.specs.Journal.{mail}
+use Rattle.pg_run.specs.Run.{World, effect_step, idle_step, run, start, world_after}
+use Rattle.pg_run.proofs.Frame.{HasCome, holds_in_runs}
 use Rattle.pg_places.proofs.Origins.{IsFrom, IsMade, all_made, one_behind, one_parts}
 use Rattle.pg_places.proofs.Effects.{Leaves, OfInput, effect_leaves, input_further}
 use Rattle.pg_places.proofs.Fine.{AreKnown}
+use Rattle.pg_places.proofs.Leaving.{RootStays}
 use Rattle.pg_places.proofs.Messages.{OfSent, sent_further}
 use Rattle.pg_places.proofs.Timed.{AreTimed, UpTo}
 use Rattle.pg_places.proofs.Known.{AreNames, intents_further, names_further}
@@ -73,8 +68,15 @@ module _ (a : Store) (k : HoldsBoth a) where
         | inr fill ↦ absurd (unfilled (is_held a root) refl (is_fill_at (fill_at a root) birth) fill held)
       ]
 
-  pub none_pending : (f : FileId) (birth : ℕ) → is_pending a f birth ≡ true → is_same_file f root ≡ false
+  none_pending : (f : FileId) (birth : ℕ) → is_pending a f birth ≡ true → is_same_file f root ≡ false
   none_pending f birth h = pending_by f birth h (is_same_file f root) refl
+
+-- and none goes
+root_stays : (a : Store) → IntendsInOrder a → RootStays a
+root_stays a k = record {
+  pending = none_pending a k.held;
+  leaves = λ f peer birth stood. (k.leaves f peer birth stood).1;
+}
 
 -- ---- a world
 
@@ -92,7 +94,7 @@ pub record AllKnown (w : World) : Type 0 where
 past : (a b c : ℕ) → a ≤ b → b ≤ c → a ≤ c
 past a b c h g = omega arith
 
-module _ (w : World) (k : AllKnown w) (event : Event) (s : ℕ) (some : 1 ≤ s) (asked : Input) (holds : HoldsBoth (w.stores s))
+module _ (w : World) (k : AllKnown w) (event : Event) (s : ℕ) (some : 1 ≤ s) (asked : Input) (holds : IntendsInOrder (w.stores s))
     (asks : OfInput (IsFrom (all_made w.journal)) asked) where
   abbrev A : Store
   A = w.stores s
@@ -121,7 +123,7 @@ module _ (w : World) (k : AllKnown w) (event : Event) (s : ℕ) (some : 1 ≤ s)
 
   left : Leaves P blanks s some A E
   left =
-      effect_leaves P blanks s some A (further s) (k.timed s) (k.server s) (none_pending A holds) asked (input_further (IsFrom Old) P up asked asks)
+      effect_leaves P blanks s some A (further s) (k.timed s) (k.server s) (root_stays A holds) asked (input_further (IsFrom Old) P up asked asks)
       (λ f p h. inr (one_front (update.Place f p) E.out.made Old h))
 
   abbrev Stores : ℕ → Store
@@ -181,48 +183,6 @@ module _ (w : World) (k : AllKnown w) (event : Event) (s : ℕ) (some : 1 ≤ s)
     one = λ f g p q h i e. one_by f g p q (parts f p h) (parts g q i) e;
   }
 
--- ---- an event
-
-module _ (n : ℕ) (w : World) (k : AllKnown w) (holds : (s : ℕ) → 1 ≤ s → s ≤ n → HoldsBoth (w.stores s)) where
-  abbrev Then : Step → Type 0
-  Then step = AllKnown (world_after w step)
-
-  still : (event : Event) (cause : Option VoidCause) → Then (idle_step w event cause)
-  still event cause = record { known = k.known; timed = k.timed; server = k.server; sent = k.sent; each = k.each; one = k.one }
-
-  acts : (event : Event) (s : ℕ) (asked : Input) → OfInput (IsFrom (all_made w.journal)) asked → is_server n s ≡ true → Then (effect_step w event s asked)
-  acts event s asked asks is =
-      let b = and_parts (nat_le 1 s) (nat_le s n) is in
-      let some = leb-true 1 s b.0 in
-      acted w k event s some asked (holds s some (leb-true s n b.1)) asks
-
-  server_by : (event : Event) (s : ℕ) (asked : Input) → OfInput (IsFrom (all_made w.journal)) asked → Then (server_step n w event s asked)
-  server_by event s asked asks =
-      decided Then (is_server n s) (effect_step w event s asked) (idle_step w event (Some NoServer)) (acts event s asked asks) (λ f. still event (Some NoServer))
-
-  delivery_by : (event : Event) (o : Option Sent) → ((m : Sent) → o ≡ Some m → OfSent (IsFrom (all_made w.journal)) m) → Then (delivery_step n w event o)
-  delivery_by event None of = still event (Some NoMessage)
-  delivery_by event (Some m) of =
-      decided Then (is_server n m.to) (effect_step w event m.to (input.Arrival m.packet)) (idle_step w event None)
-      (acts event m.to (input.Arrival m.packet) (of m refl)) (λ f. still event None)
-
-  bag_by : (event : Event) (o : Option Sent) → Then (bag_step w event o)
-  bag_by event None = still event (Some NoMessage)
-  bag_by event (Some m) = still event None
-
-  next_known : (e : Event) → Then (next n w e)
-  next_known (Called s moment c) =
-      chosen Then (is_built c) (server_step n w (Called s moment c) s (input.Call moment c)) (idle_step w (Called s moment c) (Some Unbuilt))
-      (server_by (Called s moment c) s (input.Call moment c) tt) (still (Called s moment c) (Some Unbuilt))
-  next_known (Tick s moment word) = server_by (Tick s moment word) s (input.Tick moment word) tt
-  next_known (Deliver number) =
-      let Of : Sent → Type 0 = OfSent (IsFrom (all_made w.journal)) in
-      delivery_by (Deliver number) (message_at (bag w.journal) number) (λ m e. at_message Of (bag w.journal) number m (all_under_way Of w.journal k.sent) e)
-  next_known (Lose number) = bag_by (Lose number) (message_at (bag w.journal) number)
-  next_known (Repeat number) = bag_by (Repeat number) (message_at (bag w.journal) number)
-  next_known (Restart s) = server_by (Restart s) s input.Restart tt
-  next_known (Remove s) = still (Remove s) (Some Unbuilt)
-
 -- ---- the start
 
 pub own_first : (n : ℕ) (q : FileId) (o : Own) (t : Bool) → is_same_file q root ≡ t → own_of (cond t (Some (new_held (root_own n) true)) None) ≡ Some o → (q ≡ root) × (root_own n ≡ o)
@@ -258,10 +218,22 @@ start_known n = record {
 
 -- ---- all events
 
-run_from_known : (n : ℕ) (w : World) (events : List Event) → ((some : List Event) (s : ℕ) → 1 ≤ s → s ≤ n → HoldsBoth ((run_from n w some).stores s)) → AllKnown w
-    → AllKnown (run_from n w events)
-run_from_known n w [] holds k = k
-run_from_known n w (e ∷ es) holds k = run_from_known n (world_after w (next n w e)) es (λ some. holds (e ∷ some)) (next_known n w k (holds []) e)
+-- no server takes anything
+still : (w : World) (event : Event) (cause : Option VoidCause) → AllKnown w → AllKnown (world_after w (idle_step w event cause))
+still w event cause k = record { known = k.known; timed = k.timed; server = k.server; sent = k.sent; each = k.each; one = k.one }
+
+-- a message that came tells of what may stand
+come_of : (w : World) → AllKnown w → (s : ℕ) (asked : Input) → HasCome w s asked → OfInput (IsFrom (all_made w.journal)) asked
+come_of w k s (input.Call moment c) h = tt
+come_of w k s (input.Tick moment word) h = tt
+come_of w k s (input.Arrival packet) h = All-contains (OfSent (IsFrom (all_made w.journal))) (mail w.journal) (record { to = s; packet = packet }) k.sent h
+come_of w k s input.Restart h = tt
 
 pub run_known : (n : ℕ) → IntentionsAreInOrder n → (events : List Event) → AllKnown (run n events)
-run_known n order events = run_from_known n (start n) events (λ some s least most. (order some s least most).held) (start_known n)
+run_known n order events = holds_in_runs n AllKnown (record {
+  first = start_known n;
+  idle = still;
+  acts = λ some event t taking acts k. (
+      let w = run n some in
+      acted w k event t.server acts.least t.asked (order some t.server acts.least acts.most) (come_of w k t.server t.asked acts.came));
+}) events

@@ -30,11 +30,11 @@ use Rattle.pg_store.specs.declared.store.Store.{Store}
 use Rattle.pg_store.specs.Beginning.{begin, patches_of, put_new, take_patch, take_patches, take_told, take_told_in, with_intents}
 use Rattle.pg_store.specs.Store.{is_held, is_newer_entry, put_entry, replica_at, take_entry}
 use Rattle.pg_store.specs.Together.{AreTogether}
-use Rattle.pg_promises.specs.Seen.{cells, see, seen}
+use Rattle.pg_promises.specs.Seen.{see, seen, standing}
 use Rattle.pg_promises.proofs.Choices.{decided}
 use Rattle.pg_promises.proofs.Growth.{entry_grows, entry_told}
 use Rattle.pg_promises.proofs.Linking.{alike_steps}
-use Rattle.pg_promises.proofs.Stores.{cell_same, content_same, plain_at}
+use Rattle.pg_promises.proofs.Stores.{cell_same, content_same, over_stays, plain_at}
 use Rattle.pg_promises.proofs.Taking.{grew_further, grew_raised, took_one, took_steps}
 use Rattle.pg_promises.proofs.Together.{no_replica}
 
@@ -74,11 +74,11 @@ module _ (a : Store) (file : FileId) (birth : ℕ) (policy : Policy) (own : Own)
   others : OthersStay (see a) (see New) file
   others f apart = ap (option_map (seen New f)) (new_elsewhere f apart) ∙ seen_same f apart (replica_at a f)
 
-  pub new_steps : Steps cells a New
+  pub new_steps : Steps standing a New
   new_steps =
-      make_steps cells a New file (seen New file Fresh) (seen New file Fresh)
+      make_steps standing a New file (seen New file Fresh) (seen New file Fresh)
       (ap (option_map (seen a file)) no) (ap (option_map (seen New file)) new_here) refl
-      (Draws-refl a.tags (seen New file Fresh)) others (λ f n c h. absurd h)
+      (Draws-refl a.tags (seen New file Fresh)) others (over_stays a New)
 
 -- ---- and takes the entries of its Patches
 
@@ -87,8 +87,8 @@ entry_own None e h = absurd (let z : false ≡ true = h in cc)
 entry_own (Some x) e h = (x.own, refl)
 
 -- an entry is taken, of whatever is held or not
-pub entry_steps : (a : Store) (d : FileId) (e : Entry) → Steps cells a (take_entry a d e)
-entry_steps a d e = decided (Steps cells a) (is_newer_entry a d e) (put_entry a d e) a (λ new.
+pub entry_steps : (a : Store) (d : FileId) (e : Entry) → Steps standing a (take_entry a d e)
+entry_steps a d e = decided (Steps standing a) (is_newer_entry a d e) (put_entry a d e) a (λ new.
     let own = entry_own (known a.names d) e new in
     let keys = record { file = d; key = key.Entry e.child } ∷ [] in
     let joined = names.join_entry a.names d e in
@@ -102,31 +102,31 @@ entry_steps a d e = decided (Steps cells a) (is_newer_entry a d e) (put_entry a 
       told = entry_told a.names d own.0 own.1 e;
     })
     (grew_raised keys joined e.place.stamp.time))))
-    (λ old. Steps-refl cells a)
+    (λ old. Steps-refl standing a)
 
-intents_steps : (a : Store) (is : List Intent) → Steps cells a (with_intents a is)
+intents_steps : (a : Store) (is : List Intent) → Steps standing a (with_intents a is)
 intents_steps a is = alike_steps a (with_intents a is) (record { servers = refl; tags = refl; names = refl; replicas = refl })
 
-told_steps : (a : Store) (d : FileId) (i : Intent) → Steps cells a (take_told a d i)
-told_steps a d (intent.Bye file birth peer peer_birth) = Steps-refl cells a
-told_steps a d (intent.Seek file target) = Steps-refl cells a
-told_steps a d (intent.Fill file birth target) = Steps-refl cells a
+told_steps : (a : Store) (d : FileId) (i : Intent) → Steps standing a (take_told a d i)
+told_steps a d (intent.Bye file birth peer peer_birth) = Steps-refl standing a
+told_steps a d (intent.Seek file target) = Steps-refl standing a
+told_steps a d (intent.Fill file birth target) = Steps-refl standing a
 told_steps a d (intent.Patch to entry target) = entry_steps a d entry
-told_steps a d (intent.Confirm to child target) = Steps-refl cells a
-told_steps a d (intent.Leave file peer peer_birth) = Steps-refl cells a
+told_steps a d (intent.Confirm to child target) = Steps-refl standing a
+told_steps a d (intent.Leave file peer peer_birth) = Steps-refl standing a
 
-told_in_steps : (a : Store) (d : FileId) (o : Option Intent) → Steps cells a (take_told_in a d o)
-told_in_steps a d None = Steps-refl cells a
+told_in_steps : (a : Store) (d : FileId) (o : Option Intent) → Steps standing a (take_told_in a d o)
+told_in_steps a d None = Steps-refl standing a
 told_in_steps a d (Some i) = told_steps a d i
 
-patch_steps : (a : Store) (d : FileId) (k : IntentKey) → Steps cells a (take_patch a d k)
+patch_steps : (a : Store) (d : FileId) (k : IntentKey) → Steps standing a (take_patch a d k)
 patch_steps a d k =
     let rest = with_intents a (ended a.intents k) in
-    Steps-trans cells (intents_steps a (ended a.intents k)) (told_in_steps rest d (intent_at a.intents k))
+    Steps-trans standing (intents_steps a (ended a.intents k)) (told_in_steps rest d (intent_at a.intents k))
 
-patches_steps : (a : Store) (d : FileId) (ks : List IntentKey) → Steps cells a (take_patches a d ks)
-patches_steps a d [] = Steps-refl cells a
-patches_steps a d (k ∷ ks) = Steps-trans cells (patch_steps a d k) (patches_steps (take_patch a d k) d ks)
+patches_steps : (a : Store) (d : FileId) (ks : List IntentKey) → Steps standing a (take_patches a d ks)
+patches_steps a d [] = Steps-refl standing a
+patches_steps a d (k ∷ ks) = Steps-trans standing (patch_steps a d k) (patches_steps (take_patch a d k) d ks)
 
 pub none_known : (o : Option HeldValue) → is_some o ≡ false → o ≡ None
 none_known None h = refl
@@ -134,8 +134,8 @@ none_known (Some x) h = absurd (let z : true ≡ false = h in cc)
 
 -- A REPLICA BEGINS
 pub begin_steps : (a : Store) (file : FileId) (birth : ℕ) (policy : Policy) (own : Own) (full : Bool) → AreTogether a → is_held a file ≡ false
-    → Steps cells a (begin a file birth policy own full)
+    → Steps standing a (begin a file birth policy own full)
 begin_steps a file birth policy own full both away =
-    Steps-trans cells
+    Steps-trans standing
     (new_steps a file birth policy own full (none_known (known a.names file) away) (no_replica a both file away))
     (patches_steps (put_new a file birth policy own full) file (patches_of file a.intents))

@@ -6,7 +6,7 @@ use Rattle.pg_flood.specs.Promises.{Saying}
 use Rattle.pg_flood.specs.Protocol.{Covers}
 use Rattle.pg_flood.specs.Server.{Holds, Slot, slot}
 use Rattle.pg_flood.proofs.Sends.{answer_may, held_covers, none_sent, one_sent}
-use Rattle.pg_flood.proofs.Steps.{AllMay, HasSoundTags, May, Rule, Steps, Steps-refl, Steps-trans, by_steps}
+use Rattle.pg_flood.proofs.Steps.{AllMay, HasSoundTags, May, Rule, Steps, Steps-refl, Steps-trans}
 use Rattle.pg_entries.specs.declared.cell.Cell.{Cell}
 use Rattle.pg_entries.specs.declared.cell.Cell.TheVariants as cell
 use Rattle.pg_msg.specs.declared.message.Ends.{Ends}
@@ -19,58 +19,47 @@ use Rattle.pg_store.specs.declared.store.Store.{Store}
 use Rattle.pg_store.specs.Cells.{cell_at}
 use Rattle.pg_store.specs.Store.{replica_at}
 use Rattle.pg_cells.specs.Posting.{sent_to}
-use Rattle.pg_promises.specs.Seen.{cells, plain, says, saying, seen}
+use Rattle.pg_promises.specs.Seen.{Hearing, Overs, cells_in, plain, says, saying, seen}
 use Rattle.pg_promises.specs.UpTo.{IsUpTo}
 use Rattle.pg_promises.specs.Whole.{IsWhole}
-use Rattle.pg_promises.proofs.Acks.{none_noted}
 use Rattle.pg_promises.proofs.Stores.{plain_at}
 
 -- ---- an event under way
 
 -- Server s of n came from a to b so far, having heard this. What it sends so far it may send now, and whatever it does
 -- after that
-pub record IsUnderWay (n s : ℕ) (a : Store) (heard : Saying Slot Cell) (b : Store) (sent : List Sent) : Type 0 where
-  pub steps : Steps cells a b
+pub record IsUnderWay (n s : ℕ) (a : Store) (heard : Hearing) (b : Store) (sent : List Sent) : Type 0 where
+  pub steps : Steps (cells_in heard.over) a b
   pub whole : IsWhole n s b
-  pub sends : (c : Store) → Steps cells b c → AllMay cells s a c heard sent
+  pub sends : (c : Store) → Steps (cells_in heard.over) b c → AllMay (cells_in heard.over) s a c heard.said sent
 
 -- how it ends: by the rule, with sound tags
-pub record IsGood (n s : ℕ) (a : Store) (heard : Saying Slot Cell) (b : Store) (sent : List Sent) : Type 0 where
-  pub rule : Rule cells s a b heard sent
-  pub tags : HasSoundTags cells b
+pub record IsGood (n s : ℕ) (a : Store) (heard : Hearing) (b : Store) (sent : List Sent) : Type 0 where
+  pub rule : Rule (cells_in heard.over) s a b heard.said sent
+  pub tags : HasSoundTags (cells_in heard.over) b
   pub whole : IsWhole n s b
 
-module _ (n s : ℕ) (a : Store) (heard : Saying Slot Cell) where
+module _ (n s : ℕ) (a : Store) (heard : Hearing) where
   -- nothing is done yet
   pub begun : IsWhole n s a → IsUnderWay n s a heard a []
-  begun k = record { steps = Steps-refl cells a; whole = k; sends = λ c f. none_sent cells s a c heard }
+  begun k = record { steps = Steps-refl (cells_in heard.over) a; whole = k; sends = λ c f. none_sent (cells_in heard.over) s a c heard.said }
 
   module _ (b : Store) (sent : List Sent) (k : IsUnderWay n s a heard b sent) where
     -- it goes on, by whichever piece
-    pub goes_on : (c : Store) → Steps cells b c → IsWhole n s c → IsUnderWay n s a heard c sent
+    pub goes_on : (c : Store) → Steps (cells_in heard.over) b c → IsWhole n s c → IsUnderWay n s a heard c sent
     goes_on c f whole = record {
-      steps = Steps-trans cells k.steps f;
+      steps = Steps-trans (cells_in heard.over) k.steps f;
       whole = whole;
-      sends = λ d g. k.sends d (Steps-trans cells f g);
+      sends = λ d g. k.sends d (Steps-trans (cells_in heard.over) f g);
     }
 
     -- more is sent, which may be sent whatever comes after
-    pub sends_on : (more : List Sent) → ((c : Store) → Steps cells b c → AllMay cells s a c heard more) → IsUnderWay n s a heard b (sent ++ more)
+    pub sends_on : (more : List Sent) → ((c : Store) → Steps (cells_in heard.over) b c → AllMay (cells_in heard.over) s a c heard.said more) → IsUnderWay n s a heard b (sent ++ more)
     sends_on more may = record {
       steps = k.steps;
       whole = k.whole;
-      sends = λ c f. All-append (λ m. May cells s a c heard (says m)) sent more (k.sends c f) (may c f);
+      sends = λ c f. All-append (λ m. May (cells_in heard.over) s a c heard.said (says m)) sent more (k.sends c f) (may c f);
     }
-
-    -- it ends, and what is sent at the end may be sent there
-    pub ends : HasSoundTags cells a → (all : List Sent) → ((HasSoundTags cells b) → AllMay cells s a b heard sent → AllMay cells s a b heard all) → IsGood n s a heard b all
-    ends tags all may =
-        let sound = k.steps.tags tags in
-        record {
-          rule = by_steps cells s a b heard all k.steps (none_noted a b heard) (may sound (k.sends b (Steps-refl cells b)));
-          tags = sound;
-          whole = k.whole;
-        }
 
 -- ---- a cell is answered
 
@@ -98,7 +87,7 @@ holds_plain b file c h = record { key = h.key; cell = plain h.cell; is = ap (opt
 
 -- A server s took a cell into the replica with the birth that the message names, so that it holds it: it may answer, from
 -- then on
-module _ (s : ℕ) (a b : Store) (from : ℕ) (ends : Ends) (tag : ℕ) (c : Cell) where
+module _ (over : Overs) (s : ℕ) (a b : Store) (from : ℕ) (ends : Ends) (tag : ℕ) (c : Cell) where
   abbrev Heard : Saying Slot Cell
   Heard = saying from s (message.Cell ends tag c)
 
@@ -106,10 +95,10 @@ module _ (s : ℕ) (a b : Store) (from : ℕ) (ends : Ends) (tag : ℕ) (c : Cel
   At = slot ends.file ends.sender s ends.receiver (cell_key c)
 
   pub answer_sent : b.names.server ≡ s → (x : Replica) → replica_at b ends.file ≡ Some x → x.birth ≡ ends.receiver → Holds IsUpTo (cell_at b ends.file) c
-      → (d : Store) → Steps cells b d → AllMay cells s a d Heard (sent_to b from (message.Ack (back ends) (cell_key c) tag) ∷ [])
+      → (d : Store) → Steps (cells_in over) b d → AllMay (cells_in over) s a d Heard (sent_to b from (message.Ack (back ends) (cell_key c) tag) ∷ [])
   answer_sent server x here birth holds d f =
       let m = sent_to b from (message.Ack (back ends) (cell_key c) tag) in
-      let covers : Covers cells d At (plain c) =
-      f.moves.covers At (plain c) (held_covers cells b At (plain c) (seen b ends.file x) (ap (option_map (seen b ends.file)) here) birth (holds_plain b ends.file c holds)) in
-      let P : ℕ → Type 0 = λ z. May cells s a d Heard (saying z from (message.Ack (back ends) (cell_key c) tag)) in
-      one_sent cells s a d Heard m [] (subst P (sym server) (answer_may cells s a d from At tag (plain c) refl covers)) (none_sent cells s a d Heard)
+      let covers : Covers (cells_in over) d At (plain c) =
+      f.moves.covers At (plain c) (held_covers (cells_in over) b At (plain c) (seen b ends.file x) (ap (option_map (seen b ends.file)) here) birth (holds_plain b ends.file c holds) tt) in
+      let P : ℕ → Type 0 = λ z. May (cells_in over) s a d Heard (saying z from (message.Ack (back ends) (cell_key c) tag)) in
+      one_sent (cells_in over) s a d Heard m [] (subst P (sym server) (answer_may (cells_in over) s a d from At tag (plain c) refl covers)) (none_sent (cells_in over) s a d Heard)

@@ -1,40 +1,38 @@
 -- A server that goes on to cover what it covers loses nothing that it holds.
-use Rattle.std.proofs.Common.{List, ℕ, ◌≡◌, Bool, true, false, Option, None, Some, option_map, refl, sym, ap, subst, ◌∙◌, inl, inr, arith}
+use Rattle.std.proofs.Common.{ℕ, ◌≡◌, ◌⊎◌, Bool, true, false, Option, None, Some, option_map, refl, sym, ap, subst, ◌∙◌, inl, inr}
+use Rattle.std.proofs.lemmas.Bool.{false≢true}
+use Rattle.std.proofs.lemmas.Option.{none-some, same_Some}
 use Rattle.pg_base.specs.declared.id.FileId.{FileId}
-use Rattle.pg_base.specs.declared.stamp.Stamp.{Stamp}
-use Rattle.pg_base.specs.Stamp.{UpTo}
 use Rattle.pg_edges.specs.declared.key.Key.{Key}
 use Rattle.pg_edges.specs.declared.key.Key.TheVariants as key
 use Rattle.pg_entries.specs.declared.cell.Cell.{Cell}
 use Rattle.pg_entries.specs.declared.cell.Cell.TheVariants as cell
 use Rattle.pg_entries.specs.declared.entry.Entry.{Entry}
-use Rattle.pg_flood.specs.Promises.{Saying}
-use Rattle.pg_flood.specs.Protocol.{Covers}
+use Rattle.pg_flood.specs.Protocol.{Covers, Protocol}
 use Rattle.pg_flood.specs.Server.{Holds, Replica as Seen, Slot, slot}
 use Rattle.pg_flood.proofs.Servers.{some_same}
-use Rattle.pg_flood.proofs.Steps.{Rule, Steps}
+use Rattle.pg_flood.proofs.Steps.{Steps}
 use Rattle.pg_msg.specs.declared.message.Sent.{Sent}
 use Rattle.pg_names.specs.declared.own.Own.{Own}
-use Rattle.pg_names.specs.Names.{HeldValue, cell_at as entry_at, entry_in, known, or_blank, own_of, own_or_blank}
+use Rattle.pg_names.specs.Names.{cell_at as entry_at, own_or_blank}
 use Rattle.pg_register.specs.declared.flag.Flag.{Flag}
 use Rattle.pg_register.specs.declared.place.Place.{Place}
 use Rattle.pg_register.specs.Flag.{flag_of}
-use Rattle.pg_register.specs.Place.{first_stamp}
 use Rattle.pg_replica.specs.declared.replica.Replica.{Replica}
 use Rattle.pg_store.specs.declared.store.Store.{Store}
+use Rattle.pg_store.specs.Births.{is_over}
 use Rattle.pg_store.specs.Cells.{cell_at, entry_cell, flag_cell, is_sure}
-use Rattle.pg_store.specs.Store.{is_held, replica_at}
+use Rattle.pg_store.specs.Store.{replica_at}
 use Rattle.pg_store.specs.Together.{birth_at}
-use Rattle.pg_promises.specs.Growing.{Grows}
+use Rattle.pg_store.proofs.Over.{over_tested}
+use Rattle.pg_promises.specs.Growing.{Grows, GrowsAt, GrowsOn}
 use Rattle.pg_promises.specs.Names.{IsEntryKnownBy}
-use Rattle.pg_promises.specs.Seen.{cells, plain, seen}
-use Rattle.pg_promises.specs.UpTo.{AreFlagsUpTo, IsFlagKnownBy, IsPlaceUpTo, IsUpTo}
+use Rattle.pg_promises.specs.Seen.{Overs, cells, cells_in, plain, seen, standing}
+use Rattle.pg_promises.specs.UpTo.{IsFlagKnownBy, IsPlaceUpTo, IsUpTo}
 use Rattle.pg_promises.specs.Whole.{AreByChild, IsWhole}
-use Rattle.pg_promises.proofs.Beginning.{none_known}
 use Rattle.pg_promises.proofs.Flags.{server_of}
 use Rattle.pg_promises.proofs.Sending.{own_key}
 use Rattle.pg_promises.proofs.Stores.{plain_at}
-use Rattle.pg_promises.proofs.Together.{replica_of_held}
 use Rattle.pg_promises.proofs.UpTo.{cell_itself}
 
 -- ---- cells, be they plain or not
@@ -76,8 +74,8 @@ holds_itself b f c h = held_by b f c h.cell h.key (cell_at b f h.key) refl h.is 
 
 -- ---- what a server goes on to cover
 
-abbrev pub GoesOn : Store → Store → Type 0
-GoesOn a b = (q : Slot) (c : Cell) → Covers cells a q c → Covers cells b q c
+abbrev pub GoesOn : Protocol Store Sent Cell → Store → Store → Type 0
+GoesOn p a b = (q : Slot) (c : Cell) → Covers p a q c → Covers p b q c
 
 -- a replica is there still, and has this cell or more
 record IsThere (b : Store) (f : FileId) (birth : ℕ) (c : Cell) : Type 0 where
@@ -96,25 +94,23 @@ there_by b f birth c r (Some y) is e same holds =
       holds = holds_itself b f c (subst (λ (z : Seen Cell). Holds IsUpTo z.cells (plain c)) (sym it) holds);
     }
 
-module _ (a b : Store) (on : GoesOn a b) where
-  there : (f : FileId) (x : Replica) (q : Key) (c : Cell) → replica_at a f ≡ Some x
+module _ (over : Overs) (a b : Store) (on : GoesOn (cells_in over) a b) where
+  -- where its birth does not count as over
+  there : (f : FileId) (x : Replica) (q : Key) (c : Cell) → over f x.birth ≡ false → replica_at a f ≡ Some x
       → cell_at a f q ≡ Some c → IsThere b f x.birth c
-  there f x q c here is =
-      elim (on (slot f 0 0 x.birth q) (plain c) (inl (record {
-        replica = seen a f x;
-        is = ap (option_map (seen a f)) here;
-        other = refl;
-        holds = record { key = q; cell = plain c; is = ap (option_map plain) is; upto = cell_itself (plain c) };
-      }))) [
-        | inl h ↦ there_by b f x.birth c h.replica (replica_at b f) refl h.is h.other h.holds
-        | inr over ↦ absurd over
+  there f x q c apart here is =
+      elim (on (slot f 0 0 x.birth q) (plain c) (inl (
+        record {
+          replica = seen a f x;
+          is = ap (option_map (seen a f)) here;
+          other = refl;
+          holds = record { key = q; cell = plain c; is = ap (option_map plain) is; upto = cell_itself (plain c) };
+        },
+        tt,
+      ))) [
+        | inl h ↦ let t = h.0 in there_by b f x.birth c t.replica (replica_at b f) refl t.is t.other t.holds
+        | inr counts ↦ absurd (false≢true (sym apart ∙ counts))
       ]
-
-  birth_by : (f : FileId) (birth : ℕ) (o : Option Replica) → replica_at a f ≡ o
-      → option_map (λ (x : Replica). x.birth) o ≡ Some birth → birth_at b f ≡ Some birth
-  birth_by f birth None is e = absurd (let z : None ≡ Some birth = e in cc)
-  birth_by f birth (Some x) is e =
-      (there f x key.Place (cell.Place (own_or_blank a.names f).place) is refl).born ∙ e
 
 -- ---- what is held of names
 
@@ -183,88 +179,96 @@ module _ (b : Store) (own : AreByChild b.names) (f : FileId) where
       subst (λ (o : Option Entry). IsEntryKnownBy (Some e) o) (sym found) up
   entry_from e sure child q (cell.Version v) of is up = absurd up
 
-blank_least : (s : Stamp) → UpTo first_stamp s
-blank_least s = record { time = omega arith; server = λ h. omega arith }
+-- ---- one replica grows
 
--- WHAT GOES ON TO COVER what it covers has grown
-module _ (n s : ℕ) (a b : Store) (k : IsWhole n s a) (l : IsWhole n s b) (on : GoesOn a b) where
-  all_cells : (f : FileId) (q : Key) (c : Cell) → is_held a f ≡ true → cell_at a f q ≡ Some c
-      → Holds IsUpTo (cell_at b f) c
-  all_cells f q c held is =
-      let x = replica_of_held a k.together f held in (there a b on f x.0 q c x.1 is).holds
+module _ (over : Overs) (n s : ℕ) (a b : Store) (k : IsWhole n s a) (l : IsWhole n s b)
+    (on : GoesOn (cells_in over) a b) (f : FileId) where
+  abbrev Mine : Own
+  Mine = own_or_blank a.names f
 
-  module _ (f : FileId) where
-    abbrev Mine : Own
-    Mine = own_or_blank a.names f
+  module _ (x : Replica) (here : replica_at a f ≡ Some x) (apart : over f x.birth ≡ false) where
+    all_cells : (q : Key) (c : Cell) → cell_at a f q ≡ Some c → Holds IsUpTo (cell_at b f) c
+    all_cells q c is = (there over a b on f x q c apart here is).holds
 
-    place_by : (t : Bool) → is_held a f ≡ t → IsPlaceUpTo Mine.place (own_or_blank b.names f).place
-    place_by true held =
-        let h = all_cells f key.Place (cell.Place Mine.place) held refl in
+    place_grows : IsPlaceUpTo Mine.place (own_or_blank b.names f).place
+    place_grows =
+        let h = all_cells key.Place (cell.Place Mine.place) refl in
         place_from b l.names.children f Mine.place h.key h.cell h.is h.upto
-    place_by false away =
-        let blank : known a.names f ≡ None = none_known (known a.names f) away in
-        subst (λ (o : Option HeldValue). IsPlaceUpTo (or_blank f (own_of o)).place (own_or_blank b.names f).place)
-        (sym blank) (blank_least (own_or_blank b.names f).place.stamp)
 
-    some_flag : (m : ℕ) (flag : Flag) → is_held a f ≡ true → flag_of Mine.flags m ≡ Some flag
+    some_flag : (m : ℕ) (flag : Flag) → flag_of Mine.flags m ≡ Some flag
         → IsFlagKnownBy (Some flag) (flag_of (own_or_blank b.names f).flags m)
-    some_flag m flag held is =
-        let h = all_cells f (key.Flag m) (cell.Flag flag) held (ap flag_cell is) in
+    some_flag m flag is =
+        let h = all_cells (key.Flag m) (cell.Flag flag) (ap flag_cell is) in
         flag_from b l.names.children f flag m h.key h.cell (server_of Mine.flags m flag is) h.is h.upto
 
-    flag_by : (m : ℕ) (o : Option Flag) → is_held a f ≡ true → flag_of Mine.flags m ≡ o
+    flag_by : (m : ℕ) (o : Option Flag) → flag_of Mine.flags m ≡ o
         → IsFlagKnownBy o (flag_of (own_or_blank b.names f).flags m)
-    flag_by m None held is = tt
-    flag_by m (Some flag) held is = some_flag m flag held is
+    flag_by m None is = tt
+    flag_by m (Some flag) is = some_flag m flag is
 
-    flags_by : (t : Bool) → is_held a f ≡ t → AreFlagsUpTo Mine.flags (own_or_blank b.names f).flags
-    flags_by true held = λ m. flag_by m (flag_of Mine.flags m) held refl
-    flags_by false away =
-        let blank : known a.names f ≡ None = none_known (known a.names f) away in
-        subst (λ (o : Option HeldValue). AreFlagsUpTo (or_blank f (own_of o)).flags (own_or_blank b.names f).flags)
-        (sym blank) (λ m. tt)
-
-    entry_by : (child : FileId) (o : Option Entry) → is_held a f ≡ true → entry_at a.names f child ≡ o
+    entry_by : (child : FileId) (o : Option Entry) → entry_at a.names f child ≡ o
         → IsEntryKnownBy o (entry_at b.names f child)
-    entry_by child None held is = tt
-    entry_by child (Some e) held is =
+    entry_by child None is = tt
+    entry_by child (Some e) is =
         let sure = is_sure a f child in
-        let h = all_cells f (key.Entry child) (cell.Entry e sure) held
+        let h = all_cells (key.Entry child) (cell.Entry e sure)
         (ap (λ (o : Option Entry). entry_cell o sure) is) in
         entry_from b l.names.children f e sure child h.key h.cell (k.names.children f child e is) h.is h.upto
 
-    entries_by : (child : FileId) (t : Bool) → is_held a f ≡ t
-        → IsEntryKnownBy (entry_at a.names f child) (entry_at b.names f child)
-    entries_by child true held = entry_by child (entry_at a.names f child) held refl
-    entries_by child false away =
-        let blank : known a.names f ≡ None = none_known (known a.names f) away in
-        subst (λ (o : Option HeldValue). IsEntryKnownBy (entry_in child o) (entry_at b.names f child))
-        (sym blank) tt
+    replica_grows : (birth_at b f ≡ Some x.birth) × GrowsAt a b f
+    replica_grows = (
+      (there over a b on f x key.Place (cell.Place Mine.place) apart here refl).born,
+      record {
+        place = place_grows;
+        flags = λ m. flag_by m (flag_of Mine.flags m) refl;
+        entries = λ child. entry_by child (entry_at a.names f child) refl;
+        cells = all_cells;
+      },
+    )
 
-  pub grown : Grows a b
-  grown = record {
-    births = λ f birth is. birth_by a b on f birth (replica_at a f) refl is;
-    names = record {
-      places = λ f. place_by f (is_held a f) refl;
-      flags = λ f. flags_by f (is_held a f) refl;
-      entries = λ f child. entries_by f child (is_held a f) refl;
-    };
-    cells = all_cells;
-  }
+  grows_if : (birth : ℕ) (o : Option Replica) → replica_at a f ≡ o
+      → option_map (λ (x : Replica). x.birth) o ≡ Some birth → (t : Bool) → over f birth ≡ t
+      → ((birth_at b f ≡ Some birth) × GrowsAt a b f) ⊎ (over f birth ≡ true)
+  grows_if birth None here is t counts = absurd (none-some birth is)
+  grows_if birth (Some x) here is true counts = inr counts
+  grows_if birth (Some x) here is false counts =
+      let same : x.birth ≡ birth = same_Some x.birth birth is in
+      let grows = replica_grows x here (ap (over f) same ∙ counts) in
+      inl (grows.0 ∙ ap (λ (m : ℕ). Some m) same, grows.1)
 
--- ---- by a chain of steps, or by the rule
+  -- WHAT GOES ON TO COVER what it covers has grown, or counts as over
+  pub grows_or_counts : (birth : ℕ) → birth_at a f ≡ Some birth
+      → ((birth_at b f ≡ Some birth) × GrowsAt a b f) ⊎ (over f birth ≡ true)
+  grows_or_counts birth is = grows_if birth (replica_at a f) refl is (over f birth) refl
 
-pub grown_by_steps : (n s : ℕ) (a b : Store) → IsWhole n s a → IsWhole n s b → Steps cells a b → Grows a b
-grown_by_steps n s a b k l f = grown n s a b k l f.moves.covers
+-- ---- between events, and by steps in which no replica goes
 
-pub grown_by_rule : (n s t : ℕ) (a b : Store) (heard : Saying Slot Cell) (sent : List Sent) → IsWhole n s a
-    → IsWhole n s b → Rule cells t a b heard sent → Grows a b
-grown_by_rule n s t a b heard sent k l f = grown n s a b k l f.onward.covers
+-- what stores say of births counts in the end
+in_the_end : (a b : Store) → GoesOn cells a b → GoesOn (cells_in (is_over b)) a b
+in_the_end a b on q c h = elim h [ inl t ↦ on q c (inl t) | inr counts ↦ inr counts ]
+
+module _ (n s : ℕ) (a b : Store) (k : IsWhole n s a) (l : IsWhole n s b) where
+  -- by all that is over in the end
+  pub grown_in : GoesOn (cells_in (is_over b)) a b → Grows a b
+  grown_in on f birth is = elim (grows_or_counts (is_over b) n s a b k l on f birth is) [
+    | inl grows ↦ inl grows
+    | inr counts ↦ inr ((over_tested b f birth).0 counts)
+  ]
+
+  pub grown : GoesOn cells a b → Grows a b
+  grown on = grown_in (in_the_end a b on)
+
+  pub grown_by_steps : Steps standing a b → GrowsOn a b
+  grown_by_steps steps f birth is =
+      elim (grows_or_counts (λ (g : FileId) (m : ℕ). false) n s a b k l steps.moves.covers f birth is) [
+        | inl grows ↦ grows
+        | inr counts ↦ absurd (false≢true counts)
+      ]
 
 -- ---- one growth after another
 
-pub goes_on_itself : (a : Store) → GoesOn a a
-goes_on_itself a q c h = h
+pub goes_on_itself : (p : Protocol Store Sent Cell) (a : Store) → GoesOn p a a
+goes_on_itself p a q c h = h
 
-pub goes_on_further : (a b c : Store) → GoesOn a b → GoesOn b c → GoesOn a c
-goes_on_further a b c f g q x h = g q x (f q x h)
+pub goes_on_further : (p : Protocol Store Sent Cell) (a b c : Store) → GoesOn p a b → GoesOn p b c → GoesOn p a c
+goes_on_further p a b c f g q x h = g q x (f q x h)

@@ -5,15 +5,14 @@ use Rattle.pg_base.specs.declared.stamp.Stamp.{Stamp}
 use Rattle.pg_patch.specs.Ranges.{RangesValue}
 use Rattle.pg_content.specs.Content.{Among, ContentValue}
 use Rattle.pg_content.specs.History.{Made, version_of}
-use Rattle.pg_flood.proofs.Steps.{Steps}
 use Rattle.pg_entries.specs.declared.cell.Cell.TheVariants as cell
 use Rattle.pg_replica.specs.declared.replica.Replica.{Replica}
 use Rattle.pg_replica.specs.Replicas.{or_nothing}
 use Rattle.pg_store.specs.declared.store.Store.{Store}
 use Rattle.pg_store.specs.Store.{content_of, replica_at, take_version, write}
 use Rattle.pg_promises.specs.Histories.{IsOfHistory}
-use Rattle.pg_promises.specs.Laws.{IsTaken, coming}
-use Rattle.pg_promises.specs.Seen.{cells}
+use Rattle.pg_promises.specs.Laws.{IsTaken, StepsOn, coming}
+use Rattle.pg_promises.proofs.Counting.{steps_on}
 use Rattle.pg_promises.proofs.Versions.{version_put, write_steps}
 
 module _ (a : Store) (file : FileId) (here : (x : Replica) × (replica_at a file ≡ Some x)) (h : List Made) where
@@ -25,7 +24,7 @@ module _ (a : Store) (file : FileId) (here : (x : Replica) × (replica_at a file
   version_of_held m of is =
       let t = version_put a file here.0 here.1 h (subst (IsOfHistory h) content_is of) m is in
       let P : ContentValue → Type 0 = λ c. IsTaken a (take_version a file (version_of c.policy h m)) file (cell.Version (version_of c.policy h m)) in
-      subst P (sym content_is) (t.steps, t.holds)
+      subst P (sym content_is) (steps_on a (take_version a file (version_of here.0.content.policy h m)) t.steps, t.holds)
 
-  pub write_of_held : (stamp : Stamp) (ranges : RangesValue) → IsOfHistory h (content_of a file) → Steps cells a (write a file stamp ranges)
-  write_of_held stamp ranges of = write_steps a file here.0 here.1 h (subst (IsOfHistory h) content_is of) stamp ranges
+  pub write_of_held : (stamp : Stamp) (ranges : RangesValue) → IsOfHistory h (content_of a file) → StepsOn a (write a file stamp ranges)
+  write_of_held stamp ranges of = steps_on a (write a file stamp ranges) (write_steps a file here.0 here.1 h (subst (IsOfHistory h) content_is of) stamp ranges)

@@ -19,7 +19,7 @@ use Rattle.pg_store.specs.declared.store.Store.{Store}
 use Rattle.pg_store.specs.Links.{keys, link, unlink}
 use Rattle.pg_store.specs.Store.{content_of, replica_at, with_drawn, with_names}
 use Rattle.pg_promises.specs.Laws.{AreAlike}
-use Rattle.pg_promises.specs.Seen.{cells, seen}
+use Rattle.pg_promises.specs.Seen.{seen, standing}
 use Rattle.pg_promises.proofs.AllKeys.{keys_seen}
 use Rattle.pg_promises.proofs.Choices.{decided}
 use Rattle.pg_promises.proofs.Growth.{SameNames-refl}
@@ -51,7 +51,7 @@ module _ (a : Store) (file : FileId) (x y : Replica) (held : replica_at a file �
   same_cells = fun_ext (cell_same a Now file (record { own = refl; entries = λ h. refl; content = same_content file }))
 
   -- what the replica draws with the cells that it had
-  pub edges_steps : Draws a.tags (seen a file x) (a.tags + n) (seen_with y (plain_at a file)) → Steps cells a Now
+  pub edges_steps : Draws a.tags (seen a file x) (a.tags + n) (seen_with y (plain_at a file)) → Steps standing a Now
   edges_steps draws =
       let P : (Key → Option Cell) → Type 0 = λ cs. Draws a.tags (seen a file x) (a.tags + n) (seen_with y cs) in
       one_steps a Now file x y changes (SameNames-refl a.names) (subst P (sym same_cells) draws)
@@ -67,21 +67,21 @@ module _ (a : Store) (file : FileId) (peer birth : ℕ) (held : is_held a.names 
   linked_if o = cond (takes_link o peer birth) (with_drawn a (length Ks) (replicas_linked a.replicas file peer birth Ks a.tags o)) a
 
   made_steps : (x : Replica) → replica_at a file ≡ Some x → makes_edge x.edges peer birth ≡ true
-      → Steps cells a (with_drawn a (length Ks) (replicas_linked a.replicas file peer birth Ks a.tags (Some x)))
+      → Steps standing a (with_drawn a (length Ks) (replicas_linked a.replicas file peer birth Ks a.tags (Some x)))
   made_steps x there made =
       let y = with_link x peer birth Ks a.tags in
       let P : Bool → Type 0 = λ t. Draws a.tags (seen a file x) (a.tags + cond t (length Ks) 0) (seen_with y (plain_at a file)) in
       edges_steps a file x y there (length Ks) refl
       (subst P made (link_draws a.tags (seen a file x) peer birth Ks (keys_seen a file held)))
 
-  link_by : (o : Option Replica) → replica_at a file ≡ o → Steps cells a (linked_if o)
-  link_by None e = Steps-refl cells a
+  link_by : (o : Option Replica) → replica_at a file ≡ o → Steps standing a (linked_if o)
+  link_by None e = Steps-refl standing a
   link_by (Some x) e =
-      decided (Steps cells a) (makes_edge x.edges peer birth) (with_drawn a (length Ks) (replicas_linked a.replicas file peer birth Ks a.tags (Some x))) a
-      (made_steps x e) (λ no. Steps-refl cells a)
+      decided (Steps standing a) (makes_edge x.edges peer birth) (with_drawn a (length Ks) (replicas_linked a.replicas file peer birth Ks a.tags (Some x))) a
+      (made_steps x e) (λ no. Steps-refl standing a)
 
   -- A LINK, to a thing that is held
-  pub held_link_steps : Steps cells a (link a file peer birth)
+  pub held_link_steps : Steps standing a (link a file peer birth)
   held_link_steps = link_by (replica_at a file) refl
 
 -- ---- an edge goes
@@ -93,26 +93,26 @@ module _ (a : Store) (file : FileId) (peer birth : ℕ) where
   no_tag : a.tags + 0 ≡ a.tags
   no_tag = omega arith
 
-  gone_steps : (x : Replica) → replica_at a file ≡ Some x → Steps cells a (record a { replicas = replicas_unlinked a.replicas file peer birth (Some x) })
+  gone_steps : (x : Replica) → replica_at a file ≡ Some x → Steps standing a (record a { replicas = replicas_unlinked a.replicas file peer birth (Some x) })
   gone_steps x there =
       let y = with_unlink x peer birth in
       let P : ℕ → Type 0 = λ t. Draws a.tags (seen a file x) t (seen_with y (plain_at a file)) in
-      let Q : ℕ → Type 0 = λ t. Steps cells a (record a { tags = t; replicas = put_replica a.replicas file y }) in
+      let Q : ℕ → Type 0 = λ t. Steps standing a (record a { tags = t; replicas = put_replica a.replicas file y }) in
       subst Q no_tag (edges_steps a file x y there 0 refl (subst P (sym no_tag) (unlink_draws a.tags (seen a file x) peer birth)))
 
-  unlink_by : (o : Option Replica) → replica_at a file ≡ o → Steps cells a (unlinked_if o)
-  unlink_by None e = Steps-refl cells a
+  unlink_by : (o : Option Replica) → replica_at a file ≡ o → Steps standing a (unlinked_if o)
+  unlink_by None e = Steps-refl standing a
   unlink_by (Some x) e =
-      decided (Steps cells a) (lists_peer (Some x) peer birth) (record a { replicas = replicas_unlinked a.replicas file peer birth (Some x) }) a
-      (λ there. gone_steps x e) (λ no. Steps-refl cells a)
+      decided (Steps standing a) (lists_peer (Some x) peer birth) (record a { replicas = replicas_unlinked a.replicas file peer birth (Some x) }) a
+      (λ there. gone_steps x e) (λ no. Steps-refl standing a)
 
   -- AN UNLINK
-  pub unlink_steps : Steps cells a (unlink a file peer birth)
+  pub unlink_steps : Steps standing a (unlink a file peer birth)
   unlink_steps = unlink_by (replica_at a file) refl
 
 -- ---- what is not seen
 
-pub alike_steps : (a b : Store) → AreAlike a b → Steps cells a b
+pub alike_steps : (a b : Store) → AreAlike a b → Steps standing a b
 alike_steps a b k = same_steps a b (record {
   tags = k.tags;
   files = λ f.
@@ -127,7 +127,7 @@ alike_steps a b k = same_steps a b (record {
       };
 })
 
-pub fill_steps : (a : Store) (file : FileId) → Steps cells a (with_names a (fill a.names file))
+pub fill_steps : (a : Store) (file : FileId) → Steps standing a (with_names a (fill a.names file))
 fill_steps a file = same_steps a (with_names a (fill a.names file)) (record {
   tags = refl;
   files = λ f. record {

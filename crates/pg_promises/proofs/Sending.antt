@@ -34,7 +34,7 @@ use Rattle.pg_store.specs.Store.{content_of, replica_at}
 use Rattle.pg_cells.specs.Finish.{finish}
 use Rattle.pg_cells.specs.Sending.{Wanted, cell_to, cell_under, cells_where, edge_cells, is_any, is_chosen, key_cell, replica_cells, waits}
 use Rattle.pg_cells.specs.Ticks.{tick}
-use Rattle.pg_promises.specs.Seen.{cells, plain, says, seen}
+use Rattle.pg_promises.specs.Seen.{Overs, cells_in, plain, says, seen}
 use Rattle.pg_promises.specs.Whole.{AreByChild, AreEdges, IsEdge, IsWhole}
 use Rattle.pg_promises.proofs.Choices.{All-flat_map, chosen}
 use Rattle.pg_promises.proofs.Flags.{server_of}
@@ -63,51 +63,51 @@ own_key b own f (key.Version stamp) c is = version_key b f (key.Version stamp) c
 -- ---- what is sent of one replica
 
 -- a server came from a to b, having heard this
-module _ (n s : ℕ) (a b : Store) (heard : Saying Slot Cell) (sound : HasSoundTags cells b) (k : IsWhole n s b) where
+module _ (over : Overs) (n s : ℕ) (a b : Store) (heard : Saying Slot Cell) (sound : HasSoundTags (cells_in over) b) (k : IsWhole n s b) where
   abbrev MaySend : List Sent → Type 0
-  MaySend ms = AllMay cells s a b heard ms
+  MaySend ms = AllMay (cells_in over) s a b heard ms
 
   module _ (f : FileId) (x : Replica) (here : replica_at b f ≡ Some x) (e : Edge) (edge : edge_to x.edges e.peer ≡ Some e) where
-    cell_sent : (q : Key) (c : Cell) (g : ℕ) → tag_in e.keys q ≡ Some g → cell_at b f q ≡ Some c → May cells s a b heard (says (cell_to b f x.birth e c g))
+    cell_sent : (q : Key) (c : Cell) (g : ℕ) → tag_in e.keys q ≡ Some g → cell_at b f q ≡ Some c → May (cells_in over) s a b heard (says (cell_to b f x.birth e c g))
     cell_sent q c g tagged is =
         let at : Slot = slot f x.birth e.peer e.birth q in
         let own : q ≡ cell_key c = sym (own_key b k.names.children f q c is) in
-        let P : Key → Type 0 = λ z. May cells s a b heard (CellFor b.names.server (slot f x.birth e.peer e.birth z) g (plain c)) in
-        let Q : ℕ → Type 0 = λ z. May cells s a b heard (CellFor z at g (plain c)) in
-        let stands : tag cells b at ≡ Some g =
+        let P : Key → Type 0 = λ z. May (cells_in over) s a b heard (CellFor b.names.server (slot f x.birth e.peer e.birth z) g (plain c)) in
+        let Q : ℕ → Type 0 = λ z. May (cells_in over) s a b heard (CellFor z at g (plain c)) in
+        let stands : tag (cells_in over) b at ≡ Some g =
         ap (λ (o : Option Replica). tag_on (option_map (seen b f) o) at) here ∙ tag_on_edge x.edges e q (Some g) edge tagged in
         subst P own (subst Q (sym k.server)
-        (cell_may cells s a b heard at (seen b f x) (plain c) g sound (ap (option_map (seen b f)) here) refl (ap (option_map plain) is) stands))
+        (cell_may (cells_in over) s a b heard at (seen b f x) (plain c) g sound (ap (option_map (seen b f)) here) refl (ap (option_map plain) is) stands))
 
     under_may : (q : Key) (g : ℕ) (o : Option Cell) → tag_in e.keys q ≡ Some g → cell_at b f q ≡ o → MaySend (cell_under b f x.birth e g o)
-    under_may q g None tagged is = none_sent cells s a b heard
-    under_may q g (Some c) tagged is = one_sent cells s a b heard (cell_to b f x.birth e c g) [] (cell_sent q c g tagged is) (none_sent cells s a b heard)
+    under_may q g None tagged is = none_sent (cells_in over) s a b heard
+    under_may q g (Some c) tagged is = one_sent (cells_in over) s a b heard (cell_to b f x.birth e c g) [] (cell_sent q c g tagged is) (none_sent (cells_in over) s a b heard)
 
     key_may : (q : Key × ℕ) → tag_in e.keys q.0 ≡ Some q.1 → MaySend (key_cell b f x.birth e q)
-    key_may q tagged = chosen MaySend (waits b f e q.0) [] (cell_under b f x.birth e q.1 (cell_at b f q.0)) (none_sent cells s a b heard) (under_may q.0 q.1 (cell_at b f q.0) tagged refl)
+    key_may q tagged = chosen MaySend (waits b f e q.0) [] (cell_under b f x.birth e q.1 (cell_at b f q.0)) (none_sent (cells_in over) s a b heard) (under_may q.0 q.1 (cell_at b f q.0) tagged refl)
 
     edge_may : (wanted : Wanted) → IsEdge n s e → MaySend (edge_cells b wanted f x.birth e)
     edge_may wanted is =
         let test : Key × ℕ → Bool = λ q. wanted f e.peer q.0 in
-        All-flat_map (λ m. May cells s a b heard (says m)) (key_cell b f x.birth e) (filter test e.keys)
+        All-flat_map (λ m. May (cells_in over) s a b heard (says m)) (key_cell b f x.birth e) (filter test e.keys)
         (All-filter test (λ q. MaySend (key_cell b f x.birth e q)) e.keys
         (All-weaker (λ (q : Key × ℕ). tag_in e.keys q.0 ≡ Some q.1) (λ q. MaySend (key_cell b f x.birth e q)) key_may e.keys (keys_found e.keys is.sorted)))
 
   replica_may : (wanted : Wanted) (r : FileId × Replica) → replica_at b r.0 ≡ Some r.1 → AreEdges n s r.1.edges → MaySend (replica_cells b wanted r)
   replica_may wanted r here full =
       let found = edges_found 0 r.1.edges full.order in
-      All-flat_map (λ m. May cells s a b heard (says m)) (edge_cells b wanted r.0 r.1.birth) r.1.edges
+      All-flat_map (λ m. May (cells_in over) s a b heard (says m)) (edge_cells b wanted r.0 r.1.birth) r.1.edges
       (λ i d lt. edge_may r.0 r.1 here (get_or r.1.edges i d) (found i d lt) wanted (full.each i d lt))
 
   -- ---- what is sent of all
 
   pub where_may : (wanted : Wanted) → MaySend (cells_where b wanted)
   where_may wanted =
-      All-flat_map (λ m. May cells s a b heard (says m)) (replica_cells b wanted) b.replicas
+      All-flat_map (λ m. May (cells_in over) s a b heard (says m)) (replica_cells b wanted) b.replicas
       (λ i d lt. replica_may wanted (get_or b.replicas i d) (entries_known b k.order i d lt) (k.replicas i d lt))
 
   more_may : (wanted : Wanted) (sent : List Sent) → MaySend sent → MaySend (sent ++ cells_where b wanted)
-  more_may wanted sent h = All-append (λ m. May cells s a b heard (says m)) sent (cells_where b wanted) h (where_may wanted)
+  more_may wanted sent h = All-append (λ m. May (cells_in over) s a b heard (says m)) sent (cells_where b wanted) h (where_may wanted)
 
   -- A TICK
   pub tick_may : (work : Work) → MaySend work.sent → MaySend (tick b work).sent
@@ -118,8 +118,8 @@ module _ (n s : ℕ) (a b : Store) (heard : Saying Slot Cell) (sound : HasSoundT
   finish_may work h = more_may (is_chosen work.touched work.linked) work.sent h
 
 -- WHAT THE EDGES DO NOT READ
-pub others_may : (s : ℕ) (a b : Store) (heard : Saying Slot Cell) (ms : List Sent) → All (λ m. says m ≡ Other) ms → AllMay cells s a b heard ms
-others_may s a b heard [] h = none_sent cells s a b heard
-others_may s a b heard (m ∷ ms) h =
-    let P : Saying Slot Cell → Type 0 = λ x. May cells s a b heard x in
-    one_sent cells s a b heard m ms (subst P (sym (All-head (λ z. says z ≡ Other) m ms h)) tt) (others_may s a b heard ms (All-tail (λ z. says z ≡ Other) m ms h))
+pub others_may : (over : Overs) (s : ℕ) (a b : Store) (heard : Saying Slot Cell) (ms : List Sent) → All (λ m. says m ≡ Other) ms → AllMay (cells_in over) s a b heard ms
+others_may over s a b heard [] h = none_sent (cells_in over) s a b heard
+others_may over s a b heard (m ∷ ms) h =
+    let P : Saying Slot Cell → Type 0 = λ x. May (cells_in over) s a b heard x in
+    one_sent (cells_in over) s a b heard m ms (subst P (sym (All-head (λ z. says z ≡ Other) m ms h)) tt) (others_may over s a b heard ms (All-tail (λ z. says z ≡ Other) m ms h))

@@ -20,7 +20,7 @@ use Rattle.pg_cells.specs.Golds.{is_goldless, is_goldless_held}
 use Rattle.pg_cells.specs.Making.{own_next, raise_flag}
 use Rattle.pg_cells.specs.Settling.{rules, settle, touch_all}
 use Rattle.pg_cells.proofs.Settled.{settle_keeps}
-use Rattle.pg_promises.specs.Seen.{cells}
+use Rattle.pg_promises.specs.Seen.{standing}
 use Rattle.pg_promises.specs.Whole.{AreOrderly, IsWhole}
 use Rattle.pg_promises.proofs.Choices.{chosen}
 use Rattle.pg_promises.proofs.Growth.{SameNames-refl}
@@ -46,7 +46,7 @@ took_before a names ts g =
     record { touched = touched_before ts a (touch_all a ts) names (all_touched a ts); names = g }
 
 -- keys are touched, and nothing else is done
-pub touches_steps : (a : Store) (ts : List Touched) → Steps cells a (touch_all a ts)
+pub touches_steps : (a : Store) (ts : List Touched) → Steps standing a (touch_all a ts)
 touches_steps a ts =
     let P : NamesValue → Type 0 = λ n. Grew ts a.names n in
     took_steps ts a (touch_all a ts) (record { touched = all_touched a ts; names = subst P (sym (same_names a ts)) (grew_same ts a.names a.names refl (SameNames-refl a.names)) })
@@ -73,7 +73,7 @@ module _ (n s : ℕ) (a : Store) (work : Work) (k : IsWhole n s a) where
   }
 
   -- THE HOUSE RULES RUN, and what they change is touched
-  pub rules_steps : Steps cells a (rules a work).store
+  pub rules_steps : Steps standing a (rules a work).store
   rules_steps = took_steps Keys a (rules a work).store (took_all a Behind Keys behind_grew)
 
   -- they hold just what was held
@@ -97,7 +97,7 @@ goldless_own a f h =
     goldless_by a.names.removed a.names.server (birth_of a f) (known a.names f) h
 
 pub raised_steps : (a : Store) (f : FileId) (work : Work) → is_goldless a f ≡ true
-    → Steps cells a (raise_flag a f work).store
+    → Steps standing a (raise_flag a f work).store
 raised_steps a f work h =
     let own = goldless_own a f h in
     let t = flag_taken a f own.0 own.1 (own_next a f true) in
@@ -110,29 +110,29 @@ whole_raised n s a f work k = whole_flag n s a k f (own_next a f true)
 -- ---- THE HOUSE RULES RUN, and what sees no gold becomes one
 
 record Goes (n s : ℕ) (a b : Store) : Type 0 where
-  pub steps : Steps cells a b
+  pub steps : Steps standing a b
   pub whole : IsWhole n s b
 
 module _ (n s : ℕ) (a : Store) where
   ruling : (b : Store) (work : Work) → Goes n s a b → Goes n s a (rules b work).store
   ruling b work g = record {
-    steps = Steps-trans cells g.steps (rules_steps n s b work g.whole);
+    steps = Steps-trans standing g.steps (rules_steps n s b work g.whole);
     whole = whole_rules n s b work g.whole;
   }
 
   raising : (b : Store) (f : FileId) (work : Work) → is_goldless b f ≡ true → Goes n s a b
       → Goes n s a (raise_flag b f work).store
   raising b f work h g = record {
-    steps = Steps-trans cells g.steps (raised_steps b f work h);
+    steps = Steps-trans standing g.steps (raised_steps b f work h);
     whole = whole_raised n s b f work g.whole;
   }
 
   settle_goes : (work : Work) → IsWhole n s a → Goes n s a (settle a work).store
   settle_goes work k =
       settle_keeps (λ b w. Goes n s a b) ruling raising a work
-      (record { steps = Steps-refl cells a; whole = k })
+      (record { steps = Steps-refl standing a; whole = k })
 
-  pub settle_steps : (work : Work) → IsWhole n s a → Steps cells a (settle a work).store
+  pub settle_steps : (work : Work) → IsWhole n s a → Steps standing a (settle a work).store
   settle_steps work k = (settle_goes work k).steps
 
   pub whole_settle : (work : Work) → IsWhole n s a → IsWhole n s (settle a work).store

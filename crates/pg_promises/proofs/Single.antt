@@ -11,11 +11,11 @@ use Rattle.pg_flood.proofs.Steps.{Steps, fewer_tags}
 use Rattle.pg_replica.specs.declared.replica.Replica.{Replica}
 use Rattle.pg_store.specs.declared.store.Store.{Store}
 use Rattle.pg_store.specs.Store.{replica_at}
-use Rattle.pg_promises.specs.Seen.{cells, seen}
+use Rattle.pg_promises.specs.Seen.{seen, standing}
 use Rattle.pg_promises.specs.UpTo.{IsUpTo}
 use Rattle.pg_promises.proofs.Growth.{SameNames}
-use Rattle.pg_promises.proofs.Stores.{Changes, bare_seen, cell_same, content_same, from_bare, plain_at, replica_elsewhere, replica_here, tags_drawn, to_bare}
-use Rattle.pg_promises.proofs.UpTo.{cell_itself, is_sound}
+use Rattle.pg_promises.proofs.Stores.{Changes, bare_seen, cell_same, content_same, from_bare, over_stays, plain_at, replica_elsewhere, replica_here, tags_drawn, to_bare}
+use Rattle.pg_promises.proofs.UpTo.{cell_itself, in_order}
 
 -- ---- nothing that is seen changes
 
@@ -24,7 +24,7 @@ pub record SameAt (a b : Store) (f : FileId) : Type 0 where
   pub replica : replica_at b f ≡ replica_at a f
   pub cells : (q : Key) → plain_at b f q ≡ plain_at a f q
 
-same_goes : (a b : Store) (f : FileId) (x : Replica) → ((q : Key) → plain_at b f q ≡ plain_at a f q) → Goes cells a.tags b.tags (seen a f x) (seen b f x)
+same_goes : (a b : Store) (f : FileId) (x : Replica) → ((q : Key) → plain_at b f q ≡ plain_at a f q) → Goes standing a.tags b.tags (seen a f x) (seen b f x)
 same_goes a b f x same = record {
   birth = refl;
   brings = λ p n q g h. inl h;
@@ -33,13 +33,13 @@ same_goes a b f x same = record {
 }
 
 same_if : (a b : Store) (f : FileId) (o : Option Replica) → ((q : Key) → plain_at b f q ≡ plain_at a f q)
-    → GoesIf cells a.tags b.tags (option_map (seen a f) o) (option_map (seen b f) o)
+    → GoesIf standing a.tags b.tags (option_map (seen a f) o) (option_map (seen b f) o)
 same_if a b f None same = tt
 same_if a b f (Some x) same = same_goes a b f x same
 
-pub goes_same : (a b : Store) (f : FileId) → SameAt a b f → GoesIf cells a.tags b.tags ((cells.see a).replicas f) ((cells.see b).replicas f)
+pub goes_same : (a b : Store) (f : FileId) → SameAt a b f → GoesIf standing a.tags b.tags ((standing.see a).replicas f) ((standing.see b).replicas f)
 goes_same a b f k =
-    let P : Option Replica → Type 0 = λ o. GoesIf cells a.tags b.tags (option_map (seen a f) (replica_at a f)) (option_map (seen b f) o) in
+    let P : Option Replica → Type 0 = λ o. GoesIf standing a.tags b.tags (option_map (seen a f) (replica_at a f)) (option_map (seen b f) o) in
     subst P (sym k.replica) (same_if a b f (replica_at a f) k.cells)
 
 pub record SameSeen (a b : Store) : Type 0 where
@@ -50,20 +50,20 @@ tag_same : (a b : Store) (q : Slot) (o : Option Replica) → tag_on (option_map 
 tag_same a b q None = refl
 tag_same a b q (Some x) = refl
 
-pub same_steps : (a b : Store) → SameSeen a b → Steps cells a b
+pub same_steps : (a b : Store) → SameSeen a b → Steps standing a b
 same_steps a b k =
     let up : a.tags ≤ b.tags = (let e = k.tags in omega arith) in
-    bulk_steps cells is_sound a b (record {
+    bulk_steps standing in_order a b (record {
       up = up;
       files = λ f. goes_same a b f (k.files f);
-      single = λ s. (fewer_tags cells a b up
+      single = λ s. (fewer_tags standing a b up
           (λ q g h. sym (tag_same a b q (replica_at a q.file)) ∙ sym (ap (λ (o : Option Replica). tag_on (option_map (seen b q.file) o) q) (k.files q.file).replica) ∙ h) s).single;
-      over = λ f n c h. absurd h;
+      over = over_stays a b;
     })
 
 -- ---- one replica changes
 
-draws_goes : (a b : Store) (f : FileId) (x y : Replica) → Draws a.tags (seen a f x) b.tags (seen b f y) → HoldsAll IsUpTo (plain_at a f) (plain_at b f) → Goes cells a.tags b.tags (seen a f x) (seen b f y)
+draws_goes : (a b : Store) (f : FileId) (x y : Replica) → Draws a.tags (seen a f x) b.tags (seen b f y) → HoldsAll IsUpTo (plain_at a f) (plain_at b f) → Goes standing a.tags b.tags (seen a f x) (seen b f y)
 draws_goes a b f x y d holds = record { birth = d.birth; brings = d.brings; slots = d.slots; holds = holds }
 
 bare_draws : (a b : Store) (f : FileId) (x y : Replica) → Draws a.tags (seen a f x) b.tags (seen b f y) → Draws a.tags (bare_seen x) b.tags (bare_seen y)
@@ -79,11 +79,11 @@ bare_draws a b f x y d = record {
 module _ (a b : Store) (file : FileId) (x y : Replica) (k : Changes a b file x y) (names : SameNames a.names b.names)
     (draws : Draws a.tags (seen a file x) b.tags (seen b file y)) (holds : HoldsAll IsUpTo (plain_at a file) (plain_at b file)) where
   abbrev GoesAt : FileId → Option Replica → Type 0
-  GoesAt f o = GoesIf cells a.tags b.tags (option_map (seen a f) (replica_at a f)) (option_map (seen b f) o)
+  GoesAt f o = GoesIf standing a.tags b.tags (option_map (seen a f) (replica_at a f)) (option_map (seen b f) o)
 
   goes_here : GoesAt file (Some y)
   goes_here =
-      let P : Option Replica → Type 0 = λ o. GoesIf cells a.tags b.tags (option_map (seen a file) o) (Some (seen b file y)) in
+      let P : Option Replica → Type 0 = λ o. GoesIf standing a.tags b.tags (option_map (seen a file) o) (Some (seen b file y)) in
       subst P (sym k.old) (draws_goes a b file x y draws holds)
 
   goes_at : (f : FileId) → GoesAt f (replica_at b f)
@@ -100,10 +100,10 @@ module _ (a b : Store) (file : FileId) (x y : Replica) (k : Changes a b file x y
             cells = cell_same a b f (record { own = names.own f; entries = names.entries f; content = content_same a b f same });
           })
 
-  pub one_steps : Steps cells a b
-  one_steps = bulk_steps cells is_sound a b (record {
+  pub one_steps : Steps standing a b
+  one_steps = bulk_steps standing in_order a b (record {
     up = draws.up;
     files = goes_at;
     single = λ s. (from_bare b (tags_drawn a b file x y k (bare_draws a b file x y draws) (to_bare a s))).single;
-    over = λ f n c h. absurd h;
+    over = over_stays a b;
   })

@@ -131,7 +131,7 @@ born_more : (s k p b : ℕ) (t : Bool) → (is_listed (clean_edges s k) p b ≡ 
 born_more s k p b true rest h = rest h
 born_more s k p b false rest h = born_put (clean_edges s k) (suc k) p b (p == suc k) refl rest h
 
-first_born : (s k p b : ℕ) → is_listed (clean_edges s k) p b ≡ true → b ≡ 1
+pub first_born : (s k p b : ℕ) → is_listed (clean_edges s k) p b ≡ true → b ≡ 1
 first_born s zero p b h = absurd (let z : false ≡ true = h in cc)
 first_born s (suc k) p b h = born_more s k p b (suc k == s) (first_born s k p b) h
 
@@ -154,12 +154,15 @@ covers_by n s q c false e h =
 covers_by n s q c true e h =
     let here = ap (λ b. option_map (seen (new_store n s) q.file) (cond b (Some (first_root s n)) None)) e in
     let t = has_parts (cells.see (new_store n s)) q c (seen (new_store n s) q.file (first_root s n)) here h in
-    inl (record {
-      replica = seen (new_store n q.peer) q.file (first_root q.peer n);
-      is = ap (λ b. option_map (seen (new_store n q.peer) q.file) (cond b (Some (first_root q.peer n)) None)) e;
-      other = sym (first_born s n q.peer q.birth t.1);
-      holds = record { key = q.key; cell = c; is = same_cells n s q.peer q.file q.key ∙ t.2; upto = cell_itself c };
-    })
+    inl (
+      record {
+        replica = seen (new_store n q.peer) q.file (first_root q.peer n);
+        is = ap (λ b. option_map (seen (new_store n q.peer) q.file) (cond b (Some (first_root q.peer n)) None)) e;
+        other = sym (first_born s n q.peer q.birth t.1);
+        holds = record { key = q.key; cell = c; is = same_cells n s q.peer q.file q.key ∙ t.2; upto = cell_itself c };
+      },
+      tt,
+    )
 
 -- THE EDGES KEEP WHAT THEY PROMISE AT THE START
 pub start_kept : (n : ℕ) → KeepsEdges cells (new_store n) []

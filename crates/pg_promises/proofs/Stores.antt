@@ -9,11 +9,11 @@ use Rattle.pg_base.proofs.Maps.{lookup-insert_entry}
 use Rattle.pg_base.proofs.Orders.{file_total, is_same_file-refl, is_same_file-true}
 use Rattle.pg_edges.specs.declared.key.Key.{Key}
 use Rattle.pg_edges.specs.declared.key.Key.TheVariants as key
-use Rattle.pg_flood.specs.Protocol.{Protocol, IsSound}
+use Rattle.pg_flood.specs.Protocol.{IsOrdered, Protocol}
 use Rattle.pg_flood.specs.Server.{Replica as Seen, Slot, tag_on}
 use Rattle.pg_flood.proofs.Draws.{Draws}
 use Rattle.pg_flood.proofs.OneFile.{file_steps, idle_steps}
-use Rattle.pg_flood.proofs.Steps.{HasSoundTags}
+use Rattle.pg_flood.proofs.Steps.{HasSoundTags, OverStays}
 use Rattle.pg_content.specs.Content.{ContentValue}
 use Rattle.pg_entries.specs.declared.cell.Cell.{Cell}
 use Rattle.pg_entries.specs.declared.cell.Cell.TheVariants as cell
@@ -28,7 +28,7 @@ use Rattle.pg_replica.specs.Replicas.{or_nothing, put_replica}
 use Rattle.pg_store.specs.declared.store.Store.{Store}
 use Rattle.pg_store.specs.Cells.{cell_at, entry_cell, flag_cell, is_sure, version_cell}
 use Rattle.pg_store.specs.Store.{content_of, replica_at}
-use Rattle.pg_promises.specs.Seen.{cells, plain, says, seen}
+use Rattle.pg_promises.specs.Seen.{plain, says, seen, standing}
 use Rattle.pg_promises.specs.UpTo.{IsUpTo}
 use Rattle.pg_promises.proofs.UpTo.{cell_itself, cell_further}
 
@@ -111,25 +111,33 @@ bare = record {
   see = λ a. record { tags = a.tags; replicas = λ f. option_map bare_seen (replica_at a f) };
   IsUpTo = IsUpTo;
   IsOver = λ a f b c. ⊥;
+  Took = λ a f b c. Unit {0};
   says = says;
   Noted = λ a x. ⊥;
 }
 
-bare_sound : IsSound bare
-bare_sound = record { same = cell_itself; further = cell_further; ends = λ a f b c x h. absurd h }
+bare_order : IsOrdered bare
+bare_order = record { same = cell_itself; further = cell_further }
+
+bare_stays : (a b : Store) → OverStays bare a b
+bare_stays a b = record { over = λ f n c h. absurd h; taken = λ f n c h. tt }
+
+-- what counts as over does so all along, and whatever is held counts as taken
+pub over_stays : (a b : Store) → OverStays standing a b
+over_stays a b = record { over = λ f n c h. h; taken = λ f n c h. tt }
 
 -- tags are seen the same
 tag_seen : (a : Store) (q : Slot) (o : Option Replica) → tag_on (option_map (seen a q.file) o) q ≡ tag_on (option_map bare_seen o) q
 tag_seen a q None = refl
 tag_seen a q (Some x) = refl
 
-pub to_bare : (a : Store) → HasSoundTags cells a → HasSoundTags bare a
+pub to_bare : (a : Store) → HasSoundTags standing a → HasSoundTags bare a
 to_bare a k = record {
   below = λ q g h. k.below q g (tag_seen a q (replica_at a q.file) ∙ h);
   single = λ q r g h i. k.single q r g (tag_seen a q (replica_at a q.file) ∙ h) (tag_seen a r (replica_at a r.file) ∙ i);
 }
 
-pub from_bare : (a : Store) → HasSoundTags bare a → HasSoundTags cells a
+pub from_bare : (a : Store) → HasSoundTags bare a → HasSoundTags standing a
 from_bare a k = record {
   below = λ q g h. k.below q g (sym (tag_seen a q (replica_at a q.file)) ∙ h);
   single = λ q r g h i. k.single q r g (sym (tag_seen a q (replica_at a q.file)) ∙ h) (sym (tag_seen a r (replica_at a r.file)) ∙ i);
@@ -138,12 +146,12 @@ from_bare a k = record {
 -- they stay sound where one replica draws tags
 pub tags_drawn : (a b : Store) (file : FileId) (x y : Replica) → Changes a b file x y → Draws a.tags (bare_seen x) b.tags (bare_seen y) → HasSoundTags bare a → HasSoundTags bare b
 tags_drawn a b file x y k d sound =
-    (file_steps bare bare_sound a b file (bare_seen x) (bare_seen y) (ap (option_map bare_seen) k.old) (ap (option_map bare_seen) (replica_here a b file x y k)) d
+    (file_steps bare bare_order a b file (bare_seen x) (bare_seen y) (ap (option_map bare_seen) k.old) (ap (option_map bare_seen) (replica_here a b file x y k)) d
     (λ q c h. absurd (let z : None ≡ Some c = h in cc))
-    (λ f apart. ap (option_map bare_seen) (replica_elsewhere a b file x y f k apart)) (λ f b c h. absurd h)).tags sound
+    (λ f apart. ap (option_map bare_seen) (replica_elsewhere a b file x y f k apart)) (bare_stays a b)).tags sound
 
 -- and where none changes
 pub tags_stay : (a b : Store) → b.tags ≡ a.tags → ((f : FileId) → replica_at b f ≡ replica_at a f) → HasSoundTags bare a → HasSoundTags bare b
 tags_stay a b tags same sound =
     let le : a.tags ≤ b.tags = (let e = tags in omega arith) in
-    (idle_steps bare a b (λ f. ap (option_map bare_seen) (same f)) le (λ f b c h. absurd h)).tags sound
+    (idle_steps bare a b (λ f. ap (option_map bare_seen) (same f)) le (bare_stays a b)).tags sound

@@ -25,7 +25,7 @@ use Rattle.pg_store.specs.declared.store.Store.{Store}
 use Rattle.pg_store.specs.Cells.{cell_at, entry_cell, flag_cell, is_sure}
 use Rattle.pg_store.specs.Store.{is_newer_entry, is_newer_flag, is_newer_place, put_entry, put_flag, put_place, take_entry, take_flag, take_place, touch, with_names}
 use Rattle.pg_promises.specs.Names.{AreNamesUpTo, IsEntryKnownBy, IsToldBy}
-use Rattle.pg_promises.specs.Seen.{cells}
+use Rattle.pg_promises.specs.Seen.{standing}
 use Rattle.pg_promises.specs.UpTo.{IsFlagKnownBy, IsPlaceUpTo, IsUpTo}
 use Rattle.pg_promises.specs.Whole.{AreByChild}
 use Rattle.pg_promises.proofs.Choices.{decided}
@@ -57,7 +57,7 @@ pub record Took (ts : List Touched) (a b : Store) : Type 0 where
   pub touched : IsTouchedBy ts a b
   pub names : Grew ts a.names b.names
 
-pub took_steps : (ts : List Touched) (a b : Store) → Took ts a b → Steps cells a b
+pub took_steps : (ts : List Touched) (a b : Store) → Took ts a b → Steps standing a b
 took_steps ts a b k = touched_steps ts a b k.touched k.names.told k.names.grow
 
 -- none had to be

@@ -27,11 +27,11 @@ use Rattle.pg_store.specs.Cells.{flag_cell}
 use Rattle.pg_store.specs.Store.{content_of, replica_at, touch, with_drawn, with_names}
 use Rattle.pg_cells.specs.Settling.{touch_all}
 use Rattle.pg_promises.specs.Names.{AreNamesUpTo, IsEntryKnownBy, IsToldBy}
-use Rattle.pg_promises.specs.Seen.{cells, plain, seen}
+use Rattle.pg_promises.specs.Seen.{plain, seen, standing}
 use Rattle.pg_promises.specs.UpTo.{IsFlagKnownBy, IsUpTo}
 use Rattle.pg_promises.proofs.Moved.{Moved, Moved-refl, Moved-trans, fresh_on, touched_fresh, touched_moved}
-use Rattle.pg_promises.proofs.Stores.{Changes, bare, bare_seen, by_file, content_by, entry_seen, from_bare, plain_at, plain_entry, replica_here, tags_drawn, tags_stay, to_bare, version_same}
-use Rattle.pg_promises.proofs.UpTo.{cell_itself, is_sound}
+use Rattle.pg_promises.proofs.Stores.{Changes, bare, bare_seen, by_file, content_by, entry_seen, from_bare, over_stays, plain_at, plain_entry, replica_here, tags_drawn, tags_stay, to_bare, version_same}
+use Rattle.pg_promises.proofs.UpTo.{cell_itself, in_order}
 
 -- ---- a replica stays, but for its tags
 
@@ -275,7 +275,7 @@ module _ (ts : List Touched) (a b : Store) (k : IsTouchedBy ts a b) (told : IsTo
       | inr tag ↦ inr (sym (still.edges.listed p n) ∙ listed, sym same ∙ cell, tag)
     ]
 
-    file_goes : Goes cells a.tags b.tags (seen a f x) (seen b f y)
+    file_goes : Goes standing a.tags b.tags (seen a f x) (seen b f y)
     file_goes = record {
       birth = still.birth;
       brings = still.edges.brings;
@@ -284,17 +284,17 @@ module _ (ts : List Touched) (a b : Store) (k : IsTouchedBy ts a b) (told : IsTo
     }
 
   goes_if : (f : FileId) (o p : Option Replica) → replica_at a f ≡ o → replica_at b f ≡ p → StaysIf a.tags b.tags o p
-      → GoesIf cells a.tags b.tags (option_map (seen a f) o) (option_map (seen b f) p)
+      → GoesIf standing a.tags b.tags (option_map (seen a f) o) (option_map (seen b f) p)
   goes_if f None None old new still = tt
   goes_if f None (Some y) old new still = absurd still
   goes_if f (Some x) None old new still = absurd still
   goes_if f (Some x) (Some y) old new still = file_goes f x y old new still
 
   -- NAMES CHANGE, AND THE KEYS THAT TELL OF IT ARE TOUCHED
-  pub touched_steps : Steps cells a b
-  touched_steps = bulk_steps cells is_sound a b (record {
+  pub touched_steps : Steps standing a b
+  touched_steps = bulk_steps standing in_order a b (record {
     up = k.up;
     files = λ f. goes_if f (replica_at a f) (replica_at b f) refl refl (k.stays f);
     single = λ s. (from_bare b (k.tags (to_bare a s))).single;
-    over = λ f n c h. absurd h;
+    over = over_stays a b;
   })

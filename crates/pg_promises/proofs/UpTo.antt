@@ -3,14 +3,14 @@ use Rattle.std.proofs.Common.{ℕ, ◌≡◌, ◌==◌, ◌&&◌, ◌||◌, nat_
 use Rattle.std.proofs.lemmas.Bool.Decides.{nat_tests}
 use Rattle.pg_base.proofs.Orders.{UpTo-refl, UpTo-trans}
 use Rattle.pg_content.proofs.Covering.{upto_itself, upto_trans}
-use Rattle.pg_flood.specs.Protocol.{IsSound}
+use Rattle.pg_flood.specs.Protocol.{IsOrdered}
 use Rattle.pg_register.specs.declared.flag.Flag.{Flag}
 use Rattle.pg_register.specs.Flag.{flag_of}
 use Rattle.pg_register.proofs.ByServer.{not_older}
 use Rattle.pg_entries.specs.declared.cell.Cell.{Cell}
 use Rattle.pg_entries.specs.declared.cell.Cell.TheVariants as cell
 use Rattle.pg_entries.specs.declared.entry.Entry.{Entry}
-use Rattle.pg_promises.specs.Seen.{cells}
+use Rattle.pg_promises.specs.Seen.{standing}
 use Rattle.pg_promises.specs.UpTo.{AreFlagsUpTo, IsEntryUpTo, IsFlagKnownBy, IsFlagUpTo, IsUpTo}
 
 -- ---- flags
@@ -90,9 +90,5 @@ cell_further (cell.Version a) (cell.Version b) (cell.Place c) h k = absurd k
 cell_further (cell.Version a) (cell.Version b) (cell.Flag c) h k = absurd k
 cell_further (cell.Version a) (cell.Version b) (cell.Entry c u) h k = absurd k
 
-pub is_sound : IsSound cells
-is_sound = record {
-  same = cell_itself;
-  further = cell_further;
-  ends = λ a f b c x h. absurd h;
-}
+pub in_order : IsOrdered standing
+in_order = record { same = cell_itself; further = cell_further }

@@ -39,7 +39,7 @@ use Rattle.pg_replica.specs.Replicas.{ByFile, edge_count, or_nothing, put_replic
 use Rattle.pg_store.specs.Cells.{cell_at, flag_cell, version_cell}
 use Rattle.pg_store.specs.Store.{content_of, replica_at, take_version, with_drawn, with_names, write}
 use Rattle.pg_promises.specs.Histories.{IsOfHistory}
-use Rattle.pg_promises.specs.Seen.{cells, plain, seen}
+use Rattle.pg_promises.specs.Seen.{plain, seen, standing}
 use Rattle.pg_promises.specs.UpTo.{IsUpTo}
 use Rattle.pg_promises.proofs.Growth.{SameNames}
 use Rattle.pg_promises.proofs.Single.{one_steps}
@@ -177,7 +177,7 @@ module _ (a : Store) (file : FileId) (x y : Replica) (held : replica_at a file �
       all_held Now file news_order a news_names (subst P (sym news_is) (subst Q (sym before_is) k.covered))
 
   -- A REPLICA HAS NEWS
-  pub news_steps : Steps cells a Now
+  pub news_steps : Steps standing a Now
   news_steps = one_steps a Now file x y news_changes news_names news_draws news_held
 
 -- ---- a write, and a version that comes
@@ -207,9 +207,9 @@ module _ (a : Store) (file : FileId) (w : Replica) (held : replica_at a file ≡
   wrote stamp ranges o = with_news_of a file stamp o (replicas_writing a.replicas file stamp ranges a.tags o)
 
   -- A WRITE
-  pub write_steps : (stamp : Stamp) (ranges : RangesValue) → Steps cells a (write a file stamp ranges)
+  pub write_steps : (stamp : Stamp) (ranges : RangesValue) → Steps standing a (write a file stamp ranges)
   write_steps stamp ranges =
-      let P : Option Replica → Type 0 = λ o. Steps cells a (wrote stamp ranges o) in
+      let P : Option Replica → Type 0 = λ o. Steps standing a (wrote stamp ranges o) in
       subst P (sym held) (news_steps a file w (with_write w (own_actor w stamp.server) stamp ranges a.tags) held w.content.heads (Written stamp ranges) (write_news stamp ranges))
 
   module _ (m : Made) (is : Among m h) where
@@ -249,7 +249,7 @@ module _ (a : Store) (file : FileId) (w : Replica) (held : replica_at a file ≡
 
     -- what comes of it
     pub record Puts (b : Store) : Type 0 where
-      pub steps : Steps cells a b
+      pub steps : Steps standing a b
       pub holds : Holds IsUpTo (cell_at b file) (cell.Version V)
 
     puts_new : covers w V ≡ false → Puts (with_new a file w Next V.head.stamp)
@@ -270,7 +270,7 @@ module _ (a : Store) (file : FileId) (w : Replica) (held : replica_at a file ≡
         let R : ContentValue → Type 0 = λ z. IsUpToHead V.head.vector z.heads in
         let is_it : content_of a file ≡ w.content = ap (λ (o : Option Replica). (or_nothing o).content) held in
         record {
-          steps = Steps-refl cells a;
+          steps = Steps-refl standing a;
           holds = version_held a file (subst Q (sym is_it) k.order) V (subst R (sym is_it) (subst P old upto_joined));
         }
 

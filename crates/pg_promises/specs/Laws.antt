@@ -27,29 +27,41 @@ use Rattle.pg_register.specs.declared.flag.Flag.{Flag}
 use Rattle.pg_register.specs.declared.place.Place.{Place}
 use Rattle.pg_register.specs.Flag.{IsByServer}
 use Rattle.pg_store.specs.declared.store.Store.{Store}
-use Rattle.pg_store.specs.Beginning.{begin}
+use Rattle.pg_store.specs.Beginning.{begin, let_go}
+use Rattle.pg_store.specs.Births.{is_over}
+use Rattle.pg_store.specs.Together.{BirthsMove, birth_at}
 use Rattle.pg_store.specs.Cells.{cell_at}
 use Rattle.pg_store.specs.Links.{keys, link, unlink}
 use Rattle.pg_store.specs.Store.{acknowledge, content_of, is_held, new_store, take_entry, take_flag, take_place, take_version, with_names, write}
+use Rattle.pg_store.specs.Views.{enter}
 use Rattle.pg_cells.specs.Done.{link_of}
 use Rattle.pg_cells.specs.Finish.{finish}
 use Rattle.pg_cells.specs.Settling.{settle, touch_all}
 use Rattle.pg_cells.specs.Ticks.{tick}
 use Rattle.pg_promises.specs.Histories.{IsOfHistory}
 use Rattle.pg_promises.specs.Names.{AreNamesUpTo, IsToldBy}
-use Rattle.pg_promises.specs.Seen.{cells, says, saying}
+use Rattle.pg_promises.specs.Seen.{Overs, cells, cells_in, says, saying}
 use Rattle.pg_promises.specs.UpTo.{IsUpTo}
 use Rattle.pg_promises.specs.Whole.{IsOther, IsWhole, PatchesAreForDirs}
 
--- cells are up to themselves, and on through others
+-- cells are up to themselves, and on through others; what is over is not held
 abbrev pub CellsAreSound : Type 0
 CellsAreSound = IsSound cells
+
+-- a server goes on by the rule of the edges, whichever births count as over all along
+abbrev pub StepsOn : Store → Store → Type 0
+StepsOn a b = (over : Overs) → Steps (cells_in over) a b
+
+-- at the end of an event those count as over that are over then, if births moved one way
+abbrev pub EventsAreByTheRule : Type 0
+EventsAreByTheRule = (s : ℕ) (a b : Store) (heard : Saying Slot Cell) (sent : List Sent)
+    → BirthsMove a b → Rule (cells_in (is_over b)) s a b heard sent → Rule cells s a b heard sent
 
 -- ---- what comes
 
 -- a server goes on by the rule, and then holds a cell of the thing or more
 abbrev pub IsTaken : Store → Store → FileId → Cell → Type 0
-IsTaken before after file c = Steps cells before after × Holds IsUpTo (cell_at after file) c
+IsTaken before after file c = StepsOn before after × Holds IsUpTo (cell_at after file) c
 
 -- of server s of n, and of a thing that it holds
 abbrev pub WhereHeld : (Store → FileId → Type 0) → Type 0
@@ -82,21 +94,21 @@ VersionsAreTaken = WhereHeld (λ a file. (h : List Made) (m : Made)
 
 abbrev pub VersionsAreMade : Type 0
 VersionsAreMade = WhereHeld (λ a file. (h : List Made) (stamp : Stamp) (ranges : RangesValue)
-    → IsOfHistory h (content_of a file) → Steps cells a (write a file stamp ranges))
+    → IsOfHistory h (content_of a file) → StepsOn a (write a file stamp ranges))
 
 abbrev pub KeysAreTouched : Type 0
-KeysAreTouched = (a : Store) (ts : List Touched) → Steps cells a (touch_all a ts)
+KeysAreTouched = (a : Store) (ts : List Touched) → StepsOn a (touch_all a ts)
 
 -- names grow, and the keys that tell of it are touched behind that, or before
 abbrev pub NamesAreTold : Type 0
 NamesAreTold = (a : Store) (names : NamesValue) (ts : List Touched)
     → names.server ≡ a.names.server → AreNamesUpTo a.names names → IsToldBy ts a.names names
-    → Steps cells a (touch_all (with_names a names) ts)
-    × Steps cells a (with_names (touch_all a ts) names)
+    → StepsOn a (touch_all (with_names a names) ts)
+    × StepsOn a (with_names (touch_all a ts) names)
 
 abbrev pub RulesAreSettled : Type 0
 RulesAreSettled = (n s : ℕ) (a : Store) (work : Work) → IsWhole n s a
-    → Steps cells a (settle a work).store
+    → StepsOn a (settle a work).store
 
 -- ---- edges and replicas that come and go
 
@@ -108,17 +120,23 @@ KeysAreAll = (a : Store) (file : FileId) (k : Key) (c : Cell) → is_held a file
 -- a birth of a peer is linked: along the new edge nothing is acknowledged yet
 abbrev pub LinksAreSteps : Type 0
 LinksAreSteps =
-    WhereHeld (λ a file. (peer birth : ℕ) → Steps cells a (link a file peer birth))
+    WhereHeld (λ a file. (peer birth : ℕ) → StepsOn a (link a file peer birth))
 
 abbrev pub UnlinksAreSteps : Type 0
 UnlinksAreSteps = (a : Store) (file : FileId) (peer birth : ℕ)
-    → Steps cells a (unlink a file peer birth)
+    → StepsOn a (unlink a file peer birth)
 
 -- a replica begins, of what was not held: it has no edge, whatever it begins with
 abbrev pub BeginningsAreSteps : Type 0
 BeginningsAreSteps = (n s : ℕ) (a : Store) (file : FileId) (birth : ℕ) (policy : Policy)
     (own : Own) (full : Bool) → IsWhole n s a → is_held a file ≡ false
-    → Steps cells a (begin a file birth policy own full)
+    → StepsOn a (begin a file birth policy own full)
+
+-- a replica goes, whose birth counts as over
+abbrev pub GoingsAreSteps : Type 0
+GoingsAreSteps = (n s : ℕ) (a : Store) (file : FileId) (birth : ℕ) (over : Overs)
+    → IsWhole n s a → birth_at a file ≡ Some birth → over file birth ≡ true
+    → Steps (cells_in over) a (let_go a file)
 
 -- what stands beside names, replicas and tags is not seen: intentions, wishes, births, numbers of
 -- files
@@ -129,28 +147,32 @@ pub record AreAlike (a b : Store) : Type 0 where
   pub replicas : b.replicas ≡ a.replicas
 
 abbrev pub WhatIsBesideIsUnseen : Type 0
-WhatIsBesideIsUnseen = (a b : Store) → AreAlike a b → Steps cells a b
+WhatIsBesideIsUnseen = (a b : Store) → AreAlike a b → StepsOn a b
 
 -- that a replica is full is not seen either
 abbrev pub FillingIsUnseen : Type 0
 FillingIsUnseen = (a : Store) (file : FileId)
-    → Steps cells a (with_names a (fill a.names file))
+    → StepsOn a (with_names a (fill a.names file))
+
+-- nor which servers are removed: where a view is entered edges go, and intentions and wishes change
+abbrev pub ViewsAreSteps : Type 0
+ViewsAreSteps = (a : Store) (server : ℕ) → StepsOn a (enter a server)
 
 -- ---- an answer
 
 -- to whichever tag, along an edge or not
 abbrev pub AnswersAreTaken : Type 0
-AnswersAreTaken = (s : ℕ) (a : Store) (from : ℕ) (ends : Ends) (k : Key) (tag : ℕ)
-    → Rule cells s a (acknowledge a ends.file (link_of from ends) k tag)
+AnswersAreTaken = (over : Overs) (s : ℕ) (a : Store) (from : ℕ) (ends : Ends) (k : Key) (tag : ℕ)
+    → Rule (cells_in over) s a (acknowledge a ends.file (link_of from ends) k tag)
     (saying from s (message.Ack ends k tag)) []
 
 -- ---- what is sent
 
 -- where what was sent before may be sent, so may what comes behind it
 abbrev pub MaySendMore : (Store → Work → Work) → Type 0
-MaySendMore sending = (n s : ℕ) (a b : Store) (heard : Saying Slot Cell) (work : Work)
-    → IsWhole n s b → HasSoundTags cells b → AllMay cells s a b heard work.sent
-    → AllMay cells s a b heard (sending b work).sent
+MaySendMore sending = (over : Overs) (n s : ℕ) (a b : Store) (heard : Saying Slot Cell) (work : Work)
+    → IsWhole n s b → HasSoundTags (cells_in over) b → AllMay (cells_in over) s a b heard work.sent
+    → AllMay (cells_in over) s a b heard (sending b work).sent
 
 abbrev pub TicksMaySend : Type 0
 TicksMaySend = MaySendMore tick
@@ -160,8 +182,8 @@ EndsMaySend = MaySendMore finish
 
 -- what the edges do not read may always be sent
 abbrev pub OthersMayBeSent : Type 0
-OthersMayBeSent = (s : ℕ) (a b : Store) (heard : Saying Slot Cell) (ms : List Sent)
-    → All (λ m. says m ≡ Other) ms → AllMay cells s a b heard ms
+OthersMayBeSent = (over : Overs) (s : ℕ) (a b : Store) (heard : Saying Slot Cell) (ms : List Sent)
+    → All (λ m. says m ≡ Other) ms → AllMay (cells_in over) s a b heard ms
 
 -- ---- whole servers
 
@@ -207,6 +229,10 @@ BeginningsLeaveWhole = (n s : ℕ) (a : Store) (file : FileId) (birth : ℕ) (po
     (own : Own) (full : Bool) → is_held a file ≡ false → IsByServer own.flags
     → IsWhole n s a → IsWhole n s (begin a file birth policy own full)
 
+-- a replica goes
+abbrev pub GoingsLeaveWhole : Type 0
+GoingsLeaveWhole = (file : FileId) → StaysWhole (λ a. let_go a file)
+
 -- where nothing changes but what stands beside, and Patches are for directories
 abbrev pub WhatIsBesideLeavesWhole : Type 0
 WhatIsBesideLeavesWhole = (n s : ℕ) (a b : Store) → AreAlike a b → PatchesAreForDirs b
@@ -214,6 +240,9 @@ WhatIsBesideLeavesWhole = (n s : ℕ) (a b : Store) → AreAlike a b → Patches
 
 abbrev pub FillingLeavesWhole : Type 0
 FillingLeavesWhole = (file : FileId) → StaysWhole (λ a. with_names a (fill a.names file))
+
+abbrev pub ViewsLeaveWhole : Type 0
+ViewsLeaveWhole = (server : ℕ) → StaysWhole (λ a. enter a server)
 
 -- ---- the start of a run of so many servers
 

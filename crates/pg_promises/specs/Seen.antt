@@ -1,5 +1,5 @@
 -- What the edges see of a server that holds names and replicas, and of its messages.
-use Rattle.std.specs.Prelude.{ℕ, true, Option, None, Some}
+use Rattle.std.specs.Prelude.{ℕ, ◌≡◌, Bool, true, false}
 use Rattle.std.specs.Option.{option_map}
 use Rattle.pg_base.specs.declared.id.FileId.{FileId}
 use Rattle.pg_flood.specs.Promises.{Saying}
@@ -14,6 +14,7 @@ use Rattle.pg_msg.specs.declared.message.Sent.{Sent}
 use Rattle.pg_msg.specs.Sent.{cell_key}
 use Rattle.pg_replica.specs.declared.replica.Replica.{Replica}
 use Rattle.pg_store.specs.declared.store.Store.{Store}
+use Rattle.pg_store.specs.Births.{is_over}
 use Rattle.pg_store.specs.Cells.{cell_at}
 use Rattle.pg_store.specs.Store.{replica_at}
 use Rattle.pg_promises.specs.UpTo.{IsUpTo}
@@ -53,13 +54,41 @@ saying from to _ = Other
 abbrev pub says : Sent → Saying Slot Cell
 says m = saying m.packet.from m.to m.packet.message
 
--- births end nowhere, since nothing that is held goes: a birth whose replica never comes has no key
--- acknowledged. Each cell is answered at once
+-- which births count as over, of one server
+abbrev pub Overs : Type 0
+Overs = FileId → ℕ → Bool
+
+-- For one event: these births count as over all along. Each cell is answered at once
+abbrev pub cells_in : Overs → Protocol Store Sent Cell
+cells_in over = record {
+  see = see;
+  IsUpTo = IsUpTo;
+  IsOver = λ a file birth c. over file birth ≡ true;
+  Took = λ a file birth c. Unit {0};
+  says = says;
+  Noted = λ a x. ⊥;
+}
+
+-- where none does, as in what a server does without letting a replica go
+abbrev pub standing : Protocol Store Sent Cell
+standing = cells_in (λ file birth. false)
+
+-- Between events: which births are over is read off the store, whatever cells the replica had. What a
+-- replica took, beside what it covers, is told by the run, and not by a store
 abbrev pub cells : Protocol Store Sent Cell
 cells = record {
   see = see;
   IsUpTo = IsUpTo;
-  IsOver = λ a file birth c. ⊥;
+  IsOver = λ a file birth c. is_over a file birth ≡ true;
+  Took = λ a file birth c. Unit {0};
   says = says;
   Noted = λ a x. ⊥;
 }
+
+-- what a server hears in an event, and which births count as over all along
+pub record Hearing : Type 0 where
+  pub said : Saying Slot Cell
+  pub over : Overs
+
+abbrev pub hears : Overs → Saying Slot Cell → Hearing
+hears over said = record { said = said; over = over }

@@ -2,11 +2,16 @@
 //! goes on to cover what it covers, and a key that is acknowledged behind them was so before, with
 //! the same cell; so all promises outlive them. Each law is a clause of a function that does nothing.
 
-ghost use Rattle.pg_promises.specs.Laws.{AnswersAreTaken, AnswersLeaveWhole, BeginningsAreSteps, BeginningsLeaveWhole, CellsAreSound, EndsMaySend, EntriesAreTaken, EntriesLeaveWhole, FillingIsUnseen, FillingLeavesWhole, FlagsAreTaken, FlagsLeaveWhole, KeysAreAll, KeysAreTouched, LinksAreSteps, LinksLeaveWhole, NamesAreTold, OthersMayBeSent, PlacesAreTaken, PlacesLeaveWhole, RulesAreSettled, RulesLeaveWhole, StartKeepsEdges, StartsWhole, TicksMaySend, UnlinksAreSteps, UnlinksLeaveWhole, VersionsAreMade, VersionsAreTaken, VersionsLeaveWhole, WhatIsBesideIsUnseen, WhatIsBesideLeavesWhole, WritesLeaveWhole};
+ghost use Rattle.pg_promises.specs.Laws.{AnswersAreTaken, AnswersLeaveWhole, BeginningsAreSteps, BeginningsLeaveWhole, CellsAreSound, EndsMaySend, EntriesAreTaken, EntriesLeaveWhole, EventsAreByTheRule, FillingIsUnseen, FillingLeavesWhole, FlagsAreTaken, FlagsLeaveWhole, GoingsAreSteps, GoingsLeaveWhole, KeysAreAll, KeysAreTouched, LinksAreSteps, LinksLeaveWhole, NamesAreTold, OthersMayBeSent, PlacesAreTaken, PlacesLeaveWhole, RulesAreSettled, RulesLeaveWhole, StartKeepsEdges, StartsWhole, TicksMaySend, UnlinksAreSteps, UnlinksLeaveWhole, VersionsAreMade, VersionsAreTaken, VersionsLeaveWhole, ViewsAreSteps, ViewsLeaveWhole, WhatIsBesideIsUnseen, WhatIsBesideLeavesWhole, WritesLeaveWhole};
 
 /// A cell is up to itself, and what is up to a second is up to whatever the second is up to.
 pub fn cells_are_sound()
     ensures { CellsAreSound }
+{}
+
+/// Within an event the births that are over at its end may count as over all along.
+pub fn over_counts()
+    ensures { EventsAreByTheRule }
 {}
 
 /// A cell that comes to a thing that is held is held from then on, or more: so its answer may be
@@ -29,15 +34,17 @@ pub fn changes_are_steps()
 {}
 
 /// An edge that is made has all keys, and one that goes has none any more; a replica that begins has
-/// no edge. What stands beside names, replicas and tags, and that a replica is full, the edges do
-/// not see.
+/// no edge, and one goes only when its birth counts as over. What stands beside names, replicas and tags, and that a replica is full, the edges do
+/// not see; nor which servers are removed, where a view is entered.
 pub fn links_are_steps()
     ensures keys { KeysAreAll }
     ensures links { LinksAreSteps }
     ensures unlinks { UnlinksAreSteps }
     ensures beginnings { BeginningsAreSteps }
+    ensures goings { GoingsAreSteps }
     ensures beside { WhatIsBesideIsUnseen }
     ensures filling { FillingIsUnseen }
+    ensures views { ViewsAreSteps }
 {}
 
 /// An answer takes a key off only where its own cell is still the present one.
@@ -70,8 +77,10 @@ pub fn links_leave_whole()
     ensures links { LinksLeaveWhole }
     ensures unlinks { UnlinksLeaveWhole }
     ensures beginnings { BeginningsLeaveWhole }
+    ensures goings { GoingsLeaveWhole }
     ensures beside { WhatIsBesideLeavesWhole }
     ensures filling { FillingLeavesWhole }
+    ensures views { ViewsLeaveWhole }
 {}
 
 /// At the start every server is whole, no tag stands, and each edge keeps what it promises.

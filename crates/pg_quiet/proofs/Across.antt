@@ -1,6 +1,7 @@
 -- Where a server owes nothing, each server to which it has an edge for a thing holds what it holds of that thing, or more.
-use Rattle.std.proofs.Common.{[], ℕ, ◌≡◌, Bool, List, ◌∷◌, Option, None, Some, refl, sym, ap, subst, ◌∙◌, All}
+use Rattle.std.proofs.Common.{[], ℕ, ◌≡◌, ◌⊎◌, Bool, List, ◌∷◌, Option, None, Some, refl, sym, ap, subst, ◌∙◌, All, eq-eqb, inl, inr}
 use Rattle.std.specs.List.{IsAmong, flat_map}
+use Rattle.std.proofs.lemmas.Bool.{false≢true}
 use Rattle.std.proofs.lemmas.List.Elements.{All-nil, All-cons, All-weaker}
 use Rattle.pg_base.specs.declared.id.FileId.{FileId}
 use Rattle.pg_base.specs.Version.{VersionValue}
@@ -22,10 +23,12 @@ use Rattle.pg_register.specs.declared.place.Place.{Place}
 use Rattle.pg_register.specs.Flag.{flag_of}
 use Rattle.pg_replica.specs.declared.replica.Replica.{Replica}
 use Rattle.pg_replica.specs.Replica.{cell_at as head_at, key_of}
+use Rattle.pg_replica.specs.Replicas.{is_of_birth}
 use Rattle.pg_replica.proofs.Growth.{cell_head, head_at as head_found}
 use Rattle.pg_store.specs.declared.store.Store.{Store}
 use Rattle.pg_store.specs.Cells.{cell_at, entry_cell, flag_cell, is_sure, version_cell}
 use Rattle.pg_store.specs.Store.{content_of, replica_at}
+use Rattle.pg_store.specs.Together.{IsOver}
 use Rattle.pg_server.specs.Owing.{edge_owes, intent_owed, owed, owed_intents, owed_keys, owed_places, replica_owes}
 use Rattle.pg_promises.specs.Names.{IsEntryKnownBy}
 use Rattle.pg_promises.specs.UpTo.{AreFlagsUpTo, IsFlagKnownBy, IsPlaceUpTo, IsUpTo}
@@ -83,12 +86,17 @@ bare_edges a file x e is =
 
 -- ---- so the other server covers each cell
 
--- of a server: what a peer has of which an edge owes nothing
+-- of a server: what a peer has of which an edge owes nothing, or its birth is over
 abbrev pub IsHadAcross : World → ℕ → Type 0
 IsHadAcross w s = (file : FileId) (x : Replica) (e : Edge) (k : Key) (c : Cell)
     → replica_at (w.stores s) file ≡ Some x → IsAmong x.edges e
     → tag_in e.keys k ≡ None → cell_at (w.stores s) file k ≡ Some c
-    → IsHadThere w file e c
+    → IsHadThere w file e c ⊎ IsOver (w.stores e.peer) file e.birth
+
+-- the birth of a replica that is held is not over
+held_on : (a : Store) (file : FileId) (x : Replica) → replica_at a file ≡ Some x → IsOver a file x.birth → ⊥
+held_on a file x is over =
+    false≢true (sym over.away ∙ ap (λ (o : Option Replica). is_of_birth o x.birth) is ∙ eq-eqb x.birth x.birth refl)
 
 module _ (n : ℕ) (w : World) (file : FileId) (s t : ℕ) (linked : HasEdge w file s t) (nothing : owed (w.stores s) ≡ [])
     (had : IsHadAcross w s) (here : IsWhole n s (w.stores s)) (there : IsWhole n t (w.stores t)) where
@@ -107,10 +115,19 @@ module _ (n : ℕ) (w : World) (file : FileId) (s t : ℕ) (linked : HasEdge w f
   bare : edge.edge.keys ≡ []
   bare = of_member IsBare X.edges edge.edge (bare_edges A file X nothing linked.here.is) edge.among
 
+  -- an edge names the present birth of its peer
+  present : IsOver (w.stores edge.edge.peer) file edge.edge.birth → ⊥
+  present over =
+      held_on B file linked.there.replica linked.there.is
+      (subst (IsOver B file) edge.born (subst (λ m. IsOver (w.stores m) file edge.edge.birth) edge.to over))
+
   pub all_held : HoldsAll IsUpTo (cell_at A file) (cell_at B file)
   all_held k c is =
       let P : ℕ → Type 0 = λ m. Holds IsUpTo (cell_at (w.stores m) file) c in
-      subst P edge.to (had file X edge.edge k c linked.here.is edge.among (ap (λ ks. tag_in ks k) bare) is).had
+      elim (had file X edge.edge k c linked.here.is edge.among (ap (λ ks. tag_in ks k) bare) is) [
+        | inl h ↦ subst P edge.to h.had
+        | inr over ↦ absurd (present over)
+      ]
 
   child : AreByChild B.names
   child = there.names.children

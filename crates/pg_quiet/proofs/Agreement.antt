@@ -1,6 +1,8 @@
 -- Wherever no message is under way and nothing is owed, servers that are joined for a thing hold the same of it.
-use Rattle.std.proofs.Common.{[], ℕ, ◌≡◌, ◌≤◌, true, List, ◌∷◌, Option, None, Some, is_some, refl, sym, ap, subst, ◌∙◌}
+use Rattle.std.proofs.Common.{[], ℕ, ◌≡◌, ◌≤◌, not, true, false, length, List, ◌∷◌, Option, None, Some, is_some, refl, sym, ap, subst, ◌∙◌, arith}
 use Rattle.std.proofs.lemmas.Bool.{false≢true}
+use Rattle.std.proofs.lemmas.Bool.Decides.{nat_tests}
+use Rattle.std.proofs.lemmas.List.{take_all}
 use Rattle.pg_base.specs.declared.id.FileId.{FileId}
 use Rattle.pg_content.specs.Content.{Among, ContentValue}
 use Rattle.pg_content.specs.Covering.{AreCoveredBy}
@@ -12,25 +14,28 @@ use Rattle.pg_names.specs.declared.own.Own.{Own}
 use Rattle.pg_names.specs.Names.{HeldValue, cell_at, known, or_blank, own_at, own_of, own_or_blank}
 use Rattle.pg_names.proofs.Alike.{own_of_parts}
 use Rattle.pg_register.specs.declared.flag.Flag.{Flag}
-use Rattle.pg_register.specs.Flag.{flag_of}
+use Rattle.pg_register.specs.Flag.{flag_of, is_removed}
 use Rattle.pg_register.specs.Laws.{IsOneFlag}
 use Rattle.pg_replica.specs.declared.replica.Replica.{Replica}
 use Rattle.pg_replica.specs.Replicas.{or_nothing}
 use Rattle.pg_store.specs.declared.store.Store.{Store}
+use Rattle.pg_store.specs.Servers.{view_of}
 use Rattle.pg_store.specs.Store.{content_of, replica_at}
 use Rattle.pg_promises.specs.UpTo.{AreFlagsUpTo, IsPlaceUpTo}
-use Rattle.pg_promises.specs.Whole.{IsOther, IsWhole}
+use Rattle.pg_promises.specs.Whole.{IsWhole}
 use Rattle.pg_run.specs.Graphs.{AreJoined, HasEdge, IsChain}
-use Rattle.pg_run.specs.Journal.{versions}
+use Rattle.pg_run.specs.Journal.{removals, versions}
 use Rattle.pg_run.specs.Known.{AreTold, IsFlagOf, IsStoreTold, of_run}
 use Rattle.pg_run.specs.Laws.{content_taken}
 use Rattle.pg_run.specs.Quiet.{IsQuiet}
-use Rattle.pg_run.specs.Run.{World, run}
+use Rattle.pg_run.specs.Run.{World, is_live, is_server, run}
 use Rattle.pg_run.specs.State.{versions_taken}
-use Rattle.pg_run.proofs.Found.{flag_found}
+use Rattle.pg_run.proofs.Found.{flag_found, listed_edge}
+use Rattle.pg_run.proofs.Frame.{live_is}
 use Rattle.pg_quiet.specs.Given.{AgreementIsGiven}
 use Rattle.pg_quiet.specs.Laws.{HoldTheSame, QuietStoresAgree}
-use Rattle.pg_quiet.proofs.Across.{entries_up, flags_up, heads_up, peer_is, place_up}
+use Rattle.pg_house.proofs.Truths.{both_true}
+use Rattle.pg_quiet.proofs.Across.{IsHadAcross, entries_up, flags_up, heads_up, peer_is, place_up}
 use Rattle.pg_quiet.proofs.Alike.{AreOneEntry, entries_alike, flags_alike, same_place}
 
 -- ---- what is held
@@ -45,6 +50,9 @@ held_own : (n s : ℕ) (a : Store) (file : FileId) (x : Replica) → IsWhole n s
 held_own n s a file x whole is =
     let h = own_by (known a.names file) (sym (whole.together file) ∙ ap is_some is) in
     (h.0.own, ap own_of h.1)
+
+server_is : (n s : ℕ) → 1 ≤ s → s ≤ n → is_server n s ≡ true
+server_is n s least most = grind (arith, nat_tests)
 
 -- ---- servers that are joined
 
@@ -63,18 +71,31 @@ module _ (n : ℕ) (g : AgreementIsGiven n) (events : List Event) (quiet : IsQui
       let y = flag_found hs m h j in
       g.flags events thing f h (a f x.0) (b h y.0) (x.1 ∙ sym y.1) birth number
 
-  module _ (s t : ℕ) (ls : 1 ≤ s) (ms : s ≤ n) (lt : 1 ≤ t) (mt : t ≤ n) (there : HasEdge W file s t) (back : HasEdge W file t s) where
+  -- a live server of the run
+  abbrev Lives : ℕ → Type 0
+  Lives s = is_live n W s ≡ true
+
+  whole_of : (s : ℕ) → Lives s → IsWhole n s (A s)
+  whole_of s live = let i = live_is n W s live in g.whole events s i.least i.most
+
+  told_of : (s : ℕ) → Lives s → IsStoreTold (of_run n W) (A s)
+  told_of s live = let i = live_is n W s live in (g.known events).stores s i.least i.most
+
+  had_of : (s : ℕ) → Lives s → IsHadAcross W s
+  had_of s live = let i = live_is n W s live in g.acknowledged events s i.least i.most
+
+  module _ (s t : ℕ) (ls : Lives s) (lt : Lives t) (there : HasEdge W file s t) (back : HasEdge W file t s) where
     first : IsStoreTold (of_run n W) (A s)
-    first = (g.known events).stores s ls ms
+    first = told_of s ls
 
     second : IsStoreTold (of_run n W) (A t)
-    second = (g.known events).stores t lt mt
+    second = told_of t lt
 
     whole_s : IsWhole n s (A s)
-    whole_s = g.whole events s ls ms
+    whole_s = whole_of s ls
 
     whole_t : IsWhole n t (A t)
-    whole_t = g.whole events t lt mt
+    whole_t = whole_of t lt
 
     same_by : (a b : Own) → own_at (A s).names file ≡ Some a → own_at (A t).names file ≡ Some b
         → own_or_blank (A s).names file ≡ own_or_blank (A t).names file
@@ -83,10 +104,10 @@ module _ (n : ℕ) (g : AgreementIsGiven n) (events : List Event) (quiet : IsQui
         let y = second.own file b j in
         let is_a : own_or_blank (A s).names file ≡ a = ap (or_blank file) i in
         let is_b : own_or_blank (A t).names file ≡ b = ap (or_blank file) j in
-        let up = place_up n W file s t there (quiet.nothing s ls ms) (g.acknowledged events s ls ms) whole_s whole_t in
-        let down = place_up n W file t s back (quiet.nothing t lt mt) (g.acknowledged events t lt mt) whole_t whole_s in
-        let fup = flags_up n W file s t there (quiet.nothing s ls ms) (g.acknowledged events s ls ms) whole_s whole_t in
-        let fdown = flags_up n W file t s back (quiet.nothing t lt mt) (g.acknowledged events t lt mt) whole_t whole_s in
+        let up = place_up n W file s t there (quiet.nothing s ls) (had_of s ls) whole_s whole_t in
+        let down = place_up n W file t s back (quiet.nothing t lt) (had_of t lt) whole_t whole_s in
+        let fup = flags_up n W file s t there (quiet.nothing s ls) (had_of s ls) whole_s whole_t in
+        let fdown = flags_up n W file t s back (quiet.nothing t lt) (had_of t lt) whole_t whole_s in
         let P : Own → Own → Type 0 = λ p q. IsPlaceUpTo p.place q.place in
         let F : Own → Own → Type 0 = λ p q. AreFlagsUpTo p.flags q.flags in
         let places : a.place ≡ b.place =
@@ -121,25 +142,27 @@ module _ (n : ℕ) (g : AgreementIsGiven n) (events : List Event) (quiet : IsQui
     same_entries : (child : FileId) → cell_at (A s).names file child ≡ cell_at (A t).names file child
     same_entries child =
         entries_alike (cell_at (A s).names file child) (cell_at (A t).names file child) (one_entry child)
-        (entries_up n W file s t there (quiet.nothing s ls ms) (g.acknowledged events s ls ms) whole_s whole_t child)
-        (entries_up n W file t s back (quiet.nothing t lt mt) (g.acknowledged events t lt mt) whole_t whole_s child)
+        (entries_up n W file s t there (quiet.nothing s ls) (had_of s ls) whole_s whole_t child)
+        (entries_up n W file t s back (quiet.nothing t lt) (had_of t lt) whole_t whole_s child)
 
     -- the content of a replica is the state of what it took
-    taken_is : (m : ℕ) (lm : 1 ≤ m) (mm : m ≤ n) (x : Replica) → replica_at (A m) file ≡ Some x → content_of (A m) file ≡ content_taken W file m
-    taken_is m lm mm x is = ap (λ (o : Option Replica). (or_nothing o).content) is ∙ g.took events file m lm mm x is
+    taken_is : (m : ℕ) → Lives m → (x : Replica) → replica_at (A m) file ≡ Some x → content_of (A m) file ≡ content_taken W file m
+    taken_is m live x is = (
+        let i = live_is n W m live in
+        ap (λ (o : Option Replica). (or_nothing o).content) is ∙ g.took events file m i.least i.most x is)
 
     same_content : content_of (A s) file ≡ content_of (A t) file
     same_content =
         let c = content_taken W file s in
         let d = content_taken W file t in
-        let is_c = taken_is s ls ms there.here.replica there.here.is in
-        let is_d = taken_is t lt mt there.there.replica there.there.is in
+        let is_c = taken_is s ls there.here.replica there.here.is in
+        let is_d = taken_is t lt there.there.replica there.there.is in
         let a = g.heads events s file in
         let b = g.heads events t file in
         let C : ContentValue → ContentValue → Type 0 = λ p q. AreCoveredBy p.heads q.heads in
         let O : ContentValue → Type 0 = λ p. InStrictOrder p.heads in
-        let up = heads_up n W file s t there (quiet.nothing s ls ms) (g.acknowledged events s ls ms) whole_s whole_t (subst O (sym is_c) a.order) in
-        let down = heads_up n W file t s back (quiet.nothing t lt mt) (g.acknowledged events t lt mt) whole_t whole_s (subst O (sym is_d) b.order) in
+        let up = heads_up n W file s t there (quiet.nothing s ls) (had_of s ls) whole_s whole_t (subst O (sym is_c) a.order) in
+        let down = heads_up n W file t s back (quiet.nothing t lt) (had_of t lt) whole_t whole_s (subst O (sym is_d) b.order) in
         is_c
         ∙ covered_same (versions file W.history) (g.histories events file) c d (versions_taken file W.history (W.took s)) (versions_taken file W.history (W.took t)) a b refl
         (subst (λ (p : ContentValue). C p d) is_c (subst (λ (q : ContentValue). C (content_of (A s) file) q) is_d up))
@@ -157,22 +180,36 @@ module _ (n : ℕ) (g : AgreementIsGiven n) (events : List Event) (quiet : IsQui
   further : (s u t : ℕ) → HoldTheSame (A s) (A u) file → HoldTheSame (A u) (A t) file → HoldTheSame (A s) (A t) file
   further s u t a b = record { own = a.own ∙ b.own; entries = λ child. a.entries child ∙ b.entries child; content = a.content ∙ b.content }
 
-  -- the other end of an edge is a server of the run
-  one_edge : (s t : ℕ) → 1 ≤ s → s ≤ n → 1 ≤ t → t ≤ n → HasEdge W file s t → HoldTheSame (A s) (A t) file
-  one_edge s t ls ms lt mt e = same_held s t ls ms lt mt e (turned s t e)
+  one_edge : (s t : ℕ) → Lives s → Lives t → HasEdge W file s t → HoldTheSame (A s) (A t) file
+  one_edge s t ls lt e = same_held s t ls lt e (turned s t e)
 
-  peer_of : (s t : ℕ) → 1 ≤ s → s ≤ n → HasEdge W file s t → IsOther n s t
-  peer_of s t ls ms e = peer_is n W file s t e (g.whole events s ls ms)
+  -- all removals are known to a live server, so the other end of its edge is a live one
+  all_known : (s : ℕ) → Lives s → (A s).names.removed ≡ removals W.journal
+  all_known s live =
+      let i = live_is n W s live in
+      let all : length (removals W.journal) ≤ view_of (A s) = (let same = quiet.views s live in omega arith) in
+      sym (g.views events s i.least i.most).front ∙ take_all (view_of (A s)) (removals W.journal) all
 
-  along : (between : List ℕ) (s t : ℕ) → 1 ≤ s → s ≤ n → 1 ≤ t → t ≤ n → IsChain W file s between t → HoldTheSame (A s) (A t) file
-  along [] s t ls ms lt mt e = one_edge s t ls ms lt mt e
-  along (u ∷ us) s t ls ms lt mt chain =
-      let other = peer_of s u ls ms chain.0 in
-      further s u t (one_edge s u ls ms other.least other.most chain.0) (along us u t other.least other.most lt mt chain.1)
+  peer_lives : (s t : ℕ) → Lives s → HasEdge W file s t → Lives t
+  peer_lives s t live e =
+      let i = live_is n W s live in
+      let other = peer_is n W file s t e (whole_of s live) in
+      let x = e.here.replica in
+      let edge = listed_edge x.edges t e.there.replica.birth e.names in
+      let at = (g.views events s i.least i.most).edges file x edge.edge e.here.is edge.among in
+      let gone : is_removed (removals W.journal) t ≡ false =
+      ap (λ (rs : List ℕ). is_removed rs t) (sym (all_known s live)) ∙ ap (is_removed (A s).names.removed) (sym edge.to) ∙ at in
+      both_true (is_server n t) (not (is_removed (removals W.journal) t)) (server_is n t other.least other.most) (ap not gone)
 
-  pub joined_same : (s t : ℕ) → 1 ≤ s → s ≤ n → 1 ≤ t → t ≤ n → AreJoined W file s t → HoldTheSame (A s) (A t) file
-  joined_same s t ls ms lt mt joined = along joined.0 s t ls ms lt mt joined.1
+  along : (between : List ℕ) (s t : ℕ) → Lives s → Lives t → IsChain W file s between t → HoldTheSame (A s) (A t) file
+  along [] s t ls lt e = one_edge s t ls lt e
+  along (u ∷ us) s t ls lt chain =
+      let other = peer_lives s u ls chain.0 in
+      further s u t (one_edge s u ls other chain.0) (along us u t other lt chain.1)
+
+  pub joined_same : (s t : ℕ) → Lives s → Lives t → AreJoined W file s t → HoldTheSame (A s) (A t) file
+  joined_same s t ls lt joined = along joined.0 s t ls lt joined.1
 
 -- AGREEMENT WHEN QUIET
 pub quiet_stores_agree : (n : ℕ) → AgreementIsGiven n → QuietStoresAgree n
-quiet_stores_agree n g events quiet file s ls ms t lt mt joined = joined_same n g events quiet file s t ls ms lt mt joined
+quiet_stores_agree n g events quiet file s ls t lt joined = joined_same n g events quiet file s t ls lt joined

@@ -1,6 +1,6 @@
 -- What is known of a quiet world whose things are connected: each server, and that servers which hold a thing hold the
 -- same of it.
-use Rattle.std.proofs.Common.{ℕ, ◌≡◌, ◌≤◌, Bool, true, false, List, [], Option, None, Some, is_some, refl, sym, ap, subst, ◌∙◌, inl, inr}
+use Rattle.std.proofs.Common.{ℕ, ◌≡◌, Bool, true, false, List, [], Option, None, Some, is_some, refl, sym, ap, subst, ◌∙◌, inl, inr}
 use Rattle.std.proofs.lemmas.Bool.{false≢true}
 use Rattle.pg_base.specs.declared.id.FileId.{FileId}
 use Rattle.pg_base.specs.Id.{is_same_file}
@@ -16,9 +16,10 @@ use Rattle.pg_store.specs.Store.{is_full, replica_at}
 use Rattle.pg_promises.specs.Whole.{IsWhole}
 use Rattle.pg_run.specs.Graphs.{AreConnected, Holds}
 use Rattle.pg_run.specs.Intending.{IntendsInOrder}
-use Rattle.pg_run.specs.Laws.{AtEach, IsInOrder}
+use Rattle.pg_run.specs.Laws.{AtLive, IsInOrder}
 use Rattle.pg_run.specs.Quiet.{IsQuiet}
-use Rattle.pg_run.specs.Run.{World, run}
+use Rattle.pg_run.specs.Run.{World, is_live, run}
+use Rattle.pg_run.proofs.Frame.{live_is}
 use Rattle.pg_intent.specs.declared.key.IntentKey.TheVariants as intent_key
 use Rattle.pg_quiet.specs.Given.{AreNamedWell, ArePlaced, TreeIsGiven}
 use Rattle.pg_quiet.specs.Laws.{HoldTheSame}
@@ -27,12 +28,12 @@ use Rattle.pg_quiet.proofs.Agreement.{joined_same, own_by}
 
 pub record Facts (n : ℕ) (w : World) : Type 0 where
   pub quiet : IsQuiet n w
-  pub order : AtEach n (λ s. IsInOrder (w.stores s).names)
-  pub intends : AtEach n (λ s. IntendsInOrder (w.stores s))
-  pub named : AtEach n (λ s. AreNamedWell (w.stores s).names)
-  pub placed : AtEach n (λ s. ArePlaced (w.stores s))
-  pub whole : AtEach n (λ s. IsWhole n s (w.stores s))
-  pub agreed : (file : FileId) → AtEach n (λ s. AtEach n (λ t. Holds w file s → Holds w file t
+  pub order : AtLive n w (λ s. IsInOrder (w.stores s).names)
+  pub intends : AtLive n w (λ s. IntendsInOrder (w.stores s))
+  pub named : AtLive n w (λ s. AreNamedWell (w.stores s).names)
+  pub placed : AtLive n w (λ s. ArePlaced (w.stores s))
+  pub whole : AtLive n w (λ s. IsWhole n s (w.stores s))
+  pub agreed : (file : FileId) → AtLive n w (λ s. AtLive n w (λ t. Holds w file s → Holds w file t
       → HoldTheSame (w.stores s) (w.stores t) file))
 
 -- ---- in every run
@@ -47,14 +48,14 @@ facts_of n g events quiet connected =
     let w = run n events in
     record {
       quiet = quiet;
-      order = g.order events;
-      intends = g.intends events;
-      named = g.names events;
-      placed = g.placed events;
-      whole = g.agree.whole events;
-      agreed = λ file s ls ms t lt mt a b. elim (connected file s t ls ms lt mt a b) [
+      order = λ s live. (let i = live_is n w s live in g.order events s i.least i.most);
+      intends = λ s live. (let i = live_is n w s live in g.intends events s i.least i.most);
+      named = λ s live. (let i = live_is n w s live in g.names events s i.least i.most);
+      placed = λ s live. (let i = live_is n w s live in g.placed events s i.least i.most);
+      whole = λ s live. (let i = live_is n w s live in g.agree.whole events s i.least i.most);
+      agreed = λ file s ls t lt a b. elim (connected file s t ls lt a b) [
         | inl same ↦ itself w file s t same
-        | inr joined ↦ joined_same n g.agree events quiet file s t ls ms lt mt joined
+        | inr joined ↦ joined_same n g.agree events quiet file s t ls lt joined
       ];
     }
 
@@ -81,12 +82,12 @@ holds_of n s w file own whole held =
 pub own_held : (names : NamesValue) (file : FileId) → is_some (known names file) ≡ true → (own : Own) × (own_at names file ≡ Some own)
 own_held names file h = let x = own_by (known names file) h in (x.0.own, ap own_of x.1)
 
-module _ (n : ℕ) (w : World) (k : Facts n w) (s : ℕ) (least : 1 ≤ s) (most : s ≤ n) where
+module _ (n : ℕ) (w : World) (k : Facts n w) (s : ℕ) (live : is_live n w s ≡ true) where
   abbrev A : Store
   A = w.stores s
 
   pub no_intents : A.intents ≡ []
-  no_intents = nothing_intended A (k.quiet.nothing s least most)
+  no_intents = nothing_intended A (k.quiet.nothing s live)
 
   -- no intention stands
   pub none_stands : (key : IntentKey) → stands A.intents key ≡ true → ⊥
@@ -95,7 +96,7 @@ module _ (n : ℕ) (w : World) (k : Facts n w) (s : ℕ) (least : 1 ≤ s) (most
   -- so the parent in a live place is held
   pub parent_held : (file : FileId) (own : Own) → own_at A.names file ≡ Some own → is_same_file file root ≡ false → own.place.live ≡ true
       → (above : Own) × (own_at A.names own.place.parent ≡ Some above)
-  parent_held file own held apart live = elim ((k.intends s least most).contained file own held apart live) [
+  parent_held file own held apart alive = elim ((k.intends s live).contained file own held apart alive) [
     | inl there ↦ own_held A.names own.place.parent there
     | inr fills ↦ absurd (none_stands (intent_key.Fill own.place.parent) fills)
   ]
@@ -105,7 +106,7 @@ module _ (n : ℕ) (w : World) (k : Facts n w) (s : ℕ) (least : 1 ≤ s) (most
   full_by file None own e h t f = absurd (let z : None ≡ Some own = h in cc)
   full_by file (Some x) own e h true f = refl
   full_by file (Some x) own e h false f =
-      absurd (none_stands (intent_key.Fill file) (((k.intends s least most).fills file).1 (inl (x, e, f))))
+      absurd (none_stands (intent_key.Fill file) (((k.intends s live).fills file).1 (inl (x, e, f))))
 
   pub all_full : (file : FileId) (own : Own) → own_at A.names file ≡ Some own → is_full A file ≡ true
   all_full file own held = full_by file (known A.names file) own refl held (is_full A file) refl

@@ -1,5 +1,5 @@
 -- Where a run is quiet and its things are connected, each thing is listed where it stands, and nowhere else.
-use Rattle.std.proofs.Common.{ℕ, ◌≡◌, ◌≢◌, ◌≤◌, Bool, true, false, Option, None, Some, refl, sym, ap, subst, ◌∙◌, arith}
+use Rattle.std.proofs.Common.{ℕ, ◌≡◌, ◌≢◌, Bool, true, false, List, Option, None, Some, refl, sym, ap, subst, ◌∙◌, arith}
 use Rattle.std.proofs.lemmas.Bool.{false≢true}
 use Rattle.std.proofs.lemmas.Bool.Decides.{nat_tests}
 use Rattle.std.proofs.lemmas.Option.{none-some, same_Some}
@@ -23,8 +23,8 @@ use Rattle.pg_register.specs.Place.{root}
 use Rattle.pg_house.proofs.Truths.{and_true, before_itself}
 use Rattle.pg_settled.specs.Listing.{cell_place, own_place}
 use Rattle.pg_run.specs.Laws.{IsListedOnly, Lists, Stands}
-use Rattle.pg_run.specs.Run.{World, is_server}
-use Rattle.pg_listed.specs.Letters.{listings, of_stores, patch_place}
+use Rattle.pg_run.specs.Run.{World, is_live}
+use Rattle.pg_listed.specs.Letters.{Letter, listings, of_stores, patch_place}
 use Rattle.pg_quiet.proofs.Facts.{Facts, holds_of, no_intents, none_stands}
 use Rattle.pg_quiet.proofs.Standing.{cell_of_own, parent_cell, parent_held}
 
@@ -38,17 +38,6 @@ ordered = record {
   where
     further : (a b c : Stamp) → is_before a b ≡ true → is_before b c ≡ true → is_before a c ≡ true
     further a b c p q = grind (arith, nat_tests)
-
--- a server of the run
-pub record IsIn (n s : ℕ) : Type 0 where
-  pub least : 1 ≤ s
-  pub most : s ≤ n
-
-server_in : (n s : ℕ) → is_server n s ≡ true → IsIn n s
-server_in n s h = record { least = grind (arith, nat_tests); most = grind (arith, nat_tests) }
-
-in_server : (n s : ℕ) → 1 ≤ s → s ≤ n → is_server n s ≡ true
-in_server n s least most = grind (arith, nat_tests)
 
 -- ---- what is seen of a place
 
@@ -70,59 +59,52 @@ apart_of f other = apart_by f (is_same_file f root) refl other
 other_of : (f : FileId) → is_same_file f root ≡ false → f ≢ root
 other_of f apart e = false≢true (sym apart ∙ ap (λ (x : FileId). is_same_file x root) e ∙ is_same_file-refl root)
 
-module _ (n : ℕ) (w : World) (k : Facts n w) (kept : Kept of_stores (listings n w)) where
+module _ (n : ℕ) (w : World) (sent : List Letter) (k : Facts n w) (kept : Kept of_stores (listings n w sent)) where
   -- ---- nothing is owed, as directories see it
 
   -- a cell is not later than the own place of its child
-  passed_by : (s : ℕ) (least : 1 ≤ s) (most : s ≤ n) (d f : FileId) (own : Own) (e : Entry) (t : Bool) → is_same_file f root ≡ t
+  passed_by : (s : ℕ) (there : is_live n w s ≡ true) (d f : FileId) (own : Own) (e : Entry) (t : Bool) → is_same_file f root ≡ t
       → own_at (w.stores s).names f ≡ Some own → cell_at (w.stores s).names d f ≡ Some e → is_before own.place.stamp e.place.stamp ≡ true → ⊥
-  passed_by s least most d f own e true same held at later =
+  passed_by s there d f own e true same held at later =
       let P : FileId → Type 0 = λ x. cell_at (w.stores s).names d x ≡ Some e in
-      (k.named s least most).inner d e (subst P (is_same_file-true f root same) at)
-  passed_by s least most d f own e false apart held at later =
-      let is : e.place ≡ own.place = ap (λ (x : Entry). x.place) (cell_of_own n w k s least most d f e own at held apart) in
+      (k.named s there).inner d e (subst P (is_same_file-true f root same) at)
+  passed_by s there d f own e false apart held at later =
+      let is : e.place ≡ own.place = ap (λ (x : Entry). x.place) (cell_of_own n w k s there d f e own at held apart) in
       false≢true (sym (before_itself own.place.stamp) ∙ ap (λ (p : Place). is_before own.place.stamp p.stamp) (sym is) ∙ later)
 
-  quiet_seen : listing_laws.IsQuiet of_stores (listings n w)
+  quiet_seen : listing_laws.IsQuiet of_stores (listings n w sent)
   quiet_seen = record {
-    views = λ s live. record { live = live; view = omega arith };
-    confirms = λ s d c live h. let i = server_in n s live in none_stands n w k s i.least i.most (intent_key.Confirm d c) h;
-    patches = λ s d c live. let i = server_in n s live in
-        ap (λ is. patch_place (intent_at is (intent_key.Patch d c))) (no_intents n w k s i.least i.most);
+    views = λ s live. record { live = live; view = (let same = k.quiet.views s live in omega arith) };
+    confirms = λ s d c live h. none_stands n w k s live (intent_key.Confirm d c) h;
+    patches = λ s d c live. ap (λ is. patch_place (intent_at is (intent_key.Patch d c))) (no_intents n w k s live);
     filled = λ s f q live own_is live_place inner.
-        let i = server_in n s live in
         let own = own_seen (own_at (w.stores s).names f) q own_is in
         let lives : own.0.place.live ≡ true = ap (λ (p : Place). p.live) own.2 ∙ live_place.0 in
-        let above = parent_held n w k s i.least i.most f own.0 own.1 (apart_of f inner) lives in
+        let above = parent_held n w k s live f own.0 own.1 (apart_of f inner) lives in
         let P : Place → Type 0 = λ p. own_place (own_at (w.stores s).names p.parent) ≡ Some above.0.place in
         (above.0.place, subst P own.2 (ap own_place above.1));
     passed = λ s d f q r live own_is cell_is below.
-        let i = server_in n s live in
         let own = own_seen (own_at (w.stores s).names f) q own_is in
         let e = cell_seen (cell_at (w.stores s).names d f) r cell_is in
-        passed_by s i.least i.most d f own.0 e.0 (is_same_file f root) refl own.1 e.1
+        passed_by s live d f own.0 e.0 (is_same_file f root) refl own.1 e.1
         (ap (λ (p : Place). is_before p.stamp e.0.place.stamp) own.2 ∙ ap (λ (p : Place). is_before q.stamp p.stamp) e.2 ∙ below);
     agree = λ s t f q r live other own_s own_t.
-        let i = server_in n s live in
-        let j = server_in n t other in
         let a = own_seen (own_at (w.stores s).names f) q own_s in
         let b = own_seen (own_at (w.stores t).names f) r own_t in
-        let same = k.agreed f s i.least i.most t j.least j.most (holds_of n s w f a.0 (k.whole s i.least i.most) a.1)
-        (holds_of n t w f b.0 (k.whole t j.least j.most) b.1) in
+        let same = k.agreed f s live t other (holds_of n s w f a.0 (k.whole s live) a.1)
+        (holds_of n t w f b.0 (k.whole t other) b.1) in
         let one : a.0 ≡ b.0 = sym (ap (or_blank f) a.1) ∙ same.own ∙ ap (or_blank f) b.1 in
         sym a.2 ∙ ap (λ (o : Own). o.place) one ∙ b.2;
     same_cells = λ s t d c live other held_s held_t.
-        let i = server_in n s live in
-        let j = server_in n t other in
         let a = own_seen (own_at (w.stores s).names d) held_s.0 held_s.1 in
         let b = own_seen (own_at (w.stores t).names d) held_t.0 held_t.1 in
-        let same = k.agreed d s i.least i.most t j.least j.most (holds_of n s w d a.0 (k.whole s i.least i.most) a.1)
-        (holds_of n t w d b.0 (k.whole t j.least j.most) b.1) in
+        let same = k.agreed d s live t other (holds_of n s w d a.0 (k.whole s live) a.1)
+        (holds_of n t w d b.0 (k.whole t other) b.1) in
         ap cell_place (same.entries c);
   }
 
-  seen : listing_laws.IsListedOnly of_stores (listings n w)
-  seen = quiet_lists of_stores ordered (listings n w) kept quiet_seen
+  seen : listing_laws.IsListedOnly of_stores (listings n w sent)
+  seen = quiet_lists of_stores ordered (listings n w sent) kept quiet_seen
 
   -- ---- from there to runs
 
@@ -137,46 +119,45 @@ module _ (n : ℕ) (w : World) (k : Facts n w) (kept : Kept of_stores (listings 
         is_in = record {
           live = (parts.0, dir_of d f c l parent);
           parent = parent;
-          inner = λ e. (k.named l.server l.least l.most).inner d c (subst P e l.held);
+          inner = λ e. (k.named l.server l.there).inner d c (subst P e l.held);
         };
       }
     where
       -- only directories have cells
       dir_of : (d f : FileId) (c : Entry) (l : Lists n w d f c) → c.place.parent ≡ d → is_dir c.place.parent ≡ true
-      dir_of d f c l parent = ap is_dir parent ∙ (k.whole l.server l.least l.most).names.dirs d f c l.held
+      dir_of d f c l parent = ap is_dir parent ∙ (k.whole l.server l.there).names.dirs d f c l.held
 
-  survives_seen : (f : FileId) (place : Place) → is_same_file f root ≡ false → Stands n w f place → listing_laws.Survives of_stores (listings n w) f place
+  survives_seen : (f : FileId) (place : Place) → is_same_file f root ≡ false → Stands n w f place → listing_laws.Survives of_stores (listings n w sent) f place
   survives_seen f place apart t = record {
     server = t.server;
-    live = in_server n t.server t.least t.most;
+    live = t.there;
     own = ap own_place t.held ∙ ap (λ (p : Place). Some p) t.is;
-    live_place = (t.live, ap (λ (p : Place). is_dir p.parent) (sym t.is) ∙ (k.named t.server t.least t.most).dirs f t.own t.held);
+    live_place = (t.live, ap (λ (p : Place). is_dir p.parent) (sym t.is) ∙ (k.named t.server t.there).dirs f t.own t.held);
     inner = other_of f apart;
   }
 
-  stands_from : (f : FileId) (place : Place) → listing_laws.Survives of_stores (listings n w) f place → Stands n w f place
+  stands_from : (f : FileId) (place : Place) → listing_laws.Survives of_stores (listings n w sent) f place → Stands n w f place
   stands_from f place h =
-      let i = server_in n h.server h.live in
       let own = own_seen (own_at (w.stores h.server).names f) place h.own in
-      record { server = h.server; least = i.least; most = i.most; own = own.0; held = own.1; is = own.2; live = h.live_place.0 }
+      record { server = h.server; there = h.live; own = own.0; held = own.1; is = own.2; live = h.live_place.0 }
 
   nowhere : (d f : FileId) (c : Entry) (place : Place) (t : Bool) → is_same_file f root ≡ t → Lists n w d f c → Stands n w f place
       → (c.place ≡ place) × (d ≡ place.parent)
   nowhere d f c place true same l stands =
       let P : FileId → Type 0 = λ x. cell_at (w.stores l.server).names d x ≡ Some c in
-      absurd ((k.named l.server l.least l.most).inner d c (subst P (is_same_file-true f root same) l.held))
+      absurd ((k.named l.server l.there).inner d c (subst P (is_same_file-true f root same) l.held))
   nowhere d f c place false apart l stands =
-      seen.only f d place c.place l.server (survives_seen f place apart stands) (in_server n l.server l.least l.most) (lists_seen d f c l)
+      seen.only f d place c.place l.server (survives_seen f place apart stands) l.there (lists_seen d f c l)
 
   -- EACH THING IS LISTED ONLY WHERE IT STANDS
   pub listed_only : IsListedOnly n w
   listed_only = record {
-    there = λ f own s t ls ms lt mt apart held live above at.
-        (let c = parent_cell n w k s ls ms f own held apart live in
+    there = λ f own s t ls lt apart held live above at.
+        (let c = parent_cell n w k s ls f own held apart live in
         let p = own.place.parent in
-        let over = parent_held n w k s ls ms f own held apart live in
-        let same = k.agreed p s ls ms t lt mt (holds_of n s w p over.0 (k.whole s ls ms) over.1) (holds_of n t w p above (k.whole t lt mt) at) in
+        let over = parent_held n w k s ls f own held apart live in
+        let same = k.agreed p s ls t lt (holds_of n s w p over.0 (k.whole s ls) over.1) (holds_of n t w p above (k.whole t lt) at) in
         (c.0, sym (same.entries f) ∙ c.1, ap (λ (x : Entry). x.place) c.2, ap (λ (x : Entry). x.flags) c.2));
-    only = λ d f c l. stands_from f c.place (seen.survives f d c.place l.server (in_server n l.server l.least l.most) (lists_seen d f c l));
+    only = λ d f c l. stands_from f c.place (seen.survives f d c.place l.server l.there (lists_seen d f c l));
     nowhere_else = λ d f c place l stands. nowhere d f c place (is_same_file f root) refl l stands;
   }

@@ -7,9 +7,11 @@ use Rattle.pg_store.specs.Store.{content_of}
 use Rattle.pg_run.specs.Graphs.{Holds, IsChain}
 use Rattle.pg_run.specs.Laws.{Agree, HoldsWhatItTook, NamesMerge, QuietDirectoriesAreBroughtBack, QuietJoinedServersAgree, QuietNamesFormATree, QuietServersAgree, QuietThingsAreListedOnlyWhereTheyStand, content_taken}
 use Rattle.pg_run.specs.Run.{World, run}
+use Rattle.pg_run.proofs.Frame.{live_is}
 use Rattle.pg_quiet.specs.Given.{TreeIsGiven}
 use Rattle.pg_quiet.specs.Laws.{QuietStoresAgree}
 use Rattle.pg_quiet.proofs.Facts.{facts_of}
+use Rattle.pg_listed.specs.Letters.{letters}
 use Rattle.pg_quiet.proofs.Listings.{listed_only}
 use Rattle.pg_quiet.proofs.Trees.{brought_back, tree}
 
@@ -24,14 +26,16 @@ content_is w file s h is = ap (λ (o : Option Replica). (or_nothing o).content) 
 
 -- AGREEMENT WHEN QUIET, on what was taken
 pub joined_agree : (n : ℕ) → HoldsWhatItTook n → NamesMerge n → QuietStoresAgree n → QuietJoinedServersAgree n
-joined_agree n took names stores events quiet file s ls ms t lt mt joined =
+joined_agree n took names stores events quiet file s ls t lt joined =
     let w = run n events in
-    let a = names events s ls ms in
-    let b = names events t lt mt in
-    let same = stores events quiet file s ls ms t lt mt joined in
+    let i = live_is n w s ls in
+    let j = live_is n w t lt in
+    let a = names events s i.least i.most in
+    let b = names events t j.least j.most in
+    let same = stores events quiet file s ls t lt joined in
     let ends = ends_hold w file joined.0 s t joined.1 in
-    let first = content_is w file s ends.0 (took events file s ls ms ends.0.replica ends.0.is) in
-    let second = content_is w file t ends.1 (took events file t lt mt ends.1.replica ends.1.is) in
+    let first = content_is w file s ends.0 (took events file s i.least i.most ends.0.replica ends.0.is) in
+    let second = content_is w file t ends.1 (took events file t j.least j.most ends.1.replica ends.1.is) in
     record {
       own = sym (a.own file) ∙ same.own ∙ b.own file;
       entries = λ child. sym (a.entries file child) ∙ same.entries child ∙ b.entries file child;
@@ -45,9 +49,9 @@ itself w file s t e =
 
 -- so all that hold a thing do, where its graph is connected
 pub connected_agree : (n : ℕ) → QuietJoinedServersAgree n → QuietServersAgree n
-connected_agree n joined events quiet file connected s ls ms t lt mt a b = elim (connected s t ls ms lt mt a b) [
+connected_agree n joined events quiet file connected s ls t lt a b = elim (connected s t ls lt a b) [
   | inl same ↦ itself (run n events) file s t same
-  | inr chain ↦ joined events quiet file s ls ms t lt mt chain
+  | inr chain ↦ joined events quiet file s ls t lt chain
 ]
 
 -- ---- names
@@ -56,7 +60,7 @@ pub quiet_tree : (n : ℕ) → TreeIsGiven n → QuietNamesFormATree n
 quiet_tree n g events quiet connected = tree n (run n events) (facts_of n g events quiet connected)
 
 pub quiet_listed : (n : ℕ) → TreeIsGiven n → QuietThingsAreListedOnlyWhereTheyStand n
-quiet_listed n g events quiet connected = listed_only n (run n events) (facts_of n g events quiet connected) (g.listed events)
+quiet_listed n g events quiet connected = listed_only n (run n events) (letters n events) (facts_of n g events quiet connected) (g.listed events)
 
 pub quiet_back : (n : ℕ) → TreeIsGiven n → QuietDirectoriesAreBroughtBack n
 quiet_back n g events quiet connected = brought_back n (run n events) (facts_of n g events quiet connected)

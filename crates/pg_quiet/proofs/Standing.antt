@@ -1,5 +1,5 @@
 -- Where a run is quiet, no place is held back, and each thing has the place that its parent has of it.
-use Rattle.std.proofs.Common.{ℕ, ◌≡◌, ◌≤◌, ◌&&◌, not, Bool, true, false, List, [], Option, Some, refl, sym, ap, subst, ◌∙◌, inl, inr}
+use Rattle.std.proofs.Common.{ℕ, ◌≡◌, ◌&&◌, not, Bool, true, false, List, [], Option, Some, refl, sym, ap, subst, ◌∙◌, inl, inr}
 use Rattle.std.specs.Map.{keys_of}
 use Rattle.std.proofs.lemmas.Bool.{false≢true}
 use Rattle.pg_base.specs.declared.id.FileId.{FileId}
@@ -22,7 +22,7 @@ use Rattle.pg_house.proofs.Greatest.{cell_is}
 use Rattle.pg_house.proofs.Truths.{both_true, first_false, not_false}
 use Rattle.pg_store.specs.declared.store.Store.{Store}
 use Rattle.pg_server.specs.Owing.{held_at, owed}
-use Rattle.pg_run.specs.Run.{World}
+use Rattle.pg_run.specs.Run.{World, is_live}
 use Rattle.pg_run.proofs.QuietAnswers.{map_empty}
 use Rattle.pg_quiet.proofs.Across.{nothing_back}
 use Rattle.pg_quiet.proofs.Facts as facts
@@ -48,7 +48,7 @@ live_by d place true e apart some alive = refl
 live_by d place false e apart some alive =
     absurd (false≢true (sym alive ∙ both_true (not (is_root d)) _ (not_false (is_root d) apart) (both_true (not place.live) _ (not_false place.live e) some)))
 
-module _ (n : ℕ) (w : World) (k : Facts n w) (s : ℕ) (least : 1 ≤ s) (most : s ≤ n) where
+module _ (n : ℕ) (w : World) (k : Facts n w) (s : ℕ) (there : is_live n w s ≡ true) where
   abbrev Names : NamesValue
   Names = (w.stores s).names
 
@@ -56,11 +56,11 @@ module _ (n : ℕ) (w : World) (k : Facts n w) (s : ℕ) (least : 1 ≤ s) (most
   Dirs = directories Names
 
   none_back : held_back Names ≡ []
-  none_back = none_owed_back (w.stores s) (k.quiet.nothing s least most)
+  none_back = none_owed_back (w.stores s) (k.quiet.nothing s there)
 
   -- each thing has the greatest place that is known of it
   pub is_greatest : (f : FileId) (own : Own) → own_at Names f ≡ Some own → is_same_file f root ≡ false → own ≡ greatest Names f own Dirs
-  is_greatest f own held apart = elim ((k.order s least most).passing f own held apart).place [
+  is_greatest f own held apart = elim ((k.order s there).passing f own held apart).place [
     | inl same ↦ same
     | inr back ↦ absurd (false≢true (sym (by_dir Names f own (is_dir f) (is_dir_back Names f) refl refl none_back held apart) ∙ back))
   ]
@@ -68,23 +68,23 @@ module _ (n : ℕ) (w : World) (k : Facts n w) (s : ℕ) (least : 1 ≤ s) (most
   -- and so has each cell for it
   pub cell_of_own : (d f : FileId) (c : Entry) (own : Own) → cell_at Names d f ≡ Some c → own_at Names f ≡ Some own → is_same_file f root ≡ false → c ≡ cell_for f own
   cell_of_own d f c own at held apart =
-      ((k.order s least most).passing f own held apart).cells d c at ∙ ap (cell_for f) (sym (is_greatest f own held apart))
+      ((k.order s there).passing f own held apart).cells d c at ∙ ap (cell_for f) (sym (is_greatest f own held apart))
 
   -- a directory that lists a child is live
   not_dead_by : (d : FileId) (own : Own) (f : FileId) (c : Entry) (t : Bool) → own_at Names d ≡ Some own → is_dir d ≡ true
       → cell_at Names d f ≡ Some c → is_listed d c ≡ true → is_dead d own.place ≡ t → t ≡ false
   not_dead_by d own f c false held dir at listed e = refl
   not_dead_by d own f c true held dir at listed e =
-      absurd (false≢true (sym ((k.order s least most).returned d own held dir e f c at) ∙ listed))
+      absurd (false≢true (sym ((k.order s there).returned d own held dir e f c at) ∙ listed))
 
   lists_by : (d : FileId) (own : Own) (f : FileId) (c : Entry) (t : Bool) → is_same_file d root ≡ t → own_at Names d ≡ Some own → is_dir d ≡ true
       → cell_at Names d f ≡ Some c → is_listed d c ≡ true → own.place.live ≡ true
   lists_by d own f c true e held dir at listed =
       let P : FileId → Type 0 = λ x. own_at Names x ≡ Some own in
-      ap (λ (p : Place). p.live) ((k.named s least most).first own (subst P (is_same_file-true d root e) held))
+      ap (λ (p : Place). p.live) ((k.named s there).first own (subst P (is_same_file-true d root e) held))
   lists_by d own f c false apart held dir at listed =
       live_by d own.place own.place.live refl apart
-      (ap (λ (o : Option Own). is_before first_stamp (or_blank d o).place.stamp) (sym held) ∙ k.placed s least most d (all_full n w k s least most d own held) apart)
+      (ap (λ (o : Option Own). is_before first_stamp (or_blank d o).place.stamp) (sym held) ∙ k.placed s there d (all_full n w k s there d own held) apart)
       (not_dead_by d own f c (is_dead d own.place) held dir at listed refl)
 
   pub lists_live : (d : FileId) (own : Own) (f : FileId) (c : Entry) → own_at Names d ≡ Some own → is_dir d ≡ true
@@ -98,15 +98,15 @@ module _ (n : ℕ) (w : World) (k : Facts n w) (s : ℕ) (least : 1 ≤ s) (most
     Parent = own.place.parent
 
     pub parent_held : IsHeld Names Parent
-    parent_held = facts.parent_held n w k s least most f own held apart live
+    parent_held = facts.parent_held n w k s there f own held apart live
 
     pub parent_dir : is_dir Parent ≡ true
-    parent_dir = (k.named s least most).dirs f own held
+    parent_dir = (k.named s there).dirs f own held
 
     -- its parent has a cell for it
     pub parent_cell : (c : Entry) × (cell_at Names Parent f ≡ Some c) × (c ≡ cell_for f own)
     parent_cell =
-        let c = cell_is (cell_at Names Parent f) ((k.order s least most).own_parent f own held apart parent_held.0 live parent_held.1 parent_dir) in
+        let c = cell_is (cell_at Names Parent f) ((k.order s there).own_parent f own held apart parent_held.0 live parent_held.1 parent_dir) in
         (c.0, c.1, cell_of_own Parent f c.0 own c.1 held apart)
 
     pub listed : is_listed Parent parent_cell.0 ≡ true

@@ -1,5 +1,5 @@
 -- Where a run is quiet and its things are connected, names form a tree, and no dead directory holds what survives.
-use Rattle.std.proofs.Common.{ℕ, zero, suc, ◌≡◌, ◌≤◌, ◌+◌, not, Bool, true, false, length, Option, Some, refl, sym, ap, ◌∙◌}
+use Rattle.std.proofs.Common.{ℕ, zero, suc, ◌≡◌, ◌+◌, not, Bool, true, false, length, Option, Some, refl, sym, ap, ◌∙◌}
 use Rattle.std.proofs.lemmas.Bool.{false≢true}
 use Rattle.pg_base.specs.declared.id.FileId.{FileId}
 use Rattle.pg_base.specs.Id.{is_same_file}
@@ -14,7 +14,7 @@ use Rattle.pg_house.specs.Returning.{is_root}
 use Rattle.pg_house.proofs.Counting.{among_kept}
 use Rattle.pg_house.proofs.Ends.{key_of_held}
 use Rattle.pg_house.proofs.Truths.{both_true, chosen_true, not_false}
-use Rattle.pg_run.specs.Run.{World}
+use Rattle.pg_run.specs.Run.{World, is_live}
 use Rattle.pg_run.specs.Laws.{IsBroughtBack, IsTree, LeadsToRoot, Stands, Survives}
 use Rattle.pg_quiet.proofs.Facts.{Facts, holds_of}
 use Rattle.pg_quiet.proofs.Standing.{parent_dir, parent_held, parent_live}
@@ -22,13 +22,13 @@ use Rattle.pg_quiet.proofs.Standing.{parent_dir, parent_held, parent_live}
 module _ (n : ℕ) (w : World) (k : Facts n w) where
   -- ---- the way to the root
 
-  module _ (s : ℕ) (least : 1 ≤ s) (most : s ≤ n) where
+  module _ (s : ℕ) (there : is_live n w s ≡ true) where
     abbrev Names : NamesValue
     Names = (w.stores s).names
 
     -- a live thing stands here
     here : (f : FileId) (own : Own) → own_at Names f ≡ Some own → own.place.live ≡ true → Stands n w f own.place
-    here f own held live = record { server = s; least = least; most = most; own = own; held = held; is = refl; live = live }
+    here f own held live = record { server = s; there = there; own = own; held = held; is = refl; live = live }
 
     inner : (f : FileId) (own : Own) → own_at Names f ≡ Some own → own.place.live ≡ true → is_same_file f root ≡ false → is_dir f ≡ true → is_inner Names f ≡ true
     inner f own held live apart dir = both_true (is_dir f) _ dir (both_true (not (is_root f)) _ (not_false (is_root f) apart) (ap is_live_own held ∙ live))
@@ -48,46 +48,46 @@ module _ (n : ℕ) (w : World) (k : Facts n w) where
     leads_within (suc i) f own held live apart dir out =
         let p = own.place.parent in
         let up : above Names f ≡ p = chosen_true (is_inner Names f) (place_at Names f).parent root (inner f own held live apart dir) ∙ ap (λ (o : Option Own). (place_of o).parent) held in
-        let over = parent_held n w k s least most f own held apart live in
-        let alive = parent_live n w k s least most f own held apart live in
-        let dirs = parent_dir n w k s least most f own held apart live in
+        let over = parent_held n w k s there f own held apart live in
+        let alive = parent_live n w k s there f own held apart live in
+        let dirs = parent_dir n w k s there f own held apart live in
         from_parent f own held live (is_same_file p root) refl
         (λ other. leads_within i p over.0 over.1 alive other dirs (ap (λ (x : FileId). is_inner Names (climb Names i x)) (sym up) ∙ out))
 
     leads_dir : (f : FileId) (own : Own) → own_at Names f ≡ Some own → own.place.live ≡ true → is_same_file f root ≡ false → is_dir f ≡ true → (j : ℕ) × LeadsToRoot n w j f
     leads_dir f own held live apart dir =
         let many = length (directories Names) in
-        leads_within (many + many) f own held live apart dir ((k.named s least most).found f (among_kept is_dir _ f (key_of_held Names f own held) dir))
+        leads_within (many + many) f own held live apart dir ((k.named s there).found f (among_kept is_dir _ f (key_of_held Names f own held) dir))
 
     leads_by : (f : FileId) (own : Own) → own_at Names f ≡ Some own → own.place.live ≡ true → (t : Bool) → is_same_file f root ≡ t → (j : ℕ) × LeadsToRoot n w j f
     leads_by f own held live true e = (0, is_same_file-true f root e)
     leads_by f own held live false apart =
-        let over = parent_held n w k s least most f own held apart live in
-        let alive = parent_live n w k s least most f own held apart live in
-        let dirs = parent_dir n w k s least most f own held apart live in
+        let over = parent_held n w k s there f own held apart live in
+        let alive = parent_live n w k s there f own held apart live in
+        let dirs = parent_dir n w k s there f own held apart live in
         from_parent f own held live (is_same_file own.place.parent root) refl (λ other. leads_dir own.place.parent over.0 over.1 alive other dirs)
 
   survivor : (f : FileId) → Survives n w f → (j : ℕ) × LeadsToRoot n w j f
   survivor f h =
       let t = h.1 in
-      leads_by t.server t.least t.most f t.own t.held (ap (λ (q : Place). q.live) t.is ∙ t.live) (is_same_file f root) refl
+      leads_by t.server t.there f t.own t.held (ap (λ (q : Place). q.live) t.is ∙ t.live) (is_same_file f root) refl
 
   -- A TREE
   pub tree : IsTree n w
-  tree = record { leads = survivor; distinct = λ s least most. (k.named s least most).distinct }
+  tree = record { leads = survivor; distinct = λ s there. (k.named s there).distinct }
 
   -- ---- directories that come back
 
   -- NO DIRECTORY THAT IS DEAD AT A SERVER HOLDS A SURVIVOR
   pub brought_back : IsBroughtBack n w
-  brought_back f place t apart s least most own at =
+  brought_back f place t apart s there own at =
       let live : t.own.place.live ≡ true = ap (λ (q : Place). q.live) t.is ∙ t.live in
-      let over = parent_held n w k t.server t.least t.most f t.own t.held apart live in
-      let alive = parent_live n w k t.server t.least t.most f t.own t.held apart live in
+      let over = parent_held n w k t.server t.there f t.own t.held apart live in
+      let alive = parent_live n w k t.server t.there f t.own t.held apart live in
       let p = t.own.place.parent in
       let same : p ≡ place.parent = ap (λ (q : Place). q.parent) t.is in
       let here : own_at (w.stores s).names p ≡ Some own = ap (own_at (w.stores s).names) same ∙ at in
-      let agreed = k.agreed p s least most t.server t.least t.most (holds_of n s w p own (k.whole s least most) here)
-      (holds_of n t.server w p over.0 (k.whole t.server t.least t.most) over.1) in
+      let agreed = k.agreed p s there t.server t.there (holds_of n s w p own (k.whole s there) here)
+      (holds_of n t.server w p over.0 (k.whole t.server t.there) over.1) in
       let one : own ≡ over.0 = sym (ap (or_blank p) here) ∙ agreed.own ∙ ap (or_blank p) over.1 in
       ap (λ (o : Own). o.place.live) one ∙ alive

@@ -19,6 +19,7 @@ use Rattle.pg_run.specs.Histories.{MakesHistories, StateIsItsHeads}
 use Rattle.pg_run.specs.Intending.{IntentionsAreInOrder}
 use Rattle.pg_run.specs.Known.{CarriedIsKnown, FlagsHaveOwnNumbers, PlacesHaveOwnStamps}
 use Rattle.pg_run.specs.Laws.{AtEach, HoldsWhatItTook, HouseIsInOrder, ShowsDistinctNames, names_after, store_after}
+use Rattle.pg_run.specs.Views.{ViewsAreFronts}
 use Rattle.pg_listed.specs.Laws.{ListingsAreKept}
 
 -- each server of a run is whole
@@ -27,7 +28,8 @@ ServersAreWhole servers = (events : List Event)
     → AtEach servers (λ s. IsWhole servers s (store_after servers events s))
 
 -- for agreement: what is acknowledged is there, one stamp is one place, one birth and number of a
--- server is one flag, and contents are what was taken
+-- server is one flag, and contents are what was taken; and edges lead to servers that are not removed in
+-- the view of who has them
 pub record AgreementIsGiven (servers : ℕ) : Type 0 where
   pub acknowledged : AcknowledgedKeysAreHad servers
   pub known : CarriedIsKnown servers
@@ -37,6 +39,7 @@ pub record AgreementIsGiven (servers : ℕ) : Type 0 where
   pub histories : MakesHistories servers
   pub heads : StateIsItsHeads servers
   pub took : HoldsWhatItTook servers
+  pub views : ViewsAreFronts servers
 
 -- ---- names
 

@@ -5,14 +5,14 @@ ghost use Rattle.pg_run.specs.Laws.{NamesMerge, QuietDirectoriesAreBroughtBack, 
 ghost use Rattle.pg_quiet.specs.Given.{AgreementIsGiven, TreeIsGiven};
 ghost use Rattle.pg_quiet.specs.Laws.{QuietStoresAgree};
 
-/// Wherever no message is under way and nothing is owed, servers that are joined by edges for a thing hold the same of
-/// it: place and flags, entries and content.
+/// Wherever no message is under way, each live server has entered the last removal, and none owes anything, live servers
+/// that are joined by edges for a thing hold the same of it: place and flags, entries and content.
 pub fn quiet_stores_agree()
     ensures { (servers : ℕ) → AgreementIsGiven servers → QuietStoresAgree servers }
 {}
 
-/// And they agree on what they took, where what they hold is what that comes to; and so do all that hold a thing, where its
-/// graph is connected.
+/// And they agree on what they took, where what they hold is what that comes to; and so do all live ones that hold a thing,
+/// where its graph is connected.
 pub fn quiet_servers_agree()
     ensures joined { (servers : ℕ) → AgreementIsGiven servers → NamesMerge servers
         → QuietJoinedServersAgree servers }

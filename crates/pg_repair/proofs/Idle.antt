@@ -28,6 +28,7 @@ use Rattle.pg_repair.specs.Intending.{each, in_order}
 use Rattle.pg_repair.specs.Needed.{LeavesNothing}
 use Rattle.pg_repair.specs.Patches.{begin_patch, begin_patches}
 use Rattle.pg_graph.specs.Seeks.{has_seek, is_seeking, to_seek}
+use Rattle.pg_repair.proofs.Leaves.{AllPass, Passes, all_moved, ended_pass}
 use Rattle.pg_repair.proofs.Needs.{first_true, second_true}
 use Rattle.pg_repair.proofs.Sought.{has_its_seek, seeks_moved}
 use Rattle.pg_repair.proofs.Standing.{among, confirmed_in_doubt, has_its_fill, moved}
@@ -58,22 +59,22 @@ ConfirmsFit a = (dir child : FileId) → is_some (intent_at a.intents (intent_ke
 abbrev pub SeeksFit : Store → Type 0
 SeeksFit a = (file : FileId) → has_seek a file ≡ is_seeking a file
 
-module _ (a : Store) (fills : FillsFit a) (seeks : SeeksFit a) (confirms : ConfirmsFit a) where
-  each_stands : (i : Intent) → stands a.intents (key_of i) ≡ true → still_stands a (files_to_fill a.names) i ≡ true
-  each_stands (intent.Bye file birth peer peer_birth) h = refl
-  each_stands (intent.Seek file target) h = sym (seeks file) ∙ h
-  each_stands (intent.Fill file birth target) h = sym (fills file) ∙ sym (stands_is a.intents (intent_key.Fill file)) ∙ h
-  each_stands (intent.Patch dir entry target) h = refl
-  each_stands (intent.Confirm dir child target) h = confirms dir child (sym (stands_is a.intents (intent_key.Confirm dir child)) ∙ h)
-  each_stands (intent.Leave file peer peer_birth) h = refl
+module _ (a : Store) (fills : FillsFit a) (seeks : SeeksFit a) (confirms : ConfirmsFit a) (leaves : AllPass a a.intents) where
+  each_stands : (i : Intent) → stands a.intents (key_of i) ≡ true → Passes a i → still_stands a (files_to_fill a.names) i ≡ true
+  each_stands (intent.Bye file birth peer peer_birth) h p = refl
+  each_stands (intent.Seek file target) h p = sym (seeks file) ∙ h
+  each_stands (intent.Fill file birth target) h p = sym (fills file) ∙ sym (stands_is a.intents (intent_key.Fill file)) ∙ h
+  each_stands (intent.Patch dir entry target) h p = refl
+  each_stands (intent.Confirm dir child target) h p = confirms dir child (sym (stands_is a.intents (intent_key.Confirm dir child)) ∙ h)
+  each_stands (intent.Leave file peer peer_birth) h p = p
 
   -- of these, which are among all
-  all_stand : (is : List Intent) → ((k : IntentKey) → stands is k ≡ true → stands a.intents k ≡ true)
+  all_stand : (is : List Intent) → ((k : IntentKey) → stands is k ≡ true → stands a.intents k ≡ true) → AllPass a is
       → AllByRecursion (λ (i : Intent). still_stands a (files_to_fill a.names) i ≡ true) is
-  all_stand [] part = tt
-  all_stand (i ∷ is) part = (
-    each_stands i (part (key_of i) (first_true (has_key (key_of i) i) (stands is (key_of i)) (is_same_key-refl (key_of i)))),
-    all_stand is (λ (k : IntentKey) (h : stands is k ≡ true). part k (second_true (has_key k i) (stands is k) h)),
+  all_stand [] part pass = tt
+  all_stand (i ∷ is) part pass = (
+    each_stands i (part (key_of i) (first_true (has_key (key_of i) i) (stands is (key_of i)) (is_same_key-refl (key_of i)))) pass.0,
+    all_stand is (λ (k : IntentKey) (h : stands is k ≡ true). part k (second_true (has_key k i) (stands is k) h)) pass.1,
   )
 
   all_filled : (files : List FileId) → ((f : FileId) → list_any (is_same_file f) files ≡ true → is_some (fill_at a f) ≡ true) → HaveFills a files
@@ -97,7 +98,7 @@ module _ (a : Store) (fills : FillsFit a) (seeks : SeeksFit a) (confirms : Confi
   have_seeks (file ∷ files) = sought_by file (filter (is_seeking a) files) (is_seeking a file) refl (have_seeks files)
 
   none_ends : end_others a (files_to_fill a.names) ≡ a
-  none_ends = ap (with_intents a) (all_kept (still_stands a (files_to_fill a.names)) a.intents (all_stand a.intents (λ (k : IntentKey) (h : stands a.intents k ≡ true). h)))
+  none_ends = ap (with_intents a) (all_kept (still_stands a (files_to_fill a.names)) a.intents (all_stand a.intents (λ (k : IntentKey) (h : stands a.intents k ≡ true). h) leaves))
 
   -- no slot and no edge was noted: nothing ends or begins
   pub nothing_to_do : (w : Work) → w.left ≡ [] → w.unsure ≡ [] → w.linked ≡ [] → begin_end a w ≡ idle a w
@@ -122,5 +123,12 @@ pub confirms_fit : (s : Store) (w : Work) → ConfirmsFit (begin_end s w).store
 confirms_fit s w dir child = λ there.
     moved dir child s (begin_end s w).store (begin_end_stays s w).names ∙ confirmed_in_doubt s w dir child there
 
+pub leaves_pass : (s : Store) (w : Work) → AllPass (begin_end s w).store (begin_end s w).store.intents
+leaves_pass s w =
+    let b = (begin_end s w).store in
+    let same = begin_end_stays s w in
+    all_moved s b same.names same.replicas b.intents (ended_pass s w)
+
 pub leaves_nothing : (s : Store) (w : Work) → LeavesNothing s w
-leaves_nothing s w later = nothing_to_do (begin_end s w).store (fills_fit s w) (seeks_fit s w) (confirms_fit s w) later
+leaves_nothing s w later =
+    nothing_to_do (begin_end s w).store (fills_fit s w) (seeks_fit s w) (confirms_fit s w) (leaves_pass s w) later

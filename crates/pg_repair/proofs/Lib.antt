@@ -6,4 +6,6 @@ pub mod Steady
 pub mod Standing
 pub mod Sought
 pub mod Patched
+pub mod Leaves
 pub mod Idle
+pub mod Invited

@@ -210,7 +210,7 @@ module _ (d c : FileId) where
   tested s files (intent.Fill file birth target) h = absurd (false≢true h)
   tested s files (intent.Patch dir entry target) h = refl
   tested s files (intent.Confirm dir child target) h = absurd (false≢true h)
-  tested s files (intent.Leave file peer peer_birth) h = refl
+  tested s files (intent.Leave file peer peer_birth) h = absurd (false≢true h)
 
   pub ended_at : (s : Store) → intent_at (end_others s (files_to_fill s.names)).intents key ≡ intent_at s.intents key
   ended_at s = filtered key (still_stands s (files_to_fill s.names)) true (tested s (files_to_fill s.names)) s.intents

@@ -13,17 +13,20 @@ use Rattle.pg_cells.specs.Done.{Done}
 use Rattle.pg_repair.specs.Confirms.{begin_confirms, is_doubtful}
 use Rattle.pg_repair.specs.Fills.{begin_fills, files_to_fill, is_in, to_fill}
 use Rattle.pg_repair.specs.Patches.{begin_patches}
+use Rattle.pg_graph.specs.Leaving.{may_still_leave}
 use Rattle.pg_graph.specs.Seeks.{begin_seeks, is_seeking, to_seek}
 
 -- the condition of an intention holds, if it has one: a Seek is of what seeks, a Fill of what is to be
--- filled, a Confirm of a child that is listed and not held. The others end by answers
+-- filled, a Confirm of a child that is listed and not held, a Leave to a peer that is listed with the
+-- birth and whose flag of that birth is raised. The others end by answers
 abbrev pub still_stands : Store → Files → Intent → Bool
 still_stands store files (intent.Bye file birth peer peer_birth) = true
 still_stands store files (intent.Seek file target) = is_seeking store file
 still_stands store files (intent.Fill file birth target) = is_in files file
 still_stands store files (intent.Patch dir entry target) = true
 still_stands store files (intent.Confirm dir child target) = is_doubtful store dir child
-still_stands store files (intent.Leave file peer peer_birth) = true
+still_stands store files (intent.Leave file peer peer_birth) =
+    may_still_leave store file peer peer_birth
 
 abbrev pub ended_key : Bool → Intent → List IntentKey
 ended_key stays i = if stays then [] else key_of i ∷ []

@@ -1,5 +1,5 @@
 -- A filling replica becomes full.
-use Rattle.std.specs.Prelude.{ℕ, ◌&&◌, not, nat_lt, count_by, if◌then◌else◌, List, Option, None, Some}
+use Rattle.std.specs.Prelude.{ℕ, Bool, ◌&&◌, not, nat_lt, count_by, if◌then◌else◌, List, Option, None, Some}
 use Rattle.pg_base.specs.declared.id.FileId.{FileId}
 use Rattle.pg_register.specs.Flag.{is_live}
 use Rattle.pg_msg.specs.declared.message.Ends.{Ends}
@@ -10,8 +10,9 @@ use Rattle.pg_names.specs.Names as names
 use Rattle.pg_store.specs.declared.store.Store.{Store}
 use Rattle.pg_store.specs.Store.{is_full, with_names}
 use Rattle.pg_cells.specs.declared.accepting.Manner.TheVariants as manner
-use Rattle.pg_cells.specs.Accepting.{is_accepted}
+use Rattle.pg_cells.specs.Accepting.{accept, is_accepted}
 use Rattle.pg_cells.specs.Done.{Done, idle}
+use Rattle.pg_cells.specs.Golds.{is_gold}
 use Rattle.pg_cells.specs.Making.{raise_flag}
 
 abbrev pub golds_of : List ℕ → Option Own → ℕ
@@ -43,3 +44,19 @@ full store ends work =
     if is_accepted store work.from manner.Answer ends && not (is_full store ends.file)
     then fill store ends.file work
     else idle store work
+
+-- the replica of a thing is full, and not gold
+abbrev pub is_bronze : Store → FileId → Bool
+is_bronze store file = is_full store file && not (is_gold store file)
+
+-- few golds are seen: where the message is accepted, a full bronze replica that sees few of them too
+-- raises its flag
+abbrev pub invited : Ends → Done → Done
+invited ends done = if is_bronze done.store ends.file
+    then raise_if_few done.store ends.file done.work
+    else done
+
+abbrev pub invite : Store → Ends → Work → Done
+invite store ends work = if is_accepted store work.from manner.Ask ends
+    then invited ends (accept store ends manner.Ask work)
+    else accept store ends manner.Ask work

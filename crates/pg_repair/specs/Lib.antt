@@ -2,6 +2,7 @@ pub mod Intending
 pub mod Fetching
 pub mod Granting
 pub mod Filling
+pub mod Inviting
 pub mod Confirming
 pub mod Telling
 pub mod NoneHere

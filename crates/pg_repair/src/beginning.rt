@@ -10,7 +10,7 @@ use crate::confirms::{begin_confirms, is_doubtful};
 use crate::fills::{Files, begin_fills, to_fill};
 use crate::patches::begin_patches;
 use pg_base::Items;
-use pg_graph::{begin_seeks, is_seeking, to_seek};
+use pg_graph::{begin_seeks, is_seeking, may_still_leave, to_seek};
 use pg_intent::{Intent, IntentKey, Intents};
 use pg_msg::Work;
 use pg_store::Store;
@@ -34,7 +34,8 @@ pub fn begin_end(store: &mut Store, work: &mut Work) -> Result<(), AllocError>
 }
 
 /// Whether the condition of an intention holds, if it has one: a Seek is of what seeks, a Fill of what is to be filled, a
-/// Confirm of a child that is listed and not held.
+/// Confirm of a child that is listed and not held, a Leave to a peer that is listed with the birth, and whose flag of that
+/// birth is raised.
 fn still_stands(store: &Store, files: &Files, intent: &Intent) -> bool
     ensures { result ≡ still_stands store.now files.now.entries intent.now }
 {
@@ -44,7 +45,11 @@ fn still_stands(store: &Store, files: &Files, intent: &Intent) -> bool
         Intent::Fill { file, .. } => files.contains_key(file),
         Intent::Patch { .. } => true,
         Intent::Confirm { dir, child, .. } => is_doubtful(store, dir, child),
-        Intent::Leave { .. } => true,
+        Intent::Leave {
+            file,
+            peer,
+            peer_birth,
+        } => may_still_leave(store, file, *peer, *peer_birth),
     }
 }
 

@@ -3,11 +3,11 @@
 ghost use Rattle.std.specs.Prelude.{◌≡◌, IfOk, OnOk};
 ghost use Rattle.pg_repair.specs.Confirming.{confirm, end_confirmed, is_confirmed, own_entry, place_is, take_told_place, with_place_told};
 
-use crate::same::is_same_stamp;
 use pg_base::{FileId, Shared, Stamp};
 use pg_cells::{post, take_entry, take_flags, take_place};
 use pg_entries::Entry;
-use pg_graph::is_root;
+use pg_graph::is_same_stamp;
+use pg_house::is_root;
 use pg_intent::IntentKey;
 use pg_msg::{Ask, Message, Work};
 use pg_store::Store;

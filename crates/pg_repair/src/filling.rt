@@ -1,16 +1,16 @@
 //! A filling replica becomes full.
 
 ghost use Rattle.std.specs.Prelude.{◌≡◌, OnOk};
-ghost use Rattle.pg_repair.specs.Filling.{fill, full, live_golds, raise_if_few};
+ghost use Rattle.pg_repair.specs.Filling.{fill, full, invite, is_bronze, live_golds, raise_if_few};
 
 use pg_base::FileId;
-use pg_cells::{Manner, is_accepted, raise_flag};
+use pg_cells::{Manner, accept, is_accepted, is_gold, raise_flag};
 use pg_msg::{Ends, Work};
 use pg_store::Store;
 use std::alloc::AllocError;
 
 /// A replica that sees fewer live golds than this becomes one when it is full.
-const FEW_GOLDS: u32 = 3;
+pub(crate) const FEW_GOLDS: u32 = 3;
 
 /// The sender has nothing that the replica here does not have: it is full from then on, where the message is accepted.
 /// After out of memory a part may be done.
@@ -22,6 +22,26 @@ pub fn full(store: &mut Store, ends: Ends, work: &mut Work) -> Result<(), AllocE
         fill(store, ends.file, work)?;
     }
     Ok(())
+}
+
+/// Few golds are seen: a bronze replica that is full, and sees few of them too, raises its flag, where the message is
+/// accepted. After out of memory a part may be done.
+pub fn invite(store: &mut Store, ends: Ends, work: &mut Work) -> Result<(), AllocError>
+    ensures store { OnOk result (store.new ≡ (invite store.old ends work.old).store) }
+    ensures work { OnOk result (work.new ≡ (invite store.old ends work.old).work) }
+{
+    let accepted = accept(store, &ends, Manner::Ask, work)?;
+    if accepted && is_bronze(store, &ends.file) {
+        raise_if_few(store, ends.file, work)?;
+    }
+    Ok(())
+}
+
+/// Whether the replica of a thing is full, and not gold.
+fn is_bronze(store: &Store, file: &FileId) -> bool
+    ensures { result ≡ is_bronze store.now file.now }
+{
+    store.names.is_full(file) && !is_gold(store, file)
 }
 
 /// A filling replica is full from now on, and raises its flag where it sees fewer than three live golds. After out of
@@ -47,7 +67,7 @@ fn raise_if_few(store: &mut Store, file: FileId, work: &mut Work) -> Result<(), 
 }
 
 /// How many live golds a thing sees.
-fn live_golds(store: &Store, file: &FileId) -> u32
+pub(crate) fn live_golds(store: &Store, file: &FileId) -> u32
     ensures { result ≡ live_golds store.now file.now }
 {
     match store.names.own(file) {

@@ -7,7 +7,7 @@ ghost use Rattle.pg_repair.specs.Fills.{begin_fill, begin_fills, files_to_fill, 
 
 use pg_base::FileId;
 use pg_cells::begin_intent;
-use pg_graph::is_root;
+use pg_house::is_root;
 use pg_intent::{Intent, IntentKey};
 use pg_msg::Work;
 use pg_names::{Held, Names};

@@ -4,10 +4,10 @@ ghost use Rattle.std.specs.Prelude.{◌≡◌, OnOk};
 ghost use Rattle.pg_intent.specs.Intents.{intent_at};
 ghost use Rattle.pg_repair.specs.Telling.{end_told, is_told, tell, tell_ok};
 
-use crate::same::is_same_stamp;
 use pg_base::{FileId, NodeId, Stamp};
 use pg_cells::{post, take_entry};
 use pg_entries::Entry;
+use pg_graph::is_same_stamp;
 use pg_intent::{Intent, IntentKey};
 use pg_msg::{Ask, Message, Work};
 use pg_store::Store;

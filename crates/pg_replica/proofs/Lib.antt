@@ -12,3 +12,4 @@ pub mod Ends
 mod Takings
 mod Refusals
 mod InOrder
+pub mod Going

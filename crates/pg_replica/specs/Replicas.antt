@@ -1,6 +1,6 @@
 -- The replicas of a server, by file.
 use Rattle.std.specs.Prelude.{ℕ, ◌==◌, Bool, false, if◌then◌else◌, List, length, not, Option, None, Some}
-use Rattle.std.specs.List.{list_any}
+use Rattle.std.specs.List.{filter, list_any}
 use Rattle.std.specs.BTreeMap.{is_at, insert_entry}
 use Rattle.std.specs.Map.{lookup}
 use Rattle.pg_base.specs.declared.id.FileId.{FileId}
@@ -72,6 +72,10 @@ edge_count (Some x) = length x.edges
 -- this is the replica of a file from now on
 abbrev pub put_replica : ByFile → FileId → Replica → ByFile
 put_replica replicas file x = insert_entry file_cmp replicas file x
+
+-- the replica of a file goes
+abbrev pub without_replica : ByFile → FileId → ByFile
+without_replica replicas file = filter (λ r. not (is_at (file_cmp file) r.0)) replicas
 
 -- a key is touched
 abbrev pub replicas_touched : ByFile → FileId → Key → ℕ → Option Replica → ByFile

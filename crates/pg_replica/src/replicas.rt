@@ -7,7 +7,7 @@ ghost use Rattle.pg_base.specs.Id.{file_cmp};
 ghost use Rattle.pg_base.specs.Version.{stamp_of};
 ghost use Rattle.pg_edges.specs.Edges.{are_clean};
 ghost use Rattle.pg_replica.specs.Replica.{has_room, refusal_of};
-ghost use Rattle.pg_replica.specs.Replicas.{edge_count, have_own_end, is_own_end_in, lists_peer, or_nothing, put_replica, replica_in, replicas_acked, replicas_linked, replicas_taking, replicas_touched, replicas_unlinked, replicas_writing, takes_link, takes_version};
+ghost use Rattle.pg_replica.specs.Replicas.{edge_count, have_own_end, is_own_end_in, lists_peer, or_nothing, put_replica, replica_in, replicas_acked, replicas_linked, replicas_taking, replicas_touched, replicas_unlinked, replicas_writing, takes_link, takes_version, without_replica};
 ghost use Rattle.pg_replica.specs.Index.{IsIndex};
 
 use crate::link::Link;
@@ -109,6 +109,16 @@ impl Replicas {
     {
         self.by_file.insert(file, replica)?;
         Ok(())
+    }
+
+    /// The replica of a file goes, if there is one, and is handed out.
+    pub fn remove(&mut self, file: &FileId) -> Option<Replica>
+        ensures replica { result ≡ replica_in self.old file.now }
+        ensures replicas { self.new ≡ without_replica self.old file.now }
+    {
+        self.lists.unacknowledged.remove(file);
+        self.lists.ended.remove(file);
+        self.by_file.remove(file)
     }
 
     /// Links a birth of a peer to the replica of a file, and tells whether that made an edge, on which each of these keys

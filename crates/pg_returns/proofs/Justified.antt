@@ -1,5 +1,5 @@
 -- What justified return stands on: stamps of their own, and own places in the midst of an event.
-use Rattle.std.proofs.Common.{ℕ, ◌≡◌, ◌<◌, Bool, true, false, cond, List, [], ◌∷◌, ◌++◌, drop, length, take, zero, suc, refl, sym, ap, subst, ◌∙◌, inl, inr, arith}
+use Rattle.std.proofs.Common.{ℕ, ◌≡◌, true, false, List, [], ◌∷◌, take, zero, suc, refl, sym, ◌∙◌, inl, inr}
 use Rattle.std.proofs.lemmas.List.Elements.{All-contains}
 use Rattle.std.proofs.lemmas.Option.{slice_get_within}
 use Rattle.pg_base.specs.declared.id.FileId.{FileId}
@@ -10,17 +10,17 @@ use Rattle.pg_names.specs.Names.{is_dir, own_or_blank}
 use Rattle.pg_event.specs.declared.event.Event.{Event}
 use Rattle.pg_store.specs.declared.store.Store.{Store}
 use Rattle.pg_server.specs.declared.input.Input.{Input}
-use Rattle.pg_server.specs.Local.{closed, finished, first_effect, reply_to, takes_effect}
+use Rattle.pg_server.specs.Local.{first_effect, takes_effect}
 use Rattle.pg_run.specs.Known.{of_run}
 use Rattle.pg_run.specs.Laws.{took_behind}
-use Rattle.pg_run.specs.Passed.{passed, passed_with}
-use Rattle.pg_run.specs.Run.{Taking, brought, first_made, made_behind, run}
+use Rattle.pg_run.specs.Run.{Taking, made_behind, removed_then, run, took_first}
 use Rattle.pg_run.specs.Took.{Take, Taker, own_place, places_taken}
 use Rattle.pg_run.proofs.Frame.{acts_is}
 use Rattle.pg_run.proofs.Lists.{among_contained, contained_among}
-use Rattle.pg_gate.specs.Gate.{place_at}
+use Rattle.pg_gate.specs.Gate.{IsStillThere, place_at}
 use Rattle.pg_gate.specs.Returns.{DeadPlacesStay, IsTaken, TakesHaveOwnStamps}
 use Rattle.pg_gate.proofs.HouseDirs.{IsLiveOfDir, made_live}
+use Rattle.pg_gate.proofs.Staying.{going_by}
 use Rattle.pg_naming.specs.Goes.{Goes}
 use Rattle.pg_naming.specs.Merged.{StandsOn}
 use Rattle.pg_passing.specs.Newest.{IsAnyOf}
@@ -32,27 +32,6 @@ use Rattle.pg_passing.proofs.DeadPlaces.{IsLiveMade, dead_behind}
 use Rattle.pg_passing.proofs.States.{place_is}
 use Rattle.pg_passing.proofs.Takes.{place_there}
 use Rattle.pg_run.specs.Took.Taker.{Itself}
-
--- ---- where nothing takes effect no rule makes anything
-
-drop_whole : (us : List Update) → drop (length us) us ≡ []
-drop_whole [] = refl
-drop_whole (u ∷ us) = drop_whole us
-
-none_by : (a : Store) (asked : Input) (t : Bool) → t ≡ false
-    → drop (length (first_made a asked)) (cond t (closed (reply_to a asked) (first_effect a asked)) (finished (reply_to a asked) (first_effect a asked))).out.made ≡ []
-none_by a asked true e = absurd (let z : true ≡ false = e in cc)
-none_by a asked false e = drop_whole (first_made a asked)
-
-none_behind : (a : Store) (asked : Input) → takes_effect a asked ≡ false → made_behind a asked ≡ []
-none_behind a asked e = none_by a asked (takes_effect a asked) e
-
-nothing : (us : List Update) (i : ℕ) → us ≡ [] → i < length us → ⊥
-nothing us i e h = let x = ap (λ (vs : List Update). length vs) e in omega arith
-
-going_by : (a : Store) (asked : Input) (i : ℕ) → i < length (made_behind a asked) → (t : Bool) → takes_effect a asked ≡ t → t ≡ true
-going_by a asked i lt true e = refl
-going_by a asked i lt false e = absurd (nothing (made_behind a asked) i (none_behind a asked e) lt)
 
 -- ---- in the midst of an event
 
@@ -67,26 +46,23 @@ live_made : (a : Store) (asked : Input) (u : Update) → Among u (made_behind a 
 live_made a asked u h f p same =
     (All-contains IsLiveOfDir (made_behind a asked) u (made_live a asked) (among_contained (made_behind a asked) u h) f p same).1
 
-module _ (a : Store) (takes : List Take) (asked : Input) (none : a.names.removed ≡ []) (goes : Goes a.names.removed (first_effect a asked).store.names (brought a asked ++ takes))
+module _ (a : Store) (takes : List Take) (asked : Input) (goes : Goes (removed_then a asked) (first_effect a asked).store.names (took_first a takes asked))
     (all : List Update) (apart_all : IsApart a takes asked all) (behind : (u : Update) → Among u (made_behind a asked) → Among u all) (dir : FileId) (is : is_dir dir ≡ true) where
   abbrev Now : List Take
-  Now = brought a asked ++ takes
+  Now = took_first a takes asked
 
   -- what it had behind the first effect is what was taken by then
   own_first : place_at (first_effect a asked).store.names dir ≡ own_place dir Now
   own_first = place_is Now (apart_all [] (λ u h. absurd h)) Itself dir (own_or_blank (first_effect a asked).store.names dir).place (goes.tells.place dir)
 
   dead_stays : (k : ℕ) → (own_place dir (took_behind a takes asked k)).live ≡ false
+      → IsStillThere (removed_then a asked) (own_place dir (took_behind a takes asked k))
       → place_at (first_effect a asked).store.names dir ≡ own_place dir (took_behind a takes asked k)
-  dead_stays k dead =
+  dead_stays k dead there =
       let us = take k (made_behind a asked) in
-      let P : List ℕ → Type 0 = λ gone. (own_place dir (passed_with gone (passed gone Now) us)).live ≡ false in
-      let Q : List ℕ → Type 0 = λ gone. own_place dir (passed_with gone (passed gone Now) us) ≡ own_place dir Now in
-      let same : own_place dir (took_behind a takes asked k) ≡ own_place dir Now =
-      subst Q (sym none)
-      (dead_behind dir is us Now (λ u h. live_made a asked u (among_take k (made_behind a asked) u h))
-      (apart_all us (λ u h. behind u (among_take k (made_behind a asked) u h))) (subst P none dead)) in
-      own_first ∙ sym same
+      own_first
+      ∙ sym (dead_behind dir is (removed_then a asked) us Now (λ u h. live_made a asked u (among_take k (made_behind a asked) u h))
+      (apart_all us (λ u h. behind u (among_take k (made_behind a asked) u h))) dead there)
 
 -- ---- of every run
 
@@ -104,7 +80,7 @@ module _ (n : ℕ) (all : (events : List Event) → StandsOn n (run n events)) w
 
   -- IN THE MIDST OF EVENTS
   pub dead_places : DeadPlacesStay n
-  dead_places events last s asked takes none i u h dir is dead =
+  dead_places events last s asked takes i u h dir is dead there =
       let w = run n events in
       let t : Taking = record { server = s; asked = asked } in
       let acts = acts_is n w last t takes in
@@ -114,5 +90,5 @@ module _ (n : ℕ) (all : (events : List Event) → StandsOn n (run n events)) w
       let a = w.stores s in
       let going : takes_effect a asked ≡ true = going_by a asked i (slice_get_within (made_behind a asked) i u h) (takes_effect a asked) refl in
       let goes = first_goes (of_run n w) a (w.took s) k.goes (ready_of n w on s at) (on.ids s acts.least acts.most) asked (input_of n w on s asked acts.came) going in
-      dead_stays a (w.took s) asked none goes _ (apart n w last s asked at acts.came on k (next_stands n all events last t takes))
-      (behind_in n w last s asked at acts.came on k) dir is i dead
+      dead_stays a (w.took s) asked goes _ (apart n w last s asked at acts.came on k (next_stands n all events last t takes))
+      (behind_in n w last s asked at acts.came on k) dir is i dead there

@@ -1,34 +1,25 @@
 -- What a server took is what came to it.
-use Rattle.std.proofs.Common.{◌≡◌, ◌≢◌, ℕ, Bool, true, false, cond, List, [], ◌∷◌, ◌++◌, map, Option, None, Some, ◌||◌, ◌⊎◌, inl, inr, refl, sym, ap, subst, ◌∙◌}
-use Rattle.std.proofs.lemmas.List.{map-append}
+use Rattle.std.proofs.Common.{◌≡◌, ◌≢◌, ℕ, Bool, true, false, List, [], ◌∷◌, Option, None, Some, ◌||◌, ◌⊎◌, inl, inr, refl, sym, ap, subst, ◌∙◌}
+use Rattle.std.proofs.lemmas.Option.{none-some, same_Some}
 use Rattle.pg_base.specs.declared.id.FileId.{FileId}
 use Rattle.pg_base.specs.Id.{is_same_file}
 use Rattle.pg_base.proofs.Orders.{is_same_file-refl, is_same_file-true}
 use Rattle.pg_content.specs.Content.{Among}
 use Rattle.pg_flood.proofs.Flood.{here}
-use Rattle.pg_msg.specs.declared.message.Sent.{Sent}
-use Rattle.pg_call.specs.declared.call.Call.{Call}
 use Rattle.pg_event.specs.declared.event.Event.{Event}
-use Rattle.pg_event.specs.declared.event.Event.TheVariants.{Call as Called, Tick, Deliver, Lose, Repeat, Restart, Remove}
-use Rattle.pg_event.specs.declared.entry.VoidCause.{VoidCause}
-use Rattle.pg_event.specs.declared.entry.VoidCause.TheVariants.{NoServer, Unbuilt}
-use Rattle.pg_store.specs.declared.store.Store.{Store}
-use Rattle.pg_calls.specs.Calls.{is_built}
 use Rattle.pg_server.specs.declared.input.Input.{Input}
-use Rattle.pg_server.specs.declared.input.Input.TheVariants as input
-use Rattle.pg_server.specs.Local.{effect, takes_effect}
+use Rattle.pg_server.specs.Local.{takes_effect}
 use Rattle.pg_house.specs.Facts.{is_among}
-use Rattle.pg_run.specs.Carried.{came}
-use Rattle.pg_run.specs.Journal.{bag, message_at}
-use Rattle.pg_run.specs.Took.{Take, held, is_held, take_of}
+use Rattle.pg_run.specs.Carried.{gone_in}
+use Rattle.pg_run.specs.Took.{Take, held, is_held, without_gone}
 use Rattle.pg_run.specs.Took.Taker.{Itself}
 use Rattle.pg_run.specs.Took.Take.{Began, TookFlag, TookPlace, TookVersion}
-use Rattle.pg_run.specs.Passed.{passed, passed_with}
-use Rattle.pg_run.specs.Run.{Step, Taking, World, bag_step, brought, delivery_step, effect_step, first_made, idle_step, is_server, made_behind, next, run_from, server_step, start, taking_at, taking_in, taking_message, took_after, world_after}
-use Rattle.pg_run.specs.Came.{Brings, CameFrom, TakesWhatCame, all_brought}
-use Rattle.pg_run.proofs.Lists.{among_back, among_front, among_parts}
-use Rattle.pg_run.proofs.Knowing.{Tells, Within, made_within, passed_within, tells_parts, told_itself, told_on, within_back, within_made, within_parts, within_passed, within_then}
-use Rattle.pg_run.proofs.Makes.{is_made_in_parts}
+use Rattle.pg_run.specs.Run.{Step, Taking, World, effect_step, next, run_from, start, taking_in, took_after, world_after}
+use Rattle.pg_run.specs.Came.{Brings, CameFrom, Leaves, NoneLeaves, TakesWhatCame, all_brought}
+use Rattle.pg_run.proofs.Knowing.{Tells}
+use Rattle.pg_run.proofs.Bringing.{gained_at, kept_at, told_at}
+use Rattle.pg_run.proofs.Frame.{IsFramed, framed}
+use Rattle.pg_run.proofs.Gone.{Is, Keeps, Loses, begun_kept, begun_lost, version_kept, version_lost}
 
 -- ---- the test whether a thing is among some
 
@@ -54,94 +45,6 @@ among_true file (f ∷ fs) k = elim k [
   | inr later ↦ or_later (is_same_file f file) (is_among file fs) (among_true file fs later)
 ]
 
--- ---- one input
-
--- what the first effect made is among what it brought
-first_brought : (store : Store) (asked : Input) (u : Take) → Among u (map take_of (first_made store asked)) → Among u (brought store asked)
-first_brought store asked u k = among_front u (map take_of (first_made store asked)) (came store asked) k
-
-module _ (store : Store) (takes : List Take) (asked : Input) where
-  abbrev Removed : List ℕ
-  Removed = store.names.removed
-
-  abbrev First : List Take
-  First = brought store asked ++ takes
-
-  abbrev Behind : List Take
-  Behind = map take_of (made_behind store asked)
-
-  abbrev End : List Take
-  End = passed_with Removed (passed Removed First) (made_behind store asked)
-
-  abbrev Made : List Take
-  Made = map take_of (effect store asked).out.made
-
-  abbrev All : List Take
-  All = all_brought store asked
-
-  made_parts : Made ≡ map take_of (first_made store asked) ++ Behind
-  made_parts = ap (map take_of) (is_made_in_parts store asked) ∙ map-append take_of (first_made store asked) (made_behind store asked)
-
-  behind_came : (u : Take) → Among u Behind → Among u All
-  behind_came u k =
-      among_back u (brought store asked) Made
-      (subst (λ (us : List Take). Among u us) (sym made_parts) (among_back u (map take_of (first_made store asked)) Behind k))
-
-  -- nothing else is known at the end
-  end_within : Within End (All ++ takes)
-  end_within =
-      within_then End (Behind ++ passed Removed First) (All ++ takes)
-      (made_within Removed (made_behind store asked) (passed Removed First))
-      (within_parts Behind (passed Removed First) (All ++ takes)
-      (λ u k. told_itself u (All ++ takes) (among_front u All takes (behind_came u k)))
-      (within_then (passed Removed First) First (All ++ takes) (passed_within Removed First)
-      (within_parts (brought store asked) takes (All ++ takes)
-      (λ u k. told_itself u (All ++ takes) (among_front u All takes (among_front u (brought store asked) Made k)))
-      (within_back All takes))))
-
-  -- and nothing is forgotten
-  first_within : Within First End
-  first_within =
-      within_then First (passed Removed First) End (within_passed Removed First)
-      (within_then (passed Removed First) (Behind ++ passed Removed First) End (within_back Behind (passed Removed First))
-      (within_made Removed (made_behind store asked) (passed Removed First)))
-
-  behind_within : Within Behind End
-  behind_within u k =
-      within_made Removed (made_behind store asked) (passed Removed First) u (among_front u Behind (passed Removed First) k)
-
-  brought_within : Within (brought store asked) End
-  brought_within u k = first_within u (among_front u (brought store asked) takes k)
-
-  came_within : Within All End
-  came_within =
-      within_parts (brought store asked) Made End brought_within
-      (λ u k. elim (among_parts u (map take_of (first_made store asked)) Behind (subst (λ (us : List Take). Among u us) made_parts k)) [
-        | inl first ↦ brought_within u (first_brought store asked u first)
-        | inr behind ↦ behind_within u behind
-      ])
-
-  old_within : Within takes End
-  old_within u k = first_within u (among_back u (brought store asked) takes k)
-
-  -- ---- where it takes effect
-
-  told_at : (u : Take) (t : Bool) → takes_effect store asked ≡ t → Tells (cond t End takes) u
-      → Tells takes u ⊎ ((takes_effect store asked ≡ true) × Tells All u)
-  told_at u false e told = inl told
-  told_at u true e told = elim (tells_parts u All takes (told_on End (All ++ takes) end_within u told)) [
-    | inl came ↦ inr (e, came)
-    | inr old ↦ inl old
-  ]
-
-  kept_at : (u : Take) (t : Bool) → Tells takes u → Tells (cond t End takes) u
-  kept_at u false told = told
-  kept_at u true told = told_on takes End old_within u told
-
-  gained_at : (u : Take) (t : Bool) → t ≡ true → Tells All u → Tells (cond t End takes) u
-  gained_at u true e told = told_on All End came_within u told
-  gained_at u false e told = absurd (let z : false ≡ true = e in cc)
-
 -- ---- one event
 
 module _ (n s : ℕ) where
@@ -156,35 +59,15 @@ module _ (n s : ℕ) where
       → TookBy w (Some (record { server = server; asked = asked })) (effect_step w event server asked)
   by_effect w event server asked = here w.took server (took_after (w.stores server) (w.took server) asked) s
 
-  by_server : (w : World) (event : Event) (server : ℕ) (asked : Input) (cause : Option VoidCause) (t : Bool)
-      → TookBy w (cond t (Some (record { server = server; asked = asked })) None) (cond t (effect_step w event server asked) (idle_step w event cause))
-  by_server w event server asked cause true = by_effect w event server asked
-  by_server w event server asked cause false = refl
-
-  by_call : (w : World) (server moment : ℕ) (call : Call) (t : Bool)
-      → TookBy w (cond t (taking_at n server (input.Call moment call)) None)
-      (cond t (server_step n w (Called server moment call) server (input.Call moment call)) (idle_step w (Called server moment call) (Some Unbuilt)))
-  by_call w server moment call true = by_server w (Called server moment call) server (input.Call moment call) (Some NoServer) (is_server n server)
-  by_call w server moment call false = refl
-
-  by_message : (w : World) (event : Event) (o : Option Sent) → TookBy w (taking_message n o) (delivery_step n w event o)
-  by_message w event None = refl
-  by_message w event (Some m) = by_server w event m.to (input.Arrival m.packet) None (is_server n m.to)
-
-  by_bag : (w : World) (event : Event) (o : Option Sent) → TookBy w None (bag_step w event o)
-  by_bag w event None = refl
-  by_bag w event (Some m) = refl
+  by_frame : (w : World) (event : Event) (o : Option Taking) (step : Step) → IsFramed n w event o step → TookBy w o step
+  by_frame w event None step f = ap (λ (z : Step). z.took s) f.1
+  by_frame w event (Some t) step f =
+      subst (TookBy w (Some t)) (sym f.1) (by_effect w event t.server t.asked)
 
   by_event : (w : World) (event : Event) → TookBy w (taking_in n w event) (next n w event)
-  by_event w (Called server moment call) = by_call w server moment call (is_built call)
-  by_event w (Tick server moment word) = by_server w (Tick server moment word) server (input.Tick moment word) (Some NoServer) (is_server n server)
-  by_event w (Deliver number) = by_message w (Deliver number) (message_at (bag w.journal) number)
-  by_event w (Lose number) = by_bag w (Lose number) (message_at (bag w.journal) number)
-  by_event w (Repeat number) = by_bag w (Repeat number) (message_at (bag w.journal) number)
-  by_event w (Restart server) = by_server w (Restart server) server input.Restart (Some NoServer) (is_server n server)
-  by_event w (Remove server) = refl
+  by_event w event = by_frame w event (taking_in n w event) (next n w event) (framed n w event)
 
-  module _ (u : Take) where
+  module _ (Of : FileId → Type 0) (u : Take) where
     abbrev Told : List Take → Type 0
     Told takes = Tells takes u
 
@@ -197,25 +80,73 @@ module _ (n s : ℕ) where
       holds = subst (λ (k : ℕ). Told (all_brought (w.stores k) t.asked)) (sym same) told;
     }
 
-    told_by : (w : World) (event : Event) (o : Option Taking) (step : Step) → taking_in n w event ≡ o → TookBy w o step
-        → Told (step.took s) → Told (w.took s) ⊎ Brings n w event s Told
-    told_by w event None step h took told = inl (subst Told took told)
-    told_by w event (Some t) step h took told = elim took [
+    -- ---- it was told before, and the replica stays
+
+    -- what is left at the server that takes an input
+    abbrev LeftAt : World → Taking → List Take
+    LeftAt w t = without_gone (gone_in (w.stores t.server) t.asked) (w.took t.server)
+
+    none_takes : (w : World) (event : Event) → taking_in n w event ≡ None → ¬ (Leaves n w event s Of)
+    none_takes w event h l = absurd (none-some _ (sym h ∙ l.takes))
+
+    other_takes : (w : World) (event : Event) (t : Taking) → taking_in n w event ≡ Some t → s ≢ t.server
+        → ¬ (Leaves n w event s Of)
+    other_takes w event t h other l =
+        other (sym (ap (λ (x : Taking). x.server) (same_Some t (record { server = s; asked = l.asked }) (sym h ∙ l.takes))))
+
+    stays_there : Loses Of u → (w : World) (event : Event) (t : Taking) → taking_in n w event ≡ Some t
+        → (takes_effect (w.stores t.server) t.asked ≡ true → Told (LeftAt w t)) → ¬ (Leaves n w event s Of)
+    stays_there loses w event t h left l =
+        let same : t ≡ record { server = s; asked = l.asked } = same_Some t _ (sym h ∙ l.takes) in
+        let going : takes_effect (w.stores t.server) t.asked ≡ true =
+        ap (λ (x : Taking). takes_effect (w.stores x.server) x.asked) same ∙ l.going in
+        let gone : gone_in (w.stores t.server) t.asked ≡ Some l.file =
+        ap (λ (x : Taking). gone_in (w.stores x.server) x.asked) same ∙ l.gone in
+        loses l.file l.of (w.took t.server)
+        (subst (λ (o : Option FileId). Told (without_gone o (w.took t.server))) gone (left going))
+
+    told_by : Loses Of u → (w : World) (event : Event) (o : Option Taking) (step : Step) → taking_in n w event ≡ o → TookBy w o step
+        → Told (step.took s) → (Told (w.took s) × ¬ (Leaves n w event s Of)) ⊎ Brings n w event s Told
+    told_by loses w event None step h took told = inl (subst Told took told, none_takes w event h)
+    told_by loses w event (Some t) step h took told = elim took [
       | inl at ↦ (
           let r = told_at (w.stores t.server) (w.took t.server) t.asked u (takes_effect (w.stores t.server) t.asked) refl (subst Told at.1 told) in
           elim r [
-            | inl old ↦ inl (subst (λ (k : ℕ). Told (w.took k)) (sym at.0) old)
+            | inl old ↦ inl (subst (λ (k : ℕ). Told (w.took k)) (sym at.0) old.0, stays_there loses w event t h old.1)
             | inr new ↦ inr (brings_here w event t h at.0 new.0 new.1)
           ])
-      | inr other ↦ inl (subst Told other.1 told)
+      | inr other ↦ inl (subst Told other.1 told, other_takes w event t h other.0)
     ]
 
-    kept_by : (w : World) (o : Option Taking) (step : Step) → TookBy w o step → Told (w.took s) → Told (step.took s)
-    kept_by w None step took told = subst Told (sym took) told
-    kept_by w (Some t) step took told = elim took [
-      | inl at ↦ subst Told (sym at.1)
-          (kept_at (w.stores t.server) (w.took t.server) t.asked u (takes_effect (w.stores t.server) t.asked)
-          (subst (λ (k : ℕ). Told (w.took k)) at.0 told))
+    -- ---- and so it is told then
+
+    leaves_here : (w : World) (event : Event) (t : Taking) → taking_in n w event ≡ Some t → s ≡ t.server
+        → takes_effect (w.stores t.server) t.asked ≡ true → (file : FileId) → gone_in (w.stores t.server) t.asked ≡ Some file
+        → Of file → Leaves n w event s Of
+    leaves_here w event t h same going file gone of = record {
+      asked = t.asked;
+      takes = h ∙ ap (λ (k : ℕ). Some (record { server = k; asked = t.asked })) (sym same);
+      going = subst (λ (k : ℕ). takes_effect (w.stores k) t.asked ≡ true) (sym same) going;
+      file = file;
+      gone = subst (λ (k : ℕ). gone_in (w.stores k) t.asked ≡ Some file) (sym same) gone;
+      of = of;
+    }
+
+    left_by : Keeps Of u → (takes : List Take) (o : Option FileId) → ((file : FileId) → o ≡ Some file → ¬ (Of file)) → Told takes
+        → Told (without_gone o takes)
+    left_by keeps takes None others told = told
+    left_by keeps takes (Some file) others told = keeps file (others file refl) takes told
+
+    kept_by : Keeps Of u → (w : World) (event : Event) (o : Option Taking) (step : Step) → taking_in n w event ≡ o → TookBy w o step
+        → Told (w.took s) → ¬ (Leaves n w event s Of) → Told (step.took s)
+    kept_by keeps w event None step h took told stays = subst Told (sym took) told
+    kept_by keeps w event (Some t) step h took told stays = elim took [
+      | inl at ↦ (
+          let there : Told (w.took t.server) = subst (λ (k : ℕ). Told (w.took k)) at.0 told in
+          subst Told (sym at.1)
+          (kept_at (w.stores t.server) (w.took t.server) t.asked u (takes_effect (w.stores t.server) t.asked) refl there
+          (λ going. left_by keeps (w.took t.server) (gone_in (w.stores t.server) t.asked)
+          (λ file gone of. stays (leaves_here w event t h at.0 going file gone of)) there)))
       | inr other ↦ subst Told (sym other.1) told
     ]
 
@@ -229,30 +160,46 @@ module _ (n s : ℕ) where
 
     -- ---- any events
 
-    came_from : (events : List Event) (w : World) → Told ((run_from n w events).took s) → Told (w.took s) ⊎ CameFrom n w events s Told
-    came_from [] w told = inl told
-    came_from (event ∷ events) w told =
-        let step = next n w event in
-        elim (came_from events (world_after w step) told) [
-          | inl at ↦ elim (told_by w event (taking_in n w event) step refl (by_event w event) at) [
-            | inl old ↦ inl old
-            | inr new ↦ inr (inl new)
-          ]
-          | inr later ↦ inr (inr later)
-        ]
+    abbrev Since : World → List Event → List Take → Type 0
+    Since w events takes = (Told takes × NoneLeaves n w events s Of) ⊎ CameFrom n w events s Of Told
 
-    from_came : (events : List Event) (w : World) → Told (w.took s) ⊎ CameFrom n w events s Told → Told ((run_from n w events).took s)
-    from_came [] w told = elim told [ inl old ↦ old | inr none ↦ absurd none ]
-    from_came (event ∷ events) w told =
-        let step = next n w event in
-        from_came events (world_after w step)
-        (elim told [
-          | inl old ↦ inl (kept_by w (taking_in n w event) step (by_event w event) old)
-          | inr came ↦ elim came [
-            | inl now ↦ inl (gained_by w event step (by_event w event) now)
-            | inr later ↦ inr later
-          ]
-        ])
+    -- one event more before these
+    told_first : Loses Of u → (event : Event) (events : List Event) (w : World)
+        → Since (world_after w (next n w event)) events ((next n w event).took s) → Since w (event ∷ events) (w.took s)
+    told_first loses event events w since = elim since [
+      | inl at ↦ elim (told_by loses w event (taking_in n w event) (next n w event) refl (by_event w event) at.0) [
+        | inl old ↦ inl (old.0, (old.1, at.1))
+        | inr new ↦ inr (inl (new, at.1))
+      ]
+      | inr later ↦ inr (inr later)
+    ]
+
+    came_from : Loses Of u → (events : List Event) (w : World) → Told ((run_from n w events).took s) → Since w events (w.took s)
+    came_from loses [] w told = inl (told, tt)
+    came_from loses (event ∷ events) w told =
+        told_first loses event events w (came_from loses events (world_after w (next n w event)) told)
+
+    first_told : Keeps Of u → (event : Event) (events : List Event) (w : World) → Told (w.took s) → ¬ (Leaves n w event s Of)
+        → NoneLeaves n (world_after w (next n w event)) events s Of
+        → Since (world_after w (next n w event)) events ((next n w event).took s)
+    first_told keeps event events w old stays none =
+        inl (kept_by keeps w event (taking_in n w event) (next n w event) refl (by_event w event) old stays, none)
+
+    first_brings : (event : Event) (events : List Event) (w : World) → Brings n w event s Told
+        → NoneLeaves n (world_after w (next n w event)) events s Of
+        → Since (world_after w (next n w event)) events ((next n w event).took s)
+    first_brings event events w now none = inl (gained_by w event (next n w event) (by_event w event) now, none)
+
+    since_next : Keeps Of u → (event : Event) (events : List Event) (w : World) → Since w (event ∷ events) (w.took s)
+        → Since (world_after w (next n w event)) events ((next n w event).took s)
+    since_next keeps event events w (inl (old, (stays, none))) = first_told keeps event events w old stays none
+    since_next keeps event events w (inr (inl (now, none))) = first_brings event events w now none
+    since_next keeps event events w (inr (inr later)) = inr later
+
+    from_came : Keeps Of u → (events : List Event) (w : World) → Since w events (w.took s) → Told ((run_from n w events).took s)
+    from_came keeps [] w since = elim since [ inl old ↦ old.0 | inr none ↦ absurd none ]
+    from_came keeps (event ∷ events) w since =
+        from_came keeps events (world_after w (next n w event)) (since_next keeps event events w since)
 
 -- ---- what is held, as a test
 
@@ -260,56 +207,64 @@ module _ (n s : ℕ) (file : FileId) where
   abbrev IsHeldIn : List Take → Type 0
   IsHeldIn takes = is_held file takes ≡ true
 
-  held_told : (takes : List Take) → IsHeldIn takes → Tells takes (Began file)
+  abbrev Begun : List Take → Type 0
+  Begun takes = Tells takes (Began file)
+
+  held_told : (takes : List Take) → IsHeldIn takes → Begun takes
   held_told takes h = true_among file (held takes) h
 
-  told_held : (takes : List Take) → Tells takes (Began file) → IsHeldIn takes
+  told_held : (takes : List Take) → Begun takes → IsHeldIn takes
   told_held takes k = among_true file (held takes) k
 
-  held_brings : (w : World) (event : Event) → Brings n w event s (λ takes. Tells takes (Began file)) → Brings n w event s IsHeldIn
-  held_brings w event b = record { asked = b.asked; takes = b.takes; going = b.going; holds = told_held (all_brought (w.stores s) b.asked) b.holds }
+  -- what each brings, said in another way
+  module _ (P Q : List Take → Type 0) (so : (takes : List Take) → P takes → Q takes) where
+    brings_so : (w : World) (event : Event) → Brings n w event s P → Brings n w event s Q
+    brings_so w event b = record { asked = b.asked; takes = b.takes; going = b.going; holds = so (all_brought (w.stores s) b.asked) b.holds }
 
-  told_brings : (w : World) (event : Event) → Brings n w event s IsHeldIn → Brings n w event s (λ takes. Tells takes (Began file))
-  told_brings w event b = record { asked = b.asked; takes = b.takes; going = b.going; holds = held_told (all_brought (w.stores s) b.asked) b.holds }
+    from_so : (w : World) (events : List Event) → CameFrom n w events s (Is file) P → CameFrom n w events s (Is file) Q
+    from_so w [] k = k
+    from_so w (event ∷ events) (inl (now, none)) = inl (brings_so w event now, none)
+    from_so w (event ∷ events) (inr later) = inr (from_so (world_after w (next n w event)) events later)
 
-  held_from : (w : World) (events : List Event) → CameFrom n w events s (λ takes. Tells takes (Began file)) → CameFrom n w events s IsHeldIn
-  held_from w [] k = k
-  held_from w (event ∷ events) k = elim k [
-    | inl now ↦ inl (held_brings w event now)
-    | inr later ↦ inr (held_from (world_after w (next n w event)) events later)
-  ]
-
-  told_from : (w : World) (events : List Event) → CameFrom n w events s IsHeldIn → CameFrom n w events s (λ takes. Tells takes (Began file))
-  told_from w [] k = k
-  told_from w (event ∷ events) k = elim k [
-    | inl now ↦ inl (told_brings w event now)
-    | inr later ↦ inr (told_from (world_after w (next n w event)) events later)
-  ]
+    since_so : (events : List Event) → (P ((start n).took s) × NoneLeaves n (start n) events s (Is file)) ⊎ CameFrom n (start n) events s (Is file) P
+        → (Q ((start n).took s) × NoneLeaves n (start n) events s (Is file)) ⊎ CameFrom n (start n) events s (Is file) Q
+    since_so events k = elim k [
+      | inl old ↦ inl (so ((start n).took s) old.0, old.1)
+      | inr came ↦ inr (from_so (start n) events came)
+    ]
 
   began : (events : List Event) → IsHeldIn ((run_from n (start n) events).took s)
-      → IsHeldIn ((start n).took s) ⊎ CameFrom n (start n) events s IsHeldIn
-  began events h = elim (came_from n s (Began file) events (start n) (held_told ((run_from n (start n) events).took s) h)) [
-    | inl old ↦ inl (told_held ((start n).took s) old)
-    | inr came ↦ inr (held_from (start n) events came)
-  ]
+      → (IsHeldIn ((start n).took s) × NoneLeaves n (start n) events s (Is file)) ⊎ CameFrom n (start n) events s (Is file) IsHeldIn
+  began events h =
+      since_so Begun IsHeldIn told_held events
+      (came_from n s (Is file) (Began file) (begun_lost file) events (start n) (held_told ((run_from n (start n) events).took s) h))
 
-  from_begun : (events : List Event) → IsHeldIn ((start n).took s) ⊎ CameFrom n (start n) events s IsHeldIn
+  from_begun : (events : List Event) → (IsHeldIn ((start n).took s) × NoneLeaves n (start n) events s (Is file)) ⊎ CameFrom n (start n) events s (Is file) IsHeldIn
       → IsHeldIn ((run_from n (start n) events).took s)
   from_begun events h =
       told_held ((run_from n (start n) events).took s)
-      (from_came n s (Began file) events (start n)
-      (elim h [
-        | inl old ↦ inl (held_told ((start n).took s) old)
-        | inr came ↦ inr (told_from (start n) events came)
-      ]))
+      (from_came n s (Is file) (Began file) (begun_kept file) events (start n) (since_so IsHeldIn Begun held_told events h))
+
+-- whatever goes, and as long as nothing does
+abbrev Nothing : FileId → Type 0
+Nothing file = ⊥
+
+abbrev Any : FileId → Type 0
+Any file = Unit {0}
 
 pub takes_what_came : (n : ℕ) → TakesWhatCame n
 takes_what_came n events s = record {
   began = λ file. (began n s file events, from_begun n s file events);
   places = λ thing place.
-      (came_from n s (TookPlace Itself thing place) events (start n), from_came n s (TookPlace Itself thing place) events (start n));
+      came_from n s Nothing (TookPlace Itself thing place) (λ file of takes told. absurd of) events (start n);
+  places_kept = λ thing place.
+      from_came n s Any (TookPlace Itself thing place) (λ file none takes told. absurd (none tt)) events (start n);
   flags = λ thing flag.
-      (came_from n s (TookFlag Itself thing flag) events (start n), from_came n s (TookFlag Itself thing flag) events (start n));
-  versions = λ file stamp.
-      (came_from n s (TookVersion file stamp) events (start n), from_came n s (TookVersion file stamp) events (start n));
+      came_from n s Nothing (TookFlag Itself thing flag) (λ file of takes told. absurd of) events (start n);
+  flags_kept = λ thing flag.
+      from_came n s Any (TookFlag Itself thing flag) (λ file none takes told. absurd (none tt)) events (start n);
+  versions = λ file stamp. (
+    came_from n s (Is file) (TookVersion file stamp) (version_lost file stamp) events (start n),
+    from_came n s (Is file) (TookVersion file stamp) (version_kept file stamp) events (start n),
+  );
 }

@@ -1,23 +1,23 @@
 -- An event of a run: one server of the run takes an input, or all but the entry is as it was. What
 -- holds at the start, and outlives both, holds in every run.
-use Rattle.std.proofs.Common.{[], ℕ, ◌≡◌, ◌≢◌, ◌≤◌, Bool, true, false, cond, List, ◌∷◌, ◌++◌, Option, None, Some, inl, inr, refl, sym, ap, subst, ◌∙◌, All}
-use Rattle.std.specs.Prelude.{Contains, nat_le}
+use Rattle.std.proofs.Common.{[], ℕ, ◌≡◌, ◌==◌, ◌≢◌, ◌≤◌, Bool, true, false, cond, List, ◌∷◌, ◌++◌, Option, None, Some, inl, inr, refl, sym, ap, subst, ◌∙◌, All}
+use Rattle.std.specs.Prelude.{Contains, nat_le, not}
 use Rattle.std.proofs.lemmas.Bool.{and_parts, leb-true}
-use Rattle.std.proofs.lemmas.List.Elements.{All-append, All-cons, All-contains_itself, All-head, All-nil, All-tail}
+use Rattle.std.proofs.lemmas.List.Elements.{All-append, All-cons, All-contains_itself, All-filter, All-head, All-nil, All-tail}
 use Rattle.pg_msg.specs.declared.message.Sent.{Sent}
 use Rattle.pg_call.specs.declared.call.Call.{Call}
 use Rattle.pg_event.specs.declared.entry.Entry.{Entry}
 use Rattle.pg_event.specs.declared.entry.VoidCause.{VoidCause}
-use Rattle.pg_event.specs.declared.entry.VoidCause.TheVariants.{NoMessage, NoServer, Unbuilt}
+use Rattle.pg_event.specs.declared.entry.VoidCause.TheVariants.{Last, NoMessage, Unremoved}
 use Rattle.pg_event.specs.declared.event.Event.{Event}
 use Rattle.pg_event.specs.declared.event.Event.TheVariants.{Call as Called, Tick, Deliver, Lose, Repeat, Restart, Remove}
 use Rattle.pg_flood.specs.World.{after}
 use Rattle.pg_flood.proofs.Flood.{after_itself, here}
-use Rattle.pg_calls.specs.Calls.{is_built}
+use Rattle.pg_register.specs.Flag.{is_removed}
 use Rattle.pg_server.specs.declared.input.Input.{Input}
 use Rattle.pg_server.specs.declared.input.Input.TheVariants as input
-use Rattle.pg_run.specs.Journal.{bag, bag_after, mail, message_at}
-use Rattle.pg_run.specs.Run.{Step, Taking, World, bag_step, delivery_step, effect_step, idle_step, is_server, next, run, run_from, server_step, start, taking_at, taking_in, taking_message, world_after}
+use Rattle.pg_run.specs.Journal.{bag, bag_after, bag_behind, mail, message_at, removals, to_live}
+use Rattle.pg_run.specs.Run.{Step, Taking, World, bag_step, delivery_step, effect_step, given_step, idle_step, is_due, is_last, is_live, is_server, next, run, run_from, start, taking_in, taking_message, why_void, world_after}
 use Rattle.pg_run.proofs.Bags.{at_message, left_copied, left_without}
 
 -- ---- what is under way was sent once
@@ -29,17 +29,26 @@ all_parts P (m ∷ ms) ns h =
     let rest = all_parts P ms ns (All-tail P m (ms ++ ns) h) in
     (All-cons P m ms (All-head P m (ms ++ ns) h) rest.0, rest.1)
 
-module _ (P : Sent → Type 0) (ms : List Sent) (sent : List Sent) (old : All P ms) (new : All P sent) where
-  under_way_after : (event : Event) → All P (bag_after ms event sent)
-  under_way_after (Called server moment call) = All-append P ms sent old new
-  under_way_after (Tick server moment word) = All-append P ms sent old new
+module _ (P : Sent → Type 0) (removed : List ℕ) (ms : List Sent) (void : Option VoidCause) (sent : List Sent)
+    (old : All P ms) (new : All P sent) where
+  -- of what is sent, what goes to live servers
+  live : All P (to_live removed sent)
+  live = All-filter (λ m. not (is_removed removed m.to)) P sent new
+
+  left_behind : (server : ℕ) (o : Option VoidCause) → All P (bag_behind ms server o)
+  left_behind server None = All-filter (λ m. not (m.to == server)) P ms old
+  left_behind server (Some cause) = old
+
+  under_way_after : (event : Event) → All P (bag_after removed ms event void sent)
+  under_way_after (Called server moment call) = All-append P ms (to_live removed sent) old live
+  under_way_after (Tick server moment word) = All-append P ms (to_live removed sent) old live
   under_way_after (Deliver number) =
-      All-append P _ sent (left_without P ms number (message_at ms number) old) new
+      All-append P _ (to_live removed sent) (left_without P ms number (message_at ms number) old) live
   under_way_after (Lose number) = left_without P ms number (message_at ms number) old
   under_way_after (Repeat number) =
       left_copied P ms (message_at ms number) old (λ m is. at_message P ms number m old is)
-  under_way_after (Restart server) = All-append P ms sent old new
-  under_way_after (Remove server) = old
+  under_way_after (Restart server) = All-append P ms (to_live removed sent) old live
+  under_way_after (Remove server) = left_behind server void
 
 -- what holds of all messages ever sent holds of those under way
 pub all_under_way : (P : Sent → Type 0) (journal : List Entry) → All P (mail journal)
@@ -47,7 +56,7 @@ pub all_under_way : (P : Sent → Type 0) (journal : List Entry) → All P (mail
 all_under_way P [] h = h
 all_under_way P (entry ∷ earlier) h =
     let parts = all_parts P entry.sent (mail earlier) h in
-    under_way_after P (bag earlier) entry.sent (all_under_way P earlier parts.1) parts.0 entry.event
+    under_way_after P (removals earlier) (bag earlier) entry.void entry.sent (all_under_way P earlier parts.1) parts.0 entry.event
 
 -- the message with a number was sent
 pub was_sent : (journal : List Entry) (number : ℕ) (m : Sent)
@@ -65,11 +74,35 @@ HasCome w s (input.Tick moment word) = Unit {0}
 HasCome w s (input.Arrival packet) = Contains (mail w.journal) (record { to = s; packet = packet })
 HasCome w s input.Restart = Unit {0}
 
--- a server of the run takes an input
+-- a giveup that a server takes is of a server that was removed so
+abbrev pub WasDue : World → Input → Type 0
+WasDue w (input.Call moment call) = is_due (removals w.journal) call ≡ true
+WasDue w _ = Unit {0}
+
+-- a server of the run that is not removed takes an input
 pub record Acts (n : ℕ) (w : World) (t : Taking) : Type 0 where
   pub least : 1 ≤ t.server
   pub most : t.server ≤ n
+  pub live : is_removed (removals w.journal) t.server ≡ false
   pub came : HasCome w t.server t.asked
+  pub due : WasDue w t.asked
+
+-- what a live server is
+pub record IsLive (n : ℕ) (w : World) (s : ℕ) : Type 0 where
+  pub least : 1 ≤ s
+  pub most : s ≤ n
+  pub live : is_removed (removals w.journal) s ≡ false
+
+not_removed : (t : Bool) → not t ≡ true → t ≡ false
+not_removed true h = absurd (let z : false ≡ true = h in cc)
+not_removed false h = refl
+
+pub live_is : (n : ℕ) (w : World) (s : ℕ) → is_live n w s ≡ true → IsLive n w s
+live_is n w s h =
+    let gone = is_removed (removals w.journal) s in
+    let parts = and_parts (is_server n s) (not gone) h in
+    let ends = and_parts (nat_le 1 s) (nat_le s n) parts.0 in
+    record { least = leb-true 1 s ends.0; most = leb-true s n ends.1; live = not_removed gone parts.1 }
 
 -- what comes of an event in which this is taken, or nothing
 abbrev pub IsFramed : ℕ → World → Event → Option Taking → Step → Type 0
@@ -77,49 +110,60 @@ IsFramed n w event None step = (cause : Option VoidCause) × (step ≡ idle_step
 IsFramed n w event (Some t) step = Acts n w t × (step ≡ effect_step w event t.server t.asked)
 
 module _ (n : ℕ) (w : World) (event : Event) where
-  by_server : (s : ℕ) (asked : Input) (cause : Option VoidCause) → HasCome w s asked
-      → (t : Bool) → is_server n s ≡ t
+  by_server : (s : ℕ) (asked : Input) (cause : Option VoidCause) → HasCome w s asked → WasDue w asked
+      → (t : Bool) → is_live n w s ≡ t
       → IsFramed n w event (cond t (Some (record { server = s; asked = asked })) None)
       (cond t (effect_step w event s asked) (idle_step w event cause))
-  by_server s asked cause came true is =
-      let parts = and_parts (nat_le 1 s) (nat_le s n) is in
-      (record { least = leb-true 1 s parts.0; most = leb-true s n parts.1; came = came }, refl)
-  by_server s asked cause came false is = (cause, refl)
+  by_server s asked cause came due true is =
+      let live = live_is n w s is in
+      (record { least = live.least; most = live.most; live = live.live; came = came; due = due }, refl)
+  by_server s asked cause came due false is = (cause, refl)
 
   by_message : (o : Option Sent) → ((m : Sent) → o ≡ Some m → Contains (mail w.journal) m)
-      → IsFramed n w event (taking_message n o) (delivery_step n w event o)
+      → IsFramed n w event (taking_message n w o) (delivery_step n w event o)
   by_message None sent = (Some NoMessage, refl)
   by_message (Some m) sent =
-      by_server m.to (input.Arrival m.packet) None (sent m refl) (is_server n m.to) refl
+      by_server m.to (input.Arrival m.packet) None (sent m refl) tt (is_live n w m.to) refl
 
   by_bag : (o : Option Sent) → IsFramed n w event None (bag_step w event o)
   by_bag None = (Some NoMessage, refl)
   by_bag (Some m) = (None, refl)
 
-by_call : (n : ℕ) (w : World) (s moment : ℕ) (call : Call) (t : Bool)
-    → IsFramed n w (Called s moment call) (cond t (taking_at n s (input.Call moment call)) None)
-    (cond t (server_step n w (Called s moment call) s (input.Call moment call))
-    (idle_step w (Called s moment call) (Some Unbuilt)))
-by_call n w s moment call true =
-    by_server n w (Called s moment call) s (input.Call moment call) (Some NoServer) tt (is_server n s)
-    refl
-by_call n w s moment call false = (Some Unbuilt, refl)
+by_call : (n : ℕ) (w : World) (s moment : ℕ) (call : Call) (t u : Bool) → is_live n w s ≡ t
+    → is_due (removals w.journal) call ≡ u
+    → IsFramed n w (Called s moment call)
+    (cond u (cond t (Some (record { server = s; asked = input.Call moment call })) None) None)
+    (cond t (given_step w (Called s moment call) s (input.Call moment call) u)
+    (idle_step w (Called s moment call) (Some (why_void n s))))
+by_call n w s moment call true true is due =
+    by_server n w (Called s moment call) s (input.Call moment call) None tt due true is
+by_call n w s moment call true false is due = (Some Unremoved, refl)
+by_call n w s moment call false true is due = (Some (why_void n s), refl)
+by_call n w s moment call false false is due = (Some (why_void n s), refl)
+
+by_removal : (n : ℕ) (w : World) (s : ℕ) (t : Bool)
+    → IsFramed n w (Remove s) None
+    (cond t (idle_step w (Remove s) (cond (is_last n w) (Some Last) None))
+    (idle_step w (Remove s) (Some (why_void n s))))
+by_removal n w s true = (cond (is_last n w) (Some Last) None, refl)
+by_removal n w s false = (Some (why_void n s), refl)
 
 -- THE FRAME of an event
 pub framed : (n : ℕ) (w : World) (event : Event)
     → IsFramed n w event (taking_in n w event) (next n w event)
-framed n w (Called s moment call) = by_call n w s moment call (is_built call)
+framed n w (Called s moment call) =
+    by_call n w s moment call (is_live n w s) (is_due (removals w.journal) call) refl refl
 framed n w (Tick s moment word) =
-    by_server n w (Tick s moment word) s (input.Tick moment word) (Some NoServer) tt (is_server n s)
-    refl
+    by_server n w (Tick s moment word) s (input.Tick moment word) (Some (why_void n s)) tt tt
+    (is_live n w s) refl
 framed n w (Deliver number) =
     by_message n w (Deliver number) (message_at (bag w.journal) number)
     (λ m is. was_sent w.journal number m is)
 framed n w (Lose number) = by_bag n w (Lose number) (message_at (bag w.journal) number)
 framed n w (Repeat number) = by_bag n w (Repeat number) (message_at (bag w.journal) number)
 framed n w (Restart s) =
-    by_server n w (Restart s) s input.Restart (Some NoServer) tt (is_server n s) refl
-framed n w (Remove s) = (Some Unbuilt, refl)
+    by_server n w (Restart s) s input.Restart (Some (why_void n s)) tt tt (is_live n w s) refl
+framed n w (Remove s) = by_removal n w s (is_live n w s)
 
 -- where a server takes an input, that is what the event does
 pub next_is : (n : ℕ) (w : World) (event : Event) (t : Taking) → taking_in n w event ≡ Some t

@@ -1,10 +1,13 @@
--- What an input puts last: nothing but walks. A tick begins one, and one that comes may be passed on.
-use Rattle.std.proofs.Common.{[], ℕ, ◌≡◌, ◌==◌, ◌/◌, ◌-◌, ◌%◌, Bool, true, false, cond, List, ◌∷◌, ◌++◌, length, slice_get, Option, Some, None, refl, sym, subst, All}
-use Rattle.std.specs.Prelude.{Contains}
-use Rattle.std.specs.List.{filter}
-use Rattle.std.proofs.lemmas.List.Elements.{All-cons, All-contains_itself, All-filter, All-nil, All-weaker}
-use Rattle.std.proofs.lemmas.Option.{get_or_from_slice_get, slice_get_within}
+-- What an input puts last: nothing but walks, and invites. A tick begins a walk, and one that comes may
+-- be passed on; and a server that gives another one up invites.
+use Rattle.std.proofs.Common.{[], ℕ, ◌≡◌, ◌==◌, ◌/◌, ◌-◌, ◌%◌, Bool, true, false, cond, List, ◌∷◌, ◌++◌, length, slice_get, Option, Some, None, ◌⊎◌, inl, inr, refl, sym, subst, All}
+use Rattle.std.specs.Prelude.{Contains, Err, Ok, Result, not}
+use Rattle.std.specs.List.{filter, find}
+use Rattle.std.specs.Map.{keys_of}
+use Rattle.std.proofs.lemmas.List.Elements.{All-cons, All-contains_itself, All-filter, All-nil, All-push, All-weaker}
+use Rattle.std.proofs.lemmas.Option.{get_or_from_slice_get, none-some, same_Some, slice_get_within}
 use Rattle.pg_base.specs.declared.id.FileId.{FileId}
+use Rattle.pg_content.specs.Content.{Among}
 use Rattle.pg_edges.specs.declared.edge.Edge.{Edge}
 use Rattle.pg_msg.specs.declared.message.Ends.{Ends}
 use Rattle.pg_msg.specs.declared.message.Message.{Message}
@@ -22,12 +25,23 @@ use Rattle.pg_cells.specs.Posting.{sent_to}
 use Rattle.pg_repair.specs.Fetching.{ends_to, fetch}
 use Rattle.pg_cells.specs.Cells.{cell}
 use Rattle.pg_repair.specs.Confirming.{confirm, place_is}
-use Rattle.pg_repair.specs.Filling.{full}
+use Rattle.pg_repair.specs.Filling.{full, invite}
+use Rattle.pg_repair.specs.Inviting.{first_loose, invite_along, invite_each, invite_of, invites, loose_edge}
 use Rattle.pg_repair.specs.Granting.{grant}
 use Rattle.pg_graph.specs.Seeking.{seek}
 use Rattle.pg_repair.specs.Telling.{tell}
+use Rattle.pg_call.specs.declared.call.Call.{Call}
+use Rattle.pg_call.specs.declared.call.Call.TheVariants as call
+use Rattle.pg_call.specs.declared.reply.Reply.TheVariants as reply
+use Rattle.pg_walk.specs.declared.paths.Stop.{Stop}
+use Rattle.pg_store.specs.Views.{enter}
+use Rattle.pg_names.specs.declared.own.Own.{Own}
+use Rattle.pg_names.specs.Names.{own_at}
+use Rattle.pg_calls.specs.Answer.{Answer, answer, answered, told}
 use Rattle.pg_calls.specs.Calls.{do_call}
-use Rattle.pg_graph.specs.Seeks.{edges_of}
+use Rattle.pg_calls.specs.GivingUp.{doubt_all, enter_view, removal_at}
+use Rattle.pg_graph.specs.Seeks.{edges_of, matches}
+use Rattle.pg_graph.specs.Leaving.{leave, leave_ok}
 use Rattle.pg_graph.specs.Walks.{goes_on, is_onward, meet_origin, onward, walk, walk_along, walk_from, walk_of, walk_on, walked, with_few_edges}
 use Rattle.pg_server.specs.declared.input.Input.{Input}
 use Rattle.pg_server.specs.declared.input.Input.TheVariants as input
@@ -35,7 +49,9 @@ use Rattle.pg_server.specs.Local.{first_effect, is_heard, receive, sent_again}
 use Rattle.pg_promises.proofs.Choices.{chosen, decided}
 use Rattle.pg_run.specs.Ticks.{HasFewEdges}
 use Rattle.pg_run.proofs.Walks.{again_is, at_among, few_there, tick_walks}
-use Rattle.pg_run.proofs.Tails.{accept_same, call_same, cell_same, confirm_same, fetch_same, full_same, grant_same, link_same, place_is_same, seek_same, tell_same}
+use Rattle.pg_run.proofs.Lists.{among_contained}
+use Rattle.pg_run.proofs.Tails.{accept_same, cell_same, confirm_same, fetch_same, full_same, grant_same, invite_same, leave_ok_same, leave_same, link_same, place_is_same, seek_same, tell_same}
+use Rattle.pg_run.proofs.TailsOfCalls.{answered_same, call_same}
 
 -- ---- walks
 
@@ -54,15 +70,28 @@ IsPassedOn a from (message.Walk ends origin birth hops word) m =
     × IsWalkOf a ends.file origin birth m
 IsPassedOn a from _ m = ⊥
 
--- what goes last is a walk: a tick begins one of a replica with few edges, which names that as its
--- origin, and one that comes is passed on
-abbrev pub IsWalkSent : Store → Input → Sent → Type 0
-IsWalkSent a (input.Call moment call) m = ⊥
-IsWalkSent a (input.Tick moment word) m =
+-- an invite to the peer of an edge of a thing here
+pub record IsInvite (a : Store) (m : Sent) : Type 0 where
+  pub file : FileId
+  pub edge : Edge
+  pub among : Contains (edges_of a file) edge
+  pub whole : m ≡ sent_to a edge.peer (message.Invite (ends_to a file edge.birth))
+
+-- a call that gives a server up, where it is not refused, invites in the view that it enters
+abbrev pub IsInvited : Store → Call → Sent → Type 0
+IsInvited a (call.Giveup view server) m =
+    (removal_at a view server ≡ Ok (tt {0})) × IsInvite (enter a server) m
+IsInvited a _ m = ⊥
+
+-- what goes last is an invite, or a walk: a tick begins one of a replica with few edges, which names that
+-- as its origin, and one that comes is passed on
+abbrev pub GoesLast : Store → Input → Sent → Type 0
+GoesLast a (input.Call moment call) m = IsInvited a call m
+GoesLast a (input.Tick moment word) m =
     (file : FileId) × HasFewEdges a file × IsWalkOf a file a.names.server (birth_of a file) m
-IsWalkSent a (input.Arrival packet) m =
+GoesLast a (input.Arrival packet) m =
     (is_heard a packet ≡ true) × IsPassedOn a packet.from packet.message m
-IsWalkSent a input.Restart m = ⊥
+GoesLast a input.Restart m = ⊥
 
 nothing : (Q : Sent → Type 0) (ms : List Sent) → ms ≡ [] → All Q ms
 nothing Q ms none = subst (All Q) (sym none) (All-nil Q)
@@ -138,15 +167,70 @@ module _ (a : Store) (from : ℕ) where
   receive_has (message.Confirm dir e) = none_last (message.Confirm dir e) (confirm a dir e Fresh).work (confirm_same a dir e Fresh)
   receive_has (message.PlaceIs dir e) = none_last (message.PlaceIs dir e) (place_is a dir e Fresh).work (place_is_same a dir e Fresh)
   receive_has (message.Tell dir e) = none_last (message.Tell dir e) (tell a dir e Fresh).work (tell_same a dir e Fresh)
+  receive_has (message.Leave ends stamp) = none_last (message.Leave ends stamp) (leave a ends stamp Fresh).work (leave_same a ends stamp Fresh)
+  receive_has (message.LeaveOk ends stamp) = none_last (message.LeaveOk ends stamp) (leave_ok a ends stamp Fresh).work (leave_ok_same a ends stamp Fresh)
+  receive_has (message.Invite ends) = none_last (message.Invite ends) (invite a ends Fresh).work (invite_same a ends Fresh)
   receive_has (message.Walk ends origin birth hops word) = walk_has a from ends origin birth hops word
   receive_has (message.Meet ends) = none_last (message.Meet ends) (accept a ends manner.Link Fresh).work (accept_same a ends manner.Link Fresh)
   receive_has m = All-nil (IsPassedOn a from m)
+
+-- ---- a server is given up
+
+find_in : (p : Edge → Bool) (es : List Edge) (e : Edge) → find p es ≡ Some e → Among e es
+find_in p [] e h = absurd (none-some e h)
+find_in p (x ∷ es) e h = by (p x) (find_in p es e) h
+  where
+    by : (t : Bool) → (find p es ≡ Some e → Among e es) → cond t (Some x) (find p es) ≡ Some e → Among e (x ∷ es)
+    by true more k = inl (sym (same_Some x e k))
+    by false more k = inr (more k)
+
+loose_in : (removed : List ℕ) (o : Option Own) (es : List Edge) (e : Edge) → first_loose removed o es ≡ Some e → Among e es
+loose_in removed None es e h = absurd (none-some e h)
+loose_in removed (Some own) es e h = find_in (λ d. not (matches removed own.flags d)) es e h
+
+module _ (Q : Sent → Type 0) (b : Store) (invited : (m : Sent) → IsInvite b m → Q m) where
+  along_invites : (file : FileId) (w : Work) → All Q w.tail → (o : Option Edge)
+      → ((e : Edge) → o ≡ Some e → Contains (edges_of b file) e) → All Q (invite_along b file o w).tail
+  along_invites file w old None among = old
+  along_invites file w old (Some e) among =
+      let m = sent_to b e.peer (message.Invite (ends_to b file e.birth)) in
+      All-push Q w.tail m old (invited m (record { file = file; edge = e; among = among e refl; whole = refl }))
+
+  pub each_invites : (files : List FileId) (w : Work) → All Q w.tail → All Q (invite_each b files w).tail
+  each_invites [] w old = old
+  each_invites (file ∷ files) w old =
+      each_invites files (invite_of b file w)
+      (chosen (λ (v : Work). All Q v.tail) (invites b file) (invite_along b file (loose_edge b file) w) w
+      (along_invites file w old (loose_edge b file)
+      (λ e h. among_contained (edges_of b file) e (loose_in b.names.removed (own_at b.names file) (edges_of b file) e h))) old)
+
+module _ (a : Store) (moment view server : ℕ) where
+  abbrev Up : Work
+  Up = new_work moment 0
+
+  abbrev Invited : Sent → Type 0
+  Invited = IsInvited a (call.Giveup view server)
+
+  by_removal : (o : Result (Unit {0}) Stop) → removal_at a view server ≡ o
+      → All Invited (answered a Up o (λ found. answer (enter_view a server Up) reply.Done)).work.tail
+  by_removal (Err why) is =
+      let next : Unit {0} → Answer = λ found. told a Up reply.Done in
+      nothing Invited (answered a Up (Err why) next).work.tail (answered_same a Up (Err why) next (λ found. refl))
+  by_removal (Ok found) is =
+      let b = enter a server in
+      each_invites Invited b (λ m invite. (is, invite)) (keys_of b.names.held) (doubt_all b Up) (All-nil Invited)
+
+call_last : (a : Store) (moment : ℕ) (c : Call)
+    → All (GoesLast a (input.Call moment c)) (do_call a c (new_work moment 0)).work.tail
+call_last a moment (call.Giveup view server) = by_removal a moment view server (removal_at a view server) refl
+call_last a moment c =
+    nothing (GoesLast a (input.Call moment c)) (do_call a c (new_work moment 0)).work.tail (call_same a c (new_work moment 0) refl)
 
 -- ---- a tick
 
 module _ (a : Store) (moment word : ℕ) where
   abbrev Begins : Sent → Type 0
-  Begins = IsWalkSent a (input.Tick moment word)
+  Begins = GoesLast a (input.Tick moment word)
 
   abbrev Few : List FileId
   Few = with_few_edges a
@@ -170,28 +254,27 @@ module _ (a : Store) (moment word : ℕ) where
       chosen (λ (w : Work). All Begins w.tail) (is_in_time a) (sent_again a word (new_work moment 0)) (new_work moment 0)
       (subst (λ (w : Work). All Begins w.tail) (sym (again_is a word (new_work moment 0))) begun_has) (All-nil Begins)
 
--- ALL THAT GOES LAST are walks
-pub first_tail : (a : Store) (asked : Input) → All (IsWalkSent a asked) (first_effect a asked).work.tail
-first_tail a (input.Call moment c) =
-    nothing (IsWalkSent a (input.Call moment c)) (do_call a c (new_work moment 0)).work.tail (call_same a c (new_work moment 0))
+-- ALL THAT GOES LAST are walks and invites
+pub first_tail : (a : Store) (asked : Input) → All (GoesLast a asked) (first_effect a asked).work.tail
+first_tail a (input.Call moment c) = call_last a moment c
 first_tail a (input.Tick moment word) = tick_has a moment word
 first_tail a (input.Arrival packet) =
     let w = new_work 0 packet.from in
     let Q = IsPassedOn a packet.from packet.message in
-    let R = IsWalkSent a (input.Arrival packet) in
+    let R = GoesLast a (input.Arrival packet) in
     let d = receive a packet.message w in
     decided (λ (e : Done). All R e.work.tail) (is_heard a packet) d (idle a w)
     (λ heard. All-weaker Q R (λ m is. (heard, is)) d.work.tail (receive_has a packet.from packet.message)) (λ no. All-nil R)
-first_tail a input.Restart = All-nil (IsWalkSent a input.Restart)
+first_tail a input.Restart = All-nil (GoesLast a input.Restart)
 
--- so what holds of such walks holds of all that goes last
-pub tail_has : (Q : Sent → Type 0) (a : Store) (asked : Input) → ((m : Sent) → IsWalkSent a asked m → Q m)
+-- so what holds of these holds of all that goes last
+pub tail_has : (Q : Sent → Type 0) (a : Store) (asked : Input) → ((m : Sent) → GoesLast a asked m → Q m)
     → All Q (first_effect a asked).work.tail
-tail_has Q a asked h = All-weaker (IsWalkSent a asked) Q h (first_effect a asked).work.tail (first_tail a asked)
+tail_has Q a asked h = All-weaker (GoesLast a asked) Q h (first_effect a asked).work.tail (first_tail a asked)
 
 -- ---- whatever it names
 
--- a walk of some replica, with some origin
+-- a walk of some replica, with some origin; or an invite, in some view
 pub record IsAnyWalk (a : Store) (m : Sent) : Type 0 where
   pub file : FileId
   pub origin : ℕ
@@ -203,19 +286,30 @@ passed_any a from (message.Walk ends origin birth hops word) m h =
     record { file = ends.file; origin = origin; birth = birth; walk = h.2 }
 passed_any a from c m h = absurd h
 
-pub any_walk : (a : Store) (asked : Input) (m : Sent) → IsWalkSent a asked m → IsAnyWalk a m
-any_walk a (input.Call moment c) m h = absurd h
-any_walk a (input.Tick moment word) m h = record { file = h.0; origin = a.names.server; birth = birth_of a h.0; walk = h.2 }
-any_walk a (input.Arrival packet) m h = passed_any a packet.from packet.message m h.1
-any_walk a input.Restart m h = absurd h
+invited_any : (a : Store) (c : Call) (m : Sent) → IsInvited a c m → (b : Store) × IsInvite b m
+invited_any a (call.Giveup view server) m h = (enter a server, h.1)
+invited_any a c m h = absurd h
 
--- so what holds of all walks holds of all that goes last
-pub walks_have : (Q : Sent → Type 0) (a : Store) (asked : Input)
+pub any_last : (a : Store) (asked : Input) (m : Sent) → GoesLast a asked m
+    → IsAnyWalk a m ⊎ ((b : Store) × IsInvite b m)
+any_last a (input.Call moment c) m h = inr (invited_any a c m h)
+any_last a (input.Tick moment word) m h =
+    inl (record { file = h.0; origin = a.names.server; birth = birth_of a h.0; walk = h.2 })
+any_last a (input.Arrival packet) m h = inl (passed_any a packet.from packet.message m h.1)
+any_last a input.Restart m h = absurd h
+
+-- so what holds of all walks and all invites holds of all that goes last
+pub lasts_have : (Q : Sent → Type 0) (a : Store) (asked : Input)
     → ((file : FileId) (e : Edge) (origin birth hops word : ℕ)
     → Q (sent_to a e.peer (message.Walk (ends_to a file e.birth) origin birth hops word)))
+    → ((b : Store) (file : FileId) (e : Edge) → Q (sent_to b e.peer (message.Invite (ends_to b file e.birth))))
     → All Q (first_effect a asked).work.tail
-walks_have Q a asked h =
-    tail_has Q a asked (λ m sent.
-    let any = any_walk a asked m sent in
-    let walk = any.walk in
-    subst Q (sym walk.whole) (h any.file walk.edge any.origin any.birth walk.hops walk.word))
+lasts_have Q a asked walks invites =
+    tail_has Q a asked (λ m sent. elim (any_last a asked m sent) [
+      | inl any ↦ (
+          let walk = any.walk in
+          subst Q (sym walk.whole) (walks any.file walk.edge any.origin any.birth walk.hops walk.word))
+      | inr any ↦ (
+          let one = any.1 in
+          subst Q (sym one.whole) (invites any.0 one.file one.edge))
+    ])

@@ -2,10 +2,14 @@ pub mod Lists
 pub mod Found
 pub mod Bags
 pub mod Frame
+pub mod Removals
 pub mod Event
 pub mod QuietAnswers
 pub mod Makes
 pub mod Knowing
+pub mod Gone
+pub mod Striking
+pub mod Bringing
 pub mod Coming
 pub mod Pigeons
 pub mod StillRules
@@ -16,5 +20,6 @@ pub mod OwedCells
 pub mod Requests
 pub mod Walks
 pub mod Tails
+pub mod TailsOfCalls
 pub mod LastWalks
 pub mod Ticks

@@ -1,11 +1,10 @@
 -- What comes of a tick and of a restart, where a server is as each event leaves it: the house rules and
 -- the intentions behind them find nothing to do.
-use Rattle.std.proofs.Common.{[], ℕ, ◌≡◌, ◌≤◌, ◌&&◌, Bool, true, false, cond, not, Option, Some, None, List, ◌∷◌, ◌++◌, drop, length, inl, inr, refl, sym, ap, subst, ◌∙◌, arith, All}
+use Rattle.std.proofs.Common.{[], ℕ, ◌≡◌, ◌&&◌, Bool, true, false, cond, not, Option, Some, None, List, ◌∷◌, ◌++◌, drop, length, inl, inr, refl, sym, ap, subst, ◌∙◌, All}
 use Rattle.std.specs.Prelude.{Contains}
 use Rattle.std.specs.List.Sorted.{IsStrictlySortedBy}
 use Rattle.std.specs.Map.{keys_of}
 use Rattle.std.specs.List.{filter, flat_map}
-use Rattle.std.proofs.lemmas.Bool.Decides.{nat_tests}
 use Rattle.std.proofs.lemmas.List.{append-nil}
 use Rattle.std.proofs.lemmas.List.Folds.{list_any-from_Any}
 use Rattle.pg_base.specs.declared.id.FileId.{FileId}
@@ -22,7 +21,6 @@ use Rattle.pg_msg.specs.declared.work.Work.{Work}
 use Rattle.pg_msg.specs.Work.{new_work}
 use Rattle.pg_event.specs.declared.event.Event.{Event}
 use Rattle.pg_event.specs.declared.event.Event.TheVariants.{Restart, Tick}
-use Rattle.pg_event.specs.declared.entry.VoidCause.TheVariants.{NoServer}
 use Rattle.pg_house.specs.Facts.{AreOrdered}
 use Rattle.pg_house.specs.Work.{state_of}
 use Rattle.pg_flood.proofs.Flood.{here}
@@ -44,8 +42,9 @@ use Rattle.pg_call.specs.declared.reply.Reply.{Reply}
 use Rattle.pg_call.specs.declared.reply.Reply.TheVariants as reply
 use Rattle.pg_run.specs.Golds.{FullSeeGold}
 use Rattle.pg_run.specs.Laws.{AtEach, IsInOrder}
-use Rattle.pg_run.specs.Run.{World, effect_entry, effect_step, idle_step, is_server, run}
+use Rattle.pg_run.specs.Run.{World, effect_entry, effect_step, idle_step, run, why_void}
 use Rattle.pg_run.specs.Ticks.{IsRefused, RestartLoses, RestartsLoseWishes, SendsWhatItOwes, TickSends, TicksSendWhatIsOwed, let_through}
+use Rattle.pg_run.proofs.Frame.{live_is}
 use Rattle.pg_run.proofs.OwedCells.{KeysAreCells, all_owed, all_sent, all_told}
 use Rattle.pg_run.proofs.OwedOrder.{owed_sorted}
 use Rattle.pg_run.proofs.Requests.{HasRequest, requests_sent}
@@ -227,9 +226,6 @@ module _ (a : Store) (moment word : ℕ) where
 
 -- ---- the laws, where it holds of each server what events leave
 
-in_server : (n s : ℕ) → 1 ≤ s → s ≤ n → is_server n s ≡ true
-in_server n s least most = grind (arith, nat_tests)
-
 abbrev pub AreTidy : ℕ → Type 0
 AreTidy n = (events : List Event) → AtEach n (λ s. IsTidy n s ((run n events).stores s))
 
@@ -250,11 +246,12 @@ tick_step n w s moment word k =
     }
 
 pub ticks_send_what_is_owed : (n : ℕ) → AreTidy n → TicksSendWhatIsOwed n
-ticks_send_what_is_owed n tidy events s moment word least most =
+ticks_send_what_is_owed n tidy events s moment word live =
     let w = run n events in
+    let is = live_is n w s live in
     let event = Tick s moment word in
-    let P : Bool → Type 0 = (λ b. TickSends w.stores s word (cond b (effect_step w event s (input.Tick moment word)) (idle_step w event (Some NoServer)))) in
-    subst P (sym (in_server n s least most)) (tick_step n w s moment word (tidy events s least most))
+    let P : Bool → Type 0 = (λ b. TickSends w.stores s word (cond b (effect_step w event s (input.Tick moment word)) (idle_step w event (Some (why_void n s))))) in
+    subst P (sym live) (tick_step n w s moment word (tidy events s is.least is.most))
 
 -- ---- a restart
 
@@ -299,8 +296,9 @@ restart_step n w s k =
     }
 
 pub restarts_lose_wishes : (n : ℕ) → AreTidy n → RestartsLoseWishes n
-restarts_lose_wishes n tidy events s least most =
+restarts_lose_wishes n tidy events s live =
     let w = run n events in
+    let is = live_is n w s live in
     let event = Restart s in
-    let P : Bool → Type 0 = (λ b. RestartLoses w.stores s (cond b (effect_step w event s input.Restart) (idle_step w event (Some NoServer)))) in
-    subst P (sym (in_server n s least most)) (restart_step n w s (tidy events s least most))
+    let P : Bool → Type 0 = (λ b. RestartLoses w.stores s (cond b (effect_step w event s input.Restart) (idle_step w event (Some (why_void n s))))) in
+    subst P (sym live) (restart_step n w s (tidy events s is.least is.most))

@@ -1,5 +1,5 @@
 -- Births: which of them servers gave out, and who names them.
-use Rattle.std.specs.Prelude.{ℕ, ◌≡◌, ◌≤◌, ◌⊎◌, ◌++◌, true, if◌then◌else◌, Contains, List, Option, None, Some}
+use Rattle.std.specs.Prelude.{ℕ, ◌≡◌, ◌≤◌, ◌⊎◌, ◌++◌, true, false, if◌then◌else◌, Contains, List, Option, None, Some}
 use Rattle.std.specs.List.{IsAmong}
 use Rattle.pg_base.specs.declared.id.FileId.{FileId}
 use Rattle.pg_edges.specs.declared.edge.Edge.{Edge}
@@ -21,13 +21,15 @@ use Rattle.pg_replica.specs.declared.replica.Replica.{Replica}
 use Rattle.pg_cells.specs.Accepting.{is_current}
 use Rattle.pg_cells.specs.Cells.{fits}
 use Rattle.pg_server.specs.declared.input.Input.TheVariants as input
-use Rattle.pg_server.specs.Local.{takes_effect}
+use Rattle.pg_server.specs.declared.input.Input.{Input}
+use Rattle.pg_server.specs.Local.{effect, first_effect, takes_effect}
 use Rattle.pg_store.specs.declared.store.Store.{Store}
 use Rattle.pg_store.specs.declared.wishes.Wish.{Wish}
 use Rattle.pg_store.specs.Births.{is_pending, wish_at}
-use Rattle.pg_store.specs.Store.{replica_at}
+use Rattle.pg_store.specs.Store.{is_held, replica_at}
+use Rattle.pg_store.specs.Together.{BirthsMove, IsOver, birth_at}
 use Rattle.pg_run.specs.Journal.{Born, mail}
-use Rattle.pg_run.specs.Laws.{AtEach, store_after}
+use Rattle.pg_run.specs.Laws.{AtEach, TakesIn, store_after}
 use Rattle.pg_run.specs.Run.{next, run, taking_in}
 
 -- ---- births that a server gave out
@@ -38,7 +40,8 @@ IsBirthAt a file birth = ((x : Replica) × (replica_at a file ≡ Some x) × (x.
     ⊎ (is_pending a file birth ≡ true)
 
 -- the server gave out the birth for the thing: at some time of the run its replica had it, or was to
--- have it. A birth may come to nothing: a wish is lost, or a parent is not wanted any more
+-- have it. A birth may come to nothing: a wish is lost, or a parent is not wanted any more; and the
+-- replica may go
 pub record WasGivenOut (servers : ℕ) (events : List Event) (file : FileId) (s birth : ℕ)
     : Type 0 where
   pub before : List Event
@@ -129,6 +132,32 @@ abbrev pub BirthsAreAlone : ℕ → Type 0
 BirthsAreAlone servers = (events : List Event)
     → AtEach servers (λ s. (file : FileId) → BirthIsAlone servers events s file)
 
+-- births move one way in an event, up to the end of its first effect and behind it
+abbrev pub BirthsMoveInEvents : ℕ → Type 0
+BirthsMoveInEvents servers = (events : List Event) (event : Event) (s : ℕ) (asked : Input)
+    → TakesIn servers (run servers events) event s asked
+    → let a = store_after servers events s in
+    BirthsMove a (first_effect a asked).store
+    × BirthsMove (first_effect a asked).store (effect a asked).store
+
+-- and so after whatever more events: one that is over stays over
+abbrev pub BirthsMoveOn : ℕ → Type 0
+BirthsMoveOn servers = (events more : List Event) → AtEach servers (λ s.
+    BirthsMove (store_after servers events s) (store_after servers (events ++ more) s))
+
+-- each replica is there with its birth, or the thing is not held any more and the birth is over
+abbrev pub StaysOrGoes : Store → Store → Type 0
+StaysOrGoes a b = (file : FileId) (birth : ℕ) → birth_at a file ≡ Some birth
+    → (birth_at b file ≡ Some birth) ⊎ ((is_held b file ≡ false) × IsOver b file birth)
+
+-- so it is within an event, behind its first effect and at its end: what goes in an event does not
+-- begin again in it
+abbrev pub ReplicasStayOrGo : ℕ → Type 0
+ReplicasStayOrGo servers = (events : List Event) (event : Event) (s : ℕ) (asked : Input)
+    → TakesIn servers (run servers events) event s asked
+    → let a = store_after servers events s in
+    StaysOrGoes a (first_effect a asked).store × StaysOrGoes a (effect a asked).store
+
 -- and a birth that was given out for one thing was given out for no other
 abbrev pub BirthsAreOfOneThing : ℕ → Type 0
 BirthsAreOfOneThing servers = (events : List Event) (s : ℕ) (f g : FileId) (birth : ℕ)
@@ -143,9 +172,11 @@ pub record EdgesGoUp (a b : Store) : Type 0 where
       → replica_at a file ≡ Some x → replica_at b file ≡ Some y
       → edge_to x.edges peer ≡ Some d → edge_to y.edges peer ≡ Some e → d.birth ≤ e.birth
   pub stays : (file : FileId) (x : Replica) → replica_at a file ≡ Some x
-      → (y : Replica) × (replica_at b file ≡ Some y) × (y.birth ≡ x.birth)
+      → ((y : Replica) × (replica_at b file ≡ Some y) × (y.birth ≡ x.birth))
+      ⊎ IsOver b file x.birth
 
--- what is held stays held with its birth, and of two births of a peer the greater has the edge
+-- what is held stays held with its birth, or the birth is over; and of two births of a peer the greater
+-- has the edge
 abbrev pub GreaterBirthsReplaceEdges : ℕ → Type 0
 GreaterBirthsReplaceEdges servers = (events : List Event) (event : Event)
     → AtEach servers (λ s. EdgesGoUp ((run servers events).stores s)
@@ -157,6 +188,7 @@ linking (message.Cell ends tag c) = if fits ends.file c then Some ends else None
 linking (message.Grant ends granted) = Some ends
 linking (message.Here ends) = Some ends
 linking (message.Meet ends) = Some ends
+linking (message.Leave ends stamp) = Some ends
 linking _ = None
 
 -- who hears one and accepts it lists the sender from then on, with the birth that the message names:
@@ -171,3 +203,13 @@ LinksNameTheSender servers = (events : List Event) (event : Event) (s : ℕ) (pa
     → is_current ((run servers events).stores s) packet.from ends ≡ true
     → replica_at ((next servers (run servers events) event).stores s) ends.file ≡ Some y
     → is_listed y.edges packet.from ends.sender ≡ true
+
+-- ---- births that are gone
+
+-- a birth that a server says is gone was given out by it for the thing, and it does not have it now. So it
+-- never has it again, as the message stays among what was sent
+abbrev pub GoneSays : ℕ → Type 0
+GoneSays servers = (events : List Event) (m : Sent) (file : FileId) (birth : ℕ)
+    → Contains (mail (run servers events).journal) m → m.packet.message ≡ message.Gone file birth
+    → WasGivenOut servers events file m.packet.from birth
+    × (IsBirthAt (store_after servers events m.packet.from) file birth → ⊥)

@@ -1,9 +1,10 @@
 -- What an input brings a server's replicas besides what is made: what a message carries, and the
--- replicas that begin.
-use Rattle.std.specs.Prelude.{ℕ, ◌&&◌, if◌then◌else◌, List, [], ◌∷◌, ◌++◌, Option, None, Some}
-use Rattle.std.specs.List.{flat_map}
+-- replicas that begin. And which replica goes.
+use Rattle.std.specs.Prelude.{ℕ, Bool, false, ◌&&◌, not, if◌then◌else◌, List, [], ◌∷◌, ◌++◌, map, Option, None, Some, Result, Err, Ok}
+use Rattle.std.specs.List.{filter, flat_map}
 use Rattle.pg_base.specs.declared.id.FileId.{FileId}
 use Rattle.pg_base.specs.Id.{is_same_file}
+use Rattle.pg_base.specs.declared.stamp.Stamp.{Stamp}
 use Rattle.pg_entries.specs.declared.cell.Cell.{Cell}
 use Rattle.pg_entries.specs.declared.entry.Entry.{Entry}
 use Rattle.pg_intent.specs.declared.intent.Intent.{Intent}
@@ -12,20 +13,29 @@ use Rattle.pg_msg.specs.declared.message.Ends.{Ends}
 use Rattle.pg_msg.specs.declared.message.Granted.{Granted}
 use Rattle.pg_msg.specs.declared.message.Message.{Message}
 use Rattle.pg_msg.specs.declared.message.Message.TheVariants as message
+use Rattle.pg_msg.specs.Work.{new_work}
+use Rattle.pg_call.specs.declared.call.Call.{Call}
+use Rattle.pg_call.specs.declared.call.Call.TheVariants as call
 use Rattle.pg_call.specs.declared.reply.Reply.{Reply}
 use Rattle.pg_call.specs.declared.reply.Reply.TheVariants as reply
 use Rattle.pg_house.specs.Returning.{is_root}
+use Rattle.pg_names.specs.Names.{is_dir}
+use Rattle.pg_register.specs.declared.place.Place.{Place}
 use Rattle.pg_store.specs.declared.store.Store.{Store}
 use Rattle.pg_store.specs.Births.{is_pending}
 use Rattle.pg_store.specs.Store.{is_held}
 use Rattle.pg_cells.specs.Accepting.{is_current}
 use Rattle.pg_cells.specs.Cells.{fits}
+use Rattle.pg_calls.specs.Asking.{latest}
+use Rattle.pg_calls.specs.Forgetting.{dead_at, dirs_of, is_wanted, last_place, lists_in, lost_at}
+use Rattle.pg_graph.specs.Leaving.{goes_now}
 use Rattle.pg_server.specs.declared.input.Input.{Input}
 use Rattle.pg_server.specs.declared.input.Input.TheVariants as input
+use Rattle.pg_walk.specs.declared.paths.Stop.{Stop}
 use Rattle.pg_server.specs.Local.{reply_to}
 use Rattle.pg_run.specs.Took.{Take, entry_takes, flags_of, places_of, takes_in}
-use Rattle.pg_run.specs.Took.Take.{Began}
-use Rattle.pg_run.specs.Took.Taker.{Itself}
+use Rattle.pg_run.specs.Took.Take.{Began, TookPlace}
+use Rattle.pg_run.specs.Took.Taker.{InDir, Itself}
 
 -- ---- cells
 
@@ -124,8 +134,75 @@ begun_by (Some (reply.Leaving server)) = []
 begun_by (Some (reply.Status counts)) = []
 begun_by (Some (reply.Refused why)) = []
 
+-- ---- what was lost
+
+-- a directory that begins anew, where it is known to be live
+abbrev pub known_takes : FileId → Option Place → List Take
+known_takes id None = []
+known_takes id (Some place) = TookPlace Itself id place ∷ []
+
+-- and it takes what Patches of it carry
+abbrev pub anew_takes : Store → FileId → List Take
+anew_takes store id = if is_wanted store id
+    then Began id ∷ known_takes id (last_place store.names id) ++ patches_taken store id
+    else []
+
+abbrev pub struck_by : Store → ℕ → FileId → Option FileId → List Take
+struck_by store moment id None = []
+struck_by store moment id (Some dir) =
+    map (λ d. TookPlace (InDir d) id (dead_at store moment id dir)) (dirs_of store.names id)
+
+-- each directory that has a cell for a file takes its dead place
+abbrev pub struck_takes : Store → ℕ → FileId → List Take
+struck_takes store moment id = struck_by store moment id
+    (latest store.names id None (filter (lists_in store.names id) (dirs_of store.names id)))
+
+-- of what is held nothing comes but what is made
+abbrev pub lost_takes : Store → ℕ → FileId → List Take
+lost_takes store moment id = if is_held store id then []
+    else (if is_dir id then anew_takes store id else struck_takes store moment id)
+
+-- what a forget brings besides what is made of what is held; one that is refused brings nothing
+abbrev pub forgotten_takes : Store → ℕ → Result FileId Stop → List Take
+forgotten_takes store moment (Err stop) = []
+forgotten_takes store moment (Ok id) = lost_takes store moment id
+
+-- a forget makes a place of a file that is not held: no replica of the file takes it
+abbrev pub strikes_out : Store → Result FileId Stop → Bool
+strikes_out store (Err stop) = false
+strikes_out store (Ok id) = not (is_held store id) && not (is_dir id)
+
+abbrev pub strikes_call : Store → Call → Bool
+strikes_call store (call.Forget id) = strikes_out store (lost_at store id)
+strikes_call store _ = false
+
+abbrev pub strikes : Store → Input → Bool
+strikes store (input.Call moment c) = strikes_call store c
+strikes store _ = false
+
+abbrev pub came_by : Store → ℕ → Call → List Take
+came_by store moment (call.Forget id) = forgotten_takes store moment (lost_at store id)
+came_by store moment c = begun_by (reply_to store (input.Call moment c))
+
 abbrev pub came : Store → Input → List Take
-came store (input.Call moment call) = begun_by (reply_to store (input.Call moment call))
+came store (input.Call moment c) = came_by store moment c
 came store (input.Tick moment word) = []
 came store (input.Arrival packet) = carried store packet.from packet.message
 came store input.Restart = []
+
+-- ---- what goes
+
+-- leave to go that a server hears, to which its replica goes: it is to what was asked, and nothing
+-- keeps the replica there
+abbrev pub goes_with : Store → ℕ → Ends → Stamp → Option FileId
+goes_with store from ends stamp =
+    if goes_now store ends stamp (new_work 0 from) then Some ends.file else None
+
+abbrev pub gone_by : Store → ℕ → Message → Option FileId
+gone_by store from (message.LeaveOk ends stamp) = goes_with store from ends stamp
+gone_by store from _ = None
+
+-- the thing of which the replica goes in an event, where one does
+abbrev pub gone_in : Store → Input → Option FileId
+gone_in store (input.Arrival packet) = gone_by store packet.from packet.message
+gone_in store _ = None

@@ -1,10 +1,10 @@
 -- The graph of a thing: which servers that hold it name each other's replicas.
-use Rattle.std.specs.Prelude.{ℕ, ◌≡◌, ◌≤◌, ◌⊎◌, true, List, [], ◌∷◌, Some}
+use Rattle.std.specs.Prelude.{ℕ, ◌≡◌, ◌⊎◌, true, List, [], ◌∷◌, Some}
 use Rattle.pg_base.specs.declared.id.FileId.{FileId}
 use Rattle.pg_edges.specs.Edges.{is_listed}
 use Rattle.pg_replica.specs.declared.replica.Replica.{Replica}
 use Rattle.pg_store.specs.Store.{replica_at}
-use Rattle.pg_run.specs.Run.{World}
+use Rattle.pg_run.specs.Run.{World, is_live}
 
 -- a server holds the thing
 pub record Holds (w : World) (file : FileId) (s : ℕ) : Type 0 where
@@ -26,11 +26,11 @@ IsChain w file s (u ∷ us) t = HasEdge w file s u × IsChain w file u us t
 abbrev pub AreJoined : World → FileId → ℕ → ℕ → Type 0
 AreJoined w file s t = (between : List ℕ) × IsChain w file s between t
 
--- any two servers that hold the thing are joined
+-- any two live servers that hold the thing are joined
 abbrev pub IsConnected : ℕ → World → FileId → Type 0
-IsConnected servers w file = (s t : ℕ) → 1 ≤ s → s ≤ servers → 1 ≤ t → t ≤ servers
+IsConnected servers w file = (s t : ℕ) → is_live servers w s ≡ true → is_live servers w t ≡ true
     → Holds w file s → Holds w file t → (s ≡ t) ⊎ AreJoined w file s t
 
--- and so it is of each thing that a server holds
+-- and so it is of each thing that a live server holds
 abbrev pub AreConnected : ℕ → World → Type 0
 AreConnected servers w = (file : FileId) → IsConnected servers w file

@@ -1,4 +1,4 @@
--- What a server holds it holds for good: statements on all runs.
+-- What a server holds it holds on, until its birth is over: statements on all runs.
 use Rattle.std.specs.Prelude.{ℕ, List, ◌++◌}
 use Rattle.pg_event.specs.declared.event.Event.{Event}
 use Rattle.pg_server.specs.declared.input.Input.{Input}
@@ -7,8 +7,8 @@ use Rattle.pg_promises.specs.Growing.{Grows}
 use Rattle.pg_run.specs.Laws.{TakesIn, store_after}
 use Rattle.pg_run.specs.Run.{run}
 
--- after whatever more events: each replica with its birth, and of every place, flag, entry and
--- version as much or more
+-- after whatever more events: each replica with its birth, and of its place, flags, entries and
+-- versions as much or more; or the birth is over
 abbrev pub RunsGrow : ℕ → Type 0
 RunsGrow servers = (events more : List Event) (s : ℕ)
     → Grows (store_after servers events s) (store_after servers (events ++ more) s)

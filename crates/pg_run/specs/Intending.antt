@@ -19,6 +19,7 @@ use Rattle.pg_store.specs.declared.store.Store.{Store}
 use Rattle.pg_store.specs.Servers.{is_live_other}
 use Rattle.pg_store.specs.Store.{is_full, is_held}
 use Rattle.pg_store.specs.Together.{AreBirths, AreTogether}
+use Rattle.pg_graph.specs.Leaving.{may_still_leave}
 use Rattle.pg_graph.specs.Seeks.{is_seeking}
 use Rattle.pg_run.specs.Laws.{AtEach, store_after}
 
@@ -90,6 +91,16 @@ PatchesStand a = (dir child : FileId) (entry : Entry) (target : ℕ)
 abbrev pub SeeksStand : Store → Type 0
 SeeksStand a = (file : FileId) → stands a.intents (key.Seek file) ≡ is_seeking a file
 
+-- ---- Leaves
+
+-- a Leave is of what is held, and is not the root, to a peer that is listed with the birth, and whose
+-- flag of that birth is raised
+abbrev pub LeavesStand : Store → Type 0
+LeavesStand a = (file : FileId) (peer birth : ℕ)
+    → intent_at a.intents (key.Leave file) ≡ Some (intent.Leave file peer birth)
+    → (is_held a file ≡ true) × (is_same_file file root ≡ false)
+    × (may_still_leave a file peer birth ≡ true)
+
 -- ---- all
 
 -- targets: another live server is asked, or nobody where there is none
@@ -101,6 +112,7 @@ pub record IntendsInOrder (a : Store) : Type 0 where
   pub confirms : ConfirmsStand a
   pub patches : PatchesStand a
   pub seeks : SeeksStand a
+  pub leaves : LeavesStand a
   pub targets : (i : Intent) → IsAmong a.intents i → target_of i ≢ 0
       → is_live_other a (target_of i) ≡ true
 

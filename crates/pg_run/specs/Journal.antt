@@ -1,6 +1,6 @@
 -- What a journal says: which versions were made, which messages were sent, and which are under way.
 -- A journal is the list of its entries, the latest first.
-use Rattle.std.specs.Prelude.{[], ℕ, ◌-◌, ◌==◌, ◌||◌, Bool, if◌then◌else◌, List, ◌∷◌, ◌++◌, filter, map, Option, None, Some, slice_get, remove}
+use Rattle.std.specs.Prelude.{[], ℕ, ◌-◌, ◌==◌, ◌||◌, Bool, not, if◌then◌else◌, List, ◌∷◌, ◌++◌, filter, map, Option, None, Some, slice_get, remove}
 use Rattle.std.specs.List.{list_any}
 use Rattle.pg_base.specs.declared.id.FileId.{FileId}
 use Rattle.pg_base.specs.declared.stamp.Stamp.{Stamp}
@@ -13,6 +13,8 @@ use Rattle.pg_msg.specs.declared.update.Update.TheVariants as update
 use Rattle.pg_event.specs.declared.event.Event.{Event}
 use Rattle.pg_event.specs.declared.event.Event.TheVariants.{Call, Tick, Deliver, Lose, Repeat, Restart, Remove}
 use Rattle.pg_event.specs.declared.entry.Entry.{Entry}
+use Rattle.pg_event.specs.declared.entry.VoidCause.{VoidCause}
+use Rattle.pg_register.specs.Flag.{is_removed}
 use Rattle.pg_store.specs.declared.store.Store.{Store}
 use Rattle.pg_store.specs.Births.{birth_of}
 
@@ -82,20 +84,47 @@ abbrev pub with_copy : List Sent → Option Sent → List Sent
 with_copy bag None = bag
 with_copy bag (Some m) = bag ++ m ∷ []
 
--- what is left of the messages under way, with what an event sends or copies
-abbrev pub bag_after : List Sent → Event → List Sent → List Sent
-bag_after bag (Call server moment call) sent = bag ++ sent
-bag_after bag (Tick server moment word) sent = bag ++ sent
-bag_after bag (Deliver number) sent = without bag number (message_at bag number) ++ sent
-bag_after bag (Lose number) sent = without bag number (message_at bag number)
-bag_after bag (Repeat number) sent = with_copy bag (message_at bag number)
-bag_after bag (Restart server) sent = bag ++ sent
-bag_after bag (Remove server) sent = bag
+-- ---- removals
 
--- the messages under way, in order of sending
+-- the servers removed behind an event, and those before it
+abbrev pub removed_in : Event → Option VoidCause → List ℕ → List ℕ
+removed_in (Remove server) None removed = removed ++ server ∷ []
+removed_in _ _ removed = removed
+
+-- the servers that were removed, in that order
+abbrev pub removals : List Entry → List ℕ
+removals [] = []
+removals (entry ∷ earlier) = removed_in entry.event entry.void (removals earlier)
+
+-- the messages that are not to a removed server
+abbrev pub to_live : List ℕ → List Sent → List Sent
+to_live removed sent = filter (λ m. not (is_removed removed m.to)) sent
+
+-- the messages that are not to this server
+abbrev pub without_to : ℕ → List Sent → List Sent
+without_to server bag = filter (λ m. not (m.to == server)) bag
+
+-- a server is removed, where that is not void
+abbrev pub bag_behind : List Sent → ℕ → Option VoidCause → List Sent
+bag_behind bag server None = without_to server bag
+bag_behind bag server (Some cause) = bag
+
+-- what is left of the messages under way, with what an event sends or copies, behind these removals
+abbrev pub bag_after : List ℕ → List Sent → Event → Option VoidCause → List Sent → List Sent
+bag_after removed bag (Call server moment call) void sent = bag ++ to_live removed sent
+bag_after removed bag (Tick server moment word) void sent = bag ++ to_live removed sent
+bag_after removed bag (Deliver number) void sent =
+    without bag number (message_at bag number) ++ to_live removed sent
+bag_after removed bag (Lose number) void sent = without bag number (message_at bag number)
+bag_after removed bag (Repeat number) void sent = with_copy bag (message_at bag number)
+bag_after removed bag (Restart server) void sent = bag ++ to_live removed sent
+bag_after removed bag (Remove server) void sent = bag_behind bag server void
+
+-- the messages under way, in order of sending: none is to a removed server
 abbrev pub bag : List Entry → List Sent
 bag [] = []
-bag (entry ∷ earlier) = bag_after (bag earlier) entry.event entry.sent
+bag (entry ∷ earlier) =
+    bag_after (removals earlier) (bag earlier) entry.event entry.void entry.sent
 
 -- ---- messages ever sent
 

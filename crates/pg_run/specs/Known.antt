@@ -1,6 +1,6 @@
 -- Which places and flags are known in a run: all that was ever made, and what was there at the start;
 -- and what servers hold and messages bring of them.
-use Rattle.std.specs.Prelude.{ℕ, ◌≡◌, ◌⊎◌, ◌<◌, true, Contains, List, [], ◌∷◌, Some}
+use Rattle.std.specs.Prelude.{ℕ, ◌≡◌, ◌⊎◌, ◌<◌, ◌≤◌, true, Contains, List, [], ◌∷◌, Some}
 use Rattle.pg_base.specs.declared.id.FileId.{FileId}
 use Rattle.pg_content.specs.Content.{Among}
 use Rattle.pg_register.specs.declared.flag.Flag.{Flag}
@@ -21,6 +21,7 @@ use Rattle.pg_names.specs.declared.own.Own.{Own}
 use Rattle.pg_names.specs.Names.{cell_at, is_dir, own_at}
 use Rattle.pg_store.specs.declared.store.Store.{Store}
 use Rattle.pg_store.specs.Start.{first_flags}
+use Rattle.pg_store.specs.Together.{IsOver, birth_at}
 use Rattle.pg_run.specs.Journal.{mail}
 use Rattle.pg_run.specs.Laws.{AtEach}
 use Rattle.pg_run.specs.Run.{World, run}
@@ -113,16 +114,30 @@ PlacesHaveOwnStamps servers = (events : List Event) (file : FileId) (p q : Place
     → IsPlaceOf (run servers events) file p → IsPlaceOf (run servers events) file q
     → p.stamp ≡ q.stamp → p ≡ q
 
+-- and of each place that was made the maker has come to its time
+abbrev pub PlacesMadeArePast : ℕ → Type 0
+PlacesMadeArePast servers = (events : List Event) (file : FileId) (place : Place)
+    → WasMade (run servers events).journal file place
+    → place.stamp.time ≤ ((run servers events).stores place.stamp.server).names.last
+
 -- OWN FLAG: each flag of a thing, wherever it is known, is its server's own flag, which holds the
--- thing, or the own flag is a later one of the same birth
+-- thing with the flag's birth, or the own flag is a later one of that birth; or the birth is over
 abbrev pub IsUpToOwn : Flag → Flag → Type 0
 IsUpToOwn flag own = (flag ≡ own) ⊎ ((flag.birth ≡ own.birth) × (flag.number < own.number))
+
+pub record IsOwnFlag (a : Store) (file : FileId) (flag : Flag) : Type 0 where
+  pub birth : birth_at a file ≡ Some flag.birth
+  pub own : Own
+  pub held : own_at a.names file ≡ Some own
+  pub last : Flag
+  pub is : flag_of own.flags flag.server ≡ Some last
+  pub upto : IsUpToOwn flag last
 
 abbrev pub FlagsAreOwn : ℕ → Type 0
 FlagsAreOwn servers = (events : List Event) (file : FileId) (flag : Flag)
     → IsFlagOf servers (run servers events) file flag
-    → (own : Own) × (own_at ((run servers events).stores flag.server).names file ≡ Some own)
-    × (last : Flag) × (flag_of own.flags flag.server ≡ Some last) × IsUpToOwn flag last
+    → IsOwnFlag ((run servers events).stores flag.server) file flag
+    ⊎ IsOver ((run servers events).stores flag.server) file flag.birth
 
 -- ONE FLAG A NUMBER: of the flags of a thing no two of one server have one birth and number
 abbrev pub FlagsHaveOwnNumbers : ℕ → Type 0

@@ -26,7 +26,7 @@ use Rattle.pg_run.specs.Took.{Take, is_held, own_place, place_in, places_taken}
 use Rattle.pg_run.specs.Took.Taker.{InDir}
 use Rattle.pg_run.specs.Passed.{passed, passed_with}
 use Rattle.pg_run.specs.Quiet.{IsQuiet, quiet_of}
-use Rattle.pg_run.specs.Run.{World, brought, made_behind, next, run, taking_in}
+use Rattle.pg_run.specs.Run.{World, is_live, made_behind, next, removed_then, run, taking_in, took_first}
 use Rattle.pg_run.specs.State.{content_state, entry_state, own_state}
 
 -- what a server holds after these events, and what it knows of names
@@ -39,6 +39,10 @@ names_after servers events server = (store_after servers events server).names
 -- of the servers of a run
 abbrev pub AtEach : ℕ → (ℕ → Type 0) → Type 0
 AtEach servers P = (server : ℕ) → 1 ≤ server → server ≤ servers → P server
+
+-- of those that are not removed
+abbrev pub AtLive : ℕ → World → (ℕ → Type 0) → Type 0
+AtLive servers w P = (server : ℕ) → is_live servers w server ≡ true → P server
 
 -- ---- merge
 
@@ -99,19 +103,18 @@ pub record Agree (w : World) (file : FileId) (s t : ℕ) : Type 0 where
 -- two servers that are joined by edges for a thing agree on it
 abbrev pub QuietJoinedServersAgree : ℕ → Type 0
 QuietJoinedServersAgree servers = WhereQuiet servers (λ w. (file : FileId)
-    → AtEach servers (λ s. AtEach servers (λ t. AreJoined w file s t → Agree w file s t)))
+    → AtLive servers w (λ s. AtLive servers w (λ t. AreJoined w file s t → Agree w file s t)))
 
 -- so where its graph is connected all that hold it do
 abbrev pub QuietServersAgree : ℕ → Type 0
 QuietServersAgree servers = WhereQuiet servers (λ w. (file : FileId)
-    → IsConnected servers w file → AtEach servers (λ s. AtEach servers (λ t.
+    → IsConnected servers w file → AtLive servers w (λ s. AtLive servers w (λ t.
     Holds w file s → Holds w file t → Agree w file s t)))
 
--- a server holds a thing with this live place
+-- a live server holds a thing with this live place
 pub record Stands (servers : ℕ) (w : World) (file : FileId) (place : Place) : Type 0 where
   pub server : ℕ
-  pub least : 1 ≤ server
-  pub most : server ≤ servers
+  pub there : is_live servers w server ≡ true
   pub own : Own
   pub held : own_at (w.stores server).names file ≡ Some own
   pub is : own.place ≡ place
@@ -135,14 +138,13 @@ ShowsDistinctNames dir x = (a b : Cell) → IsAmong (values_of x.entries) a
 
 pub record IsTree (servers : ℕ) (w : World) : Type 0 where
   pub leads : (file : FileId) → Survives servers w file → (n : ℕ) × LeadsToRoot servers w n file
-  pub distinct : AtEach servers (λ s. (dir : FileId) (x : HeldValue)
+  pub distinct : AtLive servers w (λ s. (dir : FileId) (x : HeldValue)
       → known (w.stores s).names dir ≡ Some x → ShowsDistinctNames dir x)
 
--- a server's directory lists the thing by this cell
+-- a live server's directory lists the thing by this cell
 pub record Lists (servers : ℕ) (w : World) (dir file : FileId) (cell : Cell) : Type 0 where
   pub server : ℕ
-  pub least : 1 ≤ server
-  pub most : server ≤ servers
+  pub there : is_live servers w server ≡ true
   pub held : cell_at (w.stores server).names dir file ≡ Some cell
   pub listed : is_listed dir cell ≡ true
 
@@ -151,7 +153,8 @@ pub record Lists (servers : ℕ) (w : World) (dir file : FileId) (cell : Cell) :
 -- only: whatever is listed stands there, be it held where it is listed or not
 -- nowhere_else: and a survivor is listed by no other directory, and with no other place
 pub record IsListedOnly (servers : ℕ) (w : World) : Type 0 where
-  pub there : (file : FileId) (own : Own) (s t : ℕ) → 1 ≤ s → s ≤ servers → 1 ≤ t → t ≤ servers
+  pub there : (file : FileId) (own : Own) (s t : ℕ) → is_live servers w s ≡ true
+      → is_live servers w t ≡ true
       → is_same_file file root ≡ false → own_at (w.stores s).names file ≡ Some own
       → own.place.live ≡ true
       → (parent : Own) → own_at (w.stores t).names own.place.parent ≡ Some parent
@@ -166,7 +169,7 @@ pub record IsListedOnly (servers : ℕ) (w : World) : Type 0 where
 -- no directory that is dead at a server holds a survivor
 abbrev pub IsBroughtBack : ℕ → World → Type 0
 IsBroughtBack servers w = (file : FileId) (place : Place) → Stands servers w file place
-    → is_same_file file root ≡ false → AtEach servers (λ s. (own : Own)
+    → is_same_file file root ≡ false → AtLive servers w (λ s. (own : Own)
     → own_at (w.stores s).names place.parent ≡ Some own → own.place.live ≡ true)
 
 abbrev pub QuietNamesFormATree : ℕ → Type 0
@@ -184,8 +187,8 @@ QuietDirectoriesAreBroughtBack servers = WhereConnected servers (IsBroughtBack s
 -- updates that the house rules made
 abbrev pub took_behind : Store → List Take → Input → ℕ → List Take
 took_behind store takes asked k =
-    passed_with store.names.removed
-    (passed store.names.removed (brought store asked ++ takes))
+    passed_with (removed_then store asked)
+    (passed (removed_then store asked) (took_first store takes asked))
     (take k (made_behind store asked))
 
 -- the house rules bring a directory back at a server, whose own place was this dead one, and where
@@ -198,7 +201,7 @@ pub record Returns (store : Store) (takes : List Take) (asked : Input) (dir : Fi
   pub live : place.live ≡ true
   pub was : own_place dir (took_behind store takes asked k) ≡ removal
   pub dead : removal.live ≡ false
-  pub kept : is_removed store.names.removed removal.stamp.server ≡ false
+  pub kept : is_removed (removed_then store asked) removal.stamp.server ≡ false
   pub cell : place_in (InDir dir) child (took_behind store takes asked k) ≡ listed
   pub lists : listed.live ≡ true
   pub here : listed.parent ≡ dir

@@ -13,7 +13,11 @@ pub mod Births
 pub mod Acknowledged
 pub mod Intending
 pub mod Golds
+pub mod Leaving
+pub mod Going
+pub mod Ruled
 pub mod Ticks
 pub mod Came
 pub mod Away
 pub mod Grown
+pub mod Views

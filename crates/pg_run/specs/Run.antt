@@ -1,25 +1,27 @@
 -- What each event does to the servers, to the journal, to the history of versions, and to what
 -- replicas took.
-use Rattle.std.specs.Prelude.{[], ℕ, ◌&&◌, Bool, nat_le, if◌then◌else◌, List, ◌∷◌, ◌++◌, drop, length, map, Option, None, Some}
+use Rattle.std.specs.Prelude.{[], ℕ, ◌&&◌, ◌==◌, ◌+◌, Bool, true, false, not, nat_le, nat_eq, slice_get, zero, suc, if◌then◌else◌, List, ◌∷◌, ◌++◌, drop, length, map, Option, None, Some}
+use Rattle.std.specs.Option.{option_eq}
 use Rattle.pg_msg.specs.declared.message.Sent.{Sent}
 use Rattle.pg_msg.specs.declared.update.Update.{Update}
 use Rattle.pg_call.specs.declared.call.Call.{Call}
+use Rattle.pg_call.specs.declared.call.Call.TheVariants as call
 use Rattle.pg_event.specs.declared.event.Event.{Event}
 use Rattle.pg_event.specs.declared.event.Event.TheVariants.{Call as Called, Tick, Deliver, Lose, Repeat, Restart, Remove}
 use Rattle.pg_event.specs.declared.entry.Entry.{Entry}
 use Rattle.pg_event.specs.declared.entry.VoidCause.{VoidCause}
-use Rattle.pg_event.specs.declared.entry.VoidCause.TheVariants.{NoMessage, NoServer, Unbuilt}
+use Rattle.pg_event.specs.declared.entry.VoidCause.TheVariants.{Last, NoMessage, NoServer, Removed, Unremoved}
 use Rattle.pg_flood.specs.World.{after}
 use Rattle.pg_store.specs.declared.store.Store.{Store}
 use Rattle.pg_store.specs.Start.{first_flags}
 use Rattle.pg_store.specs.Store.{new_store}
-use Rattle.pg_calls.specs.Calls.{is_built}
 use Rattle.pg_server.specs.declared.input.Input.{Input}
 use Rattle.pg_server.specs.declared.input.Input.TheVariants as input
 use Rattle.pg_server.specs.Local.{Effect, effect, first_effect, takes_effect}
-use Rattle.pg_run.specs.Journal.{Born, bag, born_in, message_at}
-use Rattle.pg_run.specs.Took.{Take, first_takes, take_of}
-use Rattle.pg_run.specs.Carried.{came}
+use Rattle.pg_register.specs.Flag.{is_removed}
+use Rattle.pg_run.specs.Journal.{Born, bag, born_in, message_at, removals}
+use Rattle.pg_run.specs.Took.{Take, first_takes, take_of, without_gone}
+use Rattle.pg_run.specs.Carried.{came, gone_in, strikes}
 use Rattle.pg_run.specs.Passed.{passed, passed_with}
 
 -- stores: what each server holds, by its number
@@ -46,21 +48,35 @@ pub record Step : Type 0 where
 abbrev pub first_made : Store → Input → List Update
 first_made store asked = (first_effect store asked).work.made
 
+-- what is made of what is held is taken by its replica
+abbrev pub made_takes : Store → Input → List Take
+made_takes store asked =
+    if strikes store asked then [] else map take_of (first_made store asked)
+
 -- what its first effect brings: what was made, and what came
 abbrev pub brought : Store → Input → List Take
-brought store asked = map take_of (first_made store asked) ++ came store asked
+brought store asked = made_takes store asked ++ came store asked
 
 -- the updates that the house rules made in the event, in their order
 abbrev pub made_behind : Store → Input → List Update
 made_behind store asked = drop (length (first_made store asked)) (effect store asked).out.made
+
+-- what a server's replicas took then, before anything passes: what its first effect brings, and what
+-- they had, but for the replica that goes
+abbrev pub took_first : Store → List Take → Input → List Take
+took_first store takes asked = brought store asked ++ without_gone (gone_in store asked) takes
+
+-- the servers that are removed in a server's view behind the first effect
+abbrev pub removed_then : Store → Input → List ℕ
+removed_then store asked = (first_effect store asked).store.names.removed
 
 -- what a server's replicas took then: what its first effect brings passes, and so does each update
 -- that the house rules make
 abbrev pub took_after : Store → List Take → Input → List Take
 took_after store takes asked =
     if takes_effect store asked
-    then passed_with store.names.removed
-    (passed store.names.removed (brought store asked ++ takes)) (made_behind store asked)
+    then passed_with (removed_then store asked)
+    (passed (removed_then store asked) (took_first store takes asked)) (made_behind store asked)
     else takes
 
 -- ---- events
@@ -103,33 +119,64 @@ effect_step w event server asked = record {
 abbrev pub is_server : ℕ → ℕ → Bool
 is_server servers server = nat_le 1 server && nat_le server servers
 
--- a client's call, a tick or a restart
+-- a server of the run that is not removed
+abbrev pub is_live : ℕ → World → ℕ → Bool
+is_live servers w server =
+    is_server servers server && not (is_removed (removals w.journal) server)
+
+-- why nothing happens at a server that is no live one
+abbrev pub why_void : ℕ → ℕ → VoidCause
+why_void servers server = if is_server servers server then Removed else NoServer
+
+-- a tick or a restart
 abbrev pub server_step : ℕ → World → Event → ℕ → Input → Step
 server_step servers w event server asked =
-    if is_server servers server then effect_step w event server asked
-    else idle_step w event (Some NoServer)
+    if is_live servers w server then effect_step w event server asked
+    else idle_step w event (Some (why_void servers server))
 
--- a call that is not built is void, before its server is looked at
+-- the removal with this number, counted from 1, is that of the server
+abbrev pub is_removal : List ℕ → ℕ → ℕ → Bool
+is_removal removed zero server = false
+is_removal removed (suc k) server = option_eq nat_eq (slice_get removed k) (Some server)
+
+-- a giveup is of a server that was removed so; any other call may come at any time
+abbrev pub is_due : List ℕ → Call → Bool
+is_due removed (call.Giveup view server) = is_removal removed view server
+is_due removed _ = true
+
+abbrev pub given_step : World → Event → ℕ → Input → Bool → Step
+given_step w event server asked true = effect_step w event server asked
+given_step w event server asked false = idle_step w event (Some Unremoved)
+
+-- a client's call
 abbrev pub call_step : ℕ → World → ℕ → ℕ → Call → Step
-call_step servers w server moment call =
-    if is_built call
-    then server_step servers w (Called server moment call) server (input.Call moment call)
-    else idle_step w (Called server moment call) (Some Unbuilt)
+call_step servers w server moment c =
+    if is_live servers w server
+    then given_step w (Called server moment c) server (input.Call moment c)
+    (is_due (removals w.journal) c)
+    else idle_step w (Called server moment c) (Some (why_void servers server))
 
 abbrev pub delivery_step : ℕ → World → Event → Option Sent → Step
 delivery_step servers w event None = idle_step w event (Some NoMessage)
 delivery_step servers w event (Some m) =
-    if is_server servers m.to then effect_step w event m.to (input.Arrival m.packet)
+    if is_live servers w m.to then effect_step w event m.to (input.Arrival m.packet)
     else idle_step w event None
+
+-- all others are removed already
+abbrev pub is_last : ℕ → World → Bool
+is_last servers w = length (removals w.journal) + 1 == servers
+
+-- a server is removed, but for the last one. Its journal says so, and no server takes anything
+abbrev pub removal_step : ℕ → World → Event → ℕ → Step
+removal_step servers w event server =
+    if is_live servers w server
+    then idle_step w event (if is_last servers w then Some Last else None)
+    else idle_step w event (Some (why_void servers server))
 
 -- a loss or a copy: only the bag changes
 abbrev pub bag_step : World → Event → Option Sent → Step
 bag_step w event None = idle_step w event (Some NoMessage)
 bag_step w event (Some m) = idle_step w event None
-
--- an event of which nothing is done yet
-abbrev pub unbuilt_step : World → Event → Step
-unbuilt_step w event = idle_step w event (Some Unbuilt)
 
 -- what comes of one event in a run with so many servers
 abbrev pub next : ℕ → World → Event → Step
@@ -141,7 +188,7 @@ next servers w (Deliver number) =
 next servers w (Lose number) = bag_step w (Lose number) (message_at (bag w.journal) number)
 next servers w (Repeat number) = bag_step w (Repeat number) (message_at (bag w.journal) number)
 next servers w (Restart server) = server_step servers w (Restart server) server input.Restart
-next servers w (Remove server) = unbuilt_step w (Remove server)
+next servers w (Remove server) = removal_step servers w (Remove server) server
 
 -- ---- which server takes an input in an event
 
@@ -149,28 +196,28 @@ pub record Taking : Type 0 where
   pub server : ℕ
   pub asked : Input
 
-abbrev pub taking_at : ℕ → ℕ → Input → Option Taking
-taking_at servers server asked =
-    if is_server servers server then Some (record { server = server; asked = asked }) else None
+abbrev pub taking_at : ℕ → World → ℕ → Input → Option Taking
+taking_at servers w server asked =
+    if is_live servers w server then Some (record { server = server; asked = asked }) else None
 
-abbrev pub taking_call : ℕ → ℕ → ℕ → Call → Option Taking
-taking_call servers server moment call =
-    if is_built call then taking_at servers server (input.Call moment call) else None
+abbrev pub taking_call : ℕ → World → ℕ → ℕ → Call → Option Taking
+taking_call servers w server moment c =
+    if is_due (removals w.journal) c then taking_at servers w server (input.Call moment c) else None
 
-abbrev pub taking_message : ℕ → Option Sent → Option Taking
-taking_message servers None = None
-taking_message servers (Some m) = taking_at servers m.to (input.Arrival m.packet)
+abbrev pub taking_message : ℕ → World → Option Sent → Option Taking
+taking_message servers w None = None
+taking_message servers w (Some m) = taking_at servers w m.to (input.Arrival m.packet)
 
 -- the server that takes one, and the input; where there is none, no server does anything
 abbrev pub taking_in : ℕ → World → Event → Option Taking
-taking_in servers w (Called server moment call) = taking_call servers server moment call
+taking_in servers w (Called server moment c) = taking_call servers w server moment c
 taking_in servers w (Tick server moment word) =
-    taking_at servers server (input.Tick moment word)
+    taking_at servers w server (input.Tick moment word)
 taking_in servers w (Deliver number) =
-    taking_message servers (message_at (bag w.journal) number)
+    taking_message servers w (message_at (bag w.journal) number)
 taking_in servers w (Lose number) = None
 taking_in servers w (Repeat number) = None
-taking_in servers w (Restart server) = taking_at servers server input.Restart
+taking_in servers w (Restart server) = taking_at servers w server input.Restart
 taking_in servers w (Remove server) = None
 
 -- the world after a step

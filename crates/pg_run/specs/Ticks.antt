@@ -42,7 +42,7 @@ use Rattle.pg_register.specs.Place.{root}
 use Rattle.pg_graph.specs.Seeks.{edges_of}
 use Rattle.pg_server.specs.Local.{without_wishes}
 use Rattle.pg_server.specs.Owing.{owed_keys}
-use Rattle.pg_run.specs.Run.{Step, next, run}
+use Rattle.pg_run.specs.Run.{Step, is_live, next, run}
 
 -- its clock is not at its end
 abbrev pub HasTime : Store → Type 0
@@ -102,7 +102,8 @@ asking a = filter (λ i. not (target_of i == 0)) a.intents
 
 -- The message of an intention. A Seek names the replica that seeks, a Fill fetches a replica of its
 -- birth, a Patch tells its entry, and a Confirm asks for the place and flags of a child as the
--- directory has them now. Of the other kinds none begins yet
+-- directory has them now. A Bye names the birth that is over, and a Leave the place that the replica
+-- has now
 abbrev pub IsAskedBy : Store → Intent → Message → Type 0
 IsAskedBy a (intent.Bye file birth peer peer_birth) m =
     m ≡ message.Bye (record { file = file; sender = birth; receiver = peer_birth })
@@ -192,10 +193,10 @@ pub record TickSends (stores : ℕ → Store) (server word : ℕ) (step : Step) 
   pub refuses : ¬ (HasTime (stores server)) → IsRefused step.entry
   pub still : (s : ℕ) → step.stores s ≡ stores s
 
--- and sends else just what its server owes, what it asks for, and at most one walk
+-- and a live server sends then just what it owes, what it asks for, and at most one walk
 abbrev pub TicksSendWhatIsOwed : ℕ → Type 0
 TicksSendWhatIsOwed servers = (events : List Event) (server moment word : ℕ)
-    → 1 ≤ server → server ≤ servers
+    → is_live servers (run servers events) server ≡ true
     → TickSends (run servers events).stores server word
     (next servers (run servers events) (Tick server moment word))
 
@@ -211,6 +212,7 @@ pub record RestartLoses (stores : ℕ → Store) (server : ℕ) (step : Step) : 
   pub still : (s : ℕ) → s ≢ server → step.stores s ≡ stores s
 
 abbrev pub RestartsLoseWishes : ℕ → Type 0
-RestartsLoseWishes servers = (events : List Event) (server : ℕ) → 1 ≤ server → server ≤ servers
+RestartsLoseWishes servers = (events : List Event) (server : ℕ)
+    → is_live servers (run servers events) server ≡ true
     → RestartLoses (run servers events).stores server
     (next servers (run servers events) (Restart server))

@@ -1,7 +1,7 @@
 -- What replicas took: the updates that a server's replicas of files and directories have, in the
--- order in which they came to it, the latest first.
-use Rattle.std.specs.Prelude.{Bool, true, false, ◌&&◌, if◌then◌else◌, List, [], ◌∷◌, map}
-use Rattle.std.specs.List.{flat_map}
+-- order in which they came to it, the latest first. Of a replica that went there is none.
+use Rattle.std.specs.Prelude.{Bool, true, false, ◌&&◌, not, if◌then◌else◌, List, [], ◌∷◌, map, Option, None, Some}
+use Rattle.std.specs.List.{filter, flat_map}
 use Rattle.pg_base.specs.declared.id.FileId.{FileId}
 use Rattle.pg_base.specs.declared.stamp.Stamp.{Stamp}
 use Rattle.pg_base.specs.Id.{is_same_file}
@@ -138,9 +138,31 @@ begun_by (TookFlag by thing flag) = []
 begun_by (Began file) = file ∷ []
 
 -- a server holds the things of which a replica began there: what a directory lists need not be held,
--- nor the parent of what is held. Nothing that is held goes
+-- nor the parent of what is held. What a replica took goes with it
 abbrev pub held : List Take → List FileId
 held takes = flat_map begun_by takes
 
 abbrev pub is_held : FileId → List Take → Bool
 is_held file takes = is_among file (held takes)
+
+-- ---- a replica that goes
+
+abbrev pub is_taker : FileId → Taker → FileId → Bool
+is_taker file Itself thing = is_same_file thing file
+is_taker file (InDir dir) thing = is_same_file dir file
+
+-- the replica of this thing took it: a version, place or flag of the thing, and as a directory an
+-- update of a child; or it began so
+abbrev pub is_of_replica : FileId → Take → Bool
+is_of_replica file (TookVersion f stamp) = is_same_file f file
+is_of_replica file (TookPlace by thing place) = is_taker file by thing
+is_of_replica file (TookFlag by thing flag) = is_taker file by thing
+is_of_replica file (Began f) = is_same_file f file
+
+-- what it took goes with it. What directories took of the thing stays
+abbrev pub without : FileId → List Take → List Take
+without file takes = filter (λ t. not (is_of_replica file t)) takes
+
+abbrev pub without_gone : Option FileId → List Take → List Take
+without_gone None takes = takes
+without_gone (Some file) takes = without file takes

@@ -124,16 +124,45 @@ fn is_void(world: &mut World, event: Event, cause: VoidCause) -> bool
     }
 }
 
-// What is not built is void, whichever server it names; and then what no server is there for.
+// Nothing happens at a server that is not there or was removed, the last one stays, and who was not removed is not given up.
 #[test]
-fn what_is_not_built_is_void(rt: HostRuntime) -> Result<(), Fail> {
+fn void_events_say_why(rt: HostRuntime) -> Result<(), Fail> {
     let alloc = rt.alloc();
     let mut world = World::new(alloc, 2)?;
-    let unbuilt = VoidCause::Unbuilt;
-    assert!(rt; is_void(&mut world, call(alloc, 7, b"forget d1.1")?, unbuilt));
     assert!(rt; is_void(&mut world, Event::Restart(7), VoidCause::NoServer));
-    assert!(rt; is_void(&mut world, Event::Remove(7), unbuilt));
+    assert!(rt; is_void(&mut world, Event::Remove(7), VoidCause::NoServer));
     assert!(rt; is_void(&mut world, call(alloc, 7, b"status")?, VoidCause::NoServer));
     assert!(rt; is_void(&mut world, Event::Deliver(1), VoidCause::NoMessage));
+    assert!(rt;
+        is_void(
+            &mut world,
+            call(alloc, 1, b"giveup 1 2")?,
+            VoidCause::Unremoved
+        )
+    );
+    happen(&mut world, Event::Remove(2))?;
+    assert!(rt; is_void(&mut world, Event::Remove(2), VoidCause::Removed));
+    assert!(rt; is_void(&mut world, call(alloc, 2, b"status")?, VoidCause::Removed));
+    assert!(rt; is_void(&mut world, Event::Remove(1), VoidCause::Last));
+    Ok(())
+}
+
+// Nothing comes to who was removed. Until the other one gives that up, and not itself, the run waits for it.
+#[test]
+fn a_removal_is_given_up_late(rt: HostRuntime) -> Result<(), Fail> {
+    let alloc = rt.alloc();
+    let mut world = made(alloc)?;
+    happen(&mut world, Event::Remove(1))?;
+    assert!(rt; !world.has_message());
+    assert!(rt; waits_for(alloc, &world, "waits view 2 0")?);
+    assert!(rt;
+        is_void(
+            &mut world,
+            call(alloc, 2, b"giveup 1 2")?,
+            VoidCause::Unremoved
+        )
+    );
+    happen(&mut world, call(alloc, 2, b"giveup 1 1")?)?;
+    assert!(rt; waits_for(alloc, &world, "quiet")?);
     Ok(())
 }

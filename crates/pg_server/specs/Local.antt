@@ -21,10 +21,11 @@ use Rattle.pg_cells.specs.Ticks.{tick}
 use Rattle.pg_repair.specs.Beginning.{begin_end}
 use Rattle.pg_repair.specs.Confirming.{confirm, place_is}
 use Rattle.pg_repair.specs.Fetching.{fetch}
-use Rattle.pg_repair.specs.Filling.{full}
+use Rattle.pg_repair.specs.Filling.{full, invite}
 use Rattle.pg_repair.specs.Granting.{gone, grant, no_grant}
 use Rattle.pg_repair.specs.NoneHere.{none_here}
 use Rattle.pg_repair.specs.Requests.{ask_all, ask_begun}
+use Rattle.pg_graph.specs.Leaving.{bye, bye_ok, leave, leave_ok}
 use Rattle.pg_graph.specs.Seeking.{here, seek}
 use Rattle.pg_repair.specs.Telling.{tell, tell_ok}
 use Rattle.pg_graph.specs.Walks.{walk, walk_of_tick}
@@ -74,7 +75,7 @@ is_heard store packet = is_in_time store && ((packet.view == view_of store)
     && (is_live_other store packet.from && is_in_range packet.message))
 
 -- each kind of message goes to its handler, which does nothing where the message is not accepted.
--- Bodies on demand and leaving are not built: their messages do nothing
+-- Bodies on demand are not built: their messages do nothing
 abbrev pub receive : Store → Message → Work → Done
 receive store (message.Cell ends tag c) work = cell store ends tag c work
 receive store (message.Ack ends k tag) work = ack store ends k tag work
@@ -91,15 +92,15 @@ receive store (message.Seek file birth) work = seek store file birth work
 receive store (message.Here ends) work = here store ends work
 receive store (message.NoneHere ask file child) work = none_here store ask file child work
 receive store (message.Gone file birth) work = gone store file birth work
-receive store (message.Bye ends) work = idle store work
-receive store (message.ByeOk file birth) work = idle store work
+receive store (message.Bye ends) work = bye store ends work
+receive store (message.ByeOk file birth) work = bye_ok store file birth work
 receive store (message.Confirm dir entry) work = confirm store dir entry work
 receive store (message.PlaceIs dir entry) work = place_is store dir entry work
 receive store (message.Tell dir entry) work = tell store dir entry work
 receive store (message.TellOk dir child stamp) work = tell_ok store dir child stamp work
-receive store (message.Leave ends stamp) work = idle store work
-receive store (message.LeaveOk ends stamp) work = idle store work
-receive store (message.Invite ends) work = idle store work
+receive store (message.Leave ends stamp) work = leave store ends stamp work
+receive store (message.LeaveOk ends stamp) work = leave_ok store ends stamp work
+receive store (message.Invite ends) work = invite store ends work
 receive store (message.Walk ends origin birth hops word) work =
     walk store ends origin birth hops word work
 receive store (message.Meet ends) work = here store ends work

@@ -9,18 +9,14 @@ use pg_base::Items;
 use pg_call::{Call, Refusal, Reply};
 use pg_calls::do_call;
 use pg_cells::{ack, cell, finish, settle, tick};
-use pg_graph::{here, seek, walk, walk_of_tick};
+use pg_graph::{bye, bye_ok, here, leave, leave_ok, seek, walk, walk_of_tick};
 use pg_msg::{Message, Packet, Sent, Work};
 use pg_repair::{
-    ask_all, ask_begun, begin_end, confirm, fetch, full, gone, grant, no_grant, none_here,
+    ask_all, ask_begun, begin_end, confirm, fetch, full, gone, grant, invite, no_grant, none_here,
     place_is, tell, tell_ok,
 };
-use pg_store::Store;
+use pg_store::{LATEST_TIME, Store};
 use std::alloc::AllocError;
-
-/// From a greatest time behind this no house rule draws a stamp: memory ends before. A call draws two stamps at most from a
-/// clock that is not at its end, and no message with a later time is heard.
-const LATEST_TIME: u64 = (1 << 62) + (1 << 40);
 
 /// These messages, and the others behind them.
 fn joined(sent: Items<Sent>, others: Items<Sent>) -> Result<Items<Sent>, AllocError>
@@ -194,8 +190,11 @@ fn receive(store: &mut Store, message: Message, work: &mut Work) -> Result<(), A
             gone(store, file, birth, work);
             Ok(())
         }
-        Message::Bye { .. } => Ok(()),
-        Message::ByeOk { .. } => Ok(()),
+        Message::Bye { ends } => bye(store, ends, work),
+        Message::ByeOk { file, birth } => {
+            bye_ok(store, file, birth, work);
+            Ok(())
+        }
         Message::Confirm { dir, entry } => confirm(store, dir, entry.get(), work),
         Message::PlaceIs { dir, entry } => place_is(store, dir, entry.get(), work),
         Message::Tell { dir, entry } => tell(store, dir, entry.get(), work),
@@ -203,9 +202,9 @@ fn receive(store: &mut Store, message: Message, work: &mut Work) -> Result<(), A
             tell_ok(store, dir, child, stamp, work);
             Ok(())
         }
-        Message::Leave { .. } => Ok(()),
-        Message::LeaveOk { .. } => Ok(()),
-        Message::Invite { .. } => Ok(()),
+        Message::Leave { ends, stamp } => leave(store, ends, stamp, work),
+        Message::LeaveOk { ends, stamp } => leave_ok(store, ends, stamp, work),
+        Message::Invite { ends } => invite(store, ends, work),
         Message::Walk {
             ends,
             origin,

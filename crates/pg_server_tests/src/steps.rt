@@ -1,29 +1,75 @@
-//! What comes to servers, and what comes of it.
+//! What comes to servers, and what comes of it, step by step.
 
+use crate::messages::{Told, message};
+use pg_base::NodeId;
 use pg_call::read_call;
-use pg_server::{Input, Out, Server};
+use pg_event::Owing;
+use pg_msg::Packet;
+use pg_server::{Input, Out, Server, StepError};
 use pg_words::first_words;
-use std::alloc::Global;
+use std::alloc::{AllocError, Global};
 use std::test::Fail;
 
-const MADE: &str = "made d1.1, made 2, 1 2 cell d0.0 entry:d1.1";
+/// What comes to a server.
+#[derive(Clone, Copy)]
+pub(crate) enum Given {
+    /// A client calls it at time 50 with these words.
+    Call(&'static str),
+    /// It is time 51, with this random word.
+    Tick(u64),
+    Restart,
+    /// The first of the messages that a server sent last.
+    Sent,
+    /// This message, from this server.
+    From(NodeId, Told),
+}
 
-const TAKEN: &str = "made 0, 2 1 ack d0.0 entry:d1.1, 2 1 cell d0.0 entry:d1.1";
+/// A step of a test: of the first server, or of the second.
+#[derive(Clone, Copy)]
+pub(crate) enum Step {
+    /// Something comes to a server, and this comes of it.
+    Comes(NodeId, Given, &'static str),
+    /// The first that a server owes is this.
+    Owes(NodeId, &'static str),
+    /// A server has given out so many births.
+    Births(NodeId, u64),
+}
 
-const SENT_AGAIN: &str = "done, made 0, 1 2 cell d0.0 entry:d1.1";
+/// Two servers, and the first of the messages that one of them sent last.
+#[derive(Drop)]
+struct Servers {
+    first: Server,
+    second: Server,
+    sent: Option<Input>,
+}
 
-const ASKED: &str = "refused 3 NotYet d1.1, made 0, 2 1 fetch d1.1 -";
-
-/// A client calls at time 50 with these words.
-fn call(alloc: Global, line: &[u8]) -> Result<Option<Input>, Fail> {
+fn call(alloc: Global, line: &str) -> Result<Option<Input>, Fail> {
     let mut room = [b"".as_slice(); 7];
-    let count = first_words(line, &mut room);
+    let count = first_words(line.as_bytes(), &mut room);
     let call = read_call(alloc, &room[..count])?.ok_or("call")?;
     Ok(Some(Input::Call { moment: 50, call }))
 }
 
+fn arrival(alloc: Global, from: NodeId, told: Told) -> Result<Option<Input>, Fail> {
+    Ok(Some(Input::Arrival(Packet {
+        from,
+        view: 0,
+        message: message(alloc, told)?,
+    })))
+}
+
+fn input(alloc: Global, sent: &mut Option<Input>, given: Given) -> Result<Option<Input>, Fail> {
+    match given {
+        Given::Call(line) => call(alloc, line),
+        Given::Tick(word) => Ok(Some(Input::Tick { moment: 51, word })),
+        Given::Restart => Ok(Some(Input::Restart)),
+        Given::Sent => Ok(sent.take()),
+        Given::From(from, told) => arrival(alloc, from, told),
+    }
+}
+
 /// The first of the messages that were sent, as it arrives.
-fn arrival(out: &Out) -> Result<Option<Input>, Fail> {
+fn first_sent(out: &Out) -> Result<Option<Input>, Fail> {
     match out.sent.as_slice().first() {
         Some(first) => Ok(Some(Input::Arrival(first.copy()?.packet))),
         None => Ok(None),
@@ -45,82 +91,123 @@ fn told(alloc: Global, out: &Out) -> Result<String, Fail> {
     Ok(text)
 }
 
-/// Something comes to the server, and this comes of it. Gives the first message that is sent.
-pub(crate) fn happen(
+/// What comes of an input. This promises nothing, so that no proof below reads what a server does.
+fn take(server: &mut Server, input: Input) -> Result<Out, StepError> {
+    server.step(input)
+}
+
+/// Something comes to the server: what comes of it, and the first message that is sent.
+fn happen(
     alloc: Global,
     server: &mut Server,
     input: Option<Input>,
-    expected: &str,
-) -> Result<Option<Input>, Fail> {
-    let out = server.step(input.ok_or("nothing comes")?)?;
-    let text = told(alloc, &out)?;
-    if text.as_str() != expected {
-        return Err(Fail::from(text));
+) -> Result<(String, Option<Input>), Fail> {
+    let out = take(server, input.ok_or("nothing comes")?)?;
+    Ok((told(alloc, &out)?, first_sent(&out)?))
+}
+
+/// What was told is what was expected.
+fn expect(told: String, expected: &str) -> Result<(), Fail> {
+    if told.as_str() == expected {
+        Ok(())
+    } else {
+        Err(Fail::from(told))
     }
-    arrival(&out)
 }
 
-/// The first that the server owes is this.
-pub(crate) fn owes(alloc: Global, server: &Server, expected: &str) -> Result<bool, Fail> {
-    let owing = server.owed().ok_or("owed")?;
-    let text = format!(in alloc; "{owing}")?;
-    Ok(text.as_str() == expected)
+fn comes(
+    alloc: Global,
+    server: &mut Server,
+    sent: &mut Option<Input>,
+    given: Given,
+    expected: &str,
+) -> Result<(), Fail> {
+    let input = input(alloc, sent, given)?;
+    let (told, first) = happen(alloc, server, input)?;
+    *sent = first;
+    expect(told, expected)
 }
 
-/// A directory is made at a server, which owes its cells, and sends them again.
-#[test]
-fn a_server_owes_what_it_made(rt: HostRuntime) -> Result<(), Fail> {
-    let alloc = rt.alloc();
-    let mut server = Server::new(alloc, 1, 2)?;
-    happen(alloc, &mut server, call(alloc, b"mkdir /a")?, MADE)?;
-    let tick = Input::Tick {
-        moment: 51,
-        word: 0,
-    };
-    happen(alloc, &mut server, Some(tick), SENT_AGAIN)?;
-    assert!(rt; owes(alloc, &server, "cell 1 d0.0 2 entry:d1.1")?);
-    assert!(rt; !server.has_failed());
+/// The first that a server owes. It promises nothing, as `take`.
+fn first_owed(server: &Server) -> Option<Owing> {
+    server.owed()
+}
+
+fn owes(alloc: Global, server: &Server, expected: &str) -> Result<(), Fail> {
+    match first_owed(server) {
+        Some(owing) => expect(format!(in alloc; "{owing}")?, expected),
+        None => expect(format!(in alloc; "nothing")?, expected),
+    }
+}
+
+fn has_births(alloc: Global, server: &Server, births: u64) -> Result<(), Fail> {
+    let given = server.store().births;
+    if given == births {
+        Ok(())
+    } else {
+        Err(Fail::from(format!(in alloc; "{given} births")?))
+    }
+}
+
+fn take_step(alloc: Global, servers: &mut Servers, step: Step) -> Result<(), Fail> {
+    match step {
+        Step::Comes(1, given, expected) => {
+            comes(
+                alloc,
+                &mut servers.first,
+                &mut servers.sent,
+                given,
+                expected,
+            )
+        }
+        Step::Comes(_, given, expected) => {
+            comes(
+                alloc,
+                &mut servers.second,
+                &mut servers.sent,
+                given,
+                expected,
+            )
+        }
+        Step::Owes(1, expected) => owes(alloc, &servers.first, expected),
+        Step::Owes(_, expected) => owes(alloc, &servers.second, expected),
+        Step::Births(1, births) => has_births(alloc, &servers.first, births),
+        Step::Births(_, births) => has_births(alloc, &servers.second, births),
+    }
+}
+
+/// The server with this number is there, and did not fail.
+fn stands(server: &Server, number: NodeId) -> bool {
+    !server.has_failed() && server.store().server() == number
+}
+
+/// A server with this number of so many. It promises nothing, as `take`.
+fn new_server(alloc: Global, number: NodeId, count: u32) -> Result<Server, AllocError> {
+    Server::new(alloc, number, count)
+}
+
+fn begin(alloc: Global, count: u32) -> Result<Servers, Fail> {
+    Ok(Servers {
+        first: new_server(alloc, 1, count)?,
+        second: new_server(alloc, 2, count)?,
+        sent: None,
+    })
+}
+
+fn go(alloc: Global, servers: &mut Servers, steps: &[Step]) -> Result<(), Fail> {
+    for next in steps {
+        take_step(alloc, servers, *next)?;
+    }
     Ok(())
 }
 
-/// Its first cell comes to another server, and the answer comes back.
-#[test]
-fn servers_take_what_comes(rt: HostRuntime) -> Result<(), Fail> {
-    let alloc = rt.alloc();
-    let mut first = Server::new(alloc, 1, 2)?;
-    let made = happen(alloc, &mut first, call(alloc, b"mkdir /a")?, MADE)?;
-    let mut second = Server::new(alloc, 2, 2)?;
-    let taken = happen(alloc, &mut second, made, TAKEN)?;
-    assert_eq!(rt; second.store().server(), 2);
-    happen(alloc, &mut first, taken, "made 0")?;
-    assert!(rt; first.owed().is_none());
-    Ok(())
-}
-
-/// A server that took the entry of a directory, which it does not hold.
-fn listing(alloc: Global) -> Result<Server, Fail> {
-    let mut first = Server::new(alloc, 1, 2)?;
-    let made = happen(alloc, &mut first, call(alloc, b"mkdir /a")?, MADE)?;
-    let mut second = Server::new(alloc, 2, 2)?;
-    happen(alloc, &mut second, made, TAKEN)?;
-    Ok(second)
-}
-
-/// A call asks for the directory. Whether so many births are given out then.
-fn asks(alloc: Global, server: &mut Server, births: u64) -> Result<bool, Fail> {
-    happen(alloc, server, call(alloc, b"ls /a 0")?, ASKED)?;
-    Ok(server.store().births == births)
-}
-
-/// What is listed and not held is fetched by each call, with one birth, until a restart loses the wish: then with the next
-/// one.
-#[test]
-fn a_restart_loses_the_wish(rt: HostRuntime) -> Result<(), Fail> {
-    let alloc = rt.alloc();
-    let mut server = listing(alloc)?;
-    assert!(rt; asks(alloc, &mut server, 2)?);
-    assert!(rt; asks(alloc, &mut server, 2)?);
-    happen(alloc, &mut server, Some(Input::Restart), "made 0")?;
-    assert!(rt; asks(alloc, &mut server, 3)?);
-    Ok(())
+/// The first two of so many servers go through these steps.
+pub(crate) fn play(alloc: Global, count: u32, steps: &[Step]) -> Result<(), Fail> {
+    let mut servers = begin(alloc, count)?;
+    go(alloc, &mut servers, steps)?;
+    if stands(&servers.first, 1) && stands(&servers.second, 2) {
+        Ok(())
+    } else {
+        Err("a server failed".into())
+    }
 }

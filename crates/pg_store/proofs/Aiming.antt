@@ -93,7 +93,7 @@ alike_at d x y h = ap (λ (q : FileId). is_same_file q y) (is_same_file-true d x
 wish_some : (o : Option Wish) (x : Wish) → o ≡ Some x → IsSome o
 wish_some o x there = subst IsSome (sym there) refl
 
-aim_found : (ws : WishesValue) (file q : FileId) (target : ℕ) (x : Wish) → wish_in ws file ≡ Some x
+pub aim_found : (ws : WishesValue) (file q : FileId) (target : ℕ) (x : Wish) → wish_in ws file ≡ Some x
     → wish_in (wishes.aimed ws file target (Some x)) q
     ≡ cond (is_same_file file q) (Some (wishes.aimed_at target x)) (wish_in ws q)
 aim_found ws file q target x there =

@@ -7,3 +7,8 @@ pub mod Pairs
 pub mod Given
 pub mod Wishing
 pub mod Aiming
+pub mod Over
+pub mod Going
+pub mod Entering
+pub mod Entered
+pub mod Wished

@@ -10,9 +10,9 @@ use Rattle.pg_intent.specs.declared.key.IntentKey.{IntentKey}
 use Rattle.pg_intent.specs.declared.key.IntentKey.TheVariants as intent_key
 use Rattle.pg_intent.specs.Intents.{ended, intent_at}
 use Rattle.pg_names.specs.declared.own.Own.{Own}
-use Rattle.pg_names.specs.Names.{begin as begin_names, raise}
+use Rattle.pg_names.specs.Names.{begin as begin_names, let_go as let_go_names, raise}
 use Rattle.pg_replica.specs.Replica.{new_replica}
-use Rattle.pg_replica.specs.Replicas.{put_replica}
+use Rattle.pg_replica.specs.Replicas.{put_replica, without_replica}
 use Rattle.pg_store.specs.declared.store.Store.{Store}
 use Rattle.pg_store.specs.Store.{take_entry}
 use Rattle.pg_store.specs.Wishes.{without_wish}
@@ -52,6 +52,15 @@ take_patch store dir k = take_told_in (with_intents store (ended store.intents k
 abbrev pub take_patches : Store → FileId → List IntentKey → Store
 take_patches store dir [] = store
 take_patches store dir (k ∷ ks) = take_patches (take_patch store dir k) dir ks
+
+-- ---- the end
+
+-- a replica goes, with all that it has
+abbrev pub let_go : Store → FileId → Store
+let_go store file = record store {
+  names = let_go_names store.names file;
+  replicas = without_replica store.replicas file;
+}
 
 -- ---- the beginning
 

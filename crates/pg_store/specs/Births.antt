@@ -1,5 +1,5 @@
 -- Births that a server gives out.
-use Rattle.std.specs.Prelude.{ℕ, ◌+◌, ◌==◌, ◌&&◌, ◌||◌, not, Bool, false, Option, None, Some}
+use Rattle.std.specs.Prelude.{ℕ, ◌+◌, ◌==◌, ◌&&◌, ◌||◌, nat_le, not, Bool, false, Option, None, Some}
 use Rattle.pg_base.specs.declared.id.FileId.{FileId}
 use Rattle.pg_intent.specs.declared.intent.Intent.{Intent}
 use Rattle.pg_intent.specs.declared.intent.Intent.TheVariants as intent
@@ -57,3 +57,11 @@ is_fill_at (Some i) birth = is_fill_with i birth
 abbrev pub is_pending : Store → FileId → ℕ → Bool
 is_pending store file birth = is_with_birth (wish_at store file) birth
     || (not (is_held store file) && is_fill_at (fill_at store file) birth)
+
+-- ---- births that are over
+
+-- it was given out, and neither has the thing's replica it nor is one to come that has it. A birth that
+-- was given out for another thing counts as over for this one
+abbrev pub is_over : Store → FileId → ℕ → Bool
+is_over store file birth = nat_le birth store.births
+    && (not (has_birth store file birth) && not (is_pending store file birth))

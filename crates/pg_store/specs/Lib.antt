@@ -7,3 +7,4 @@ pub mod Links
 pub mod Beginning
 pub mod Cells
 pub mod Together
+pub mod Views

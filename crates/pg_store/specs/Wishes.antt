@@ -1,6 +1,6 @@
 -- What clients asked for that is not held.
-use Rattle.std.specs.Prelude.{ℕ, Bool, ◌==◌, not, false, List, Option, None, Some}
-use Rattle.std.specs.List.{filter}
+use Rattle.std.specs.Prelude.{ℕ, Bool, ◌==◌, not, false, if◌then◌else◌, List, [], ◌∷◌, Option, None, Some}
+use Rattle.std.specs.List.{filter, flat_map}
 use Rattle.std.specs.BTreeMap.{is_at, insert_entry}
 use Rattle.std.specs.Map.{lookup, set_value}
 use Rattle.pg_base.specs.declared.id.FileId.{FileId}
@@ -38,3 +38,14 @@ aimed wishes file target (Some wish) =
 -- the wish for the thing asks this server from now on, if there is one
 abbrev pub aim_wish : WishesValue → FileId → ℕ → WishesValue
 aim_wish wishes file target = aimed wishes file target (wish_in wishes file)
+
+abbrev pub wished_at : ℕ → FileId → Wish → List FileId
+wished_at server file wish = if wish.target == server then file ∷ [] else []
+
+-- the things whose wishes ask this server, by id
+abbrev pub wished_of : ℕ → WishesValue → List FileId
+wished_of server wishes = flat_map (λ e. wished_at server e.0 e.1) wishes
+
+abbrev pub aim_each : WishesValue → List FileId → ℕ → WishesValue
+aim_each wishes [] to = wishes
+aim_each wishes (file ∷ files) to = aim_each (aim_wish wishes file to) files to

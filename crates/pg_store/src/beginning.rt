@@ -1,9 +1,10 @@
-//! Replicas that begin.
+//! Replicas that begin and go.
 
 ghost use Rattle.std.specs.Prelude.{◌≡◌, ◌++◌, IfOk, OnErr, OnOk};
+ghost use Rattle.pg_store.specs.Store.{replica_at};
 ghost use Rattle.pg_store.specs.Births.{draw_birth, fill_at, is_fill_at, is_fill_with, is_pending, wish_at, with_birth};
 ghost use Rattle.pg_store.specs.Wishes.{is_with_birth};
-ghost use Rattle.pg_store.specs.Beginning.{begin, patch_key, patch_key_if, patches_of, take_patch, take_patches, take_told};
+ghost use Rattle.pg_store.specs.Beginning.{begin, let_go, patch_key, patch_key_if, patches_of, take_patch, take_patches, take_told};
 
 use crate::store::{MOST_TAGS, Store};
 use pg_base::{FileId, Items, Policy};
@@ -74,6 +75,15 @@ impl Store {
         self.wishes.take(&file);
         self.take_patches(file)?;
         Ok(())
+    }
+
+    /// A replica goes, with all that it has, and is handed out.
+    pub fn let_go(&mut self, file: &FileId) -> Option<Replica>
+        ensures replica { result ≡ replica_at self.old file.now }
+        ensures store { self.new ≡ let_go self.old file.now }
+    {
+        self.names.let_go(file);
+        self.replicas.remove(file)
     }
 
     /// The entries of a directory's Patches are taken, and these end.

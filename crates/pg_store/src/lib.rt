@@ -4,14 +4,17 @@
 
 mod beginning;
 mod cells;
+mod laws;
 mod links;
 mod servers;
 mod start;
 mod store;
 mod taking;
 mod versions;
+mod views;
 mod wishes;
 
-pub use store::{MOST_TAGS, Store};
+pub use laws::{births_move, views_are_entered};
+pub use store::{LATEST_TIME, MOST_TAGS, Store};
 pub use taking::EntryNews;
 pub use wishes::{Wish, Wishes};

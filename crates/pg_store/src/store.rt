@@ -39,6 +39,10 @@ pub struct Store {
 /// Where more tags than this were given out, no version is made and no key is touched: memory ends before.
 pub const MOST_TAGS: u64 = 1 << 63;
 
+/// From a greatest time behind this no house rule draws a stamp: memory ends before. A call draws two stamps at most from a
+/// clock that is not at its end, and no message with a later time is heard.
+pub const LATEST_TIME: u64 = (1 << 62) + (1 << 40);
+
 impl Store {
     /// A server at the start of a run with so many servers.
     pub fn new(alloc: Global, server: NodeId, servers: u32) -> Result<Store, AllocError>

@@ -1,9 +1,9 @@
 //! What clients asked for that is not held.
 
-ghost use Rattle.std.specs.Prelude.{◌≡◌, [], OnErr, OnOk, option_copied};
-ghost use Rattle.pg_store.specs.Wishes.{aim_wish, aimed_at, put_wish, wish_in, without_wish};
+ghost use Rattle.std.specs.Prelude.{◌≡◌, ◌++◌, [], IfOk, OnErr, OnOk, option_copied};
+ghost use Rattle.pg_store.specs.Wishes.{aim_each, aim_wish, aimed_at, put_wish, wish_in, wished_at, wished_of, without_wish};
 
-use pg_base::{FileId, NodeId};
+use pg_base::{FileId, Items, NodeId};
 use std::alloc::{AllocError, Global};
 use std::collections::BTreeMap;
 use std::marker::Model;
@@ -90,10 +90,54 @@ impl Wishes {
         wish.aim(target);
     }
 
+    /// The things whose wishes ask this server, by id.
+    fn of_target(&self, server: NodeId) -> Result<Items<FileId>, AllocError>
+        ensures { IfOk result (λ files. files ≡ wished_of server self.now) }
+    {
+        let mut files = Items::new(self.alloc);
+        for (file, wish) in self.by_file.iter() {
+            push_if_asks(server, *file, wish, &mut files)?;
+        }
+        Ok(files)
+    }
+
+    /// The wishes for these things ask this server from now on.
+    fn aim_each(&mut self, files: &[FileId], to: NodeId)
+        ensures { self.new ≡ aim_each self.old files.now to }
+    {
+        for file in files {
+            self.aim(file, to);
+        }
+    }
+
+    /// The wishes that ask one server ask the other from now on.
+    pub fn turn(&mut self, from: NodeId, to: NodeId) -> Result<(), AllocError>
+        ensures { OnOk result (self.new ≡ aim_each self.old (wished_of from self.old) to) }
+    {
+        let files = self.of_target(from)?;
+        self.aim_each(files.as_slice(), to);
+        Ok(())
+    }
+
     /// All wishes are lost.
     pub fn clear(&mut self)
         ensures { self.new ≡ [] }
     {
         self.by_file = BTreeMap::new(self.alloc);
     }
+}
+
+/// The thing, where the wish for it asks this server.
+fn push_if_asks(
+    server: NodeId,
+    file: FileId,
+    wish: &Wish,
+    files: &mut Items<FileId>,
+) -> Result<(), AllocError>
+    ensures { OnOk result (files.new ≡ files.old ++ wished_at server file wish.now) }
+{
+    if wish.target == server {
+        files.push(file)?;
+    }
+    Ok(())
 }

@@ -1,6 +1,6 @@
 //! What comes to server 1 of three.
 
-use pg_base::{Actor, FileId, Head, Kind, Policy, SharedBytes, Stamp, Vector, Version};
+use pg_base::{Actor, FileId, Head, Kind, NodeId, Policy, SharedBytes, Stamp, Vector, Version};
 use pg_edges::Key;
 use pg_entries::Entry;
 use pg_intent::Intent;
@@ -220,5 +220,47 @@ fn patches_are_taken(rt: HostRuntime) -> Result<(), Fail> {
     store.begin(DIR, 2, Policy::Last, Own::blank(alloc, DIR)?, false)?;
     assert!(rt; has_cell(&store, DIR, Key::Entry(DIR))?);
     assert_eq!(rt; (store.intents.len(), store.names.last()), (0, 5));
+    Ok(())
+}
+
+/// The server is removed. This promises nothing, so that no proof below reads what happens.
+fn enter(store: &mut Store, server: NodeId) -> Result<(), AllocError> {
+    store.enter(server)
+}
+
+/// Whom the first intention asks, and whom the wish for the directory.
+fn asked(store: &Store) -> (Option<NodeId>, Option<NodeId>) {
+    (
+        store.intents.at(0).map(|intent| intent.target()),
+        store.wishes.get(&DIR).map(|wish| wish.target),
+    )
+}
+
+/// No edge leads to a server that is removed, what was for it alone ends, and who asked it asks the next one.
+#[test]
+fn a_server_is_removed(rt: HostRuntime) -> Result<(), Fail> {
+    let mut store = holding(rt.alloc(), FILE)?;
+    store.intents.begin(Intent::Bye {
+        file: FILE,
+        birth: 1,
+        peer: 2,
+        peer_birth: 1,
+    })?;
+    store.intents.begin(Intent::Fill {
+        file: FILE,
+        birth: 2,
+        target: 2,
+    })?;
+    store.wishes.put(
+        DIR,
+        Wish {
+            birth: 3,
+            target: 2,
+        },
+    )?;
+    enter(&mut store, 2)?;
+    assert_eq!(rt; (store.view(), store.intents.len()), (1, 1));
+    assert_eq!(rt; (store.edge_count(&FILE), store.edge_count(&ROOT)), (0, 1));
+    assert_eq!(rt; asked(&store), (Some(3), Some(3)));
     Ok(())
 }

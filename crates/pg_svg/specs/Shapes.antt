@@ -16,6 +16,7 @@ use Rattle.pg_svg.specs.declared.scale.Scale.{Scale}
 abbrev pub end_word : LegEnd → List ℕ
 end_word ending.Delivered = codes "delivered"
 end_word ending.Lost = codes "lost"
+end_word ending.Fallen = codes "lost"
 end_word ending.Copied = codes "copied"
 end_word ending.UnderWay = codes "under-way"
 

@@ -17,6 +17,7 @@ fn end_word(end: LegEnd) -> &'static str
     match end {
         LegEnd::Delivered => "delivered",
         LegEnd::Lost => "lost",
+        LegEnd::Fallen => "lost",
         LegEnd::Copied => "copied",
         LegEnd::UnderWay => "under-way",
     }

@@ -19,7 +19,7 @@ use Rattle.pg_entries.specs.declared.entry.Entry.{Entry}
 use Rattle.pg_house.specs.Facts.{IsIn}
 use Rattle.pg_msg.specs.declared.work.Touched.{Touched}
 use Rattle.pg_names.specs.declared.own.Own.{Own}
-use Rattle.pg_names.specs.Names.{HeldValue, NamesValue, cell_at as entry_at, is_entry_new, is_flag_new, join_entry, join_flag, join_place, known, or_blank, own_at, own_of, own_or_blank, raise, with_place}
+use Rattle.pg_names.specs.Names.{HeldValue, NamesValue, cell_at as entry_at, is_entry_new, is_flag_new, join_entry, join_flag, join_place, known, or_blank, own_at, own_of, own_or_blank, raise, remove_server, with_place}
 use Rattle.pg_names.proofs.Lookups.{flag_same, joined_same, known_absent, own_with_flag}
 use Rattle.pg_register.specs.declared.flag.Flag.{Flag}
 use Rattle.pg_register.specs.declared.place.Place.{Place}
@@ -102,6 +102,12 @@ raised_up s time f key.Place h = tt
 raised_up s time f (key.Flag m) h = h
 raised_up s time f (key.Entry g) h = h
 raised_up s time f (key.Version stamp) h = absurd h
+
+pub removed_up : (s : NamesValue) (server : ℕ) → NamesStay s (remove_server s server)
+removed_up s server f key.Place h = tt
+removed_up s server f (key.Flag m) h = h
+removed_up s server f (key.Entry g) h = h
+removed_up s server f (key.Version stamp) h = absurd h
 
 -- ---- no replica changes
 

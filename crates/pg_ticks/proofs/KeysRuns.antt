@@ -19,13 +19,15 @@ use Rattle.pg_run.specs.Run.{World, run}
 use Rattle.pg_run.proofs.Event.{Comes, IsKeptByParts, store_kept}
 use Rattle.pg_run.proofs.Frame.{OutlivesEvents, each_after, holds_in_runs}
 use Rattle.pg_ticks.specs.Laws.{KeysHaveCells}
-use Rattle.pg_names.specs.Names.{NamesValue}
+use Rattle.pg_names.specs.Names.{NamesValue, remove_server}
 use Rattle.pg_edges.specs.declared.key.Key.{Key}
 use Rattle.pg_ticks.proofs.Keyed.{NameHas}
-use Rattle.pg_ticks.proofs.KeysCells.{AllHaveCells, HaveCells, HaveIn, beside_have, entry_have, flag_have, place_have}
+use Rattle.pg_ticks.proofs.KeysCells.{AllHaveCells, HaveCells, HaveIn, beside_have, entry_have, flag_have, named_have, place_have, removed_up}
 use Rattle.pg_ticks.proofs.KeysLinks.{acknowledged_have, link_have, unlink_have}
-use Rattle.pg_ticks.proofs.KeysVersions.{begin_have, fill_have, ruled_have, version_have, write_have}
-use Rattle.pg_ticks.proofs.Pieces.{OutlivesPieces, called, intended_left, received, settled_left}
+use Rattle.pg_ticks.proofs.Intended.{intended_left, settled_left}
+use Rattle.pg_ticks.proofs.KeysVersions.{begin_have, fill_have, goes_have, ruled_have, version_have, write_have}
+use Rattle.pg_ticks.proofs.Called.{called}
+use Rattle.pg_ticks.proofs.Pieces.{OutlivesPieces, received}
 
 pieces : OutlivesPieces AllHaveCells
 pieces = record {
@@ -39,7 +41,9 @@ pieces = record {
   answer = λ a f edge k tag h. acknowledged_have a f edge k tag h;
   begin = λ a f birth policy own full h. begin_have a f birth policy own full h;
   fill = λ a f h. fill_have a f h;
+  goes = λ a f h. goes_have a f h;
   beside = λ a b names replicas h. unseen_have a b names replicas h;
+  removed = λ a server h. named_have a (remove_server a.names server) (removed_up a.names server) h;
   rules = λ a work h. ruled_have a work h;
 }
   where

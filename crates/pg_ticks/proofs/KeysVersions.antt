@@ -28,17 +28,19 @@ use Rattle.pg_intent.specs.declared.key.IntentKey.{IntentKey}
 use Rattle.pg_intent.specs.Intents.{ended, intent_at}
 use Rattle.pg_msg.specs.declared.work.Work.{Work}
 use Rattle.pg_names.specs.declared.own.Own.{Own}
-use Rattle.pg_names.specs.Names.{HeldValue, NamesValue, begin as begin_names, cell_at as entry_at, entry_in, fill, filled, known, new_held, or_blank, own_of, own_or_blank, raise}
+use Rattle.pg_names.specs.Names.{HeldValue, NamesValue, begin as begin_names, cell_at as entry_at, entry_in, fill, filled, known, let_go as let_go_names, new_held, or_blank, own_of, own_or_blank, raise}
+use Rattle.pg_names.proofs.Gone.{gone_other}
 use Rattle.pg_names.proofs.Lookups.{cells_kept, own_kept}
 use Rattle.pg_register.specs.Flag.{flag_of}
 use Rattle.pg_replica.specs.declared.replica.Replica.{Replica}
 use Rattle.pg_replica.specs.Laws.{IsKeyOf}
 use Rattle.pg_replica.specs.Replica.{cell_at as head_at, covered_heads, covers, key_of, keys, new_replica, own_actor, with_head, with_write, without_keys}
 use Rattle.pg_replica.specs.Replicas.{edge_count, or_nothing, replicas_taking, replicas_writing, takes_version}
+use Rattle.pg_replica.proofs.Going.{replica_behind}
 use Rattle.pg_replica.proofs.Growth.{cell_head}
 use Rattle.pg_replica.proofs.Heads.{head_cell, left_tag}
 use Rattle.pg_store.specs.declared.store.Store.{Store}
-use Rattle.pg_store.specs.Beginning.{begin, patches_of, put_new, take_patch, take_patches, take_told, take_told_in, with_intents}
+use Rattle.pg_store.specs.Beginning.{begin, let_go, patches_of, put_new, take_patch, take_patches, take_told, take_told_in, with_intents}
 use Rattle.pg_store.specs.Cells.{version_cell}
 use Rattle.pg_store.specs.Store.{content_of, is_new_version, put_version, replica_at, take_version, with_drawn, with_names, write}
 use Rattle.pg_cells.specs.Settling.{rules}
@@ -238,6 +240,27 @@ fill_have a f k = named_have a (fill a.names f) stays k
     stays g (key.Flag m) h = (h.0, ap (λ o. flag_of (or_blank g o).flags m) (own_kept a.names f filled (λ x. refl) g) ∙ h.1)
     stays g (key.Entry c) h = (h.0, cells_kept a.names f filled (λ x. refl) g c ∙ h.1)
     stays g (key.Version stamp) h = absurd h
+
+-- ---- a replica goes
+
+-- of others all stays
+going_stays : (s : NamesValue) (f g : FileId) → is_same_file f g ≡ false → (k : Key) → NameHas s g k → NameHas (let_go_names s f) g k
+going_stays s f g apart key.Place h = tt
+going_stays s f g apart (key.Flag m) h = (h.0, ap (λ (o : Option HeldValue). flag_of (or_blank g (own_of o)).flags m) (gone_other s f g apart) ∙ h.1)
+going_stays s f g apart (key.Entry c) h = (h.0, ap (entry_in c) (gone_other s f g apart) ∙ h.1)
+going_stays s f g apart (key.Version stamp) h = absurd h
+
+others_have : (a : Store) (f : FileId) → AllHaveCells a → (g : FileId) (t : Bool) → is_same_file f g ≡ t → HaveIn (let_go a f) g (cond (not t) (replica_at a g) None)
+others_have a f k g true e = tt
+others_have a f k g false e =
+    let b = let_go a f in
+    let same : replica_at b g ≡ replica_at a g = replica_behind a.replicas f g ∙ ap (λ (t : Bool). cond (not t) (replica_at a g) None) e in
+    have_in a b g (replica_at a g) (cell_stays a b g (going_stays a.names f g e) (ap (λ (o : Option Replica). (or_nothing o).content) same)) (k.each g)
+
+pub goes_have : (a : Store) (f : FileId) → AllHaveCells a → AllHaveCells (let_go a f)
+goes_have a f k = record {
+  each = λ g. subst (HaveIn (let_go a f) g) (sym (replica_behind a.replicas f g)) (others_have a f k g (is_same_file f g) refl);
+}
 
 -- ---- the house rules
 

@@ -4,6 +4,8 @@ pub mod KeysCells
 pub mod KeysLinks
 pub mod KeysVersions
 pub mod Pieces
+pub mod Called
+pub mod Intended
 pub mod KeysRuns
 pub mod Ticks
 pub mod FirstCause

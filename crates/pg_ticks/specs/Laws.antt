@@ -1,5 +1,5 @@
 -- What a run waits for, and what stands on edges: statements.
-use Rattle.std.specs.Prelude.{ℕ, ◌≡◌, ◌≤◌, ◌<◌, ◌↔◌, [], List, Some, slice_get}
+use Rattle.std.specs.Prelude.{ℕ, ◌≡◌, ◌≢◌, ◌<◌, ◌↔◌, [], true, List, Some, length, slice_get}
 use Rattle.pg_base.specs.declared.id.FileId.{FileId}
 use Rattle.pg_edges.specs.declared.key.Key.{Key}
 use Rattle.pg_edges.specs.Edges.{tag_at}
@@ -17,14 +17,15 @@ use Rattle.pg_msg.specs.declared.work.Work.{Work}
 use Rattle.pg_msg.specs.Sent.{summary}
 use Rattle.pg_store.specs.Cells.{cell_at}
 use Rattle.pg_replica.specs.declared.replica.Replica.{Replica}
+use Rattle.pg_store.specs.Servers.{view_of}
 use Rattle.pg_store.specs.Store.{replica_at}
 use Rattle.pg_cells.specs.Done.{idle}
 use Rattle.pg_cells.specs.Settling.{settle}
 use Rattle.pg_server.specs.Owing.{owed}
-use Rattle.pg_run.specs.Journal.{bag}
-use Rattle.pg_run.specs.Laws.{AtEach, names_after, store_after}
+use Rattle.pg_run.specs.Journal.{bag, removals}
+use Rattle.pg_run.specs.Laws.{AtEach, AtLive, names_after, store_after}
 use Rattle.pg_run.specs.Quiet.{quiet_of}
-use Rattle.pg_run.specs.Run.{World}
+use Rattle.pg_run.specs.Run.{World, is_live}
 
 -- ---- keys on edges
 
@@ -38,13 +39,9 @@ KeysHaveCells servers = (events : List Event) → AtEach servers (λ s.
 
 -- ---- what a run waits for
 
--- of all that is owed the first, by server: no lesser server owes anything
-pub record IsFirstOwed (servers : ℕ) (w : World) (o : Owing) : Type 0 where
-  pub server : ℕ
-  pub least : 1 ≤ server
-  pub most : server ≤ servers
-  pub first : slice_get (owed (w.stores server)) 0 ≡ Some o
-  pub before : (s : ℕ) → 1 ≤ s → s < server → owed (w.stores s) ≡ []
+-- a server has entered the last removal
+abbrev pub HasEnteredLast : World → ℕ → Type 0
+HasEnteredLast w s = view_of (w.stores s) ≡ length (removals w.journal)
 
 -- of all messages under way the first
 pub record IsFirstMessage (w : World) (told : Summary) : Type 0 where
@@ -52,11 +49,27 @@ pub record IsFirstMessage (w : World) (told : Summary) : Type 0 where
   pub first : slice_get (bag w.journal) 0 ≡ Some message
   pub is : summary message ≡ told
 
--- messages come before what is owed. Nobody waits for a view yet
+-- the least live server that has not entered the last removal, with its view
+pub record IsFirstView (servers : ℕ) (w : World) (server view : ℕ) : Type 0 where
+  pub live : is_live servers w server ≡ true
+  pub is : view_of (w.stores server) ≡ view
+  pub behind : view ≢ length (removals w.journal)
+  pub before : AtLive servers w (λ s. s < server → HasEnteredLast w s)
+
+-- of all that live servers owe the first, by server: no lesser one owes anything
+pub record IsFirstOwed (servers : ℕ) (w : World) (o : Owing) : Type 0 where
+  pub server : ℕ
+  pub live : is_live servers w server ≡ true
+  pub first : slice_get (owed (w.stores server)) 0 ≡ Some o
+  pub before : AtLive servers w (λ s. s < server → owed (w.stores s) ≡ [])
+
+-- messages come first, then views, then what is owed
 abbrev pub IsFirstCause : ℕ → World → Cause → Type 0
 IsFirstCause servers w (Message told) = IsFirstMessage w told
-IsFirstCause servers w (Owed o) = (bag w.journal ≡ []) × IsFirstOwed servers w o
-IsFirstCause servers w (View server view) = ⊥
+IsFirstCause servers w (View server view) =
+    (bag w.journal ≡ []) × IsFirstView servers w server view
+IsFirstCause servers w (Owed o) = (bag w.journal ≡ [])
+    × AtLive servers w (HasEnteredLast w) × IsFirstOwed servers w o
 
 -- a world is told to wait for this exactly where it is the first
 abbrev pub FirstCauseIsTold : Type 0

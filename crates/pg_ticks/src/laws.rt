@@ -24,8 +24,9 @@ pub fn restarts_lose_wishes()
     ensures { (servers : ℕ) → TidinessIsGiven servers → RestartsLoseWishes servers }
 {}
 
-/// What a world is told to wait for is the first message under way, and where there is none what the
-/// least server that owes something owes first.
+/// What a world is told to wait for is the first message under way; where there is none the view of
+/// the least live server that has not entered the last removal; and where all have what the least live
+/// server that owes something owes first.
 pub fn first_cause_is_told()
     ensures { FirstCauseIsTold }
 {}

@@ -1,3 +1,5 @@
 pub mod Standing
+pub mod Waiting
+pub mod Bags
 pub mod Kept
 pub mod Acting

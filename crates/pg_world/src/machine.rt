@@ -1,27 +1,31 @@
 //! The servers and the messages between them.
 
-ghost use Rattle.std.specs.Prelude.{◌≡◌, ◌++◌, ◌<◌, ◌≤◌, OnOk, IfOk, length, true, IsNone, ◌⊎◌, None, Some, slice_get};
+ghost use Rattle.std.specs.Prelude.{◌≡◌, ◌==◌, ◌++◌, ◌∷◌, [], ◌<◌, ◌≤◌, OnOk, IfOk, length, map, true, IsNone, ◌⊎◌, None, Some, slice_get};
 ghost use Rattle.std.specs.Option.{option_copied};
-ghost use Rattle.pg_run.specs.Journal.{message_at, without, bag};
-ghost use Rattle.pg_run.specs.Run.{World, is_server, start, idle_entry};
-ghost use Rattle.pg_run.specs.Quiet.{quiet_of, owed_by, has_some};
-ghost use Rattle.pg_world.specs.Stands.{Stands, EachStandsBehind, BagBehind, IsEntryBy, StandsBehind, IsEntryOf};
+ghost use Rattle.pg_event.specs.declared.quiet.Cause.TheVariants.{Owed};
+ghost use Rattle.pg_register.specs.Flag.{is_removed};
+ghost use Rattle.pg_run.specs.Journal.{message_at, to_live, without, without_to, bag};
+ghost use Rattle.pg_run.specs.Run.{World, is_due, is_removal, is_server, start, idle_entry};
+ghost use Rattle.pg_run.specs.Quiet.{lag, quiet_of, has_some};
+ghost use Rattle.pg_server.specs.Owing.{owed};
+ghost use Rattle.pg_world.specs.Stands.{Stands, EachStandsBehind, BagBehind, FirstOf, IsEntryBy, IsStepEntry, StandsBehind, StepsBehind, IsEntryOf, lives, of_one, removal_at, unless_removed, unless_to, void_at, void_call, void_giveup, void_removal};
 
 use pg_bag::Bag;
 use pg_base::{Items, NodeId};
 use pg_call::Call;
-use pg_calls::is_built;
-use pg_event::{Cause, Entry, Event, Owing, Quiet, VoidCause};
+use pg_event::{Cause, Entry, Event, Quiet, VoidCause};
 use pg_msg::Sent;
+use pg_register::is_removed;
 use pg_server::{Input, Out, Server};
 use pg_store::Store;
 use std::alloc::{AllocError, Global};
 
-/// The servers 1 to n, and the messages under way, in order of sending.
+/// The servers 1 to n, those that were removed, in that order, and the messages under way, in order of sending.
 #[derive(Drop)]
 pub struct Machine {
     pub alloc: Global,
     pub servers: Vec<Server>,
+    pub removed: Items<NodeId>,
     pub bag: Bag<Sent>,
 }
 
@@ -39,6 +43,7 @@ impl Machine {
         Ok(Machine {
             alloc,
             servers: all,
+            removed: Items::new(alloc),
             bag: Bag::new(alloc),
         })
     }
@@ -48,6 +53,53 @@ impl Machine {
         ensures { result ≡ is_server (length self.now.servers.items) server }
     {
         1 <= server && server as usize <= self.servers.len()
+    }
+
+    /// Whether a server is removed.
+    fn is_removed(&self, server: NodeId) -> bool
+        ensures { result ≡ is_removed self.now.removed server }
+    {
+        is_removed(self.removed.as_slice(), server)
+    }
+
+    /// Whether the run has a server of this number that is not removed.
+    pub fn is_live(&self, server: NodeId) -> bool
+        ensures { result ≡ lives (length self.now.servers.items) self.now.removed server }
+    {
+        self.has_server(server) && !self.is_removed(server)
+    }
+
+    /// Why nothing happens at a server: there is none of this number, or it is removed.
+    fn void_at(&self, server: NodeId) -> Option<VoidCause>
+        ensures { result ≡ void_at (length self.now.servers.items) self.now.removed server }
+    {
+        if self.is_live(server) {
+            return None;
+        }
+        if self.has_server(server) {
+            return Some(VoidCause::Removed);
+        }
+        Some(VoidCause::NoServer)
+    }
+
+    /// The server of the removal with this number, counted from 1.
+    fn removal_at(&self, number: u64) -> Option<NodeId>
+        ensures { result ≡ removal_at self.now.removed number }
+    {
+        if number == 0 {
+            return None;
+        }
+        self.removed.as_slice().get(number as usize - 1).copied()
+    }
+
+    /// Whether the removal with this number is that of a server.
+    fn is_removal(&self, number: u64, server: NodeId) -> bool
+        ensures { result ≡ is_removal self.now.removed number server }
+    {
+        match self.removal_at(number) {
+            Some(removed) => removed == server,
+            None => false,
+        }
     }
 
     /// What a server holds. None where the run has no such server.
@@ -69,6 +121,7 @@ impl Machine {
         ensures found { result ≡ message_at self.old.bag number }
         ensures bag { self.new.bag ≡ without self.old.bag number (message_at self.old.bag number) }
         ensures servers { self.new.servers ≡ self.old.servers }
+        ensures removed { self.new.removed ≡ self.old.removed }
     {
         if number == 0 {
             return None;
@@ -89,13 +142,28 @@ impl Machine {
         }
     }
 
-    /// Copies of these messages go to the end of the bag.
-    fn send(&mut self, sent: &[Sent]) -> Result<(), AllocError>
-        ensures bag { OnOk result (self.new.bag ≡ self.old.bag ++ sent.now) }
+    /// A copy of a message goes to the end of the bag, unless it is to who is removed.
+    fn send_one(&mut self, message: &Sent) -> Result<(), AllocError>
+        ensures bag { OnOk result
+            (self.new.bag ≡ self.old.bag ++ unless_removed self.old.removed message.now) }
         ensures servers { self.new.servers ≡ self.old.servers }
+        ensures removed { self.new.removed ≡ self.old.removed }
+    {
+        if !self.is_removed(message.to) {
+            self.bag.push_back(message.copy()?)?;
+        }
+        Ok(())
+    }
+
+    /// Copies of these messages go to the end of the bag, but for those to who is removed.
+    fn send(&mut self, sent: &[Sent]) -> Result<(), AllocError>
+        ensures bag { OnOk result
+            (self.new.bag ≡ self.old.bag ++ to_live self.old.removed sent.now) }
+        ensures servers { self.new.servers ≡ self.old.servers }
+        ensures removed { self.new.removed ≡ self.old.removed }
     {
         for message in sent {
-            self.bag.push_back(message.copy()?)?;
+            self.send_one(message)?;
         }
         Ok(())
     }
@@ -106,6 +174,7 @@ impl Machine {
         requires { is_server (length self.old.servers.items) server ≡ true }
         ensures servers { OnOk result (EachStandsBehind self.old self.new server input) }
         ensures bag { OnOk result (BagBehind self.old self.new server input) }
+        ensures removed { OnOk result (self.new.removed ≡ self.old.removed) }
         ensures entry { IfOk result (IsEntryBy self.old event server input) }
         ensures count { OnOk result (length self.new.servers.items ≡ length self.old.servers.items) }
     {
@@ -123,7 +192,57 @@ impl Machine {
         })
     }
 
-    /// A client calls a server. What is not built is void, whichever server is called.
+    /// A server is given an input, unless that is void.
+    fn serve(
+        &mut self,
+        event: Event,
+        server: NodeId,
+        input: Input,
+        void: Option<VoidCause>,
+    ) -> Result<Entry, AllocError>
+        requires { void ≡ None → is_server (length self.old.servers.items) server ≡ true }
+        ensures state { OnOk result (StepsBehind self.old self.new void event server input) }
+        ensures entry { IfOk result (IsStepEntry self.old void event server input) }
+        ensures count { OnOk result (length self.new.servers.items ≡ length self.old.servers.items) }
+    {
+        match void {
+            Some(cause) => Ok(self.idle_entry(event, Some(cause))),
+            None => self.act(event, server, input),
+        }
+    }
+
+    /// Whether a call may come: a giveup is of the one that was removed so.
+    fn is_due(&self, call: &Call) -> bool
+        ensures { result ≡ is_due self.now.removed call.now }
+    {
+        match call {
+            Call::Giveup { view, server } => self.is_removal(*view, *server),
+            _ => true,
+        }
+    }
+
+    /// Why a call to a live server is void.
+    fn void_giveup(&self, call: &Call) -> Option<VoidCause>
+        ensures { result ≡ void_giveup self.now.removed call.now }
+    {
+        if self.is_due(call) {
+            return None;
+        }
+        Some(VoidCause::Unremoved)
+    }
+
+    /// Why a call is void: nothing happens at the server, or it is to give up one that is not the one of that removal.
+    fn void_call(&self, server: NodeId, call: &Call) -> Option<VoidCause>
+        ensures { result
+            ≡ void_call (length self.now.servers.items) self.now.removed server call.now }
+    {
+        match self.void_at(server) {
+            Some(cause) => Some(cause),
+            None => self.void_giveup(call),
+        }
+    }
+
+    /// A client calls a server.
     fn call(&mut self, server: NodeId, moment: u64, call: Call) -> Result<Entry, AllocError>
         ensures state { OnOk result
             (StandsBehind self.old self.new (Event.Call server moment call)) }
@@ -135,13 +254,8 @@ impl Machine {
             moment,
             call: call.copy()?,
         };
-        if !is_built(&call) {
-            return Ok(self.idle_entry(event, Some(VoidCause::Unbuilt)));
-        }
-        if !self.has_server(server) {
-            return Ok(self.idle_entry(event, Some(VoidCause::NoServer)));
-        }
-        self.act(event, server, Input::Call { moment, call })
+        let void = self.void_call(server, &call);
+        self.serve(event, server, Input::Call { moment, call }, void)
     }
 
     /// A server sends again what is not acknowledged.
@@ -156,10 +270,8 @@ impl Machine {
             moment,
             word,
         };
-        if !self.has_server(server) {
-            return Ok(self.idle_entry(event, Some(VoidCause::NoServer)));
-        }
-        self.act(event, server, Input::Tick { moment, word })
+        let void = self.void_at(server);
+        self.serve(event, server, Input::Tick { moment, word }, void)
     }
 
     /// The message with this number arrives.
@@ -172,7 +284,7 @@ impl Machine {
         let Some(message) = self.take_message(number) else {
             return Ok(self.idle_entry(event, Some(VoidCause::NoMessage)));
         };
-        if !self.has_server(message.to) {
+        if !self.is_live(message.to) {
             return Ok(self.idle_entry(event, None));
         }
         self.act(event, message.to, Input::Arrival(message.packet))
@@ -222,20 +334,64 @@ impl Machine {
         ensures entry { IfOk result (IsEntryOf self.old (Event.Restart server)) }
         ensures count { OnOk result (length self.new.servers.items ≡ length self.old.servers.items) }
     {
-        let event = Event::Restart(server);
-        if !self.has_server(server) {
-            return Ok(self.idle_entry(event, Some(VoidCause::NoServer)));
-        }
-        self.act(event, server, Input::Restart)
+        let void = self.void_at(server);
+        self.serve(Event::Restart(server), server, Input::Restart, void)
     }
 
-    /// A server is gone for good: nothing is done of it yet.
-    fn remove(&mut self, server: NodeId) -> Entry
-        ensures state { StandsBehind self.old self.new (Event.Remove server) }
-        ensures entry { IsEntryOf self.old (Event.Remove server) result }
-        ensures count { length self.new.servers.items ≡ length self.old.servers.items }
+    /// The messages to a server leave the bag.
+    #[tactic(auto, using(crate::proofs::Bags::all_out))]
+    fn drop_messages_to(&mut self, server: NodeId) -> Result<(), AllocError>
+        ensures bag { OnOk result (self.new.bag ≡ without_to server self.old.bag) }
+        ensures servers { OnOk result (self.new.servers ≡ self.old.servers) }
+        ensures removed { OnOk result (self.new.removed ≡ self.old.removed) }
     {
-        self.idle_entry(Event::Remove(server), Some(VoidCause::Unbuilt))
+        let mut left = Bag::new(self.alloc);
+        while let Some(message) = self.bag.take(0) {
+            push_unless_to(server, message, &mut left)?;
+        }
+        self.bag = left;
+        Ok(())
+    }
+
+    /// Why a server cannot be removed: there is none, it is removed already, or it is the last one.
+    fn void_removal(&self, server: NodeId) -> Option<VoidCause>
+        ensures { result
+            ≡ void_removal (length self.now.servers.items) self.now.removed server }
+    {
+        match self.void_at(server) {
+            Some(cause) => Some(cause),
+            None => {
+                if self.removed.as_slice().len() + 1 == self.servers.len() {
+                    return Some(VoidCause::Last);
+                }
+                None
+            }
+        }
+    }
+
+    /// A live server is gone.
+    fn remove_live(&mut self, server: NodeId) -> Result<Entry, AllocError>
+        ensures bag { OnOk result (self.new.bag ≡ without_to server self.old.bag) }
+        ensures servers { OnOk result (self.new.servers ≡ self.old.servers) }
+        ensures removed { OnOk result (self.new.removed ≡ self.old.removed ++ server ∷ []) }
+        ensures entry { IfOk result (λ entry. entry ≡ idle_entry (Event.Remove server) None) }
+        ensures count { OnOk result (length self.new.servers.items ≡ length self.old.servers.items) }
+    {
+        self.removed.push(server)?;
+        self.drop_messages_to(server)?;
+        Ok(self.idle_entry(Event::Remove(server), None))
+    }
+
+    /// A server is gone for good: it takes no further event, and no message goes to it. The last one stays.
+    fn remove(&mut self, server: NodeId) -> Result<Entry, AllocError>
+        ensures state { OnOk result (StandsBehind self.old self.new (Event.Remove server)) }
+        ensures entry { IfOk result (IsEntryOf self.old (Event.Remove server)) }
+        ensures count { OnOk result (length self.new.servers.items ≡ length self.old.servers.items) }
+    {
+        match self.void_removal(server) {
+            Some(cause) => Ok(self.idle_entry(Event::Remove(server), Some(cause))),
+            None => self.remove_live(server),
+        }
     }
 
     /// One event.
@@ -259,7 +415,7 @@ impl Machine {
             Event::Lose(number) => Ok(self.lose(number)),
             Event::Repeat(number) => self.repeat(number),
             Event::Restart(server) => self.restart(server),
-            Event::Remove(server) => Ok(self.remove(server)),
+            Event::Remove(server) => self.remove(server),
         }
     }
 
@@ -270,14 +426,82 @@ impl Machine {
         !self.bag.is_empty()
     }
 
-    /// The first that a server owes, by server: of each first intentions, then keys, and then places that it holds back.
-    fn owed(&self) -> Option<Owing>
-        ensures { (w : World) → Stands self.now w
-            → result ≡ slice_get (owed_by w.stores (length self.now.servers.items)) 0 }
+    /// How many servers the run has.
+    fn count(&self) -> u32
+        requires { length self.now.servers.items ≤ 64 }
+        ensures { result ≡ length self.now.servers.items }
     {
-        for server in self.servers.as_slice() {
-            if let Some(owing) = server.owed() {
-                return Some(owing);
+        self.servers.len() as u32
+    }
+
+    /// The server of this number.
+    fn server_at(&self, server: NodeId) -> &Server
+        requires { is_server (length self.now.servers.items) server ≡ true }
+        ensures { (w : World) → Stands self.now w → result.now.store ≡ w.stores server }
+    {
+        &self.servers[server as usize - 1]
+    }
+
+    /// The first that a live server owes: of its intentions first, then keys, and then places that it holds back.
+    fn owed_at(&self, server: NodeId) -> Option<Cause>
+        ensures { (w : World) → Stands self.now w → result
+            ≡ slice_get (of_one (length self.now.servers.items) w
+            (λ s. map Owed (owed (w.stores s))) server) 0 }
+    {
+        if !self.is_live(server) {
+            return None;
+        }
+        match self.server_at(server).owed() {
+            Some(owing) => Some(Cause::Owed(owing)),
+            None => None,
+        }
+    }
+
+    /// The first that is owed, by server.
+    fn owed(&self) -> Option<Cause>
+        requires { length self.now.servers.items ≤ 64 }
+        ensures { (w : World) → Stands self.now w → FirstOf result (length self.now.servers.items) w
+            (λ s. map Owed (owed (w.stores s))) }
+    {
+        for k in 0..self.count() {
+            if let Some(cause) = self.owed_at(k + 1) {
+                return Some(cause);
+            }
+        }
+        None
+    }
+
+    /// Whether this is the view behind all removals.
+    fn is_last_view(&self, view: u64) -> bool
+        ensures { result ≡ (view == length self.now.removed) }
+    {
+        view == self.removed.len() as u64
+    }
+
+    /// That a live server has not entered the last removal, and its view.
+    fn lag_at(&self, server: NodeId) -> Option<Cause>
+        ensures { (w : World) → Stands self.now w → result
+            ≡ slice_get (of_one (length self.now.servers.items) w (lag w) server) 0 }
+    {
+        if !self.is_live(server) {
+            return None;
+        }
+        let view = self.server_at(server).store().view();
+        if self.is_last_view(view) {
+            return None;
+        }
+        Some(Cause::View { server, view })
+    }
+
+    /// That of the least such server.
+    fn lagging(&self) -> Option<Cause>
+        requires { length self.now.servers.items ≤ 64 }
+        ensures { (w : World) → Stands self.now w
+            → FirstOf result (length self.now.servers.items) w (lag w) }
+    {
+        for k in 0..self.count() {
+            if let Some(cause) = self.lag_at(k + 1) {
+                return Some(cause);
             }
         }
         None
@@ -285,15 +509,29 @@ impl Machine {
 
     /// Whether all is done, or what is to be waited for first.
     pub fn quiet(&self) -> Quiet
+        requires { length self.now.servers.items ≤ 64 }
         ensures { (w : World) → Stands self.now w
             → result ≡ quiet_of (length self.now.servers.items) w }
     {
         match self.bag.front() {
             Some(sent) => Quiet::Waits(Cause::Message(sent.summary())),
-            None => match self.owed() {
-                Some(owing) => Quiet::Waits(Cause::Owed(owing)),
-                None => Quiet::Quiet,
+            None => match self.lagging() {
+                Some(cause) => Quiet::Waits(cause),
+                None => match self.owed() {
+                    Some(cause) => Quiet::Waits(cause),
+                    None => Quiet::Quiet,
+                },
             },
         }
     }
+}
+
+/// A message goes to the end of a bag, unless it is to this server.
+fn push_unless_to(server: NodeId, message: Sent, left: &mut Bag<Sent>) -> Result<(), AllocError>
+    ensures { OnOk result (left.new ≡ left.old ++ unless_to server message) }
+{
+    if message.to != server {
+        left.push_back(message)?;
+    }
+    Ok(())
 }

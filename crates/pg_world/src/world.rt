@@ -4,6 +4,7 @@ ghost use Rattle.std.specs.Prelude.{◌≡◌, ◌++◌, ◌∷◌, [], ◌≤�
 ghost use Rattle.std.specs.Option.{option_copied};
 ghost use Rattle.pg_run.specs.Journal.{bag};
 ghost use Rattle.pg_run.specs.Quiet.{has_some, IsQuiet, quiet_of};
+ghost use Rattle.pg_run.specs.Run.{is_live};
 ghost use Rattle.pg_world.specs.Played.{next_entry, held, final};
 
 use crate::event_list::EventList;
@@ -97,6 +98,14 @@ impl World {
         self.machine.store(server)
     }
 
+    /// Whether the run has a server of this number that is not removed.
+    pub fn is_live(&self, server: NodeId) -> bool
+        requires { self.now.failed ≡ false }
+        ensures { result ≡ is_live self.now.servers (final self.now) server }
+    {
+        self.machine.is_live(server)
+    }
+
     /// Whether a message is under way.
     pub fn has_message(&self) -> bool
         requires { self.now.failed ≡ false }
@@ -105,10 +114,11 @@ impl World {
         self.machine.has_message()
     }
 
-    /// Whether the run is quiet: no message is under way, and no server owes anything. Else what it waits for first: the
-    /// oldest message; then, by server, the first intention, in the order in which they began; behind a server's
-    /// intentions its first unacknowledged key, by file, peer and key; and behind its keys the first place that it holds
-    /// back, by id. It takes no memory.
+    /// Whether the run is quiet: no message is under way, each live server has entered the last removal, and none owes
+    /// anything. Else what it waits for first: the oldest message; then the least live server whose view is another, and
+    /// its view; then, by live server, the first intention, in the order in which they began; behind a server's intentions
+    /// its first unacknowledged key, by file, peer and key; and behind its keys the first place that it holds back, by id.
+    /// It takes no memory.
     pub fn is_quiet(&self) -> Quiet
         requires { self.now.failed ≡ false }
         ensures answer { result ≡ quiet_of self.now.servers (final self.now) }

@@ -89,7 +89,7 @@ begun_if : (t : Bool) (work : Work) (k : IntentKey) → WorkSuits Suits work →
 begun_if t work k h =
     chosen (WorkSuits Suits) t (with_begun work k) work (record { made = h.made; sent = h.sent; left = h.left; unsure = h.unsure }) h
 
-intent_suits : (s : Store) (i : Intent) (work : Work) → SuitsIntent i → DoneSuits (idle s work) → DoneSuits (begin_intent s i work)
+pub intent_suits : (s : Store) (i : Intent) (work : Work) → SuitsIntent i → DoneSuits (idle s work) → DoneSuits (begin_intent s i work)
 intent_suits s i work k h = record {
   store = intended_suits s h.store (begun s.intents i) (begun_suit s.intents i h.store.intents k);
   work = begun_if (not (stands s.intents (key_of i))) work (key_of i) h.work;

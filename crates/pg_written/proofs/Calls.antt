@@ -15,10 +15,9 @@ use Rattle.pg_call.specs.Call.{IsCall}
 use Rattle.pg_msg.specs.declared.message.Message.TheVariants as message
 use Rattle.pg_msg.specs.declared.update.Update.TheVariants as update
 use Rattle.pg_msg.specs.declared.work.Work.{Work}
-use Rattle.pg_msg.specs.Work.{with_made}
 use Rattle.pg_names.specs.Names.{blank_own, known, own_or_blank}
 use Rattle.pg_patch.specs.Ranges.{RangesValue, cut_to, written}
-use Rattle.pg_register.specs.declared.place.Place.{Place}
+use Rattle.pg_register.specs.declared.flag.Flag.{Flag}
 use Rattle.pg_store.specs.declared.store.Store.{Store}
 use Rattle.pg_store.specs.declared.wishes.Wish.{Wish}
 use Rattle.pg_store.specs.Births.{draw_birth, with_birth, with_wish}
@@ -36,19 +35,26 @@ use Rattle.pg_calls.specs.Bodies.{change, change_file, read, shown_part, when_fi
 use Rattle.pg_calls.specs.Calls.{do_call}
 use Rattle.pg_calls.specs.Checks.{dir_at, empty_dir_at, file_at, in_time, move_of, new_name, target_at}
 use Rattle.pg_calls.specs.Demoting.{demote, demoted_at, lowered}
+use Rattle.pg_calls.specs.Dropping.{clean_gold, drop, dropped_at, leave_of, leaving}
+use Rattle.pg_calls.specs.Forgetting.{lost_at}
+use Rattle.pg_calls.specs.GivingUp.{removal_at}
 use Rattle.pg_calls.specs.Looks.{counts, listing, ls, page, stat_of, stop as stop_call}
 use Rattle.pg_calls.specs.Making.{drawn, first_ranges, make_place, make_version, version_of}
 use Rattle.pg_calls.specs.Naming.{begun, create, dead_place, mkdir, next_id, place_in, rename, taken_away, with_id, with_thing}
 use Rattle.pg_calls.proofs.Checked.{fit_found}
 use Rattle.pg_trace.specs.Suited.{IsCallAnswer, SuitsUpdate}
 use Rattle.pg_trace.proofs.Lines.{few_taken}
+use Rattle.pg_written.proofs.Behind.{intent_suits}
 use Rattle.pg_written.proofs.Found.{file_found, moved_name, named}
 use Rattle.pg_written.proofs.Handlers.{flag_lowered, flag_raised}
 use Rattle.pg_written.proofs.House.{WorkSuits}
+use Rattle.pg_written.proofs.Entered.{given_up}
+use Rattle.pg_written.proofs.Lost.{forgotten}
+use Rattle.pg_written.proofs.Making.{made_place}
 use Rattle.pg_written.proofs.Messages.{Suits}
 use Rattle.pg_written.proofs.Places.{IsOwnPlace, blank_suits, own_place, suits_place}
 use Rattle.pg_written.proofs.Rows.{page_suits}
-use Rattle.pg_written.proofs.Stores.{DoneSuits, StoreSuits, begun_suits, place_noted, posted}
+use Rattle.pg_written.proofs.Stores.{DoneSuits, StoreSuits, begun_suits, posted}
 
 -- ---- what a call comes to
 
@@ -95,19 +101,6 @@ replied_suits K s work r next h each =
     answered_suits K s work r (λ x. told s work (next x)) h (λ x e. told_suits K s work (next x) (each x) h)
 
 -- ---- what is made
-
-made_place : (f : FileId) (p : Place) (done : Done) → IsOwnPlace f p → DoneSuits done → DoneSuits (make_place f p done)
-made_place f p done k h =
-    place_noted done.store (with_made done.work (update.Place f p))
-    (record {
-      store = h.store;
-      work = record {
-        made = All-push SuitsUpdate done.work.made (update.Place f p) h.work.made (suits_place f p k);
-        sent = h.work.sent;
-        left = h.work.left;
-        unsure = h.work.unsure;
-      };
-    }) f p k
 
 made_version : (f : FileId) (stamp : Stamp) (ranges : RangesValue) (done : Done) → f.kind ≡ File → DoneSuits done
     → DoneSuits (make_version f stamp ranges done)
@@ -210,6 +203,16 @@ module _ (K : Type 0) (s : Store) (work : Work) (h : DoneSuits (idle s work)) wh
       answered_suits K s work (demoted_at s target) _ h
       (λ f e. let a = lowered_suits f in record { told = told; done = record { store = a.store; work = a.work } })
 
+  -- a gold replica is asked for leave, or none
+  leaving_suits : (f : FileId) (o : Option Flag) → ((server : ℕ) → K → IsCallAnswer (reply.Leaving server)) → CallSuits K (leaving s f work o)
+  leaving_suits f None told = record { told = told 0; done = h }
+  leaving_suits f (Some flag) told =
+      let a = intent_suits s (leave_of f flag) work tt h in
+      record { told = told flag.server; done = record { store = a.store; work = a.work } }
+
+  dropped_suits : (target : Target) → ((server : ℕ) → K → IsCallAnswer (reply.Leaving server)) → CallSuits K (drop s target work)
+  dropped_suits target told = answered_suits K s work (dropped_at s target) _ h (λ f e. leaving_suits f (clean_gold s f) told)
+
   stop_suits : CallSuits K (stop_call s work)
   stop_suits = replied_suits K s work (in_time s (tt {0})) (λ found. reply.Done) h (λ found k. tt)
 
@@ -228,10 +231,14 @@ call_suits s work h (call.Stat target) =
 call_suits s work h (call.Rename from to) = rename_suits (IsCall (call.Rename from to)) s work h from to
 call_suits s work h (call.Unlink path) = gone_suits (IsCall (call.Unlink path)) s work h (file_at s path) reply.Done (λ k. tt)
 call_suits s work h (call.Rmdir path) = gone_suits (IsCall (call.Rmdir path)) s work h (empty_dir_at s path) reply.Done (λ k. tt)
-call_suits s work h (call.Forget id) = stop_suits (IsCall (call.Forget id)) s work h
+call_suits s work h (call.Forget id) =
+    answered_suits (IsCall (call.Forget id)) s work (lost_at s id) _ h
+    (λ found e. let a = forgotten s work h found in record { told = λ k. tt; done = record { store = a.store; work = a.work } })
 call_suits s work h (call.Demote target) = demoted_suits (IsCall (call.Demote target)) s work h target (λ k. tt)
-call_suits s work h (call.Drop target) = stop_suits (IsCall (call.Drop target)) s work h
-call_suits s work h (call.Giveup view server) = stop_suits (IsCall (call.Giveup view server)) s work h
+call_suits s work h (call.Drop target) = dropped_suits (IsCall (call.Drop target)) s work h target (λ server k. tt)
+call_suits s work h (call.Giveup view server) =
+    answered_suits (IsCall (call.Giveup view server)) s work (removal_at s view server) _ h
+    (λ found e. let a = given_up s server work h in record { told = λ k. tt; done = record { store = a.store; work = a.work } })
 call_suits s work h call.Status =
     replied_suits (IsCall call.Status) s work (in_time s (tt {0})) (λ found. reply.Status (counts s)) h (λ found k. tt)
 call_suits s work h call.Stop = stop_suits (IsCall call.Stop) s work h

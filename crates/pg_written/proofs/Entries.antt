@@ -1,13 +1,13 @@
 -- What is told of one event suits, and what all servers hold and what is under way behind it; and so of any run.
-use Rattle.std.proofs.Common.{ℕ, ◌≡◌, ◌==◌, Bool, true, false, cond, List, [], ◌++◌, Option, None, Some, All, refl, sym, subst}
+use Rattle.std.proofs.Common.{ℕ, ◌≡◌, ◌==◌, Bool, true, false, cond, List, Option, None, Some, All, refl, sym, subst}
 use Rattle.std.specs.List.{AllByRecursion, flat_map}
-use Rattle.std.proofs.lemmas.List.Elements.{All-append, All-nil, recursion_from_All}
+use Rattle.std.proofs.lemmas.Option.{none-some, same_Some}
+use Rattle.std.proofs.lemmas.List.Elements.{All-append, All-contains, All-nil, recursion_from_All}
 use Rattle.pg_call.specs.declared.call.Call.{Call}
 use Rattle.pg_call.specs.declared.refusal.Refusal.TheVariants.{ClockEnd}
 use Rattle.pg_call.specs.declared.reply.Reply.{Reply}
 use Rattle.pg_call.specs.declared.reply.Reply.TheVariants as reply
 use Rattle.pg_event.specs.declared.entry.VoidCause.{VoidCause}
-use Rattle.pg_event.specs.declared.entry.VoidCause.TheVariants.{NoServer, Unbuilt}
 use Rattle.pg_event.specs.declared.event.Event.{Event}
 use Rattle.pg_event.specs.declared.event.Event.TheVariants.{Call as Called, Tick, Deliver, Lose, Repeat, Restart, Remove}
 use Rattle.pg_event.specs.Event.{IsEvent}
@@ -25,16 +25,16 @@ use Rattle.pg_cells.specs.Sending.{cells_where, is_any}
 use Rattle.pg_cells.specs.Ticks.{tick}
 use Rattle.pg_repair.specs.Fetching.{ends_to}
 use Rattle.pg_repair.specs.Requests.{ask_all, asks}
-use Rattle.pg_calls.specs.Calls.{do_call, is_built}
+use Rattle.pg_calls.specs.Calls.{do_call}
 use Rattle.pg_server.specs.declared.input.Input.{Input}
 use Rattle.pg_server.specs.declared.input.Input.TheVariants as input
 use Rattle.pg_server.specs.Local.{Effect, closed, done_of, effect, finished, first_effect, intended, is_heard, receive, sent_again, sent_at_end, settled, without_wishes}
-use Rattle.pg_run.specs.Journal.{bag, bag_after, message_at, with_copy, without}
-use Rattle.pg_run.specs.Run.{Step, World, bag_step, delivery_step, effect_step, idle_step, is_server, next, server_step, unbuilt_step, world_after}
+use Rattle.pg_run.specs.Journal.{bag, mail, message_at, removals}
+use Rattle.pg_run.specs.Run.{Step, Taking, World, effect_step, idle_step, is_due, is_live, next, taking_in, taking_message, world_after}
 use Rattle.pg_run.proofs.Event.{nothing_last}
-use Rattle.pg_run.proofs.LastWalks.{walks_have}
+use Rattle.pg_run.proofs.Frame.{IsFramed, framed, was_sent}
+use Rattle.pg_run.proofs.LastWalks.{lasts_have}
 use Rattle.pg_run.proofs.Walks.{again_is, tick_walks}
-use Rattle.pg_run.proofs.Bags.{at_message, left_copied, left_without}
 use Rattle.pg_trace.specs.Suited.{Answers, IsSuited, SuitsKind, SuitsUpdate}
 use Rattle.pg_written.proofs.Behind.{ended_suits, intended as intentions_suit, settled_suits}
 use Rattle.pg_written.proofs.Calls.{call_suits}
@@ -59,11 +59,13 @@ new_suits now from = record { made = All-nil SuitsUpdate; sent = All-nil Suits; 
 begun : (s : Store) (now from : ℕ) → StoreSuits s → DoneSuits (idle s (new_work now from))
 begun s now from h = record { store = h; work = new_suits now from }
 
--- of the walks that go last nothing is told but their files
+-- of the walks and invites that go last nothing is told but their files
 walks_suit : (s : Store) (asked : Input) → AllSuit (first_effect s asked).work.tail
 walks_suit s asked =
-    walks_have Suits s asked (λ file e origin birth hops word.
+    lasts_have Suits s asked
+    (λ file e origin birth hops word.
     sent_suits s e.peer (message.Walk (ends_to s file e.birth) origin birth hops word) (record { about = λ g. g; told = λ g. g; carried = tt }))
+    (λ b file e. sent_suits b e.peer (message.Invite (ends_to b file e.birth)) (record { about = λ g. g; told = λ g. g; carried = tt }))
 
 finished_suits : (e : Event) (answer : Option Reply) (done : Done) → (IsEvent e → Answers e answer) → AllSuit done.work.tail → DoneSuits done
     → EffectSuits e (finished answer done)
@@ -154,7 +156,7 @@ restarted_suits s server h =
 
 pub record RunSuits (w : World) : Type 0 where
   pub stores : (server : ℕ) → StoreSuits (w.stores server)
-  pub sent : AllSuit (bag w.journal)
+  pub mailed : AllSuit (mail w.journal)
 
 pub record StepSuits (e : Event) (w : World) (step : Step) : Type 0 where
   pub entry : IsEvent e → IsSuited step.entry
@@ -164,18 +166,27 @@ pub record StepSuits (e : Event) (w : World) (step : Step) : Type 0 where
 told_all : (ms : List Sent) → AllSuit ms → AllByRecursion (λ m. SuitsKind (summary m)) ms
 told_all ms h = recursion_from_All (λ m. SuitsKind (summary m)) ms (λ i d lt. (h i d lt).told)
 
--- nothing is done: this is left under way
-idle_suits : (w : World) (e : Event) (cause : Option VoidCause) → Answers e None → RunSuits w → AllSuit (bag_after (bag w.journal) e [])
-    → StepSuits e w (idle_step w e cause)
-idle_suits w e cause told h left = record {
-  entry = λ k. record { told = told; made = tt; sent = tt };
-  behind = record { stores = h.stores; sent = left };
+-- to any event there may be no answer
+no_answer : (e : Event) → Answers e None
+no_answer (Called server moment c) = tt
+no_answer (Tick server moment word) = tt
+no_answer (Deliver number) = tt
+no_answer (Lose number) = tt
+no_answer (Repeat number) = tt
+no_answer (Restart server) = tt
+no_answer (Remove server) = tt
+
+-- nothing is done
+pub idle_suits : (w : World) (e : Event) (cause : Option VoidCause) → RunSuits w → StepSuits e w (idle_step w e cause)
+idle_suits w e cause h = record {
+  entry = λ k. record { told = no_answer e; made = tt; sent = tt };
+  behind = record { stores = h.stores; mailed = h.mailed };
 }
 
--- a server does this: its messages and what is left are under way
+-- a server does this, and sends messages more
 did_suits : (w : World) (e : Event) (server : ℕ) (asked : Input) → RunSuits w → EffectSuits e (effect (w.stores server) asked)
-    → AllSuit (bag_after (bag w.journal) e (effect (w.stores server) asked).out.sent) → StepSuits e w (effect_step w e server asked)
-did_suits w e server asked h done left =
+    → StepSuits e w (effect_step w e server asked)
+did_suits w e server asked h done =
     let out = effect (w.stores server) asked in
     record {
       entry = λ k. record {
@@ -185,73 +196,54 @@ did_suits w e server asked h done left =
       };
       behind = record {
         stores = λ k. chosen StoreSuits (k == server) out.store (w.stores k) done.store (h.stores k);
-        sent = left;
+        mailed = All-append Suits out.out.sent (mail w.journal) done.sent h.mailed;
       };
     }
 
--- what is under way behind an input of a client, or a tick
-more_sent : (ms sent : List Sent) → AllSuit ms → AllSuit sent → AllSuit (ms ++ sent)
-more_sent ms sent a b = All-append Suits ms sent a b
+-- ---- the server that takes an input in an event
 
-server_suits : (n : ℕ) (w : World) (e : Event) (server : ℕ) (asked : Input) → Answers e None
-    → ((ms : List Sent) → AllSuit ms → AllSuit (bag_after (bag w.journal) e ms)) → RunSuits w → EffectSuits e (effect (w.stores server) asked)
-    → StepSuits e w (server_step n w e server asked)
-server_suits n w e server asked told left h done =
-    chosen (StepSuits e w) (is_server n server) (effect_step w e server asked) (idle_step w e (Some NoServer))
-    (did_suits w e server asked h done (left (effect (w.stores server) asked).out.sent done.sent))
-    (idle_suits w e (Some NoServer) told h (left [] (All-nil Suits)))
+module _ (n : ℕ) (w : World) (h : RunSuits w) where
+  abbrev Does : Event → Taking → Type 0
+  Does e t = EffectSuits e (effect (w.stores t.server) t.asked)
 
-delivered_suits : (n : ℕ) (w : World) (number : ℕ) (o : Option Sent) → RunSuits w → message_at (bag w.journal) number ≡ o
-    → StepSuits (Deliver number) w (delivery_step n w (Deliver number) o)
-delivered_suits n w number o h is = by o is
-  where
-    rest : List Sent
-    rest = without (bag w.journal) number (message_at (bag w.journal) number)
+  taken_by : (e : Event) (r t : Taking) (live : Bool) → Does e r → cond live (Some r) None ≡ Some t → Does e t
+  taken_by e r t true k is = subst (Does e) (same_Some r t is) k
+  taken_by e r t false k is = absurd (none-some t is)
 
-    left : (ms : List Sent) → AllSuit ms → AllSuit (rest ++ ms)
-    left ms k = more_sent rest ms (left_without Suits (bag w.journal) number (message_at (bag w.journal) number) h.sent) k
+  due_by : (e : Event) (r t : Taking) (due live : Bool) → Does e r → cond due (cond live (Some r) None) None ≡ Some t → Does e t
+  due_by e r t true live k is = taken_by e r t live k is
+  due_by e r t false live k is = absurd (none-some t is)
 
-    by : (o : Option Sent) → message_at (bag w.journal) number ≡ o → StepSuits (Deliver number) w (delivery_step n w (Deliver number) o)
-    by None is = idle_suits w (Deliver number) _ tt h (left [] (All-nil Suits))
-    by (Some m) is =
-        let e = Deliver number in
-        let asked = input.Arrival m.packet in
-        let here : Suits m = at_message Suits (bag w.journal) number m h.sent is in
-        let done : EffectSuits e (effect (w.stores m.to) asked) = arrived_suits (w.stores m.to) (h.stores m.to) number m.packet here.carried in
-        chosen (StepSuits e w) (is_server n m.to) (effect_step w e m.to asked) (idle_step w e None)
-        (did_suits w e m.to asked h done (left (effect (w.stores m.to) asked).out.sent done.sent))
-        (idle_suits w e None tt h (left [] (All-nil Suits)))
+  come_by : (number : ℕ) (t : Taking) (o : Option Sent) → message_at (bag w.journal) number ≡ o → taking_message n w o ≡ Some t
+      → Does (Deliver number) t
+  come_by number t None at is = absurd (none-some t is)
+  come_by number t (Some m) at is =
+      let suits : Suits m = All-contains Suits (mail w.journal) m h.mailed (was_sent w.journal number m at) in
+      taken_by (Deliver number) (record { server = m.to; asked = input.Arrival m.packet }) t (is_live n w m.to)
+      (arrived_suits (w.stores m.to) (h.stores m.to) number m.packet suits.carried) is
 
-lost_suits : (w : World) (number : ℕ) (o : Option Sent) → RunSuits w → StepSuits (Lose number) w (bag_step w (Lose number) o)
-lost_suits w number None h = idle_suits w (Lose number) _ tt h (left_without Suits (bag w.journal) number (message_at (bag w.journal) number) h.sent)
-lost_suits w number (Some m) h = idle_suits w (Lose number) None tt h (left_without Suits (bag w.journal) number (message_at (bag w.journal) number) h.sent)
+  taken_suits : (e : Event) (t : Taking) → taking_in n w e ≡ Some t → Does e t
+  taken_suits (Called s moment c) t is =
+      due_by (Called s moment c) (record { server = s; asked = input.Call moment c }) t (is_due (removals w.journal) c) (is_live n w s)
+      (called_suits (w.stores s) s moment c (h.stores s)) is
+  taken_suits (Tick s moment word) t is =
+      taken_by (Tick s moment word) (record { server = s; asked = input.Tick moment word }) t (is_live n w s)
+      (ticked_suits (w.stores s) (h.stores s) s moment word) is
+  taken_suits (Deliver number) t is = come_by number t (message_at (bag w.journal) number) refl is
+  taken_suits (Lose number) t is = absurd (none-some t is)
+  taken_suits (Repeat number) t is = absurd (none-some t is)
+  taken_suits (Restart s) t is =
+      taken_by (Restart s) (record { server = s; asked = input.Restart }) t (is_live n w s)
+      (restarted_suits (w.stores s) s (h.stores s)) is
+  taken_suits (Remove s) t is = absurd (none-some t is)
 
-copied : (w : World) (number : ℕ) → RunSuits w → AllSuit (with_copy (bag w.journal) (message_at (bag w.journal) number))
-copied w number h =
-    left_copied Suits (bag w.journal) (message_at (bag w.journal) number) h.sent (λ m e. at_message Suits (bag w.journal) number m h.sent e)
+  pub acted_suits : (e : Event) (t : Taking) → taking_in n w e ≡ Some t → StepSuits e w (effect_step w e t.server t.asked)
+  acted_suits e t is = did_suits w e t.server t.asked h (taken_suits e t is)
 
-repeated_suits : (w : World) (number : ℕ) (o : Option Sent) → RunSuits w → StepSuits (Repeat number) w (bag_step w (Repeat number) o)
-repeated_suits w number None h = idle_suits w (Repeat number) _ tt h (copied w number h)
-repeated_suits w number (Some m) h = idle_suits w (Repeat number) None tt h (copied w number h)
+  framed_suits : (e : Event) (o : Option Taking) (step : Step) → taking_in n w e ≡ o → IsFramed n w e o step → StepSuits e w step
+  framed_suits e None step is f = subst (StepSuits e w) (sym f.1) (idle_suits w e f.0 h)
+  framed_suits e (Some t) step is f = subst (StepSuits e w) (sym f.1) (acted_suits e t is)
 
-unbuilt_suits : (w : World) (e : Event) → Answers e None → RunSuits w → AllSuit (bag_after (bag w.journal) e []) → StepSuits e w (unbuilt_step w e)
-unbuilt_suits w e told h left = idle_suits w e (Some Unbuilt) told h left
-
-pub step_suits : (n : ℕ) (w : World) (e : Event) → RunSuits w → StepSuits e w (next n w e)
-step_suits n w (Called server moment c) h =
-    let e = Called server moment c in
-    let more : (ms : List Sent) → AllSuit ms → AllSuit (bag w.journal ++ ms) = (λ ms p. more_sent (bag w.journal) ms h.sent p) in
-    chosen (StepSuits e w) (is_built c) (server_step n w e server (input.Call moment c)) (idle_step w e (Some Unbuilt))
-    (server_suits n w e server (input.Call moment c) tt more h (called_suits (w.stores server) server moment c (h.stores server)))
-    (unbuilt_suits w e tt h (more [] (All-nil Suits)))
-step_suits n w (Tick server moment word) h =
-    let more : (ms : List Sent) → AllSuit ms → AllSuit (bag w.journal ++ ms) = (λ ms p. more_sent (bag w.journal) ms h.sent p) in
-    server_suits n w (Tick server moment word) server (input.Tick moment word) tt more h
-    (ticked_suits (w.stores server) (h.stores server) server moment word)
-step_suits n w (Deliver number) h = delivered_suits n w number (message_at (bag w.journal) number) h refl
-step_suits n w (Lose number) h = lost_suits w number (message_at (bag w.journal) number) h
-step_suits n w (Repeat number) h = repeated_suits w number (message_at (bag w.journal) number) h
-step_suits n w (Restart server) h =
-    let more : (ms : List Sent) → AllSuit ms → AllSuit (bag w.journal ++ ms) = (λ ms p. more_sent (bag w.journal) ms h.sent p) in
-    server_suits n w (Restart server) server input.Restart tt more h (restarted_suits (w.stores server) server (h.stores server))
-step_suits n w (Remove server) h = unbuilt_suits w (Remove server) tt h h.sent
+  -- ANY EVENT
+  pub next_suits : (e : Event) → StepSuits e w (next n w e)
+  next_suits e = framed_suits e (taking_in n w e) (next n w e) refl (framed n w e)

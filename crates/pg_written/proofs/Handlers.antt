@@ -49,7 +49,7 @@ use Rattle.pg_cells.specs.Posting.{reply}
 use Rattle.pg_cells.specs.Taking.{take_entry_noted, take_flags_noted, take_place_noted}
 use Rattle.pg_repair.specs.Confirming.{confirm, end_confirmed, is_confirmed, own_entry, place_is, place_told, take_told_place}
 use Rattle.pg_repair.specs.Fetching.{answer_fetch, ends_to, fetch, give, given, place_to_grant}
-use Rattle.pg_repair.specs.Filling.{fill, few_golds, full, live_golds}
+use Rattle.pg_repair.specs.Filling.{few_golds, fill, full, invite, invited, is_bronze, live_golds, raise_if_few}
 use Rattle.pg_repair.specs.Granting.{aim_fill, begin_granted, begun_by, fill_asks, grant, granted_own, no_grant, turn_fill, turn_wish, wish_asks}
 use Rattle.pg_repair.specs.NoneHere.{asking_key, does_ask, none_here}
 use Rattle.pg_repair.specs.Telling.{is_told, tell, tell_ok}
@@ -219,16 +219,29 @@ flag_lowered s f work h = raised_suits s f (own_next s f false) work h
 pub flag_raised : (s : Store) (f : FileId) (work : Work) → Suited s work → DoneSuits (raise_flag s f work)
 flag_raised s f work h = raised_suits s f (own_next s f true) work h
 
-filled_suits : (s : Store) (f : FileId) (work : Work) → Suited s work → DoneSuits (fill s f work)
+few_suits : (s : Store) (f : FileId) (work : Work) → Suited s work → DoneSuits (raise_if_few s f work)
+few_suits s f work h =
+    chosen DoneSuits (nat_lt (live_golds s f) few_golds) (raise_flag s f work) (idle s work) (flag_raised s f work h) h
+
+pub filled_suits : (s : Store) (f : FileId) (work : Work) → Suited s work → DoneSuits (fill s f work)
 filled_suits s f work h =
     let next = with_names s (names.fill s.names f) in
     let k : Suited next work = record { store = named_suits s h.store (names.fill s.names f) (fill_suits s.names f h.store.names); work = h.work } in
-    chosen DoneSuits (nat_lt (live_golds next f) few_golds) (raise_flag next f work) (idle next work) (flag_raised next f work k) k
+    few_suits next f work k
 
 pub full_suits : (s : Store) (ends : Ends) (work : Work) → Suited s work → DoneSuits (full s ends work)
 full_suits s ends work h =
     chosen DoneSuits (is_accepted s work.from manner.Answer ends && not (is_full s ends.file)) (fill s ends.file work) (idle s work)
     (filled_suits s ends.file work h) h
+
+-- one gold more is asked for
+pub invite_suits : (s : Store) (ends : Ends) (work : Work) → Suited s work → DoneSuits (invite s ends work)
+invite_suits s ends work h =
+    let d = accept s ends manner.Ask work in
+    let a : DoneSuits d = accept_suits s ends manner.Ask work h in
+    chosen DoneSuits (is_accepted s work.from manner.Ask ends) (invited ends d) d
+    (chosen DoneSuits (is_bronze d.store ends.file) (raise_if_few d.store ends.file d.work) d
+    (few_suits d.store ends.file d.work (record { store = a.store; work = a.work })) a) a
 
 -- ---- children of directories
 

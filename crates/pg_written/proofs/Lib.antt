@@ -6,9 +6,13 @@ pub mod Found
 pub mod House
 pub mod Stores
 pub mod Handlers
-pub mod Received
 pub mod Sending
 pub mod Behind
+pub mod Leaving
+pub mod Received
+pub mod Making
+pub mod Lost
+pub mod Entered
 pub mod Calls
 pub mod Entries
 pub mod Waiting

@@ -20,9 +20,10 @@ use Rattle.pg_graph.specs.Seeking.{seek}
 use Rattle.pg_graph.specs.Walks.{goes_on, meet_origin, onward, walk, walk_along, walk_on, walked}
 use Rattle.pg_server.specs.Local.{receive}
 use Rattle.pg_written.proofs.House.{WorkSuits}
+use Rattle.pg_written.proofs.Leaving.{bye_ok_suits, bye_suits, leave_ok_suits, leave_suits}
 use Rattle.pg_written.proofs.Messages.{Suits, SuitsMessage}
 use Rattle.pg_written.proofs.Stores.{DoneSuits, peer_linked, posted, unlink_suits}
-use Rattle.pg_written.proofs.Handlers.{Plain, Suited, replied, accept_suits, cell_suits, fetch_suits, grant_suits, no_grant_suits, full_suits, confirm_suits, place_is_suits, tell_suits, tell_ok_suits, none_here_suits}
+use Rattle.pg_written.proofs.Handlers.{Plain, Suited, replied, accept_suits, cell_suits, fetch_suits, grant_suits, no_grant_suits, full_suits, invite_suits, confirm_suits, place_is_suits, tell_suits, tell_ok_suits, none_here_suits}
 
 -- ---- a replica that seeks, and walks
 
@@ -85,10 +86,15 @@ received_suits s (message.Here ends) work k h = accept_suits s ends manner.Link 
 received_suits s (message.NoneHere what file child) work k h = none_here_suits s what file child work h
 received_suits s (message.Gone file birth) work k h =
     record { store = unlink_suits s h.store file work.from birth; work = h.work }
+received_suits s (message.Bye ends) work k h = bye_suits s ends work h
+received_suits s (message.ByeOk file birth) work k h = bye_ok_suits s file birth work h
+received_suits s (message.Leave ends stamp) work k h = leave_suits s ends stamp work h
+received_suits s (message.LeaveOk ends stamp) work k h = leave_ok_suits s ends stamp work h
 received_suits s (message.Confirm dir entry) work k h = confirm_suits s dir entry work k h
 received_suits s (message.PlaceIs dir entry) work k h = place_is_suits s dir entry work k h
 received_suits s (message.Tell dir entry) work k h = tell_suits s dir entry work k h
 received_suits s (message.TellOk dir child stamp) work k h = tell_ok_suits s dir child stamp work h
 received_suits s (message.Walk ends origin birth hops word) work k h = walk_suits s ends origin birth hops word work h
 received_suits s (message.Meet ends) work k h = accept_suits s ends manner.Link work h
+received_suits s (message.Invite ends) work k h = invite_suits s ends work h
 received_suits s m work k h = h

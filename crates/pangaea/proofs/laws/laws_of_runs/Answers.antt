@@ -5,7 +5,13 @@ pub returns-clause-order : goal.returns-clause-order
 returns-clause-order c = λ n. (c.laws_are_cited.ensures n).order.order
 
 pub returns-clause-intends : goal.returns-clause-intends
-returns-clause-intends c = λ n. (c.laws_are_cited.ensures n).intents.order
+returns-clause-intends c = λ n. joined.order n (c.laws_are_cited.ensures n)
+
+pub returns-clause-views : goal.returns-clause-views
+returns-clause-views c = λ n. joined.fronts n (c.laws_are_cited.ensures n)
+
+pub returns-clause-mailed : goal.returns-clause-mailed
+returns-clause-mailed c = λ n. joined.mailed n (c.laws_are_cited.ensures n)
 
 pub returns-clause-merge : goal.returns-clause-merge
 returns-clause-merge c = λ n few. joined.held n (c.laws_are_cited.ensures n) few
@@ -63,6 +69,18 @@ returns-clause-linked c = λ n. joined.linked n (c.laws_are_cited.ensures n)
 
 pub returns-clause-had : goal.returns-clause-had
 returns-clause-had c = λ n few. joined.had n (c.laws_are_cited.ensures n) few
+
+pub returns-clause-went : goal.returns-clause-went
+returns-clause-went c = λ n few. joined.went n (c.laws_are_cited.ensures n) few
+
+pub returns-clause-byes : goal.returns-clause-byes
+returns-clause-byes c = λ n few. joined.byes n (c.laws_are_cited.ensures n) few
+
+pub returns-clause-heard : goal.returns-clause-heard
+returns-clause-heard c = λ n few. joined.heard n (c.laws_are_cited.ensures n) few
+
+pub returns-clause-drops : goal.returns-clause-drops
+returns-clause-drops c = λ n few. joined.safe n (c.laws_are_cited.ensures n) few
 
 pub returns-clause-joined : goal.returns-clause-joined
 returns-clause-joined c = λ n few. joined.joined n (c.laws_are_cited.ensures n) few

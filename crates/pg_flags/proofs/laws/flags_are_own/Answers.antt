@@ -1,4 +1,5 @@
 use Rattle.pg_flags.proofs.Runs.{flags_are_known, flags_are_own, flags_have_own_numbers}
+use Rattle.pg_flags.proofs.Worlds.{flags_made}
 use Rattle.pg_flags.proofs.laws.flags_are_own.Goals as goal
 
 pub returns-clause-own : goal.returns-clause-own
@@ -9,3 +10,6 @@ returns-clause-numbers c = flags_have_own_numbers
 
 pub returns-clause-known : goal.returns-clause-known
 returns-clause-known c = flags_are_known
+
+pub returns-clause-made : goal.returns-clause-made
+returns-clause-made c = flags_made

@@ -1,5 +1,5 @@
 use Rattle.pg_kept.proofs.Acknowledged.{acknowledged_are_had}
-use Rattle.pg_kept.proofs.Runs.{run_keeps}
+use Rattle.pg_kept.proofs.Runs.{keeps_the_rule, run_keeps}
 use Rattle.pg_kept.proofs.laws.runs_keep_edges.Goals as goal
 
 pub returns-clause-edges : goal.returns-clause-edges
@@ -10,3 +10,6 @@ returns-clause-whole c = λ n on events s. (run_keeps n on events).whole s
 
 pub returns-clause-had : goal.returns-clause-had
 returns-clause-had c = acknowledged_are_had
+
+pub returns-clause-acts : goal.returns-clause-acts
+returns-clause-acts c = keeps_the_rule

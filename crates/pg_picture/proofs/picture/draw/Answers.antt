@@ -1,10 +1,10 @@
-use Rattle.std.proofs.Common.{rules, ◌≡◌, List, ◌∷◌, Option, None, length}
+use Rattle.std.proofs.Common.{rules, ◌≡◌, ◌∷◌, None, length}
 use Rattle.std.specs.List.{slice_get}
 use Rattle.std.specs.Option.{option_copied}
 use Rattle.pg_picture.specs.Course.{after, lack_of}
 use Rattle.pg_picture.specs.Picture.{draw}
 use Rattle.pg_picture.specs.Sketch.{drawn}
-use Rattle.pg_picture.proofs.Steps.{bag_on, height_on, same_on, whole_on}
+use Rattle.pg_picture.proofs.Steps.{room_on, same_on, whole_on}
 use Rattle.pg_picture.proofs.picture.draw.Goals as goal
 
 pub loop-line-preserved : goal.loop-line-preserved
@@ -22,8 +22,7 @@ loop-line-preserved c =
     let course : c.after-course.result ≡ after c.loop-line.course line = search rules in
     record {
       whole = whole_on (length all) line rest behind cut c.loop-line.invariant.whole;
-      height = height_on (length all) s c.take.new.self line rest behind next cut new c.loop-line.invariant.height;
-      bag = bag_on (length all) s c.take.new.self line rest behind next cut new c.loop-line.invariant.bag;
+      room = room_on (length all) s c.take.new.self line rest behind next cut new c.loop-line.invariant.room;
       same = same_on (length all) (draw all) c.loop-line.course c.after-course.result s c.take.new.self line rest behind
           next cut first none new course c.loop-line.invariant.whole c.loop-line.invariant.same;
     }

@@ -5,8 +5,7 @@ use Rattle.pg_picture.proofs.picture.draw.Given as goal
 abbrev pub invariant-loop-line : goal.invariant-loop-line
 invariant-loop-line l = record {
   whole : length l.rest ≤ length l.journal;
-  height : l.sketch.height + 2 * length l.rest ≤ 2 * length l.journal;
-  bag : length l.sketch.bag + length l.rest ≤ length l.journal;
+  room : l.sketch.height + length l.sketch.bag + 3 * length l.rest ≤ 3 * length l.journal;
   same : draw_from (length l.journal - length l.rest + 1) l.course l.sketch l.rest ≡ draw l.journal;
 }
 

@@ -9,3 +9,6 @@ returns-clause-one c = lemmas.one_made_place_a_stamp
 
 pub returns-clause-own : goal.returns-clause-own
 returns-clause-own c = lemmas.places_have_own_stamps
+
+pub returns-clause-past : goal.returns-clause-past
+returns-clause-past c = lemmas.places_made_are_past

@@ -2,10 +2,10 @@ use Rattle.pg_promises.proofs.Sending.{finish_may, others_may, tick_may}
 use Rattle.pg_promises.proofs.laws.cells_may_be_sent.Goals as goal
 
 pub returns-clause-ticks : goal.returns-clause-ticks
-returns-clause-ticks c = λ n s a b heard work k sound h. tick_may n s a b heard sound k work h
+returns-clause-ticks c = λ over n s a b heard work k sound h. tick_may over n s a b heard sound k work h
 
 pub returns-clause-ends : goal.returns-clause-ends
-returns-clause-ends c = λ n s a b heard work k sound h. finish_may n s a b heard sound k work h
+returns-clause-ends c = λ over n s a b heard work k sound h. finish_may over n s a b heard sound k work h
 
 pub returns-clause-others : goal.returns-clause-others
 returns-clause-others c = others_may

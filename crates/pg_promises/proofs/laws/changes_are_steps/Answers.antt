@@ -1,3 +1,6 @@
+use Rattle.pg_store.specs.Store.{with_names}
+use Rattle.pg_cells.specs.Settling.{settle, touch_all}
+use Rattle.pg_promises.proofs.Counting.{steps_on}
 use Rattle.pg_promises.proofs.LawsOf.{write_of_held}
 use Rattle.pg_promises.proofs.Settling.{settle_steps, took_all, took_before, touches_steps}
 use Rattle.pg_promises.proofs.Taking.{Grew, took_steps}
@@ -8,12 +11,14 @@ pub returns-clause-writes : goal.returns-clause-writes
 returns-clause-writes c = λ n s a f k held h stamp ranges of. write_of_held a f (replica_of_held a k.together f held) h stamp ranges of
 
 pub returns-clause-touches : goal.returns-clause-touches
-returns-clause-touches c = touches_steps
+returns-clause-touches c = λ a ts. steps_on a (touch_all a ts) (touches_steps a ts)
 
 pub returns-clause-rules : goal.returns-clause-rules
-returns-clause-rules c = λ n s a work k. settle_steps n s a work k
+returns-clause-rules c = λ n s a work k. steps_on a (settle a work).store (settle_steps n s a work k)
 
 pub returns-clause-names : goal.returns-clause-names
 returns-clause-names c = λ a names ts server grow told.
     let g : Grew ts a.names names = record { server = server; grow = grow; told = told } in
-    (took_steps ts a _ (took_all a names ts g), took_steps ts a _ (took_before a names ts g))
+    let b = touch_all (with_names a names) ts in
+    let d = with_names (touch_all a ts) names in
+    (steps_on a b (took_steps ts a b (took_all a names ts g)), steps_on a d (took_steps ts a d (took_before a names ts g)))

@@ -7,6 +7,6 @@ use Rattle.pangaea.proofs.journal.Replay.show_held.Given as goal
 
 abbrev pub invariant-loop-k : goal.invariant-loop-k
 invariant-loop-k l = record {
-  shown : Reaches l.fn.self l.self [] (shows_lines (final l.fn.self.world) l.id l.k);
-  any : l.any ≡ has_some (shows_lines (final l.fn.self.world) l.id l.k);
+  shown : Reaches l.fn.self l.self [] (shows_lines l.fn.self.world.servers (final l.fn.self.world) l.id l.k);
+  any : l.any ≡ has_some (shows_lines l.fn.self.world.servers (final l.fn.self.world) l.id l.k);
 }

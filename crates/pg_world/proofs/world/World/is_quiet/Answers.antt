@@ -1,4 +1,4 @@
-use Rattle.std.proofs.Common.{◌≡◌, ◌↔◌, subst, sym, ap, ◌∙◌}
+use Rattle.std.proofs.Common.{◌≡◌, ◌↔◌, subst, sym, ap, ◌∙◌, arith}
 use Rattle.pg_event.specs.declared.quiet.Quiet.{Quiet}
 use Rattle.pg_event.specs.declared.quiet.Quiet.TheVariants as told
 use Rattle.pg_run.specs.Quiet.{IsQuiet, quiet_of}
@@ -20,3 +20,11 @@ returns-clause-quiet c =
     let p = c.args.self.now in
     let P : Quiet → Type 0 = (λ q. (q ≡ told.Quiet) ↔ IsQuiet p.servers (final p)) in
     subst P (sym (returns-clause-answer c)) (c.quiet_is_told.ensures p.servers (final p))
+
+-- there are few servers
+pub quiet-requires : goal.quiet-requires
+quiet-requires c =
+    let going = ap (λ (p : Played). p.failed) c.self.view_is ∙ c.requires in
+    let count = c.self.invariant.count going in
+    let few = c.self.invariant.few in
+    omega (arith, count, few)

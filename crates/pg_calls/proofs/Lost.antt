@@ -1,0 +1,53 @@
+-- What is lost: the directory by whose cell a file is struck out, and the clock; and the view that comes next.
+use Rattle.std.proofs.Common.{ℕ, zero, suc, ◌≡◌, ◌==◌, ◌+◌, ◌-◌, Bool, true, false, cond, List, ◌∷◌, Option, Ok, filter, refl, sym, arith}
+use Rattle.std.proofs.lemmas.Bool.{eq-eqb, eqb-false, eqb-true, ne_eqb}
+use Rattle.pg_base.specs.declared.id.FileId.{FileId}
+use Rattle.pg_names.specs.Names.{NamesValue}
+use Rattle.pg_store.specs.declared.store.Store.{Store}
+use Rattle.pg_store.specs.Store.{is_in_time}
+use Rattle.pg_walk.specs.Walk.{and_then}
+use Rattle.pg_calls.specs.Asking.{later, latest}
+use Rattle.pg_calls.specs.Checks.{in_time}
+use Rattle.pg_calls.specs.Demoting.{unless_root}
+use Rattle.pg_calls.specs.Forgetting.{later_listing, lists_in, lost_at, unless_full}
+use Rattle.pg_calls.proofs.Checked.{behind}
+use Rattle.pg_calls.proofs.InTime.{time_by}
+
+-- one directory more
+pub one_listing : (names : NamesValue) (id : FileId) (first : Option FileId) (dir : FileId) (rest : List FileId)
+    → latest names id (later_listing names id first dir) (filter (lists_in names id) rest)
+    ≡ latest names id first (filter (lists_in names id) (dir ∷ rest))
+one_listing names id first dir rest = by (lists_in names id dir)
+  where
+    by : (t : Bool) → latest names id (cond t (later names id first dir) first) (filter (lists_in names id) rest)
+        ≡ latest names id first (cond t (dir ∷ filter (lists_in names id) rest) (filter (lists_in names id) rest))
+    by true = refl
+    by false = refl
+
+pub lost_in_time : (store : Store) (id found : FileId) → lost_at store id ≡ Ok found → is_in_time store ≡ true
+lost_in_time store id found h =
+    let t = behind (and_then (in_time store id) unless_root) (unless_full store) found h in
+    let s = behind (in_time store id) unless_root t.0 t.1 in
+    time_by (is_in_time store) id s.0 s.1
+
+-- ---- views
+
+no_next : (n v : ℕ) → n ≡ 0 → n ≡ v + 1 → ⊥
+no_next n v a b = absurd (omega arith)
+
+pub no_view : (n v : ℕ) → (n == 0) ≡ true → false ≡ (n == v + 1)
+no_view n v none = sym (ne_eqb n (v + 1) (no_next n v (eqb-true n 0 none)))
+
+above : (n u v : ℕ) → u ≡ v → n ≡ v + 1 → n - 1 ≡ u
+above n u v same e = omega arith
+
+below : (n u v : ℕ) → u ≡ v → (n ≡ 0 → ⊥) → n - 1 ≡ u → n ≡ v + 1
+below zero u v same k e = absurd (k refl)
+below (suc m) u v same k e = omega arith
+
+pub next_view : (n u v : ℕ) → u ≡ v → (n == 0) ≡ false → (n - 1 == u) ≡ (n == v + 1)
+next_view n u v same some = by (n == v + 1) refl
+  where
+    by : (t : Bool) → (n == v + 1) ≡ t → (n - 1 == u) ≡ t
+    by true e = eq-eqb (n - 1) u (above n u v same (eqb-true n (v + 1) e))
+    by false e = ne_eqb (n - 1) u (λ h. eqb-false n (v + 1) e (below n u v same (eqb-false n 0 some) h))

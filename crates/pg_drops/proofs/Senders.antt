@@ -1,0 +1,34 @@
+-- Whom a server hears: another live server in its view.
+use Rattle.std.proofs.Common.{ℕ, ◌≡◌, ◌==◌, ◌&&◌, Bool, true, false, not, refl, sym, ◌∙◌, ap}
+use Rattle.std.specs.Prelude.{nat_le}
+use Rattle.std.proofs.lemmas.Bool.{and_parts, false≢true}
+use Rattle.pg_msg.specs.declared.message.Packet.{Packet}
+use Rattle.pg_msg.specs.Numbers.{is_in_range}
+use Rattle.pg_register.specs.Flag.{is_removed}
+use Rattle.pg_server.specs.declared.input.Input.TheVariants as input
+use Rattle.pg_server.specs.Local.{takes_effect}
+use Rattle.pg_store.specs.declared.store.Store.{Store}
+use Rattle.pg_store.specs.Servers.{is_live_other, view_of}
+use Rattle.pg_store.specs.Store.{is_in_time}
+
+pub sender_live : (a : Store) (packet : Packet) → takes_effect a (input.Arrival packet) ≡ true
+    → is_live_other a packet.from ≡ true
+sender_live a packet heard =
+    let in_view = packet.view == view_of a in
+    let live = is_live_other a packet.from in
+    let range = is_in_range packet.message in
+    let behind = (and_parts (is_in_time a) (in_view && (live && range)) heard).1 in
+    (and_parts live range (and_parts in_view (live && range) behind).1).0
+
+pub live_unremoved : (a : Store) (u : ℕ) → is_live_other a u ≡ true → is_removed a.names.removed u ≡ true → ⊥
+live_unremoved a u live gone =
+    let up = nat_le u a.servers in
+    let apart = not (u == a.names.server) in
+    let kept = not (is_removed a.names.removed u) in
+    let rest = (and_parts (nat_le 1 u) (up && (apart && kept)) live).1 in
+    let left = (and_parts apart kept (and_parts up (apart && kept) rest).1).1 in
+    false≢true (sym (ap not gone) ∙ left)
+
+pub not_true : (t : Bool) → (t ≡ true → ⊥) → t ≡ false
+not_true true h = absurd (h refl)
+not_true false h = refl

@@ -1,0 +1,5 @@
+pub mod Taken
+pub mod Gone
+pub mod Seen
+pub mod Laws
+pub mod Premises

@@ -1,0 +1,4 @@
+pub mod Moments
+pub mod Hearing
+pub mod Golds
+pub mod Kept

@@ -1,0 +1,4 @@
+pub mod Protocol
+pub mod Moment
+pub mod Rule
+pub mod Laws

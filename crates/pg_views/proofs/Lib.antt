@@ -1,0 +1,12 @@
+pub mod Lists
+pub mod Seen
+pub mod Targets
+pub mod Fine
+pub mod Along
+pub mod Handled
+pub mod Called
+pub mod Entering
+pub mod Ends
+pub mod Effects
+pub mod Worlds
+pub mod Told
