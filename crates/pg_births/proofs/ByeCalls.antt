@@ -26,17 +26,17 @@ use Rattle.pg_cells.specs.Done.{Done, idle}
 use Rattle.pg_cells.specs.Golds.{is_gold}
 use Rattle.pg_cells.specs.Making.{lower_flag, own_next}
 use Rattle.pg_repair.proofs.Standing.{begun_other}
-use Rattle.pg_calls.specs.Answer.{Answer, answer, answered, replied, told}
+use Rattle.pg_checks.specs.Answer.{Answer, answer, answered, replied, told}
 use Rattle.pg_calls.specs.Bodies.{change_file, shown_part, when_fit}
 use Rattle.pg_calls.specs.Demoting.{demoted_at, lowered}
 use Rattle.pg_calls.specs.Dropping.{clean_gold, dropped_at, leave_of, leaving}
 use Rattle.pg_calls.specs.Looks.{counts, listing, page, stat_of}
 use Rattle.pg_calls.specs.Calls.{do_call}
-use Rattle.pg_calls.specs.Checks.{dir_at, empty_dir_at, file_at, in_time, move_of, new_name, target_at}
+use Rattle.pg_checks.specs.Checks.{dir_at, empty_dir_at, file_at, in_time, move_of, new_name, target_at}
 use Rattle.pg_calls.specs.Making.{drawn, make_place, make_version}
 use Rattle.pg_calls.specs.Naming.{dead_place, moved, next_id, place_in, taken_away, with_first_version, with_id, with_thing}
-use Rattle.pg_calls.specs.declared.checks.Move.{Move}
-use Rattle.pg_calls.specs.declared.checks.NewName.{NewName}
+use Rattle.pg_checks.specs.declared.checks.Move.{Move}
+use Rattle.pg_checks.specs.declared.checks.NewName.{NewName}
 use Rattle.pg_calls.specs.Refused.{OnlyAsks}
 use Rattle.pg_calls.proofs.Refused.{refused_only_asks}
 use Rattle.pg_promises.proofs.Choices.{chosen}

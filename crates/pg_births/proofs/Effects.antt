@@ -1,7 +1,7 @@
 -- What each event does to the births and edges of the server that takes an input.
-use Rattle.std.proofs.Common.{ℕ, ◌≡◌, Bool, true, false, cond, not, List, Option, None, Some, is_some, refl, sym, ap, subst, ◌∙◌}
+use Rattle.std.proofs.Common.{ℕ, ◌≡◌, Bool, true, false, cond, List, Option, None, Some, is_some, refl, sym, ap, subst, ◌∙◌}
 use Rattle.std.specs.Option.{option_map}
-use Rattle.std.proofs.lemmas.Bool.{and_parts, false≢true}
+use Rattle.std.proofs.lemmas.Bool.{and_parts, false≢true, not-true}
 use Rattle.pg_base.specs.declared.id.FileId.{FileId}
 use Rattle.pg_base.specs.declared.id.Kind.{Kind}
 use Rattle.pg_base.specs.declared.stamp.Stamp.{Stamp}
@@ -107,10 +107,6 @@ of_birth : (o : Option Replica) (n : ℕ) → is_of_birth o n ≡ true → (x : 
 of_birth None n e = cc
 of_birth (Some x) n e = (x, refl)
 
-not_true : (t : Bool) → not t ≡ true → t ≡ false
-not_true true h = cc
-not_true false h = refl
-
 module _ (a : Store) (ends : Ends) (work : Work) (current : is_current a work.from ends ≡ true) where
   abbrev Named : Store → Type 0
   Named b = Lists b ends.file work.from ends.sender
@@ -119,7 +115,7 @@ module _ (a : Store) (ends : Ends) (work : Work) (current : is_current a work.fr
   born_here = (and_parts (has_birth a ends.file ends.receiver) _ current).0
 
   not_later : knows_later a ends.file work.from ends.sender ≡ false
-  not_later = not_true (knows_later a ends.file work.from ends.sender) (and_parts (has_birth a ends.file ends.receiver) _ current).1
+  not_later = not-true (knows_later a ends.file work.from ends.sender) (and_parts (has_birth a ends.file ends.receiver) _ current).1
 
   link_listed : Named (link a ends.file work.from ends.sender)
   link_listed =

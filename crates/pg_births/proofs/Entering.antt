@@ -5,7 +5,7 @@ use Rattle.pg_base.specs.declared.id.FileId.{FileId}
 use Rattle.pg_call.specs.declared.call.Call.TheVariants as call
 use Rattle.pg_call.specs.declared.reply.Reply.{Reply}
 use Rattle.pg_call.specs.declared.reply.Reply.TheVariants as reply
-use Rattle.pg_calls.specs.Answer.{answer, answered}
+use Rattle.pg_checks.specs.Answer.{answer, answered}
 use Rattle.pg_calls.specs.GivingUp.{enter_view, removal_at}
 use Rattle.pg_calls.proofs.Checked.{no_ok}
 use Rattle.pg_msg.specs.Work.{new_work}

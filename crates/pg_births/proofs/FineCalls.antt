@@ -34,11 +34,11 @@ use Rattle.pg_store.specs.Together.{AreTogether, birth_at}
 use Rattle.pg_cells.specs.Done.{Done, idle}
 use Rattle.pg_cells.specs.Making.{lower_flag, own_next, raise_flag}
 use Rattle.pg_cells.specs.Posting.{post, sent_to}
-use Rattle.pg_calls.specs.Answer.{Answer, answer, answered, replied, told, unless}
-use Rattle.pg_calls.specs.Asking.{ask_by, ask_first, ask_for, fetch, fresh_wish, holder, standing}
+use Rattle.pg_checks.specs.Answer.{Answer, answer, answered, replied, told, unless}
+use Rattle.pg_checks.specs.Asking.{ask_by, ask_first, ask_for, fetch, fresh_wish, holder, standing}
 use Rattle.pg_calls.specs.Bodies.{change_file, shown_part, when_fit}
 use Rattle.pg_calls.specs.Calls.{do_call}
-use Rattle.pg_calls.specs.Checks.{dir_at, empty_dir_at, file_at, in_time, move_of, new_name, target_at}
+use Rattle.pg_checks.specs.Checks.{dir_at, empty_dir_at, file_at, in_time, move_of, new_name, target_at}
 use Rattle.pg_cells.specs.Golds.{is_gold}
 use Rattle.pg_calls.specs.Demoting.{demoted_at, lowered}
 use Rattle.pg_calls.specs.Dropping.{clean_gold, dropped_at, leave_of, leaving}
@@ -47,10 +47,10 @@ use Rattle.pg_calls.specs.GivingUp.{enter_view, removal_at}
 use Rattle.pg_calls.specs.Looks.{counts, listing, page, stat_of}
 use Rattle.pg_calls.specs.Making.{drawn, first_ranges, make_place, make_version}
 use Rattle.pg_calls.specs.Naming.{dead_place, moved, next_id, place_in, taken_away, with_first_version, with_id, with_thing}
-use Rattle.pg_calls.specs.declared.checks.Move.{Move}
-use Rattle.pg_calls.specs.declared.checks.NewName.{NewName}
+use Rattle.pg_checks.specs.declared.checks.Move.{Move}
+use Rattle.pg_checks.specs.declared.checks.NewName.{NewName}
 use Rattle.pg_calls.proofs.Missing.{IsMissing, demoted_missing, dir_missing, dropped_missing, empty_missing, file_missing, lost_missing, move_missing, name_missing, removal_missing, target_missing}
-use Rattle.pg_calls.proofs.Stopping.{StopsAt, stops_then, stops_time, stops_unless}
+use Rattle.pg_checks.proofs.Stopping.{StopsAt, stops_then, stops_time, stops_unless}
 use Rattle.pg_promises.proofs.Choices.{chosen, decided}
 use Rattle.pg_promises.proofs.Flags.{server_of}
 use Rattle.pg_births.specs.Flags.{SaysStore}
@@ -167,7 +167,7 @@ module _ (P : FileId → ℕ → ℕ → Type 0) (G : FileId → ℕ → Type 0)
         let none : Fine (idle (with_birth b) w) = record { store = record { names = k.store.names; intents = k.store.intents }; edges = k.edges; sent = k.sent; tail = k.tail; asker = k.asker } in
         let to_c : Fine (idle c v) = said_on P Q G s from (idle (with_birth b) w) (idle c v) none
         (say_begin Q (Owed P G s) s (with_birth b) id (draw_birth b) policy own true (All-nil (Q id)) none.store)
-        (ends_begin P (with_birth b) id (draw_birth b) policy own true none.edges) (record { sent = refl; tail = refl; asker = refl }) in
+        (ends_begin P (with_birth b) id (draw_birth b) policy own true none.edges) (record { sent = refl; tail = refl; from = refl }) in
         let d = make_place id place (idle c w) in
         let to_d = said_place P Q G s from c id place v to_c in
         let here : birth_at d.store id ≡ Some (draw_birth b) =
@@ -179,12 +179,12 @@ module _ (P : FileId → ℕ → ℕ → Type 0) (G : FileId → ℕ → Type 0)
     fine_write : (b : Store) (f : FileId) (stamp : Stamp) (ranges : RangesValue) (v : Work) → Fine (idle b v) → Fine (make_version f stamp ranges (idle b v))
     fine_write b f stamp ranges v h =
         said_on P Q G s from (idle b v) (make_version f stamp ranges (idle b v)) h (say_write Q (Owed P G s) s b f stamp ranges h.store)
-        (ends_stay P (write_stays b f stamp ranges) h.edges) (record { sent = refl; tail = refl; asker = refl })
+        (ends_stay P (write_stays b f stamp ranges) h.edges) (record { sent = refl; tail = refl; from = refl })
 
     fine_place : (f : FileId) (place : Place) → Fine (make_place f place (idle a w))
     fine_place f place =
         let v = with_made w (update.Place f place) in
-        said_place P Q G s from a f place v (said_on P Q G s from (idle a w) (idle a v) k k.store k.edges (record { sent = refl; tail = refl; asker = refl }))
+        said_place P Q G s from a f place v (said_on P Q G s from (idle a w) (idle a v) k k.store k.edges (record { sent = refl; tail = refl; from = refl }))
 
     fits_missing : (ranges : RangesValue) (file : FileId) → StopsAt (IsMissing a.names) (when_fit a ranges file)
     fits_missing ranges file =

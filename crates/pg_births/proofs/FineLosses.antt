@@ -35,7 +35,8 @@ use Rattle.pg_births.proofs.EndsSay.{SaysEnds, ends_begin}
 use Rattle.pg_births.proofs.EnterSays.{ends_enter, find_has, say_enter}
 use Rattle.pg_births.proofs.Here.{birth_of_held, born_here}
 use Rattle.pg_births.proofs.Losing.{filled_stays, placed_lost_stays}
-use Rattle.pg_births.proofs.Mails.{OfBirths, Owed, same_mail}
+use Rattle.pg_births.proofs.Mails.{OfBirths, Owed}
+use Rattle.pg_run.proofs.Still.{same_mail}
 use Rattle.pg_births.proofs.Pieces.{flag_stays, place_stays}
 use Rattle.pg_births.proofs.Received.{fine_fill, fine_raise}
 use Rattle.pg_births.proofs.Saying.{IsSaid, own_named, said_entry, said_last, said_on, said_place}
@@ -62,7 +63,7 @@ module _ (P : FileId → ℕ → ℕ → Type 0) (G : FileId → ℕ → Type 0)
           let place = root_place b w.now id in
           let v = with_made w (update.Place id place) in
           said_place P Q G s from b id place v
-          (said_on P Q G s from (idle b w) (idle b v) h h.store h.edges (record { sent = refl; tail = refl; asker = refl }))
+          (said_on P Q G s from (idle b w) (idle b v) h h.store h.edges (record { sent = refl; tail = refl; from = refl }))
 
       -- a filling replica
       fill_fine : is_held a id ≡ true → Givens (fill_lost a id w).store → Fine (fill_lost a id w)
@@ -88,7 +89,7 @@ module _ (P : FileId → ℕ → ℕ → Type 0) (G : FileId → ℕ → Type 0)
           let v = with_made w (update.Place id dead) in
           marks_fine (dirs_of a.names id) (unwished a id) dead v
           (said_on P Q G s from (idle a w) (idle (unwished a id) v) k (record { names = k.store.names; intents = k.store.intents }) k.edges
-          (record { sent = refl; tail = refl; asker = refl }))
+          (record { sent = refl; tail = refl; from = refl }))
 
       -- a directory
       abbrev Free : Store
@@ -184,4 +185,4 @@ module _ (P : FileId → ℕ → ℕ → Type 0) (G : FileId → ℕ → Type 0)
       entered_fine =
           invites_fine (keys_of b.names.held) (doubt_all b w)
           (said_on P Q G s from (idle a w) (idle b (doubt_all b w)) k (say_enter Q (Owed P G s) s server a k.store) edges_b
-          (record { sent = refl; tail = refl; asker = refl }))
+          (record { sent = refl; tail = refl; from = refl }))

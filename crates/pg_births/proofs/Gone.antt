@@ -1,12 +1,11 @@
 -- What a server says is gone was given out and is gone for good.
-use Rattle.std.proofs.Common.{ℕ, ◌≡◌, ◌≤◌, ◌<◌, ◌++◌, arith, Bool, true, false, cond, not, List, [], ◌∷◌, append_assoc, is_some, inl, inr, refl, sym, ap, subst, ◌∙◌}
+use Rattle.std.proofs.Common.{ℕ, ◌≡◌, ◌≤◌, ◌<◌, ◌++◌, arith, true, cond, not, List, [], ◌∷◌, append_assoc, is_some, inl, inr, sym, ap, subst, ◌∙◌}
 use Rattle.std.specs.Prelude.{Contains}
-use Rattle.std.proofs.lemmas.Bool.{and_parts, false≢true}
+use Rattle.std.proofs.lemmas.Bool.{and_parts, false≢true, not-true}
 use Rattle.pg_base.specs.declared.id.FileId.{FileId}
 use Rattle.pg_base.specs.declared.stamp.Stamp.{Stamp}
 use Rattle.pg_event.specs.declared.event.Event.{Event}
 use Rattle.pg_flood.proofs.Flood.{after_itself}
-use Rattle.pg_intent.specs.declared.intent.Intent.TheVariants as intent
 use Rattle.pg_intent.specs.declared.key.IntentKey.TheVariants as intent_key
 use Rattle.pg_msg.specs.declared.message.Ends.{Ends}
 use Rattle.pg_msg.specs.declared.message.Message.{Message}
@@ -63,10 +62,6 @@ no_more : (a b : ℕ) → a ≤ b → b < a → ⊥
 no_more a b h k = omega arith
 
 -- a birth is over behind the leave with which its replica goes
-not_true : (t : Bool) → not t ≡ true → t ≡ false
-not_true true h = absurd (false≢true h)
-not_true false h = refl
-
 pub went_over : (a : Store) (packet : Packet) (x : Ends) (stamp : Stamp) → packet.message ≡ message.LeaveOk x stamp → is_heard a packet ≡ true
     → goes_now a x stamp (new_work 0 packet.from) ≡ true → IsAlone a → IsOver (first_effect a (input.Arrival packet)).store x.file x.receiver
 went_over a packet x stamp same heard now k =
@@ -74,7 +69,7 @@ went_over a packet x stamp same heard now k =
     let w = new_work 0 packet.from in
     let b = without_leave a f in
     let parts = and_parts (may_leave a x stamp w) (not (is_some (stays_for b f))) now in
-    let kept = not_true (is_some (stays_for b f)) parts.1 in
+    let kept = not-true (is_some (stays_for b f)) parts.1 in
     let here = of_birth (replica_at a f) x.receiver
     (and_parts (has_birth a f x.receiver) _ (and_parts (is_current a w.from x) _ (and_parts (is_accepted a w.from manner.Answer x) _ parts.0).0).0).0 in
     let is : first_effect a (input.Arrival packet) ≡ goes b f w =

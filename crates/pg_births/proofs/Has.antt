@@ -1,7 +1,7 @@
 -- The births that a server has: those of its replicas, and those of replicas that are to come.
 use Rattle.std.proofs.Common.{ℕ, ◌≡◌, ◌≤◌, ◌<◌, ◌+◌, ◌&&◌, ◌||◌, ◌⊎◌, arith, Bool, true, false, not, Option, None, Some, is_some, inl, inr, refl, sym, ap, subst, ◌∙◌, eq-eqb}
 use Rattle.std.specs.Option.{option_map}
-use Rattle.std.proofs.lemmas.Bool.{eqb-true, false≢true}
+use Rattle.std.proofs.lemmas.Bool.{eqb-true, false≢true, or_left, or_right, false_from_ne_true}
 use Rattle.pg_base.specs.declared.id.FileId.{FileId}
 use Rattle.pg_intent.specs.declared.intent.Intent.{Intent}
 use Rattle.pg_intent.specs.declared.intent.Intent.TheVariants as intent
@@ -68,19 +68,12 @@ wish_tests (Some v) w n e same = eq-eqb v.birth n (let z : v.birth ≡ w.birth =
 fill_tests : (o : Option Intent) (g : FileId) (n t : ℕ) → o ≡ Some (intent.Fill g n t) → is_fill_at o n ≡ true
 fill_tests o g n t e = ap (λ (x : Option Intent). is_fill_at x n) e ∙ eq-eqb n n refl
 
-or_first : (s t : Bool) → s ≡ true → (s || t) ≡ true
-or_first s t h = ap (λ b. b || t) h
-
-or_second : (s t : Bool) → t ≡ true → (s || t) ≡ true
-or_second true t h = refl
-or_second false t h = h
-
 pub from_has : (a : Store) (file : FileId) (n : ℕ) → Has a file n → IsBirthAt a file n
 from_has a file n k = elim k [
   | inl e ↦ inl (born_of (replica_at a file) n e)
   | inr p ↦ inr (elim p [
-    | inl w ↦ or_first (is_with_birth (wish_at a file) n) _ (wish_tests (wish_at a file) w.0 n w.1 w.2)
-    | inr f ↦ or_second (is_with_birth (wish_at a file) n) _
+    | inl w ↦ or_left (is_with_birth (wish_at a file) n) _ (wish_tests (wish_at a file) w.0 n w.1 w.2)
+    | inr f ↦ or_right (is_with_birth (wish_at a file) n) _
         (ap (λ b. not b && is_fill_at (fill_at a file) n) f.0 ∙ fill_tests (fill_at a file) f.1.0 n f.1.1 f.1.2)
   ])
 ]
@@ -103,16 +96,12 @@ over_has a f n o h = elim (as_was a f n h) [
   | inr to_come ↦ false≢true (sym o.unasked ∙ to_come)
 ]
 
-not_so : (t : Bool) → (t ≡ true → ⊥) → t ≡ false
-not_so true h = absurd (h refl)
-not_so false h = refl
-
 -- and one that was given out, and that it does not have, is over
 pub over_of : (a : Store) (f : FileId) (n : ℕ) → n ≤ a.births → (Has a f n → ⊥) → IsOver a f n
 over_of a f n count none = record {
   given = count;
-  away = not_so (has_birth a f n) (λ h. none (inl (of_birth (replica_at a f) n h)));
-  unasked = not_so (is_pending a f n) (λ h. none (to_has a f n (inr h)));
+  away = false_from_ne_true (has_birth a f n) (λ h. none (inl (of_birth (replica_at a f) n h)));
+  unasked = false_from_ne_true (is_pending a f n) (λ h. none (to_has a f n (inr h)));
 }
 
 -- ---- what is known of them at one server

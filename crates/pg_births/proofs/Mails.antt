@@ -1,20 +1,11 @@
--- What is said of a message that is sent, and what changes of a work send nothing.
-use Rattle.std.proofs.Common.{ℕ, ◌≡◌, ◌&&◌, Bool, true, false, cond, not, Option, None, Some, refl, subst, ◌∙◌}
+-- What is said of a message that is sent.
+use Rattle.std.proofs.Common.{ℕ, ◌≡◌, Option, None, Some, subst}
 use Rattle.pg_base.specs.declared.id.FileId.{FileId}
-use Rattle.pg_edges.specs.declared.key.Key.{Key}
 use Rattle.pg_msg.specs.declared.message.Ends.{Ends}
 use Rattle.pg_msg.specs.declared.message.Message.{Message}
 use Rattle.pg_msg.specs.declared.message.Message.TheVariants as message
 use Rattle.pg_msg.specs.declared.message.Sent.{Sent}
-use Rattle.pg_msg.specs.declared.work.Work.{Work}
-use Rattle.pg_intent.specs.declared.key.IntentKey.{IntentKey}
-use Rattle.pg_msg.specs.Work.{with_begun, with_left, with_linked, with_touched, with_unsure}
 use Rattle.pg_register.specs.declared.flag.Flag.{Flag}
-use Rattle.pg_register.specs.declared.place.Place.{Place}
-use Rattle.pg_house.specs.Work.{is_root, note_left}
-use Rattle.pg_cells.specs.Accepting.{with_link}
-use Rattle.pg_cells.specs.Intending.{with_begun_if}
-use Rattle.pg_cells.specs.Taking.{with_doubt, with_left_if, with_news}
 use Rattle.pg_run.specs.Births.{AllNamed}
 use Rattle.pg_births.specs.Flags.{SaysMessage}
 
@@ -110,39 +101,3 @@ named_by P (message.Walk x origin birth hops word) from to named ends links =
     subst (λ (z : Ends). P z.file to z.receiver) (let same : x ≡ ends = cc in same) named.0.1
 named_by P (message.Meet x) from to named ends links =
     subst (λ (z : Ends). P z.file to z.receiver) (let same : x ≡ ends = cc in same) named.1
-
--- ---- a work that sends nothing more
-
-pub record SameMail (w v : Work) : Type 0 where
-  pub sent : v.sent ≡ w.sent
-  pub tail : v.tail ≡ w.tail
-  pub asker : v.from ≡ w.from
-
-pub same_mail : (w : Work) → SameMail w w
-same_mail w = record { sent = refl; tail = refl; asker = refl }
-
-pub either_mail : (w x y : Work) (t : Bool) → SameMail w x → SameMail w y → SameMail w (cond t x y)
-either_mail w x y true one two = one
-either_mail w x y false one two = two
-
-pub then_mail : (w x y : Work) → SameMail w x → SameMail x y → SameMail w y
-then_mail w x y one two = record { sent = two.sent ∙ one.sent; tail = two.tail ∙ one.tail; asker = two.asker ∙ one.asker }
-
-pub begun_mail : (t : Bool) (w : Work) (k : IntentKey) → SameMail w (with_begun_if t w k)
-begun_mail t w k = either_mail w (with_begun w k) w t (record { sent = refl; tail = refl; asker = refl }) (same_mail w)
-
-pub news_mail : (t : Bool) (w : Work) (f : FileId) (q : Key) → SameMail w (with_news t w f q)
-news_mail t w f q = either_mail w (with_touched w f q) w t (record { sent = refl; tail = refl; asker = refl }) (same_mail w)
-
-pub note_mail : (w : Work) (f : FileId) (old : Place) → SameMail w (note_left w f old)
-note_mail w f old =
-    either_mail w (with_left w old.parent f) w (old.live && not (is_root f)) (record { sent = refl; tail = refl; asker = refl }) (same_mail w)
-
-pub left_mail : (t : Bool) (w : Work) (f : FileId) (old : Place) → SameMail w (with_left_if t w f old)
-left_mail t w f old = either_mail w (note_left w f old) w t (note_mail w f old) (same_mail w)
-
-pub link_mail : (t : Bool) (w : Work) (f : FileId) (p : ℕ) → SameMail w (with_link t w f p)
-link_mail t w f p = either_mail w (with_linked w f p) w t (record { sent = refl; tail = refl; asker = refl }) (same_mail w)
-
-pub doubt_mail : (t : Bool) (w : Work) (d c : FileId) → SameMail w (with_doubt t w d c)
-doubt_mail t w d c = either_mail w (with_unsure w d c) w t (record { sent = refl; tail = refl; asker = refl }) (same_mail w)

@@ -1,7 +1,7 @@
 -- In each event a Bye begins only where a replica goes, of each of its edges, and ends only by its peer's answer.
 use Rattle.std.proofs.Common.{ℕ, ◌≡◌, ◌++◌, ◌⊎◌, Bool, true, false, cond, not, List, [], ◌∷◌, Option, None, Some, is_some, inl, inr, refl, sym, ap, subst, ◌∙◌}
 use Rattle.std.specs.List.{find}
-use Rattle.std.proofs.lemmas.Bool.{and_parts, false≢true}
+use Rattle.std.proofs.lemmas.Bool.{and_parts, false≢true, not-true}
 use Rattle.std.proofs.lemmas.Option.{none-some}
 use Rattle.pg_base.specs.declared.id.FileId.{FileId}
 use Rattle.pg_base.specs.declared.stamp.Stamp.{Stamp}
@@ -18,6 +18,7 @@ use Rattle.pg_intent.specs.Intents.{HaveOwnKeys, has_key, intent_at}
 use Rattle.pg_intent.specs.Key.{is_same_key}
 use Rattle.pg_intent.proofs.Found.{ended_found}
 use Rattle.pg_intent.proofs.SameKey.{is_same_key-true}
+use Rattle.pg_intent.proofs.Stands.{all_found}
 use Rattle.pg_msg.specs.declared.message.Ends.{Ends}
 use Rattle.pg_msg.specs.declared.message.Message.{Message}
 use Rattle.pg_msg.specs.declared.message.Message.TheVariants as message
@@ -51,7 +52,6 @@ use Rattle.pg_run.proofs.Lists.{among_contained, contained_among}
 use Rattle.pg_births.proofs.ByeEvents.{Changes, arrival_bye, byes_begin, byes_leave, each_told, effect_bye, left_by, on, without_same}
 use Rattle.pg_births.proofs.ByeKeys.{ByeKey, bye_in}
 use Rattle.pg_births.proofs.Here.{birth_is, of_birth}
-use Rattle.pg_births.proofs.Sends.{all_found}
 
 -- ---- what stands is found with its key
 
@@ -130,16 +130,12 @@ leave_is a from (message.LeaveOk x stamp) file there =
     (x, stamp, refl, k.0, k.1)
 leave_is a from m file there = absurd (none-some file there)
 
-not_true : (t : Bool) → not t ≡ true → t ≡ false
-not_true true h = absurd (false≢true h)
-not_true false h = refl
-
 goes_is : (a : Store) (x : Ends) (stamp : Stamp) (w : Work) → goes_now a x stamp w ≡ true → leave_ok a x stamp w ≡ goes (without_leave a x.file) x.file w
 goes_is a x stamp w now =
     let b = without_leave a x.file in
     let parts = and_parts (may_leave a x stamp w) (not (is_some (stays_for b x.file))) now in
     ap (λ t. cond t (goes_or_stays b x.file w) (idle a w)) parts.0
-    ∙ ap (λ t. cond t (idle b w) (goes b x.file w)) (not_true (is_some (stays_for b x.file)) parts.1)
+    ∙ ap (λ t. cond t (idle b w) (goes b x.file w)) (not-true (is_some (stays_for b x.file)) parts.1)
 
 module _ (n : ℕ) (intends : IntentionsAreInOrder n) where
   abbrev At : List Event → ℕ → Store

@@ -33,7 +33,8 @@ use Rattle.pg_births.specs.Flags.{SaysIntent}
 use Rattle.pg_births.proofs.EndsSay.{ends_let_go, ends_unlink}
 use Rattle.pg_births.proofs.Here.{birth_is, of_birth}
 use Rattle.pg_births.proofs.Leaves.{now_goes}
-use Rattle.pg_births.proofs.Mails.{Owed, begun_mail, same_mail}
+use Rattle.pg_births.proofs.Mails.{Owed}
+use Rattle.pg_run.proofs.Still.{begun_still, same_mail}
 use Rattle.pg_births.proofs.Saying.{Fresh, IsSaid, said_accept, said_on, said_reply}
 use Rattle.pg_births.proofs.StoreSays.{intends_says, say_ended, say_let_go, say_unlink}
 use Rattle.pg_births.proofs.Walking.{edges_named}
@@ -54,7 +55,7 @@ module _ (P : FileId → ℕ → ℕ → Type 0) (Q : FileId → Flag → Type 0
   pub said_begun : (d : Done) (i : Intent) → SaysIntent Q (Owed P G s) i → Said d → Said (begin_intent d.store i d.work)
   said_begun d i one k =
       said_on P Q G s from d (begin_intent d.store i d.work) k (intends_says Q (Owed P G s) s d.store i d.work one k.store) k.edges
-      (begun_mail (not (stands d.store.intents (key_of i))) d.work (key_of i))
+      (begun_still (not (stands d.store.intents (key_of i))) d.work (key_of i)).mail
 
   -- ---- a replica of a peer has gone
 

@@ -4,7 +4,6 @@ use Rattle.std.specs.Prelude.{nat_lt}
 use Rattle.std.proofs.lemmas.Bool.{and_parts}
 use Rattle.pg_base.specs.declared.id.FileId.{FileId}
 use Rattle.pg_base.specs.declared.stamp.Stamp.{Stamp}
-use Rattle.pg_call.specs.declared.call.Call.TheVariants as call
 use Rattle.pg_msg.specs.declared.message.Ends.{Ends}
 use Rattle.pg_msg.specs.declared.message.Message.{Message}
 use Rattle.pg_msg.specs.declared.message.Message.TheVariants as message
@@ -32,7 +31,8 @@ use Rattle.pg_births.specs.Flags.{SaysMessage}
 use Rattle.pg_births.proofs.EndsSay.{ends_stay}
 use Rattle.pg_births.proofs.Here.{birth_is, of_birth}
 use Rattle.pg_births.proofs.Pieces.{fill_stays}
-use Rattle.pg_births.proofs.Mails.{linking_to, OfBirths, Owed, same_mail}
+use Rattle.pg_births.proofs.Mails.{linking_to, OfBirths, Owed}
+use Rattle.pg_run.proofs.Still.{same_mail}
 use Rattle.pg_births.proofs.Parting.{said_bye, said_ended, said_leave, said_leave_ok}
 use Rattle.pg_births.proofs.Saying.{Born, Fresh, IsSaid, asked_by, said_accept, said_ack, said_cell, said_confirm, said_fetch, said_flag, said_gone, said_grant, said_no_grant, said_none_here, said_on, said_place_is, said_tell, said_tell_ok}
 use Rattle.pg_births.proofs.StoreSays.{say_fill}
@@ -56,7 +56,7 @@ module _ (P : FileId → ℕ → ℕ → Type 0) (G : FileId → ℕ → Type 0)
       let flag = own_next b f raised in
       let v = with_made w (update.Flag f flag) in
       said_flag P Q G s from b f flag v (own_fine b f raised k.store.names.server one)
-      (said_on P Q G s from (idle b w) (idle b v) k k.store k.edges (record { sent = refl; tail = refl; asker = refl }))
+      (said_on P Q G s from (idle b w) (idle b v) k k.store k.edges (record { sent = refl; tail = refl; from = refl }))
 
   pub fine_raise : (b : Store) (f : FileId) (n : ℕ) (w : Work) → Fine (idle b w) → birth_at b f ≡ Some n → P f s n → Fine (raise_flag b f w)
   fine_raise b f n w k there one = fine_flag b f true w k (subst (P f s) (sym (birth_is b f n there)) one)

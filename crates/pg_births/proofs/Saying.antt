@@ -1,12 +1,11 @@
 -- What is said of births and flags is said of what a server holds and sends in answer to a message.
-use Rattle.std.proofs.Common.{ℕ, ◌≡◌, ◌&&◌, ◌||◌, Bool, true, false, cond, not, List, [], ◌∷◌, Option, None, Some, All, refl, sym, ap, subst, ◌∙◌}
+use Rattle.std.proofs.Common.{ℕ, ◌≡◌, ◌||◌, Bool, true, false, cond, List, [], ◌∷◌, Option, None, Some, All, refl, sym, ap, subst, ◌∙◌}
 use Rattle.std.specs.Option.{option_map}
 use Rattle.std.proofs.lemmas.List.Elements.{All-head, All-push, All-tail}
 use Rattle.pg_base.specs.declared.id.FileId.{FileId}
 use Rattle.pg_base.specs.declared.stamp.Stamp.{Stamp}
 use Rattle.pg_base.specs.Version.{VersionValue}
 use Rattle.pg_edges.specs.declared.key.Key.{Key}
-use Rattle.pg_edges.specs.declared.key.Key.TheVariants as key
 use Rattle.pg_entries.specs.declared.cell.Cell.{Cell}
 use Rattle.pg_entries.specs.declared.cell.Cell.TheVariants as cells
 use Rattle.pg_entries.specs.declared.entry.Entry.{Entry}
@@ -33,9 +32,9 @@ use Rattle.pg_edges.specs.Edges.{keys_at}
 use Rattle.pg_store.specs.declared.store.Store.{Store}
 use Rattle.pg_store.specs.Beginning.{with_intents}
 use Rattle.pg_store.specs.Births.{birth_of, fill_at, has_birth, is_pending, wish_at, with_wishes}
-use Rattle.pg_store.specs.Links.{is_new_link, knows_later, link}
+use Rattle.pg_store.specs.Links.{knows_later, link}
 use Rattle.pg_store.specs.Servers.{next_target}
-use Rattle.pg_store.specs.Store.{entry_news, is_full, is_held, is_new_version, is_newer_flag, is_newer_place, replica_at}
+use Rattle.pg_store.specs.Store.{is_full, is_held, replica_at}
 use Rattle.pg_store.specs.Together.{birth_at}
 use Rattle.pg_store.proofs.Pairs.{link_as_before}
 use Rattle.pg_store.specs.Wishes.{aim_wish}
@@ -46,7 +45,7 @@ use Rattle.pg_cells.specs.Acks.{ack}
 use Rattle.pg_cells.specs.Cells.{cell, fits, taken, taken_along}
 use Rattle.pg_cells.specs.Done.{Done, idle, link_of}
 use Rattle.pg_cells.specs.Posting.{post, reply, sent_to}
-use Rattle.pg_cells.specs.Taking.{is_any_news, is_place_news, take_entry_cell, take_entry_noted, take_flag_noted, take_flags_noted, take_place_noted, take_version_noted, with_left_if, with_news}
+use Rattle.pg_cells.specs.Taking.{take_entry_cell, take_entry_noted, take_flag_noted, take_flags_noted, take_place_noted, take_version_noted}
 use Rattle.pg_repair.specs.Confirming.{confirm, confirmed, is_confirmed, own_entry, place_is, place_told, take_told_flags, take_told_place}
 use Rattle.pg_repair.specs.Fetching.{answer_fetch, answered_fetch, fetch, given, granted_from}
 use Rattle.pg_repair.specs.Granting.{aim_fill, begin_granted, begun_by, fill_asks, gone, grant, granted_own, no_grant, turn_wish, wish_asks}
@@ -60,7 +59,8 @@ use Rattle.pg_births.proofs.EndsSay.{SaysEnds, ends_begin, ends_link, ends_stay,
 use Rattle.pg_births.proofs.Here.{birth_is}
 use Rattle.pg_births.proofs.Pieces.{acknowledge_stays, entry_stays, flag_stays, place_stays, version_stays}
 use Rattle.pg_births.proofs.StoreSays.{entry_says, own_says, say_acknowledge, say_aimed, say_begin, say_ended, say_entry, say_flag, say_link, say_place, say_unlink, say_version}
-use Rattle.pg_births.proofs.Mails.{Owed, SameMail, SaysAll, SaysSent, doubt_mail, left_mail, link_mail, news_mail, same_mail, then_mail}
+use Rattle.pg_births.proofs.Mails.{Owed, SaysAll, SaysSent}
+use Rattle.pg_run.proofs.Still.{SameMail, doubted_still, entry_still, flag_still, linked_still, place_still, same_mail, version_still}
 
 -- in the midst of an event at server s, in which a message came from this server
 pub record IsSaid (P : FileId → ℕ → ℕ → Type 0) (Q : FileId → Flag → Type 0) (G : FileId → ℕ → Type 0) (s from : ℕ) (d : Done) : Type 0 where
@@ -80,23 +80,20 @@ module _ (P : FileId → ℕ → ℕ → Type 0) (Q : FileId → Flag → Type 0
     edges = edges;
     sent = subst (All (SaysSent P Q G s)) (sym mail.sent) k.sent;
     tail = subst (All (SaysSent P Q G s)) (sym mail.tail) k.tail;
-    asker = mail.asker ∙ k.asker;
+    asker = mail.from ∙ k.asker;
   }
 
   -- ---- pieces
 
   pub said_place : (a : Store) (f : FileId) (place : Place) (w : Work) → Said (idle a w) → Said (take_place_noted a f place w)
   said_place a f place w k =
-      let news = is_newer_place a f place in
-      let old = (own_or_blank a.names f).place in
       said_on (idle a w) (take_place_noted a f place w) k (say_place Q (Owed P G s) s a f place k.store) (ends_stay P (place_stays a f place) k.edges)
-      (then_mail w (with_left_if news w f old) (with_news news (with_left_if news w f old) f key.Place) (left_mail news w f old)
-      (news_mail news (with_left_if news w f old) f key.Place))
+      (place_still a f place w).mail
 
   pub said_flag : (a : Store) (f : FileId) (flag : Flag) (w : Work) → Q f flag → Said (idle a w) → Said (take_flag_noted a f flag w)
   said_flag a f flag w one k =
       said_on (idle a w) (take_flag_noted a f flag w) k (say_flag Q (Owed P G s) s a f flag one k.store) (ends_stay P (flag_stays a f flag) k.edges)
-      (news_mail (is_newer_flag a f flag) w f (key.Flag flag.server))
+      (flag_still a f flag w).mail
 
   said_flags : (fs : List Flag) (a : Store) (f : FileId) (w : Work) → All (Q f) fs → Said (idle a w) → Said (take_flags_noted a f fs w)
   said_flags [] a f w all k = k
@@ -107,7 +104,7 @@ module _ (P : FileId → ℕ → ℕ → Type 0) (Q : FileId → Flag → Type 0
   pub said_entry : (a : Store) (dir : FileId) (e : Entry) (w : Work) → SaysEntry Q e → Said (idle a w) → Said (take_entry_noted a dir e w)
   said_entry a dir e w one k =
       said_on (idle a w) (take_entry_noted a dir e w) k (say_entry Q (Owed P G s) s a dir e one k.store) (ends_stay P (entry_stays a dir e) k.edges)
-      (news_mail (is_any_news (entry_news a dir e)) w dir (key.Entry e.child))
+      (entry_still a dir e w).mail
 
   said_entry_cell : (a : Store) (dir : FileId) (e : Entry) (sure : Bool) (w : Work) → SaysEntry Q e → Said (idle a w)
       → Said (take_entry_cell a dir e sure w)
@@ -115,17 +112,17 @@ module _ (P : FileId → ℕ → ℕ → Type 0) (Q : FileId → Flag → Type 0
       let d = take_entry_noted a dir e w in
       said_on d (take_entry_cell a dir e sure w) (said_entry a dir e w one k) (say_entry Q (Owed P G s) s a dir e one k.store)
       (ends_stay P (entry_stays a dir e) k.edges)
-      (doubt_mail (is_place_news (entry_news a dir e) && not sure) d.work dir e.child)
+      (doubted_still a dir e sure w).mail
 
   said_version : (a : Store) (f : FileId) (v : VersionValue) (w : Work) → Said (idle a w) → Said (take_version_noted a f v w)
   said_version a f v w k =
       said_on (idle a w) (take_version_noted a f v w) k (say_version Q (Owed P G s) s a f v k.store) (ends_stay P (version_stays a f v) k.edges)
-      (news_mail (is_new_version a f v) w f (key.Version v.head.stamp))
+      (version_still a f v w).mail
 
   pub said_link : (a : Store) (f : FileId) (p b : ℕ) (w : Work) → P f p b → Said (idle a w) → Said (link_peer a f p b w)
   said_link a f p b w one k =
       said_on (idle a w) (link_peer a f p b w) k (say_link Q (Owed P G s) s a f p b k.store) (ends_link P a f p b one k.edges)
-      (link_mail (is_new_link a f p b) w f p)
+      (linked_still a f p b w).mail
 
   -- one message more
   pub said_post : (a : Store) (to : ℕ) (m : Message) (w : Work) → AllNamed P s to m → SaysAll Q G m → Said (idle a w) → Said (idle a (post a to m w))

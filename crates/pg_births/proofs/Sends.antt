@@ -1,11 +1,11 @@
 -- What is said of births and flags is said of the cells and the requests that a server sends.
-use Rattle.std.proofs.Common.{ℕ, ◌≡◌, ◌==◌, Bool, true, false, cond, List, [], ◌∷◌, map, Option, None, Some, is_some, All, get_or, inl, inr, refl, sym, ap, subst, ◌∙◌}
+use Rattle.std.proofs.Common.{ℕ, ◌≡◌, ◌==◌, Bool, true, false, cond, List, [], ◌∷◌, Option, None, Some, is_some, All, get_or, inl, inr, refl, sym, ap, subst, ◌∙◌}
 use Rattle.std.specs.Option.{option_map}
-use Rattle.std.specs.List.{AllByRecursion, IsDistinct, flat_map}
+use Rattle.std.specs.List.{flat_map}
 use Rattle.std.specs.List.Sorted.{IsStrictlySortedBy}
 use Rattle.std.specs.Map.{keys_of}
 use Rattle.std.proofs.lemmas.Bool.{and_parts, eqb-true, false≢true}
-use Rattle.std.proofs.lemmas.List.Elements.{All-from_recursion, All-head, All-tail, All-weaker}
+use Rattle.std.proofs.lemmas.List.Elements.{All-head, All-tail, All-weaker}
 use Rattle.pg_base.specs.declared.id.FileId.{FileId}
 use Rattle.pg_base.specs.Id.{file_cmp}
 use Rattle.pg_base.specs.Version.{VersionValue}
@@ -20,11 +20,10 @@ use Rattle.pg_intent.specs.declared.intent.Intent.{Intent}
 use Rattle.pg_intent.specs.declared.intent.Intent.TheVariants as intent
 use Rattle.pg_intent.specs.Intent.{key_of}
 use Rattle.pg_intent.specs.Intents.{HaveOwnKeys, intent_at, stands}
-use Rattle.pg_intent.specs.Key.{is_same_key}
 use Rattle.pg_intent.specs.declared.key.IntentKey.{IntentKey}
 use Rattle.pg_intent.specs.declared.key.IntentKey.TheVariants as intent_key
 use Rattle.pg_intent.proofs.Found.{stands_is}
-use Rattle.pg_intent.proofs.SameKey.{is_same_key-refl, is_same_key-symm}
+use Rattle.pg_intent.proofs.Stands.{all_found}
 use Rattle.pg_msg.specs.declared.message.Ends.{Ends}
 use Rattle.pg_msg.specs.declared.message.Message.{Message}
 use Rattle.pg_msg.specs.declared.message.Message.TheVariants as message
@@ -88,24 +87,6 @@ listed_is R p b [] all h = absurd (false≢true h)
 listed_is R p b (e ∷ es) all h =
     listed_by R p b e es (All-head (λ (x : Edge). R x.peer x.birth) e es all)
     (listed_is R p b es (All-tail (λ (x : Edge). R x.peer x.birth) e es all)) (e.peer == p) refl h
-
--- ---- each intention is found with its key
-
-tail_found : (i : Intent) (is js : List Intent) → AllByRecursion (λ q. is_same_key (key_of i) q ≡ false) (map key_of js)
-    → AllByRecursion (λ (j : Intent). intent_at is (key_of j) ≡ Some j) js
-    → AllByRecursion (λ (j : Intent). intent_at (i ∷ is) (key_of j) ≡ Some j) js
-tail_found i is [] apart found = tt
-tail_found i is (j ∷ js) apart found =
-    (ap (λ t. cond t (Some i) (intent_at is (key_of j))) (is_same_key-symm (key_of j) (key_of i) ∙ apart.0) ∙ found.0, tail_found i is js apart.1 found.1)
-
-each_found : (is : List Intent) → HaveOwnKeys is → AllByRecursion (λ (i : Intent). intent_at is (key_of i) ≡ Some i) is
-unfolding IsDistinct
-each_found [] own = tt
-each_found (i ∷ is) own =
-    (ap (λ t. cond t (Some i) (intent_at is (key_of i))) (is_same_key-refl (key_of i)), tail_found i is is own.0 (each_found is own.1))
-
-pub all_found : (is : List Intent) → HaveOwnKeys is → All (λ (i : Intent). intent_at is (key_of i) ≡ Some i) is
-all_found is own = All-from_recursion (λ (i : Intent). intent_at is (key_of i) ≡ Some i) is (each_found is own)
 
 module _ (P : FileId → ℕ → ℕ → Type 0) (G : FileId → ℕ → Type 0) (s : ℕ) where
   abbrev pub Of : FileId → Flag → Type 0

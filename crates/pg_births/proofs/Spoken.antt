@@ -31,7 +31,7 @@ use Rattle.pg_cells.specs.Making.{own_next, raise_flag}
 use Rattle.pg_cells.specs.Ticks.{tick}
 use Rattle.pg_cells.proofs.Settled.{settle_keeps}
 use Rattle.pg_cells.specs.Sending.{Wanted, cells_where, is_any, is_chosen}
-use Rattle.pg_calls.specs.Asking.{fresh_wish, standing, wish_by}
+use Rattle.pg_checks.specs.Asking.{fresh_wish, standing, wish_by}
 use Rattle.pg_graph.specs.Leaving.{goes_now}
 use Rattle.pg_repair.specs.Requests.{ask_all, asks, asks_by}
 use Rattle.pg_repair.proofs.Steady.{begin_end_stays}

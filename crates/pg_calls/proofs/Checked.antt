@@ -10,7 +10,7 @@ use Rattle.pg_walk.specs.declared.paths.Stop.TheVariants as stop
 use Rattle.pg_walk.specs.Walk.{and_then}
 use Rattle.pg_store.specs.declared.store.Store.{Store}
 use Rattle.pg_store.specs.Store.{replica_of}
-use Rattle.pg_calls.specs.Answer.{unless}
+use Rattle.pg_checks.specs.Answer.{unless}
 use Rattle.pg_calls.specs.Bodies.{when_fit}
 
 pub same_ok : {A : Type 0} (x y : A) → ◌≡◌ {A = Result A Stop} (Ok x) (Ok y) → x ≡ y

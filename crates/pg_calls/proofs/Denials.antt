@@ -4,9 +4,9 @@ use Rattle.pg_msg.specs.declared.work.Work.{Work}
 use Rattle.pg_call.specs.declared.reply.Reply.{Reply}
 use Rattle.pg_walk.specs.declared.paths.Stop.{Stop}
 use Rattle.pg_store.specs.declared.store.Store.{Store}
-use Rattle.pg_calls.specs.declared.denied.Denied.{Denied}
-use Rattle.pg_calls.specs.declared.denied.Denied.TheVariants as denied
-use Rattle.pg_calls.specs.Answer.{Answer, Leaves, Tells, answered}
+use Rattle.pg_checks.specs.declared.denied.Denied.{Denied}
+use Rattle.pg_checks.specs.declared.denied.Denied.TheVariants as denied
+use Rattle.pg_checks.specs.Answer.{Answer, Leaves, Tells, answered}
 
 module _ {A : Type 0} (store : Store) (work : Work) (check : Result A Stop) (next : A → Answer) where
   -- what is left of a call whose check does not go on
@@ -25,14 +25,3 @@ module _ {A : Type 0} (store : Store) (work : Work) (check : Result A Stop) (nex
 
     pub reply_is : r ≡ (answered store work check next).reply
     reply_is = ap (λ (a : Answer). a.reply) (denied_left why _ told is)
-
--- ---- an answer by its parts
-
-abbrev answer_of : Store → Work → Reply → Answer
-answer_of s w r = record { store = s; work = w; reply = r }
-
-pub whole : (a : Answer) (s : Store) (w : Work) (r : Reply) → s ≡ a.store → w ≡ a.work → r ≡ a.reply
-    → ◌≡◌ {A = Answer} (record { store = s; work = w; reply = r }) a
-whole a s w r p q t =
-    ap (λ (x : Store). answer_of x w r) p ∙ ap (λ (y : Work). answer_of a.store y r) q
-    ∙ ap (λ (z : Reply). answer_of a.store a.work z) t

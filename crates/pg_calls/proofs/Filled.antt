@@ -16,7 +16,7 @@ use Rattle.pg_call.specs.declared.refusal.Refusal.TheVariants.{NotYet}
 use Rattle.pg_store.specs.declared.store.Store.{Store}
 use Rattle.pg_store.specs.declared.wishes.Wish.{Wish}
 use Rattle.pg_store.specs.Births.{wish_at}
-use Rattle.pg_calls.specs.Asking.{standing, wish_by}
+use Rattle.pg_checks.specs.Asking.{standing, wish_by}
 use Rattle.pg_calls.specs.Refused.{FilledKeepsNoWish}
 use Rattle.pg_calls.proofs.Refused.{refused_only_asks, same_file}
 

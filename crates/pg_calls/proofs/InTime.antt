@@ -1,5 +1,6 @@
 -- What a check that found something says of the clock, and what the clock says of numbers.
 use Rattle.std.proofs.Common.{ℕ, ◌≡◌, ◌<◌, ◌^◌, ◌+◌, Bool, true, false, not, min, refl, sym, ap, subst, ◌∙◌, List, Result, Ok, Err, arith}
+use Rattle.std.proofs.lemmas.Bool.{and_parts, not-true}
 use Rattle.pg_base.specs.declared.id.FileId.{FileId}
 use Rattle.pg_base.specs.declared.id.Kind.{Kind}
 use Rattle.pg_base.proofs.Orders.{file_of_parts}
@@ -8,19 +9,18 @@ use Rattle.pg_replica.specs.Replicas.{have_own_end}
 use Rattle.pg_replica.proofs.Ends.{room_without_end}
 use Rattle.pg_names.specs.Names.{is_dir, known}
 use Rattle.pg_house.specs.Returning.{is_root}
-use Rattle.pg_house.proofs.Truths.{and_true, not_true}
 use Rattle.pg_call.specs.declared.refusal.Refusal.TheVariants.{ClockEnd, IsDir, Root}
 use Rattle.pg_walk.specs.declared.paths.Stop.{Stop}
 use Rattle.pg_walk.specs.Walk.{and_then, reach, refused}
 use Rattle.pg_store.specs.declared.store.Store.{Store}
 use Rattle.pg_store.specs.Store.{has_time, is_in_time, replica_of}
 use Rattle.pg_store.proofs.InTime.{files_in_time}
-use Rattle.pg_calls.specs.declared.checks.Move.{Move}
-use Rattle.pg_calls.specs.declared.checks.NewName.{NewName}
-use Rattle.pg_calls.specs.Answer.{unless}
-use Rattle.pg_calls.specs.Checks.{dir_at, empty_dir_at, file_at, first_child, in_time, move_of, new_name, thing_at, unless_child}
+use Rattle.pg_checks.specs.declared.checks.Move.{Move}
+use Rattle.pg_checks.specs.declared.checks.NewName.{NewName}
+use Rattle.pg_checks.specs.Answer.{unless}
+use Rattle.pg_checks.specs.Checks.{dir_at, empty_dir_at, file_at, first_child, in_time, move_of, new_name, thing_at, unless_child}
 use Rattle.pg_calls.specs.Naming.{next_id}
-use Rattle.pg_calls.specs.Paths.{new_path_of, path_of, paths_of}
+use Rattle.pg_checks.specs.Paths.{new_path_of, path_of, paths_of}
 use Rattle.pg_calls.proofs.Checked.{behind}
 
 -- ---- checks
@@ -80,7 +80,7 @@ pub room_in_time : (store : Store) (file : FileId) (server : ℕ) → server ≡
     → has_room (replica_of store file) server ≡ true
 room_in_time store file server own time =
     let none : have_own_end store.replicas store.names.server ≡ false =
-    not_true (have_own_end store.replicas store.names.server) (and_true _ _ (and_true (has_time store.names.last store.tags store.files store.births) _ time).1).0 in
+    not-true (have_own_end store.replicas store.names.server) (and_parts _ _ (and_parts (has_time store.names.last store.tags store.files store.births) _ time).1).0 in
     let P : ℕ → Type 0 = λ s. has_room (replica_of store file) s ≡ true in
     subst P (sym own) (room_without_end file store.names.server store.replicas none)
 

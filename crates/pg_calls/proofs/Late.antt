@@ -18,17 +18,17 @@ use Rattle.pg_walk.specs.declared.paths.Stop.TheVariants as stop
 use Rattle.pg_walk.specs.Walk.{and_then, reach, refused}
 use Rattle.pg_store.specs.declared.store.Store.{Store}
 use Rattle.pg_store.specs.Store.{is_in_time}
-use Rattle.pg_calls.specs.Answer.{Answer, answered, unless}
+use Rattle.pg_checks.specs.Answer.{Answer, answered, unless}
 use Rattle.pg_calls.specs.Bodies.{change_file}
-use Rattle.pg_calls.specs.Checks.{dir_at, empty_dir_at, file_at, first_child, in_time, move_along, move_of, new_name, target_at, thing_at, unless_child}
+use Rattle.pg_checks.specs.Checks.{dir_at, empty_dir_at, file_at, first_child, in_time, move_along, move_of, new_name, target_at, thing_at, unless_child}
 use Rattle.pg_calls.specs.Demoting.{demoted_at, unless_last, unless_root}
 use Rattle.pg_calls.specs.Dropping.{dropped_at, unless_kept}
 use Rattle.pg_calls.specs.Forgetting.{lost_at, unless_full}
 use Rattle.pg_calls.specs.GivingUp.{removal_at}
 use Rattle.pg_calls.specs.Naming.{next_id}
-use Rattle.pg_calls.specs.Paths.{new_path_of, path_of, paths_of}
+use Rattle.pg_checks.specs.Paths.{new_path_of, path_of, paths_of}
 use Rattle.pg_calls.specs.Refused.{LateDoesNothing}
-use Rattle.pg_calls.proofs.Stopping.{StopsAt, stops_new_path, stops_path, stops_paths}
+use Rattle.pg_checks.proofs.Stopping.{StopsAt, stops_new_path, stops_path, stops_paths}
 
 -- a check is refused
 abbrev IsRefused : {A : Type 0} → Result A Stop → Type 0

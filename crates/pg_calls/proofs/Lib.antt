@@ -1,4 +1,3 @@
-mod Components
 mod Lengths
 pub mod Checked
 pub mod Walked
@@ -7,9 +6,7 @@ pub mod Lost
 mod First
 pub mod New
 mod Made
-mod Telling
 mod Denials
-pub mod Stopping
 pub mod Missing
 pub mod Refused
 pub mod Late

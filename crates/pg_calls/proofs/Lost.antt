@@ -6,8 +6,8 @@ use Rattle.pg_names.specs.Names.{NamesValue}
 use Rattle.pg_store.specs.declared.store.Store.{Store}
 use Rattle.pg_store.specs.Store.{is_in_time}
 use Rattle.pg_walk.specs.Walk.{and_then}
-use Rattle.pg_calls.specs.Asking.{later, latest}
-use Rattle.pg_calls.specs.Checks.{in_time}
+use Rattle.pg_checks.specs.Asking.{later, latest}
+use Rattle.pg_checks.specs.Checks.{in_time}
 use Rattle.pg_calls.specs.Demoting.{unless_root}
 use Rattle.pg_calls.specs.Forgetting.{later_listing, lists_in, lost_at, unless_full}
 use Rattle.pg_calls.proofs.Checked.{behind}

@@ -14,10 +14,10 @@ use Rattle.pg_call.specs.declared.reply.Reply.TheVariants.{Made}
 use Rattle.pg_walk.specs.declared.paths.Stop.{Stop}
 use Rattle.pg_store.specs.declared.store.Store.{Store}
 use Rattle.pg_cells.specs.Done.{Done, idle}
-use Rattle.pg_calls.specs.declared.checks.NewName.{NewName}
-use Rattle.pg_calls.specs.Answer.{answer, answered}
+use Rattle.pg_checks.specs.declared.checks.NewName.{NewName}
+use Rattle.pg_checks.specs.Answer.{answer, answered}
 use Rattle.pg_calls.specs.Bodies.{IsAlwaysTooLong, Makes}
-use Rattle.pg_calls.specs.Checks.{new_name}
+use Rattle.pg_checks.specs.Checks.{new_name}
 use Rattle.pg_calls.specs.Naming.{create, mkdir, next_id, with_first_version, with_id, with_thing}
 
 -- ---- new things

@@ -21,16 +21,16 @@ use Rattle.pg_store.specs.Servers.{view_of}
 use Rattle.pg_store.specs.Store.{replica_of}
 use Rattle.pg_cells.specs.Golds.{is_gold}
 use Rattle.pg_cells.specs.Parting.{by_edge, by_intent, first_child as first_inside, has_child, if_gold, is_unclean, stays_for, unsettled_by}
-use Rattle.pg_calls.specs.declared.checks.NewName.{NewName}
-use Rattle.pg_calls.specs.declared.paths.Paths.{Paths}
-use Rattle.pg_calls.specs.Answer.{unless}
-use Rattle.pg_calls.specs.Checks.{dir_at, empty_dir_at, file_at, first_child, in_time, move_along, move_of, move_to, new_name, new_name_in, target_at, thing_at, unless_child, unless_shown, when_free}
+use Rattle.pg_checks.specs.declared.checks.NewName.{NewName}
+use Rattle.pg_checks.specs.declared.paths.Paths.{Paths}
+use Rattle.pg_checks.specs.Answer.{unless}
+use Rattle.pg_checks.specs.Checks.{dir_at, empty_dir_at, file_at, first_child, in_time, move_along, move_of, move_to, new_name, new_name_in, target_at, thing_at, unless_child, unless_shown, when_free}
 use Rattle.pg_calls.specs.Demoting.{demoted_at, has_clean_gold, unless_last, unless_root}
 use Rattle.pg_calls.specs.Dropping.{dropped_at, refused_for, unless_kept}
 use Rattle.pg_calls.specs.Forgetting.{lost_at, unless_full}
 use Rattle.pg_calls.specs.GivingUp.{may_give_up, removal_at}
-use Rattle.pg_calls.specs.Paths.{is_none, last_of, new_path_of, path_of, paths_of}
-use Rattle.pg_calls.proofs.Stopping.{StopsAt, is_not_yet, stops_new_path, stops_path, stops_paths, stops_then, stops_time, stops_unless}
+use Rattle.pg_checks.specs.Paths.{is_none, last_of, new_path_of, path_of, paths_of}
+use Rattle.pg_checks.proofs.Stopping.{StopsAt, is_not_yet, stops_new_path, stops_path, stops_paths, stops_then, stops_time, stops_unless}
 
 -- it is not held, or filling
 abbrev pub IsMissing : NamesValue → Found → Type 0

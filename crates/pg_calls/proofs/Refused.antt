@@ -24,10 +24,10 @@ use Rattle.pg_store.specs.Births.{with_birth, with_wish}
 use Rattle.pg_store.specs.Store.{is_full, replica_of}
 use Rattle.pg_cells.specs.Done.{Done, idle}
 use Rattle.pg_cells.specs.Posting.{post}
-use Rattle.pg_calls.specs.Answer.{Answer, answer, answered, deny, replied, told, unless}
-use Rattle.pg_calls.specs.Asking.{ask_by, ask_first, fetch, fresh_wish, holder, standing}
+use Rattle.pg_checks.specs.Answer.{Answer, answer, answered, deny, replied, told, unless}
+use Rattle.pg_checks.specs.Asking.{ask_by, ask_first, fetch, fresh_wish, holder, standing}
 use Rattle.pg_calls.specs.Bodies.{change, change_file, when_fit}
-use Rattle.pg_calls.specs.Checks.{dir_at, empty_dir_at, file_at, in_time, move_of, new_name, target_at}
+use Rattle.pg_checks.specs.Checks.{dir_at, empty_dir_at, file_at, in_time, move_of, new_name, target_at}
 use Rattle.pg_calls.specs.Demoting.{demoted_at}
 use Rattle.pg_calls.specs.Dropping.{clean_gold, dropped_at, leaving}
 use Rattle.pg_calls.specs.Forgetting.{lost_at}
@@ -35,7 +35,7 @@ use Rattle.pg_calls.specs.GivingUp.{removal_at}
 use Rattle.pg_calls.specs.Naming.{next_id}
 use Rattle.pg_calls.specs.Refused.{OnlyAsks, RefusedOnlyAsks, SendsFetch}
 use Rattle.pg_calls.proofs.Missing.{IsMissing, demoted_missing, dir_missing, dropped_missing, empty_missing, file_missing, lost_missing, move_missing, name_missing, removal_missing, target_missing}
-use Rattle.pg_calls.proofs.Stopping.{StopsAt, is_not_yet, stops_then, stops_time, stops_unless}
+use Rattle.pg_checks.proofs.Stopping.{StopsAt, is_not_yet, stops_then, stops_time, stops_unless}
 
 -- ---- what is asked for
 

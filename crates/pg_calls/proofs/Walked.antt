@@ -12,9 +12,9 @@ use Rattle.pg_walk.specs.declared.paths.Way.TheVariants as way
 use Rattle.pg_walk.specs.Walk.{and_then, has_more, led_to, look_in, look_up, reach, reach_parent, reached, refused, shown_by, start, walk, walk_from}
 use Rattle.pg_house.specs.Facts.{IsHeld}
 use Rattle.pg_store.specs.declared.store.Store.{Store}
-use Rattle.pg_calls.specs.Answer.{unless}
-use Rattle.pg_calls.specs.Checks.{file_at, in_time, thing_at}
-use Rattle.pg_calls.specs.Paths.{path_of}
+use Rattle.pg_checks.specs.Answer.{unless}
+use Rattle.pg_checks.specs.Checks.{file_at, in_time, thing_at}
+use Rattle.pg_checks.specs.Paths.{path_of}
 use Rattle.pg_calls.proofs.Checked.{behind, no_ok, same_ok, unless_ok}
 
 -- ---- what is full is held

@@ -14,8 +14,8 @@ use Rattle.pg_walk.specs.Walk.{and_then}
 use Rattle.pg_store.specs.declared.store.Store.{Store}
 use Rattle.pg_store.specs.Store.{content_of, replica_of}
 use Rattle.pg_cells.specs.Done.{idle}
-use Rattle.pg_calls.specs.Answer.{Answer, answer, answered, replied, unless}
-use Rattle.pg_calls.specs.Checks.{file_at}
+use Rattle.pg_checks.specs.Answer.{Answer, answer, answered, replied, unless}
+use Rattle.pg_checks.specs.Checks.{file_at}
 use Rattle.pg_calls.specs.Making.{drawn, make_version}
 
 -- ---- writing

@@ -3,7 +3,7 @@ use Rattle.pg_msg.specs.declared.work.Work.{Work}
 use Rattle.pg_call.specs.declared.call.Call.{Call}
 use Rattle.pg_call.specs.declared.call.Call.TheVariants as call
 use Rattle.pg_store.specs.declared.store.Store.{Store}
-use Rattle.pg_calls.specs.Answer.{Answer}
+use Rattle.pg_checks.specs.Answer.{Answer}
 use Rattle.pg_calls.specs.Naming.{create, mkdir, rename, rmdir, unlink}
 use Rattle.pg_calls.specs.Bodies.{cut, read, write}
 use Rattle.pg_calls.specs.Demoting.{demote}

@@ -16,8 +16,8 @@ use Rattle.pg_store.specs.Links.{is_clean}
 use Rattle.pg_cells.specs.Done.{Done, idle}
 use Rattle.pg_cells.specs.Golds.{flags_of, is_gold}
 use Rattle.pg_cells.specs.Making.{lower_flag}
-use Rattle.pg_calls.specs.Answer.{Answer, answer, answered, unless}
-use Rattle.pg_calls.specs.Checks.{target_at}
+use Rattle.pg_checks.specs.Answer.{Answer, answer, answered, unless}
+use Rattle.pg_checks.specs.Checks.{target_at}
 
 -- ---- another gold replica that has it all
 

@@ -16,8 +16,8 @@ use Rattle.pg_cells.specs.Done.{Done, idle}
 use Rattle.pg_cells.specs.Golds.{flags_of}
 use Rattle.pg_cells.specs.Intending.{begin_intent}
 use Rattle.pg_cells.specs.Parting.{stays_for}
-use Rattle.pg_calls.specs.Answer.{Answer, answer, answered}
-use Rattle.pg_calls.specs.Checks.{target_at}
+use Rattle.pg_checks.specs.Answer.{Answer, answer, answered}
+use Rattle.pg_checks.specs.Checks.{target_at}
 use Rattle.pg_calls.specs.Demoting.{is_clean_gold, unless_root}
 
 -- ---- the check

@@ -32,9 +32,9 @@ use Rattle.pg_cells.specs.Done.{Done, idle}
 use Rattle.pg_cells.specs.Intending.{each}
 use Rattle.pg_cells.specs.Taking.{take_entry_noted}
 use Rattle.pg_repair.specs.Filling.{fill}
-use Rattle.pg_calls.specs.Answer.{Answer, answer, answered, unless}
-use Rattle.pg_calls.specs.Asking.{later, latest}
-use Rattle.pg_calls.specs.Checks.{in_time}
+use Rattle.pg_checks.specs.Answer.{Answer, answer, answered, unless}
+use Rattle.pg_checks.specs.Asking.{later, latest}
+use Rattle.pg_checks.specs.Checks.{in_time}
 use Rattle.pg_calls.specs.Demoting.{unless_root}
 use Rattle.pg_calls.specs.Making.{drawn, make_place}
 use Rattle.pg_calls.specs.Naming.{raised}

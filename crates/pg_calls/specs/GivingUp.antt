@@ -15,8 +15,8 @@ use Rattle.pg_store.specs.Servers.{is_live_other, view_of}
 use Rattle.pg_store.specs.Views.{enter}
 use Rattle.pg_cells.specs.Done.{Done, idle}
 use Rattle.pg_repair.specs.Inviting.{invite_all}
-use Rattle.pg_calls.specs.Answer.{Answer, answer, answered, unless}
-use Rattle.pg_calls.specs.Checks.{in_time}
+use Rattle.pg_checks.specs.Answer.{Answer, answer, answered, unless}
+use Rattle.pg_checks.specs.Checks.{in_time}
 
 -- ---- the check
 

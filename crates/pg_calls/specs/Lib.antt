@@ -1,7 +1,3 @@
-pub mod Asking
-pub mod Answer
-pub mod Paths
-pub mod Checks
 pub mod Making
 pub mod Naming
 pub mod Bodies

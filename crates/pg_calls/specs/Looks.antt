@@ -19,8 +19,8 @@ use Rattle.pg_store.specs.Births.{birth_of}
 use Rattle.pg_store.specs.Servers.{view_of}
 use Rattle.pg_store.specs.Store.{content_of, replica_of}
 use Rattle.pg_cells.specs.Counts.{key_count}
-use Rattle.pg_calls.specs.Answer.{Answer, replied}
-use Rattle.pg_calls.specs.Checks.{dir_at, file_at, in_time, target_at}
+use Rattle.pg_checks.specs.Answer.{Answer, replied}
+use Rattle.pg_checks.specs.Checks.{dir_at, file_at, in_time, target_at}
 
 -- ---- names
 

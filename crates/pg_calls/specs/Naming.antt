@@ -14,10 +14,10 @@ use Rattle.pg_store.specs.Beginning.{begin}
 use Rattle.pg_store.specs.Births.{draw_birth, with_birth}
 use Rattle.pg_cells.specs.Done.{Done, idle}
 use Rattle.pg_cells.specs.Making.{raise_flag}
-use Rattle.pg_calls.specs.declared.checks.Move.{Move}
-use Rattle.pg_calls.specs.declared.checks.NewName.{NewName}
-use Rattle.pg_calls.specs.Answer.{Answer, answer, answered}
-use Rattle.pg_calls.specs.Checks.{empty_dir_at, file_at, move_of, new_name}
+use Rattle.pg_checks.specs.declared.checks.Move.{Move}
+use Rattle.pg_checks.specs.declared.checks.NewName.{NewName}
+use Rattle.pg_checks.specs.Answer.{Answer, answer, answered}
+use Rattle.pg_checks.specs.Checks.{empty_dir_at, file_at, move_of, new_name}
 use Rattle.pg_calls.specs.Making.{drawn, first_ranges, make_place, make_version}
 
 -- the id that the server gives out next

@@ -13,8 +13,8 @@ use Rattle.pg_store.specs.declared.store.Store.{Store}
 use Rattle.pg_store.specs.Births.{with_birth, with_wish}
 use Rattle.pg_store.specs.Store.{is_full, is_in_time}
 use Rattle.pg_cells.specs.Posting.{post}
-use Rattle.pg_calls.specs.Answer.{Answer}
-use Rattle.pg_calls.specs.Asking.{fresh_wish, standing}
+use Rattle.pg_checks.specs.Answer.{Answer}
+use Rattle.pg_checks.specs.Asking.{fresh_wish, standing}
 use Rattle.pg_calls.specs.Calls.{do_call}
 
 -- a wish with a fresh birth was kept for what is not here yet, of which none stood, nor a Fill

@@ -5,11 +5,10 @@ ghost use Rattle.pg_patch.specs.Ranges.{RangesValue, cut_to, written};
 ghost use Rattle.pg_store.specs.Store.{has_replica, is_in_time};
 ghost use Rattle.pg_calls.specs.Bodies.{Makes, change, change_file, cut, read, shown_part, write};
 
-use crate::asking::deny;
-use crate::checks::file_at;
 use crate::making::{make_version, next_stamp};
 use pg_base::{FileId, SharedBytes};
 use pg_call::{Payload, ReadCount, Refusal, Reply};
+use pg_checks::{deny, file_at};
 use pg_content::WriteError;
 use pg_msg::Work;
 use pg_patch::{RangeError, Ranges, cut as cut_to, make};

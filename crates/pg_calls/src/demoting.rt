@@ -1,15 +1,13 @@
 //! A gold replica that is to be so no more.
 
 ghost use Rattle.std.specs.Prelude.{◌≡◌, IfOk, OnOk};
-ghost use Rattle.pg_calls.specs.Answer.{Tells};
+ghost use Rattle.pg_checks.specs.Answer.{Tells};
 ghost use Rattle.pg_calls.specs.Demoting.{demote, demoted_at, has_clean_gold, is_clean_gold, lowered, unless_last, unless_root};
 
-use crate::asking::deny;
-use crate::checks::target_at;
-use crate::denied::Denied;
 use pg_base::FileId;
 use pg_call::{Refusal, Reply, Target};
 use pg_cells::{is_gold, lower_flag};
+use pg_checks::{Denied, deny, target_at};
 use pg_house::is_root;
 use pg_msg::Work;
 use pg_register::Flag;

@@ -4,16 +4,14 @@ ghost use Rattle.std.specs.Prelude.{◌≡◌, IfOk, OnOk};
 ghost use Rattle.std.specs.Option.{option_copied};
 ghost use Rattle.std.specs.List.{find};
 ghost use Rattle.pg_calls.specs.Demoting.{is_clean_gold};
-ghost use Rattle.pg_calls.specs.Answer.{Tells};
+ghost use Rattle.pg_checks.specs.Answer.{Tells};
 ghost use Rattle.pg_calls.specs.Dropping.{clean_gold, drop, dropped_at, leaving, unless_kept};
 
-use crate::asking::deny;
-use crate::checks::target_at;
 use crate::demoting::{is_clean_gold, unless_root};
-use crate::denied::Denied;
 use pg_base::FileId;
 use pg_call::{Reply, Target};
 use pg_cells::{begin_intent, stays_for};
+use pg_checks::{Denied, deny, target_at};
 use pg_intent::Intent;
 use pg_msg::Work;
 use pg_register::Flag;

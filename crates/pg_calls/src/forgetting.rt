@@ -2,23 +2,20 @@
 
 ghost use Rattle.std.specs.Prelude.{◌≡◌, ◌<◌, ◌^◌, IfOk, None, OnOk};
 ghost use Rattle.std.specs.List.{list_any};
-ghost use Rattle.pg_calls.specs.Answer.{Tells};
-ghost use Rattle.pg_calls.specs.Asking.{later, latest};
+ghost use Rattle.pg_checks.specs.Answer.{Tells};
+ghost use Rattle.pg_checks.specs.Asking.{later, latest};
 ghost use Rattle.pg_calls.specs.Forgetting.{begin_lost, begun_at, begun_with, dead_at, dirs_of, fill_lost, forget, forget_lost, has_blank_place, has_cell_for, if_live, is_patch_to, is_wanted_by, last_listing, later_listing, lists_in, lost_at, mark, marked_each, place_in, placed_in_root, placed_lost, root_place, strike_from, strike_out, unless_full};
 
-use crate::asking::{deny, is_later};
-use crate::checks::in_time;
 use crate::demoting::unless_root;
-use crate::denied::Denied;
 use crate::making::{make_place, next_stamp};
 use pg_base::{FileId, Items, Policy, Stamp};
 use pg_call::{Refusal, Reply};
 use pg_cells::{raise_flag, take_entry};
+use pg_checks::{Denied, deny, in_time, is_later};
 use pg_entries::Entry;
-use pg_graph::is_same_stamp;
 use pg_intent::{Intent, IntentKey, Intents};
 use pg_msg::{Update, Work};
-use pg_names::{Names, Own, is_dir};
+use pg_names::{Names, Own, is_dir, is_same_stamp};
 use pg_register::{GoldFlags, Place, tilde_name};
 use pg_repair::fill;
 use pg_store::{MOST_TAGS, Store};

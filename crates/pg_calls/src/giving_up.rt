@@ -3,14 +3,12 @@
 ghost use Rattle.std.specs.Prelude.{◌≡◌, ◌++◌, IfOk, OnOk};
 ghost use Rattle.std.specs.List.{flat_map};
 ghost use Rattle.std.specs.Map.{keys_of};
-ghost use Rattle.pg_calls.specs.Answer.{Tells};
+ghost use Rattle.pg_checks.specs.Answer.{Tells};
 ghost use Rattle.pg_calls.specs.GivingUp.{cells_of, doubt_all, enter_view, giveup, is_next_view, may_give_up, removal_at, slots_to};
 
-use crate::asking::deny;
-use crate::checks::in_time;
-use crate::denied::Denied;
 use pg_base::{FileId, Items, NodeId};
 use pg_call::{Refusal, Reply};
+use pg_checks::{Denied, deny, in_time};
 use pg_msg::{Slot, Work};
 use pg_names::{Held, Names};
 use pg_repair::invite_all;

@@ -5,11 +5,10 @@ ghost use Rattle.pg_names.specs.Names.{known};
 ghost use Rattle.pg_register.specs.Flag.{is_live};
 ghost use Rattle.pg_calls.specs.Looks.{counts, fresh, head_count, listing, ls, page, rows_from, shown_length, stat, stat_of, status, stop};
 
-use crate::asking::deny;
-use crate::checks::{dir_at, file_at, in_time, target_at};
 use pg_base::{FileId, Items, Shared};
 use pg_call::{Counts, Reply, Stat, Target};
 use pg_cells::key_count;
+use pg_checks::{deny, dir_at, file_at, in_time, target_at};
 use pg_house::count_held_back;
 use pg_msg::Work;
 use pg_names::{Names, is_dir};

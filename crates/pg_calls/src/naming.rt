@@ -2,18 +2,16 @@
 
 ghost use Rattle.std.specs.Prelude.{◌≡◌, ◌<◌, ◌^◌, IfOk, OnOk};
 ghost use Rattle.pg_cells.specs.Done.{idle};
-ghost use Rattle.pg_calls.specs.Answer.{Tells};
-ghost use Rattle.pg_calls.specs.Checks.{new_name};
+ghost use Rattle.pg_checks.specs.Answer.{Tells};
+ghost use Rattle.pg_checks.specs.Checks.{new_name};
 ghost use Rattle.pg_calls.specs.Making.{HasNoVersion};
 ghost use Rattle.pg_calls.specs.Naming.{begun, create, dead_place, mkdir, moved, next_id, place_in, rename, rmdir, taken_away, unlink, with_first_version, with_id, with_thing};
 
-use crate::asking::deny;
-use crate::checks::{Move, NewName, empty_dir_at, file_at, move_of, new_name};
-use crate::denied::Denied;
 use crate::making::{first_ranges, make_place, make_version, next_stamp};
 use pg_base::{FileId, Kind, Policy};
 use pg_call::Reply;
 use pg_cells::raise_flag;
+use pg_checks::{Denied, Move, NewName, deny, empty_dir_at, file_at, move_of, new_name};
 use pg_content::WriteError;
 use pg_msg::Work;
 use pg_names::Own;

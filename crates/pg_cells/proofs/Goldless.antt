@@ -1,12 +1,12 @@
 -- Where every full thing sees a live gold no thing is without one.
-use Rattle.std.specs.Prelude.{ℕ, ◌≡◌, Bool, true, false, ◌&&◌, ◌||◌, if◌then◌else◌, List, [], ◌∷◌, Option, None, Some}
+use Rattle.std.specs.Prelude.{ℕ, ◌≡◌, Bool, true, false, ◌&&◌, if◌then◌else◌, List, [], ◌∷◌, Option, None, Some}
 use Rattle.std.proofs.Common.{refl, ap, ◌∙◌}
 use Rattle.std.specs.List.{filter, list_any}
 use Rattle.std.specs.Map.{keys_of, lookup, values_of}
 use Rattle.std.specs.BTreeMap.{is_at}
+use Rattle.std.proofs.lemmas.Bool.{or_parts}
 use Rattle.pg_base.specs.declared.id.FileId.{FileId}
 use Rattle.pg_base.specs.Id.{file_cmp}
-use Rattle.pg_register.specs.Flag.{flag_of}
 use Rattle.pg_names.specs.Names.{HeldValue, known}
 use Rattle.pg_store.specs.declared.store.Store.{Store}
 use Rattle.pg_store.specs.Births.{birth_of}
@@ -15,10 +15,6 @@ use Rattle.pg_cells.specs.Golds.{goldless, has_goldless, is_dull, is_goldless, i
 pub filter_none : (test : FileId → Bool) (fs : List FileId) → ((q : FileId) → test q ≡ false) → filter test fs ≡ []
 filter_none test [] none = refl
 filter_none test (f ∷ fs) none = ap (λ t. if t then f ∷ filter test fs else filter test fs) (none f) ∙ filter_none test fs none
-
-neither : (a b : Bool) → (a || b) ≡ false → (a ≡ false) × (b ≡ false)
-neither true b h = absurd (let z : true ≡ false = h in cc)
-neither false b h = (refl, h)
 
 not_first : (a b c : Bool) → (a && b) ≡ false → (a && (b && c)) ≡ false
 not_first true true c h = absurd (let z : true ≡ false = h in cc)
@@ -35,8 +31,8 @@ found : (removed : List ℕ) (test : FileId → Bool) (es : List (FileId × Held
 found removed test [] h = tt
 found removed test (e ∷ es) h =
     elim (test e.0) as (λ t. IsBright removed (if t then Some e.1 else lookup test es)) [
-      | true ↦ (neither (is_dull removed e.1) _ h).0
-      | false ↦ found removed test es (neither (is_dull removed e.1) _ h).1
+      | true ↦ (or_parts (is_dull removed e.1) _ h).0
+      | false ↦ found removed test es (or_parts (is_dull removed e.1) _ h).1
     ]
 
 bright : (removed : List ℕ) (server birth : ℕ) (o : Option HeldValue) → IsBright removed o

@@ -1,7 +1,7 @@
 -- Files that have nothing to send need not be gone over.
 use Rattle.std.proofs.Common.{◌≡◌, ℕ, ◌<◌, ◌+◌, ◌==◌, length, take, get_or, Bool, true, false, cond, ◌&&◌, ◌||◌, Bor, Option, None, Some, List, [], ◌∷◌, ◌++◌, refl, sym, ap, ◌∙◌}
 use Rattle.std.proofs.lemmas.List.Folds.{list_any_more}
-use Rattle.std.proofs.lemmas.Bool.{false≢true}
+use Rattle.std.proofs.lemmas.Bool.{false≢true, or_from}
 use Rattle.std.proofs.lemmas.Option.{none-some}
 use Rattle.std.specs.declared.cmp.Ordering.{Ordering}
 use Rattle.std.specs.BTreeMap.{insert_entry, is_at}
@@ -86,16 +86,13 @@ not_linked [] file peer h = refl
 not_linked (l ∷ ls) file peer h =
     other_by (is_same_file l.file file) (l.peer == peer) (is_linked ls file peer) (list_any (λ (u : Linked). is_same_file u.file file) ls) h (not_linked ls file peer)
 
-neither : (a b : Bool) → a ≡ false → b ≡ false → (a || b) ≡ false
-neither a b first second = ap (λ t. t || b) first ∙ second
-
 pub all_changed : (store : Store) (ts : Bor (List Touched)) (ls : Bor (List Linked)) (files : Files)
     → ListsTouched files ts.now → ListsLinked files ls.now → ListsChosen store (choice.Changed ts ls) files
 all_changed store ts ls files touched linked = λ file x there none.
     no_pieces (edge_cells store (is_chosen ts.now ls.now) file x.birth) x.edges
     (λ e. ap (flat_map (key_cell store file x.birth e))
     (none_pass (λ (k : Key × ℕ). is_chosen ts.now ls.now file e.peer k.0) e.keys
-    (λ k. neither (is_touched ts.now file k.0) (is_linked ls.now file e.peer) (not_touched ts.now file k.0 (touched file none)) (not_linked ls.now file e.peer (linked file none)))))
+    (λ k. or_from (is_touched ts.now file k.0) (is_linked ls.now file e.peer) (not_touched ts.now file k.0 (touched file none)) (not_linked ls.now file e.peer (linked file none)))))
 
 -- ---- the files of touched keys and of edges that were made
 

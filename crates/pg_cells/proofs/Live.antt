@@ -2,7 +2,7 @@
 use Rattle.std.proofs.Common.{◌≡◌, ℕ, ◌+◌, Bool, true, false, ◌==◌, ◌&&◌, ◌||◌, not, nat_lt, cond, eqb, if◌then◌else◌, List, [], ◌∷◌, Option, None, Some, refl, sym, ap, ◌∙◌, arith}
 use Rattle.std.specs.List.{list_any}
 use Rattle.std.specs.Option.{option_map}
-use Rattle.std.proofs.lemmas.Bool.{false≢true}
+use Rattle.std.proofs.lemmas.Bool.{false≢true, and_right, and_parts, and_left, not-true, or_left, or_right}
 use Rattle.std.proofs.lemmas.Bool.Decides.{nat_tests}
 use Rattle.std.proofs.lemmas.Option.{none-some, same_Some}
 use Rattle.pg_base.specs.declared.id.FileId.{FileId}
@@ -14,7 +14,6 @@ use Rattle.pg_names.specs.declared.own.Own.{Own}
 use Rattle.pg_names.specs.Names.{HeldValue, NamesValue, is_flag_new, is_full_of, known, or_blank, own_at, own_of, own_or_blank}
 use Rattle.pg_names.proofs.Lookups.{flag_other, flag_same, own_with_flag}
 use Rattle.pg_house.specs.Calm.{IsCalm}
-use Rattle.pg_house.proofs.Truths.{and_false, and_true, first_false, not_true, or_left, or_right}
 use Rattle.pg_replica.specs.declared.replica.Replica.{Replica}
 use Rattle.pg_replica.specs.Replicas.{or_nothing}
 use Rattle.pg_store.specs.declared.store.Store.{Store}
@@ -59,7 +58,7 @@ module _ (removed : List ℕ) (server birth : ℕ) where
   not_goldless None own h seen = refl
   not_goldless (Some x) own h seen =
       let there : sees_gold removed x.own.flags ≡ true = ap (λ (c : Own). sees_gold removed c.flags) (same_Some x.own own h) ∙ seen in
-      and_false x.full _ (first_false (not (sees_gold removed x.own.flags)) _ (ap not there))
+      and_right x.full _ (and_left (not (sees_gold removed x.own.flags)) _ (ap not there))
 
   goldless_same : (o p : Option HeldValue) → own_of p ≡ own_of o → is_full_of p ≡ is_full_of o → goldless_held p ≡ goldless_held o
   goldless_same None None e h = refl
@@ -72,8 +71,8 @@ module _ (removed : List ℕ) (server birth : ℕ) where
   pub goldless_parts : (o : Option HeldValue) → goldless_held o ≡ true → (own : Own) × (own_of o ≡ Some own) × (is_of_later birth (flag_of own.flags server) ≡ false)
   goldless_parts None h = absurd (false≢true h)
   goldless_parts (Some x) h =
-      let rest = and_true (not (sees_gold removed x.own.flags)) _ (and_true x.full _ h).1 in
-      (x.own, refl, not_true (is_of_later birth (flag_of x.own.flags server)) rest.1)
+      let rest = and_parts (not (sees_gold removed x.own.flags)) _ (and_parts x.full _ h).1 in
+      (x.own, refl, not-true (is_of_later birth (flag_of x.own.flags server)) rest.1)
 
 -- ---- births
 

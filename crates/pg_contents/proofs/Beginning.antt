@@ -26,8 +26,8 @@ use Rattle.pg_store.specs.Births.{draw_birth, with_birth}
 use Rattle.pg_store.specs.Store.{is_in_time, replica_at, write}
 use Rattle.pg_store.proofs.InTime.{births_in_time}
 use Rattle.pg_cells.specs.Done.{Done, idle}
-use Rattle.pg_calls.specs.declared.checks.NewName.{NewName}
-use Rattle.pg_calls.specs.Answer.{Answer, answer}
+use Rattle.pg_checks.specs.declared.checks.NewName.{NewName}
+use Rattle.pg_checks.specs.Answer.{Answer, answer}
 use Rattle.pg_calls.specs.Making.{drawn, first_ranges, make_place, version_of}
 use Rattle.pg_calls.specs.Naming.{begun, next_id, place_in, with_first_version, with_id, with_thing}
 use Rattle.pg_contents.proofs.Arrivals.{Arrives, more_came}
@@ -36,7 +36,8 @@ use Rattle.pg_contents.proofs.Making.{Makes, New, drawn_later, made_next, made_s
 use Rattle.pg_contents.proofs.Pieces.{begin_alters, birth_keeps, id_keeps}
 use Rattle.pg_contents.proofs.Quiet.{Quiet, make_place_quiet, quiet_then, raise_quiet}
 use Rattle.pg_contents.proofs.Sending.{none_carry}
-use Rattle.pg_contents.proofs.Servers.{Came, IsNamedBy, IsServer, Stands, none_full, stands_begun, stands_policy, stands_same, unnamed_unmade}
+use Rattle.pg_contents.proofs.Servers.{Came, IsNamedBy, IsServer, Stands, none_full, stands_begun, stands_policy, stands_same}
+use Rattle.pg_contents.proofs.Unmade.{unnamed_unmade}
 use Rattle.pg_contents.proofs.Takes.{HasNone, both_none, stamps_joined}
 use Rattle.pg_contents.proofs.Versions.{WrittenCore, write_alters, write_last}
 

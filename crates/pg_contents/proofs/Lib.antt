@@ -8,6 +8,7 @@ pub mod Pieces
 pub mod Versions
 pub mod Rules
 pub mod Servers
+pub mod Unmade
 pub mod Times
 pub mod Paired
 pub mod Carrying

@@ -1,13 +1,10 @@
 -- What was lost is given up: no version is made; and where a directory begins anew, none was made of
 -- its birth.
-use Rattle.std.proofs.Common.{ℕ, ◌≡◌, ◌+◌, ◌&&◌, Bool, true, false, cond, not, List, [], ◌∷◌, ◌++◌, map, Option, None, Some, refl, sym, ap, ◌∙◌, inl, arith}
+use Rattle.std.proofs.Common.{ℕ, ◌≡◌, ◌+◌, ◌&&◌, Bool, true, false, cond, not, List, [], ◌∷◌, ◌++◌, map, Option, None, Some, refl, sym, ap, ◌∙◌, inl}
 use Rattle.pg_base.specs.declared.id.FileId.{FileId}
 use Rattle.pg_base.specs.declared.policy.Policy.{Policy}
 use Rattle.pg_base.specs.declared.policy.Policy.TheVariants.{Last}
 use Rattle.pg_base.specs.declared.stamp.Stamp.{Stamp}
-use Rattle.pg_base.specs.declared.vector.Actor.{Actor}
-use Rattle.pg_content.specs.Content.{Among}
-use Rattle.pg_content.specs.History.{Made, maker}
 use Rattle.pg_intent.specs.declared.key.IntentKey.TheVariants as intent_key
 use Rattle.pg_intent.specs.Intents.{ended}
 use Rattle.pg_msg.specs.declared.update.Update.TheVariants as update
@@ -17,7 +14,7 @@ use Rattle.pg_names.specs.declared.own.Own.{Own}
 use Rattle.pg_names.specs.Names.{blank_own, is_dir}
 use Rattle.pg_register.specs.declared.place.Place.{Place}
 use Rattle.pg_run.specs.Carried.{anew_takes, known_takes, patch_taken, patches_taken, struck_by, struck_takes}
-use Rattle.pg_run.specs.Journal.{Born, made_for, made_of}
+use Rattle.pg_run.specs.Journal.{Born}
 use Rattle.pg_run.specs.Took.{Take, take_of}
 use Rattle.pg_run.specs.Took.Take.{Began, TookPlace}
 use Rattle.pg_run.specs.Took.Taker.{InDir}
@@ -32,11 +29,11 @@ use Rattle.pg_promises.proofs.Choices.{chosen}
 use Rattle.pg_contents.proofs.Arrivals.{Arrives, more_came, patch_none, quiet_arrives}
 use Rattle.pg_contents.proofs.Changes.{Alters, Core, Keeps-trans, alters_keeps, by_altered, core_at, keeps_alters}
 use Rattle.pg_contents.proofs.Handlers.{fill_quiet}
-use Rattle.pg_contents.proofs.Histories.{update_of}
 use Rattle.pg_contents.proofs.Pieces.{begin_alters, birth_keeps, intents_keep, wishes_keep}
 use Rattle.pg_contents.proofs.Quiet.{Quiet, entry_quiet, make_place_quiet, quiet_idle, quiet_made, quiet_store, quiet_then, raise_quiet}
 use Rattle.pg_contents.proofs.Sending.{none_carry}
 use Rattle.pg_contents.proofs.Servers.{Came, IsServer, none_full, stands_begun, stands_same}
+use Rattle.pg_contents.proofs.Unmade.{fresh_unmade}
 use Rattle.pg_contents.proofs.Takes.{HasNone, both_none, each_none}
 
 -- a directory that knew of a file takes a place
@@ -60,17 +57,6 @@ module _ {s : ℕ} {a : Store} {us : List Born} {p : FileId → Policy} {N : Fil
   -- it stands for what this brings, and that is no version
   abbrev Comes : Done → List Take → Type 0
   Comes d more = Arrives s a us p N came d more × ((q : FileId) → HasNone q more)
-
-  -- a birth that is given out next made no version
-  fresh_unmade : (m : Made) → Among m (made_for id us)
-      → ¬ (maker m ≡ record { server = s; birth = a.births + 1 })
-  fresh_unmade m l by =
-      let r = update_of id m us l in
-      let made : maker (made_of r.0) ≡ record { server = s; birth = a.births + 1 } =
-      ap maker (sym r.3) ∙ by in
-      let past = (k.born r.0 r.1 (ap (λ (q : Actor). q.server) made)).0 in
-      let same : r.0.birth ≡ a.births + 1 = ap (λ (q : Actor). q.birth) made in
-      omega arith
 
   -- ---- a filling replica
 
@@ -177,7 +163,7 @@ module _ {s : ℕ} {a : Store} {us : List Born} {p : FileId → Policy} {N : Fil
               held = λ f c e. inl (by_altered (λ q x. (y : Core) → x ≡ Some y → N q) a d.store id
                   (Some FreshCore) all (λ y same. named) (λ q apart y same. k.held q y same) f c e);
               stands = stands_same
-                  (stands_begun k.stands d.store id (a.births + 1) Last all none fresh_unmade
+                  (stands_begun k.stands d.store id (a.births + 1) Last all none (fresh_unmade k id)
                   (sym (k.dirs id dir)))
                   (more_came takes came) (λ q. ap (λ (ts : List Stamp). ts ++ came q) (nothing q));
               none = rest.none;

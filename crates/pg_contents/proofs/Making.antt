@@ -21,8 +21,8 @@ use Rattle.pg_store.specs.declared.store.Store.{Store}
 use Rattle.pg_store.specs.Store.{is_in_time, replica_at, write}
 use Rattle.pg_store.proofs.InTime.{births_in_time, last_in_time}
 use Rattle.pg_cells.specs.Done.{idle}
-use Rattle.pg_calls.specs.Answer.{Answer, answer}
-use Rattle.pg_calls.specs.Checks.{file_at}
+use Rattle.pg_checks.specs.Answer.{Answer, answer}
+use Rattle.pg_checks.specs.Checks.{file_at}
 use Rattle.pg_calls.specs.Making.{drawn, make_version, version_of}
 use Rattle.pg_calls.proofs.InTime.{file_in_time}
 use Rattle.pg_calls.proofs.Walked.{file_found, full_held}

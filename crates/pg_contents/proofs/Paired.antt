@@ -1,8 +1,7 @@
 -- What is to come is not here, and what is held has a replica, whose birth was given out.
 use Rattle.std.proofs.Common.{ℕ, ◌≡◌, ◌&&◌, Bool, true, false, not, is_some, Option, None, Some, option_map, refl, sym, ap, ◌∙◌, inl, inr, arith}
-use Rattle.std.proofs.lemmas.Bool.{and_parts, or_cases}
+use Rattle.std.proofs.lemmas.Bool.{and_parts, or_cases, not-true}
 use Rattle.pg_base.specs.declared.id.FileId.{FileId}
-use Rattle.pg_house.proofs.Truths.{not_true}
 use Rattle.pg_replica.specs.declared.replica.Replica.{Replica}
 use Rattle.pg_run.specs.Journal.{Born}
 use Rattle.pg_store.specs.declared.store.Store.{Store}
@@ -36,7 +35,7 @@ module _ (a : Store) (k : GoTogether a) where
       elim (or_cases wished (not (is_held a file) && filled) h) [
         | inl wish ↦ (let w = wish_there (wish_at a file) birth wish in
             (k.births.wished file w.0 w.1).0)
-        | inr fill ↦ not_true (is_held a file) (and_parts (not (is_held a file)) filled fill).0
+        | inr fill ↦ not-true (is_held a file) (and_parts (not (is_held a file)) filled fill).0
       ]
 
   pending : (file : FileId) (birth : ℕ) → is_pending a file birth ≡ true → core_at a file ≡ None

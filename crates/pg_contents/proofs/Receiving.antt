@@ -50,7 +50,8 @@ use Rattle.pg_contents.proofs.Handlers.{IsKnown, accept_quiet, ack_quiet, bye_ok
 use Rattle.pg_contents.proofs.Pieces.{begin_alters, intents_keep}
 use Rattle.pg_contents.proofs.Quiet.{Quiet, entry_cell_quiet, flag_quiet, link_quiet, news_tail, place_quiet, quiet_idle, quiet_post, quiet_store, quiet_then}
 use Rattle.pg_contents.proofs.Sending.{AllCarry, none_carry}
-use Rattle.pg_contents.proofs.Servers.{Came, IsServer, none_full, pending_unmade, stands_begun, stands_kept, stands_same}
+use Rattle.pg_contents.proofs.Servers.{Came, IsServer, none_full, stands_begun, stands_kept, stands_same}
+use Rattle.pg_contents.proofs.Unmade.{pending_unmade}
 use Rattle.pg_contents.proofs.Takes.{HasNone, both_none, none_joined}
 use Rattle.pg_contents.proofs.Versions.{version_alters}
 

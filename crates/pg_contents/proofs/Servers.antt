@@ -23,7 +23,7 @@ use Rattle.pg_calls.specs.Forgetting.{is_wanted}
 use Rattle.pg_calls.proofs.Walked.{full_held}
 use Rattle.pg_contents.proofs.Changes.{Alters, Core, Keeps, by_altered, content_in, core_at}
 use Rattle.pg_contents.proofs.Files.{HoldsFile, Stood, none_stood, stood_begun, stood_later}
-use Rattle.pg_contents.proofs.Histories.{AreMade, by_file, own_file, update_of}
+use Rattle.pg_contents.proofs.Histories.{AreMade, by_file, own_file}
 use Rattle.pg_contents.proofs.Sets.{AreMembers}
 
 -- ---- what a server stands for
@@ -332,24 +332,3 @@ pub record IsServer (s : ℕ) (a : Store) (us : List Born) (p : FileId → Polic
   pub bare : (file : FileId) → (N file → ⊥) → p file ≡ Last
   pub dirs : (file : FileId) → is_dir file ≡ true → p file ≡ Last
   pub wanted : (file : FileId) → is_wanted a file ≡ true → is_held a file ≡ false → N file
-
--- what is to come made no version, nor did any replica of what was not given out
-module _ {s : ℕ} {a : Store} {us : List Born} {p : FileId → Policy} {N : FileId → Type 0}
-    {came : Came} (k : IsServer s a us p N came) (file : FileId) where
-  pub pending_unmade : (birth : ℕ) → is_pending a file birth ≡ true → (m : Made)
-      → Among m (made_for file us) → ¬ (maker m ≡ record { server = s; birth = birth })
-  pending_unmade birth asked m l by =
-      let r = update_of file m us l in
-      let made : maker (made_of r.0) ≡ record { server = s; birth = birth } =
-      ap maker (sym r.3) ∙ by in
-      let past = k.born r.0 r.1 (ap (λ (q : Actor). q.server) made) in
-      let same : r.0.birth ≡ birth = ap (λ (q : Actor). q.birth) made in
-      let P : FileId → Type 0 = (λ f. is_pending a f r.0.birth ≡ true) in
-      let Q : ℕ → Type 0 = (λ n. is_pending a file n ≡ true) in
-      let there : is_pending a r.0.made.file r.0.birth ≡ true =
-      subst P r.2 (subst Q (sym same) asked) in
-      absurd (let z : true ≡ false = sym there ∙ past.1 in cc)
-
-  pub unnamed_unmade : (N file → ⊥) → (m : Made) → Among m (made_for file us) → ⊥
-  unnamed_unmade unnamed m l =
-      let r = update_of file m us l in unnamed (subst N (sym r.2) (k.named r.0 r.1))

@@ -1,5 +1,6 @@
 -- What a replica that goes had, who gave it leave has.
 use Rattle.std.proofs.Common.{ℕ, ◌≡◌, false, List, [], ◌∷◌, ◌++◌, Some, option_map, refl, sym, ap, subst, ◌∙◌}
+use Rattle.std.proofs.lemmas.Bool.{false_from_ne_true}
 use Rattle.pg_base.specs.declared.id.FileId.{FileId}
 use Rattle.pg_entries.specs.declared.cell.Cell.{Cell}
 use Rattle.pg_entries.specs.declared.cell.Cell.TheVariants as cell
@@ -32,7 +33,6 @@ use Rattle.pg_drops.proofs.Flags.{seen_of, sound}
 use Rattle.pg_drops.proofs.Kept.{kept}
 use Rattle.pg_drops.proofs.Leaves.{IsLeave, leave_by}
 use Rattle.pg_drops.proofs.Moments.{follows, went_now}
-use Rattle.pg_drops.proofs.Senders.{not_true}
 use Rattle.pg_drops.proofs.Words.{giver, leave_ok_says, speaker, speaks}
 
 plain_taken : (takes : List Take) (file : FileId) (c : Cell) → IsTaken takes file (plain c) → IsTaken takes file c
@@ -89,7 +89,7 @@ module _ (n : ℕ) (on : Stands n) (events : List Event) (event : Event) (s from
       let peer : d.0 ≡ from = ap (speaker goes.packet.from) (sym says) ∙ speaks file goes.packet.from s M ∙ goes.sender in
       let birth : d.1 ≡ leave.ends.sender =
       ap giver (sym says ∙ leave_ok_says file goes.packet.from s M leave.ends leave.stamp leave.is leave.of) in
-      let all = all_of n file (run n events) s d.0 d.1 (not_true (is_removed A.names.removed d.0) d.3) x leave.held d.4 in
+      let all = all_of n file (run n events) s d.0 d.1 (false_from_ne_true (is_removed A.names.removed d.0) d.3) x leave.held d.4 in
       let P : ℕ → Type 0 = (λ z. HasAllOf (run n events) s file z d.1) in
       let Q : ℕ → Type 0 = (λ z. HasAllOf (run n events) s file from z) in
       let R : ℕ → Type 0 = (λ z. IsLeave A z M file) in

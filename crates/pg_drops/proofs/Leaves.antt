@@ -1,6 +1,6 @@
 -- The leave by which a replica goes, and what is known of the replica there.
-use Rattle.std.proofs.Common.{ℕ, ◌≡◌, Bool, true, false, not, Option, None, Some, is_some, refl, subst}
-use Rattle.std.proofs.lemmas.Bool.{and_parts, eqb-true, false≢true}
+use Rattle.std.proofs.Common.{ℕ, ◌≡◌, true, false, not, Option, None, Some, is_some, refl, subst}
+use Rattle.std.proofs.lemmas.Bool.{and_parts, eqb-true, false≢true, not-true}
 use Rattle.std.proofs.lemmas.Option.{none-some, same_Some}
 use Rattle.pg_base.specs.declared.id.FileId.{FileId}
 use Rattle.pg_base.specs.declared.stamp.Stamp.{Stamp}
@@ -27,10 +27,6 @@ pub held_of : (o : Option Replica) (birth : ℕ) → is_of_birth o birth ≡ tru
 held_of None birth e = absurd (false≢true e)
 held_of (Some x) birth e = (x, refl, eqb-true x.birth birth e)
 
-turned : (t : Bool) → not t ≡ true → t ≡ false
-turned true h = absurd (false≢true h)
-turned false h = refl
-
 -- THE LEAVE: from whom it came, and that the replica that it names may go
 pub record IsLeave (a : Store) (from : ℕ) (m : Message) (file : FileId) : Type 0 where
   pub ends : Ends
@@ -48,7 +44,7 @@ may_go a from ends stamp now =
     let w = new_work 0 from in
     let stays = is_some (stays_for (without_leave a ends.file) ends.file) in
     let parts = and_parts (may_leave a ends stamp w) (not stays) now in
-    let rest = stays_not (without_leave a ends.file) ends.file (turned stays parts.1) in
+    let rest = stays_not (without_leave a ends.file) ends.file (not-true stays parts.1) in
     record { answered = answered_is a ends stamp w parts.0; plain = rest.0; childless = rest.1.0; quiet = rest.1.1.0; clean = rest.1.1.1 }
 
 leave_at : (a : Store) (from : ℕ) (ends : Ends) (stamp : Stamp) → goes_now a ends stamp (new_work 0 from) ≡ true

@@ -8,7 +8,6 @@ pub mod Senders
 pub mod Unremoved
 pub mod Kept
 pub mod Leaves
-pub mod Intents
 pub mod Ordered
 pub mod LastFlags
 pub mod Taken
@@ -18,10 +17,7 @@ pub mod Promised
 pub mod InOrder
 pub mod Dropping
 pub mod Acks
-pub mod Holders
-pub mod Plain
-pub mod PlainLosses
-pub mod PlainCalls
+pub mod PlainTicks
 pub mod Unlinked
 pub mod Said
 pub mod Rules

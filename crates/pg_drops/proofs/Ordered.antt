@@ -11,6 +11,7 @@ use Rattle.pg_entries.specs.declared.cell.Cell.TheVariants as cell
 use Rattle.pg_event.specs.declared.event.Event.{Event}
 use Rattle.pg_flood.specs.Server.{Replica as Seen}
 use Rattle.pg_intent.specs.declared.intent.Intent.TheVariants as intent
+use Rattle.pg_intent.proofs.Stands.{intent_found}
 use Rattle.pg_leaving.specs.Moment.{IsSaid, IsWanted}
 use Rattle.pg_leaving.specs.Protocol.Word.{Gone}
 use Rattle.pg_names.specs.Names.{own_or_blank}
@@ -37,7 +38,6 @@ use Rattle.pg_drops.specs.Seen.{leaving}
 use Rattle.pg_drops.specs.Taken.{site}
 use Rattle.pg_drops.proofs.Behind.{born_at, over_not, what_went_is_over}
 use Rattle.pg_drops.proofs.Flags.{flag_back, seen_born, seen_of}
-use Rattle.pg_drops.proofs.Intents.{intent_found}
 use Rattle.pg_drops.proofs.Lists.{member_at}
 use Rattle.pg_drops.proofs.Words.{said}
 

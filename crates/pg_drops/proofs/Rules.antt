@@ -2,6 +2,7 @@
 use Rattle.std.proofs.Common.{ℕ, ◌≡◌, Bool, true, false, cond, List, [], ◌∷◌, ◌++◌, Some, refl, sym, ap, subst, ◌∙◌, inl, inr, ◌⊎◌}
 use Rattle.std.specs.Prelude.{Contains}
 use Rattle.std.proofs.lemmas.Option.{none-some}
+use Rattle.std.proofs.lemmas.Bool.{false_from_ne_true}
 use Rattle.pg_base.specs.declared.id.FileId.{FileId}
 use Rattle.pg_cells.specs.Done.{idle}
 use Rattle.pg_edges.specs.Edges.{is_listed}
@@ -63,10 +64,6 @@ still a packet none =
 -- an input that a server takes
 abbrev taking_of : ℕ → Input → Taking
 taking_of s asked = record { server = s; asked = asked }
-
-unlisted : (t : Bool) → (t ≡ true → ⊥) → t ≡ false
-unlisted true h = absurd (h refl)
-unlisted false h = refl
 
 module _ (n : ℕ) (on : StandOn n) (sends : Sends n) (file : FileId) (events : List Event) (event : Event) (t : Taking)
     (is : taking_in n (run n events) event ≡ Some t) (k : IsKept (leaving n file) events) where
@@ -217,6 +214,6 @@ module _ (n : ℕ) (on : StandOn n) (sends : Sends n) (file : FileId) (events : 
         came o.1 o.2 (Bye peer birth) (word ∙ ap (λ z. Bye z bye.0.sender) (o.3 ∙ w.1) ∙ ap (Bye peer) bye.3),
         λ y there.
             (let r = seen_of B file y (replica_at B file) refl there in
-            unlisted (is_listed y.edges peer birth)
+            false_from_ne_true (is_listed y.edges peer birth)
             (λ l. o.5 r.0 r.1 (ap (λ z. is_listed r.0.edges z birth) w.1 ∙ ap (λ (z : Seen Cell). is_listed z.edges peer birth) r.2 ∙ l))),
       )

@@ -1,7 +1,7 @@
 -- SAFE DROP: who gave a replica leave took all that the state of it comes to.
 use Rattle.std.proofs.Common.{ℕ, ◌≡◌, ◌≢◌, ◌≤◌, ◌<◌, ◌==◌, ◌&&◌, ◌||◌, true, false, cond, not, List, [], ◌∷◌, filter, Option, None, Some, refl, sym, ap, subst, ◌∙◌, inl, inr, arith}
 use Rattle.std.specs.Prelude.{Contains, nat_le}
-use Rattle.std.proofs.lemmas.Bool.{and_parts, eq-eqb, false≢true, leb-true, or_left}
+use Rattle.std.proofs.lemmas.Bool.{and_parts, eq-eqb, false≢true, leb-true, or_left, false_from_ne_true}
 use Rattle.std.proofs.lemmas.Bool.Decides.{nat_tests}
 use Rattle.pg_base.specs.declared.id.FileId.{FileId}
 use Rattle.pg_base.specs.declared.stamp.Stamp.{Stamp}
@@ -48,7 +48,7 @@ use Rattle.pg_drops.specs.Premises.{StandOn, StatesAreCited}
 use Rattle.pg_drops.specs.Taken.{IsTaken}
 use Rattle.pg_drops.proofs.Drops.{IsLeft, left}
 use Rattle.pg_drops.proofs.Given.{stands}
-use Rattle.pg_drops.proofs.Senders.{live_unremoved, not_true, sender_live}
+use Rattle.pg_drops.proofs.Senders.{live_unremoved, sender_live}
 
 -- ---- of flags by server
 
@@ -175,7 +175,7 @@ module _ (n : ℕ) (on : StandOn n) (events : List Event) (event : Event) (s fro
   unremoved =
       let P : ℕ → Type 0 = (λ u. is_removed At.names.removed u ≡ false) in
       let u = goes.packet.from in
-      subst P goes.sender (not_true (is_removed At.names.removed u) (live_unremoved At u is_live))
+      subst P goes.sender (false_from_ne_true (is_removed At.names.removed u) (live_unremoved At u is_live))
 
   pub other : (from ≢ s) × (1 ≤ from) × (from ≤ n)
   other =

@@ -41,8 +41,9 @@ use Rattle.pg_births.proofs.ByeEvents.{effect_bye}
 use Rattle.pg_births.proofs.Owing.{found_of, owed_of}
 use Rattle.pg_drops.specs.Premises.{RunsStayWhole}
 use Rattle.pg_drops.proofs.Behind.{behind_is}
-use Rattle.pg_drops.proofs.Plain.{AnswersHave, is_plain, received_fine}
-use Rattle.pg_drops.proofs.PlainCalls.{asked_fine, call_fine, cells_fine, tick_fine}
+use Rattle.pg_run.proofs.Sends.{AnswersHave, received_fine}
+use Rattle.pg_run.proofs.SendsCalls.{call_fine}
+use Rattle.pg_drops.proofs.PlainTicks.{asked_fine, cells_fine, is_plain, plainer, tick_fine}
 use Rattle.pg_drops.proofs.Unlinked.{unlinked_behind}
 
 -- a Bye of this birth of the sender's replica was heard
@@ -88,7 +89,7 @@ module _ (s : ℕ) (a : Store) (asked : Input) where
     nothing moment from = (All-nil Q, All-nil Q)
 
     answers : (packet : Packet) → asked ≡ input.Arrival packet → is_heard a packet ≡ true
-        → (m : Message) → packet.message ≡ m → AnswersHave Q plain packet.from a packet.from m
+        → (m : Message) → packet.message ≡ m → AnswersHave Q (plainer Q plain) packet.from a packet.from m
     answers packet is heard (message.Cell ends tag c) e = λ fit met b same. (
       same ∙ server,
       record {
@@ -118,10 +119,13 @@ module _ (s : ℕ) (a : Store) (asked : Input) where
         sender = refl;
       },
     )
+    answers packet is heard (message.Confirm dir entry) e = λ b r. tt
+    answers packet is heard (message.Tell dir entry) e = λ b. tt
+    answers packet is heard (message.Leave ends stamp) e = λ b. tt
     answers packet is heard m e = tt
 
     first_sends : (x : Input) → asked ≡ x → Sends (first_effect a x).work
-    first_sends (input.Call moment call) is = let k = call_fine Q plain a moment call in (k.0, k.1)
+    first_sends (input.Call moment call) is = let k = call_fine Q (plainer Q plain) a moment call in (k.0, k.1)
     first_sends (input.Tick moment word) is =
         let w = new_work moment 0 in
         let k = tick_fine Q plain a (λ file birth peer peer_birth owes.
@@ -132,7 +136,7 @@ module _ (s : ℕ) (a : Store) (asked : Input) where
         decided (λ (d : Done). Sends d.work) (is_heard a packet) (receive a packet.message w) (idle a w)
         (λ heard.
         let has = answers packet is heard packet.message refl in
-        let k = received_fine Q plain packet.from a packet.message w has (All-nil Q, All-nil Q, refl) in
+        let k = received_fine Q (plainer Q plain) packet.from a packet.message w has (All-nil Q, All-nil Q, refl) in
         (k.0, k.1))
         (λ no. nothing 0 packet.from)
     first_sends input.Restart is = nothing 0 0

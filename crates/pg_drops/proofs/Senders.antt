@@ -1,5 +1,5 @@
 -- Whom a server hears: another live server in its view.
-use Rattle.std.proofs.Common.{ℕ, ◌≡◌, ◌==◌, ◌&&◌, Bool, true, false, not, refl, sym, ◌∙◌, ap}
+use Rattle.std.proofs.Common.{ℕ, ◌≡◌, ◌==◌, ◌&&◌, true, false, not, sym, ◌∙◌, ap}
 use Rattle.std.specs.Prelude.{nat_le}
 use Rattle.std.proofs.lemmas.Bool.{and_parts, false≢true}
 use Rattle.pg_msg.specs.declared.message.Packet.{Packet}
@@ -28,7 +28,3 @@ live_unremoved a u live gone =
     let rest = (and_parts (nat_le 1 u) (up && (apart && kept)) live).1 in
     let left = (and_parts apart kept (and_parts up (apart && kept) rest).1).1 in
     false≢true (sym (ap not gone) ∙ left)
-
-pub not_true : (t : Bool) → (t ≡ true → ⊥) → t ≡ false
-not_true true h = absurd (h refl)
-not_true false h = refl

@@ -1,7 +1,7 @@
 -- Behind a Bye there is no edge to the replica that went: the first effect takes it away, and the house rules and
 -- the intentions make none.
-use Rattle.std.proofs.Common.{ℕ, ◌≡◌, ◌==◌, ◌&&◌, Bool, true, false, cond, List, [], ◌∷◌, length, drop, Option, None, Some, is_some, eq-eqb, refl, sym, ap, subst, ◌∙◌}
-use Rattle.std.proofs.lemmas.Bool.{false≢true}
+use Rattle.std.proofs.Common.{ℕ, ◌≡◌, ◌==◌, true, false, cond, List, [], ◌∷◌, length, drop, Option, None, Some, is_some, eq-eqb, refl, sym, ap, subst, ◌∙◌}
+use Rattle.std.proofs.lemmas.Bool.{false≢true, and_from}
 use Rattle.pg_base.specs.declared.id.FileId.{FileId}
 use Rattle.pg_edges.specs.declared.edge.Edge.{Edge}
 use Rattle.pg_edges.specs.declared.key.Key.TheVariants as key
@@ -81,14 +81,11 @@ ended_links d file peer birth =
 
 -- ---- the edge goes
 
-both_true : (s t : Bool) → s ≡ true → t ≡ true → (s && t) ≡ true
-both_true s t a b = ap (λ z. z && t) a ∙ b
-
 unlisted : (es : List Edge) (peer birth : ℕ) → is_listed (unlinked es peer birth) peer birth ≡ false
 unlisted es peer birth =
     ap (λ o. is_some o) (unlinks es peer birth peer birth)
     ∙ ap (λ t. is_some (cond t None (keys_at es peer birth)))
-    (both_true (peer == peer) (birth == birth) (eq-eqb peer peer refl) (eq-eqb birth birth refl))
+    (and_from (peer == peer) (birth == birth) (eq-eqb peer peer refl) (eq-eqb birth birth refl))
 
 module _ (a : Store) (file : FileId) (peer birth : ℕ) where
   abbrev Without : Option Replica → Store

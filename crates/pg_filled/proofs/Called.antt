@@ -36,12 +36,12 @@ use Rattle.pg_cells.specs.Golds.{is_gold}
 use Rattle.pg_cells.specs.Making.{lower_flag, own_next}
 use Rattle.pg_cells.specs.Posting.{post}
 use Rattle.pg_repair.specs.Fetching.{given}
-use Rattle.pg_calls.specs.declared.checks.NewName.{NewName}
-use Rattle.pg_calls.specs.Answer.{Answer, answered, replied, told as told_answer, unless}
-use Rattle.pg_calls.specs.Asking as asking
+use Rattle.pg_checks.specs.declared.checks.NewName.{NewName}
+use Rattle.pg_checks.specs.Answer.{Answer, answered, replied, told as told_answer, unless}
+use Rattle.pg_checks.specs.Asking as asking
 use Rattle.pg_calls.specs.Bodies.{change, change_file, when_fit}
 use Rattle.pg_calls.specs.Calls.{do_call}
-use Rattle.pg_calls.specs.Checks.{dir_at, empty_dir_at, file_at, first_child, in_time, move_of, new_name, target_at, thing_at, unless_child}
+use Rattle.pg_checks.specs.Checks.{dir_at, empty_dir_at, file_at, first_child, in_time, move_of, new_name, target_at, thing_at, unless_child}
 use Rattle.pg_calls.specs.Demoting.{demoted_at}
 use Rattle.pg_calls.specs.Dropping.{clean_gold, dropped_at}
 use Rattle.pg_calls.specs.Forgetting.{bare_entry, begin_lost, begun_at, begun_with, dead_at, dead_by, dirs_of, fill_lost, forget_lost, has_blank_place, is_wanted, last_listing, last_place, lists_by, lists_in, lost_at, mark, marked_each, placed_in_root, placed_lost, root_place, strike_out, struck_out, unwished}

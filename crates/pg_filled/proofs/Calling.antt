@@ -24,12 +24,12 @@ use Rattle.pg_walk.specs.declared.paths.Stop.TheVariants as stop
 use Rattle.pg_cells.specs.Done.{Done, idle}
 use Rattle.pg_cells.specs.Golds.{is_gold}
 use Rattle.pg_cells.specs.Making.{lower_flag, own_next}
-use Rattle.pg_calls.specs.declared.checks.NewName.{NewName}
-use Rattle.pg_calls.specs.Answer.{Answer, answered, replied, told}
-use Rattle.pg_calls.specs.Asking.{ask_by, ask_first, fetch, fresh_wish, holder, standing}
+use Rattle.pg_checks.specs.declared.checks.NewName.{NewName}
+use Rattle.pg_checks.specs.Answer.{Answer, answered, replied, told}
+use Rattle.pg_checks.specs.Asking.{ask_by, ask_first, fetch, fresh_wish, holder, standing}
 use Rattle.pg_calls.specs.Bodies.{change, change_file, when_fit}
 use Rattle.pg_calls.specs.Calls.{do_call}
-use Rattle.pg_calls.specs.Checks.{dir_at, empty_dir_at, file_at, in_time, move_of, new_name, target_at}
+use Rattle.pg_checks.specs.Checks.{dir_at, empty_dir_at, file_at, in_time, move_of, new_name, target_at}
 use Rattle.pg_calls.specs.Demoting.{demoted_at}
 use Rattle.pg_calls.specs.Dropping.{clean_gold, dropped_at, leaving}
 use Rattle.pg_calls.specs.Forgetting.{forget_lost, lost_at}

@@ -23,9 +23,9 @@ use Rattle.pg_store.specs.Births.{draw_birth, with_birth}
 use Rattle.pg_store.specs.Store.{is_full, is_held, take_place}
 use Rattle.pg_cells.specs.Done.{Done, idle}
 use Rattle.pg_cells.specs.Making.{own_next}
-use Rattle.pg_calls.specs.declared.checks.NewName.{NewName}
-use Rattle.pg_calls.specs.Asking.{latest}
-use Rattle.pg_calls.specs.Checks.{in_time}
+use Rattle.pg_checks.specs.declared.checks.NewName.{NewName}
+use Rattle.pg_checks.specs.Asking.{latest}
+use Rattle.pg_checks.specs.Checks.{in_time}
 use Rattle.pg_calls.specs.Forgetting.{begin_lost, begun_at, begun_with, dirs_of, fill_lost, forget_lost, has_blank_place, is_wanted, last_place, lost_at, place_in as place_in_dir, place_of, placed_in_root, placed_lost, root_place, strike_out, unfilled, unless_full}
 use Rattle.pg_calls.specs.Demoting.{unless_root}
 use Rattle.pg_calls.specs.Naming.{begun, next_id, place_in, raised, with_id, with_thing}

@@ -37,12 +37,12 @@ use Rattle.pg_server.specs.Local.{done_of}
 use Rattle.pg_walk.specs.declared.paths.Found.{Found}
 use Rattle.pg_walk.specs.declared.paths.Stop.{Stop}
 use Rattle.pg_walk.specs.declared.paths.Stop.TheVariants as stop
-use Rattle.pg_calls.specs.declared.checks.NewName.{NewName}
-use Rattle.pg_calls.specs.Answer.{Answer, deny, replied, told}
-use Rattle.pg_calls.specs.Asking.{ask_by, ask_first, fetch, fresh_wish, holder, standing}
+use Rattle.pg_checks.specs.declared.checks.NewName.{NewName}
+use Rattle.pg_checks.specs.Answer.{Answer, deny, replied, told}
+use Rattle.pg_checks.specs.Asking.{ask_by, ask_first, fetch, fresh_wish, holder, standing}
 use Rattle.pg_calls.specs.Bodies.{change, change_file, when_fit}
 use Rattle.pg_calls.specs.Calls.{do_call}
-use Rattle.pg_calls.specs.Checks.{dir_at, empty_dir_at, file_at, in_time, move_of, new_name, target_at}
+use Rattle.pg_checks.specs.Checks.{dir_at, empty_dir_at, file_at, in_time, move_of, new_name, target_at}
 use Rattle.pg_cells.specs.Golds.{is_gold}
 use Rattle.pg_calls.specs.Demoting.{demoted_at, lowered}
 use Rattle.pg_calls.specs.Dropping.{clean_gold, dropped_at, leave_of, leaving}
@@ -64,7 +64,8 @@ use Rattle.pg_flags.proofs.Fine.{IsFine, Knows, NoFlags, fine_flag, fine_silent,
 use Rattle.pg_flags.proofs.Kept.{GoesOn, begin_flags, begun_births, flags_at, flags_on, goes_further, held_of, place_flags, same_goes_on}
 use Rattle.pg_flags.proofs.Losing.{entered_says, lost_fine, more_given, one_above, place_no_flag}
 use Rattle.pg_flags.proofs.Received.{said_begun_intent}
-use Rattle.pg_flags.proofs.Says.{Says, SaysSent, said_on, said_place, same_mail}
+use Rattle.pg_flags.proofs.Says.{Says, SaysSent, said_on, said_place}
+use Rattle.pg_run.proofs.Still.{still as nothing_more}
 
 -- a version is no flag
 version_no_flag : (v : MadeVersion) → NoFlags (update.Version v ∷ [])
@@ -186,7 +187,7 @@ module _ (Q : FileId → Flag → Type 0) (s : ℕ) (a : Store) (together : AreT
         said_on Q s [] (idle a w) (idle Begun w) says
         (say_begin Q AnyBye s first id (draw_birth (with_id a)) policy (blank_own id) true (All-nil (Q id))
         (record { names = says.store.names; intents = says.store.intents }))
-        (same_mail w)
+        (nothing_more w)
 
     placed_goes : GoesOn a Placed.store
     placed_goes =

@@ -3,7 +3,6 @@ use Rattle.std.proofs.Common.{ℕ, ◌≡◌, ◌<◌, Bool, List, Some, [], ◌
 use Rattle.std.proofs.lemmas.Option.{same_Some}
 use Rattle.pg_base.specs.declared.id.FileId.{FileId}
 use Rattle.pg_content.specs.Content.{Among}
-use Rattle.pg_edges.specs.declared.key.Key.TheVariants as key
 use Rattle.pg_msg.specs.declared.update.Update.{Update}
 use Rattle.pg_msg.specs.declared.update.Update.TheVariants as update
 use Rattle.pg_msg.specs.declared.work.Work.{Work}
@@ -13,7 +12,6 @@ use Rattle.pg_names.specs.Names.{own_at}
 use Rattle.pg_register.specs.declared.flag.Flag.{Flag}
 use Rattle.pg_register.specs.Flag.{flag_of}
 use Rattle.pg_store.specs.declared.store.Store.{Store}
-use Rattle.pg_store.specs.Store.{is_newer_flag}
 use Rattle.pg_store.specs.Together.{birth_at}
 use Rattle.pg_cells.specs.Done.{Done, idle}
 use Rattle.pg_cells.specs.Making.{make_flag, own_next}
@@ -26,7 +24,8 @@ use Rattle.pg_births.proofs.Pieces.{flag_stays}
 use Rattle.pg_flags.proofs.Kept.{GoesOn, flags_at, past_goes}
 use Rattle.pg_flags.proofs.Known.{all_sent_less, store_less}
 use Rattle.pg_flags.proofs.Own.{IsOwn, Stands, next_birth, next_later, next_own, own_goes, own_next_on, past_next}
-use Rattle.pg_flags.proofs.Says.{SaysSent, news_mail}
+use Rattle.pg_flags.proofs.Says.{SaysSent}
+use Rattle.pg_run.proofs.Still.{flag_still}
 
 -- ---- lists of what was made
 
@@ -206,7 +205,7 @@ module _ (Q : FileId → Flag → Type 0) (s : ℕ) where
     born x there = let r = found_is w.made b k.store f x there in born_of x (k.own f x r.0 r.1)
 
     made_is : Then.work.made ≡ w.made ++ update.Flag f flag ∷ []
-    made_is = (news_mail (is_newer_flag b f flag) v f (key.Flag flag.server)).made
+    made_is = (flag_still b f flag v).made
 
     more : (q : FileId) (g : Flag) → Knows w.made q g → Knows Then.work.made q g
     more q g (inl was) = inl was
@@ -285,7 +284,7 @@ module _ (Q : FileId → Flag → Type 0) (s : ℕ) where
     -- A FLAG IS RAISED, OR LOWERED
     pub fine_flag : IsFine Then
     fine_flag =
-        let mail = news_mail (is_newer_flag b f flag) v f (key.Flag flag.server) in
+        let mail = (flag_still b f flag v).mail in
         record {
           store = say_flag (Knows Then.work.made) AnyBye s b f flag now
               (store_less (Knows w.made) (Knows Then.work.made) more s b k.store);

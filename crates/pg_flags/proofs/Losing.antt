@@ -42,7 +42,8 @@ use Rattle.pg_contents.proofs.Pieces.{patches_keep, place_keeps}
 use Rattle.pg_flags.proofs.Filling.{MayGo, fill_fine, own_of_full, still}
 use Rattle.pg_flags.proofs.Fine.{IsFine, NoFlags, fine_flag, no_flags}
 use Rattle.pg_flags.proofs.Kept.{GoesOn, begin_flags, begun_births, flags_on, goes_further, place_flags, same_goes_on}
-use Rattle.pg_flags.proofs.Says.{Says, said_entry, said_last, said_on, said_place, same_mail}
+use Rattle.pg_flags.proofs.Says.{Says, said_entry, said_last, said_on, said_place}
+use Rattle.pg_run.proofs.Still.{still as nothing_more}
 
 -- a place is no flag
 pub place_no_flag : (file : FileId) (place : Place) → NoFlags (update.Place file place ∷ [])
@@ -171,7 +172,7 @@ module _ (Q : FileId → Flag → Type 0) (s : ℕ) (a : Store) (together : AreT
           said_on Q s [] (idle a w) (idle Begun w) says
           (say_begin Q AnyBye s Free id (draw_birth a) Last own true (bare_all own.flags bare)
           (say_ended Q AnyBye s (with_birth a) (intent_key.Fill id) (record { names = says.store.names; intents = says.store.intents })))
-          (same_mail w)
+          (nothing_more w)
 
       begun_goes : GoesOn a Begun
       begun_goes = record {

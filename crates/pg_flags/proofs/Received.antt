@@ -58,7 +58,8 @@ use Rattle.pg_graph.proofs.LeaveOk.{byes_by, leave_ok_by}
 use Rattle.pg_run.proofs.Bags.{All-every}
 use Rattle.pg_births.specs.Flags.{AnyBye, SaysCell, SaysEntry, SaysIntent, SaysStore}
 use Rattle.pg_births.proofs.StoreSays.{entry_says, intends_says, own_says, say_acknowledge, say_aimed, say_begin, say_ended, say_let_go, say_unlink}
-use Rattle.pg_flags.proofs.Says.{Says, begun_mail, said_accept, said_asked, said_entry, said_entry_cell, said_flag, said_flags, said_last, said_link, said_on, said_place, said_post, said_version, same_mail}
+use Rattle.pg_flags.proofs.Says.{Says, said_accept, said_asked, said_entry, said_entry_cell, said_flag, said_flags, said_last, said_link, said_on, said_place, said_post, said_version}
+use Rattle.pg_run.proofs.Still.{begun_still, still}
 
 module _ (Q : FileId → Flag → Type 0) (s : ℕ) (us : List Update) where
   abbrev Said : Done → Type 0
@@ -181,11 +182,11 @@ module _ (Q : FileId → Flag → Type 0) (s : ℕ) (us : List Update) where
       let b = begun_by a ends g in
       let to_b : Said (idle b w) = said_on Q s us (idle a w) (idle b w) k
       (say_begin Q AnyBye s a ends.file ends.receiver g.policy (granted_own g) false all k.store)
-      (same_mail w) in
+      (still w) in
       let d = link_peer b ends.file w.from ends.sender w in
       let to_d = said_link Q s us b ends.file w.from ends.sender w to_b in
       said_on Q s us d (begin_granted a ends g w) to_d
-      (say_aimed Q AnyBye s d.store (intent_key.Fill ends.file) d.work.from to_d.store) (same_mail d.work)
+      (say_aimed Q AnyBye s d.store (intent_key.Fill ends.file) d.work.from to_d.store) (still d.work)
 
   pub said_grant : (a : Store) (ends : Ends) (g : Granted) (w : Work)
       → All (Q ends.file) g.flags → Said (idle a w) → Said (grant a ends g w)
@@ -195,7 +196,7 @@ module _ (Q : FileId → Flag → Type 0) (s : ℕ) (us : List Update) where
 
   aimed_by : (a b : Store) (t : Bool) (w : Work) → SaysStore Q AnyBye s b → Said (idle a w)
       → Said (idle (cond t b a) w)
-  aimed_by a b true w store k = said_on Q s us (idle a w) (idle b w) k store (same_mail w)
+  aimed_by a b true w store k = said_on Q s us (idle a w) (idle b w) k store (still w)
   aimed_by a b false w store k = k
 
   pub said_no_grant : (a : Store) (f : FileId) (birth : ℕ) (w : Work) → Said (idle a w)
@@ -223,13 +224,13 @@ module _ (Q : FileId → Flag → Type 0) (s : ℕ) (us : List Update) where
       → Said (ack a ends q tag w)
   said_ack a ends q tag w k =
       said_on Q s us (idle a w) (ack a ends q tag w) k
-      (say_acknowledge Q AnyBye s a ends.file (link_of w.from ends) q tag k.store) (same_mail w)
+      (say_acknowledge Q AnyBye s a ends.file (link_of w.from ends) q tag k.store) (still w)
 
   pub said_gone : (a : Store) (f : FileId) (birth : ℕ) (w : Work) → Said (idle a w)
       → Said (gone a f birth w)
   said_gone a f birth w k =
       said_on Q s us (idle a w) (gone a f birth w) k (say_unlink Q AnyBye s a f w.from birth k.store)
-      (same_mail w)
+      (still w)
 
   pub said_confirm : (a : Store) (dir : FileId) (e : Entry) (w : Work) → SaysEntry Q e
       → Said (idle a w) → Said (confirm a dir e w)
@@ -280,20 +281,20 @@ module _ (Q : FileId → Flag → Type 0) (s : ℕ) (us : List Update) where
       → Said (idle (with_intents a (ended a.intents q)) w)
   said_ended a q w k =
       said_on Q s us (idle a w) (idle (with_intents a (ended a.intents q)) w) k
-      (say_ended Q AnyBye s a q k.store) (same_mail w)
+      (say_ended Q AnyBye s a q k.store) (still w)
 
   pub said_begun_intent : (d : Done) (i : Intent) → SaysIntent Q AnyBye i → Said d
       → Said (begin_intent d.store i d.work)
   said_begun_intent d i one k =
       said_on Q s us d (begin_intent d.store i d.work) k
       (intends_says Q AnyBye s d.store i d.work one k.store)
-      (begun_mail (not (stands d.store.intents (key_of i))) d.work (key_of i))
+      (begun_still (not (stands d.store.intents (key_of i))) d.work (key_of i))
 
   pub said_bye : (a : Store) (x : Ends) (w : Work) → Said (idle a w) → Said (bye a x w)
   said_bye a x w k =
       let m = message.ByeOk x.file x.sender in
       said_on Q s us (idle a (reply a m w)) (bye a x w) (said_post Q s us a w.from m w tt k)
-      (say_unlink Q AnyBye s a x.file w.from x.sender k.store) (same_mail (reply a m w))
+      (say_unlink Q AnyBye s a x.file w.from x.sender k.store) (still (reply a m w))
 
   pub said_leave : (a : Store) (x : Ends) (stamp : Stamp) (w : Work) → Said (idle a w)
       → Said (leave a x stamp w)
@@ -314,7 +315,7 @@ module _ (Q : FileId → Flag → Type 0) (s : ℕ) (us : List Update) where
       let b = without_leave a f in
       let to_b : Said (idle b w) = said_ended a (intent_key.Leave f) w k in
       let to_go : Said (idle (let_go b f) w) = said_on Q s us (idle b w) (idle (let_go b f) w) to_b
-      (say_let_go Q AnyBye s b f to_b.store) (same_mail w) in
+      (say_let_go Q AnyBye s b f to_b.store) (still w) in
       leave_ok_by Said a x stamp w k (λ answered. to_b)
       (λ may. byes_by Said (λ (e : Edge). Unit {0}) f (birth_of b f)
       (λ d e one h. said_begun_intent d (bye_to f (birth_of b f) e) tt h) (replica_of b f).edges

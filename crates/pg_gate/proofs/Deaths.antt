@@ -1,6 +1,6 @@
 -- Which event gives a directory a dead place: a message that brings it, or a call at its maker.
 use Rattle.std.proofs.Common.{ℕ, ◌≡◌, ◌≤◌, not, Bool, true, false, cond, List, [], ◌∷◌, ◌++◌, Option, None, Some, refl, sym, ap, subst, ◌∙◌, inl, inr, ◌⊎◌, arith}
-use Rattle.std.proofs.lemmas.Bool.{and_parts, false≢true}
+use Rattle.std.proofs.lemmas.Bool.{and_parts, false≢true, and_from, not_from_false}
 use Rattle.pg_base.specs.declared.id.FileId.{FileId}
 use Rattle.pg_base.specs.Id.{is_same_file}
 use Rattle.pg_base.specs.Stamp.{is_before}
@@ -23,7 +23,6 @@ use Rattle.pg_names.proofs.Lookups.{flag_other, flag_same, joined_own, known_abs
 use Rattle.pg_house.specs.House.{house}
 use Rattle.pg_house.specs.Passing.{is_held_back, own_taken}
 use Rattle.pg_house.specs.Work.{state_of}
-use Rattle.pg_house.proofs.Truths.{both_true, not_false}
 use Rattle.pg_store.specs.declared.store.Store.{Store}
 use Rattle.pg_store.specs.Births.{draw_birth, has_birth, with_birth}
 use Rattle.pg_store.specs.Store.{take_place}
@@ -152,9 +151,9 @@ module _ (dir : FileId) (is : is_dir dir ≡ true) (removal : Place) (dead : rem
     taken_by own top false back (inr later) h = λ e.
         let gone : top.place.live ≡ false = ap (λ (p : Place). p.live) e ∙ dead in
         let kept : is_removed R top.place.stamp.server ≡ false = ap (λ (p : Place). is_removed R p.stamp.server) e ∙ there in
-        absurd (false≢true (sym back ∙ both_true (is_dir dir) _ is
-        (both_true (not top.place.live) _ (not_false top.place.live gone)
-        (both_true (is_before own.place.stamp top.place.stamp) _ later (not_false (is_removed R top.place.stamp.server) kept)))))
+        absurd (false≢true (sym back ∙ and_from (is_dir dir) _ is
+        (and_from (not top.place.live) _ (not_from_false top.place.live gone)
+        (and_from (is_before own.place.stamp top.place.stamp) _ later (not_from_false (is_removed R top.place.stamp.server) kept)))))
 
     dead_so : StaysSo dir R If (λ (u : Update). Unit {0})
     dead_so = record {

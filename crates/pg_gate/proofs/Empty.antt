@@ -12,7 +12,7 @@ use Rattle.pg_entries.specs.Entry.{entry_of, is_listed}
 use Rattle.pg_entries.specs.Shown.{children_of, insert_row, listing_of, row_cmp, row_of, rows_in_order, rows_of}
 use Rattle.pg_names.specs.Names.{HeldValue, entry_in}
 use Rattle.pg_path.specs.declared.row.Row.{Row}
-use Rattle.pg_calls.specs.Checks.{first_child, first_row}
+use Rattle.pg_checks.specs.Checks.{first_child, first_row}
 use Rattle.pg_run.proofs.QuietAnswers.{map_empty}
 
 no_row : (rows : List Row) → first_row rows ≡ None → rows ≡ []

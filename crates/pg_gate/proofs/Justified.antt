@@ -1,7 +1,7 @@
 -- Justified return, of what servers took.
 use Rattle.std.proofs.Common.{[], ℕ, ◌≡◌, ◌++◌, ◌&&◌, Bool, true, false, cond, List, ◌∷◌, take, Contains, Option, None, Some, refl, sym, ap, subst, ◌∙◌, inl, inr, ◌⊎◌}
 use Rattle.std.specs.List.{flat_map}
-use Rattle.std.proofs.lemmas.Bool.{false≢true}
+use Rattle.std.proofs.lemmas.Bool.{false≢true, and_from, or_left, or_right}
 use Rattle.std.proofs.lemmas.Grind.{flat_map-append}
 use Rattle.std.proofs.lemmas.Option.{none-some, same_Some, slice_get_within}
 use Rattle.pg_base.specs.declared.id.FileId.{FileId}
@@ -16,7 +16,6 @@ use Rattle.pg_names.specs.Names.{cell_at, is_dir}
 use Rattle.pg_register.specs.declared.place.Place.{Place}
 use Rattle.pg_register.specs.Flag.{is_removed}
 use Rattle.pg_register.specs.Place.{newer_place}
-use Rattle.pg_house.proofs.Truths.{both_true, or_left, or_right}
 use Rattle.pg_store.specs.declared.store.Store.{Store}
 use Rattle.pg_server.specs.declared.input.Input.{Input}
 use Rattle.pg_server.specs.Local.{first_effect, takes_effect}
@@ -190,7 +189,7 @@ justified n edges merge stamps stay before removing between last s m asked dir c
     stamps before maker_is begun.least begun.most (InDir dir) child e.place listed (taken_of child ps e.place latest_taken) (inr (among_contained ps listed among)) (UpTo-same e.place.stamp listed.stamp low high) in
     let not_listed = removed_are_empty n edges before removing dir removal removes child e there in
     let parent : is_same_file e.place.parent dir ≡ true = ap (λ (p : Place). is_same_file p.parent dir) same ∙ ap (λ (f : FileId). is_same_file f dir) r.here ∙ is_same_file-refl dir in
-    false≢true (sym not_listed ∙ both_true e.place.live (is_same_file e.place.parent dir) (ap (λ (p : Place). p.live) same ∙ r.lists) parent)
+    false≢true (sym not_listed ∙ and_from e.place.live (is_same_file e.place.parent dir) (ap (λ (p : Place). p.live) same ∙ r.lists) parent)
   where
     taken_of : (thing : FileId) (ps : List Place) (p : Place) → (p ≡ first_place thing) ⊎ Among p ps → (p ≡ first_place thing) ⊎ Contains ps p
     taken_of thing ps p (inl first) = inl first

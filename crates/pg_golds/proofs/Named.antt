@@ -2,14 +2,13 @@
 use Rattle.std.proofs.Common.{ℕ, ◌≡◌, ◌≢◌, ◌⊎◌, ◌==◌, not, Bool, true, false, cond, List, Option, is_some, refl, sym, ap, ◌∙◌, inl, inr}
 use Rattle.std.specs.Prelude.{Contains}
 use Rattle.std.specs.List.{IsAmong, list_any}
-use Rattle.std.proofs.lemmas.Bool.{and_parts, ne_eqb}
+use Rattle.std.proofs.lemmas.Bool.{and_parts, ne_eqb, and_from, not_from_false}
 use Rattle.pg_base.specs.declared.id.FileId.{FileId}
 use Rattle.pg_content.specs.Content.{Among}
 use Rattle.pg_content.proofs.Members.{any_by, any_found}
 use Rattle.pg_edges.specs.declared.edge.Edge.{Edge}
 use Rattle.pg_edges.specs.Edges.{is_listed}
 use Rattle.pg_house.specs.Facts.{AreByServer}
-use Rattle.pg_house.proofs.Truths.{both_true, not_false}
 use Rattle.pg_names.specs.Names.{HeldValue, or_blank, own_of}
 use Rattle.pg_register.specs.declared.flag.Flag.{Flag}
 use Rattle.pg_register.specs.Flag.{IsByServer, is_live, is_live_other, is_raised, is_removed}
@@ -64,7 +63,7 @@ module _ (a : Store) (sorted : AreByServer a.names) (stand : SeeksStand a) (file
   seeks_where : (gold : Bool) → is_gold a file ≡ gold → cond gold (has_gold_apart a file) (not (has_gold_edge a file)) ≡ true → Seeks a file
   seeks_where gold is some =
       let seeking : is_seeking a file ≡ true =
-      both_true (is_held a file) (cond (is_gold a file) (has_gold_apart a file) (not (has_gold_edge a file))) held
+      and_from (is_held a file) (cond (is_gold a file) (has_gold_apart a file) (not (has_gold_edge a file))) held
       (ap (λ (t : Bool). cond t (has_gold_apart a file) (not (has_gold_edge a file))) is ∙ some) in
       stand file ∙ seeking
 
@@ -79,10 +78,10 @@ module _ (a : Store) (sorted : AreByServer a.names) (stand : SeeksStand a) (file
     apart_true : is_listed r.edges flag.server flag.birth ≡ false → has_gold_apart a file ≡ true
     apart_true none =
         let live_other : is_live_other Mine Removed flag ≡ true =
-        both_true (is_live Removed flag) (not (flag.server == Mine)) live (not_false (flag.server == Mine) (ne_eqb flag.server Mine other)) in
+        and_from (is_live Removed flag) (not (flag.server == Mine)) live (not_from_false (flag.server == Mine) (ne_eqb flag.server Mine other)) in
         let apart : is_apart Mine Removed r.edges flag ≡ true =
-        both_true (is_live_other Mine Removed flag) (not (is_listed r.edges flag.server flag.birth)) live_other
-        (not_false (is_listed r.edges flag.server flag.birth) none) in
+        and_from (is_live_other Mine Removed flag) (not (is_listed r.edges flag.server flag.birth)) live_other
+        (not_from_false (is_listed r.edges flag.server flag.birth) none) in
         ap (λ (es : List Edge). list_any (is_apart Mine Removed es) (flags_of a file)) edges_is
         ∙ ap (λ (fs : List Flag). list_any (is_apart Mine Removed r.edges) fs) flags_is
         ∙ any_by (is_apart Mine Removed r.edges) Flags flag (contained_among Flags flag known_flag) apart
@@ -113,13 +112,13 @@ module _ (a : Store) (sorted : AreByServer a.names) (stand : SeeksStand a) (file
       let both = and_parts (is_raised Flags e.peer e.birth) (not (is_removed Removed e.peer)) is in
       let k = raised_one Flags e.peer e.birth both.0 in
       let live : IsLiveGold a k.flag =
-      both_true k.flag.raised (not (is_removed Removed k.flag.server)) k.raised
+      and_from k.flag.raised (not (is_removed Removed k.flag.server)) k.raised
       (ap (λ (s : ℕ). not (is_removed Removed s)) k.server_is ∙ both.1) in
       (k.flag, among_contained Flags k.flag k.among, live, (e, among_contained r.edges e among, (sym k.server_is, sym k.birth_is)))
 
   bronze_by : (t : Bool) → has_gold_edge a file ≡ t → is_gold a file ≡ false → NamesAGold a x r ⊎ Seeks a file
   bronze_by true is bronze = (let e = any_found (matches Removed Flags) r.edges (sym edge_is ∙ is) in inl (matched e.0 e.1 e.2))
-  bronze_by false is bronze = inr (seeks_where false bronze (not_false (has_gold_edge a file) is))
+  bronze_by false is bronze = inr (seeks_where false bronze (not_from_false (has_gold_edge a file) is))
 
   bronze_names : (t : Bool) → is_gold a file ≡ t → (IsGold a x r → ⊥) → NamesAGold a x r ⊎ Seeks a file
   bronze_names true is none = absurd (none (is_gold_one is))

@@ -10,12 +10,12 @@ ghost use Rattle.pg_register.specs.Flag.{is_raised};
 ghost use Rattle.pg_store.specs.Links.{is_linked};
 ghost use Rattle.pg_graph.specs.Leaving.{begin_byes, bye, bye_ok, gives_leave, goes, goes_or_stays, is_leave_to, is_leave_with, leave, leave_given, leave_ok, may_leave, may_still_leave, place_stamp, without_leave};
 
-use crate::same::is_same_stamp;
 use pg_base::{FileId, NodeId, Stamp};
 use pg_cells::{Manner, accept, begin_intent, ends_to, is_accepted, is_gold, post, stays_for};
 use pg_edges::Edge;
 use pg_intent::{Intent, IntentKey};
 use pg_msg::{Ends, Message, Work};
+use pg_names::is_same_stamp;
 use pg_store::Store;
 use std::alloc::AllocError;
 

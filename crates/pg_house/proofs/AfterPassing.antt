@@ -1,6 +1,6 @@
 -- What holds after one file passed.
 use Rattle.std.proofs.Common.{◌≡◌, ℕ, Bool, true, false, not, List, Some, refl, sym, ap, ◌∙◌, subst, inl, inr, ◌⊎◌}
-use Rattle.std.proofs.lemmas.Bool.{false≢true}
+use Rattle.std.proofs.lemmas.Bool.{false≢true, and_parts, and_from, not-true, or_left, or_right}
 use Rattle.std.proofs.lemmas.Option.{same_Some}
 use Rattle.pg_base.specs.declared.id.FileId.{FileId}
 use Rattle.pg_base.specs.Id.{is_same_file}
@@ -16,7 +16,7 @@ use Rattle.pg_names.proofs.Alike.{own_of_parts}
 use Rattle.pg_house.specs.Work.{State}
 use Rattle.pg_house.specs.Passing.{cell_for, greatest, is_cell, is_held_back, is_update, joined, own_taken, passed, spread, wants}
 use Rattle.pg_house.specs.Facts.{IsPassed, HasOwnParent, is_among}
-use Rattle.pg_house.proofs.Truths.{and_true, before_itself, both_true, chosen_true, not_true, or_left, or_right}
+use Rattle.pg_house.proofs.Truths.{before_itself, chosen_true}
 use Rattle.pg_house.proofs.Flags.{join_same}
 use Rattle.pg_house.proofs.Taking.{taking_cell, taking_frame, taking_other, taking_own}
 use Rattle.pg_house.proofs.Spreading.{spread_own, spread_frame, spread_child, spread_cell, spread_gives, spread_new}
@@ -90,10 +90,10 @@ record IsBack (removed : List ℕ) (f : FileId) (own top : Own) : Type 0 where
 
 back_parts : (removed : List ℕ) (f : FileId) (own top : Own) → is_held_back removed f own top ≡ true → IsBack removed f own top
 back_parts removed f own top h =
-    let a = and_true (is_dir f) _ h in
-    let b = and_true (not top.place.live) _ a.1 in
-    let e = and_true (is_before own.place.stamp top.place.stamp) _ b.1 in
-    record { dir = a.0; dead = not_true top.place.live b.0; before = e.0 }
+    let a = and_parts (is_dir f) _ h in
+    let b = and_parts (not top.place.live) _ a.1 in
+    let e = and_parts (is_before own.place.stamp top.place.stamp) _ b.1 in
+    record { dir = a.0; dead = not-true top.place.live b.0; before = e.0 }
 
 module _ (st : State) (ds : List FileId) (f : FileId) (own : Own) (dirs : AreDirs st.names ds) (held : own_at st.names f ≡ Some own) where
   abbrev Top : Own
@@ -131,7 +131,7 @@ module _ (st : State) (ds : List FileId) (f : FileId) (own : Own) (dirs : AreDir
 
   has_parent : (t : Bool) → HasParent t Top
   has_parent t c up h d =
-      gets t Top.place.parent c h d (or_right (is_cell (cell_at st.names Top.place.parent f)) _ (or_left _ _ (both_true (is_update Top.place) _ up (is_same_file-refl Top.place.parent))))
+      gets t Top.place.parent c h d (or_right (is_cell (cell_at st.names Top.place.parent f)) _ (or_left _ _ (and_from (is_update Top.place) _ up (is_same_file-refl Top.place.parent))))
 
   pub flags_are : (t : Bool) → (own_taken own Top t).flags ≡ Top.flags
   flags_are true = refl
@@ -164,4 +164,4 @@ module _ (st : State) (ds : List FileId) (f : FileId) (own : Own) (dirs : AreDir
   pub own_parent : (t : Bool) → Back t → HasOwnParent (Then t) f (own_taken own Top t)
   own_parent false b c live h d = has_parent false c (or_left Top.place.live _ live) h d
   own_parent true b c live h d =
-      gets true own.place.parent c h d (or_right (is_cell (cell_at st.names own.place.parent f)) _ (or_right _ _ (both_true own.place.live _ live (is_same_file-refl own.place.parent))))
+      gets true own.place.parent c h d (or_right (is_cell (cell_at st.names own.place.parent f)) _ (or_right _ _ (and_from own.place.live _ live (is_same_file-refl own.place.parent))))

@@ -2,7 +2,7 @@
 use Rattle.std.proofs.Common.{◌≡◌, ℕ, ◌<◌, Bool, true, false, ◌&&◌, ◌||◌, not, List, [], ◌∷◌, length, Option, None, Some, refl, sym, ap, ◌∙◌, inl, inr, ◌⊎◌, cond}
 use Rattle.std.specs.List.{list_any}
 use Rattle.std.specs.Map.{lookup, values_of}
-use Rattle.std.proofs.lemmas.Bool.{false≢true}
+use Rattle.std.proofs.lemmas.Bool.{false≢true, and_parts, not-true}
 use Rattle.std.proofs.lemmas.Option.{none-some, same_Some}
 use Rattle.pg_base.specs.declared.id.FileId.{FileId}
 use Rattle.pg_base.specs.Id.{is_same_file}
@@ -16,7 +16,7 @@ use Rattle.pg_house.specs.Work.{State}
 use Rattle.pg_house.specs.Placing.{place_at, placed, repeated}
 use Rattle.pg_house.specs.Returning.{is_dead, is_returning, is_returning_held, is_root, first_returning, return_first, returned}
 use Rattle.pg_house.specs.Facts.{IsLast, NoDeadLists, is_among}
-use Rattle.pg_house.proofs.Truths.{and_true, bool_cases, not_true}
+use Rattle.pg_house.proofs.Truths.{bool_cases}
 use Rattle.pg_house.proofs.Counting.{count, count_length, count_less, find_found, find_none, until}
 use Rattle.pg_house.proofs.Touches.{IsHeld}
 use Rattle.pg_house.proofs.Placed.{Settled, placed_is_last, placed_own, placed_settled, placed_touches}
@@ -39,18 +39,18 @@ pub returning_by : (s : NamesValue) (d : FileId) (o : Option HeldValue) → know
 returning_by s d None h r = absurd (false≢true r)
 returning_by s d (Some x) h r =
     let own : own_at s d ≡ Some x.own = ap own_of h in
-    record { held = (x.own, own); dead_one = ap (is_dead_own d) own ∙ (and_true (is_dead d x.own.place) _ r).0 }
+    record { held = (x.own, own); dead_one = ap (is_dead_own d) own ∙ (and_parts (is_dead d x.own.place) _ r).0 }
 
 -- it is not the root
 pub not_root : (d : FileId) (o : Option Own) → is_dead_own d o ≡ true → is_root d ≡ false
 not_root d None h = absurd (false≢true h)
-not_root d (Some c) h = not_true (is_root d) (and_true _ _ h).0
+not_root d (Some c) h = not-true (is_root d) (and_parts _ _ h).0
 
 -- ---- a live place is not dead
 
 live_not_dead : (d : FileId) (p : Place) → p.live ≡ true → (t : Bool) → is_dead d p ≡ t → t ≡ false
 live_not_dead d p live false h = refl
-live_not_dead d p live true h = absurd (false≢true (sym (not_true p.live (and_true (not p.live) _ (and_true (not (is_root d)) _ h).1).0) ∙ live))
+live_not_dead d p live true h = absurd (false≢true (sym (not-true p.live (and_parts (not p.live) _ (and_parts (not (is_root d)) _ h).1).0) ∙ live))
 
 pub not_dead : (d : FileId) (p : Place) → p.live ≡ true → is_dead d p ≡ false
 not_dead d p live = live_not_dead d p live (is_dead d p) refl

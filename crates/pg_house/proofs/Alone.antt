@@ -1,6 +1,6 @@
 -- Passing where one thing alone has not passed, and where only cells that are there change.
 use Rattle.std.proofs.Common.{◌≡◌, Bool, true, false, if◌then◌else◌, List, [], ◌∷◌, Option, Some, refl, sym, ap, ◌∙◌, subst, inl, inr, ◌⊎◌}
-use Rattle.std.proofs.lemmas.Bool.{false≢true}
+use Rattle.std.proofs.lemmas.Bool.{false≢true, and_parts, or_left, or_right}
 use Rattle.pg_base.specs.declared.id.FileId.{FileId}
 use Rattle.pg_base.specs.Id.{is_same_file}
 use Rattle.pg_base.proofs.Orders.{is_same_file-true, is_same_file-refl}
@@ -12,7 +12,7 @@ use Rattle.pg_names.proofs.Lookups.{apart_back, entry_other_dir, entry_same}
 use Rattle.pg_house.specs.Work.{State}
 use Rattle.pg_house.specs.Passing.{cell_for, differs, gets, given, is_cell, offered, pass, pass_all, spread, wants}
 use Rattle.pg_house.specs.Facts.{is_among}
-use Rattle.pg_house.proofs.Truths.{and_true, bool_cases, chosen, or_cases, or_left, or_right}
+use Rattle.pg_house.proofs.Truths.{bool_cases, chosen, or_cases}
 use Rattle.pg_house.proofs.Greatest.{cell_held, cell_is}
 
 -- ---- one thing alone passes
@@ -88,7 +88,7 @@ module _ (f : FileId) (own top : Own) (back : Bool) where
       → (t : Bool) → gets st.names f own top back d ≡ t → IsSpread f top (cell_at st.names q f) (cell_at (if t then given st f top d else st).names q f)
   offered_by st d q has false e = inl refl
   offered_by st d q has true e =
-      given_spread st d q (and_true (wants st.names f own top back d) (differs (cell_at st.names d f) (cell_for f top)) e).0 has (bool_cases (is_same_file d q))
+      given_spread st d q (and_parts (wants st.names f own top back d) (differs (cell_at st.names d f) (cell_for f top)) e).0 has (bool_cases (is_same_file d q))
 
   offered_spread : (st : State) (d q : FileId) → (wants st.names f own top back d ≡ true → is_cell (cell_at st.names d f) ≡ true)
       → IsSpread f top (cell_at st.names q f) (cell_at (offered st f own top back d).names q f)

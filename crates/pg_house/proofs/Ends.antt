@@ -4,6 +4,7 @@ use Rattle.std.specs.List.{filter}
 use Rattle.std.specs.Map.{lookup, keys_of}
 use Rattle.std.specs.BTreeMap.{is_at}
 use Rattle.std.proofs.lemmas.Option.{none-some}
+use Rattle.std.proofs.lemmas.Bool.{or_left, or_right, not_from_false}
 use Rattle.pg_base.specs.declared.id.FileId.{FileId}
 use Rattle.pg_base.specs.Id.{is_same_file, file_cmp}
 use Rattle.pg_base.proofs.Orders.{is_same_file-true, is_same_file-refl}
@@ -17,7 +18,6 @@ use Rattle.pg_house.specs.Returning.{first_returning, is_root, return_first, ret
 use Rattle.pg_house.specs.Cycles.{break_first, first_moving, moved}
 use Rattle.pg_house.specs.House.{house, movable}
 use Rattle.pg_house.specs.Facts.{IsLast, IsOfDirs, IsPassed, AreByServer, NoCycle, NoDeadLists, OwnParent, Passing, HasPassed, is_among}
-use Rattle.pg_house.proofs.Truths.{or_left, or_right, not_false}
 use Rattle.pg_house.proofs.Counting.{among_kept, kept_dir}
 use Rattle.pg_house.proofs.AfterPassing.{AreDirs}
 use Rattle.pg_house.proofs.Greatest.{cell_held}
@@ -78,7 +78,7 @@ module _ (moment : ℕ) (st : State) (of_dirs : IsOfDirs st.names) (sorted : Are
   passed_at : (g : FileId) → is_same_file g root ≡ false → HasPassed One.names Ds g
   passed_at g apart own h =
       let was = one_pass.was g (own, h) in
-      let among = among_kept (λ f. not (is_root f)) (keys_of st.names.held) g (key_of_held st.names g was.0 was.1) (not_false (is_root g) apart) in
+      let among = among_kept (λ f. not (is_root f)) (keys_of st.names.held) g (key_of_held st.names g was.0 was.1) (not_from_false (is_root g) apart) in
       all_passed st Ds (movable st.names) first_dirs g (inl among) own h
 
   pub one_settled : Settled Ds One.names

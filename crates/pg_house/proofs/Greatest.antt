@@ -1,6 +1,6 @@
 -- The greatest of what is known of a file.
 use Rattle.std.proofs.Common.{◌≡◌, ℕ, true, List, [], ◌∷◌, Option, None, Some, refl, sym, ap, ◌∙◌, inl, inr, ◌⊎◌}
-use Rattle.std.proofs.lemmas.Bool.{false≢true}
+use Rattle.std.proofs.lemmas.Bool.{false≢true, or_left, or_right}
 use Rattle.std.proofs.lemmas.Option.{none-some}
 use Rattle.pg_base.specs.declared.id.FileId.{FileId}
 use Rattle.pg_base.specs.Id.{is_same_file}
@@ -17,7 +17,7 @@ use Rattle.pg_register.specs.Place.{newer_place}
 use Rattle.pg_register.proofs.ByServer.{IsByServer-join_flags}
 use Rattle.pg_house.specs.Passing.{cell_for, greatest, is_cell, joined, joined_with}
 use Rattle.pg_house.proofs.Flags.{flags_stay}
-use Rattle.pg_house.proofs.Truths.{chosen, or_cases, or_left, or_right}
+use Rattle.pg_house.proofs.Truths.{chosen, or_cases}
 use Rattle.pg_house.specs.Facts.{is_among}
 
 -- a directory with a cell is held

@@ -3,7 +3,7 @@ use Rattle.std.proofs.Common.{◌≡◌, Bool, true, false, cond, not, ◌&&◌,
 use Rattle.std.specs.List.{count_by, filter}
 use Rattle.std.specs.BTreeMap.{is_at}
 use Rattle.std.specs.Map.{lookup, values_of}
-use Rattle.std.proofs.lemmas.Bool.{or_parts}
+use Rattle.std.proofs.lemmas.Bool.{or_parts, and_right, and_left}
 use Rattle.std.proofs.lemmas.List.Sums.{length-filter}
 use Rattle.std.proofs.lemmas.Option.{none-some, same_Some}
 use Rattle.pg_base.specs.declared.id.FileId.{FileId}
@@ -18,7 +18,7 @@ use Rattle.pg_names.specs.Names.{HeldValue, NamesValue, cell_at, directories, en
 use Rattle.pg_house.specs.Passing.{greatest, joined_with}
 use Rattle.pg_house.specs.Holding.{any_waiting, has_waiting, held_back, is_any_waiting, is_back, is_dir_back, is_waiting, later, latest, waits}
 use Rattle.pg_house.specs.Returning.{is_root}
-use Rattle.pg_house.proofs.Truths.{and_false, before_itself, chosen, first_false}
+use Rattle.pg_house.proofs.Truths.{before_itself, chosen}
 
 joined_place : (top : Own) (o : Option Entry) → (joined_with top o).place ≡ later top.place o
 joined_place top None = refl
@@ -92,7 +92,7 @@ module _ (s : NamesValue) (f : FileId) where
 
     -- it does not wait for its own place
     own_waits : waits s.removed f own own ≡ false
-    own_waits = and_false (is_dir f) _ (and_false (not own.live) _ (first_false (is_before own.stamp own.stamp) _ (before_itself own.stamp)))
+    own_waits = and_right (is_dir f) _ (and_right (not own.live) _ (and_left (is_before own.stamp own.stamp) _ (before_itself own.stamp)))
 
   back_by : is_any_waiting s ≡ false → (o : Option Own) → own_at s f ≡ o → is_back s (directories s) f o ≡ false
   back_by none None h = refl
@@ -101,7 +101,7 @@ module _ (s : NamesValue) (f : FileId) where
       ∙ latest_waits own.place (λ d c there. ap (λ (o : Option Own). is_waiting s f o c) (sym h) ∙ none_in s.held none d c there) own.place (own_waits own.place) (directories s)
 
   not_back_at : is_any_waiting s ≡ false → is_dir_back s f ≡ false
-  not_back_at none = and_false (not (is_root f)) _ (back_by none (own_at s f) refl)
+  not_back_at none = and_right (not (is_root f)) _ (back_by none (own_at s f) refl)
 
 nothing_kept : (p : FileId → Bool) (xs : List FileId) → ((x : FileId) → p x ≡ false) → filter p xs ≡ []
 nothing_kept p [] none = refl

@@ -1,6 +1,6 @@
 -- A thing that has passed passes again without a change.
 use Rattle.std.proofs.Common.{◌≡◌, Bool, true, false, ◌&&◌, not, List, [], ◌∷◌, Option, None, Some, refl, sym, ap, ◌∙◌, subst, inl, inr}
-use Rattle.std.proofs.lemmas.Bool.{false≢true}
+use Rattle.std.proofs.lemmas.Bool.{false≢true, and_right, and_parts, and_left, or_left, or_right}
 use Rattle.pg_base.specs.declared.id.FileId.{FileId}
 use Rattle.pg_base.specs.Id.{is_same_file}
 use Rattle.pg_base.proofs.Orders.{is_same_file-true, is_same_file-refl}
@@ -12,17 +12,17 @@ use Rattle.pg_names.proofs.Alike.{entry-refl, own-refl}
 use Rattle.pg_house.specs.Work.{State}
 use Rattle.pg_house.specs.Passing.{cell_for, differs, gets, given, greatest, is_cell, is_held_back, is_in, is_update, offered, own_taken, pass, pass_own, passed, spread, taking, took, wants}
 use Rattle.pg_house.specs.Facts.{IsPassed, HasOwnParent, HasPassed, is_among}
-use Rattle.pg_house.proofs.Truths.{and_false, and_true, chosen_false, chosen_true, first_false, or_cases, or_left, or_right}
+use Rattle.pg_house.proofs.Truths.{chosen_false, chosen_true, or_cases}
 use Rattle.pg_house.proofs.Greatest.{cell_is}
 use Rattle.pg_house.proofs.Touches.{IsHeld}
 
 -- ---- what would not change is not written
 
 offered_same : (st : State) (f : FileId) (own top : Own) (back : Bool) (d : FileId) → ((wants st.names f own top back d ≡ true) → cell_at st.names d f ≡ Some (cell_for f top)) → (t : Bool) → wants st.names f own top back d ≡ t → offered st f own top back d ≡ st
-offered_same st f own top back d all false h = chosen_false (gets st.names f own top back d) (given st f top d) st (first_false (wants st.names f own top back d) _ h)
+offered_same st f own top back d all false h = chosen_false (gets st.names f own top back d) (given st f top d) st (and_left (wants st.names f own top back d) _ h)
 offered_same st f own top back d all true h =
     let same : differs (cell_at st.names d f) (cell_for f top) ≡ false = ap (λ o. differs o (cell_for f top)) (all h) ∙ ap not (entry-refl (cell_for f top)) in
-    chosen_false (gets st.names f own top back d) (given st f top d) st (and_false (wants st.names f own top back d) _ same)
+    chosen_false (gets st.names f own top back d) (given st f top d) st (and_right (wants st.names f own top back d) _ same)
 
 spread_same : (st : State) (f : FileId) (own top : Own) (back : Bool) (ds : List FileId) → ((d : FileId) → is_among d ds ≡ true → wants st.names f own top back d ≡ true → cell_at st.names d f ≡ Some (cell_for f top)) → spread st f own top back ds ≡ st
 spread_same st f own top back [] all = refl
@@ -52,11 +52,11 @@ module _ (st : State) (ds : List FileId) (f : FileId) (own : Own) (dirs : AreHel
         | inl is ↦ is
         | inr other ↦ elim (or_cases (is_update Top.place && is_in q Top.place) _ other) [
           | inl up ↦
-              let u = and_true (is_update Top.place) _ up in
+              let u = and_parts (is_update Top.place) _ up in
               let e : Top.place.parent ≡ q = is_same_file-true Top.place.parent q u.1 in
               subst P e (k.parent d.0.0 u.0 (ap (own_at st.names) e ∙ d.0.1) (ap is_dir e ∙ d.1))
           | inr back ↦
-              let b = and_true own.place.live _ (and_true t _ back).1 in
+              let b = and_parts own.place.live _ (and_parts t _ back).1 in
               let e : own.place.parent ≡ q = is_same_file-true own.place.parent q b.1 in
               subst P e (p d.0.0 b.0 (ap (own_at st.names) e ∙ d.0.1) (ap is_dir e ∙ d.1))
         ]

@@ -1,8 +1,8 @@
 -- Things that are not busy may be left out.
-use Rattle.std.proofs.Common.{◌≡◌, ℕ, Bool, true, false, ◌&&◌, ◌||◌, not, cond, List, [], ◌∷◌, length, Option, None, Some, refl, sym, ap, ◌∙◌, subst, inl}
+use Rattle.std.proofs.Common.{◌≡◌, ℕ, Bool, true, false, ◌&&◌, ◌||◌, not, List, length, Option, None, Some, sym, ap, ◌∙◌, subst, inl}
 use Rattle.std.specs.List.{filter}
 use Rattle.std.specs.Map.{keys_of}
-use Rattle.std.proofs.lemmas.Bool.{false≢true, or_parts}
+use Rattle.std.proofs.lemmas.Bool.{false≢true, or_parts, not-false, or_left}
 use Rattle.std.proofs.lemmas.Option.{none-some}
 use Rattle.pg_base.specs.declared.id.FileId.{FileId}
 use Rattle.pg_register.specs.declared.flag.Flag.{Flag}
@@ -20,7 +20,6 @@ use Rattle.pg_house.specs.Cycles.{break_first}
 use Rattle.pg_house.specs.House.{house, house_with, movable}
 use Rattle.pg_house.specs.Busy.{busy, is_busy, is_lacking, is_marked, is_unsettled, marks_of}
 use Rattle.pg_house.specs.Facts.{HasOwnParent, HasPassed, IsPassed}
-use Rattle.pg_house.proofs.Truths.{not_back, or_left}
 use Rattle.pg_house.proofs.Flags.{join_same}
 use Rattle.pg_house.proofs.Greatest.{AllAre, greatest_same}
 use Rattle.pg_house.proofs.Marking.{all_alike}
@@ -35,7 +34,7 @@ pub settled : (flags : List Flag) → IsByServer flags → is_unsettled flags �
 settled flags sorted = ap (λ (fs : List Flag). not (is_same_flags fs flags)) (join_same flags sorted) ∙ ap not (flags-refl flags)
 
 stays_itself : (flags : List Flag) → is_unsettled flags ≡ false → join_flags flags flags ≡ flags
-stays_itself flags h = flags-true (join_flags flags flags) flags (not_back (is_same_flags (join_flags flags flags) flags) h)
+stays_itself flags h = flags-true (join_flags flags flags) flags (not-false (is_same_flags (join_flags flags flags) flags) h)
 
 -- ---- the parent
 
@@ -44,7 +43,7 @@ abbrev IsThere : FileId → Place → Option HeldValue → Type 0
 IsThere f place o = (c : Own) → own_of o ≡ Some c → is_update place ≡ true → is_dir place.parent ≡ true → is_cell (entry_in f o) ≡ true
 
 has_cell : (up dir cell : Bool) → (up && (dir && not cell)) ≡ false → up ≡ true → dir ≡ true → cell ≡ true
-has_cell true true cell h u d = not_back cell h
+has_cell true true cell h u d = not-false cell h
 has_cell true false cell h u d = absurd (false≢true d)
 has_cell false dir cell h u d = absurd (false≢true u)
 

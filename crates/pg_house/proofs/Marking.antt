@@ -3,7 +3,7 @@ use Rattle.std.proofs.Common.{◌≡◌, Bool, true, false, cond, List, [], ◌�
 use Rattle.std.specs.declared.cmp.Ordering.{Ordering}
 use Rattle.std.specs.BTreeMap.{insert_entry, is_at}
 use Rattle.std.specs.Map.{lookup, values_of}
-use Rattle.std.proofs.lemmas.Bool.{false≢true}
+use Rattle.std.proofs.lemmas.Bool.{false≢true, not-false}
 use Rattle.std.proofs.lemmas.Option.{none-some, same_Some}
 use Rattle.pg_base.specs.declared.id.FileId.{FileId}
 use Rattle.pg_base.specs.Id.{file_cmp, is_same_file}
@@ -18,7 +18,7 @@ use Rattle.pg_names.proofs.Alike.{entry-true}
 use Rattle.pg_house.specs.Passing.{cell_for}
 use Rattle.pg_house.specs.Busy.{Marks, is_apart, is_marked, marked, marked_by, marked_in, marks_of}
 use Rattle.pg_house.proofs.Greatest.{AllAre}
-use Rattle.pg_house.proofs.Truths.{chosen_true, not_back}
+use Rattle.pg_house.proofs.Truths.{chosen_true}
 
 -- one thing more is marked. R is the derived order of ids, which is theirs
 pub one_more : (R : FileId → FileId → Ordering) → R ≡ file_cmp → (s : NamesValue) (m new : Marks) (k : FileId) (c : Entry) (t : Bool) → t ≡ is_apart (own_at s k) k c → t ≡ true → new ≡ insert_entry R m k tt → new ≡ marked s m k c
@@ -68,4 +68,4 @@ module _ (s : NamesValue) (f : FileId) where
   pub all_alike : (own : Own) → own_at s f ≡ Some own → is_marked (marks_of s) f ≡ false → AllAre s f own
   all_alike own held h d c there =
       let alike : is_apart (Some own) f c ≡ false = ap (λ (o : Option Own). is_apart o f c) (sym held) ∙ (unmarked_in [] s.held h).1 d c there in
-      entry-true c (cell_for f own) (not_back (is_same_entry c (cell_for f own)) alike)
+      entry-true c (cell_for f own) (not-false (is_same_entry c (cell_for f own)) alike)

@@ -1,6 +1,6 @@
 -- In the end no live directories stand in a cycle.
 use Rattle.std.proofs.Common.{◌≡◌, ℕ, ◌<◌, Bool, true, false, ◌&&◌, not, List, [], ◌∷◌, length, Option, None, Some, refl, sym, ap, ◌∙◌, subst, arith, inl, inr, ◌⊎◌}
-use Rattle.std.proofs.lemmas.Bool.{false≢true}
+use Rattle.std.proofs.lemmas.Bool.{false≢true, and_parts, not-true, not_from_false, and_from}
 use Rattle.std.proofs.lemmas.Option.{none-some}
 use Rattle.pg_base.specs.declared.id.FileId.{FileId}
 use Rattle.pg_base.specs.Id.{is_same_file}
@@ -18,7 +18,7 @@ use Rattle.pg_house.specs.Placing.{drawn, live_place, place_at, place_of, placed
 use Rattle.pg_house.specs.Returning.{is_dead, is_root}
 use Rattle.pg_house.specs.Cycles.{above, break_first, first_moving, is_inner, is_live_own, moved}
 use Rattle.pg_house.specs.Facts.{IsLast, NoCycle, NoDeadLists}
-use Rattle.pg_house.proofs.Truths.{and_true, bool_cases, chosen_true, not_true, not_false, both_true}
+use Rattle.pg_house.proofs.Truths.{bool_cases, chosen_true}
 use Rattle.pg_house.proofs.Counting.{count, count_length, count_less, until}
 use Rattle.pg_house.proofs.Touches.{IsHeld}
 use Rattle.pg_house.proofs.Placed.{Settled, placed_cells, placed_is_last, placed_own, placed_settled, placed_touches}
@@ -48,23 +48,23 @@ live_held s d (Some c) h g = (c, h)
 
 pub inner_parts : (s : NamesValue) (d : FileId) → is_inner s d ≡ true → IsLive s d
 inner_parts s d h =
-    let a = and_true (is_dir d) _ h in
-    let b = and_true (not (is_root d)) _ a.1 in
-    record { dir = a.0; other = not_true (is_root d) b.0; held = live_held s d (own_at s d) refl b.1 }
+    let a = and_parts (is_dir d) _ h in
+    let b = and_parts (not (is_root d)) _ a.1 in
+    record { dir = a.0; other = not-true (is_root d) b.0; held = live_held s d (own_at s d) refl b.1 }
 
 -- one that stands in a live directory stands not in the root
 deep_stray : (s : NamesValue) (d : FileId) → IsDeep s d → stray s d ≡ true
 deep_stray s d h =
     let up : above s d ≡ (place_at s d).parent = chosen_true (is_inner s d) (place_at s d).parent root h.0 in
     let other = inner_parts s (above s d) h.1 in
-    both_true (is_inner s d) _ h.0 (not_false (is_root (place_at s d).parent) (ap is_root (sym up) ∙ other.other))
+    and_from (is_inner s d) _ h.0 (not_from_false (is_root (place_at s d).parent) (ap is_root (sym up) ∙ other.other))
 
 -- ---- each move leaves fewer of them
 
 in_root : (d : FileId) (o : Option Own) → ((c : Own) → o ≡ Some c → is_root c.place.parent ≡ true) → (t : Bool) → is_stray_own d o ≡ t → t ≡ false
 in_root d o h false e = refl
-in_root d None h true e = absurd (false≢true (and_true (not (is_root d)) _ (and_true (is_dir d) _ (and_true (is_inner_own d None) _ e).0).1).1)
-in_root d (Some c) h true e = absurd (false≢true (sym (not_true (is_root c.place.parent) (and_true (is_inner_own d (Some c)) _ e).1) ∙ h c refl))
+in_root d None h true e = absurd (false≢true (and_parts (not (is_root d)) _ (and_parts (is_dir d) _ (and_parts (is_inner_own d None) _ e).0).1).1)
+in_root d (Some c) h true e = absurd (false≢true (sym (not-true (is_root c.place.parent) (and_parts (is_inner_own d (Some c)) _ e).1) ∙ h c refl))
 
 module _ (moment : ℕ) (ds : List FileId) where
   abbrev pub KeepsAll : State → Type 0
@@ -106,7 +106,7 @@ module _ (moment : ℕ) (ds : List FileId) where
     lists_by : (q : FileId) (own : Own) → own_at st.names q ≡ Some own → is_dir q ≡ true → is_dead q own.place ≡ true → (child : FileId) (c : Entry) → cell_at Next.names q child ≡ Some c → (is_same_file d child ≡ true) ⊎ (is_same_file d child ≡ false) → is_listed q c ≡ false
     lists_by q own h dir gone child c g (inl same) =
         in_dead q c (placed_cells moment ds st d root (tilde_name d) k.0 k.1 live.held q c (ap (cell_at Next.names q) (is_same_file-true d child same) ∙ g))
-        (not_true (is_root q) (and_true (not (is_root q)) _ gone).0)
+        (not-true (is_root q) (and_parts (not (is_root q)) _ gone).0)
     lists_by q own h dir gone child c g (inr apart) = k.2 q own h dir gone child c (sym ((placed_touches moment ds st d root (tilde_name d) k.0.dirs).cells q child apart) ∙ g)
 
     no_lists_by : (q : FileId) (own : Own) → own_at Next.names q ≡ Some own → is_dir q ≡ true → is_dead q own.place ≡ true → (child : FileId) (c : Entry) → cell_at Next.names q child ≡ Some c → (is_same_file d q ≡ true) ⊎ (is_same_file d q ≡ false) → is_listed q c ≡ false

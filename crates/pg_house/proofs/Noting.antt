@@ -1,6 +1,7 @@
 -- What is noted as a thing takes another place.
 use Rattle.std.proofs.Common.{◌≡◌, Bool, true, false, ◌&&◌, not, if◌then◌else◌, List, [], ◌∷◌, ◌++◌, Some, refl, sym, ap, ◌∙◌, subst, inl, inr, ◌⊎◌}
 use Rattle.std.proofs.lemmas.Option.{same_Some}
+use Rattle.std.proofs.lemmas.Bool.{and_parts, and_from, not_from_false, not-true}
 use Rattle.pg_base.specs.declared.id.FileId.{FileId}
 use Rattle.pg_base.specs.Id.{is_same_file}
 use Rattle.pg_base.proofs.Orders.{is_same_file-true}
@@ -21,7 +22,7 @@ use Rattle.pg_names.proofs.Lookups.{own_other, own_same}
 use Rattle.pg_house.specs.Work.{State, is_root, note_left, place_touched, touched}
 use Rattle.pg_house.specs.Passing.{flags_touched, is_other_flag, taking, took}
 use Rattle.pg_house.specs.Facts.{IsHeld, IsIn, IsKeptOrLeft, IsLeft, IsOneOf, IsTouched}
-use Rattle.pg_house.proofs.Truths.{and_true, bool_cases, both_true, chosen, chosen_true, not_false, not_true}
+use Rattle.pg_house.proofs.Truths.{bool_cases, chosen, chosen_true}
 use Rattle.pg_house.proofs.Telling.{flags_stay, in_last, left_stays, place_stays}
 
 -- ---- what is among others
@@ -60,7 +61,7 @@ module _ (work : Work) (f : FileId) (old : Place) where
   -- a live place is noted
   pub noted_live : is_root f ≡ false → old.live ≡ true → IsLeft (note_left work f old) old.parent f
   noted_live other live =
-      subst (λ (w : Work). IsLeft w old.parent f) (sym (chosen_true Noting (with_left work old.parent f) work (both_true old.live _ live (not_false (is_root f) other))))
+      subst (λ (w : Work). IsLeft w old.parent f) (sym (chosen_true Noting (with_left work old.parent f) work (and_from old.live _ live (not_from_false (is_root f) other))))
       (one_last (slot old.parent f) work.left)
 
   -- and nothing else
@@ -70,10 +71,10 @@ module _ (work : Work) (f : FileId) (old : Place) where
   only_by : (x : Slot) (t : Bool) → Noting ≡ t → IsOneOf x (if t then with_left work old.parent f else work).left → IsOneOf x work.left ⊎ IsThis x
   only_by x false e h = inl h
   only_by x true e h =
-      let both = and_true old.live _ e in
+      let both = and_parts old.live _ e in
       elim (one_back x (slot old.parent f) work.left h) [
         | inl was ↦ inl was
-        | inr same ↦ inr (same, both.0, not_true (is_root f) both.1)
+        | inr same ↦ inr (same, both.0, not-true (is_root f) both.1)
       ]
 
   pub noted_only : (x : Slot) → IsOneOf x (note_left work f old).left → IsOneOf x work.left ⊎ IsThis x

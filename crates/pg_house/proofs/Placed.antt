@@ -2,6 +2,7 @@
 use Rattle.std.proofs.Common.{◌≡◌, ℕ, ◌<◌, ◌≤◌, ◌+◌, ◌^◌, Bool, true, false, ◌&&◌, not, max, min, List, [], ◌∷◌, Option, None, Some, refl, sym, ap, ◌∙◌, subst, arith, inl, inr, ◌⊎◌}
 use Rattle.std.proofs.lemmas.Bool.Decides.{nat_tests}
 use Rattle.std.proofs.lemmas.Option.{same_Some}
+use Rattle.std.proofs.lemmas.Bool.{and_right}
 use Rattle.pg_base.specs.declared.id.FileId.{FileId}
 use Rattle.pg_base.specs.declared.stamp.Stamp.{Stamp}
 use Rattle.pg_base.specs.Id.{is_same_file}
@@ -19,7 +20,7 @@ use Rattle.pg_house.specs.Work.{State}
 use Rattle.pg_house.specs.Passing.{greatest, is_held_back, joined_with, pass_own, passed}
 use Rattle.pg_house.specs.Placing.{drawn, flags_of, live_place, made_at, own_with, placed}
 use Rattle.pg_house.specs.Facts.{IsLast, HasPassed}
-use Rattle.pg_house.proofs.Truths.{and_false, bool_cases, chosen_false}
+use Rattle.pg_house.proofs.Truths.{bool_cases, chosen_false}
 use Rattle.pg_house.proofs.AfterPassing.{AreDirs, after_all, after_own}
 use Rattle.pg_house.proofs.Touches.{IsHeld, Touches, Touches-trans, passed_of}
 use Rattle.pg_house.proofs.Passes.{one_pass}
@@ -39,7 +40,7 @@ up_to a b n h g = omega arith
 
 -- a live place is not held back
 live_passes : (removed : List ℕ) (f : FileId) (own top : Own) → top.place.live ≡ true → is_held_back removed f own top ≡ false
-live_passes removed f own top live = and_false (is_dir f) _ (ap (λ t. not t && (is_before own.place.stamp top.place.stamp && not (is_removed removed top.place.stamp.server))) live)
+live_passes removed f own top live = and_right (is_dir f) _ (ap (λ t. not t && (is_before own.place.stamp top.place.stamp && not (is_removed removed top.place.stamp.server))) live)
 
 -- where every cell is older than this place, it is the greatest
 not_older : (place : Place) (top : Own) (c : Entry) → top.place ≡ place → is_before place.stamp c.place.stamp ≡ false → newer_place top.place c.place ≡ place

@@ -2,7 +2,7 @@
 use Rattle.std.proofs.Common.{◌≡◌, ℕ, Bool, true, false, ◌&&◌, ◌||◌, not, List, length, Option, None, Some, refl, sym, ap, ◌∙◌, subst, inl, inr}
 use Rattle.std.specs.List.{filter}
 use Rattle.std.specs.Map.{keys_of}
-use Rattle.std.proofs.lemmas.Bool.{false≢true}
+use Rattle.std.proofs.lemmas.Bool.{false≢true, not_from_false}
 use Rattle.std.proofs.lemmas.Option.{same_Some}
 use Rattle.pg_base.specs.declared.id.FileId.{FileId}
 use Rattle.pg_base.specs.Id.{is_same_file}
@@ -25,7 +25,7 @@ use Rattle.pg_house.specs.Cycles.{first_moving}
 use Rattle.pg_house.specs.House.{house, house_with, movable}
 use Rattle.pg_house.specs.Facts.{AreOrdered, HasPassed, IsPassed, NoDeadLists, is_among}
 use Rattle.pg_house.specs.Calm.{DiffersByFlags, IsCalm, IsSameOrPlaced, flagged, held_place}
-use Rattle.pg_house.proofs.Truths.{bool_cases, not_false}
+use Rattle.pg_house.proofs.Truths.{bool_cases}
 use Rattle.pg_house.proofs.Flags.{join_again}
 use Rattle.pg_house.proofs.AfterPassing.{AreDirs}
 use Rattle.pg_house.proofs.Touches.{kept_by, passed_of}
@@ -232,7 +232,7 @@ module _ (moment : ℕ) (st : State) (f : FileId) (flag : Flag) (calm : IsCalm s
         only_one Raised End Ds f passes (movable R)
         (λ g among apart. pass_idle Raised Ds g dirs_there (others g among apart))
         (λ g among. pass_idle End Ds g end_dirs (all_passed g among))
-        (among_kept (λ q. not (is_root q)) (keys_of R.held) f (key_of_held R f More (flag_same S f flag own held)) (not_false (is_root f) other))
+        (among_kept (λ q. not (is_root q)) (keys_of R.held) f (key_of_held R f More (flag_same S f flag own held)) (not_from_false (is_root f) other))
 
     of_held : DiffersByFlags f Raised (house moment Raised)
     of_held =

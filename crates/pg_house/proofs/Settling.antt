@@ -4,7 +4,7 @@ use Rattle.std.specs.List.{filter, find}
 use Rattle.std.specs.Map.{lookup, keys_of, values_of}
 use Rattle.std.specs.List.Sorted.{IsStrictlySortedBy}
 use Rattle.std.specs.BTreeMap.{is_at}
-use Rattle.std.proofs.lemmas.Bool.{false≢true}
+use Rattle.std.proofs.lemmas.Bool.{false≢true, not-true, or_left, or_right}
 use Rattle.std.proofs.lemmas.List.{get_or-map}
 use Rattle.std.proofs.lemmas.Map.Entries.{length-values_of}
 use Rattle.std.proofs.lemmas.List.Folds.{list_any_none}
@@ -24,7 +24,7 @@ use Rattle.pg_house.specs.Cycles.{break_first, first_moving}
 use Rattle.pg_house.specs.House.{house, house_with, movable}
 use Rattle.pg_house.specs.Calm.{IsCalm}
 use Rattle.pg_house.specs.Facts.{IsLast, IsOfDirs, AreByServer, NoDeadLists, AreOrdered, HasPassed, is_among}
-use Rattle.pg_house.proofs.Truths.{not_true, or_cases, or_left, or_right}
+use Rattle.pg_house.proofs.Truths.{or_cases}
 use Rattle.pg_house.proofs.Counting.{kept_dir}
 use Rattle.pg_house.proofs.Repeating.{none_moves, none_returns, repeated_still}
 use Rattle.pg_house.proofs.Idle.{AreHeld, pass_idle}
@@ -112,7 +112,7 @@ has_passed s calm g apart own h = (calm.passing g own h apart, calm.own_parent g
 
 -- what may pass is not the root
 pub movable_apart : (s : NamesValue) (g : FileId) → is_among g (movable s) ≡ true → is_root g ≡ false
-movable_apart s g among = not_true (is_root g) (kept_dir (λ f. not (is_root f)) (keys_of s.held) g among)
+movable_apart s g among = not-true (is_root g) (kept_dir (λ f. not (is_root f)) (keys_of s.held) g among)
 
 calm_passed : (s : NamesValue) → IsCalm s → (g : FileId) → is_among g (movable s) ≡ true → HasPassed s (directories s) g
 calm_passed s calm g among = has_passed s calm g (movable_apart s g among)

@@ -1,6 +1,6 @@
 -- What the directories have after the greatest cell of a file was spread to them.
 use Rattle.std.proofs.Common.{◌≡◌, Bool, true, false, ◌&&◌, ◌||◌, List, [], ◌∷◌, Option, None, Some, refl, sym, ap, ◌∙◌, subst, inl, inr, ◌⊎◌}
-use Rattle.std.proofs.lemmas.Bool.{false≢true}
+use Rattle.std.proofs.lemmas.Bool.{false≢true, and_right, and_from, not-false, or_left, or_right}
 use Rattle.std.proofs.lemmas.Option.{same_Some}
 use Rattle.pg_base.specs.declared.id.FileId.{FileId}
 use Rattle.pg_base.specs.Id.{is_same_file}
@@ -13,7 +13,7 @@ use Rattle.pg_names.specs.Same.{is_same_entry}
 use Rattle.pg_names.proofs.Alike.{entry-true}
 use Rattle.pg_house.specs.Work.{State}
 use Rattle.pg_house.specs.Passing.{cell_for, differs, gets, wants, is_cell, is_in, is_update, given, offered, spread}
-use Rattle.pg_house.proofs.Truths.{and_false, both_true, chosen, chosen_false, chosen_true, not_back, or_left, or_right, bool_cases}
+use Rattle.pg_house.proofs.Truths.{chosen, chosen_false, chosen_true, bool_cases}
 use Rattle.pg_house.specs.Facts.{is_among}
 
 -- ---- one directory
@@ -33,13 +33,13 @@ offered_dir st f own top back d q g apart = chosen (λ (s : State). cell_at s.na
 -- a cell that is not another is the greatest
 pub differs_not : (o : Option Entry) (c : Entry) → differs o c ≡ false → o ≡ Some c
 differs_not None c h = absurd (false≢true (sym h))
-differs_not (Some x) c h = ap Some (entry-true x c (not_back (is_same_entry x c) h))
+differs_not (Some x) c h = ap Some (entry-true x c (not-false (is_same_entry x c) h))
 
 gives_by : (st : State) (f : FileId) (own top : Own) (back : Bool) (d : FileId) (b : Own) → own_at st.names d ≡ Some b → wants st.names f own top back d ≡ true → (t : Bool) → differs (cell_at st.names d f) (cell_for f top) ≡ t → cell_at (offered st f own top back d).names d f ≡ Some (cell_for f top)
 gives_by st f own top back d b held w true e =
-    ap (λ (s : State). cell_at s.names d f) (chosen_true (gets st.names f own top back d) (given st f top d) st (both_true (wants st.names f own top back d) _ w e)) ∙ entry_same st.names d b (cell_for f top) held
+    ap (λ (s : State). cell_at s.names d f) (chosen_true (gets st.names f own top back d) (given st f top d) st (and_from (wants st.names f own top back d) _ w e)) ∙ entry_same st.names d b (cell_for f top) held
 gives_by st f own top back d b held w false e =
-    ap (λ (s : State). cell_at s.names d f) (chosen_false (gets st.names f own top back d) (given st f top d) st (and_false (wants st.names f own top back d) _ e)) ∙ differs_not (cell_at st.names d f) (cell_for f top) e
+    ap (λ (s : State). cell_at s.names d f) (chosen_false (gets st.names f own top back d) (given st f top d) st (and_right (wants st.names f own top back d) _ e)) ∙ differs_not (cell_at st.names d f) (cell_for f top) e
 
 offered_gives : (st : State) (f : FileId) (own top : Own) (back : Bool) (d : FileId) (b : Own) → own_at st.names d ≡ Some b → wants st.names f own top back d ≡ true → cell_at (offered st f own top back d).names d f ≡ Some (cell_for f top)
 offered_gives st f own top back d b held w = gives_by st f own top back d b held w (differs (cell_at st.names d f) (cell_for f top)) refl

@@ -1,6 +1,6 @@
 -- Every cell that a rule changes is among the keys touched.
 use Rattle.std.proofs.Common.{◌≡◌, ℕ, Bool, true, false, ◌==◌, ◌&&◌, cond, not, List, [], ◌∷◌, ◌++◌, Option, None, Some, refl, sym, ap, ◌∙◌, subst, inl, inr, ◌⊎◌}
-use Rattle.std.proofs.lemmas.Bool.{false≢true}
+use Rattle.std.proofs.lemmas.Bool.{false≢true, not-false}
 use Rattle.std.proofs.lemmas.Bool.Decides.{Decides-eqb}
 use Rattle.pg_base.specs.declared.id.FileId.{FileId}
 use Rattle.pg_base.specs.Id.{is_same_file}
@@ -22,7 +22,7 @@ use Rattle.pg_house.specs.Work.{State, note_left, place_touched, touched}
 use Rattle.pg_house.specs.Passing.{cell_for, flags_touched, gets, given, greatest, is_held_back, is_other_flag, offered, own_taken, pass, pass_own, pass_all, spread, taking, took}
 use Rattle.pg_house.specs.Returning.{is_root}
 use Rattle.pg_house.specs.Facts.{IsIn, IsTold, IsTouched}
-use Rattle.pg_house.proofs.Truths.{bool_cases, chosen, not_back}
+use Rattle.pg_house.proofs.Truths.{bool_cases, chosen}
 use Rattle.pg_house.proofs.Greatest.{greatest_flag}
 use Rattle.pg_house.proofs.Spreading.{spread_own}
 
@@ -117,7 +117,7 @@ spread_tells st f own top back (d ∷ ds) =
 -- a flag that is not another is the one that is held
 same_flag : (o : Option Flag) (g : Flag) → is_other_flag o g ≡ false → o ≡ Some g
 same_flag None g h = absurd (false≢true (sym h))
-same_flag (Some x) g h = ap Some (flag-true x g (not_back (is_same_flag x g) h))
+same_flag (Some x) g h = ap Some (flag-true x g (not-false (is_same_flag x g) h))
 
 -- of each server these flags have none, or the one that is held, or it is touched
 abbrev FlagTold : Work → FileId → List Flag → List Flag → ℕ → Type 0

@@ -1,7 +1,7 @@
 -- Who is asked by the intentions that begin behind an event.
 use Rattle.std.proofs.Common.{ℕ, ◌≡◌, ◌==◌, Bool, true, false, cond, not, find, is_some, List, [], ◌∷◌, Option, None, Some, All, refl, sym, ap, subst, ◌∙◌}
 use Rattle.std.specs.Option.{option_map, unwrap_or}
-use Rattle.std.proofs.lemmas.Bool.{and_parts}
+use Rattle.std.proofs.lemmas.Bool.{and_parts, not-true}
 use Rattle.std.proofs.lemmas.List.Elements.{All-filter, All-head, All-nil, All-tail}
 use Rattle.std.proofs.lemmas.Option.{none-some, same_Some}
 use Rattle.pg_base.specs.declared.id.FileId.{FileId}
@@ -12,6 +12,7 @@ use Rattle.pg_intent.specs.declared.intent.Intent.TheVariants as intent
 use Rattle.pg_intent.specs.declared.key.IntentKey.TheVariants as intent_key
 use Rattle.pg_intent.specs.Intent.{aimed_at, key_of, rejoined, target_of}
 use Rattle.pg_intent.specs.Intents.{stands}
+use Rattle.pg_intent.proofs.Above.{not_equal}
 use Rattle.pg_msg.specs.declared.work.Slot.{Slot}
 use Rattle.pg_msg.specs.declared.work.Work.{Work}
 use Rattle.pg_msg.specs.Work.{with_begun}
@@ -36,7 +37,7 @@ use Rattle.pg_graph.specs.Seeks.{aim_seek, begin_seek, begin_seeks, edges_of, ha
 use Rattle.pg_promises.proofs.Choices.{chosen}
 use Rattle.pg_order.specs.Named.{IsOfServer}
 use Rattle.pg_order.proofs.Intended.{all_begun, all_changed}
-use Rattle.pg_intends.proofs.Aimed.{first_aims, next_aims, not_equal, not_true}
+use Rattle.pg_intends.proofs.Aimed.{first_aims, next_aims}
 use Rattle.pg_intends.proofs.Far.{Aims, AreAimed, IsLive, aimed_target}
 
 -- ---- who is asked by what begins
@@ -110,7 +111,7 @@ module _ (n s : ℕ) (r : List ℕ) where
       let live = and_parts flag.raised (not (is_removed r flag.server)) parts.0 in
       record {
         other = record { least = here.least; most = here.most; apart = not_equal flag.server s parts.1 };
-        stays = not_true (is_removed r flag.server) live.1;
+        stays = not-true (is_removed r flag.server) live.1;
       }
 
   -- the holder of a child

@@ -1,6 +1,6 @@
 -- A call, and what holds in the midst of an event.
 use Rattle.std.proofs.Common.{ℕ, ◌≡◌, ◌==◌, ◌++◌, not, true, false, [], ◌∷◌, Option, None, Some, Result, Ok, Err, List, refl, subst}
-use Rattle.std.proofs.lemmas.Bool.{and_parts}
+use Rattle.std.proofs.lemmas.Bool.{and_parts, not-true}
 use Rattle.pg_base.specs.declared.id.FileId.{FileId}
 use Rattle.pg_base.specs.declared.id.Kind.{Kind}
 use Rattle.pg_base.specs.declared.id.Kind.TheVariants.{Dir, File}
@@ -30,13 +30,13 @@ use Rattle.pg_store.specs.Store.{is_held}
 use Rattle.pg_cells.specs.Done.{Done, idle}
 use Rattle.pg_cells.specs.Golds.{flags_of, is_gold}
 use Rattle.pg_cells.specs.Making.{lower_flag}
-use Rattle.pg_calls.specs.declared.checks.Move.{Move}
-use Rattle.pg_calls.specs.declared.checks.NewName.{NewName}
-use Rattle.pg_calls.specs.Answer.{Answer, answer, answered, replied, told}
-use Rattle.pg_calls.specs.Asking.{ask_by, ask_first, fetch, fresh_wish, holder, standing}
+use Rattle.pg_checks.specs.declared.checks.Move.{Move}
+use Rattle.pg_checks.specs.declared.checks.NewName.{NewName}
+use Rattle.pg_checks.specs.Answer.{Answer, answer, answered, replied, told}
+use Rattle.pg_checks.specs.Asking.{ask_by, ask_first, fetch, fresh_wish, holder, standing}
 use Rattle.pg_calls.specs.Bodies.{change, change_file, when_fit}
 use Rattle.pg_calls.specs.Calls.{do_call}
-use Rattle.pg_calls.specs.Checks.{dir_at, empty_dir_at, file_at, in_time, move_of, new_name, target_at}
+use Rattle.pg_checks.specs.Checks.{dir_at, empty_dir_at, file_at, in_time, move_of, new_name, target_at}
 use Rattle.pg_calls.specs.Demoting.{demoted_at, is_clean_gold}
 use Rattle.pg_calls.specs.Dropping.{clean_gold, dropped_at, leave_of, leaving}
 use Rattle.pg_calls.specs.Forgetting.{lost_at}
@@ -47,7 +47,6 @@ use Rattle.pg_server.specs.Local.{done_of}
 use Rattle.pg_graph.proofs.LeaveOk.{found_passes}
 use Rattle.pg_promises.specs.Whole.{IsWhole}
 use Rattle.pg_promises.proofs.Choices.{chosen}
-use Rattle.pg_intends.proofs.Aimed.{not_true}
 use Rattle.pg_intends.proofs.Begun.{far_begin}
 use Rattle.pg_intends.proofs.Entered.{far_entered}
 use Rattle.pg_intends.proofs.Far.{Far, IsFarThen, IsLive, beside_itself, far_flagged, far_made, far_on, far_raised, far_then, far_with, far_work}
@@ -151,7 +150,7 @@ module _ (n s : ℕ) (r : List ℕ) where
         let live = and_parts flag.raised (not (is_removed a.names.removed flag.server)) parts.0 in
         let here : IsLive n s r flag.server = record {
           other = clean_other n s a f flag.server flag.birth whole parts.1;
-          stays = subst (λ (l : List ℕ). is_removed l flag.server ≡ false) first.removed (not_true (is_removed a.names.removed flag.server) live.1);
+          stays = subst (λ (l : List ℕ). is_removed l flag.server ≡ false) first.removed (not-true (is_removed a.names.removed flag.server) live.1);
         } in
         far_begins n s r (idle a work) (leave_of f flag) (λ some. here) (λ dir child. refl) first
 

@@ -1,9 +1,7 @@
 -- A view is entered: who is removed is asked no more, and what was for it alone has ended.
-use Rattle.std.proofs.Common.{ℕ, ◌≡◌, ◌==◌, ◌||◌, ◌++◌, Bool, true, false, cond, get_or, List, [], ◌∷◌, map, Option, None, Some, All, refl, sym, ap, subst, ◌∙◌, eq-eqb}
-use Rattle.std.specs.List.{AllByRecursion, IsDistinct}
+use Rattle.std.proofs.Common.{ℕ, ◌≡◌, ◌==◌, ◌++◌, Bool, true, false, cond, get_or, List, [], ◌∷◌, Option, None, Some, refl, sym, ap, subst, ◌∙◌, eq-eqb}
 use Rattle.std.specs.Map.{keys_of}
 use Rattle.std.proofs.lemmas.Bool.{false≢true, ne_eqb}
-use Rattle.std.proofs.lemmas.List.Elements.{All-from_recursion}
 use Rattle.std.proofs.lemmas.Option.{none-some, same_Some}
 use Rattle.pg_base.specs.declared.id.FileId.{FileId}
 use Rattle.pg_edges.specs.declared.edge.Edge.{Edge}
@@ -14,12 +12,13 @@ use Rattle.pg_intent.specs.declared.key.IntentKey.{IntentKey}
 use Rattle.pg_intent.specs.declared.key.IntentKey.TheVariants as intent_key
 use Rattle.pg_intent.specs.Intent.{aimed_at, key_of, target_of}
 use Rattle.pg_intent.specs.Intents.{HaveOwnKeys, has_key, intent_at, keys_to, turned_at, turned_each}
-use Rattle.pg_intent.specs.Key.{is_for_peer, is_same_key}
-use Rattle.pg_intent.proofs.SameKey.{is_same_key-refl, is_same_key-symm, is_same_key-true}
+use Rattle.pg_intent.specs.Key.{is_for_peer}
+use Rattle.pg_intent.proofs.Above.{still_apart}
+use Rattle.pg_intent.proofs.SameKey.{is_same_key-true}
+use Rattle.pg_intent.proofs.Stands.{all_found}
 use Rattle.pg_intent.proofs.Turned.{own-turned, turn_found}
 use Rattle.pg_msg.specs.declared.work.Work.{Work}
 use Rattle.pg_names.specs.Names.{NamesValue, remove_server}
-use Rattle.pg_register.specs.Flag.{is_removed}
 use Rattle.pg_store.specs.declared.store.Store.{Store}
 use Rattle.pg_store.specs.Servers.{next_target}
 use Rattle.pg_store.specs.Views.{cut_each, enter, with_removed}
@@ -35,34 +34,7 @@ use Rattle.pg_intends.proofs.Aimed.{next_aims}
 use Rattle.pg_intends.proofs.Far.{Aims, AreAimed, Far, IsBeside, aimed_told, beside_either, beside_itself, far_work}
 use Rattle.pg_intends.proofs.Goes.{IsPatchSoFar, IsSlot, told_at, told_of}
 
--- ---- each intention is found with its key
-
-tail_found : (i : Intent) (is js : List Intent) → AllByRecursion (λ q. is_same_key (key_of i) q ≡ false) (map key_of js)
-    → AllByRecursion (λ (j : Intent). intent_at is (key_of j) ≡ Some j) js
-    → AllByRecursion (λ (j : Intent). intent_at (i ∷ is) (key_of j) ≡ Some j) js
-tail_found i is [] apart found = tt
-tail_found i is (j ∷ js) apart found =
-    (ap (λ t. cond t (Some i) (intent_at is (key_of j))) (is_same_key-symm (key_of j) (key_of i) ∙ apart.0) ∙ found.0, tail_found i is js apart.1 found.1)
-
-each_found : (is : List Intent) → HaveOwnKeys is → AllByRecursion (λ (i : Intent). intent_at is (key_of i) ≡ Some i) is
-unfolding IsDistinct
-each_found [] own = tt
-each_found (i ∷ is) own =
-    (ap (λ t. cond t (Some i) (intent_at is (key_of i))) (is_same_key-refl (key_of i)), tail_found i is is own.0 (each_found is own.1))
-
-pub all_found : (is : List Intent) → HaveOwnKeys is → All (λ (i : Intent). intent_at is (key_of i) ≡ Some i) is
-all_found is own = All-from_recursion (λ (i : Intent). intent_at is (key_of i) ≡ Some i) is (each_found is own)
-
 -- ---- one server more is removed
-
-still_in : (r : List ℕ) (server t : ℕ) → is_removed r t ≡ false → (server == t) ≡ false → is_removed (r ++ server ∷ []) t ≡ false
-still_in [] server t old new = ap (λ (b : Bool). b || false) new
-still_in (x ∷ r) server t old new = by (x == t) old (λ rest. still_in r server t rest new)
-  where
-    by : (b : Bool) → (b || is_removed r t) ≡ false → (is_removed r t ≡ false → is_removed (r ++ server ∷ []) t ≡ false)
-        → (b || is_removed (r ++ server ∷ []) t) ≡ false
-    by true h more = h
-    by false h more = more h
 
 turned_apart : (t server : ℕ) → (t == server) ≡ false → (server == t) ≡ false
 turned_apart t server other = ne_eqb server t (λ e. absurd (false≢true (sym other ∙ eq-eqb t server (sym e))))
@@ -76,7 +48,7 @@ module _ (n s : ℕ) (r : List ℕ) (server : ℕ) where
   still_aims : (t : ℕ) → (t == server) ≡ false → Aims n s r t → Aims n s Later t
   still_aims t other was some =
       let here = was some in
-      record { other = here.other; stays = still_in r server t here.stays (turned_apart t server other) }
+      record { other = here.other; stays = still_apart r server t here.stays (turned_apart t server other) }
 
   abbrev AimsAt : Intent → Type 0
   AimsAt i = Aims n s Later (target_of i)

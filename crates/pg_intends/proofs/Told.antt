@@ -1,7 +1,7 @@
 -- What is intended, in the words of the laws.
 use Rattle.std.proofs.Common.{ℕ, ◌≡◌, ◌≢◌, ◌⊎◌, ◌↔◌, ◌≤◌, ◌==◌, ◌&&◌, Bool, true, false, cond, not, nat_le, is_some, List, [], ◌∷◌, Option, None, Some, All, inl, inr, refl, sym, ap, subst, ◌∙◌}
 use Rattle.std.specs.List.{IsAmong}
-use Rattle.std.proofs.lemmas.Bool.{and_parts, false≢true, le-leb, ne_eqb}
+use Rattle.std.proofs.lemmas.Bool.{and_parts, false≢true, le-leb, ne_eqb, or_left, or_right}
 use Rattle.std.proofs.lemmas.List.Elements.{All-cons, All-head, All-nil, All-tail}
 use Rattle.std.proofs.lemmas.Option.{none-some, same_Some}
 use Rattle.pg_base.specs.declared.id.FileId.{FileId}
@@ -40,7 +40,7 @@ use Rattle.pg_repair.specs.Needed.{IsToFill as IsNeeded}
 use Rattle.pg_repair.specs.Requests.{bye_message, confirm_message, leave_message}
 use Rattle.pg_repair.proofs.Idle.{nothing_to_do}
 use Rattle.pg_repair.proofs.Leaves.{AllPass, Passes, all_moved}
-use Rattle.pg_repair.proofs.Needs.{first_true, second_true, what_is_needed}
+use Rattle.pg_repair.proofs.Needs.{what_is_needed}
 use Rattle.pg_server.specs.Local.{without_wishes}
 use Rattle.pg_promises.proofs.Together.{held_of_replica, own_of_held}
 use Rattle.pg_run.specs.Intending.{IntendsInOrder, IntentionsAreInOrder, IsPatchOf, IsToFill, LeavesStand}
@@ -249,8 +249,8 @@ module _ (p : Saying) (other : (file : FileId) → p.IsChild file → is_same_fi
   all_ask [] all part = All-nil (HasRequest a)
   all_ask (i ∷ is) all part =
       All-cons (HasRequest a) i is
-      (has_request i (All-head (IsIntended p) i is all) (part (key_of i) (first_true (has_key (key_of i) i) (stands is (key_of i)) (is_same_key-refl (key_of i)))))
-      (all_ask is (All-tail (IsIntended p) i is all) (λ (q : IntentKey) (h : stands is q ≡ true). part q (second_true (has_key q i) (stands is q) h)))
+      (has_request i (All-head (IsIntended p) i is all) (part (key_of i) (or_left (has_key (key_of i) i) (stands is (key_of i)) (is_same_key-refl (key_of i)))))
+      (all_ask is (All-tail (IsIntended p) i is all) (λ (q : IntentKey) (h : stands is q ≡ true). part q (or_right (has_key q i) (stands is q) h)))
 
   pub asked : All (HasRequest a) a.intents
   asked = all_ask a.intents k.sound.named.intents (λ q h. h)

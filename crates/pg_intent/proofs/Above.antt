@@ -1,9 +1,22 @@
 -- The next target: the first of the live other servers above, else the first of all.
-use Rattle.std.proofs.Common.{ℕ, zero, suc, ◌≡◌, ◌∙◌, ◌+◌, ◌-◌, ◌<◌, ◌≤◌, ◌⊎◌, inl, inr, Bool, true, false, not, cond, eqb, Option, None, Some, List, refl, sym, ap, subst, arith, true≢false}
+use Rattle.std.proofs.Common.{ℕ, zero, suc, ◌≡◌, ◌≢◌, ◌∙◌, ◌+◌, ◌-◌, ◌<◌, ◌≤◌, ◌==◌, ◌||◌, ◌++◌, ◌⊎◌, inl, inr, Bool, true, false, not, cond, eqb, Option, None, Some, List, [], ◌∷◌, refl, sym, ap, subst, arith, true≢false}
 use Rattle.std.specs.Option.{option_or, unwrap_or}
-use Rattle.std.proofs.lemmas.Bool.{and_parts, and_from, cases_lt, eq-eqb, ne_eqb, not_from_false}
+use Rattle.std.proofs.lemmas.Bool.{and_parts, and_from, cases_lt, eq-eqb, ne_eqb, not_from_false, not-true}
 use Rattle.pg_register.specs.Flag.{is_removed}
 use Rattle.pg_intent.specs.Target.{IsLiveOther, IsNextTarget, first_above, is_live_other, next_target}
+
+pub not_equal : (a b : ℕ) → not (a == b) ≡ true → a ≡ b → ⊥
+not_equal a b h same = absurd (true≢false (sym (eq-eqb a b same) ∙ not-true (a == b) h))
+
+-- who is not removed, and is not the one that is removed now, is not removed then
+pub still_apart : (removed : List ℕ) (server t : ℕ) → is_removed removed t ≡ false → (server == t) ≡ false → is_removed (removed ++ server ∷ []) t ≡ false
+still_apart [] server t old new = ap (λ (b : Bool). b || false) new
+still_apart (x ∷ removed) server t old new = by (x == t) old (λ rest. still_apart removed server t rest new)
+  where
+    by : (b : Bool) → (b || is_removed removed t) ≡ false → (is_removed removed t ≡ false → is_removed (removed ++ server ∷ []) t ≡ false)
+        → (b || is_removed (removed ++ server ∷ []) t) ≡ false
+    by true h more = h
+    by false h more = more h
 
 some_is : (x y : ℕ) → ◌≡◌ {A = Option ℕ} (Some x) (Some y) → x ≡ y
 some_is x y e = cc
@@ -79,19 +92,31 @@ module _ (n s : ℕ) (removed : List ℕ) where
       and_from (not (eqb u s)) (not (is_removed removed u)) (not_from_false (eqb u s) (ne_eqb u s live.differs))
       (not_from_false (is_removed removed u) live.stays)
 
-  not_true : (b : Bool) → not b ≡ true → b ≡ false
-  not_true true e = sym e
-  not_true false e = refl
-
   lives : (u : ℕ) → 1 ≤ u → u ≤ n → is_live_other s removed u ≡ true → IsLiveOther n s removed u
   lives u low high h =
       let p = and_parts (not (eqb u s)) (not (is_removed removed u)) h in
       record {
         from = low;
         upto = high;
-        differs = λ same. true≢false (sym (eq-eqb u s same) ∙ not_true (eqb u s) p.0);
-        stays = not_true (is_removed removed u) p.1;
+        differs = not_equal u s p.0;
+        stays = not-true (is_removed removed u) p.1;
       }
+
+  -- the first that passes is live, where the numbers that are tried are of servers
+  pub lives_above : (t k r : ℕ) → (t < r → r ≤ t + k → r ≤ n) → first_above (is_live_other s removed) t k ≡ Some r → IsLiveOther n s removed r
+  lives_above t k r fits h =
+      let first = is_first (is_live_other s removed) t k r h in
+      lives r (omega (arith, first.over)) (fits first.over first.upto) first.passes
+
+  next_by : (t : ℕ) (a b : Option ℕ) → first_above (is_live_other s removed) t (n - t) ≡ a → first_above (is_live_other s removed) 0 n ≡ b
+      → unwrap_or (option_or a b) 0 ≢ 0 → IsLiveOther n s removed (unwrap_or (option_or a b) 0)
+  next_by t (Some r) b e f some = lives_above t (n - t) r (λ low high. omega (arith, low, high)) e
+  next_by t None (Some r) e f some = lives_above 0 n r (λ low high. omega (arith, high)) f
+  next_by t None None e f some = absurd (some refl)
+
+  -- WHO IS ASKED NEXT IS LIVE, where there is one
+  pub next_lives : (t : ℕ) → next_target n s removed t ≢ 0 → IsLiveOther n s removed (next_target n s removed t)
+  next_lives t = next_by t (first_above (is_live_other s removed) t (n - t)) (first_above (is_live_other s removed) 0 n) refl refl
 
   absent : {P : Type 0} (u : ℕ) → IsLiveOther n s removed u → is_live_other s removed u ≡ false → P
   absent u live h = absurd (true≢false (sym (passes u live) ∙ h))

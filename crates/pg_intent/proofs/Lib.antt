@@ -5,5 +5,6 @@ pub mod Found
 pub mod Entries
 pub mod Begun
 pub mod Above
+pub mod Stands
 pub mod Orders
 pub mod Turned

@@ -1,6 +1,6 @@
 -- A cell that comes keeps the rule of the edges: where it is accepted it is taken, and answered.
 use Rattle.std.proofs.Common.{ℕ, ◌≡◌, Bool, true, false, cond, not, Option, None, Some, option_map, refl, sym, ap, subst, ◌∙◌}
-use Rattle.std.proofs.lemmas.Bool.{and_parts, eqb-true}
+use Rattle.std.proofs.lemmas.Bool.{and_parts, eqb-true, not-true}
 use Rattle.pg_base.specs.declared.id.FileId.{FileId}
 use Rattle.pg_base.specs.Version.{VersionValue}
 use Rattle.pg_content.specs.Content.{ContentValue}
@@ -40,7 +40,8 @@ use Rattle.pg_promises.proofs.Taking.{entry_taken, flag_taken, place_taken}
 use Rattle.pg_promises.proofs.Together.{held_of_replica, own_of_held}
 use Rattle.pg_kept.proofs.Contents.{IsComing, content_held, link_content}
 use Rattle.pg_kept.proofs.Handlers.{accept_done}
-use Rattle.pg_kept.proofs.Pieces.{IsDone, IsSame, Stands, entry_cell_done, entry_cell_same, flag_done, flag_same, link_done, link_same, place_done, place_same, sent_done, version_done, version_same}
+use Rattle.pg_kept.proofs.Pieces.{IsDone, Stands, entry_cell_done, flag_done, link_done, place_done, sent_done, version_done}
+use Rattle.pg_run.proofs.Still.{SameMail, entry_cell_still, flag_still, linked_still, place_still, version_still}
 
 -- ---- births
 
@@ -69,10 +70,6 @@ accepts_link a ends work true false there earlier = refl
 accepts_link a ends work true true there earlier = absurd (let z : true ≡ false = earlier in cc)
 accepts_link a ends work false u there earlier = absurd (let z : false ≡ true = there in cc)
 
-not_of : (t : Bool) → not t ≡ true → t ≡ false
-not_of true h = absurd (let z : false ≡ true = h in cc)
-not_of false h = refl
-
 -- ---- a cell is taken by a store that holds the thing
 
 -- what is asked of a cell
@@ -87,7 +84,7 @@ module _ (n s : ℕ) (a : Store) (heard : Hearing) (file : FileId) where
     pub goes : IsDone n s a heard (taken b file c work)
     pub births : HoldsAsBefore b (taken b file c work).store
     pub holds : Holds IsUpTo (cell_at (taken b file c work).store file) c
-    pub same : IsSame work (taken b file c work).work
+    pub same : SameMail work (taken b file c work).work
 
   module _ (b : Store) (work : Work) (u : Stands n s a heard b work) (x : Replica)
       (here : replica_at b file ≡ Some x) where
@@ -101,26 +98,26 @@ module _ (n s : ℕ) (a : Store) (heard : Hearing) (file : FileId) where
       goes = place_done n s a heard b work u file place;
       births = place_as_before b file place;
       holds = (let own = own_of_held b.names file held in (place_taken b file own.0 own.1 place).holds);
-      same = place_same b file place work;
+      same = (place_still b file place work).mail;
     }
     cell_taken (cell.Flag flag) fit version = record {
       goes = flag_done n s a heard b work u file flag;
       births = flag_as_before b file flag;
       holds = (let own = own_of_held b.names file held in (flag_taken b file own.0 own.1 flag).holds);
-      same = flag_same b file flag work;
+      same = (flag_still b file flag work).mail;
     }
     cell_taken (cell.Entry e sure) fit version = record {
       goes = entry_cell_done n s a heard b work u file e sure fit;
       births = entry_as_before b file e;
       holds = (let own = own_of_held b.names file held in
           (entry_taken b file own.0 own.1 e sure u.way.whole.names.children).holds);
-      same = entry_cell_same b file e sure work;
+      same = (entry_cell_still b file e sure work).mail;
     }
     cell_taken (cell.Version v) fit version = record {
       goes = version_done n s a heard b work u file v (version v refl).0;
       births = version_as_before b file v;
       holds = (version v refl).1;
-      same = version_same b file v work;
+      same = (version_still b file v work).mail;
     }
 
 -- ---- a version of the history comes, behind a link
@@ -181,7 +178,7 @@ module _ (over : Overs) (n s : ℕ) (a : Store) (ends : Ends) (tag : ℕ) (c : C
         let mine = replica_with Taken.store ends.file ends.receiver (t.births.births ends.file ∙ linked_birth) in
         let answer = message.Ack (back ends) (cell_key c) tag in
         let from : Taken.work.from ≡ work.from =
-        t.same.from ∙ (link_same a ends.file work.from ends.sender work).from in
+        t.same.from ∙ (linked_still a ends.file work.from ends.sender work).mail.from in
         subst (λ (to : ℕ). Stands n s a Heard Taken.store (with_sent Taken.work (sent_to Taken.store to answer)))
         (sym from)
         (sent_done n s a Heard Taken.store Taken.work t.goes (sent_to Taken.store work.from answer)
@@ -195,7 +192,7 @@ module _ (over : Overs) (n s : ℕ) (a : Store) (ends : Ends) (tag : ℕ) (c : C
       let parts = and_parts (has_birth a ends.file ends.receiver) (not (knows_later a ends.file work.from ends.sender)) current in
       let is : accept a ends manner.Link work ≡ Linked =
       accepts_link a ends work (has_birth a ends.file ends.receiver) (knows_later a ends.file work.from ends.sender)
-      parts.0 (not_of (knows_later a ends.file work.from ends.sender) parts.1) in
+      parts.0 (not-true (knows_later a ends.file work.from ends.sender) parts.1) in
       subst (λ (d : Done). IsDone n s a Heard (taken_along ends tag c d)) (sym is)
       (along u suits fit (birth_by (replica_at a ends.file) ends.receiver parts.0))
 

@@ -2,7 +2,7 @@
 use Rattle.std.proofs.Common.{ℕ, ◌≡◌, ◌&&◌, ◌||◌, Bool, true, false, cond, not, [], ◌⊎◌, inl, inr, Option, None, Some, refl}
 use Rattle.std.specs.Prelude.{nat_lt}
 use Rattle.std.specs.List.Sorted.{IsStrictlySortedBy}
-use Rattle.std.proofs.lemmas.Bool.{and_parts}
+use Rattle.std.proofs.lemmas.Bool.{and_parts, not-true}
 use Rattle.pg_base.specs.declared.id.FileId.{FileId}
 use Rattle.pg_base.specs.declared.stamp.Stamp.{Stamp}
 use Rattle.pg_entries.specs.declared.entry.Entry.{Entry}
@@ -57,10 +57,6 @@ or_cases : (s t : Bool) → s || t ≡ true → (s ≡ true) ⊎ (t ≡ true)
 or_cases true t h = inl refl
 or_cases false t h = inr h
 
-not_of : (t : Bool) → not t ≡ true → t ≡ false
-not_of true h = absurd (let z : false ≡ true = h in cc)
-not_of false h = refl
-
 wish_with : (o : Option Wish) (birth : ℕ) → is_with_birth o birth ≡ true → (wish : Wish) × (o ≡ Some wish)
 wish_with None birth h = absurd (let z : false ≡ true = h in cc)
 wish_with (Some wish) birth h = (wish, refl)
@@ -71,7 +67,7 @@ pub pending_away : (a : Store) (file : FileId) (birth : ℕ)
 pending_away a file birth wished h =
     elim (or_cases (is_with_birth (wish_at a file) birth) (not (is_held a file) && is_fill_at (fill_at a file) birth) h) [
       | inl wish ↦ (let w = wish_with (wish_at a file) birth wish in wished w.0 w.1)
-      | inr fill ↦ not_of (is_held a file) (and_parts (not (is_held a file)) (is_fill_at (fill_at a file) birth) fill).0
+      | inr fill ↦ not-true (is_held a file) (and_parts (not (is_held a file)) (is_fill_at (fill_at a file) birth) fill).0
     ]
 
 -- ---- flags stand by server

@@ -1,8 +1,8 @@
 -- Who asks for leave is linked, a replica goes, and its peers hear of it: it keeps the rule of the edges.
-use Rattle.std.proofs.Common.{ℕ, ◌≡◌, ◌&&◌, Bool, true, not, List, [], ◌∷◌, Some, is_some, refl, ap, ◌∙◌}
+use Rattle.std.proofs.Common.{ℕ, ◌≡◌, ◌&&◌, true, not, List, [], ◌∷◌, Some, is_some, refl, ap}
 use Rattle.pg_base.specs.declared.id.FileId.{FileId}
 use Rattle.pg_base.specs.declared.stamp.Stamp.{Stamp}
-use Rattle.std.proofs.lemmas.Bool.{and_parts}
+use Rattle.std.proofs.lemmas.Bool.{and_parts, and_from}
 use Rattle.pg_edges.specs.declared.edge.Edge.{Edge}
 use Rattle.pg_intent.specs.declared.intent.Intent.{Intent}
 use Rattle.pg_intent.specs.declared.key.IntentKey.TheVariants as intent_key
@@ -11,7 +11,6 @@ use Rattle.pg_intent.specs.Intents.{begun, intent_at, stands}
 use Rattle.pg_msg.specs.declared.message.Ends.{Ends}
 use Rattle.pg_msg.specs.declared.message.Message.TheVariants as message
 use Rattle.pg_msg.specs.declared.work.Work.{Work}
-use Rattle.pg_msg.specs.Work.{with_begun}
 use Rattle.pg_names.specs.Same.{is_same_stamp}
 use Rattle.pg_store.specs.declared.store.Store.{Store}
 use Rattle.pg_store.specs.Beginning.{let_go, with_intents}
@@ -22,7 +21,7 @@ use Rattle.pg_store.specs.Together.{birth_at}
 use Rattle.pg_cells.specs.declared.accepting.Manner.TheVariants as manner
 use Rattle.pg_cells.specs.Accepting.{accept, ends_to, is_accepted, is_current, meets}
 use Rattle.pg_cells.specs.Done.{Done, idle}
-use Rattle.pg_cells.specs.Intending.{begin_intent, with_begun_if}
+use Rattle.pg_cells.specs.Intending.{begin_intent}
 use Rattle.pg_cells.specs.Parting.{stays_for}
 use Rattle.pg_cells.specs.Posting.{reply}
 use Rattle.pg_graph.specs.Leaving.{begin_byes, bye, bye_ok, bye_to, gives_leave, goes, goes_now, goes_or_stays, is_leave_to, leave, leave_given, leave_ok, may_leave, place_stamp, without_leave}
@@ -35,12 +34,10 @@ use Rattle.pg_promises.proofs.WholeBeginning.{IsForDir}
 use Rattle.pg_kept.proofs.Cells.{birth_by}
 use Rattle.pg_kept.proofs.Handlers.{accept_done, ended_done}
 use Rattle.pg_promises.proofs.Intents.{begun_patches, intents_alike}
-use Rattle.pg_kept.proofs.Pieces.{IsDone, IsSame, Stands, beside_done, left_done, on_done, posted, same_done}
+use Rattle.pg_kept.proofs.Pieces.{IsDone, Stands, beside_done, left_done, on_done, posted, same_done}
+use Rattle.pg_run.proofs.Still.{begun_still}
 
 -- ---- what is known where the replica goes
-
-both_true : (s t : Bool) → s ≡ true → t ≡ true → (s && t) ≡ true
-both_true s t a b = ap (λ z. z && t) a ∙ b
 
 -- the replica that the answer names is here
 pub answered_birth : (b : Store) (ends : Ends) (stamp : Stamp) (work : Work) → may_leave b ends stamp work ≡ true
@@ -63,17 +60,12 @@ module _ (n s : ℕ) (a : Store) (heard : Hearing) where
   At b work = Stands n s a heard b work
 
   -- an intention begins
-  begun_same : (t : Bool) (work : Work) (i : Intent) → IsSame work (with_begun_if t work (key_of i))
-  begun_same t work i =
-      chosen (IsSame work) t (with_begun work (key_of i)) work (record { sent = refl; from = refl; tail = refl })
-      (record { sent = refl; from = refl; tail = refl })
-
   pub intent_done : (b : Store) (work : Work) → At b work → (i : Intent) → IsForDir i
       → Is (begin_intent b i work)
   intent_done b work u i one =
       let now = with_intents b (begun b.intents i) in
       same_done n s a heard now work (begin_intent b i work).work
-      (begun_same (not (stands b.intents (key_of i))) work i)
+      (begun_still (not (stands b.intents (key_of i))) work (key_of i)).mail
       (beside_done n s a heard b work u now (intents_alike b (begun b.intents i))
       (begun_patches b i one u.way.whole.patches))
 
@@ -118,7 +110,7 @@ module _ (n s : ℕ) (a : Store) (heard : Hearing) where
       let v = ended_done n s a heard b work u (intent_key.Leave file) in
       decided Is stays (idle free work) (goes free file work) (λ t. v)
       (λ f. goes_done free work v file ends.receiver (answered_birth b ends stamp work may)
-      (counts (both_true (may_leave b ends stamp work) (not stays) may (ap not f)))))
+      (counts (and_from (may_leave b ends stamp work) (not stays) may (ap not f)))))
       (λ no. u)
 
   -- ---- a replica has gone

@@ -1,11 +1,9 @@
 -- What each piece of an event leaves, where all before it kept the rule of the edges.
-use Rattle.std.proofs.Common.{ℕ, ◌≡◌, ◌≤◌, ◌&&◌, Bool, true, false, cond, not, List, [], ◌∷◌, Option, None, Some, refl, sym, subst, ◌∙◌, All}
+use Rattle.std.proofs.Common.{ℕ, ◌≡◌, ◌≤◌, Bool, true, false, cond, List, [], ◌∷◌, Option, None, Some, refl, sym, subst, All}
 use Rattle.std.proofs.lemmas.List.Elements.{All-cons, All-nil, All-push}
 use Rattle.pg_base.specs.declared.id.FileId.{FileId}
 use Rattle.pg_base.specs.declared.policy.Policy.{Policy}
 use Rattle.pg_base.specs.Version.{VersionValue}
-use Rattle.pg_edges.specs.declared.key.Key.{Key}
-use Rattle.pg_edges.specs.declared.key.Key.TheVariants as key
 use Rattle.pg_entries.specs.declared.entry.Entry.{Entry}
 use Rattle.pg_flood.specs.Promises.Saying.{Other}
 use Rattle.pg_flood.proofs.Steps.{AllMay, Steps, Steps-refl}
@@ -14,30 +12,28 @@ use Rattle.pg_msg.specs.declared.message.Message.TheVariants as message
 use Rattle.pg_msg.specs.declared.message.Sent.{Sent}
 use Rattle.pg_msg.specs.declared.update.Update.TheVariants as update
 use Rattle.pg_msg.specs.declared.work.Work.{Work}
-use Rattle.pg_msg.specs.Work.{new_work, with_left, with_linked, with_made, with_sent, with_tail, with_touched, with_unsure}
+use Rattle.pg_msg.specs.Work.{new_work, with_made, with_sent, with_tail}
 use Rattle.pg_names.specs.declared.own.Own.{Own}
-use Rattle.pg_names.specs.Names.{fill, is_dir, is_flag_new, is_place_new, own_at, own_or_blank}
+use Rattle.pg_names.specs.Names.{fill, is_dir, is_flag_new, is_place_new, own_at}
 use Rattle.pg_register.specs.declared.flag.Flag.{Flag}
 use Rattle.pg_register.specs.declared.place.Place.{Place}
 use Rattle.pg_register.specs.Flag.{IsByServer}
-use Rattle.pg_house.specs.Work.{is_root, note_left}
 use Rattle.pg_replica.specs.declared.replica.Replica.{Replica}
 use Rattle.pg_replica.specs.Replicas.{takes_link}
 use Rattle.pg_store.specs.declared.store.Store.{Store}
 use Rattle.pg_store.specs.Beginning.{begin, let_go}
-use Rattle.pg_store.specs.Links.{is_new_link, link, put_link}
-use Rattle.pg_store.specs.Store.{entry_news, is_held, is_new_version, is_newer_flag, is_newer_place, put_flag, put_place, replica_at, take_entry, take_flag, take_place, take_version, with_names}
+use Rattle.pg_store.specs.Links.{link, put_link}
+use Rattle.pg_store.specs.Store.{is_held, put_flag, put_place, replica_at, take_entry, take_flag, take_place, take_version, with_names}
 use Rattle.pg_store.specs.Together.{AreTogether, birth_at}
 use Rattle.pg_cells.specs.Accepting.{link_peer}
 use Rattle.pg_cells.specs.Done.{Done}
 use Rattle.pg_cells.specs.Making.{make_flag, own_next, raise_flag}
 use Rattle.pg_cells.specs.Posting.{post, sent_to}
-use Rattle.pg_cells.specs.Taking.{is_any_news, is_place_news, take_entry_cell, take_entry_noted, take_flag_noted, take_flags_noted, take_place_noted, take_version_noted, with_doubt, with_left_if, with_news}
+use Rattle.pg_cells.specs.Taking.{take_entry_cell, take_entry_noted, take_flag_noted, take_flags_noted, take_place_noted, take_version_noted}
 use Rattle.pg_promises.specs.Laws.{AreAlike, StepsOn}
 use Rattle.pg_promises.specs.Seen.{Hearing, cells_in, saying, says, standing}
 use Rattle.pg_promises.specs.Whole.{IsOther, IsWhole, PatchesAreForDirs}
 use Rattle.pg_promises.proofs.Beginning.{begin_steps, entry_steps}
-use Rattle.pg_promises.proofs.Choices.{chosen}
 use Rattle.pg_promises.proofs.Counting.{steps_on}
 use Rattle.pg_promises.proofs.Events.{IsUnderWay, begun, goes_on, sends_on}
 use Rattle.pg_promises.proofs.Leaving.{go_steps, whole_gone}
@@ -47,6 +43,7 @@ use Rattle.pg_promises.proofs.Taking.{flag_taken, place_taken, took_steps}
 use Rattle.pg_promises.proofs.Together.{held_of_replica}
 use Rattle.pg_promises.proofs.Whole.{whole_alike, whole_entry, whole_flag, whole_link, whole_place, whole_version}
 use Rattle.pg_promises.proofs.WholeBeginning.{whole_begun, whole_filled}
+use Rattle.pg_run.proofs.Still.{SameMail, entry_cell_still, entry_still, flag_still, linked_still, place_still, version_still}
 
 -- ---- steps, whatever is held
 
@@ -84,69 +81,6 @@ pub link_steps : (a : Store) (f : FileId) (peer birth : ℕ) → AreTogether a
     → Steps standing a (link a f peer birth)
 link_steps a f peer birth both = link_by a f peer birth both (replica_at a f) refl
 
--- ---- works of which the same was sent, also last, to the same server
-
-pub record IsSame (v w : Work) : Type 0 where
-  pub sent : w.sent ≡ v.sent
-  pub from : w.from ≡ v.from
-  pub tail : w.tail ≡ v.tail
-
-itself : (w : Work) → IsSame w w
-itself w = record { sent = refl; from = refl; tail = refl }
-
-pub then_same : (u v w : Work) → IsSame u v → IsSame v w → IsSame u w
-then_same u v w one two = record { sent = two.sent ∙ one.sent; from = two.from ∙ one.from; tail = two.tail ∙ one.tail }
-
-news_same : (t : Bool) (w : Work) (f : FileId) (k : Key) → IsSame w (with_news t w f k)
-news_same t w f k =
-    chosen (IsSame w) t (with_touched w f k) w (record { sent = refl; from = refl; tail = refl }) (itself w)
-
-left_same : (w : Work) (f : FileId) (old : Place) → IsSame w (note_left w f old)
-left_same w f old =
-    chosen (IsSame w) (old.live && not (is_root f)) (with_left w old.parent f) w
-    (record { sent = refl; from = refl; tail = refl }) (itself w)
-
-left_if_same : (t : Bool) (w : Work) (f : FileId) (old : Place) → IsSame w (with_left_if t w f old)
-left_if_same t w f old =
-    chosen (IsSame w) t (note_left w f old) w (left_same w f old) (itself w)
-
-doubt_same : (t : Bool) (w : Work) (d c : FileId) → IsSame w (with_doubt t w d c)
-doubt_same t w d c =
-    chosen (IsSame w) t (with_unsure w d c) w (record { sent = refl; from = refl; tail = refl }) (itself w)
-
-pub link_same : (b : Store) (f : FileId) (peer birth : ℕ) (w : Work)
-    → IsSame w (link_peer b f peer birth w).work
-link_same b f peer birth w =
-    chosen (IsSame w) (is_new_link b f peer birth) (with_linked w f peer) w
-    (record { sent = refl; from = refl; tail = refl }) (itself w)
-
-pub place_same : (b : Store) (f : FileId) (place : Place) (w : Work)
-    → IsSame w (take_place_noted b f place w).work
-place_same b f place w =
-    let news = is_newer_place b f place in
-    let old = (own_or_blank b.names f).place in
-    then_same w (with_left_if news w f old) (take_place_noted b f place w).work
-    (left_if_same news w f old) (news_same news (with_left_if news w f old) f key.Place)
-
-pub flag_same : (b : Store) (f : FileId) (flag : Flag) (w : Work)
-    → IsSame w (take_flag_noted b f flag w).work
-flag_same b f flag w = news_same (is_newer_flag b f flag) w f (key.Flag flag.server)
-
-pub entry_same : (b : Store) (d : FileId) (e : Entry) (w : Work)
-    → IsSame w (take_entry_noted b d e w).work
-entry_same b d e w = news_same (is_any_news (entry_news b d e)) w d (key.Entry e.child)
-
-pub entry_cell_same : (b : Store) (d : FileId) (e : Entry) (sure : Bool) (w : Work)
-    → IsSame w (take_entry_cell b d e sure w).work
-entry_cell_same b d e sure w =
-    let noted = (take_entry_noted b d e w).work in
-    then_same w noted (take_entry_cell b d e sure w).work (entry_same b d e w)
-    (doubt_same (is_place_news (entry_news b d e) && not sure) noted d e.child)
-
-pub version_same : (b : Store) (f : FileId) (v : VersionValue) (w : Work)
-    → IsSame w (take_version_noted b f v w).work
-version_same b f v w = news_same (is_new_version b f v) w f (key.Version v.head.stamp)
-
 -- ---- Server s of n came from a, having heard this
 
 -- the flags of a grant are by server, and the origin of a walk is one of n servers
@@ -175,7 +109,7 @@ module _ (n s : ℕ) (a : Store) (heard : Hearing) where
   abbrev pub IsDone : Done → Type 0
   IsDone d = Stands d.store d.work
 
-  pub same_done : (b : Store) (v w : Work) → IsSame v w → Stands b v → Stands b w
+  pub same_done : (b : Store) (v w : Work) → SameMail v w → Stands b v → Stands b w
   same_done b v w same u =
       subst (λ (ms : List Sent). Goes n s a heard b ms w.tail) (sym same.sent)
       (subst (λ (ms : List Sent). Goes n s a heard b v.sent ms) (sym same.tail) u)
@@ -215,7 +149,7 @@ module _ (n s : ℕ) (a : Store) (heard : Hearing) where
     pub place_done : (f : FileId) (place : Place) → IsDone (take_place_noted b f place work)
     place_done f place =
         same_done (take_place b f place) work (take_place_noted b f place work).work
-        (place_same b f place work)
+        (place_still b f place work).mail
         (on_done b work u (take_place b f place) (place_steps b f place)
         (whole_place n s b u.way.whole f place))
 
@@ -223,7 +157,7 @@ module _ (n s : ℕ) (a : Store) (heard : Hearing) where
     pub flag_done : (f : FileId) (flag : Flag) → IsDone (take_flag_noted b f flag work)
     flag_done f flag =
         same_done (take_flag b f flag) work (take_flag_noted b f flag work).work
-        (flag_same b f flag work)
+        (flag_still b f flag work).mail
         (on_done b work u (take_flag b f flag) (flag_steps b f flag)
         (whole_flag n s b u.way.whole f flag))
 
@@ -235,21 +169,21 @@ module _ (n s : ℕ) (a : Store) (heard : Hearing) where
 
     pub entry_done : (d : FileId) (e : Entry) → is_dir d ≡ true → IsDone (take_entry_noted b d e work)
     entry_done d e dir =
-        same_done (take_entry b d e) work (take_entry_noted b d e work).work (entry_same b d e work)
+        same_done (take_entry b d e) work (take_entry_noted b d e work).work (entry_still b d e work).mail
         (entry_stands d e dir)
 
     pub entry_cell_done : (d : FileId) (e : Entry) (sure : Bool) → is_dir d ≡ true
         → IsDone (take_entry_cell b d e sure work)
     entry_cell_done d e sure dir =
         same_done (take_entry b d e) work (take_entry_cell b d e sure work).work
-        (entry_cell_same b d e sure work) (entry_stands d e dir)
+        (entry_cell_still b d e sure work).mail (entry_stands d e dir)
 
     -- A VERSION, where it goes by steps
     pub version_done : (f : FileId) (v : VersionValue) → StepsOn b (take_version b f v)
         → IsDone (take_version_noted b f v work)
     version_done f v steps =
         same_done (take_version b f v) work (take_version_noted b f v work).work
-        (version_same b f v work)
+        (version_still b f v work).mail
         (over_done b work u (take_version b f v) (steps heard.over) (whole_version n s b u.way.whole f v))
 
     -- A LINK
@@ -257,7 +191,7 @@ module _ (n s : ℕ) (a : Store) (heard : Hearing) where
         → IsDone (link_peer b f peer birth work)
     link_done f peer birth other =
         same_done (link b f peer birth) work (link_peer b f peer birth work).work
-        (link_same b f peer birth work)
+        (linked_still b f peer birth work).mail
         (on_done b work u (link b f peer birth)
         (link_steps b f peer birth u.way.whole.together) (whole_link n s b u.way.whole f peer birth other))
 

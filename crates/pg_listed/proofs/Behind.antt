@@ -2,6 +2,7 @@
 use Rattle.std.proofs.Common.{ℕ, ◌≡◌, not, true, drop, length, List, [], ◌∷◌, Option, None, Some, refl, sym, ap, subst, ◌∙◌, inl, inr, ◌⊎◌}
 use Rattle.std.specs.Option.{option_map}
 use Rattle.std.proofs.lemmas.Option.{none-some}
+use Rattle.std.proofs.lemmas.Bool.{and_from, not_from_false}
 use Rattle.pg_base.specs.declared.id.FileId.{FileId}
 use Rattle.pg_base.specs.Id.{is_same_file}
 use Rattle.pg_base.specs.Stamp.{is_before}
@@ -14,7 +15,6 @@ use Rattle.pg_house.specs.House.{house}
 use Rattle.pg_house.specs.Work.{State, state_of}
 use Rattle.pg_house.proofs.Keys.{rules_by}
 use Rattle.pg_house.proofs.Replaced.{noted}
-use Rattle.pg_house.proofs.Truths.{both_true, not_false}
 use Rattle.pg_intent.specs.declared.intent.Intent.TheVariants as intent
 use Rattle.pg_intent.specs.declared.key.IntentKey.TheVariants as intent_key
 use Rattle.pg_intent.specs.Intents.{intent_at, stands}
@@ -208,7 +208,7 @@ module _ (a : Store) (heard : Letter) (d : Done) (k : IsFirst a heard d) (sound 
       let live : x.0.place.live ≡ true = ap (λ (p : Place). p.live) x.2 ∙ l.is_in.live.0 in
       let parent : is_same_file x.0.place.parent dir ≡ true = ap (λ (p : Place). is_same_file p.parent dir) x.2 ∙ ap (λ (f : FileId). is_same_file f dir) l.is_in.parent ∙ is_same_file-refl dir in
       ap (is_doubtful_cell S.store.names dir c) x.1
-      ∙ both_true (is_listed dir x.0) (not (is_held S.store c)) (both_true x.0.place.live (is_same_file x.0.place.parent dir) live parent) (not_false (is_held S.store c) away)
+      ∙ and_from (is_listed dir x.0) (not (is_held S.store c)) (and_from x.0.place.live (is_same_file x.0.place.parent dir) live parent) (not_from_false (is_held S.store c) away)
 
   confirms : (dir c : FileId) (q : Place) → of_stores.Confirms k.mid dir c → Lists of_stores B dir c q → of_stores.own B c ≡ None → of_stores.Confirms B dir c
   confirms dir c q owes l none =

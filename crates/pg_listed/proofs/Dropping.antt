@@ -2,7 +2,7 @@
 use Rattle.std.proofs.Common.{ℕ, ◌≡◌, ◌≢◌, ◌≤◌, ◌&&◌, Bool, not, true, false, length, List, Option, None, Some, is_some, refl, sym, ap, subst, ◌∙◌, inl, inr, ◌⊎◌, arith}
 use Rattle.std.specs.Option.{option_map}
 use Rattle.std.specs.Prelude.{Contains, nat_le}
-use Rattle.std.proofs.lemmas.Bool.{false≢true}
+use Rattle.std.proofs.lemmas.Bool.{false≢true, and_from}
 use Rattle.std.proofs.lemmas.Bool.Decides.{nat_tests}
 use Rattle.std.proofs.lemmas.List.{take_all}
 use Rattle.std.proofs.lemmas.Option.{none-some, same_Some}
@@ -15,7 +15,6 @@ use Rattle.pg_entries.specs.declared.cell.Cell.TheVariants as cells
 use Rattle.pg_entries.specs.declared.entry.Entry.{Entry}
 use Rattle.pg_event.specs.declared.event.Event.{Event}
 use Rattle.pg_house.proofs.Going.{HaveChildren}
-use Rattle.pg_house.proofs.Truths.{both_true}
 use Rattle.pg_listing.specs.Rule.{IsSafeDrop, IsToldAt}
 use Rattle.pg_listing.specs.World as listing
 use Rattle.pg_listing.specs.World.Saying.{LeaveOk, Other}
@@ -172,7 +171,7 @@ module _ (n : ℕ) (k : ListingsStandOn n) (children : (events : List Event) (s 
         let all : length Gone ≤ packet.view = subst (λ (v : ℕ). length Gone ≤ v) (sym (heard_view A packet heard)) up in
         let gone : is_removed Gone packet.from ≡ false =
         sym (ap (λ (rs : List ℕ). is_removed rs packet.from) (take_all packet.view Gone all)) ∙ by in
-        both_true (is_server n packet.from) (not (is_removed Gone packet.from)) (is_there n packet.from low high) (ap not gone)
+        and_from (is_server n packet.from) (not (is_removed Gone packet.from)) (is_there n packet.from low high) (ap not gone)
 
     letter_safe : (f : FileId) (packet : Packet) (store : Store) → asked ≡ input.Arrival packet → is_held A f ≡ true → is_held B f ≡ false
         → IsSafeDrop of_stores Seen s A (letter store (record { to = s; packet = packet })) f

@@ -38,9 +38,8 @@ use Rattle.pg_listed.proofs.Alike.{alike_by}
 use Rattle.pg_listed.proofs.Calling.{call_first}
 use Rattle.pg_listed.proofs.Heard.{IsBehind, IsFirst, alike_is}
 use Rattle.pg_listed.proofs.Births.{AreBirthsOf, event_goes_on}
-use Rattle.pg_listed.proofs.CallOthers.{call_others}
-use Rattle.pg_listed.proofs.Others.{tick_last}
-use Rattle.pg_listed.proofs.Plain.{IsOther, IsSentStamped, none}
+use Rattle.pg_run.proofs.SendsCalls.{call_fine}
+use Rattle.pg_listed.proofs.Plain.{IsOther, IsSentStamped, none, other, tick_last}
 use Rattle.pg_listed.proofs.Receiving.{IsOne, receive_first}
 use Rattle.pg_listed.proofs.Saying.{receive_says}
 use Rattle.pg_listed.proofs.Sends.{AllMay, MaySent, all_may, begun_may, cells_may, others_may}
@@ -144,7 +143,7 @@ module _ (last : ℕ) (sent : List Letter) (s : ℕ) (a : Store) (behind : IsBeh
 
     call_by : (r : Option Reply) (t : Bool) → is_in_time a ≡ t → IsGood Called (cond t (closed r Called) (finished r Called)) → Stepped Asked (cond t (closed r Called) (finished r Called))
     call_by r true time good =
-        done_step Asked (quiet a) (inl refl) r Called (call_first a behind order fresh (quiet a) refl moment x) (others_say a Called.store Called.work (call_others a moment x)) good
+        done_step Asked (quiet a) (inl refl) r Called (call_first a behind order fresh (quiet a) refl moment x) (others_say a Called.store Called.work (let k = call_fine IsOther other a moment x in (k.0, k.1))) good
     call_by r false time good = late_step r time good
 
   -- ---- a tick

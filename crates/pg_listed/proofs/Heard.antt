@@ -1,6 +1,6 @@
 -- The first part of a step, where a message comes.
 use Rattle.std.proofs.Common.{ℕ, ◌≡◌, ◌&&◌, ◌||◌, not, Bool, true, false, cond, length, List, Option, None, Some, is_some, refl, sym, ap, subst, ◌∙◌, inl, inr, ◌⊎◌}
-use Rattle.std.proofs.lemmas.Bool.{and_parts, false≢true}
+use Rattle.std.proofs.lemmas.Bool.{and_parts, false≢true, and_from, not-true}
 use Rattle.std.proofs.lemmas.Option.{none-some, same_Some}
 use Rattle.pg_base.specs.declared.id.FileId.{FileId}
 use Rattle.pg_base.specs.Id.{is_same_file}
@@ -13,7 +13,7 @@ use Rattle.pg_entries.specs.Entry.{is_listed}
 use Rattle.pg_house.specs.Facts.{IsOneOf}
 use Rattle.pg_house.specs.Holding.{waits}
 use Rattle.pg_house.proofs.Noting.{one_last}
-use Rattle.pg_house.proofs.Truths.{both_true, not_true, or_cases}
+use Rattle.pg_house.proofs.Truths.{or_cases}
 use Rattle.pg_intent.specs.declared.intent.Intent.{Intent}
 use Rattle.pg_intent.specs.declared.intent.Intent.TheVariants as intent
 use Rattle.pg_intent.specs.declared.key.IntentKey.{IntentKey}
@@ -102,7 +102,7 @@ waits_later removed c x y r h low =
     let p = and_parts (names.is_dir c) (not r.live && (is_before x.stamp r.stamp && not (is_removed removed r.stamp.server))) h in
     let q = and_parts (not r.live) (is_before x.stamp r.stamp && not (is_removed removed r.stamp.server)) p.1 in
     let s = and_parts (is_before x.stamp r.stamp) (not (is_removed removed r.stamp.server)) q.1 in
-    both_true (names.is_dir c) _ p.0 (both_true (not r.live) _ q.0 (both_true (is_before y.stamp r.stamp) _ low s.1))
+    and_from (names.is_dir c) _ p.0 (and_from (not r.live) _ q.0 (and_from (is_before y.stamp r.stamp) _ low s.1))
 
 module _ (a : Store) (behind : IsBehind a) (heard : Letter) (view : heard.view ≡ view_of a) where
   -- cells are as they were, and an own place is no earlier
@@ -304,8 +304,8 @@ module _ (a : Store) (behind : IsBehind a) (heard : Letter) (view : heard.view �
       stamp_by x h in_ = elim (or_cases (is_same_stamp x.place.stamp e.place.stamp) (not (is_listed dir x)) h) [
         | inl same ↦ same_stamp x.place.stamp e.place.stamp same
         | inr unlisted ↦
-            let lists : is_listed dir x ≡ true = both_true x.place.live (is_same_file x.place.parent dir) in_.live.0 (ap (λ (f : FileId). is_same_file f dir) in_.parent ∙ is_same_file-refl dir) in
-            absurd (false≢true (sym (not_true (is_listed dir x) unlisted) ∙ lists))
+            let lists : is_listed dir x ≡ true = and_from x.place.live (is_same_file x.place.parent dir) in_.live.0 (ap (λ (f : FileId). is_same_file f dir) in_.parent ∙ is_same_file-refl dir) in
+            absurd (false≢true (sym (not-true (is_listed dir x) unlisted) ∙ lists))
       ]
 
       confirmed_at : (o : Option Entry) → cell_at Took.names dir e.child ≡ o → is_confirmed_by dir e.place.stamp o ≡ true → (q : Place) → cell_place o ≡ Some q → IsIn of_places dir e.child q

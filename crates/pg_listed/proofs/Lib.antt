@@ -17,8 +17,6 @@ pub mod Slots
 pub mod Settling
 pub mod Behind
 pub mod Plain
-pub mod Others
-pub mod CallOthers
 pub mod Sends
 pub mod Steps
 pub mod Saying

@@ -4,6 +4,7 @@ use Rattle.std.specs.Prelude.{Contains}
 use Rattle.std.proofs.lemmas.List.{length-append}
 use Rattle.std.proofs.lemmas.List.Elements.{All-contains_itself, All-nil, All-weaker}
 use Rattle.std.proofs.lemmas.Option.{none-some}
+use Rattle.std.proofs.lemmas.Bool.{and_from}
 use Rattle.pg_base.specs.declared.id.FileId.{FileId}
 use Rattle.pg_base.specs.Id.{is_same_file}
 use Rattle.pg_base.specs.Stamp.{is_before}
@@ -18,7 +19,6 @@ use Rattle.pg_house.specs.Holding.{waits}
 use Rattle.pg_house.specs.Passing.{greatest}
 use Rattle.pg_house.specs.Facts.{IsPassed}
 use Rattle.pg_house.proofs.Going.{HaveChildren}
-use Rattle.pg_house.proofs.Truths.{both_true}
 use Rattle.pg_listing.specs.Promises.{Kept}
 use Rattle.pg_listing.specs.World.{stepped}
 use Rattle.pg_listing.specs.Runs.{IsStep, removed}
@@ -159,7 +159,7 @@ module _ (n : ℕ) (k : ListingsStandOn n) where
       acts = acts_is n Ran event Taken takes
 
       there : is_live n Ran s ≡ true
-      there = both_true (is_server n s) (not (is_removed (removals Ran.journal) s)) (is_there n s least most) (ap not acts.live)
+      there = and_from (is_server n s) (not (is_removed (removals Ran.journal) s)) (is_there n s least most) (ap not acts.live)
 
       -- it removes none
       same_removals : removals Next.journal ≡ removals Ran.journal

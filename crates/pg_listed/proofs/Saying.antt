@@ -40,9 +40,9 @@ use Rattle.pg_listed.specs.Letters.{Letter, of_stores, place_of, says}
 use Rattle.pg_listed.proofs.Heard.{IsBehind, none_later}
 use Rattle.pg_listed.proofs.Joined.{told_then}
 use Rattle.pg_listed.proofs.Alike.{Alike}
-use Rattle.pg_listed.proofs.Others.{accept_others, cell_others, entry_others, fetch_others, full_others, grant_others, invite_others, place_is_others, seek_others, told_others, walk_others}
+use Rattle.pg_run.proofs.Sends.{AnswersHave, Fine, accept_fine, entry_fine, received_fine, told_fine}
 use Rattle.pg_listed.proofs.Placed.{cell_then, grows_then, removed_then}
-use Rattle.pg_listed.proofs.Plain.{IsStamped, SendsOthers, bye_others, leave_ok_others, none}
+use Rattle.pg_listed.proofs.Plain.{IsOther, IsStamped, SendsOthers, other}
 use Rattle.pg_listed.proofs.Steps.{IsToldWell, MaySay, Says, WorkSays, others_say}
 use Rattle.pg_listed.proofs.Unseen.{accept_alike, accept_server, flags_alike}
 use Rattle.pg_listed.proofs.Views.{held_holds}
@@ -56,6 +56,15 @@ one_more z a m work to x others h =
 module _ (a : Store) (behind : IsBehind a) (heard : Letter) (view : heard.view ≡ view_of a) (from : ℕ) where
   abbrev W : Work
   W = new_work 0 from
+
+  abbrev IsFine : Work → Type 0
+  IsFine work = Fine IsOther other from work
+
+  start : IsFine W
+  start = (All-nil IsOther, All-nil IsOther, refl)
+
+  others : (work : Work) → IsFine work → SendsOthers work
+  others work k = (k.0, k.1)
 
   -- ---- what a child has
 
@@ -103,19 +112,19 @@ module _ (a : Store) (behind : IsBehind a) (heard : Letter) (view : heard.view �
 
     confirm_held : WorkSays a (place_told dir e.child End).store (place_told dir e.child End).work
     confirm_held =
-        one_more a End.store End.store End.work End.work.from (message.PlaceIs dir (own_entry End.store e.child)) (told_others a e W none) (child_says, tt)
+        one_more a End.store End.store End.work End.work.from (message.PlaceIs dir (own_entry End.store e.child)) (others End.work (told_fine IsOther other from a e W start)) (child_says, tt)
 
   confirm_says : (dir : FileId) (e : Entry) → WorkSays a (confirm a dir e W).store (confirm a dir e W).work
   confirm_says dir e =
       decided (λ (d : Done). WorkSays a d.store d.work) (is_held a e.child) (place_told dir e.child (take_told_flags e (take_told_place a e W))) _
-      (confirm_held dir e) (λ away. one_more a a a W from _ none (tt, tt))
+      (confirm_held dir e) (λ away. one_more a a a W from _ (others W start) (tt, tt))
 
   tell_says : (dir : FileId) (e : Entry) → WorkSays a (tell a dir e W).store (tell a dir e W).work
   tell_says dir e =
       let took = take_entry_noted a dir e W in
       decided (λ (d : Done). WorkSays a d.store d.work) (is_held a dir) (told dir e took) _
-      (λ held. one_more a took.store took.store took.work took.work.from (message.TellOk dir e.child e.place.stamp) (entry_others a dir e W none) (told_then a dir e held, tt))
-      (λ away. one_more a a a W from _ none (tt, tt))
+      (λ held. one_more a took.store took.store took.work took.work.from (message.TellOk dir e.child e.place.stamp) (others took.work (entry_fine IsOther other from a dir e W start)) (told_then a dir e held, tt))
+      (λ away. one_more a a a W from _ (others W start) (tt, tt))
 
   -- ---- leave is given
 
@@ -157,41 +166,26 @@ module _ (a : Store) (behind : IsBehind a) (heard : Letter) (view : heard.view �
     given_says : WorkSays a Met.store (reply Met.store (message.LeaveOk (ends_to Met.store F ends.sender) stamp) Met.work)
     given_says =
         one_more a Met.store Met.store Met.work Met.work.from (message.LeaveOk (ends_to Met.store F ends.sender) stamp)
-        (accept_others a ends manner.Link W none) ((refl, told_well), (accept_server a ends manner.Link W, (own.0, own.1, own.2.1)))
+        (others Met.work (accept_fine IsOther other from a ends manner.Link W start)) ((refl, told_well), (accept_server a ends manner.Link W, (own.0, own.1, own.2.1)))
 
   leave_says : (ends : Ends) (stamp : Stamp) → WorkSays a (leave a ends stamp W).store (leave a ends stamp W).work
   leave_says ends stamp =
       let m = accept a ends manner.Link W in
-      let plain = others_say a m.store m.work (accept_others a ends manner.Link W none) in
+      let plain = others_say a m.store m.work (others m.work (accept_fine IsOther other from a ends manner.Link W start)) in
       let given = reply m.store (message.LeaveOk (ends_to m.store ends.file ends.sender) stamp) m.work in
       chosen (λ (d : Done). WorkSays a d.store d.work) (is_accepted a from manner.Link ends) (leave_given ends stamp m) m
       (decided (λ (w : Work). WorkSays a m.store w) (gives_leave m.store ends.file stamp) given m.work (given_says ends stamp) (λ no. plain)) plain
 
+  -- of other messages no answer tells of a place
+  plainly : (m : Message) → AnswersHave IsOther other from a from m → WorkSays a (receive a m W).store (receive a m W).work
+  plainly m has =
+      let d = receive a m W in others_say a d.store d.work (others d.work (received_fine IsOther other from a m W has start))
+
   -- A MESSAGE
   pub receive_says : (m : Message) → WorkSays a (receive a m W).store (receive a m W).work
-  receive_says (message.Cell ends tag c) = (let d = receive a (message.Cell ends tag c) W in others_say a d.store d.work (cell_others a ends tag c W none))
-  receive_says (message.Ack ends key tag) = (let d = receive a (message.Ack ends key tag) W in others_say a d.store d.work none)
-  receive_says (message.Harbinger ends tag head) = (let d = receive a (message.Harbinger ends tag head) W in others_say a d.store d.work none)
-  receive_says (message.Want ends wanted) = (let d = receive a (message.Want ends wanted) W in others_say a d.store d.work none)
-  receive_says (message.Delta ends delta) = (let d = receive a (message.Delta ends delta) W in others_say a d.store d.work none)
-  receive_says (message.Piece ends piece) = (let d = receive a (message.Piece ends piece) W in others_say a d.store d.work none)
-  receive_says (message.Later ends stamp) = (let d = receive a (message.Later ends stamp) W in others_say a d.store d.work none)
-  receive_says (message.Fetch file birth) = (let d = receive a (message.Fetch file birth) W in others_say a d.store d.work (fetch_others a file birth W none))
-  receive_says (message.Grant ends granted) = (let d = receive a (message.Grant ends granted) W in others_say a d.store d.work (grant_others a ends granted W none))
-  receive_says (message.NoGrant file birth) = (let d = receive a (message.NoGrant file birth) W in others_say a d.store d.work none)
-  receive_says (message.Full ends) = (let d = receive a (message.Full ends) W in others_say a d.store d.work (full_others a ends W none))
-  receive_says (message.Seek file birth) = (let d = receive a (message.Seek file birth) W in others_say a d.store d.work (seek_others a file birth W none))
-  receive_says (message.Here ends) = (let d = receive a (message.Here ends) W in others_say a d.store d.work (accept_others a ends manner.Link W none))
-  receive_says (message.NoneHere what file child) = (let d = receive a (message.NoneHere what file child) W in others_say a d.store d.work none)
-  receive_says (message.Gone file birth) = (let d = receive a (message.Gone file birth) W in others_say a d.store d.work none)
-  receive_says (message.Bye ends) = (let d = receive a (message.Bye ends) W in others_say a d.store d.work (bye_others a ends W none))
-  receive_says (message.ByeOk file birth) = (let d = receive a (message.ByeOk file birth) W in others_say a d.store d.work none)
   receive_says (message.Confirm dir e) = confirm_says dir e
-  receive_says (message.PlaceIs dir e) = (let d = receive a (message.PlaceIs dir e) W in others_say a d.store d.work (place_is_others a dir e W none))
   receive_says (message.Tell dir e) = tell_says dir e
-  receive_says (message.TellOk dir child stamp) = (let d = receive a (message.TellOk dir child stamp) W in others_say a d.store d.work none)
   receive_says (message.Leave ends stamp) = leave_says ends stamp
-  receive_says (message.LeaveOk ends stamp) = (let d = receive a (message.LeaveOk ends stamp) W in others_say a d.store d.work (leave_ok_others a ends stamp W none))
-  receive_says (message.Invite ends) = (let d = receive a (message.Invite ends) W in others_say a d.store d.work (invite_others a ends W none))
-  receive_says (message.Walk ends origin birth hops word) = (let d = receive a (message.Walk ends origin birth hops word) W in others_say a d.store d.work (walk_others a ends origin birth hops word W none))
-  receive_says (message.Meet ends) = (let d = receive a (message.Meet ends) W in others_say a d.store d.work (accept_others a ends manner.Link W none))
+  receive_says (message.Cell ends tag c) = plainly (message.Cell ends tag c) (λ fit met b same z sender. (refl, tt))
+  receive_says (message.Bye ends) = plainly (message.Bye ends) (λ z sender. (refl, tt))
+  receive_says m = plainly m tt

@@ -1,7 +1,7 @@
 -- What a server sends at the end of an event, and at a tick, it may send: present cells, and the messages
 -- of its intentions.
-use Rattle.std.proofs.Common.{ℕ, ◌≡◌, ◌==◌, not, Bool, true, false, cond, List, [], ◌∷◌, filter, get_or, map, Option, None, Some, is_some, refl, sym, ap, subst, ◌∙◌, All}
-use Rattle.std.specs.List.{AllByRecursion, IsDistinct, flat_map}
+use Rattle.std.proofs.Common.{ℕ, ◌≡◌, ◌==◌, not, Bool, true, false, List, [], ◌∷◌, filter, get_or, Option, None, Some, is_some, refl, sym, ap, subst, ◌∙◌, All}
+use Rattle.std.specs.List.{AllByRecursion, flat_map}
 use Rattle.std.proofs.lemmas.Bool.{false≢true}
 use Rattle.std.proofs.lemmas.List.Elements.{All-append, All-cons, All-nil, All-weaker}
 use Rattle.std.proofs.lemmas.Option.{none-some, same_Some}
@@ -20,9 +20,9 @@ use Rattle.pg_intent.specs.declared.key.IntentKey.{IntentKey}
 use Rattle.pg_intent.specs.declared.key.IntentKey.TheVariants as intent_key
 use Rattle.pg_intent.specs.Intent.{key_of, target_of}
 use Rattle.pg_intent.specs.Intents.{HaveOwnKeys, intent_at}
-use Rattle.pg_intent.specs.Key.{is_same_key}
 use Rattle.pg_intent.proofs.Found.{stands_is}
-use Rattle.pg_intent.proofs.SameKey.{is_same_key-refl, is_same_key-symm, is_same_key-true}
+use Rattle.pg_intent.proofs.SameKey.{is_same_key-true}
+use Rattle.pg_intent.proofs.Stands.{each_found}
 use Rattle.pg_listing.specs.Rule.{MaySend}
 use Rattle.pg_msg.specs.declared.message.Message.{Message}
 use Rattle.pg_msg.specs.declared.message.Message.TheVariants as message
@@ -155,33 +155,10 @@ module _ (a b : Store) where
   begun_may [] = none
   begun_may (k ∷ ks) = All-append MaySent (asks_by b k) (flat_map (asks_by b) ks) (by_may k (intent_at b.intents k) refl) (begun_may ks)
 
--- ---- each intention is found by its key
-
--- these are among those, none of which has another's key
-abbrev AreFound : List Intent → List Intent → Type 0
-AreFound all [] = Unit {0}
-AreFound all (i ∷ is) = (intent_at all (key_of i) ≡ Some i) × AreFound all is
-
--- behind one of another key they are found too
-found_behind : (j : Intent) (all is : List Intent) → AllByRecursion (λ k. is_same_key (key_of j) k ≡ false) (map key_of is) → AreFound all is → AreFound (j ∷ all) is
-found_behind j all [] other h = tt
-found_behind j all (i ∷ is) other h = (
-  ap (λ t. cond t (Some j) (intent_at all (key_of i))) (is_same_key-symm (key_of i) (key_of j) ∙ other.0) ∙ h.0,
-  found_behind j all is other.1 h.1,
-)
-
-all_found : (is : List Intent) → HaveOwnKeys is → AreFound is is
-unfolding IsDistinct
-all_found [] h = tt
-all_found (i ∷ is) h = (
-  ap (λ t. cond t (Some i) (intent_at is (key_of i))) (is_same_key-refl (key_of i)),
-  found_behind i is is h.0 (all_found is h.1),
-)
-
 module _ (a b : Store) where
-  each_may : (is : List Intent) → AreFound b.intents is → AllMay a b (flat_map (asks b) is)
+  each_may : (is : List Intent) → AllByRecursion (λ (i : Intent). intent_at b.intents (key_of i) ≡ Some i) is → AllMay a b (flat_map (asks b) is)
   each_may [] h = All-nil (MaySent a b)
   each_may (i ∷ is) h = All-append (MaySent a b) (asks b i) (flat_map (asks b) is) (asks_may a b i h.0) (each_may is h.1)
 
   pub all_may : HaveOwnKeys b.intents → AllMay a b (flat_map (asks b) b.intents)
-  all_may own = each_may b.intents (all_found b.intents own)
+  all_may own = each_may b.intents (each_found b.intents own)

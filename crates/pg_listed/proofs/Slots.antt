@@ -6,11 +6,10 @@ use Rattle.std.specs.Ordering.{eq_by_cmp, is_eq, ordering_then}
 use Rattle.std.specs.List.{list_any}
 use Rattle.std.specs.BTreeMap.{insert_entry, is_at}
 use Rattle.std.specs.Map.{keys_of, lookup}
-use Rattle.std.proofs.lemmas.Bool.{false≢true}
+use Rattle.std.proofs.lemmas.Bool.{false≢true, or_left, or_right}
 use Rattle.pg_base.specs.Id.{file_cmp}
 use Rattle.pg_base.proofs.Maps.{lookup-insert_entry}
 use Rattle.pg_house.specs.Facts.{IsOneOf}
-use Rattle.pg_house.proofs.Truths.{or_left, or_right}
 use Rattle.pg_msg.specs.declared.work.Slot.{Slot}
 use Rattle.pg_msg.specs.Work.{slot_cmp}
 use Rattle.pg_msg.proofs.Slots.{slot_total}

@@ -14,7 +14,8 @@ fn is_same_truth(a: bool, b: bool) -> bool
     if a { b } else { !b }
 }
 
-fn is_same_stamp(a: Stamp, b: Stamp) -> bool
+/// Whether two stamps are one.
+pub fn is_same_stamp(a: Stamp, b: Stamp) -> bool
     ensures { result ≡ is_same_stamp a b }
 {
     a.time == b.time && a.server == b.server

@@ -5,7 +5,7 @@ use Rattle.pg_msg.specs.Work.{new_work}
 use Rattle.pg_call.specs.declared.call.Call.{Call}
 use Rattle.pg_call.specs.declared.call.Call.TheVariants as call
 use Rattle.pg_store.specs.declared.store.Store.{Store}
-use Rattle.pg_calls.specs.Answer.{Answer}
+use Rattle.pg_checks.specs.Answer.{Answer}
 use Rattle.pg_calls.specs.Calls.{do_call}
 use Rattle.pg_calls.specs.Forgetting.{lost_at}
 use Rattle.pg_calls.specs.GivingUp.{removal_at}

@@ -35,7 +35,7 @@ use Rattle.pg_store.specs.Births.{draw_birth, with_birth}
 use Rattle.pg_store.specs.Store.{is_held}
 use Rattle.pg_cells.specs.Done.{Done, idle}
 use Rattle.pg_cells.specs.Making.{own_next}
-use Rattle.pg_calls.specs.Answer.{Answer, answer, answered}
+use Rattle.pg_checks.specs.Answer.{Answer, answer, answered}
 use Rattle.pg_calls.specs.Forgetting.{bare_entry, begin_lost, begun_at, begun_with, dead_at, dirs_of, fill_lost, forget_lost, has_blank_place, has_cell_for, is_wanted, last_place, mark, marked_each, last_listing, placed_in_root, placed_lost, root_place, strike_out, struck_out, unfilled, unwished}
 use Rattle.pg_calls.specs.Naming.{next_id, raised}
 use Rattle.pg_base.specs.declared.id.Kind.{Kind}

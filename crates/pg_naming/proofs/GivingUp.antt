@@ -14,7 +14,7 @@ use Rattle.pg_store.specs.declared.store.Store.{Store}
 use Rattle.pg_store.specs.Views.{enter}
 use Rattle.pg_store.proofs.Entered.{enter_names}
 use Rattle.pg_repair.specs.Inviting.{invite_along, invite_each, invite_of, invites, loose_edge}
-use Rattle.pg_calls.specs.Answer.{Answer, answer, answered}
+use Rattle.pg_checks.specs.Answer.{Answer, answer, answered}
 use Rattle.pg_calls.specs.GivingUp.{doubt_all, enter_view}
 use Rattle.pg_calls.specs.Naming.{next_id}
 use Rattle.std.specs.Map.{keys_of}

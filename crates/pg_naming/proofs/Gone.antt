@@ -1,6 +1,6 @@
 -- A replica goes, with all that it took: what is known then is what the replicas that are left took.
 use Rattle.std.proofs.Common.{ℕ, ◌≡◌, Bool, true, false, not, List, Option, None, Some, refl, sym, ap, subst, ◌∙◌, inl, inr}
-use Rattle.std.proofs.lemmas.Bool.{false≢true}
+use Rattle.std.proofs.lemmas.Bool.{false≢true, not-true}
 use Rattle.pg_base.specs.declared.id.FileId.{FileId}
 use Rattle.pg_base.specs.Id.{is_same_file}
 use Rattle.pg_base.proofs.Orders.{is_same_file-refl, is_same_file-true}
@@ -32,10 +32,6 @@ turned f g apart = by (is_same_file g f) refl
     by true e =
         absurd (false≢true (sym apart ∙ ap (λ (x : FileId). is_same_file f x) (is_same_file-true g f e) ∙ is_same_file-refl f))
 
-opened : (t : Bool) → not t ≡ true → t ≡ false
-opened false h = refl
-opened true h = absurd (false≢true h)
-
 -- what is left was there
 pub gone_among : (o : Option FileId) (takes : List Take) (x : Take) → Among x (without_gone o takes) → Among x takes
 gone_among None takes x h = h
@@ -53,7 +49,7 @@ module _ (f : FileId) (takes : List Take) where
 
   -- of another replica
   other : (x : Take) → Among x Rest → is_of_replica f x ≡ false
-  other x h = opened (is_of_replica f x) (among_filter (λ (t : Take). not (is_of_replica f t)) x takes h).1
+  other x h = not-true (is_of_replica f x) (among_filter (λ (t : Take). not (is_of_replica f t)) x takes h).1
 
   -- ---- entries
 

@@ -1,7 +1,7 @@
 -- What is held: by messages that are accepted; and what is not held is not the root.
 use Rattle.std.proofs.Common.{ℕ, ◌≡◌, Bool, true, false, not, Option, None, Some, refl, sym, subst}
 use Rattle.std.specs.Option.{is_some}
-use Rattle.std.proofs.lemmas.Bool.{false≢true}
+use Rattle.std.proofs.lemmas.Bool.{false≢true, and_parts}
 use Rattle.pg_base.specs.declared.id.FileId.{FileId}
 use Rattle.pg_base.specs.Id.{is_same_file}
 use Rattle.pg_base.proofs.Orders.{is_same_file-true}
@@ -9,7 +9,6 @@ use Rattle.pg_msg.specs.declared.message.Ends.{Ends}
 use Rattle.pg_names.specs.Names.{HeldValue, is_full_of, known}
 use Rattle.pg_register.specs.Place.{root}
 use Rattle.pg_house.specs.Facts.{IsHeld}
-use Rattle.pg_house.proofs.Truths.{and_true}
 use Rattle.pg_promises.proofs.Together.{held_of_replica, own_of_held}
 use Rattle.pg_replica.specs.declared.replica.Replica.{Replica}
 use Rattle.pg_replica.specs.Replicas.{is_of_birth}
@@ -27,7 +26,7 @@ birth_held a together f birth (Some x) e h = own_of_held a.names f (held_of_repl
 pub current_held : (a : Store) → AreTogether a → (from : ℕ) (ends : Ends) → is_current a from ends ≡ true → IsHeld a.names ends.file
 current_held a together from ends h =
     birth_held a together ends.file ends.receiver (replica_at a ends.file) refl
-    (and_true (has_birth a ends.file ends.receiver) (not (knows_later a ends.file from ends.sender)) h).0
+    (and_parts (has_birth a ends.file ends.receiver) (not (knows_later a ends.file from ends.sender)) h).0
 
 pub none_of : (o : Option HeldValue) → is_some o ≡ false → o ≡ None
 none_of None h = refl

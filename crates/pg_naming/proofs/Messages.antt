@@ -1,6 +1,6 @@
 -- A message comes: what it carries is what the server knows more then.
 use Rattle.std.proofs.Common.{ℕ, ◌≡◌, ◌&&◌, not, Bool, true, false, cond, List, [], ◌∷◌, ◌++◌, map, Some, refl, sym, ap, subst, ◌∙◌, inr, arith}
-use Rattle.std.proofs.lemmas.Bool.{or_parts}
+use Rattle.std.proofs.lemmas.Bool.{or_parts, and_parts}
 use Rattle.std.proofs.lemmas.Bool.Decides.{nat_tests}
 use Rattle.pg_base.specs.declared.id.FileId.{FileId}
 use Rattle.pg_base.specs.declared.stamp.Stamp.{Stamp}
@@ -27,7 +27,7 @@ use Rattle.pg_names.specs.Names.{NamesValue, cell_at, is_dir, is_place_new, know
 use Rattle.pg_house.specs.Facts.{IsHeld}
 use Rattle.pg_house.specs.Passing.{is_update}
 use Rattle.pg_house.specs.Returning.{is_root}
-use Rattle.pg_house.proofs.Truths.{and_true, chosen_false}
+use Rattle.pg_house.proofs.Truths.{chosen_false}
 use Rattle.pg_promises.proofs.Together.{own_of_held}
 use Rattle.pg_store.specs.declared.store.Store.{Store}
 use Rattle.pg_store.specs.Births.{is_pending}
@@ -251,8 +251,8 @@ module _ (removed : List ℕ) (p : Told) (a : Store) (now : List Take) (k : Goes
 
     full_by : (t : Bool) (ends : Ends) → (is_accepted a from manner.Answer ends && not (is_full a ends.file)) ≡ t → With [] (cond t (fill a ends.file W) (idle a W))
     full_by true ends h =
-        let accepted = (and_true (is_accepted a from manner.Answer ends) (not (is_full a ends.file)) h).0 in
-        full_with ends.file (current_held a together from ends (and_true (is_current a from ends) _ accepted).0)
+        let accepted = (and_parts (is_accepted a from manner.Answer ends) (not (is_full a ends.file)) h).0 in
+        full_with ends.file (current_held a together from ends (and_parts (is_current a from ends) _ accepted).0)
     full_by false ends h = k
 
     -- ---- one gold more is asked for
@@ -265,7 +265,7 @@ module _ (removed : List ℕ) (p : Told) (a : Store) (now : List Take) (k : Goes
     invite_by : (t u : Bool) (ends : Ends) (d : Done) → With [] d → is_bronze d.store ends.file ≡ u
         → With [] (cond t (cond u (raise_if_few d.store ends.file d.work) d) d)
     invite_by true true ends d h bronze =
-        few_raised removed now d h ends.file (full_own d.store.names ends.file (and_true (is_full d.store ends.file) (not (is_gold d.store ends.file)) bronze).0)
+        few_raised removed now d h ends.file (full_own d.store.names ends.file (and_parts (is_full d.store ends.file) (not (is_gold d.store ends.file)) bronze).0)
     invite_by true false ends d h bronze = h
     invite_by false u ends d h bronze = h
 

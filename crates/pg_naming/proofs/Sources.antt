@@ -37,7 +37,7 @@ use Rattle.pg_cells.specs.Accepting.{is_current}
 use Rattle.pg_cells.specs.Cells.{fits}
 use Rattle.pg_server.specs.declared.input.Input.{Input}
 use Rattle.pg_server.specs.declared.input.Input.TheVariants as input
-use Rattle.pg_calls.specs.Answer.{answer, answered}
+use Rattle.pg_checks.specs.Answer.{answer, answered}
 use Rattle.pg_calls.specs.Calls.{do_call}
 use Rattle.pg_calls.specs.Forgetting.{begin_lost, dead_at, dirs_of, fill_lost, forget_lost, is_wanted, last_place, last_listing, lost_at, strike_out, struck_out, unwished}
 use Rattle.pg_walk.specs.declared.paths.Stop.{Stop}

@@ -48,12 +48,12 @@ use Rattle.pg_cells.specs.Golds.{is_gold}
 use Rattle.pg_cells.specs.Making.{lower_flag}
 use Rattle.pg_graph.proofs.LeaveOk.{found_keyed}
 use Rattle.pg_repair.proofs.Needs.{needed_comes}
-use Rattle.pg_calls.specs.declared.checks.NewName.{NewName}
-use Rattle.pg_calls.specs.Answer.{Answer, answer, answered, replied, told, unless}
-use Rattle.pg_calls.specs.Asking.{ask_by, ask_first, fetch, fresh_wish, holder, standing, wish_by}
+use Rattle.pg_checks.specs.declared.checks.NewName.{NewName}
+use Rattle.pg_checks.specs.Answer.{Answer, answer, answered, replied, told, unless}
+use Rattle.pg_checks.specs.Asking.{ask_by, ask_first, fetch, fresh_wish, holder, standing, wish_by}
 use Rattle.pg_calls.specs.Bodies.{change, change_file, when_fit}
 use Rattle.pg_calls.specs.Calls.{do_call}
-use Rattle.pg_calls.specs.Checks.{dir_at, empty_dir_at, file_at, in_time, move_of, new_name, target_at}
+use Rattle.pg_checks.specs.Checks.{dir_at, empty_dir_at, file_at, in_time, move_of, new_name, target_at}
 use Rattle.pg_calls.specs.Demoting.{demoted_at}
 use Rattle.pg_calls.specs.Dropping.{clean_gold, drop, dropped_at, leave_of, leaving}
 use Rattle.pg_calls.specs.Forgetting.{lost_at}
@@ -62,7 +62,7 @@ use Rattle.pg_calls.specs.Making.{drawn, first_ranges, make_place, make_version,
 use Rattle.pg_calls.specs.Naming.{begun, dead_place, next_id, place_in, taken_away, with_first_version, with_id, with_thing}
 use Rattle.pg_calls.proofs.InTime.{name_in_time}
 use Rattle.pg_calls.proofs.Missing.{IsMissing, demoted_missing, dir_missing, dropped_missing, empty_missing, file_missing, lost_missing, move_missing, name_missing, removal_missing, target_missing}
-use Rattle.pg_calls.proofs.Stopping.{StopsAt, stops_then, stops_time, stops_unless}
+use Rattle.pg_checks.proofs.Stopping.{StopsAt, stops_then, stops_time, stops_unless}
 use Rattle.pg_calls.proofs.Walked.{file_found, full_own}
 use Rattle.pg_server.specs.Local.{done_of}
 use Rattle.pg_promises.proofs.Choices.{chosen}

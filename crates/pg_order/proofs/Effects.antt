@@ -1,8 +1,8 @@
 -- An event at a server leaves it sound, and what is sent in it is said.
-use Rattle.std.proofs.Common.{ℕ, ◌≡◌, ◌≤◌, ◌==◌, Bool, true, false, not, cond, nat_le, Some, refl, sym, ap, subst, ◌∙◌}
-use Rattle.std.proofs.Common.{eq-eqb}
-use Rattle.std.proofs.lemmas.Bool.{and_parts, false≢true, leb-true}
+use Rattle.std.proofs.Common.{ℕ, ◌≡◌, ◌≤◌, ◌==◌, Bool, true, false, not, cond, nat_le, Some, refl, sym, subst, ◌∙◌}
+use Rattle.std.proofs.lemmas.Bool.{and_parts, leb-true}
 use Rattle.std.proofs.lemmas.List.Elements.{All-nil}
+use Rattle.pg_intent.proofs.Above.{not_equal}
 use Rattle.pg_msg.specs.declared.message.Sent.{Sent}
 use Rattle.pg_msg.specs.declared.work.Slot.{Slot}
 use Rattle.pg_msg.specs.declared.work.Work.{Work}
@@ -39,11 +39,6 @@ IsAskable p a (input.Call moment x) = GivesNewIds p a x (new_work moment 0)
 IsAskable p a (input.Tick moment word) = Unit {0}
 IsAskable p a (input.Arrival packet) = IsSaidOfMessage p packet.message
 IsAskable p a input.Restart = Unit {0}
-
-not_equal : (a b : ℕ) → not (a == b) ≡ true → a ≡ b → ⊥
-not_equal a b h same =
-    let t : (a == b) ≡ true = eq-eqb a b same in
-    absurd (false≢true (sym (ap not t) ∙ h))
 
 -- who is heard is another server
 heard_other : (n s t : ℕ) (a : Store) → a.servers ≡ n → a.names.server ≡ s → is_live_other a t ≡ true → IsOther n s t

@@ -39,7 +39,7 @@ use Rattle.pg_graph.specs.Leaving.{without_leave}
 use Rattle.pg_graph.specs.Walks.{goes_on, onward, walked}
 use Rattle.pg_graph.proofs.LeaveOk.{byes_by, leave_ok_by}
 use Rattle.pg_repair.proofs.Steady.{begin_end_stays}
-use Rattle.pg_calls.specs.declared.checks.NewName.{NewName}
+use Rattle.pg_checks.specs.declared.checks.NewName.{NewName}
 use Rattle.pg_calls.specs.Demoting.{demoted_at}
 use Rattle.pg_calls.specs.Dropping.{clean_gold, dropped_at, leaving}
 use Rattle.pg_calls.specs.Making.{make_place}
@@ -60,11 +60,11 @@ use Rattle.pg_walk.specs.declared.paths.Found.{Found}
 use Rattle.pg_walk.specs.declared.paths.Stop.{Stop}
 use Rattle.pg_walk.specs.declared.paths.Stop.TheVariants as stop
 use Rattle.pg_store.specs.declared.wishes.Wish.{Wish}
-use Rattle.pg_calls.specs.Answer.{Answer, answered, replied}
-use Rattle.pg_calls.specs.Asking.{ask_by, ask_first, holder, standing}
+use Rattle.pg_checks.specs.Answer.{Answer, answered, replied}
+use Rattle.pg_checks.specs.Asking.{ask_by, ask_first, holder, standing}
 use Rattle.pg_calls.specs.Bodies.{change, change_file, when_fit}
 use Rattle.pg_calls.specs.Calls.{do_call}
-use Rattle.pg_calls.specs.Checks.{dir_at, empty_dir_at, file_at, in_time, move_of, new_name, target_at}
+use Rattle.pg_checks.specs.Checks.{dir_at, empty_dir_at, file_at, in_time, move_of, new_name, target_at}
 use Rattle.pg_server.specs.declared.input.Input.{Input}
 use Rattle.pg_server.specs.declared.input.Input.TheVariants as input
 use Rattle.pg_server.specs.Local.{Effect, effect, finished, first_effect, is_heard, reply_to, takes_effect}

@@ -22,15 +22,15 @@ use Rattle.pg_store.specs.declared.store.Store.{Store}
 use Rattle.pg_store.specs.Store.{is_in_time}
 use Rattle.pg_store.specs.Store.{is_full as is_full_at}
 use Rattle.pg_cells.specs.Parting.{stays_for}
-use Rattle.pg_calls.specs.declared.checks.Move.{Move}
-use Rattle.pg_calls.specs.declared.checks.NewName.{NewName}
-use Rattle.pg_calls.specs.declared.paths.Paths.{Paths}
-use Rattle.pg_calls.specs.Answer.{unless}
-use Rattle.pg_calls.specs.Checks.{dir_at, empty_dir_at, first_child, in_time, move_along, move_of, move_to, new_name, new_name_in, target_at, unless_child, unless_shown, when_free}
+use Rattle.pg_checks.specs.declared.checks.Move.{Move}
+use Rattle.pg_checks.specs.declared.checks.NewName.{NewName}
+use Rattle.pg_checks.specs.declared.paths.Paths.{Paths}
+use Rattle.pg_checks.specs.Answer.{unless}
+use Rattle.pg_checks.specs.Checks.{dir_at, empty_dir_at, first_child, in_time, move_along, move_of, move_to, new_name, new_name_in, target_at, unless_child, unless_shown, when_free}
 use Rattle.pg_calls.specs.Demoting.{unless_root}
 use Rattle.pg_calls.specs.Dropping.{dropped_at, refused_for, unless_kept}
 use Rattle.pg_calls.specs.Forgetting.{lost_at, unless_full}
-use Rattle.pg_calls.specs.Paths.{is_none, last_of, new_path_of, path_of, paths_of, with_new_name}
+use Rattle.pg_checks.specs.Paths.{is_none, last_of, new_path_of, path_of, paths_of, with_new_name}
 use Rattle.pg_calls.proofs.Checked.{behind, no_ok, same_ok, unless_ok}
 use Rattle.pg_calls.proofs.Walked.{full_own, parent_found, reach_ok, reached_ok, thing_found}
 

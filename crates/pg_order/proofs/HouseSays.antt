@@ -3,6 +3,7 @@ use Rattle.std.proofs.Common.{ℕ, ◌≡◌, ◌&&◌, Bool, true, false, not, 
 use Rattle.std.specs.Map.{keys_of}
 use Rattle.std.proofs.lemmas.List.Elements.{All-append, All-cons, All-nil}
 use Rattle.std.proofs.lemmas.Option.{none-some}
+use Rattle.std.proofs.lemmas.Bool.{and_parts, not-true, or_left, or_right}
 use Rattle.pg_base.specs.declared.id.FileId.{FileId}
 use Rattle.pg_base.specs.Id.{is_same_file}
 use Rattle.pg_base.specs.Stamp.{is_before}
@@ -32,7 +33,6 @@ use Rattle.pg_house.proofs.AllReturned.{not_root, returning_by}
 use Rattle.pg_house.proofs.Counting.{find_found, kept_dir}
 use Rattle.pg_house.proofs.NoCycles.{inner_parts, some_dirs}
 use Rattle.pg_house.proofs.Repeating.{repeated_keeps}
-use Rattle.pg_house.proofs.Truths.{and_true, not_true, or_left, or_right}
 use Rattle.pg_promises.proofs.Choices.{chosen, decided}
 use Rattle.pg_register.specs.Flag.{IsByServer, flag_of}
 use Rattle.pg_register.proofs.ByServer.{IsByServer-join_flags, IsByServer-nil}
@@ -105,7 +105,7 @@ module _ (p : Saying) (c : IsClosed p) where
       let slot : Slot = record { dir = old.parent; child = f } in
       decided (λ (v : Work). AreLeft v.left) (old.live && not (is_root f)) (with_left w old.parent f) w
       (λ noted. All-append P w.left (slot ∷ []) all (All-cons P slot []
-      (record { dir = (c.parent f old place).1; of = (c.parent f old place).0; thing = thing; child = c.child f (not_true (is_root f) (and_true old.live (not (is_root f)) noted).1) })
+      (record { dir = (c.parent f old place).1; of = (c.parent f old place).0; thing = thing; child = c.child f (not-true (is_root f) (and_parts old.live (not (is_root f)) noted).1) })
       (All-nil P)))
       (λ none. all)
 
@@ -224,6 +224,6 @@ module _ (p : Saying) (c : IsClosed p) where
   pub house_said : (moment : ℕ) (st : State) → AreSaid st → AreSaid (house moment st)
   house_said moment st k =
       let ds = directories st.names in
-      let apart = λ (f : FileId) (among : is_among f (movable st.names) ≡ true). not_true (is_root f) (kept_dir (λ x. not (is_root x)) (keys_of st.names.held) f among) in
+      let apart = λ (f : FileId) (among : is_among f (movable st.names) ≡ true). not-true (is_root f) (kept_dir (λ x. not (is_root x)) (keys_of st.names.held) f among) in
       repeated_keeps AreSaid (break_first moment ds) (λ t q. move_said ds moment t (first_moving t.names (length ds) None ds) refl q) (length ds) _
       (repeated_keeps AreSaid (return_first moment ds) (λ t q. return_said ds moment t (first_returning t.names ds) refl q) (length ds) _ (all_said ds st (movable st.names) apart k))

@@ -36,7 +36,7 @@ use Rattle.pg_store.proofs.Pairs.{birth_as_before}
 use Rattle.pg_cells.specs.Done.{Done, idle}
 use Rattle.pg_repair.specs.Needed.{IsToFill}
 use Rattle.pg_repair.proofs.Needs.{what_is_needed}
-use Rattle.pg_calls.specs.Asking.{latest}
+use Rattle.pg_checks.specs.Asking.{latest}
 use Rattle.pg_calls.specs.Forgetting.{bare_entry, begin_lost, begun_at, begun_with, dead_at, dead_by, dirs_of, fill_lost, forget_lost, has_blank_place, has_cell_for, is_patch_to, is_wanted, last_listing, last_place, mark, marked_each, place_in, place_of, placed_in_root, placed_lost, root_place, strike_out, struck_out, unfilled, unwished}
 use Rattle.pg_calls.specs.Naming.{raised}
 use Rattle.pg_promises.proofs.Choices.{chosen, decided}

@@ -1,7 +1,7 @@
 -- What passing leaves of each thing, from what was known of it before any thing passed.
 use Rattle.std.proofs.Common.{◌≡◌, ◌&&◌, ◌||◌, Bool, true, false, cond, List, [], ◌∷◌, Option, Some, refl, sym, ap, subst, ◌∙◌, inl, inr}
 use Rattle.std.specs.Map.{keys_of}
-use Rattle.std.proofs.lemmas.Bool.{false≢true}
+use Rattle.std.proofs.lemmas.Bool.{false≢true, and_parts, or_left, or_right}
 use Rattle.pg_base.specs.declared.id.FileId.{FileId}
 use Rattle.pg_base.specs.Id.{is_same_file}
 use Rattle.pg_base.proofs.Orders.{is_same_file-refl, is_same_file-true}
@@ -19,7 +19,7 @@ use Rattle.pg_house.proofs.Settling.{key_found}
 use Rattle.pg_house.proofs.Spreading.{offered_dir}
 use Rattle.pg_house.proofs.Taking.{taking_cell}
 use Rattle.pg_house.proofs.Touches.{Touches, passed_of, same_greatest}
-use Rattle.pg_house.proofs.Truths.{and_true, bool_cases, or_cases, or_left, or_right}
+use Rattle.pg_house.proofs.Truths.{bool_cases, or_cases}
 use Rattle.pg_house.proofs.Greatest.{cell_is}
 
 -- ---- a cell that a directory has then was wanted
@@ -33,7 +33,7 @@ module _ (f : FileId) (own top : Own) (back : Bool) where
   wanted_cell s q c h = or_left (is_cell (cell_at s q f)) (Rest q) (ap is_cell h)
 
   given_wants : (st : State) (d q : FileId) (c : Entry) (t : Bool) → is_same_file d q ≡ t → gets st.names f own top back d ≡ true → cell_at (offered st f own top back d).names q f ≡ Some c → wants st.names f own top back q ≡ true
-  given_wants st d q c true same g h = let P : FileId → Type 0 = λ x. wants st.names f own top back x ≡ true in subst P (is_same_file-true d q same) (and_true (wants st.names f own top back d) _ g).0
+  given_wants st d q c true same g h = let P : FileId → Type 0 = λ x. wants st.names f own top back x ≡ true in subst P (is_same_file-true d q same) (and_parts (wants st.names f own top back d) _ g).0
   given_wants st d q c false apart g h = wanted_cell st.names q c (sym (offered_dir st f own top back d q f apart) ∙ h)
 
   not_given : (st : State) (d q : FileId) (c : Entry) (t : Bool) → gets st.names f own top back d ≡ t → t ≡ false → cell_at (cond t (given st f top d) st).names q f ≡ Some c → wants st.names f own top back q ≡ true

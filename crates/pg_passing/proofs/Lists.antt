@@ -1,12 +1,12 @@
 -- Ids that are among others.
 use Rattle.std.proofs.Common.{◌≡◌, true, List, [], ◌∷◌, sym, ap, ◌∙◌, inl, inr}
-use Rattle.std.proofs.lemmas.Bool.{false≢true}
+use Rattle.std.proofs.lemmas.Bool.{false≢true, or_left, or_right}
 use Rattle.pg_base.specs.declared.id.FileId.{FileId}
 use Rattle.pg_base.specs.Id.{is_same_file}
 use Rattle.pg_base.proofs.Orders.{is_same_file-refl, is_same_file-true}
 use Rattle.pg_content.specs.Content.{Among}
 use Rattle.pg_house.specs.Facts.{is_among}
-use Rattle.pg_house.proofs.Truths.{or_cases, or_left, or_right}
+use Rattle.pg_house.proofs.Truths.{or_cases}
 
 pub file_among : (f : FileId) (fs : List FileId) → is_among f fs ≡ true → Among f fs
 file_among f [] h = absurd (false≢true h)

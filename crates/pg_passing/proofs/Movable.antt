@@ -1,7 +1,7 @@
 -- What passes: all that is held but the root.
 use Rattle.std.proofs.Common.{◌≡◌, not, Bool, true, false, None, Some, refl, sym, ap, ◌∙◌, inl, inr, ◌⊎◌}
 use Rattle.std.specs.Map.{keys_of}
-use Rattle.std.proofs.lemmas.Bool.{false≢true}
+use Rattle.std.proofs.lemmas.Bool.{false≢true, not_from_false, not-true}
 use Rattle.std.proofs.lemmas.Option.{none-some}
 use Rattle.pg_base.specs.declared.id.FileId.{FileId}
 use Rattle.pg_content.specs.Content.{Among}
@@ -11,7 +11,6 @@ use Rattle.pg_names.specs.Names.{NamesValue, own_at, own_of}
 use Rattle.pg_house.specs.Returning.{is_root}
 use Rattle.pg_house.specs.House.{movable}
 use Rattle.pg_house.specs.Facts.{IsHeld, is_among}
-use Rattle.pg_house.proofs.Truths.{not_false, not_true}
 use Rattle.pg_house.proofs.Counting.{among_kept, kept_dir}
 use Rattle.pg_house.proofs.Ends.{key_of_held}
 use Rattle.pg_house.proofs.Settling.{key_found}
@@ -24,15 +23,15 @@ module _ (s : NamesValue) where
   movable_are : (f : FileId) → Among f (movable s) → (IsHeld s f) × (is_root f ≡ false)
   movable_are f h =
       let r = among_filter (λ g. not (is_root g)) f (keys_of s.held) h in
-      (key_held f r.0, not_true (is_root f) r.1)
+      (key_held f r.0, not-true (is_root f) r.1)
 
   pub is_movable : (f : FileId) (own : Own) → own_at s f ≡ Some own → is_root f ≡ false → is_among f (movable s) ≡ true
-  is_movable f own h moves = among_kept (λ g. not (is_root g)) (keys_of s.held) f (key_of_held s f own h) (not_false (is_root f) moves)
+  is_movable f own h moves = among_kept (λ g. not (is_root g)) (keys_of s.held) f (key_of_held s f own h) (not_from_false (is_root f) moves)
 
   -- the root, and what is not held, do not pass
   away_by : (f : FileId) → (is_root f ≡ true) ⊎ (own_at s f ≡ None) → (t : Bool) → is_among f (movable s) ≡ t → t ≡ false
   away_by f away false e = refl
-  away_by f (inl top) true e = absurd (false≢true (sym (not_true (is_root f) (kept_dir (λ g. not (is_root g)) (keys_of s.held) f e)) ∙ top))
+  away_by f (inl top) true e = absurd (false≢true (sym (not-true (is_root f) (kept_dir (λ g. not (is_root g)) (keys_of s.held) f e)) ∙ top))
   away_by f (inr none) true e = let held = (movable_are f (file_among f (movable s) e)).0 in absurd (none-some held.0 (sym none ∙ held.1))
 
   pub not_movable : (f : FileId) → (is_root f ≡ true) ⊎ (own_at s f ≡ None) → is_among f (movable s) ≡ false

@@ -1,6 +1,6 @@
 -- Where all that is held passes, a server knows just what its replicas took then.
 use Rattle.std.proofs.Common.{ℕ, ◌≡◌, ◌&&◌, ◌||◌, not, Bool, true, false, List, Option, None, Some, refl, sym, ap, subst, ◌∙◌, inl, inr, ◌⊎◌, arith}
-use Rattle.std.proofs.lemmas.Bool.{false≢true}
+use Rattle.std.proofs.lemmas.Bool.{false≢true, and_parts, and_from, or_left}
 use Rattle.std.proofs.lemmas.Bool.Decides.{nat_tests}
 use Rattle.std.proofs.lemmas.Option.{none-some}
 use Rattle.pg_base.specs.declared.id.FileId.{FileId}
@@ -20,7 +20,7 @@ use Rattle.pg_house.specs.Facts.{IsHeld, is_among}
 use Rattle.pg_house.proofs.AfterPassing.{AreDirs}
 use Rattle.pg_house.proofs.Greatest.{cell_held}
 use Rattle.pg_house.proofs.Idle.{AreHeld}
-use Rattle.pg_house.proofs.Truths.{and_true, both_true, chosen_false, or_cases, or_left}
+use Rattle.pg_house.proofs.Truths.{chosen_false, or_cases}
 use Rattle.pg_run.specs.Took.{Take, Taker, first_place, is_held}
 use Rattle.pg_run.specs.Took.Take.{TookFlag, TookPlace}
 use Rattle.pg_run.specs.Took.Taker.{InDir, Itself}
@@ -227,7 +227,7 @@ module _ (s t : NamesValue) (takes : List Take) (ds : List FileId) (k : Tells s 
 
     new_cell : (d : FileId) → IsParty s.removed takes d f → (c : Entry) × (cell_at t d f ≡ Some c)
     new_cell d party =
-        let two = and_true (is_dir d) (wants s f own Top Back d) (wants_is s takes k f ds dirs own held apart s.removed d ∙ party.part) in
+        let two = and_parts (is_dir d) (wants s f own Top Back d) (wants_is s takes k f ds dirs own held apart s.removed d ∙ party.part) in
         let there = k.held d party.held in
         gives d there (dirs.held d there.0 there.1 two.0) two.1
 
@@ -256,7 +256,7 @@ module _ (s t : NamesValue) (takes : List Take) (ds : List FileId) (k : Tells s 
       party = record {
         moves = moves;
         held = k.told d there.0;
-        part = sym (wants_is s takes k f ds dirs own held apart s.removed d) ∙ both_true (is_dir d) (wants s f own Top Back d) there.1 (come.wanted d c h);
+        part = sym (wants_is s takes k f ds dirs own held apart s.removed d) ∙ and_from (is_dir d) (wants s f own Top Back d) there.1 (come.wanted d c h);
       }
 
       had : Top.place ≡ first_place f → HasEntry takes d f

@@ -1,6 +1,6 @@
 -- What is found in a list of takes: the places and flags of a thing, by one replica and by any, and all that is held.
 use Rattle.std.proofs.Common.{◌≡◌, ◌&&◌, Bool, true, false, cond, List, [], ◌∷◌, refl, sym, ap, subst, inl, inr, ◌⊎◌}
-use Rattle.std.proofs.lemmas.Bool.{false≢true}
+use Rattle.std.proofs.lemmas.Bool.{false≢true, and_parts, and_from}
 use Rattle.pg_base.specs.declared.id.FileId.{FileId}
 use Rattle.pg_base.specs.Id.{is_same_file}
 use Rattle.pg_base.proofs.Orders.{is_same_file-refl, is_same_file-true}
@@ -8,7 +8,6 @@ use Rattle.pg_content.specs.Content.{Among}
 use Rattle.pg_content.proofs.Members.{any_by, any_found}
 use Rattle.pg_register.specs.declared.flag.Flag.{Flag}
 use Rattle.pg_register.specs.declared.place.Place.{Place}
-use Rattle.pg_house.proofs.Truths.{and_true, both_true}
 use Rattle.pg_run.specs.Took.{Take, Taker, begun_by, flag_taken_by, flags_taken, held, is_held, is_same_taker, place_taken_by, places_taken}
 use Rattle.pg_run.specs.Took.Take.{Began, TookFlag, TookPlace, TookVersion}
 use Rattle.pg_run.specs.Took.Taker.{InDir, Itself}
@@ -58,11 +57,11 @@ module _ (by : Taker) (f : FileId) where
   place_is p (Began g) h = absurd h
   place_is p (TookPlace b g q) h =
       let one = here (is_same_taker b by && is_same_file g f) q p h in
-      let two = and_true (is_same_taker b by) (is_same_file g f) one.0 in
+      let two = and_parts (is_same_taker b by) (is_same_file g f) one.0 in
       place_of_parts b by g f q p (taker_true b by two.0) (is_same_file-true g f two.1) (sym one.1)
 
   place_in_it : (p : Place) → Among p (place_taken_by by f (TookPlace by f p))
-  place_in_it p = there (is_same_taker by by && is_same_file f f) p (both_true (is_same_taker by by) (is_same_file f f) (taker_refl by) (is_same_file-refl f))
+  place_in_it p = there (is_same_taker by by && is_same_file f f) p (and_from (is_same_taker by by) (is_same_file f f) (taker_refl by) (is_same_file-refl f))
 
   pub place_there : (takes : List Take) (p : Place) → Among p (places_taken by f takes) → HasPlace takes by f p
   place_there takes p h =
@@ -79,11 +78,11 @@ module _ (by : Taker) (f : FileId) where
   flag_is g (Began e) h = absurd h
   flag_is g (TookFlag b e q) h =
       let one = here (is_same_taker b by && is_same_file e f) q g h in
-      let two = and_true (is_same_taker b by) (is_same_file e f) one.0 in
+      let two = and_parts (is_same_taker b by) (is_same_file e f) one.0 in
       flag_of_parts b by e f q g (taker_true b by two.0) (is_same_file-true e f two.1) (sym one.1)
 
   flag_in_it : (g : Flag) → Among g (flag_taken_by by f (TookFlag by f g))
-  flag_in_it g = there (is_same_taker by by && is_same_file f f) g (both_true (is_same_taker by by) (is_same_file f f) (taker_refl by) (is_same_file-refl f))
+  flag_in_it g = there (is_same_taker by by && is_same_file f f) g (and_from (is_same_taker by by) (is_same_file f f) (taker_refl by) (is_same_file-refl f))
 
   pub flag_there : (takes : List Take) (g : Flag) → Among g (flags_taken by f takes) → HasFlag takes by f g
   flag_there takes g h =
@@ -144,11 +143,11 @@ module _ (d c : FileId) where
   entry_take takes (TookVersion g s) h t = absurd (false≢true t)
   entry_take takes (Began g) h t = absurd (false≢true t)
   entry_take takes (TookPlace b g p) h t =
-      let two = and_true (is_same_taker b (InDir d)) (is_same_file g c) t in
+      let two = and_parts (is_same_taker b (InDir d)) (is_same_file g c) t in
       let P : Take → Type 0 = λ x. Among x takes in
       inl (p, subst P (place_of_parts b (InDir d) g c p p (taker_true b (InDir d) two.0) (is_same_file-true g c two.1) refl) h)
   entry_take takes (TookFlag b g p) h t =
-      let two = and_true (is_same_taker b (InDir d)) (is_same_file g c) t in
+      let two = and_parts (is_same_taker b (InDir d)) (is_same_file g c) t in
       let P : Take → Type 0 = λ x. Among x takes in
       inr (p, subst P (flag_of_parts b (InDir d) g c p p (taker_true b (InDir d) two.0) (is_same_file-true g c two.1) refl) h)
 
@@ -156,7 +155,7 @@ module _ (d c : FileId) where
   entry_there takes h = let r = any_found (has_taken d c) takes h in entry_take takes r.0 r.1 r.2
 
   same_both : (is_same_taker (InDir d) (InDir d) && is_same_file c c) ≡ true
-  same_both = both_true (is_same_file d d) (is_same_file c c) (is_same_file-refl d) (is_same_file-refl c)
+  same_both = and_from (is_same_file d d) (is_same_file c c) (is_same_file-refl d) (is_same_file-refl c)
 
   pub there_entry : (takes : List Take) → HasEntry takes d c → has_cell d c takes ≡ true
   there_entry takes (inl h) = any_by (has_taken d c) takes (TookPlace (InDir d) c h.0) h.1 same_both

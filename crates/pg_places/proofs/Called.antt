@@ -40,20 +40,20 @@ use Rattle.pg_walk.specs.Walk.{and_then, reach, reach_parent}
 use Rattle.pg_cells.specs.Done.{Done, idle}
 use Rattle.pg_cells.specs.Golds.{is_gold}
 use Rattle.pg_cells.specs.Making.{lower_flag, own_next}
-use Rattle.pg_calls.specs.declared.checks.Move.{Move}
-use Rattle.pg_calls.specs.declared.checks.NewName.{NewName}
-use Rattle.pg_calls.specs.Answer.{Answer, answer, answered, deny, replied, told, unless}
-use Rattle.pg_calls.specs.Asking.{ask_by, fetch, fresh_wish, holder, standing}
+use Rattle.pg_checks.specs.declared.checks.Move.{Move}
+use Rattle.pg_checks.specs.declared.checks.NewName.{NewName}
+use Rattle.pg_checks.specs.Answer.{Answer, answer, answered, deny, replied, told, unless}
+use Rattle.pg_checks.specs.Asking.{ask_by, fetch, fresh_wish, holder, standing}
 use Rattle.pg_calls.specs.Bodies.{change, change_file, when_fit}
 use Rattle.pg_calls.specs.Calls.{do_call}
-use Rattle.pg_calls.specs.Checks.{dir_at, empty_dir_at, file_at, first_child, in_time, move_along, move_of, move_to, new_name, new_name_in, target_at, unless_child}
+use Rattle.pg_checks.specs.Checks.{dir_at, empty_dir_at, file_at, first_child, in_time, move_along, move_of, move_to, new_name, new_name_in, target_at, unless_child}
 use Rattle.pg_calls.specs.Demoting.{demoted_at}
 use Rattle.pg_calls.specs.Dropping.{clean_gold, dropped_at, leave_of, leaving}
 use Rattle.pg_calls.specs.Forgetting.{lost_at}
 use Rattle.pg_calls.specs.GivingUp.{removal_at}
 use Rattle.pg_calls.specs.Making.{drawn, first_ranges, make_place, make_version, version_of, with_version}
 use Rattle.pg_calls.specs.Naming.{begun, dead_place, next_id, place_in, with_first_version, with_id, with_thing}
-use Rattle.pg_calls.specs.Paths.{paths_of}
+use Rattle.pg_checks.specs.Paths.{paths_of}
 use Rattle.pg_calls.proofs.Checked.{behind, no_ok, same_ok, unless_ok}
 use Rattle.pg_calls.proofs.Walked.{file_found, full_own, reach_ok, thing_found}
 use Rattle.pg_places.proofs.Origins.{IsMade}

@@ -1,6 +1,6 @@
 -- Under the house rules names only grow, and each entry stays at its own child.
 use Rattle.std.proofs.Common.{ℕ, ◌≡◌, ◌<◌, Bool, true, false, List, [], ◌∷◌, length, Option, None, Some, refl, sym, ap, subst, ◌∙◌, inl, inr, arith}
-use Rattle.std.proofs.lemmas.Bool.{false≢true}
+use Rattle.std.proofs.lemmas.Bool.{false≢true, or_left}
 use Rattle.std.proofs.lemmas.Option.{none-some, same_Some}
 use Rattle.pg_base.specs.declared.id.FileId.{FileId}
 use Rattle.pg_base.specs.declared.stamp.Stamp.{Stamp}
@@ -31,7 +31,7 @@ use Rattle.pg_house.proofs.NoCycles.{inner_parts, some_dirs}
 use Rattle.pg_house.proofs.Passes.{one_pass}
 use Rattle.pg_house.proofs.Placed.{Settled, made_dirs, placed_is_last, placed_settled}
 use Rattle.pg_house.proofs.Repeating.{repeated_keeps}
-use Rattle.pg_house.proofs.Truths.{or_cases, or_left}
+use Rattle.pg_house.proofs.Truths.{or_cases}
 use Rattle.pg_house.proofs.Lasting.{drawn_late}
 use Rattle.pg_promises.specs.Names.{AreNamesUpTo, IsEntryKnownBy}
 use Rattle.pg_promises.specs.UpTo.{AreFlagsUpTo, IsPlaceUpTo}

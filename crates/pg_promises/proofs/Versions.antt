@@ -1,6 +1,7 @@
 -- A version comes to a server, or is made there: what edges promise is kept, and the version is held.
 use Rattle.std.proofs.Common.{ℕ, ◌≡◌, ◌+◌, Bool, true, false, not, cond, List, [], ◌∷◌, length, Option, None, Some, option_map, refl, sym, ap, subst, ◌∙◌, arith, inl, inr, ◌⊎◌}
 use Rattle.std.proofs.lemmas.Bool.Decides.{nat_tests}
+use Rattle.std.proofs.lemmas.Bool.{not-true, not-false}
 use Rattle.pg_base.specs.declared.id.FileId.{FileId}
 use Rattle.pg_base.specs.declared.stamp.Stamp.{Stamp}
 use Rattle.pg_base.specs.Version.{VersionValue}
@@ -33,7 +34,6 @@ use Rattle.pg_replica.proofs.Drawn.{seen as heads_seen, version_draws, write_dra
 use Rattle.pg_replica.proofs.Growth.{CanTake, CoversItself, cell_head, head_at as head_found}
 use Rattle.pg_replica.proofs.Order.{version_order, write_order}
 use Rattle.pg_store.specs.declared.store.Store.{Store}
-use Rattle.pg_house.proofs.Truths.{not_true}
 use Rattle.pg_names.specs.Names.{raise}
 use Rattle.pg_replica.specs.Replicas.{ByFile, edge_count, or_nothing, put_replica, replicas_taking, replicas_writing, takes_version}
 use Rattle.pg_store.specs.Cells.{cell_at, flag_cell, version_cell}
@@ -182,10 +182,6 @@ module _ (a : Store) (file : FileId) (x y : Replica) (held : replica_at a file �
 
 -- ---- a write, and a version that comes
 
-not_of : (t : Bool) → not t ≡ false → t ≡ true
-not_of true h = refl
-not_of false h = absurd (let z : true ≡ false = h in cc)
-
 -- the same, by what there is of the file
 abbrev with_news_of : Store → FileId → Stamp → Option Replica → ByFile → Store
 with_news_of a file stamp o rs = with_names (with_drawn a (edge_count o) rs) (raise a.names stamp.time)
@@ -279,7 +275,7 @@ module _ (a : Store) (file : FileId) (w : Replica) (held : replica_at a file ≡
 
     took_known : Puts (took (Some w))
     took_known = decided (λ b. Puts b) (not (covers w V)) (with_new a file w Next V.head.stamp) a
-        (λ t. puts_new (not_true (covers w V) t)) (λ f. puts_old (not_of (covers w V) f))
+        (λ t. puts_new (not-true (covers w V) t)) (λ f. puts_old (not-false (covers w V) f))
 
     -- A VERSION OF THE HISTORY COMES
     pub version_put : Puts (take_version a file V)

@@ -1,6 +1,6 @@
 -- Wherever no message is under way and nothing is owed, servers that are joined for a thing hold the same of it.
 use Rattle.std.proofs.Common.{[], ℕ, ◌≡◌, ◌≤◌, not, true, false, length, List, ◌∷◌, Option, None, Some, is_some, refl, sym, ap, subst, ◌∙◌, arith}
-use Rattle.std.proofs.lemmas.Bool.{false≢true}
+use Rattle.std.proofs.lemmas.Bool.{false≢true, and_from}
 use Rattle.std.proofs.lemmas.Bool.Decides.{nat_tests}
 use Rattle.std.proofs.lemmas.List.{take_all}
 use Rattle.pg_base.specs.declared.id.FileId.{FileId}
@@ -34,7 +34,6 @@ use Rattle.pg_run.proofs.Found.{flag_found, listed_edge}
 use Rattle.pg_run.proofs.Frame.{live_is}
 use Rattle.pg_quiet.specs.Given.{AgreementIsGiven}
 use Rattle.pg_quiet.specs.Laws.{HoldTheSame, QuietStoresAgree}
-use Rattle.pg_house.proofs.Truths.{both_true}
 use Rattle.pg_quiet.proofs.Across.{IsHadAcross, entries_up, flags_up, heads_up, peer_is, place_up}
 use Rattle.pg_quiet.proofs.Alike.{AreOneEntry, entries_alike, flags_alike, same_place}
 
@@ -199,7 +198,7 @@ module _ (n : ℕ) (g : AgreementIsGiven n) (events : List Event) (quiet : IsQui
       let at = (g.views events s i.least i.most).edges file x edge.edge e.here.is edge.among in
       let gone : is_removed (removals W.journal) t ≡ false =
       ap (λ (rs : List ℕ). is_removed rs t) (sym (all_known s live)) ∙ ap (is_removed (A s).names.removed) (sym edge.to) ∙ at in
-      both_true (is_server n t) (not (is_removed (removals W.journal) t)) (server_is n t other.least other.most) (ap not gone)
+      and_from (is_server n t) (not (is_removed (removals W.journal) t)) (server_is n t other.least other.most) (ap not gone)
 
   along : (between : List ℕ) (s t : ℕ) → Lives s → Lives t → IsChain W file s between t → HoldTheSame (A s) (A t) file
   along [] s t ls lt e = one_edge s t ls lt e

@@ -1,6 +1,6 @@
 -- Where a run is quiet and its things are connected, each thing is listed where it stands, and nowhere else.
 use Rattle.std.proofs.Common.{ℕ, ◌≡◌, ◌≢◌, Bool, true, false, List, Option, None, Some, refl, sym, ap, subst, ◌∙◌, arith}
-use Rattle.std.proofs.lemmas.Bool.{false≢true}
+use Rattle.std.proofs.lemmas.Bool.{false≢true, and_parts}
 use Rattle.std.proofs.lemmas.Bool.Decides.{nat_tests}
 use Rattle.std.proofs.lemmas.Option.{none-some, same_Some}
 use Rattle.pg_base.specs.declared.id.FileId.{FileId}
@@ -20,7 +20,7 @@ use Rattle.pg_names.specs.declared.own.Own.{Own}
 use Rattle.pg_names.specs.Names.{cell_at, is_dir, or_blank, own_at}
 use Rattle.pg_register.specs.declared.place.Place.{Place}
 use Rattle.pg_register.specs.Place.{root}
-use Rattle.pg_house.proofs.Truths.{and_true, before_itself}
+use Rattle.pg_house.proofs.Truths.{before_itself}
 use Rattle.pg_settled.specs.Listing.{cell_place, own_place}
 use Rattle.pg_run.specs.Laws.{IsListedOnly, Lists, Stands}
 use Rattle.pg_run.specs.Run.{World, is_live}
@@ -111,7 +111,7 @@ module _ (n : ℕ) (w : World) (sent : List Letter) (k : Facts n w) (kept : Kept
   -- what a directory lists, as directories see it
   lists_seen : (d f : FileId) (c : Entry) → (l : Lists n w d f c) → protocol.Lists of_stores (w.stores l.server) d f c.place
   lists_seen d f c l =
-      let parts = and_true c.place.live (is_same_file c.place.parent d) l.listed in
+      let parts = and_parts c.place.live (is_same_file c.place.parent d) l.listed in
       let parent : c.place.parent ≡ d = is_same_file-true c.place.parent d parts.1 in
       let P : FileId → Type 0 = λ x. cell_at (w.stores l.server).names d x ≡ Some c in
       record {

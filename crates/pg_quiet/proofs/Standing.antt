@@ -1,7 +1,7 @@
 -- Where a run is quiet, no place is held back, and each thing has the place that its parent has of it.
 use Rattle.std.proofs.Common.{ℕ, ◌≡◌, ◌&&◌, not, Bool, true, false, List, [], Option, Some, refl, sym, ap, subst, ◌∙◌, inl, inr}
 use Rattle.std.specs.Map.{keys_of}
-use Rattle.std.proofs.lemmas.Bool.{false≢true}
+use Rattle.std.proofs.lemmas.Bool.{false≢true, and_from, and_left, not_from_false}
 use Rattle.pg_base.specs.declared.id.FileId.{FileId}
 use Rattle.pg_base.specs.Id.{is_same_file}
 use Rattle.pg_base.specs.Stamp.{is_before}
@@ -19,7 +19,6 @@ use Rattle.pg_house.specs.Returning.{is_dead, is_root}
 use Rattle.pg_house.proofs.Counting.{among_kept}
 use Rattle.pg_house.proofs.Ends.{key_of_held}
 use Rattle.pg_house.proofs.Greatest.{cell_is}
-use Rattle.pg_house.proofs.Truths.{both_true, first_false, not_false}
 use Rattle.pg_store.specs.declared.store.Store.{Store}
 use Rattle.pg_server.specs.Owing.{held_at, owed}
 use Rattle.pg_run.specs.Run.{World, is_live}
@@ -34,7 +33,7 @@ none_owed_back : (a : Store) → owed a ≡ [] → held_back a.names ≡ []
 none_owed_back a h = map_empty (held_at a.names.server) (held_back a.names) (nothing_back a h)
 
 by_dir : (s : NamesValue) (f : FileId) (own : Own) (d t : Bool) → is_dir f ≡ d → is_dir_back s f ≡ t → held_back s ≡ [] → own_at s f ≡ Some own → is_same_file f root ≡ false → is_held_back s.removed f own (greatest s f own (directories s)) ≡ false
-by_dir s f own false t file e none held apart = first_false (is_dir f) _ file
+by_dir s f own false t file e none held apart = and_left (is_dir f) _ file
 by_dir s f own true false dir e none held apart =
     ap (is_back s (directories s) f) (sym held) ∙ ap (λ b. not b && is_back s (directories s) f (own_at s f)) (sym apart) ∙ e
 by_dir s f own true true dir e none held apart =
@@ -46,7 +45,7 @@ live_by : (d : FileId) (place : Place) (t : Bool) → place.live ≡ t → is_sa
     → is_dead d place ≡ false → t ≡ true
 live_by d place true e apart some alive = refl
 live_by d place false e apart some alive =
-    absurd (false≢true (sym alive ∙ both_true (not (is_root d)) _ (not_false (is_root d) apart) (both_true (not place.live) _ (not_false place.live e) some)))
+    absurd (false≢true (sym alive ∙ and_from (not (is_root d)) _ (not_from_false (is_root d) apart) (and_from (not place.live) _ (not_from_false place.live e) some)))
 
 module _ (n : ℕ) (w : World) (k : Facts n w) (s : ℕ) (there : is_live n w s ≡ true) where
   abbrev Names : NamesValue
@@ -111,7 +110,7 @@ module _ (n : ℕ) (w : World) (k : Facts n w) (s : ℕ) (there : is_live n w s 
 
     pub listed : is_listed Parent parent_cell.0 ≡ true
     listed =
-        ap (is_listed Parent) parent_cell.2 ∙ both_true own.place.live (is_same_file Parent Parent) live (is_same_file-refl Parent)
+        ap (is_listed Parent) parent_cell.2 ∙ and_from own.place.live (is_same_file Parent Parent) live (is_same_file-refl Parent)
 
     -- and is live
     pub parent_live : parent_held.0.place.live ≡ true

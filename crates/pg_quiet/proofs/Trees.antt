@@ -1,6 +1,6 @@
 -- Where a run is quiet and its things are connected, names form a tree, and no dead directory holds what survives.
 use Rattle.std.proofs.Common.{ℕ, zero, suc, ◌≡◌, ◌+◌, not, Bool, true, false, length, Option, Some, refl, sym, ap, ◌∙◌}
-use Rattle.std.proofs.lemmas.Bool.{false≢true}
+use Rattle.std.proofs.lemmas.Bool.{false≢true, and_from, not_from_false}
 use Rattle.pg_base.specs.declared.id.FileId.{FileId}
 use Rattle.pg_base.specs.Id.{is_same_file}
 use Rattle.pg_base.proofs.Orders.{is_same_file-true}
@@ -13,7 +13,7 @@ use Rattle.pg_house.specs.Placing.{place_at, place_of}
 use Rattle.pg_house.specs.Returning.{is_root}
 use Rattle.pg_house.proofs.Counting.{among_kept}
 use Rattle.pg_house.proofs.Ends.{key_of_held}
-use Rattle.pg_house.proofs.Truths.{both_true, chosen_true, not_false}
+use Rattle.pg_house.proofs.Truths.{chosen_true}
 use Rattle.pg_run.specs.Run.{World, is_live}
 use Rattle.pg_run.specs.Laws.{IsBroughtBack, IsTree, LeadsToRoot, Stands, Survives}
 use Rattle.pg_quiet.proofs.Facts.{Facts, holds_of}
@@ -31,7 +31,7 @@ module _ (n : ℕ) (w : World) (k : Facts n w) where
     here f own held live = record { server = s; there = there; own = own; held = held; is = refl; live = live }
 
     inner : (f : FileId) (own : Own) → own_at Names f ≡ Some own → own.place.live ≡ true → is_same_file f root ≡ false → is_dir f ≡ true → is_inner Names f ≡ true
-    inner f own held live apart dir = both_true (is_dir f) _ dir (both_true (not (is_root f)) _ (not_false (is_root f) apart) (ap is_live_own held ∙ live))
+    inner f own held live apart dir = and_from (is_dir f) _ dir (and_from (not (is_root f)) _ (not_from_false (is_root f) apart) (ap is_live_own held ∙ live))
 
     -- one step more
     step : (f : FileId) (own : Own) → own_at Names f ≡ Some own → own.place.live ≡ true → (i : ℕ) → LeadsToRoot n w i own.place.parent → (j : ℕ) × LeadsToRoot n w j f

@@ -2,7 +2,7 @@
 use Rattle.std.proofs.Common.{◌≡◌, Bool, true, false, cond, List, [], ◌∷◌, filter, is_some, refl, sym, ap, ◌∙◌}
 use Rattle.std.specs.List.{AllByRecursion, list_any}
 use Rattle.std.specs.Map.{keys_of}
-use Rattle.std.proofs.lemmas.Bool.{false≢true}
+use Rattle.std.proofs.lemmas.Bool.{false≢true, or_left, or_right}
 use Rattle.pg_base.specs.declared.id.FileId.{FileId}
 use Rattle.pg_base.specs.Id.{is_same_file}
 use Rattle.pg_base.proofs.Orders.{is_same_file-refl}
@@ -29,7 +29,6 @@ use Rattle.pg_repair.specs.Needed.{LeavesNothing}
 use Rattle.pg_repair.specs.Patches.{begin_patch, begin_patches}
 use Rattle.pg_graph.specs.Seeks.{has_seek, is_seeking, to_seek}
 use Rattle.pg_repair.proofs.Leaves.{AllPass, Passes, all_moved, ended_pass}
-use Rattle.pg_repair.proofs.Needs.{first_true, second_true}
 use Rattle.pg_repair.proofs.Sought.{has_its_seek, seeks_moved}
 use Rattle.pg_repair.proofs.Standing.{among, confirmed_in_doubt, has_its_fill, moved}
 use Rattle.pg_repair.proofs.Steady.{HaveFills, HaveSeeks, begin_end_stays, fills_idle, seeks_idle}
@@ -73,15 +72,15 @@ module _ (a : Store) (fills : FillsFit a) (seeks : SeeksFit a) (confirms : Confi
       → AllByRecursion (λ (i : Intent). still_stands a (files_to_fill a.names) i ≡ true) is
   all_stand [] part pass = tt
   all_stand (i ∷ is) part pass = (
-    each_stands i (part (key_of i) (first_true (has_key (key_of i) i) (stands is (key_of i)) (is_same_key-refl (key_of i)))) pass.0,
-    all_stand is (λ (k : IntentKey) (h : stands is k ≡ true). part k (second_true (has_key k i) (stands is k) h)) pass.1,
+    each_stands i (part (key_of i) (or_left (has_key (key_of i) i) (stands is (key_of i)) (is_same_key-refl (key_of i)))) pass.0,
+    all_stand is (λ (k : IntentKey) (h : stands is k ≡ true). part k (or_right (has_key k i) (stands is k) h)) pass.1,
   )
 
   all_filled : (files : List FileId) → ((f : FileId) → list_any (is_same_file f) files ≡ true → is_some (fill_at a f) ≡ true) → HaveFills a files
   all_filled [] part = tt
   all_filled (file ∷ files) part = (
-    part file (first_true (is_same_file file file) (list_any (is_same_file file) files) (is_same_file-refl file)),
-    all_filled files (λ (f : FileId) (h : list_any (is_same_file f) files ≡ true). part f (second_true (is_same_file f file) (list_any (is_same_file f) files) h)),
+    part file (or_left (is_same_file file file) (list_any (is_same_file file) files) (is_same_file-refl file)),
+    all_filled files (λ (f : FileId) (h : list_any (is_same_file f) files ≡ true). part f (or_right (is_same_file f file) (list_any (is_same_file f) files) h)),
   )
 
   have_fills : HaveFills a (to_fill a.names)

@@ -4,7 +4,7 @@ use Rattle.std.specs.BTreeMap.{insert_entry, is_at}
 use Rattle.std.specs.List.{All, list_any}
 use Rattle.std.specs.List.Sorted.{IsStrictlySortedBy}
 use Rattle.std.specs.Map.{keys_of, lookup}
-use Rattle.std.proofs.lemmas.Bool.{false≢true}
+use Rattle.std.proofs.lemmas.Bool.{false≢true, not-true, and_parts, and_from, or_left, or_right, not_from_false}
 use Rattle.std.proofs.lemmas.List.Elements.{All-head, All-tail}
 use Rattle.std.proofs.lemmas.Option.{none-some, same_Some}
 use Rattle.pg_base.specs.declared.id.FileId.{FileId}
@@ -20,30 +20,9 @@ use Rattle.pg_repair.specs.Needed.{IsLackedParent, IsToFill, IsWhatIsToFill}
 
 -- ---- truths
 
-both_true : (a b : Bool) → (a && b) ≡ true → (a ≡ true) × (b ≡ true)
-both_true true b h = (refl, h)
-both_true false b h = absurd (false≢true h)
-
-are_true : (a b : Bool) → a ≡ true → b ≡ true → (a && b) ≡ true
-are_true a b first second = ap (λ t. t && b) first ∙ second
-
 one_true : (a b : Bool) → (a || b) ≡ true → (a ≡ true) ⊎ (b ≡ true)
 one_true true b h = inl refl
 one_true false b h = inr h
-
-pub first_true : (a b : Bool) → a ≡ true → (a || b) ≡ true
-first_true a b h = ap (λ t. t || b) h
-
-pub second_true : (a b : Bool) → b ≡ true → (a || b) ≡ true
-second_true true b h = refl
-second_true false b h = h
-
-not_true : (a : Bool) → not a ≡ true → a ≡ false
-not_true true h = absurd (false≢true h)
-not_true false h = refl
-
-not_false : (a : Bool) → a ≡ false → not a ≡ true
-not_false a h = ap not h
 
 left_true : (a : Bool) → (a || false) ≡ true → a ≡ true
 left_true true h = refl
@@ -80,8 +59,8 @@ there_by : (p : Held → Bool) (k : FileId) (x : HeldValue) (h : Held) (hs : Lis
 there_by p k x h hs true same rest there passes =
     let q : (a b : FileId) (v w : HeldValue) → a ≡ b → v ≡ w → p (a, w) ≡ true → p (b, v) ≡ true =
     λ a b v w ab vw is. subst (λ (f : FileId). p (f, v) ≡ true) ab (subst (λ (y : HeldValue). p (a, y) ≡ true) (sym vw) is) in
-    first_true (p h) (list_any p hs) (q k h.0 h.1 x (is_same_file-true k h.0 same) (same_Some h.1 x there) passes)
-there_by p k x h hs false same rest there passes = second_true (p h) (list_any p hs) (rest there)
+    or_left (p h) (list_any p hs) (q k h.0 h.1 x (is_same_file-true k h.0 same) (same_Some h.1 x there) passes)
+there_by p k x h hs false same rest there passes = or_right (p h) (list_any p hs) (rest there)
 
 -- what a look-up finds, and passes
 there_any : (p : Held → Bool) (k : FileId) (x : HeldValue) → p (k, x) ≡ true → (hs : List Held) → lookup (is_at (file_cmp k)) hs ≡ Some x → list_any p hs ≡ true
@@ -138,39 +117,39 @@ module _ (s : NamesValue) (f : FileId) where
 
   lacks_it : (l : IsLackedParent s f) → lacks_parent s l.child l.x ≡ true
   lacks_it l =
-      are_true (not (is_root l.child)) (l.x.own.place.live && not (is_held s l.x.own.place.parent)) (not_false (is_root l.child) l.inner)
-      (are_true l.x.own.place.live (not (is_held s l.x.own.place.parent)) l.live
-      (not_false (is_held s l.x.own.place.parent) (ap (is_held s) l.parent ∙ l.away)))
+      and_from (not (is_root l.child)) (l.x.own.place.live && not (is_held s l.x.own.place.parent)) (not_from_false (is_root l.child) l.inner)
+      (and_from l.x.own.place.live (not (is_held s l.x.own.place.parent)) l.live
+      (not_from_false (is_held s l.x.own.place.parent) (ap (is_held s) l.parent ∙ l.away)))
 
   some_brings : IsToFill s f → list_any brings s.held ≡ true
   some_brings (inl it) =
       there_any brings f it.0
-      (second_true (is_above (f, it.0)) (is_it (f, it.0)) (are_true (not it.0.full) (is_same_file f f) (not_false it.0.full it.2) (is_same_file-refl f)))
+      (or_right (is_above (f, it.0)) (is_it (f, it.0)) (and_from (not it.0.full) (is_same_file f f) (not_from_false it.0.full it.2) (is_same_file-refl f)))
       s.held it.1
   some_brings (inr l) =
       there_any brings l.child l.x
-      (first_true (is_above (l.child, l.x)) (is_it (l.child, l.x))
-      (are_true (lacks_parent s l.child l.x) (is_same_file f l.x.own.place.parent) (lacks_it l) (ap (is_same_file f) l.parent ∙ is_same_file-refl f)))
+      (or_left (is_above (l.child, l.x)) (is_it (l.child, l.x))
+      (and_from (lacks_parent s l.child l.x) (is_same_file f l.x.own.place.parent) (lacks_it l) (ap (is_same_file f) l.parent ∙ is_same_file-refl f)))
       s.held l.held
 
   brought_by : (h : Held) → known s h.0 ≡ Some h.1 → (is_above h ≡ true) ⊎ (is_it h ≡ true) → IsToFill s f
   brought_by h there (inl above) =
-      let both = both_true (lacks_parent s h.0 h.1) (is_same_file f h.1.own.place.parent) above in
-      let parts = both_true (not (is_root h.0)) (h.1.own.place.live && not (is_held s h.1.own.place.parent)) both.0 in
-      let more = both_true h.1.own.place.live (not (is_held s h.1.own.place.parent)) parts.1 in
+      let both = and_parts (lacks_parent s h.0 h.1) (is_same_file f h.1.own.place.parent) above in
+      let parts = and_parts (not (is_root h.0)) (h.1.own.place.live && not (is_held s h.1.own.place.parent)) both.0 in
+      let more = and_parts h.1.own.place.live (not (is_held s h.1.own.place.parent)) parts.1 in
       let same = is_same_file-true f h.1.own.place.parent both.1 in
       inr (record {
-        away = ap (is_held s) same ∙ not_true (is_held s h.1.own.place.parent) more.1;
+        away = ap (is_held s) same ∙ not-true (is_held s h.1.own.place.parent) more.1;
         child = h.0;
         x = h.1;
         held = there;
-        inner = not_true (is_root h.0) parts.0;
+        inner = not-true (is_root h.0) parts.0;
         live = more.0;
         parent = sym same;
       })
   brought_by h there (inr it) =
-      let both = both_true (not h.1.full) (is_same_file f h.0) it in
-      inl (h.1, ap (known s) (is_same_file-true f h.0 both.1) ∙ there, not_true h.1.full both.0)
+      let both = and_parts (not h.1.full) (is_same_file f h.0) it in
+      inl (h.1, ap (known s) (is_same_file-true f h.0 both.1) ∙ there, not-true h.1.full both.0)
 
   brought : IsStrictlySortedBy file_cmp (keys_of s.held) → list_any brings s.held ≡ true → IsToFill s f
   brought sorted any =
@@ -179,7 +158,7 @@ module _ (s : NamesValue) (f : FileId) where
 
 -- what is to be filled comes, with no premise on the order
 pub needed_comes : (s : NamesValue) (f : FileId) → IsToFill s f → is_in (files_to_fill s) f ≡ true
-needed_comes s f need = each_in s f s.held [] ∙ first_true (list_any (brings s f) s.held) false (some_brings s f need)
+needed_comes s f need = each_in s f s.held [] ∙ or_left (list_any (brings s f) s.held) false (some_brings s f need)
 
 pub what_is_needed : (s : NamesValue) (f : FileId) → IsWhatIsToFill s f
 what_is_needed s f = λ sorted.

@@ -6,7 +6,7 @@ use Rattle.std.specs.List.{AllByRecursion, list_any}
 use Rattle.std.specs.List.Sorted.{IsStrictlySortedBy}
 use Rattle.std.specs.Map.{keys_of, lookup}
 use Rattle.std.specs.Ordering.{is_eq, ordering_then}
-use Rattle.std.proofs.lemmas.Bool.{false≢true}
+use Rattle.std.proofs.lemmas.Bool.{false≢true, or_parts, and_parts}
 use Rattle.std.proofs.lemmas.Map.Keys.{sorted_head, sorted_tail}
 use Rattle.pg_base.specs.declared.id.FileId.{FileId}
 use Rattle.pg_base.specs.Id.{file_cmp, is_same_file}
@@ -128,14 +128,6 @@ module _ (d c : FileId) where
 
 -- ---- what is found with the key of a Patch
 
-both_false : (a b : Bool) → (a || b) ≡ false → (a ≡ false) × (b ≡ false)
-both_false true b h = absurd (false≢true (sym h))
-both_false false b h = (refl, h)
-
-both_hold : (a b : Bool) → (a && b) ≡ true → (a ≡ true) × (b ≡ true)
-both_hold true b h = (refl, h)
-both_hold false b h = absurd (false≢true h)
-
 module _ (d c : FileId) where
   abbrev key : IntentKey
   key = intent_key.Patch d c
@@ -166,13 +158,13 @@ module _ (d c : FileId) where
       → intent_at (each begin_patch s xs w).store.intents key ≡ intent_at s.intents key
   others_at [] s w none = refl
   others_at (x ∷ xs) s w none =
-      let parts = both_false (is_slot d c x) (list_any (is_slot d c) xs) none in
+      let parts = or_parts (is_slot d c x) (list_any (is_slot d c) xs) none in
       others_at xs (begin_patch s x w).store (begin_patch s x w).work parts.1 ∙ other_at s x w parts.0
 
   here_at : (s : Store) (x : Slot) (w : Work) → is_slot d c x ≡ true → is_held s d ≡ false
       → intent_at (begin_patch s x w).store.intents key ≡ Some (told s w)
   here_at s x w same away =
-      let parts = both_hold (is_same_file d x.dir) (is_same_file c x.child) same in
+      let parts = and_parts (is_same_file d x.dir) (is_same_file c x.child) same in
       let dir = is_same_file-true d x.dir parts.0 in
       let child = is_same_file-true c x.child parts.1 in
       let o = intent_at s.intents key in
@@ -188,7 +180,7 @@ module _ (d c : FileId) where
       → (t || list_any (is_slot d c) xs) ≡ true → is_held s d ≡ false
       → intent_at (each begin_patch s (x ∷ xs) w).store.intents key ≡ Some (told s w)
   patches_by x xs s w single true same rest some away =
-      let parts = both_hold (is_same_file d x.dir) (is_same_file c x.child) same in
+      let parts = and_parts (is_same_file d x.dir) (is_same_file c x.child) same in
       let none = ap (λ (y : FileId). list_any (is_slot y c) xs) (is_same_file-true d x.dir parts.0)
       ∙ ap (λ (y : FileId). list_any (is_slot x.dir y) xs) (is_same_file-true c x.child parts.1) ∙ single.0 in
       others_at xs (begin_patch s x w).store (begin_patch s x w).work none ∙ here_at s x w same away
@@ -244,7 +236,7 @@ module _ (d c : FileId) where
   held_by : (s : Store) (x : Slot) (w : Work) → is_held s d ≡ true → (t : Bool) → is_slot d c x ≡ t
       → intent_at (begin_patch s x w).store.intents key ≡ intent_at s.intents key
   held_by s x w here true same =
-      let dir = is_same_file-true d x.dir (both_hold (is_same_file d x.dir) (is_same_file c x.child) same).0 in
+      let dir = is_same_file-true d x.dir (and_parts (is_same_file d x.dir) (is_same_file c x.child) same).0 in
       ap (λ (t : Bool). intent_at (cond t (idle s w) (begin_intent s (patch_of s x w) w)).store.intents key) (sym (ap (is_held s) dir) ∙ here)
   held_by s x w here false other = other_at s x w other
 

@@ -6,10 +6,10 @@ ghost use Rattle.pg_repair.specs.Confirming.{confirm, end_confirmed, is_confirme
 use pg_base::{FileId, Shared, Stamp};
 use pg_cells::{post, take_entry, take_flags, take_place};
 use pg_entries::Entry;
-use pg_graph::is_same_stamp;
 use pg_house::is_root;
 use pg_intent::IntentKey;
 use pg_msg::{Ask, Message, Work};
+use pg_names::is_same_stamp;
 use pg_store::Store;
 use std::alloc::AllocError;
 

@@ -7,9 +7,9 @@ ghost use Rattle.pg_repair.specs.Telling.{end_told, is_told, tell, tell_ok};
 use pg_base::{FileId, NodeId, Stamp};
 use pg_cells::{post, take_entry};
 use pg_entries::Entry;
-use pg_graph::is_same_stamp;
 use pg_intent::{Intent, IntentKey};
 use pg_msg::{Ask, Message, Work};
+use pg_names::is_same_stamp;
 use pg_store::Store;
 use std::alloc::AllocError;
 

@@ -1,10 +1,10 @@
 -- Replicas whose peers have acknowledged every key.
-use Rattle.std.proofs.Common.{◌≡◌, ℕ, zero, suc, Bool, true, false, cond, not, length, arith, nat_eq, ◌&&◌, ◌==◌, Some, List, [], ◌∷◌, ◌++◌, refl, ap, ◌∙◌, Less, Equal, Greater}
+use Rattle.std.proofs.Common.{◌≡◌, ℕ, zero, suc, Bool, true, false, cond, not, length, arith, nat_eq, ◌==◌, Some, List, [], ◌∷◌, ◌++◌, refl, ap, ◌∙◌, Less, Equal, Greater}
 use Rattle.std.specs.declared.cmp.Ordering.{Ordering}
 use Rattle.std.specs.Ordering.{nat_cmp, match_ordering}
 use Rattle.std.specs.Option.{option_eq}
 use Rattle.std.specs.List.{filter, flat_map}
-use Rattle.std.proofs.lemmas.Bool.{and_parts}
+use Rattle.std.proofs.lemmas.Bool.{and_parts, and_from}
 use Rattle.pg_edges.specs.declared.key.Key.{Key}
 use Rattle.pg_edges.specs.declared.edge.Edge.{Edge}
 use Rattle.pg_edges.specs.Keys.{without}
@@ -32,14 +32,11 @@ clean_edge_by : (key : Key) (e : Edge) (t : Bool) → is_none e.keys ≡ true �
 clean_edge_by key e true h = ap (λ ks. is_none (without ks key)) (is_none-true e.keys h)
 clean_edge_by key e false h = h
 
-both_are : (a b : Bool) → a ≡ true → b ≡ true → (a && b) ≡ true
-both_are a b h k = ap (λ c. c && b) h ∙ k
-
 clean_taken_off : (peer : ℕ) (key : Key) (es : List Edge) → are_clean es ≡ true → are_clean (taken_off es peer key) ≡ true
 clean_taken_off peer key [] h = refl
 clean_taken_off peer key (e ∷ es) h =
     let b = and_parts (is_none e.keys) (are_clean es) h in
-    both_are _ _ (clean_edge_by key e (e.peer == peer) b.0) (clean_taken_off peer key es b.1)
+    and_from _ _ (clean_edge_by key e (e.peer == peer) b.0) (clean_taken_off peer key es b.1)
 
 clean_by : (es fs : List Edge) (t : Bool) → are_clean fs ≡ true → are_clean es ≡ true → are_clean (cond t fs es) ≡ true
 clean_by es fs true h k = h
@@ -53,13 +50,13 @@ clean_acked es peer birth key tag h = clean_by es (taken_off es peer key) (optio
 clean_put_by : (e x : Edge) (es : List Edge) (o : Ordering) → is_none x.keys ≡ true
     → are_clean (e ∷ es) ≡ true → are_clean (put_edge es x) ≡ true
     → are_clean (match_ordering o (x ∷ e ∷ es) (x ∷ es) (e ∷ put_edge es x)) ≡ true
-clean_put_by e x es Less h k ih = both_are _ _ h k
-clean_put_by e x es Equal h k ih = both_are _ _ h (and_parts (is_none e.keys) (are_clean es) k).1
-clean_put_by e x es Greater h k ih = both_are _ _ (and_parts (is_none e.keys) (are_clean es) k).0 ih
+clean_put_by e x es Less h k ih = and_from _ _ h k
+clean_put_by e x es Equal h k ih = and_from _ _ h (and_parts (is_none e.keys) (are_clean es) k).1
+clean_put_by e x es Greater h k ih = and_from _ _ (and_parts (is_none e.keys) (are_clean es) k).0 ih
 
 clean_put : (es : List Edge) (x : Edge) → is_none x.keys ≡ true → are_clean es ≡ true
     → are_clean (put_edge es x) ≡ true
-clean_put [] x h k = both_are _ _ h k
+clean_put [] x h k = and_from _ _ h k
 clean_put (e ∷ es) x h k =
     clean_put_by e x es (nat_cmp x.peer e.peer) h k
     (clean_put es x h (and_parts (is_none e.keys) (are_clean es) k).1)
@@ -90,7 +87,7 @@ clean_kept : (p : Edge → Bool) (es : List Edge) → are_clean es ≡ true → 
 clean_kept p [] h = refl
 clean_kept p (e ∷ es) h =
     let b = and_parts (is_none e.keys) (are_clean es) h in
-    clean_by (filter p es) (e ∷ filter p es) (p e) (both_are _ _ b.0 (clean_kept p es b.1)) (clean_kept p es b.1)
+    clean_by (filter p es) (e ∷ filter p es) (p e) (and_from _ _ b.0 (clean_kept p es b.1)) (clean_kept p es b.1)
 
 pub clean_unlinked : (es : List Edge) (peer birth : ℕ) → are_clean es ≡ true → are_clean (unlinked es peer birth) ≡ true
 clean_unlinked es peer birth h =

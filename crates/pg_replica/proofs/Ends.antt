@@ -7,7 +7,7 @@ use Rattle.std.specs.Map.{keys_of, lookup}
 use Rattle.std.specs.BTreeMap.{insert_entry, is_at}
 use Rattle.std.proofs.lemmas.List.Elements.{All-nil, All-cons, All-head, All-tail, All-filter}
 use Rattle.std.proofs.lemmas.List.Folds.{list_any_none}
-use Rattle.std.proofs.lemmas.Bool.{eq-eqb}
+use Rattle.std.proofs.lemmas.Bool.{eq-eqb, or_parts}
 use Rattle.pg_base.specs.declared.id.FileId.{FileId}
 use Rattle.pg_base.specs.declared.vector.Actor.{Actor}
 use Rattle.pg_base.specs.Id.{file_cmp}
@@ -98,10 +98,6 @@ ends_same us vs file x y listed same =
 
 -- ---- the files that are listed are enough
 
-or_false : (a b : Bool) → (a || b) ≡ false → (a ≡ false) × (b ≡ false)
-or_false true b h = cc
-or_false false b h = (refl, h)
-
 either_none : (a b c : Bool) → b ≡ false → c ≡ false → ((a && b) || c) ≡ false
 either_none true b c h k = cc
 either_none false b c h k = k
@@ -109,7 +105,7 @@ either_none false b c h k = k
 none_own : (server : ℕ) (es : List (Actor × ℕ)) → has_end es ≡ false → has_own_end server es ≡ false
 none_own server [] h = refl
 none_own server (e ∷ es) h =
-    let parts = or_false (nat_le clock_end e.1) (has_end es) h in
+    let parts = or_parts (nat_le clock_end e.1) (has_end es) h in
     either_none (e.0.server == server) (nat_le clock_end e.1) (has_own_end server es) parts.0 (none_own server es parts.1)
 
 none_known : (server : ℕ) (x : Replica) → KnowsNoEnd x → knows_own_end server x ≡ false
@@ -159,7 +155,7 @@ entry_by false same end n o is h none rest = rest
 found_own : (a : Actor) (es : List (Actor × ℕ)) → has_own_end a.server es ≡ false → nat_le clock_end (number_at es a) ≡ false
 found_own a [] h = refl
 found_own a (e ∷ es) h =
-    let parts = or_false (e.0.server == a.server && nat_le clock_end e.1) (has_own_end a.server es) h in
+    let parts = or_parts (e.0.server == a.server && nat_le clock_end e.1) (has_own_end a.server es) h in
     entry_by (is_at (actor_cmp a) e.0) (e.0.server == a.server) (nat_le clock_end e.1) e.1 (lookup (is_at (actor_cmp a)) es)
     (same_server a e.0) refl parts.0 (found_own a es parts.1)
 
@@ -167,7 +163,7 @@ heads_room : (a : Actor) (vs : List VersionValue) → list_any (λ v. has_own_en
     → list_any (λ v. nat_le clock_end (number_at v.head.vector a)) vs ≡ false
 heads_room a [] h = refl
 heads_room a (v ∷ vs) h =
-    let parts = or_false (has_own_end a.server v.head.vector) (list_any (λ (w : VersionValue). has_own_end a.server w.head.vector) vs) h in
+    let parts = or_parts (has_own_end a.server v.head.vector) (list_any (λ (w : VersionValue). has_own_end a.server w.head.vector) vs) h in
     ap (λ b. b || list_any (λ (w : VersionValue). nat_le clock_end (number_at w.head.vector a)) vs)
     (found_own a v.head.vector parts.0)
     ∙ heads_room a vs parts.1
@@ -186,7 +182,7 @@ found_none : (server : ℕ) (file : FileId) (es : ByFile) → have_own_end es se
     → is_own_end_in server (replica_in es file) ≡ false
 found_none server file [] h = refl
 found_none server file (r ∷ rs) h =
-    let parts = or_false (knows_own_end server r.1) (have_own_end rs server) h in
+    let parts = or_parts (knows_own_end server r.1) (have_own_end rs server) h in
     found_by server r.1 (is_at (file_cmp file) r.0) (replica_in rs file) parts.0 (found_none server file rs parts.1)
 
 -- where no number of the server's own is at its end, every replica has room for one more

@@ -2,7 +2,7 @@
 -- holds at the start, and outlives both, holds in every run.
 use Rattle.std.proofs.Common.{[], ℕ, ◌≡◌, ◌==◌, ◌≢◌, ◌≤◌, Bool, true, false, cond, List, ◌∷◌, ◌++◌, Option, None, Some, inl, inr, refl, sym, ap, subst, ◌∙◌, All}
 use Rattle.std.specs.Prelude.{Contains, nat_le, not}
-use Rattle.std.proofs.lemmas.Bool.{and_parts, leb-true}
+use Rattle.std.proofs.lemmas.Bool.{and_parts, leb-true, not-true}
 use Rattle.std.proofs.lemmas.List.Elements.{All-append, All-cons, All-contains_itself, All-filter, All-head, All-nil, All-tail}
 use Rattle.pg_msg.specs.declared.message.Sent.{Sent}
 use Rattle.pg_call.specs.declared.call.Call.{Call}
@@ -93,16 +93,12 @@ pub record IsLive (n : ℕ) (w : World) (s : ℕ) : Type 0 where
   pub most : s ≤ n
   pub live : is_removed (removals w.journal) s ≡ false
 
-not_removed : (t : Bool) → not t ≡ true → t ≡ false
-not_removed true h = absurd (let z : false ≡ true = h in cc)
-not_removed false h = refl
-
 pub live_is : (n : ℕ) (w : World) (s : ℕ) → is_live n w s ≡ true → IsLive n w s
 live_is n w s h =
     let gone = is_removed (removals w.journal) s in
     let parts = and_parts (is_server n s) (not gone) h in
     let ends = and_parts (nat_le 1 s) (nat_le s n) parts.0 in
-    record { least = leb-true 1 s ends.0; most = leb-true s n ends.1; live = not_removed gone parts.1 }
+    record { least = leb-true 1 s ends.0; most = leb-true s n ends.1; live = not-true gone parts.1 }
 
 -- what comes of an event in which this is taken, or nothing
 abbrev pub IsFramed : ℕ → World → Event → Option Taking → Step → Type 0

@@ -37,7 +37,7 @@ use Rattle.pg_walk.specs.declared.paths.Stop.{Stop}
 use Rattle.pg_store.specs.Views.{enter}
 use Rattle.pg_names.specs.declared.own.Own.{Own}
 use Rattle.pg_names.specs.Names.{own_at}
-use Rattle.pg_calls.specs.Answer.{Answer, answer, answered, told}
+use Rattle.pg_checks.specs.Answer.{Answer, answer, answered, told}
 use Rattle.pg_calls.specs.Calls.{do_call}
 use Rattle.pg_calls.specs.GivingUp.{doubt_all, enter_view, removal_at}
 use Rattle.pg_graph.specs.Seeks.{edges_of, matches}

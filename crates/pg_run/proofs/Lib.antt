@@ -23,3 +23,8 @@ pub mod Tails
 pub mod TailsOfCalls
 pub mod LastWalks
 pub mod Ticks
+pub mod Holders
+pub mod Sends
+pub mod SendsLosses
+pub mod SendsCalls
+pub mod Still

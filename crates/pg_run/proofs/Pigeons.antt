@@ -3,7 +3,7 @@
 use Rattle.std.proofs.Common.{◌≡◌, ℕ, zero, suc, ◌<◌, ◌≤◌, ◌+◌, ◌-◌, Bool, true, false, ◌||◌, not, cond, List, [], ◌∷◌, length, None, refl, sym, ap, ◌∙◌, subst, arith, inl, inr, ◌⊎◌}
 use Rattle.std.specs.List.{filter}
 use Rattle.std.specs.Map.{keys_of}
-use Rattle.std.proofs.lemmas.Bool.{cases_lt, false≢true}
+use Rattle.std.proofs.lemmas.Bool.{cases_lt, false≢true, not_from_false}
 use Rattle.pg_base.specs.declared.id.FileId.{FileId}
 use Rattle.pg_base.specs.Id.{is_same_file}
 use Rattle.pg_base.proofs.Orders.{is_same_file-true}
@@ -14,7 +14,6 @@ use Rattle.pg_house.proofs.AllClimb.{climb_add, inner_below}
 use Rattle.pg_house.proofs.Counting.{among_kept}
 use Rattle.pg_house.proofs.Ends.{key_of_held}
 use Rattle.pg_house.proofs.NoCycles.{inner_parts}
-use Rattle.pg_house.proofs.Truths.{not_false}
 
 -- ---- one thing is looked for
 
@@ -86,7 +85,7 @@ twice f (suc n) ds up all =
       | inl r ↦ (r.0, suc n, r.1, omega arith, is_same_file-true (f r.0) x r.2)
       | inr none ↦ later f n (twice f n rest
           (shorter (length rest) (length ds) n (fewer x ds (all (suc n) (omega arith))) up)
-          (λ i le. among_kept (is_other x) ds (f i) (all i (omega arith)) (not_false (is_same_file (f i) x) (none i (omega arith)))))
+          (λ i le. among_kept (is_other x) ds (f i) (all i (omega arith)) (not_from_false (is_same_file (f i) x) (none i (omega arith)))))
     ]
 
 -- ---- directories

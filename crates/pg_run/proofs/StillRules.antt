@@ -2,6 +2,7 @@
 -- touch and make nothing.
 use Rattle.std.proofs.Common.{◌≡◌, ℕ, true, false, not, List, length, ap, ◌∙◌, arith}
 use Rattle.std.specs.Map.{keys_of}
+use Rattle.std.proofs.lemmas.Bool.{not-true}
 use Rattle.pg_base.specs.declared.id.FileId.{FileId}
 use Rattle.pg_base.specs.Id.{is_same_file}
 use Rattle.pg_register.specs.Place.{root}
@@ -18,7 +19,6 @@ use Rattle.pg_house.proofs.Counting.{kept_dir}
 use Rattle.pg_house.proofs.Repeating as repeating
 use Rattle.pg_house.proofs.Repeating.{none_returns, repeated_still}
 use Rattle.pg_house.proofs.Settling.{all_idle, dirs_held, none_returns_at}
-use Rattle.pg_house.proofs.Truths.{not_true}
 use Rattle.pg_run.specs.Laws.{IsInOrder}
 use Rattle.pg_run.proofs.Pigeons.{none_moves}
 
@@ -32,7 +32,7 @@ module _ (moment : ℕ) (s : NamesValue) (work : Work) (order : IsInOrder s) (or
   Ds = directories s
 
   apart_of : (g : FileId) → is_among g (movable s) ≡ true → is_same_file g root ≡ false
-  apart_of g among = not_true (is_root g) (kept_dir (λ f. not (is_root f)) (keys_of s.held) g among)
+  apart_of g among = not-true (is_root g) (kept_dir (λ f. not (is_root f)) (keys_of s.held) g among)
 
   no_pass : pass_all St Ds (movable s) ≡ St
   no_pass = all_idle St Ds (movable s) (dirs_held s) (λ g among own h. (order.passing g own h (apart_of g among), order.own_parent g own h (apart_of g among)))

@@ -23,8 +23,8 @@ use Rattle.pg_store.specs.declared.store.Store.{Store}
 use Rattle.pg_store.specs.Store.{entry_news, is_held}
 use Rattle.pg_cells.specs.Done.{Done}
 use Rattle.pg_cells.specs.Taking.{is_any_news, with_news}
-use Rattle.pg_calls.specs.Answer.{Answer, answer, answered}
-use Rattle.pg_calls.specs.Asking.{cell_in, is_later, later, latest}
+use Rattle.pg_checks.specs.Answer.{Answer, answer, answered}
+use Rattle.pg_checks.specs.Asking.{cell_in, is_later, later, latest}
 use Rattle.pg_calls.specs.Forgetting.{bare_entry, begin_lost, dead_at, dirs_of, fill_lost, forget_lost, lists_in, lost_at, mark, marked_each, strike_out, struck_out, unwished}
 use Rattle.pg_server.specs.declared.input.Input.{Input}
 use Rattle.pg_server.specs.declared.input.Input.TheVariants as input

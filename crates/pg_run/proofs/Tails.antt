@@ -48,7 +48,7 @@ use Rattle.pg_repair.specs.Telling.{tell}
 use Rattle.pg_graph.specs.Leaving.{begin_byes, bye_to, gives_leave, goes, goes_or_stays, leave, leave_given, leave_ok, may_leave, without_leave}
 use Rattle.pg_cells.specs.Intending.{begin_intent}
 use Rattle.pg_cells.specs.Parting.{stays_for}
-use Rattle.pg_calls.specs.Answer.{Answer}
+use Rattle.pg_checks.specs.Answer.{Answer}
 use Rattle.pg_calls.specs.Making.{make_place}
 use Rattle.pg_promises.proofs.Choices.{chosen}
 use Rattle.pg_names.specs.Names as names

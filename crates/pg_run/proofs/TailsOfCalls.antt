@@ -22,8 +22,8 @@ use Rattle.pg_cells.specs.Golds.{is_gold}
 use Rattle.pg_cells.specs.Done.{idle}
 use Rattle.pg_cells.specs.Making.{lower_flag, own_next, raise_flag}
 use Rattle.pg_cells.specs.Posting.{post}
-use Rattle.pg_calls.specs.Answer.{Answer, answered, deny}
-use Rattle.pg_calls.specs.Asking.{ask_by, ask_first, fetch as ask, fresh_wish, holder, latest, standing}
+use Rattle.pg_checks.specs.Answer.{Answer, answered, deny}
+use Rattle.pg_checks.specs.Asking.{ask_by, ask_first, fetch as ask, fresh_wish, holder, latest, standing}
 use Rattle.pg_calls.specs.Forgetting.{bare_entry, begin_lost, begun_at, begun_with, dead_at, dirs_of, fill_lost, forget_lost, has_blank_place, is_wanted, last_place, lists_in, lost_at, mark, marked_each, placed_lost, root_place, strike_out, struck_out, unwished}
 use Rattle.pg_calls.specs.Calls.{do_call}
 use Rattle.pg_calls.specs.Demoting.{demoted_at}
@@ -35,9 +35,9 @@ use Rattle.pg_base.specs.declared.policy.Policy.TheVariants.{Last}
 use Rattle.pg_patch.specs.Ranges.{RangesValue, cut_to, written}
 use Rattle.pg_names.specs.Names as names
 use Rattle.pg_walk.specs.declared.paths.Found.{Found}
-use Rattle.pg_calls.specs.declared.checks.NewName.{NewName}
+use Rattle.pg_checks.specs.declared.checks.NewName.{NewName}
 use Rattle.pg_store.specs.declared.wishes.Wish.{Wish}
-use Rattle.pg_calls.specs.Checks.{dir_at, empty_dir_at, file_at, in_time, move_of, new_name, target_at}
+use Rattle.pg_checks.specs.Checks.{dir_at, empty_dir_at, file_at, in_time, move_of, new_name, target_at}
 use Rattle.pg_calls.specs.Naming.{begun, dead_place, next_id, place_in, with_id, with_thing}
 use Rattle.pg_calls.specs.Bodies.{change, change_file, when_fit}
 use Rattle.pg_run.proofs.Tails.{Same, begin_same, done_either, either, entry_same, fill_same, flag_made_same, place_made_same}

@@ -7,6 +7,7 @@ use Rattle.std.proofs.lemmas.Bool.Decides.{nat_tests}
 use Rattle.std.proofs.lemmas.List.{append-nil}
 use Rattle.std.proofs.lemmas.Option.{same_Some, slice_get-get_or}
 use Rattle.std.proofs.lemmas.List.Kept.{IsStrictlySortedBy-filter}
+use Rattle.std.proofs.lemmas.Bool.{and_parts, and_from, not_from_false, not-true, or_left, or_right}
 use Rattle.pg_base.specs.declared.id.FileId.{FileId}
 use Rattle.pg_base.specs.Id.{file_cmp, is_same_file}
 use Rattle.pg_base.proofs.Orders.{is_same_file-refl}
@@ -22,7 +23,6 @@ use Rattle.pg_house.specs.Facts.{is_among}
 use Rattle.pg_house.specs.Work.{is_root}
 use Rattle.pg_house.proofs.Counting.{among_kept, kept_dir}
 use Rattle.pg_house.proofs.Ends.{key_of_held}
-use Rattle.pg_house.proofs.Truths.{and_true, both_true, not_false, not_true, or_left, or_right}
 use Rattle.pg_promises.specs.Whole.{AreEdges, IsWhole}
 use Rattle.pg_promises.proofs.Choices.{found_replica}
 use Rattle.pg_replica.specs.declared.replica.Replica.{Replica}
@@ -87,11 +87,11 @@ again_is a word w = walk_is a word (ask_all a (tick a w))
 -- ---- which replicas have few edges
 
 few_edges : (n : ℕ) → (nat_lt 0 n && nat_lt n 3) ≡ true → (1 ≤ n) × (n ≤ 2)
-few_edges n h = let both = and_true (nat_lt 0 n) (nat_lt n 3) h in (grind (arith, nat_tests, both.0), grind (arith, nat_tests, both.1))
+few_edges n h = let both = and_parts (nat_lt 0 n) (nat_lt n 3) h in (grind (arith, nat_tests, both.0), grind (arith, nat_tests, both.1))
 
 few_test : (n : ℕ) → 1 ≤ n → n ≤ 2 → (nat_lt 0 n && nat_lt n 3) ≡ true
 few_test n least most =
-    both_true (nat_lt 0 n) (nat_lt n 3) (grind (arith, nat_tests)) (grind (arith, nat_tests))
+    and_from (nat_lt 0 n) (nat_lt n 3) (grind (arith, nat_tests)) (grind (arith, nat_tests))
 
 full_own : (o : Option HeldValue) → is_full_of o ≡ true → (own : Own) × (own_of o ≡ Some own)
 full_own None h = absurd (let z : false ≡ true = h in cc)
@@ -103,21 +103,21 @@ module _ (a : Store) (file : FileId) where
 
   has_few : has_few_edges a file ≡ true → HasFewEdges a file
   has_few h =
-      let one = and_true (not (is_root file)) (is_full a file && (nat_lt 0 Count && nat_lt Count 3)) h in
-      let two = and_true (is_full a file) (nat_lt 0 Count && nat_lt Count 3) one.1 in
+      let one = and_parts (not (is_root file)) (is_full a file && (nat_lt 0 Count && nat_lt Count 3)) h in
+      let two = and_parts (is_full a file) (nat_lt 0 Count && nat_lt Count 3) one.1 in
       let count = few_edges Count two.1 in
       record {
         full = two.0;
-        inner = not_true (is_root file) one.0;
+        inner = not-true (is_root file) one.0;
         least = count.0;
         most = count.1;
       }
 
   few_has : HasFewEdges a file → has_few_edges a file ≡ true
   few_has k =
-      both_true (not (is_root file)) (is_full a file && (nat_lt 0 Count && nat_lt Count 3))
-      (not_false (is_root file) k.inner)
-      (both_true (is_full a file) (nat_lt 0 Count && nat_lt Count 3) k.full (few_test Count k.least k.most))
+      and_from (not (is_root file)) (is_full a file && (nat_lt 0 Count && nat_lt Count 3))
+      (not_from_false (is_root file) k.inner)
+      (and_from (is_full a file) (nat_lt 0 Count && nat_lt Count 3) k.full (few_test Count k.least k.most))
 
   pub few_there : is_among file (with_few_edges a) ≡ true → HasFewEdges a file
   few_there among = has_few (kept_dir (has_few_edges a) (keys_of a.names.held) file among)

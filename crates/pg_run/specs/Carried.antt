@@ -26,7 +26,7 @@ use Rattle.pg_store.specs.Births.{is_pending}
 use Rattle.pg_store.specs.Store.{is_held}
 use Rattle.pg_cells.specs.Accepting.{is_current}
 use Rattle.pg_cells.specs.Cells.{fits}
-use Rattle.pg_calls.specs.Asking.{latest}
+use Rattle.pg_checks.specs.Asking.{latest}
 use Rattle.pg_calls.specs.Forgetting.{dead_at, dirs_of, is_wanted, last_place, lists_in, lost_at}
 use Rattle.pg_graph.specs.Leaving.{goes_now}
 use Rattle.pg_server.specs.declared.input.Input.{Input}

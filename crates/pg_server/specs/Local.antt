@@ -29,7 +29,7 @@ use Rattle.pg_graph.specs.Leaving.{bye, bye_ok, leave, leave_ok}
 use Rattle.pg_graph.specs.Seeking.{here, seek}
 use Rattle.pg_repair.specs.Telling.{tell, tell_ok}
 use Rattle.pg_graph.specs.Walks.{walk, walk_of_tick}
-use Rattle.pg_calls.specs.Answer.{Answer}
+use Rattle.pg_checks.specs.Answer.{Answer}
 use Rattle.pg_calls.specs.Calls.{do_call}
 use Rattle.pg_server.specs.declared.input.Input.{Input}
 use Rattle.pg_server.specs.declared.input.Input.TheVariants as input

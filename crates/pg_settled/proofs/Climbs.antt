@@ -1,7 +1,7 @@
 -- From every thing a climb comes to the root, or to what is not held live.
 use Rattle.std.proofs.Common.{ℕ, zero, suc, ◌≡◌, ◌+◌, Bool, true, false, not, length, Option, None, Some, refl, sym, ap, ◌∙◌, subst, inl, inr}
 use Rattle.std.specs.Map.{keys_of}
-use Rattle.std.proofs.lemmas.Bool.{false≢true}
+use Rattle.std.proofs.lemmas.Bool.{false≢true, and_from, not_from_false}
 use Rattle.std.proofs.lemmas.Option.{none-some}
 use Rattle.pg_base.specs.declared.id.FileId.{FileId}
 use Rattle.pg_base.proofs.Orders.{is_same_file-true}
@@ -16,7 +16,7 @@ use Rattle.pg_house.specs.Cycles as cycles
 use Rattle.pg_house.specs.Cycles.{is_inner, is_live_own}
 use Rattle.pg_house.specs.House.{house}
 use Rattle.pg_house.specs.Facts.{AreByServer, IsLast, IsOfDirs, is_among}
-use Rattle.pg_house.proofs.Truths.{both_true, chosen_true, not_false}
+use Rattle.pg_house.proofs.Truths.{chosen_true}
 use Rattle.pg_house.proofs.Counting.{among_kept}
 use Rattle.pg_house.proofs.AllClimb.{none_lost}
 use Rattle.pg_house.proofs.NoCycles.{inner_parts}
@@ -61,7 +61,7 @@ module _ (s : NamesValue) where
   outside d dir out false other = stops d (λ q h live.
       let x = own_is (own_at s d) q h in
       let lives : is_live_own (own_at s d) ≡ true = ap is_live_own x.1 ∙ ap (λ (z : Place). z.live) x.2 ∙ live.0 in
-      false≢true (sym out ∙ both_true (is_dir d) _ dir (both_true (not (is_root d)) _ (not_false (is_root d) other) lives)))
+      false≢true (sym out ∙ and_from (is_dir d) _ dir (and_from (not (is_root d)) _ (not_from_false (is_root d) other) lives)))
 
   parent_by : (k : ℕ) (d : FileId) (b : Own) → own_at s d ≡ Some b → is_inner s (cycles.climb s k b.place.parent) ≡ false
       → ((p : FileId) → is_dir p ≡ true → is_inner s (cycles.climb s k p) ≡ false → ComesOut s p) → (t : Bool) → is_dir b.place.parent ≡ t → ComesOut s d

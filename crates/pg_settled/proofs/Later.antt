@@ -1,6 +1,6 @@
 -- The rules hold what was held, and places and cells only become later.
 use Rattle.std.proofs.Common.{ℕ, ◌≡◌, ◌<◌, if◌then◌else◌, Bool, true, false, List, [], ◌∷◌, length, Option, None, Some, refl, sym, ap, subst, ◌∙◌, inl, inr, arith}
-use Rattle.std.proofs.lemmas.Bool.{false≢true}
+use Rattle.std.proofs.lemmas.Bool.{false≢true, or_left}
 use Rattle.std.proofs.lemmas.Bool.Decides.{nat_tests}
 use Rattle.std.proofs.lemmas.Option.{none-some, same_Some}
 use Rattle.pg_base.specs.declared.id.FileId.{FileId}
@@ -21,7 +21,7 @@ use Rattle.pg_house.specs.Returning.{first_returning, is_returning, return_first
 use Rattle.pg_house.specs.Cycles.{break_first, first_moving, moved}
 use Rattle.pg_house.specs.House.{house, movable}
 use Rattle.pg_house.specs.Facts.{AreByServer, IsHeld, IsLast, IsOfDirs, is_among}
-use Rattle.pg_house.proofs.Truths.{or_cases, or_left}
+use Rattle.pg_house.proofs.Truths.{or_cases}
 use Rattle.pg_house.proofs.Counting.{find_found}
 use Rattle.pg_house.proofs.Greatest.{cell_held}
 use Rattle.pg_house.proofs.AfterPassing.{After, AreDirs, after_child, after_gives, after_other, after_own}

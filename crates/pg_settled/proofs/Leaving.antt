@@ -1,7 +1,7 @@
 -- A held directory has in the end a cell for each held child that was live in it at the start, unless a later place was
 -- there that the child takes.
 use Rattle.std.proofs.Common.{◌≡◌, if◌then◌else◌, ℕ, Bool, true, false, List, [], ◌∷◌, length, Option, None, Some, refl, sym, ap, ◌∙◌, subst, inl, inr, ◌⊎◌}
-use Rattle.std.proofs.lemmas.Bool.{false≢true}
+use Rattle.std.proofs.lemmas.Bool.{false≢true, or_left}
 use Rattle.pg_base.specs.declared.id.FileId.{FileId}
 use Rattle.pg_base.specs.Id.{is_same_file}
 use Rattle.pg_base.specs.Stamp.{is_before}
@@ -20,7 +20,7 @@ use Rattle.pg_house.specs.Returning.{first_returning, return_first, returned}
 use Rattle.pg_house.specs.Cycles.{break_first, first_moving, moved}
 use Rattle.pg_house.specs.House.{house, movable}
 use Rattle.pg_house.specs.Facts.{AreByServer, HasOwnParent, IsHeld, IsOfDirs}
-use Rattle.pg_house.proofs.Truths.{before_itself, bool_cases, or_left}
+use Rattle.pg_house.proofs.Truths.{before_itself, bool_cases}
 use Rattle.pg_house.proofs.Greatest.{cell_held, cell_is}
 use Rattle.pg_house.proofs.AfterPassing.{AreDirs, after_all, after_child, after_frame, after_gives, after_other, after_own}
 use Rattle.pg_house.proofs.Passes.{one_pass}

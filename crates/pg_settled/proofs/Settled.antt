@@ -1,6 +1,6 @@
 -- Behind the house rules a server is settled.
 use Rattle.std.proofs.Common.{ℕ, ◌≡◌, ◌≢◌, ◌⊎◌, true, false, not, List, Some, sym, ap, ◌∙◌, subst, inl, inr}
-use Rattle.std.proofs.lemmas.Bool.{false≢true}
+use Rattle.std.proofs.lemmas.Bool.{false≢true, and_parts, not-true}
 use Rattle.std.proofs.lemmas.Option.{none-some}
 use Rattle.pg_base.specs.declared.id.FileId.{FileId}
 use Rattle.pg_base.specs.Stamp.{is_before}
@@ -12,7 +12,6 @@ use Rattle.pg_names.specs.Names.{NamesValue, cell_at, directories, is_dir, own_a
 use Rattle.pg_house.specs.Holding.{waits}
 use Rattle.pg_house.specs.Passing.{greatest, is_cell}
 use Rattle.pg_house.specs.Facts.{OwnParent, Passing}
-use Rattle.pg_house.proofs.Truths.{and_true, not_true}
 use Rattle.pg_house.proofs.Greatest.{cell_held}
 use Rattle.pg_house.proofs.Greatest as great
 use Rattle.pg_listing.specs.Protocol.{IsIn}
@@ -23,9 +22,9 @@ use Rattle.pg_settled.proofs.Seen.{apart, cell_is, own_is}
 -- a place that waits is dead, and later than the own one
 pub dead_later : (removed : List ℕ) (f : FileId) (own top : Place) → waits removed f own top ≡ true → (top.live ≡ false) × (is_before own.stamp top.stamp ≡ true)
 dead_later removed f own top h =
-    let a = and_true (is_dir f) _ h in
-    let b = and_true (not top.live) _ a.1 in
-    (not_true top.live b.0, (and_true (is_before own.stamp top.stamp) _ b.1).0)
+    let a = and_parts (is_dir f) _ h in
+    let b = and_parts (not top.live) _ a.1 in
+    (not-true top.live b.0, (and_parts (is_before own.stamp top.stamp) _ b.1).0)
 
 module _ (s : NamesValue) (passing : Passing s) (parents : OwnParent s) where
   cells : (d c : FileId) (q : Place) → cell_place (cell_at s d c) ≡ Some q → Holds listing s d

@@ -1,9 +1,9 @@
 -- Births that are over stay over, and a replica that goes leaves its birth over.
-use Rattle.std.proofs.Common.{ℕ, ◌≡◌, ◌≤◌, ◌<◌, ◌⊎◌, ◌&&◌, ◌||◌, arith, Bool, true, false, cond, not, Option, None, Some, is_some, List, [], ◌∷◌, inl, inr, refl, sym, ap, subst, ◌∙◌, eq-eqb}
+use Rattle.std.proofs.Common.{ℕ, ◌≡◌, ◌&&◌, ◌||◌, arith, Bool, true, false, cond, not, Option, None, Some, is_some, List, [], ◌∷◌, inl, inr, refl, sym, ap, subst, ◌∙◌}
 use Rattle.std.specs.List.{find}
 use Rattle.std.specs.Option.{option_map}
 use Rattle.std.specs.BTreeMap.{is_at}
-use Rattle.std.proofs.lemmas.Bool.{and_parts, false≢true, le-leb, leb-true}
+use Rattle.std.proofs.lemmas.Bool.{and_parts, false≢true, le-leb, leb-true, not-true, or_right}
 use Rattle.std.specs.Prelude.{◌↔◌, nat_le}
 use Rattle.pg_base.specs.declared.id.FileId.{FileId}
 use Rattle.pg_base.specs.Id.{file_cmp, is_same_file}
@@ -12,10 +12,9 @@ use Rattle.pg_base.proofs.Orders.{file_exact, is_same_file-refl, is_same_file-tr
 use Rattle.pg_intent.specs.declared.intent.Intent.{Intent}
 use Rattle.pg_intent.specs.declared.intent.Intent.TheVariants as intent
 use Rattle.pg_intent.specs.declared.key.IntentKey.TheVariants as key
-use Rattle.pg_intent.specs.Intent.{is_about, key_of}
+use Rattle.pg_intent.specs.Intent.{is_about}
 use Rattle.pg_intent.specs.Intents.{has_key, intent_at}
-use Rattle.pg_intent.specs.Key.{is_same_key}
-use Rattle.pg_names.specs.Names.{HeldValue, known}
+use Rattle.pg_names.specs.Names.{known}
 use Rattle.pg_replica.specs.declared.replica.Replica.{Replica}
 use Rattle.pg_replica.specs.Replicas.{is_of_birth}
 use Rattle.pg_replica.proofs.Going.{replica_behind}
@@ -29,10 +28,6 @@ use Rattle.pg_store.specs.Wishes.{is_with_birth}
 
 -- ---- the test
 
-not_true : (t : Bool) → not t ≡ true → t ≡ false
-not_true false h = refl
-not_true true h = absurd (false≢true h)
-
 both : (s t u : Bool) → s ≡ true → t ≡ false → u ≡ false → (s && (not t && not u)) ≡ true
 both s t u a b c = ap (λ z. z && (not t && not u)) a ∙ ap (λ z. not z && not u) b ∙ ap not c
 
@@ -41,7 +36,7 @@ over_tested a file n = (
   λ e. (
       let one = and_parts (nat_le n a.births) (not (has_birth a file n) && not (is_pending a file n)) e in
       let two = and_parts (not (has_birth a file n)) (not (is_pending a file n)) one.1 in
-      record { given = leb-true n a.births one.0; away = not_true (has_birth a file n) two.0; unasked = not_true (is_pending a file n) two.1 }),
+      record { given = leb-true n a.births one.0; away = not-true (has_birth a file n) two.0; unasked = not-true (is_pending a file n) two.1 }),
   λ o. both (nat_le n a.births) (has_birth a file n) (is_pending a file n) (le-leb n a.births o.given) o.away o.unasked,
 )
 
@@ -109,15 +104,11 @@ fill_stays : (o p : Option Intent) (n : ℕ) → ((i : Intent) → o ≡ Some i 
 fill_stays None p n h e = absurd (false≢true e)
 fill_stays (Some i) p n h e = ap (λ q. is_fill_at q n) (h i refl) ∙ e
 
-or_second : (s t : Bool) → t ≡ true → (s || t) ≡ true
-or_second true t h = refl
-or_second false t h = h
-
 -- what was to come is to come: with the wish, or with the Fill of what is not held
 pub asked_by : (s h t u k v : Bool) → (s ≡ true → u ≡ true) → (h ≡ false → t ≡ true → (not k && v) ≡ true) → (s || (not h && t)) ≡ true → (u || (not k && v)) ≡ true
 asked_by true h t u k v f g e = ap (λ b. b || (not k && v)) (f refl)
 asked_by false true t u k v f g e = absurd (false≢true e)
-asked_by false false t u k v f g e = or_second u (not k && v) (g refl e)
+asked_by false false t u k v f g e = or_right u (not k && v) (g refl e)
 
 pub open_by : (k v : Bool) → k ≡ false → v ≡ true → (not k && v) ≡ true
 open_by k v a b = ap (λ z. not z && v) a ∙ b

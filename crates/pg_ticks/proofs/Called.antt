@@ -25,11 +25,11 @@ use Rattle.pg_cells.specs.Making.{lower_flag, own_next}
 use Rattle.pg_walk.specs.declared.paths.Found.{Found}
 use Rattle.pg_walk.specs.declared.paths.Stop.{Stop}
 use Rattle.pg_walk.specs.declared.paths.Stop.TheVariants as stop
-use Rattle.pg_calls.specs.Answer.{Answer, answered, deny}
-use Rattle.pg_calls.specs.Asking.{ask_by, ask_first, fresh_wish, standing}
+use Rattle.pg_checks.specs.Answer.{Answer, answered, deny}
+use Rattle.pg_checks.specs.Asking.{ask_by, ask_first, fresh_wish, standing}
 use Rattle.pg_calls.specs.Bodies.{change, change_file, when_fit}
 use Rattle.pg_calls.specs.Calls.{do_call}
-use Rattle.pg_calls.specs.Checks.{dir_at, empty_dir_at, file_at, in_time, move_of, new_name, target_at}
+use Rattle.pg_checks.specs.Checks.{dir_at, empty_dir_at, file_at, in_time, move_of, new_name, target_at}
 use Rattle.pg_calls.specs.Demoting.{demoted_at}
 use Rattle.pg_calls.specs.Dropping.{clean_gold, dropped_at, leaving}
 use Rattle.pg_calls.specs.Forgetting.{bare_entry, begin_lost, begun_at, begun_with, dead_at, dirs_of, fill_lost, forget_lost, has_blank_place, is_wanted, last_listing, last_place, lost_at, mark, placed_in_root, placed_lost, root_place, strike_out, struck_out, unfilled, unwished}

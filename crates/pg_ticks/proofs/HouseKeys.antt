@@ -1,6 +1,7 @@
 -- Each key that the house rules touch has a cell behind them.
 use Rattle.std.proofs.Common.{ℕ, ◌≡◌, Bool, true, false, List, [], ◌∷◌, drop, length, Option, None, Some, refl, sym, ap, subst, ◌∙◌, inl, inr, ◌⊎◌}
 use Rattle.std.proofs.lemmas.Option.{none-some}
+use Rattle.std.proofs.lemmas.Bool.{or_left, or_right}
 use Rattle.pg_base.specs.declared.id.FileId.{FileId}
 use Rattle.pg_base.specs.Id.{is_same_file}
 use Rattle.pg_base.proofs.Orders.{is_same_file-refl}
@@ -28,7 +29,6 @@ use Rattle.pg_house.specs.House.{house, movable}
 use Rattle.pg_house.proofs.Repeating.{repeated_keeps}
 use Rattle.pg_house.proofs.Settling.{dirs_held}
 use Rattle.pg_house.proofs.Spreading.{spread_own}
-use Rattle.pg_house.proofs.Truths.{or_left, or_right}
 use Rattle.pg_promises.specs.UpTo.{AreFlagsUpTo}
 use Rattle.pg_promises.proofs.Choices.{chosen}
 use Rattle.pg_promises.proofs.Flags.{flags_joined}

@@ -1,7 +1,7 @@
 -- And whatever versions, replicas that begin, and house rules do.
 use Rattle.std.proofs.Common.{ℕ, ◌≡◌, Bool, true, false, cond, not, List, [], ◌∷◌, drop, length, Option, None, Some, refl, sym, ap, subst, ◌∙◌, inl, inr}
 use Rattle.std.specs.List.{filter}
-use Rattle.std.proofs.lemmas.Bool.{false≢true}
+use Rattle.std.proofs.lemmas.Bool.{false≢true, not-true}
 use Rattle.std.proofs.lemmas.Option.{none-some}
 use Rattle.pg_base.specs.declared.id.FileId.{FileId}
 use Rattle.pg_base.specs.declared.policy.Policy.{Policy}
@@ -44,7 +44,6 @@ use Rattle.pg_store.specs.Beginning.{begin, let_go, patches_of, put_new, take_pa
 use Rattle.pg_store.specs.Cells.{version_cell}
 use Rattle.pg_store.specs.Store.{content_of, is_new_version, put_version, replica_at, take_version, with_drawn, with_names, write}
 use Rattle.pg_cells.specs.Settling.{rules}
-use Rattle.pg_house.proofs.Truths.{not_true}
 use Rattle.pg_promises.proofs.Choices.{decided}
 use Rattle.pg_promises.proofs.Stores.{Changes, by_file, replica_elsewhere, replica_here}
 use Rattle.pg_ticks.proofs.HouseKeys.{new_has, old_has}
@@ -143,7 +142,7 @@ put_by a f v None e new k = absurd (false≢true new)
 put_by a f v (Some x) e new k =
     let y = with_head x v a.tags in
     let b = took a f v (Some x) in
-    let fresh : covers x v ≡ false = not_true (covers x v) new in
+    let fresh : covers x v ≡ false = not-true (covers x v) new in
     let ch : Changes a b f x y = record { old = e; replicas = refl } in
     news_have a b k f x y ch v.head.stamp v (covered_heads x.content.heads v) refl (raised_up a.names v.head.stamp.time) refl (put_left x v a.tags fresh) (put_here x v a.tags fresh)
 

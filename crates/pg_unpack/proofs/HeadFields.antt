@@ -1,7 +1,7 @@
 -- Vectors, heads and versions are fields.
 use Rattle.std.proofs.Common.{◌≡◌, ℕ, ◌<◌, ◌⊎◌, Bool, true, false, cond, List, ◌++◌, Ok, Err, inl, inr, refl, ap, subst, arith}
 use Rattle.std.specs.Prelude.{nat_le, nat_lt, ◌&&◌, ◌||◌}
-use Rattle.std.proofs.lemmas.Bool.{leb-true, le-leb, ltb-true, lt-ltb}
+use Rattle.std.proofs.lemmas.Bool.{leb-true, le-leb, ltb-true, lt-ltb, and_parts, or_left, or_right}
 use Rattle.pg_base.specs.Version.{VersionValue}
 use Rattle.pg_base.specs.declared.head.Head.{Head}
 use Rattle.pg_base.specs.declared.stamp.Stamp.{Stamp}
@@ -18,15 +18,15 @@ use Rattle.pg_unpack.specs.declared.error.PacketError.{PacketError}
 use Rattle.pg_unpack.specs.declared.error.PacketError.TheVariants.{BadTag}
 use Rattle.pg_unpack.proofs.Joining.{packet_is, then_is, view_is}
 use Rattle.pg_unpack.proofs.Many.{count_field, list_is}
-use Rattle.pg_unpack.proofs.Names.{either_true, left_true, right_true}
-use Rattle.pg_unpack.proofs.Plain.{both_true, narrow_is, short_is, stamp_is, wide_is, within}
+use Rattle.pg_unpack.proofs.Names.{either_true}
+use Rattle.pg_unpack.proofs.Plain.{narrow_is, short_is, stamp_is, wide_is, within}
 
 -- ---- actors
 
 from_case : (t : Bool) (last place n s : ℕ) → (nat_le last n && (nat_le 1 n && nat_le n 64)) ≡ t → cond t (Ok n) (Err (BadTag place)) ≡ Ok s
     → IsFrom last s × (number_bytes 4 s ≡ number_bytes 4 n)
 from_case true last place n s test e =
-    let both = both_true (nat_le last n) (nat_le 1 n && nat_le n 64) test in
+    let both = and_parts (nat_le last n) (nat_le 1 n && nat_le n 64) test in
     subst (λ (x : ℕ). IsFrom last x × (number_bytes 4 x ≡ number_bytes 4 n)) (ok_is PacketError n s e) (record { least = leb-true last n both.0; range = within n both.1 }, refl)
 from_case false last place n s test e = absurd cc
 
@@ -50,8 +50,8 @@ birth_case true last server place n b width test e =
 birth_case false last server place n b width test e = absurd cc
 
 behind_test : (last : Actor) (server b : ℕ) → (last.server < server) ⊎ (last.birth < b) → (nat_lt last.server server || nat_lt last.birth b) ≡ true
-behind_test last server b (inl lt) = left_true (nat_lt last.server server) (nat_lt last.birth b) (lt-ltb last.server server lt)
-behind_test last server b (inr lt) = right_true (nat_lt last.server server) (nat_lt last.birth b) (lt-ltb last.birth b lt)
+behind_test last server b (inl lt) = or_left (nat_lt last.server server) (nat_lt last.birth b) (lt-ltb last.server server lt)
+behind_test last server b (inr lt) = or_right (nat_lt last.server server) (nat_lt last.birth b) (lt-ltb last.birth b lt)
 
 birth_tested : (last : Actor) (server place b : ℕ) → IsBirth last server b → birth_of last server place b ≡ Ok b
 birth_tested last server place b fits = ap (λ (t : Bool). cond t (Ok b) (Err (BadTag place))) (behind_test last server b fits.behind)

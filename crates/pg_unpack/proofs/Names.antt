@@ -2,7 +2,7 @@
 use Rattle.std.proofs.Common.{◌≡◌, ℕ, zero, suc, ◌<◌, ◌^◌, Bool, true, false, eqb, List, [], ◌∷◌, length, refl, sym, subst, arith, inl, inr, All}
 use Rattle.std.specs.Prelude.{◌≢◌, ◌&&◌, ◌||◌, not, nat_le, IsTrue, ◌↔◌}
 use Rattle.std.specs.List.{list_all}
-use Rattle.std.proofs.lemmas.Bool.{cases_lt, leb-true, le-leb, eqb-true, eq-eqb}
+use Rattle.std.proofs.lemmas.Bool.{cases_lt, leb-true, le-leb, eqb-true, eq-eqb, and_parts, or_left, or_right, and_from}
 use Rattle.std.proofs.lemmas.List.Elements.{All-head, All-tail, All-cons, All-nil}
 use Rattle.pg_base.specs.Id.{Fits}
 use Rattle.pg_base.specs.declared.id.FileId.{FileId}
@@ -12,15 +12,7 @@ use Rattle.pg_entries.specs.Names.{same_name}
 use Rattle.pg_entries.proofs.Claims.{same_name-true, same_name-is}
 use Rattle.pg_path.specs.Name.{IsNameByte, IsClientName}
 use Rattle.pg_register.specs.Place.{IsPlaceName, tilde_name}
-use Rattle.pg_unpack.proofs.Plain.{both_true}
 use Rattle.pg_unpack.specs.Names.{is_client_name, is_empty, is_name_byte, is_place_name, is_some_below, is_tilde_name}
-
-pub left_true : (a b : Bool) → a ≡ true → (a || b) ≡ true
-left_true a b e = rw e refl
-
-pub right_true : (a b : Bool) → b ≡ true → (a || b) ≡ true
-right_true true b e = refl
-right_true false b e = e
 
 pub either_true : {P : Type 0} (a b : Bool) → (a ≡ true → P) → (b ≡ true → P) → (a || b) ≡ true → P
 either_true true b left right e = left refl
@@ -43,8 +35,8 @@ unfolding is_some_below
 some_there zero test k lt e = absurd (omega arith)
 some_there (suc n) test k lt e =
     elim (cases_lt k n) [
-      | inl less ↦ right_true (test n) (is_some_below n test) (some_there n test k less e)
-      | inr le ↦ left_true (test n) (is_some_below n test) (let same : k ≡ n = omega arith in subst (λ (j : ℕ). test j ≡ true) same e)
+      | inl less ↦ or_right (test n) (is_some_below n test) (some_there n test k less e)
+      | inr le ↦ or_left (test n) (is_some_below n test) (let same : k ≡ n = omega arith in subst (λ (j : ℕ). test j ≡ true) same e)
     ]
 
 -- ---- client names
@@ -62,9 +54,9 @@ differs false a b e apart = refl
 
 byte_is : (b : ℕ) → is_name_byte b ≡ true → IsNameByte b
 byte_is b e =
-    let p = both_true (nat_le 33 b && nat_le b 126) (not (eqb b 47) && not (eqb b 126)) e in
-    let q = both_true (nat_le 33 b) (nat_le b 126) p.0 in
-    let r = both_true (not (eqb b 47)) (not (eqb b 126)) p.1 in
+    let p = and_parts (nat_le 33 b && nat_le b 126) (not (eqb b 47) && not (eqb b 126)) e in
+    let q = and_parts (nat_le 33 b) (nat_le b 126) p.0 in
+    let r = and_parts (not (eqb b 47)) (not (eqb b 126)) p.1 in
     record { least = leb-true 33 b q.0; most = leb-true b 126 q.1; no_slash = unlike b 47 r.0; no_tilde = unlike b 126 r.1 }
 
 byte_test : (b : ℕ) → IsNameByte b → is_name_byte b ≡ true
@@ -78,26 +70,23 @@ byte_test b fits =
 each_is : (text : List ℕ) → list_all is_name_byte text ≡ true → All IsNameByte text
 each_is [] e = All-nil IsNameByte
 each_is (b ∷ bs) e =
-    let p = both_true (is_name_byte b) (list_all is_name_byte bs) e in
+    let p = and_parts (is_name_byte b) (list_all is_name_byte bs) e in
     All-cons IsNameByte b bs (byte_is b p.0) (each_is bs p.1)
-
-and_true : (a b : Bool) → a ≡ true → b ≡ true → (a && b) ≡ true
-and_true a b e f = rw e f
 
 each_test : (text : List ℕ) → All IsNameByte text → list_all is_name_byte text ≡ true
 each_test [] h = refl
-each_test (b ∷ bs) h = and_true (is_name_byte b) (list_all is_name_byte bs) (byte_test b (All-head IsNameByte b bs h)) (each_test bs (All-tail IsNameByte b bs h))
+each_test (b ∷ bs) h = and_from (is_name_byte b) (list_all is_name_byte bs) (byte_test b (All-head IsNameByte b bs h)) (each_test bs (All-tail IsNameByte b bs h))
 
 client_is : (text : List ℕ) → is_client_name text ≡ true → IsClientName text
 client_is text e =
-    let p = both_true (nat_le 1 (length text) && nat_le (length text) 255) (list_all is_name_byte text) e in
-    let q = both_true (nat_le 1 (length text)) (nat_le (length text) 255) p.0 in
+    let p = and_parts (nat_le 1 (length text) && nat_le (length text) 255) (list_all is_name_byte text) e in
+    let q = and_parts (nat_le 1 (length text)) (nat_le (length text) 255) p.0 in
     record { some = leb-true 1 (length text) q.0; most = leb-true (length text) 255 q.1; each = each_is text p.1 }
 
 client_test : (text : List ℕ) → IsClientName text → is_client_name text ≡ true
 client_test text fits =
-    and_true (nat_le 1 (length text) && nat_le (length text) 255) (list_all is_name_byte text)
-    (and_true (nat_le 1 (length text)) (nat_le (length text) 255) (le-leb 1 (length text) fits.some) (le-leb (length text) 255 fits.most))
+    and_from (nat_le 1 (length text) && nat_le (length text) 255) (list_all is_name_byte text)
+    (and_from (nat_le 1 (length text)) (nat_le (length text) 255) (le-leb 1 (length text) fits.some) (le-leb (length text) 255 fits.most))
     (each_test text fits.each)
 
 -- ---- names that are made of ids
@@ -116,8 +105,8 @@ tilde_test id text fits same =
     (some_there (2 ^ 64) (λ number. same_name text (tilde_name (record { kind = id.kind; server = id.server; number = number }))) id.number fits.number (same_name-is text (tilde_name id) same))
 
 of_kind : (k : Kind) (text : List ℕ) → is_tilde_name k text ≡ true → (is_tilde_name Dir text || is_tilde_name File text) ≡ true
-of_kind Dir text e = left_true (is_tilde_name Dir text) (is_tilde_name File text) e
-of_kind File text e = right_true (is_tilde_name Dir text) (is_tilde_name File text) e
+of_kind Dir text e = or_left (is_tilde_name Dir text) (is_tilde_name File text) e
+of_kind File text e = or_right (is_tilde_name Dir text) (is_tilde_name File text) e
 
 -- ---- names
 
@@ -140,13 +129,13 @@ place_name_is text e =
 
 pub place_name_test : (text : List ℕ) → IsPlaceName text → is_place_name text ≡ true
 unfolding is_place_name
-place_name_test text (inl none) = left_true (is_empty text) (is_client_name text || (is_tilde_name Dir text || is_tilde_name File text)) (empty_test text none)
+place_name_test text (inl none) = or_left (is_empty text) (is_client_name text || (is_tilde_name Dir text || is_tilde_name File text)) (empty_test text none)
 place_name_test text (inr (inl client)) =
-    right_true (is_empty text) (is_client_name text || (is_tilde_name Dir text || is_tilde_name File text))
-    (left_true (is_client_name text) (is_tilde_name Dir text || is_tilde_name File text) (client_test text client))
+    or_right (is_empty text) (is_client_name text || (is_tilde_name Dir text || is_tilde_name File text))
+    (or_left (is_client_name text) (is_tilde_name Dir text || is_tilde_name File text) (client_test text client))
 place_name_test text (inr (inr named)) =
-    right_true (is_empty text) (is_client_name text || (is_tilde_name Dir text || is_tilde_name File text))
-    (right_true (is_client_name text) (is_tilde_name Dir text || is_tilde_name File text)
+    or_right (is_empty text) (is_client_name text || (is_tilde_name Dir text || is_tilde_name File text))
+    (or_right (is_client_name text) (is_tilde_name Dir text || is_tilde_name File text)
     (of_kind named.0.kind text (tilde_test named.0 text named.1 named.2)))
 
 same_bool : (a b : Bool) → (a ≡ true → b ≡ true) → (b ≡ true → a ≡ true) → a ≡ b

@@ -1,7 +1,7 @@
 -- Ranges and bytes are fields.
 use Rattle.std.proofs.Common.{◌≡◌, ℕ, ◌≤◌, ◌+◌, Bool, true, false, cond, List, ◌++◌, length, Ok, Err, refl, sym, ap, subst, arith}
 use Rattle.std.specs.Prelude.{nat_le, nat_lt, ◌&&◌}
-use Rattle.std.proofs.lemmas.Bool.{leb-true, le-leb, ltb-false, le-ltb}
+use Rattle.std.proofs.lemmas.Bool.{leb-true, le-leb, ltb-false, le-ltb, and_parts}
 use Rattle.pg_codec.specs.Laws.{HasWidth, IsField}
 use Rattle.pg_codec.specs.Reading.{checked, followed_by, bytes_at, number_at}
 use Rattle.pg_codec.specs.Spelling.{number_bytes}
@@ -17,7 +17,7 @@ use Rattle.pg_unpack.specs.declared.error.PacketError.{PacketError}
 use Rattle.pg_unpack.specs.declared.error.PacketError.TheVariants.{BadTag, TooLong}
 use Rattle.pg_unpack.proofs.Joining.{packet_is, then_is, view_is}
 use Rattle.pg_unpack.proofs.Many.{count_field, list_is}
-use Rattle.pg_unpack.proofs.Plain.{both_true, narrow_is}
+use Rattle.pg_unpack.proofs.Plain.{narrow_is}
 
 -- ---- bytes
 
@@ -59,7 +59,7 @@ long_case : (t u : Bool) (least : ℕ) (room : Room) (offset place n s : ℕ) �
     → IsLong least room offset s × (number_bytes 4 s ≡ number_bytes 4 n)
 long_case true u least room offset place n s width over test e = absurd cc
 long_case false true least room offset place n s width over test e =
-    let both = both_true (nat_le 1 n) (nat_le (offset + n) least) test in
+    let both = and_parts (nat_le 1 n) (nat_le (offset + n) least) test in
     subst (λ (x : ℕ). IsLong least room offset x × (number_bytes 4 x ≡ number_bytes 4 n)) (ok_is PacketError n s e)
     (record { left = ltb-false room.left n over; some = leb-true 1 n both.0; end = leb-true (offset + n) least both.1; width = width }, refl)
 long_case false false least room offset place n s width over test e = absurd cc

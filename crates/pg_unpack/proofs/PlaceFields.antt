@@ -1,7 +1,7 @@
 -- Names, places, flags and entries are fields.
 use Rattle.std.proofs.Common.{◌≡◌, ℕ, Bool, true, false, cond, List, ◌++◌, length, Ok, Err, refl, sym, ap, subst, arith}
 use Rattle.std.specs.Prelude.{nat_le, nat_lt, ◌&&◌}
-use Rattle.std.proofs.lemmas.Bool.{leb-true, le-leb, ltb-true, lt-ltb}
+use Rattle.std.proofs.lemmas.Bool.{leb-true, le-leb, ltb-true, lt-ltb, and_parts}
 use Rattle.pg_base.specs.declared.id.FileId.{FileId}
 use Rattle.pg_base.specs.declared.stamp.Stamp.{Stamp}
 use Rattle.pg_codec.specs.Laws.{Any, AreBytes, HasWidth, IsField}
@@ -23,7 +23,7 @@ use Rattle.pg_unpack.specs.declared.error.PacketError.TheVariants.{BadTag}
 use Rattle.pg_unpack.proofs.Joining.{packet_is, then_is, view_is}
 use Rattle.pg_unpack.proofs.Many.{list_is}
 use Rattle.pg_unpack.proofs.Names.{place_name_is, place_name_test}
-use Rattle.pg_unpack.proofs.Plain.{both_true, byte_is, dir_field, file_is, narrow_is, stamp_is, wide_is}
+use Rattle.pg_unpack.proofs.Plain.{byte_is, dir_field, file_is, narrow_is, stamp_is, wide_is}
 
 pub flag_is : IsField Any flag_bytes (of_packet flag_at)
 flag_is = packet_is Any flag_bytes flag_at flag_field
@@ -85,7 +85,7 @@ place_field = view_is (then_is stamp_is (then_is dir_field (then_is flag_is name
 above_case : (t : Bool) (last place n s : ℕ) → (nat_lt last n && nat_le n 64) ≡ t → cond t (Ok n) (Err (BadTag place)) ≡ Ok s
     → IsAbove last s × (number_bytes 4 s ≡ number_bytes 4 n)
 above_case true last place n s test e =
-    let both = both_true (nat_lt last n) (nat_le n 64) test in
+    let both = and_parts (nat_lt last n) (nat_le n 64) test in
     subst (λ (x : ℕ). IsAbove last x × (number_bytes 4 x ≡ number_bytes 4 n)) (ok_is PacketError n s e) (record { above = ltb-true last n both.0; most = leb-true n 64 both.1 }, refl)
 above_case false last place n s test e = absurd cc
 

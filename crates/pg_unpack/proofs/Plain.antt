@@ -1,7 +1,7 @@
 -- Policies, questions, edges and keys are fields.
 use Rattle.std.proofs.Common.{◌≡◌, ℕ, zero, suc, Bool, true, false, cond, eqb, List, [], ◌++◌, length, Ok, Err, refl, sym, ap, subst, arith}
 use Rattle.std.specs.Prelude.{nat_le, ◌&&◌}
-use Rattle.std.proofs.lemmas.Bool.{leb-true, le-leb, eqb-true}
+use Rattle.std.proofs.lemmas.Bool.{leb-true, le-leb, eqb-true, and_parts}
 use Rattle.std.proofs.lemmas.List.{append-nil}
 use Rattle.pg_base.specs.Id.{Fits}
 use Rattle.pg_base.specs.declared.id.FileId.{FileId}
@@ -88,12 +88,8 @@ ask_field = checked_is ask_of (HasWidth 1) (number_bytes 1) (of_packet (number_a
 
 -- ---- servers
 
-pub both_true : (a b : Bool) → (a && b) ≡ true → (a ≡ true) × (b ≡ true)
-both_true true b e = (refl, e)
-both_true false b e = absurd cc
-
 pub within : (n : ℕ) → (nat_le 1 n && nat_le n 64) ≡ true → IsServer n
-within n e = let p = both_true (nat_le 1 n) (nat_le n 64) e in record { least = leb-true 1 n p.0; most = leb-true n 64 p.1 }
+within n e = let p = and_parts (nat_le 1 n) (nat_le n 64) e in record { least = leb-true 1 n p.0; most = leb-true n 64 p.1 }
 
 tested : (place s : ℕ) → IsServer s → server_of place s ≡ Ok s
 tested place s fits =

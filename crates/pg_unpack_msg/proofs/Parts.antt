@@ -1,7 +1,7 @@
 -- The fields that only messages have are fields.
 use Rattle.std.proofs.Common.{◌≡◌, ℕ, Bool, true, false, cond, List, ◌++◌, Ok, Err, refl, subst, arith}
 use Rattle.std.specs.Prelude.{nat_le, ◌&&◌}
-use Rattle.std.proofs.lemmas.Bool.{leb-true, le-leb}
+use Rattle.std.proofs.lemmas.Bool.{leb-true, le-leb, and_parts}
 use Rattle.pg_base.specs.Id.{Fits}
 use Rattle.pg_base.specs.declared.head.Head.{Head}
 use Rattle.pg_base.specs.declared.id.FileId.{FileId}
@@ -32,7 +32,7 @@ use Rattle.pg_unpack.proofs.Joining.{then_is, view_is}
 use Rattle.pg_unpack.proofs.Many.{stamps_field}
 use Rattle.pg_unpack.proofs.PatchFields.{block_field, ranges_field}
 use Rattle.pg_unpack.proofs.PlaceFields.{entry_field, golds_field, place_field}
-use Rattle.pg_unpack.proofs.Plain.{both_true, byte_is, dir_field, ends_field, file_is, narrow_is, policy_field, stamp_is, wide_is}
+use Rattle.pg_unpack.proofs.Plain.{byte_is, dir_field, ends_field, file_is, narrow_is, policy_field, stamp_is, wide_is}
 use Rattle.pg_unpack_msg.specs.Fields.{IsDelta, IsGranted, IsHops, IsPiece, IsWanted, about_at, delta_at, granted_at, hops_at, hops_of, piece_at, replica_at, told_at, wanted_at}
 use Rattle.pg_words.specs.FileWord.{IsDirectory}
 
@@ -87,7 +87,7 @@ about_field = then_is ends_field stamp_is
 hops_case : (t : Bool) (place n h : ℕ) → (nat_le 1 n && nat_le n 3) ≡ t → cond t (Ok n) (Err (BadTag place)) ≡ Ok h
     → IsHops h × (number_bytes 1 h ≡ number_bytes 1 n)
 hops_case true place n h test e =
-    let both = both_true (nat_le 1 n) (nat_le n 3) test in
+    let both = and_parts (nat_le 1 n) (nat_le n 3) test in
     subst (λ (x : ℕ). IsHops x × (number_bytes 1 x ≡ number_bytes 1 n)) (ok_is PacketError n h e) (record { least = leb-true 1 n both.0; most = leb-true n 3 both.1 }, refl)
 hops_case false place n h test e = absurd cc
 

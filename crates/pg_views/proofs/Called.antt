@@ -33,17 +33,17 @@ use Rattle.pg_cells.specs.Done.{Done, idle}
 use Rattle.pg_cells.specs.Golds.{is_gold}
 use Rattle.pg_cells.specs.Making.{lower_flag, own_next, raise_flag}
 use Rattle.pg_cells.specs.Posting.{post}
-use Rattle.pg_calls.specs.Answer.{Answer, answered, deny}
-use Rattle.pg_calls.specs.Asking.{ask_by, ask_first, fetch, fresh_wish, holder, latest, standing}
+use Rattle.pg_checks.specs.Answer.{Answer, answered, deny}
+use Rattle.pg_checks.specs.Asking.{ask_by, ask_first, fetch, fresh_wish, holder, latest, standing}
 use Rattle.pg_calls.specs.Bodies.{change, change_file, when_fit}
 use Rattle.pg_calls.specs.Calls.{do_call}
-use Rattle.pg_calls.specs.Checks.{dir_at, empty_dir_at, file_at, in_time, move_of, new_name, target_at}
+use Rattle.pg_checks.specs.Checks.{dir_at, empty_dir_at, file_at, in_time, move_of, new_name, target_at}
 use Rattle.pg_calls.specs.Demoting.{demoted_at}
 use Rattle.pg_calls.specs.Dropping.{clean_gold, dropped_at, leave_of, leaving}
 use Rattle.pg_calls.specs.Forgetting.{bare_entry, begin_lost, begun_at, begun_with, dead_at, dirs_of, fill_lost, forget_lost, has_blank_place, is_wanted, last_place, lists_in, lost_at, mark, marked_each, placed_lost, root_place, strike_out, struck_out, unfilled, unwished}
 use Rattle.pg_calls.specs.Making.{drawn, first_ranges, make_place, make_version, version_of, with_version}
 use Rattle.pg_calls.specs.Naming.{begun, dead_place, next_id, place_in, with_id, with_thing}
-use Rattle.pg_calls.specs.declared.checks.NewName.{NewName}
+use Rattle.pg_checks.specs.declared.checks.NewName.{NewName}
 use Rattle.pg_promises.proofs.Choices.{chosen}
 use Rattle.pg_run.proofs.TailsOfCalls.{is_giveup}
 use Rattle.pg_views.proofs.Fine.{IsFine, begun_fine, entry_fine, flag_made, place_made, posted, stored, worked}

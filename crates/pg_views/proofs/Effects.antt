@@ -43,8 +43,8 @@ use Rattle.pg_cells.specs.Sending.{Wanted, cell_to, cells_where, is_any, is_chos
 use Rattle.pg_cells.specs.Ticks.{tick}
 use Rattle.pg_repair.specs.Inviting.{invite_along, invite_each, invite_of, invites, loose_edge}
 use Rattle.pg_repair.specs.Requests.{ask_all, asks, asks_by, confirm_message, leave_message, request}
-use Rattle.pg_calls.specs.Answer.{Answer, answer, answered, told, unless}
-use Rattle.pg_calls.specs.Checks.{in_time}
+use Rattle.pg_checks.specs.Answer.{Answer, answer, answered, told, unless}
+use Rattle.pg_checks.specs.Checks.{in_time}
 use Rattle.pg_calls.proofs.Checked.{behind, unless_ok}
 use Rattle.pg_calls.specs.GivingUp.{doubt_all, enter_view, may_give_up, removal_at}
 use Rattle.pg_server.specs.declared.input.Input.{Input}

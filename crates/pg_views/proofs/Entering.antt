@@ -4,6 +4,7 @@ use Rattle.std.specs.Map.{keys_of}
 use Rattle.std.specs.Option.{option_map}
 use Rattle.std.proofs.lemmas.Option.{none-some, same_Some}
 use Rattle.pg_base.specs.declared.id.FileId.{FileId}
+use Rattle.pg_intent.proofs.Above.{still_apart}
 use Rattle.pg_names.specs.Names.{NamesValue, remove_server}
 use Rattle.pg_replica.specs.declared.replica.Replica.{Replica}
 use Rattle.pg_replica.specs.Replicas.{ByFile, replicas_unlinked}
@@ -17,7 +18,7 @@ use Rattle.pg_store.specs.Views.{cut, cut_born, cut_each, enter, listed_birth, w
 use Rattle.pg_store.proofs.Entered.{enter_found, enter_names}
 use Rattle.pg_store.proofs.Wished.{enter_wished}
 use Rattle.pg_promises.proofs.Choices.{chosen}
-use Rattle.pg_views.proofs.Lists.{lead_on, still_apart, turned_number}
+use Rattle.pg_views.proofs.Lists.{lead_on, turned_number}
 use Rattle.pg_views.proofs.Seen.{Asks, IsSeen, IsTarget, Leads}
 use Rattle.pg_views.proofs.Targets.{Asked, next_of_live}
 

@@ -10,6 +10,7 @@ use Rattle.pg_edges.specs.declared.edge.Edge.{Edge}
 use Rattle.pg_edges.specs.declared.key.Key.{Key}
 use Rattle.pg_edges.specs.Edges.{acked, is_listed, linked, makes_edge, new_edge, peers, put_edge, retired, tag_at, take_off, taken_off, touched, unlinked, without_edge}
 use Rattle.pg_edges.proofs.Edits.{peers-retired, peers-touched}
+use Rattle.pg_intent.proofs.Above.{still_apart}
 use Rattle.pg_register.specs.Flag.{is_removed}
 use Rattle.pg_replica.specs.Replica.{without_keys}
 use Rattle.pg_promises.proofs.Choices.{chosen}
@@ -83,29 +84,6 @@ module _ (P : ℕ → Type 0) where
       chosen Lead (option_eq nat_eq (tag_at es peer birth k) (Some tag)) (taken_off es peer k) es
       (lead_same es (taken_off es peer k) (taken_peers es peer k) h) h
 
--- to none that is removed, where none of these led to one, and that to the new one goes
-apart_by : (t u : Bool) → t ≡ false → u ≡ false → t || u ≡ false
-apart_by true u h k = absurd (false≢true (sym h))
-apart_by false u h k = k
-
-pub removed_more : (R : List ℕ) (server t : ℕ) → is_removed (R ++ server ∷ []) t ≡ is_removed R t || (server == t)
-removed_more [] server t = or_no (server == t)
-  where
-    or_no : (b : Bool) → b || false ≡ b
-    or_no true = refl
-    or_no false = refl
-removed_more (r ∷ R) server t =
-    ap (λ (b : Bool). (r == t) || b) (removed_more R server t) ∙ grouped (r == t) (is_removed R t) (server == t)
-  where
-    grouped : (a b c : Bool) → a || (b || c) ≡ (a || b) || c
-    grouped true b c = refl
-    grouped false b c = refl
-
-pub still_apart : (R : List ℕ) (server t : ℕ) → is_removed R t ≡ false → (server == t) ≡ false
-    → is_removed (R ++ server ∷ []) t ≡ false
-still_apart R server t old new =
-    removed_more R server t ∙ apart_by (is_removed R t) (server == t) old new
-
 -- what is not removed in a later view was not removed before
 pub was_apart : (R xs : List ℕ) (t : ℕ) → is_removed (R ++ xs) t ≡ false → is_removed R t ≡ false
 was_apart [] xs t h = refl
@@ -129,6 +107,7 @@ stays_removed (r ∷ R) xs t h = by (r == t) (stays_removed R xs t) h
 pub turned_number : (x y : ℕ) → (x == y) ≡ false → (y == x) ≡ false
 turned_number x y h = ne_eqb y x (λ e. false≢true (sym h ∙ eq-eqb x y (sym e)))
 
+-- to none that is removed, where none of these led to one, and that to the new one goes
 lead_one : (R : List ℕ) (server : ℕ) (e : Edge) (es : List Edge) → is_removed R e.peer ≡ false
     → Lead (λ t. is_removed (R ++ server ∷ []) t ≡ false) (without_edge es server) → (t : Bool) → (e.peer == server) ≡ t
     → Lead (λ t. is_removed (R ++ server ∷ []) t ≡ false) (cond (not t) (e ∷ without_edge es server) (without_edge es server))

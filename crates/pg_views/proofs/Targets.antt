@@ -1,14 +1,15 @@
 -- Who is asked is another live server of the run, or nobody.
-use Rattle.std.proofs.Common.{[], ℕ, zero, suc, ◌≡◌, ◌≢◌, ◌+◌, ◌-◌, ◌≤◌, ◌<◌, ◌==◌, ◌&&◌, Bool, true, false, cond, not, nat_le, List, ◌∷◌, Option, None, Some, refl, sym, ap, subst, ◌∙◌, eq-eqb, arith, All}
+use Rattle.std.proofs.Common.{[], ℕ, ◌≡◌, ◌≢◌, ◌==◌, ◌&&◌, Bool, true, false, cond, not, nat_le, List, ◌∷◌, Option, None, Some, refl, sym, ap, subst, ◌∙◌, All}
 use Rattle.std.specs.List.{find}
-use Rattle.std.specs.Option.{option_map, option_or, unwrap_or}
-use Rattle.std.proofs.lemmas.Bool.{and_parts, false≢true, le-leb, leb-true, ne_eqb}
+use Rattle.std.specs.Option.{option_map, unwrap_or}
+use Rattle.std.proofs.lemmas.Bool.{and_parts, le-leb, leb-true, ne_eqb, not-true}
 use Rattle.std.proofs.lemmas.List.Elements.{All-head, All-tail}
 use Rattle.std.proofs.lemmas.Option.{none-some, same_Some}
 use Rattle.pg_base.specs.declared.id.FileId.{FileId}
 use Rattle.pg_entries.specs.declared.entry.Entry.{Entry}
-use Rattle.pg_intent.specs.Target.{IsLiveOther, first_above, is_live_other}
+use Rattle.pg_intent.specs.Target.{IsLiveOther}
 use Rattle.pg_intent.specs.Target.{next_target as next_of}
+use Rattle.pg_intent.proofs.Above.{next_lives, not_equal}
 use Rattle.pg_names.specs.Names.{cell_at}
 use Rattle.pg_register.specs.declared.flag.Flag.{Flag}
 use Rattle.pg_register.specs.Flag.{first_other_gold, is_live, is_removed}
@@ -17,66 +18,16 @@ use Rattle.pg_store.specs.declared.store.Store.{Store}
 use Rattle.pg_store.specs.Servers.{next_target}
 use Rattle.pg_store.specs.Servers.{is_live_other as is_live_other_at}
 use Rattle.pg_walk.specs.declared.paths.Found.{Found}
-use Rattle.pg_calls.specs.Asking.{cell_in, dir_by, gold_of, holder}
+use Rattle.pg_checks.specs.Asking.{cell_in, dir_by, gold_of, holder}
 use Rattle.pg_views.proofs.Seen.{IsSeen, IsTarget}
 use Rattle.pg_views.specs.Premises.{FlagsAreOf, IsFlagOf}
-
-pub not_true : (t : Bool) → not t ≡ true → t ≡ false
-not_true true h = absurd (false≢true h)
-not_true false h = refl
-
-not_equal : (a b : ℕ) → not (a == b) ≡ true → a ≡ b → ⊥
-not_equal a b h same = absurd (false≢true (sym (ap not (eq-eqb a b same)) ∙ h))
-
-record IsAbove (test : ℕ → Bool) (m k x : ℕ) : Type 0 where
-  pub passes : test x ≡ true
-  pub above : m < x
-  pub upto : x ≤ m + k
-
-found_above : (test : ℕ → Bool) (m k x : ℕ) → first_above test m k ≡ Some x → IsAbove test m k x
-found_above test m zero x h = absurd (none-some x h)
-found_above test m (suc k) x h = by (test (m + 1)) refl (found_above test (m + 1) k x) h
-  where
-    by : (t : Bool) → test (m + 1) ≡ t → (first_above test (m + 1) k ≡ Some x → IsAbove test (m + 1) k x)
-        → cond t (Some (m + 1)) (first_above test (m + 1) k) ≡ Some x → IsAbove test m (suc k) x
-    by true is more e =
-        let same : m + 1 ≡ x = same_Some (m + 1) x e in
-        record { passes = subst (λ (j : ℕ). test j ≡ true) same is; above = omega (arith, same); upto = omega (arith, same) }
-    by false is more e =
-        let rest = more e in
-        let above = rest.above in
-        let upto = rest.upto in
-        record { passes = rest.passes; above = omega (arith, above); upto = omega (arith, upto) }
 
 module _ (n s : ℕ) (R : List ℕ) where
   abbrev pub Asked : ℕ → Type 0
   Asked t = t ≢ 0 → IsTarget n s R t
 
-  other_of : (t k x : ℕ) → (t < x → x ≤ t + k → x ≤ n) → IsAbove (is_live_other s R) t k x → IsTarget n s R x
-  other_of t k x fits h =
-      let above = h.above in
-      let parts = and_parts (not (x == s)) (not (is_removed R x)) h.passes in
-      record {
-        from = omega (arith, above);
-        upto = fits h.above h.upto;
-        differs = not_equal x s parts.0;
-        stays = not_true (is_removed R x) parts.1;
-      }
-
-  upto_end : (t x : ℕ) → t < x → x ≤ t + (n - t) → x ≤ n
-  upto_end t x above upto = omega (arith, above, upto)
-
-  upto_all : (x : ℕ) → 0 < x → x ≤ 0 + n → x ≤ n
-  upto_all x above upto = omega (arith, above, upto)
-
-  next_by : (t : ℕ) (a b : Option ℕ) → first_above (is_live_other s R) t (n - t) ≡ a → first_above (is_live_other s R) 0 n ≡ b
-      → Asked (unwrap_or (option_or a b) 0)
-  next_by t (Some x) b one two h = other_of t (n - t) x (upto_end t x) (found_above (is_live_other s R) t (n - t) x one)
-  next_by t None (Some y) one two h = other_of 0 n y (upto_all y) (found_above (is_live_other s R) 0 n y two)
-  next_by t None None one two h = absurd (h refl)
-
   next_asked : (t : ℕ) → Asked (next_of n s R t)
-  next_asked t = next_by t (first_above (is_live_other s R) t (n - t)) (first_above (is_live_other s R) 0 n) refl refl
+  next_asked t = next_lives n s R t
 
   pub next_of_live : (a : Store) → a.servers ≡ n → a.names.server ≡ s → a.names.removed ≡ R → (t : ℕ) → Asked (next_target a t)
   next_of_live a servers server removed t =
@@ -104,7 +55,7 @@ module _ (n s : ℕ) (R : List ℕ) where
             from = here.least;
             upto = here.most;
             differs = not_equal flag.server s parts.1;
-            stays = not_true (is_removed R flag.server) live.1;
+            stays = not-true (is_removed R flag.server) live.1;
           })
       by false is more e = more e
 
@@ -144,7 +95,7 @@ live_parts a t h =
       from = leb-true 1 t one.0;
       upto = leb-true t a.servers two.0;
       differs = not_equal t a.names.server three.0;
-      stays = not_true (is_removed a.names.removed t) three.1;
+      stays = not-true (is_removed a.names.removed t) three.1;
     }
 
 pub live_test : (a : Store) (t : ℕ) → IsLiveOther a.servers a.names.server a.names.removed t → is_live_other_at a t ≡ true

@@ -11,6 +11,7 @@ use Rattle.pg_event.specs.declared.entry.VoidCause.{VoidCause}
 use Rattle.pg_event.specs.declared.event.Event.{Event}
 use Rattle.pg_flood.specs.World.{after}
 use Rattle.pg_flood.proofs.Flood.{after_itself, here}
+use Rattle.pg_intent.proofs.Above.{still_apart}
 use Rattle.pg_msg.specs.declared.message.Message.TheVariants as message
 use Rattle.pg_msg.specs.declared.message.Packet.{Packet}
 use Rattle.pg_msg.specs.declared.message.Sent.{Sent}
@@ -30,7 +31,7 @@ use Rattle.pg_run.proofs.Frame.{Acts, HasCome, WasDue, holds_in_runs}
 use Rattle.pg_run.proofs.Removals.{none_removed, removals_grow}
 use Rattle.pg_views.proofs.Effects.{Gives, HearsLive, Leaves, effect_leaves}
 use Rattle.pg_views.proofs.Fine.{IsOfLive, IsSent}
-use Rattle.pg_views.proofs.Lists.{same_number, still_apart, take_one}
+use Rattle.pg_views.proofs.Lists.{same_number, take_one}
 use Rattle.pg_views.proofs.Seen.{IsSeen}
 use Rattle.pg_views.proofs.Targets.{live_parts}
 use Rattle.pg_views.specs.Premises.{StandOn}

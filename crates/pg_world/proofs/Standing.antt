@@ -45,6 +45,13 @@ call_is_server n removed server c h = by (void_at n removed server) refl h
 pub live_so : (m : Machine) (w : World) (n server : ℕ) → Stands m w → lives n m.removed server ≡ is_live n w server
 live_so m w n server h = ap (λ (r : List ℕ). lives n r server) h.removed
 
+-- the same servers live in two machines with the same servers and removals
+pub lives_same : (m k : Machine) (server : ℕ) → k.servers ≡ m.servers → k.removed ≡ m.removed
+    → lives (length m.servers.items) m.removed server ≡ lives (length k.servers.items) k.removed server
+lives_same m k server servers removed =
+    ap (λ (j : _). lives j m.removed server) (sym (ap (λ (v : _). length v.items) servers))
+    ∙ ap (λ (r : _). lives (length k.servers.items) r server) (sym removed)
+
 -- the removal of a number
 pub removal_by : (removed : List ℕ) (number server : ℕ) (o : Option ℕ) → o ≡ removal_at removed number
     → option_eq nat_eq o (Some server) ≡ is_removal removed number server

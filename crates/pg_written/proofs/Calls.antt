@@ -29,11 +29,11 @@ use Rattle.pg_cells.specs.Golds.{is_gold}
 use Rattle.pg_cells.specs.Done.{Done, idle}
 use Rattle.pg_cells.specs.Making.{lower_flag}
 use Rattle.pg_cells.specs.Posting.{post}
-use Rattle.pg_calls.specs.Answer.{Answer, answer, answered, deny, replied, told}
-use Rattle.pg_calls.specs.Asking.{ask_by, ask_first, ask_for, fetch, fresh_wish, holder, standing}
+use Rattle.pg_checks.specs.Answer.{Answer, answer, answered, deny, replied, told}
+use Rattle.pg_checks.specs.Asking.{ask_by, ask_first, ask_for, fetch, fresh_wish, holder, standing}
 use Rattle.pg_calls.specs.Bodies.{change, change_file, read, shown_part, when_fit}
 use Rattle.pg_calls.specs.Calls.{do_call}
-use Rattle.pg_calls.specs.Checks.{dir_at, empty_dir_at, file_at, in_time, move_of, new_name, target_at}
+use Rattle.pg_checks.specs.Checks.{dir_at, empty_dir_at, file_at, in_time, move_of, new_name, target_at}
 use Rattle.pg_calls.specs.Demoting.{demote, demoted_at, lowered}
 use Rattle.pg_calls.specs.Dropping.{clean_gold, drop, dropped_at, leave_of, leaving}
 use Rattle.pg_calls.specs.Forgetting.{lost_at}

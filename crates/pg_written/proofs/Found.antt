@@ -15,9 +15,9 @@ use Rattle.pg_walk.specs.declared.paths.Stop.{Stop}
 use Rattle.pg_walk.specs.declared.paths.Stop.TheVariants as stop
 use Rattle.pg_walk.specs.Walk.{and_then, has_no_room, reach, reach_parent, shown_by}
 use Rattle.pg_house.specs.Returning.{is_root}
-use Rattle.pg_calls.specs.Answer.{unless}
-use Rattle.pg_calls.specs.Checks.{file_at, in_time, move_along, move_of, move_to, new_name, new_name_in, unless_shown, when_free}
-use Rattle.pg_calls.specs.Paths.{is_none, last_of, new_path_of, path_of, paths_of, with_new_name}
+use Rattle.pg_checks.specs.Answer.{unless}
+use Rattle.pg_checks.specs.Checks.{file_at, in_time, move_along, move_of, move_to, new_name, new_name_in, unless_shown, when_free}
+use Rattle.pg_checks.specs.Paths.{is_none, last_of, new_path_of, path_of, paths_of, with_new_name}
 use Rattle.pg_calls.proofs.Checked.{behind, no_ok, same_ok, unless_ok}
 use Rattle.pg_calls.proofs.Walked.{file_found as held_file, parent_found}
 

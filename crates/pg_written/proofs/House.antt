@@ -4,6 +4,7 @@ use Rattle.std.specs.List.{filter}
 use Rattle.std.specs.Map.{keys_of}
 use Rattle.std.proofs.lemmas.List.Elements.{All-cons, All-head, All-nil, All-push, All-tail}
 use Rattle.std.proofs.lemmas.Option.{none-some}
+use Rattle.std.proofs.lemmas.Bool.{and_parts, not-true}
 use Rattle.pg_base.specs.declared.id.FileId.{FileId}
 use Rattle.pg_base.specs.declared.id.Kind.TheVariants.{Dir}
 use Rattle.pg_edges.specs.declared.key.Key.{Key}
@@ -32,7 +33,7 @@ use Rattle.pg_house.proofs.AllReturned.{IsReturning, is_dead_own, returning_by}
 use Rattle.pg_house.proofs.Counting.{find_found}
 use Rattle.pg_house.proofs.NoCycles.{inner_parts}
 use Rattle.pg_house.proofs.Repeating.{repeated_keeps}
-use Rattle.pg_house.proofs.Truths.{and_true, chosen, not_true}
+use Rattle.pg_house.proofs.Truths.{chosen}
 use Rattle.pg_promises.proofs.Choices.{decided}
 use Rattle.pg_trace.specs.Suited.{SuitsUpdate}
 use Rattle.pg_written.proofs.Places.{IsOwnPlace, IsThingPlace, NamesSuit, cell_suits, newer_thing, own_place, own_suits, set_entry_suits, set_own_suits, suits_place, thing_place}
@@ -63,7 +64,7 @@ NotRoot f = is_root f ≡ false
 
 dead_other : (d : FileId) (o : Option Own) (b : Own) → o ≡ Some b → is_dead_own d o ≡ true → NotRoot d
 dead_other d None b e h = absurd (none-some b e)
-dead_other d (Some c) b e h = not_true (is_root d) (and_true (not (is_root d)) _ h).0
+dead_other d (Some c) b e h = not-true (is_root d) (and_parts (not (is_root d)) _ h).0
 
 some_dirs : (s : NamesValue) (ds : List FileId) (m : FileId) → first_moving s (length ds) None ds ≡ Some m → 0 < length ds
 some_dirs s [] m h = absurd (none-some m h)
@@ -99,7 +100,7 @@ module _ (P : Sent → Type 0) where
         made = h.made;
         sent = h.sent;
         left = All-push SuitsSlot work.left (record { dir = old.parent; child = f }) h.left
-            (record { dir = k; inner = not_true (is_root f) (and_true old.live (not (is_root f)) t).1 });
+            (record { dir = k; inner = not-true (is_root f) (and_parts old.live (not (is_root f)) t).1 });
         unsure = h.unsure;
       }) (λ e. h)
 

@@ -1,7 +1,7 @@
 use Rattle.std.proofs.Common.{ap, sym, ◌∙◌, ◌+◌, drop, Option}
 use Rattle.std.proofs.lemmas.List.{at_drop_more}
 use Rattle.pg_base.specs.declared.id.FileId.{FileId}
-use Rattle.pg_calls.specs.Asking.{latest}
+use Rattle.pg_checks.specs.Asking.{latest}
 use Rattle.pg_calls.proofs.forgetting.last_cell.Goals as goal
 
 pub loop-dir-preserved : goal.loop-dir-preserved

@@ -1,5 +1,5 @@
 use Rattle.std.proofs.Common.{◌≡◌, drop, None}
-use Rattle.pg_calls.specs.Asking.{latest}
+use Rattle.pg_checks.specs.Asking.{latest}
 use Rattle.pg_calls.proofs.forgetting.last_cell.Given as goal
 
 abbrev pub invariant-loop-dir : goal.invariant-loop-dir

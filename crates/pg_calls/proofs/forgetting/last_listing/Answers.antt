@@ -1,7 +1,7 @@
 use Rattle.std.proofs.Common.{ap, sym, ◌∙◌, ◌+◌, drop, filter, List, Option}
 use Rattle.std.proofs.lemmas.List.{at_drop_more}
 use Rattle.pg_base.specs.declared.id.FileId.{FileId}
-use Rattle.pg_calls.specs.Asking.{latest}
+use Rattle.pg_checks.specs.Asking.{latest}
 use Rattle.pg_calls.specs.Forgetting.{lists_in}
 use Rattle.pg_calls.proofs.Lost.{one_listing}
 use Rattle.pg_calls.proofs.forgetting.last_listing.Goals as goal

@@ -1,5 +1,5 @@
 use Rattle.std.proofs.Common.{◌≡◌, drop, filter}
-use Rattle.pg_calls.specs.Asking.{latest}
+use Rattle.pg_checks.specs.Asking.{latest}
 use Rattle.pg_calls.specs.Forgetting.{last_listing, lists_in}
 use Rattle.pg_calls.proofs.forgetting.last_listing.Given as goal
 

@@ -1,7 +1,7 @@
 use Rattle.std.proofs.Common.{rules, ◌≡◌, ◌+◌, min, subst, Result}
 use Rattle.pg_walk.specs.declared.paths.Stop.{Stop}
-use Rattle.pg_calls.specs.declared.checks.NewName.{NewName}
-use Rattle.pg_calls.specs.Answer.{Tells}
+use Rattle.pg_checks.specs.declared.checks.NewName.{NewName}
+use Rattle.pg_checks.specs.Answer.{Tells}
 use Rattle.pg_calls.specs.Naming.{next_id}
 use Rattle.pg_calls.proofs.InTime.{is_next, same_name}
 use Rattle.pg_calls.proofs.naming.name_for_new.Goals as goal

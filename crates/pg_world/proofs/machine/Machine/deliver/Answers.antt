@@ -1,8 +1,8 @@
-use Rattle.std.proofs.Common.{◌≡◌, None, false, length, true, sym, ap, ◌∙◌}
+use Rattle.std.proofs.Common.{◌≡◌, None, false, length, true, sym, ◌∙◌}
 use Rattle.pg_event.specs.declared.event.Event.TheVariants.{Deliver}
 use Rattle.pg_server.specs.declared.input.Input.TheVariants as input
 use Rattle.pg_world.specs.Stands.{IsEntryBy, IsEntryOf, lives}
-use Rattle.pg_world.proofs.Standing.{all_ok, delivered, each_there, entry_by, entry_live, live_is_server, lost_delivered, none_delivered, then_if}
+use Rattle.pg_world.proofs.Standing.{all_ok, delivered, each_there, entry_by, entry_live, live_is_server, lives_same, lost_delivered, none_delivered, then_if}
 use Rattle.pg_world.proofs.machine.Machine.deliver.Goals as goal
 
 pub act-requires : goal.act-requires
@@ -21,9 +21,7 @@ returns-then-not-is_live-clause-state c = λ w h.
     let n = length m.servers.items in
     let x = c.in-Some.message in
     let away : lives n m.removed x.to ≡ false =
-    ap (λ (j : _). lives j m.removed x.to) (sym (ap (λ (v : _). length v.items) c.in-Some.ensures.servers))
-    ∙ ap (λ (r : _). lives (length k.servers.items) r x.to) (sym c.in-Some.ensures.removed)
-    ∙ sym c.is_live.ensures ∙ c.if-not-is_live.true in
+    lives_same m k x.to c.in-Some.ensures.servers c.in-Some.ensures.removed ∙ sym c.is_live.ensures ∙ c.if-not-is_live.true in
     lost_delivered m k w n c.args.number h c.in-Some.ensures.servers c.in-Some.ensures.removed c.in-Some.ensures.bag x
     c.in-Some.ensures.found away
 
@@ -34,9 +32,7 @@ returns-clause-state c =
     let n = length m.servers.items in
     let x = c.in-Some.message in
     let live : lives n m.removed x.to ≡ true =
-    ap (λ (j : _). lives j m.removed x.to) (sym (ap (λ (v : _). length v.items) c.in-Some.ensures.servers))
-    ∙ ap (λ (r : _). lives (length k.servers.items) r x.to) (sym c.in-Some.ensures.removed)
-    ∙ sym c.is_live.ensures ∙ c.if-not-is_live.false in
+    lives_same m k x.to c.in-Some.ensures.servers c.in-Some.ensures.removed ∙ sym c.is_live.ensures ∙ c.if-not-is_live.false in
     all_ok c.act.result _ _ _ _ c.act.ensures.servers c.act.ensures.bag c.act.ensures.removed
     (λ servers bag kept. λ w h.
     delivered m k w n c.args.number h c.in-Some.ensures.servers c.in-Some.ensures.removed c.in-Some.ensures.bag c.act.new.self x
@@ -55,9 +51,7 @@ returns-then-not-is_live-clause-entry c = λ w h.
     let n = length m.servers.items in
     let x = c.in-Some.message in
     let away : lives n m.removed x.to ≡ false =
-    ap (λ (j : _). lives j m.removed x.to) (sym (ap (λ (v : _). length v.items) c.in-Some.ensures.servers))
-    ∙ ap (λ (r : _). lives (length k.servers.items) r x.to) (sym c.in-Some.ensures.removed)
-    ∙ sym c.is_live.ensures ∙ c.if-not-is_live.true in
+    lives_same m k x.to c.in-Some.ensures.servers c.in-Some.ensures.removed ∙ sym c.is_live.ensures ∙ c.if-not-is_live.true in
     entry_live m k w n c.args.number h c.in-Some.ensures.servers c.in-Some.ensures.removed c.in-Some.ensures.bag _ x false
     c.in-Some.ensures.found away c.idle_entry-then-not-is_live.ensures
 
@@ -69,9 +63,7 @@ returns-clause-entry c =
     let x = c.in-Some.message in
     let e = Deliver c.args.number in
     let live : lives n m.removed x.to ≡ true =
-    ap (λ (j : _). lives j m.removed x.to) (sym (ap (λ (v : _). length v.items) c.in-Some.ensures.servers))
-    ∙ ap (λ (r : _). lives (length k.servers.items) r x.to) (sym c.in-Some.ensures.removed)
-    ∙ sym c.is_live.ensures ∙ c.if-not-is_live.false in
+    lives_same m k x.to c.in-Some.ensures.servers c.in-Some.ensures.removed ∙ sym c.is_live.ensures ∙ c.if-not-is_live.false in
     then_if c.act.result (IsEntryBy k e x.to (input.Arrival x.packet)) (IsEntryOf m e) c.act.ensures.entry
     (λ entry by. λ w h.
     entry_live m k w n c.args.number h c.in-Some.ensures.servers c.in-Some.ensures.removed c.in-Some.ensures.bag entry x true

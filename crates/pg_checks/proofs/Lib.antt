@@ -1,0 +1,4 @@
+mod Components
+mod Telling
+mod Parts
+pub mod Stopping

@@ -1,0 +1,4 @@
+pub mod Asking
+pub mod Answer
+pub mod Paths
+pub mod Checks
