@@ -6,13 +6,13 @@ use Rattle.pg_sched.specs.declared.line.Form.{Form}
 use Rattle.pg_event.specs.declared.quiet.Cause.{Cause}
 use Rattle.pg_event.specs.declared.quiet.Quiet.TheVariants.{Quiet, Waits}
 use Rattle.std.proofs.lemmas.Grind.{flat_map-append}
-use Rattle.pg_trace.specs.Printed.{journal_spelling, printed_text}
-use Rattle.pg_trace.specs.declared.printed.Printed.{Printed}
+use Rattle.pg_trace.specs.JournalLine.{journal_spelling, printed_text}
+use Rattle.pg_trace.specs.declared.journal_line.JournalLine.{JournalLine}
 use Rattle.pg_trace.proofs.Lines.{joined}
-use Rattle.pg_run.specs.Journal.{bag}
+use Rattle.law_printable.specs.pg_run.Journal.{bag}
 use Rattle.pg_world.specs.Played.{final}
-use Rattle.pg_run.specs.Quiet.{has_some, quiet_of}
-use Rattle.pg_run.specs.Run.{World, is_live, run_from}
+use Rattle.law_printable.specs.pg_run.Quiet.{has_some, quiet_of}
+use Rattle.law_printable.specs.pg_run.Run.{World, is_live, run_from}
 use Rattle.pg_world.proofs.Standing.{run_from-append}
 use Rattle.pangaea.specs.declared.journal.Replay.{Replay}
 use Rattle.pangaea.specs.Going.{GoesOn, Reaches}
@@ -21,7 +21,7 @@ use Rattle.pangaea.specs.Text.{inner_lines}
 use Rattle.pangaea.proofs.Settled.{delivers, inner_lines-append, settles, settles_on}
 
 -- lines and more lines behind a text
-pub spelled_behind : (start : List ℕ) (t u : List Printed)
+pub spelled_behind : (start : List ℕ) (t u : List JournalLine)
     → (start ++ journal_spelling t) ++ journal_spelling u ≡ start ++ journal_spelling (t ++ u)
 spelled_behind start t u =
     append_assoc start (journal_spelling t) (journal_spelling u)
@@ -40,7 +40,7 @@ Reaches-refl a going = record {
 }
 
 -- some events, and then more
-pub then_reaches : (a b c : Replay) (es fs : List Event) (t u : List Printed)
+pub then_reaches : (a b c : Replay) (es fs : List Event) (t u : List JournalLine)
     → Reaches a b es t → Reaches b c fs u → Reaches a c (es ++ fs) (t ++ u)
 then_reaches a b c es fs t u x y =
     let n = a.world.servers in
@@ -56,11 +56,11 @@ then_reaches a b c es fs t u x y =
     }
 
 -- what depends on the servers and the world alone, behind some events
-pub there : {A : Type 0} (f : ℕ → World → A) (a b : Replay) (es : List Event) (t : List Printed) → Reaches a b es t
+pub there : {A : Type 0} (f : ℕ → World → A) (a b : Replay) (es : List Event) (t : List JournalLine) → Reaches a b es t
     → f b.world.servers (final b.world) ≡ f a.world.servers (run_from a.world.servers (final a.world) es)
 there f a b es t x = ap (λ s. f s (final b.world)) x.servers ∙ ap (f a.world.servers) x.world
 
-lines_there : (a b : Replay) (es fs : List Event) (t : List Printed) → Reaches a b es t
+lines_there : (a b : Replay) (es fs : List Event) (t : List JournalLine) → Reaches a b es t
     → inner_lines b.world.servers b.number b.form (final b.world) fs
     ≡ inner_lines a.world.servers a.number a.form (run_from a.world.servers (final a.world) es) fs
 lines_there a b es fs t x =
@@ -75,7 +75,7 @@ goes_then a b c es fs x y =
     let n = a.world.servers in
     let w = final a.world in
     let own = inner_lines n a.number a.form w es in
-    let P : List Printed → Type 0 = (λ t. Reaches a c (es ++ fs) t) in
+    let P : List JournalLine → Type 0 = (λ t. Reaches a c (es ++ fs) t) in
     subst P (ap (λ t. own ++ t) (lines_there a b es fs own x) ∙ sym (inner_lines-append n a.number a.form w es fs))
     (then_reaches a b c es fs own (inner_lines b.world.servers b.number b.form (final b.world) fs) x y)
 

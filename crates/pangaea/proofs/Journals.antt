@@ -3,13 +3,13 @@ use Rattle.std.proofs.Common.{ℕ, ◌≡◌, ◌+◌, ◌++◌, List, [], ◌�
 use Rattle.pg_event.specs.declared.event.Event.{Event}
 use Rattle.pg_sched.specs.declared.line.Form.{Form}
 use Rattle.pg_sched.specs.declared.line.Line.{Line}
-use Rattle.pg_trace.specs.Printed.{ArePrinted, journal_spelling}
-use Rattle.pg_trace.specs.declared.printed.Printed.{Printed}
-use Rattle.pg_trace.specs.declared.printed.Printed.TheVariants as printed
-use Rattle.pg_trace.specs.declared.printed.Word.TheVariants as word
+use Rattle.pg_trace.specs.JournalLine.{ArePrinted, journal_spelling}
+use Rattle.pg_trace.specs.declared.journal_line.JournalLine.{JournalLine}
+use Rattle.pg_trace.specs.declared.journal_line.JournalLine.TheVariants as printed
+use Rattle.pg_trace.specs.declared.journal_line.AskedAt.TheVariants as word
 use Rattle.pg_trace.proofs.Lines.{joined}
-use Rattle.pg_run.specs.Quiet.{quiet_of}
-use Rattle.pg_run.specs.Run.{World, run_from}
+use Rattle.law_printable.specs.pg_run.Quiet.{quiet_of}
+use Rattle.law_printable.specs.pg_run.Run.{World, run_from}
 use Rattle.pg_world.specs.Played.{final}
 use Rattle.pangaea.specs.declared.journal.Replay.{Replay}
 use Rattle.pangaea.specs.Going.{GoesOn, Reaches, Takes, written_of}
@@ -27,8 +27,8 @@ pub settled : (a b c : Replay) (es : List Event) → GoesOn a b es
 settled a b c es x y =
     let n = a.world.servers in
     let own = inner_lines n a.number a.form (final a.world) es in
-    let asked : ℕ → World → List Printed = (λ s w. printed.Asked word.Settle (quiet_of s w) ∷ []) in
-    let Q : List Printed → Type 0 = (λ t. Reaches b c [] t) in
+    let asked : ℕ → World → List JournalLine = (λ s w. printed.Asked word.Settle (quiet_of s w) ∷ []) in
+    let Q : List JournalLine → Type 0 = (λ t. Reaches b c [] t) in
     let told = subst Q (there asked a b es own x) y in
     let last = asked n (run_from n (final a.world) es) in
     let P : List Event → Type 0 = (λ fs. Reaches a c fs (own ++ last)) in
@@ -37,7 +37,7 @@ settled a b c es x y =
 -- what is left to write makes this text, and each line of the whole journal is one of a journal if
 -- those that are left are
 pub record IsLeft (servers : ℕ) (replay : Replay) (number : ℕ) (lines : List Line)
-    (text : List ℕ) (whole : List Printed) : Type 0 where
+    (text : List ℕ) (whole : List JournalLine) : Type 0 where
   pub so_far : replay.out
       ++ journal_spelling (journal_lines servers number replay.form (final replay.world) lines)
       ≡ text
@@ -47,13 +47,13 @@ pub record IsLeft (servers : ℕ) (replay : Replay) (number : ℕ) (lines : List
 
 -- so it is behind one line more
 pub one_taken : (a b : Replay) (number : ℕ) (line : Line) (rest : List Line) (text : List ℕ)
-    → (whole : List Printed) → Takes a b number line
+    → (whole : List JournalLine) → Takes a b number line
     → IsLeft a.world.servers a number (line ∷ rest) text whole
     → IsLeft a.world.servers b (number + 1) rest text whole
 one_taken a b number line rest text whole t left =
     let n = a.world.servers in
     let own = written_of a number line in
-    let next : Form → World → List Printed = (λ f w. journal_lines n (number + 1) f w rest) in
+    let next : Form → World → List JournalLine = (λ f w. journal_lines n (number + 1) f w rest) in
     let more = next (form_from a.form line) (after_line n (final a.world) line) in
     let same : next b.form (final b.world) ≡ more = ap₂ next t.form t.world in
     record {

@@ -3,4 +3,3 @@ pub mod Gone
 pub mod Lines
 pub mod Journals
 pub mod Showing
-pub mod Joined

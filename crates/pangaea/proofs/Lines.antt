@@ -1,7 +1,7 @@
 -- Lines one behind the other.
 use Rattle.std.proofs.Common.{ℕ, ◌≡◌, List, [], ◌∷◌, refl, sym, ◌∙◌}
 use Rattle.pg_sched.specs.declared.line.Line.{Line}
-use Rattle.pg_run.specs.Run.{World, run_from, start}
+use Rattle.law_printable.specs.pg_run.Run.{World, run_from, start}
 use Rattle.pg_world.proofs.Standing.{run_from-append}
 use Rattle.pangaea.specs.Laws.{LinesAreEvents}
 use Rattle.pangaea.specs.Settling.{after_line, after_lines, all_events, events_of}

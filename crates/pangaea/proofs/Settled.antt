@@ -7,9 +7,9 @@ use Rattle.pg_sched.specs.declared.line.Line.TheVariants as line
 use Rattle.pg_event.specs.declared.quiet.Cause.{Cause}
 use Rattle.pg_event.specs.declared.quiet.Quiet.TheVariants.{Quiet, Waits}
 use Rattle.pg_trace.specs.Text.{head_lines}
-use Rattle.pg_run.specs.Journal.{bag}
-use Rattle.pg_run.specs.Quiet.{has_some, quiet_of}
-use Rattle.pg_run.specs.Run.{World, run_from}
+use Rattle.law_printable.specs.pg_run.Journal.{bag}
+use Rattle.law_printable.specs.pg_run.Quiet.{has_some, quiet_of}
+use Rattle.law_printable.specs.pg_run.Run.{World, run_from}
 use Rattle.pangaea.specs.Settling.{after_event, deliveries, delivered, round_ticks, settling, ticked, unless_quiet}
 use Rattle.pangaea.specs.Text.{event_lines, inner_lines}
 

@@ -2,16 +2,16 @@
 use Rattle.std.specs.Prelude.{ℕ, ◌≡◌, List, ◌++◌, false}
 use Rattle.pg_event.specs.declared.event.Event.{Event}
 use Rattle.pg_sched.specs.declared.line.Line.{Line}
-use Rattle.pg_trace.specs.Printed.{ArePrinted, journal_spelling}
-use Rattle.pg_trace.specs.declared.printed.Printed.{Printed}
+use Rattle.pg_trace.specs.JournalLine.{ArePrinted, journal_spelling}
+use Rattle.pg_trace.specs.declared.journal_line.JournalLine.{JournalLine}
 use Rattle.pg_world.specs.Played.{final}
-use Rattle.pg_run.specs.Run.{run_from}
+use Rattle.law_printable.specs.pg_run.Run.{run_from}
 use Rattle.pangaea.specs.declared.journal.Replay.{Replay}
 use Rattle.pangaea.specs.Settling.{after_line, events_of}
 use Rattle.pangaea.specs.Text.{form_from, inner_lines, line_output, output_lines}
 
 -- these events happened, and these lines were written, each a line of a journal
-pub record Reaches (before after : Replay) (events : List Event) (written : List Printed)
+pub record Reaches (before after : Replay) (events : List Event) (written : List JournalLine)
     : Type 0 where
   pub world : final after.world ≡ run_from before.world.servers (final before.world) events
   pub going : after.world.failed ≡ false
@@ -34,7 +34,7 @@ Answers before after line =
     (output_lines before.world.servers before.number before.form (final before.world) line)
 
 -- the lines that a line of a schedule with this number stands for
-abbrev pub written_of : Replay → ℕ → Line → List Printed
+abbrev pub written_of : Replay → ℕ → Line → List JournalLine
 written_of before number line =
     line_output before.world.servers number before.form (final before.world) line
 

@@ -1,7 +1,7 @@
 -- The worlds of which is written are those of a run.
 use Rattle.std.specs.Prelude.{ℕ, ◌≡◌, List}
 use Rattle.pg_sched.specs.declared.line.Line.{Line}
-use Rattle.pg_run.specs.Run.{start, run}
+use Rattle.law_printable.specs.pg_run.Run.{start, run}
 use Rattle.pangaea.specs.Settling.{after_lines, all_events}
 
 -- behind any lines of a schedule the world is that of the run of their events, with those of each

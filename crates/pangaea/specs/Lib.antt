@@ -5,4 +5,3 @@ pub mod Going
 pub mod Ending
 pub mod Laws
 pub mod Written
-pub mod Joined

@@ -6,9 +6,9 @@ use Rattle.pg_sched.specs.declared.line.Line.{Line}
 use Rattle.pg_sched.specs.declared.line.Line.TheVariants as line
 use Rattle.pg_event.specs.declared.quiet.Quiet.{Quiet}
 use Rattle.pg_event.specs.declared.quiet.Quiet.TheVariants as quiet
-use Rattle.pg_run.specs.Journal.{bag}
-use Rattle.pg_run.specs.Quiet.{has_some, quiet_of}
-use Rattle.pg_run.specs.Run.{World, is_live, next, world_after, run_from}
+use Rattle.law_printable.specs.pg_run.Journal.{bag}
+use Rattle.law_printable.specs.pg_run.Quiet.{has_some, quiet_of}
+use Rattle.law_printable.specs.pg_run.Run.{World, is_live, next, world_after, run_from}
 
 -- how many messages one round delivers at most
 abbrev pub most_deliveries : ℕ

@@ -6,7 +6,7 @@ use Rattle.std.specs.Io.KnownBytes.{Appends}
 use Rattle.pg_sched.specs.declared.line.Line.{Line}
 use Rattle.pg_sched.specs.Schedule.{spelling, IsCount, AreLines}
 use Rattle.pangaea.specs.declared.command.TheConstants.{LIMIT}
-use Rattle.pg_trace.specs.Printed.{ArePrinted}
+use Rattle.pg_trace.specs.JournalLine.{ArePrinted}
 use Rattle.pangaea.specs.Text.{journal_of, text_of}
 
 -- the most bytes that an input may have. A clause of `run` says which number it is

@@ -5,23 +5,27 @@ ghost use Rattle.std.specs.Io.KnownBytes.{IsAtEnd};
 ghost use Rattle.pg_io.specs.Causes.{Rose};
 ghost use Rattle.pg_sched.specs.Schedule.{IsFirstBad};
 ghost use Rattle.pg_call.specs.declared.fault.Fault.{Fault};
-ghost use Rattle.pg_places.specs.Laws.{OnePlaceAStamp};
-ghost use Rattle.pg_run.specs.Acknowledged.{AcknowledgedKeysAreHad};
-ghost use Rattle.pg_run.specs.Births.{BirthsAreAlone, BirthsAreKnown, BirthsAreOfOneThing, GreaterBirthsReplaceEdges, LinksNameTheSender};
-ghost use Rattle.pg_run.specs.Came.{TakesWhatCame};
-ghost use Rattle.pg_run.specs.Golds.{FullReplicasSeeGold, ReplicasNameGolds};
-ghost use Rattle.pg_run.specs.Histories.{AncestryByVectors, CarriesHistory, ClockEndsFirst, MakesHistories, OneVersionAStamp, StateIsDetermined, StateIsItsHeads};
-ghost use Rattle.pg_run.specs.Intending.{IntentionsAreInOrder};
-ghost use Rattle.pg_run.specs.Laws.{HoldsWhatItTook, HouseIsInOrder, NamesMerge, QuietDirectoriesAreBroughtBack, QuietIsTold, QuietJoinedServersAgree, QuietNamesFormATree, QuietServersAgree, QuietThingsAreListedOnlyWhereTheyStand, ReturnsAreJustified};
-ghost use Rattle.pg_run.specs.Leaving.{ByesAreOver, DropsAreSafe, HeardEdgesAreKnown, WhatWentIsOver};
-ghost use Rattle.pg_run.specs.Ticks.{TicksSendWhatIsOwed};
-ghost use Rattle.pg_run.specs.Views.{MessagesAreOfViews, ViewsAreFronts};
+ghost use Rattle.law_all.specs.Laws.{LawsOfRuns};
+ghost use Rattle.law_all.specs.law_places.Laws.{OnePlaceAStamp};
+ghost use Rattle.law_all.specs.law_repair.Kept.{KeptDirectoriesAreBroughtBack, KeptNamesFormATree, KeptServersAgree, KeptThingsAreConnected, KeptThingsAreListedOnlyWhereTheyStand};
+ghost use Rattle.law_printable.specs.pg_run.Acknowledged.{AcknowledgedKeysAreHad};
+ghost use Rattle.law_printable.specs.pg_run.Births.{BirthsAreAlone, BirthsAreKnown, BirthsAreOfOneThing, GreaterBirthsReplaceEdges, LinksNameTheSender};
+ghost use Rattle.law_printable.specs.pg_run.Came.{TakesWhatCame};
+ghost use Rattle.law_printable.specs.pg_run.Going.{EachPeerIsTold};
+ghost use Rattle.law_printable.specs.pg_run.Golds.{FullReplicasSeeGold, ReplicasNameGolds};
+ghost use Rattle.law_printable.specs.pg_run.Histories.{AncestryByVectors, CarriesHistory, ClockEndsFirst, MakesHistories, OneVersionAStamp, StateIsDetermined, StateIsItsHeads};
+ghost use Rattle.law_printable.specs.pg_run.Intending.{IntentionsAreInOrder};
+ghost use Rattle.law_printable.specs.pg_run.Laws.{HoldsWhatItTook, HouseIsInOrder, NamesMerge, QuietDirectoriesAreBroughtBack, QuietIsTold, QuietJoinedServersAgree, QuietNamesFormATree, QuietServersAgree, QuietThingsAreListedOnlyWhereTheyStand, ReturnsAreJustified};
+ghost use Rattle.law_printable.specs.pg_run.Leaving.{ByesAreOver, DropsAreSafe, HeardEdgesAreKnown, WhatWentIsOver};
+ghost use Rattle.law_printable.specs.pg_run.Ticks.{TicksSendWhatIsOwed};
+ghost use Rattle.law_printable.specs.pg_run.Views.{MessagesAreOfViews, ViewsArePrefixes};
 ghost use Rattle.pangaea.specs.Ending.{EndsOnly, FirstBadIs};
 ghost use Rattle.pangaea.specs.Laws.{LinesAreEvents};
 ghost use Rattle.pangaea.specs.Written.{AreGoodWords, FirstIsReplay, IsGoodInput, IsTooLong, WritesAll, WritesPrefix, most_input};
 
 use crate::journal::journal_of;
-use crate::laws::{laws_of_runs, lines_are_events};
+use crate::laws::lines_are_events;
+use law_all::laws_of_runs;
 use pg_event::Status;
 use pg_io::{ReadAllError, Sink, Source, read_all, write_all};
 use pg_sched::{ReadError, read};
@@ -39,9 +43,12 @@ pub fn replay<S: Source, K: Sink>(alloc: Global, source: &mut S, sink: &mut K) -
         → WritesAll (S.remaining source.old) (K.contents sink.old) (K.contents sink.new) }
     ensures whole { result ≡ Status.Done → IsAtEnd (S.remaining source.new) }
     ensures whole_first { result ≡ Status.WriteFault → IsAtEnd (S.remaining source.new) }
-    ensures front { result ≡ Status.WriteFault
+    ensures prefix { result ≡ Status.WriteFault
         → WritesPrefix (S.remaining source.old) (K.contents sink.old) (K.contents sink.new) }
     ensures untouched { result ≢ Status.Done → result ≢ Status.WriteFault → sink.new ≡ sink.old }
+
+    // And what holds of every run: all laws of runs.
+    ensures laws { (servers : ℕ) → LawsOfRuns servers }
 
     // When it ends how.
     ensures read { result ≡ Status.ReadFault → Rose (S.faults source.old) (S.faults source.new) }
@@ -65,6 +72,7 @@ pub fn replay<S: Source, K: Sink>(alloc: Global, source: &mut S, sink: &mut K) -
         → ¬ (Rose (K.faults sink.old) (K.faults sink.new))
         → EndsOnly result Status.Done }
 {
+    laws_of_runs();
     let input = match read_all(alloc, source, LIMIT) {
         Ok(input) => input,
         Err(error) => match error {
@@ -102,7 +110,7 @@ pub fn run<S: Source, K: Sink>(
         → WritesAll (S.remaining source.old) (K.contents sink.old) (K.contents sink.new) }
     ensures whole { result ≡ Status.Done → IsAtEnd (S.remaining source.new) }
     ensures whole_first { result ≡ Status.WriteFault → IsAtEnd (S.remaining source.new) }
-    ensures front { result ≡ Status.WriteFault
+    ensures prefix { result ≡ Status.WriteFault
         → WritesPrefix (S.remaining source.old) (K.contents sink.old) (K.contents sink.new) }
     ensures untouched { result ≢ Status.Done → result ≢ Status.WriteFault → sink.new ≡ sink.old }
 
@@ -117,7 +125,7 @@ pub fn run<S: Source, K: Sink>(
     // The versions of a file are a history, whose ancestors vectors tell, and which messages carry. Of
     // one stamp there is one version, and one place of a thing. Clocks end before other numbers do.
     ensures histories { (servers : ℕ) → servers < 2 ^ 32 → MakesHistories servers }
-    ensures one { (servers : ℕ) → servers < 2 ^ 32 → OneVersionAStamp servers }
+    ensures one_version_a_stamp { (servers : ℕ) → servers < 2 ^ 32 → OneVersionAStamp servers }
     ensures one_place { (servers : ℕ) → OnePlaceAStamp servers }
     ensures ancestry { (servers : ℕ) → servers < 2 ^ 32 → AncestryByVectors servers }
     ensures carried { (servers : ℕ) → servers < 2 ^ 32 → CarriesHistory servers }
@@ -133,31 +141,33 @@ pub fn run<S: Source, K: Sink>(
 
     // What a server knows of removals is the first of them, in their order, and never its own; it has no
     // edge to who is removed so. A message is of a view that its sender had, and in which it was live.
-    ensures views { (servers : ℕ) → ViewsAreFronts servers }
-    ensures mailed { (servers : ℕ) → MessagesAreOfViews servers }
+    ensures views { (servers : ℕ) → ViewsArePrefixes servers }
+    ensures messages_of_views { (servers : ℕ) → MessagesAreOfViews servers }
 
     // After every event each full replica sees a live gold. A gold replica names with an edge each other
     // live gold that it sees, or seeks one; any other replica names one, or seeks one.
     ensures golds { (servers : ℕ) → FullReplicasSeeGold servers }
-    ensures named { (servers : ℕ) → ReplicasNameGolds servers }
+    ensures golds_are_linked { (servers : ℕ) → ReplicasNameGolds servers }
 
     // A server has one birth of a thing at a time, which was given out for nothing else, and whoever
     // names one names one that was given out. The greater has the edge; who accepts a message that
     // links its sender lists it; and what is acknowledged is had.
     ensures known { (servers : ℕ) → BirthsAreKnown servers }
-    ensures alone { (servers : ℕ) → BirthsAreAlone servers }
-    ensures of_one { (servers : ℕ) → BirthsAreOfOneThing servers }
+    ensures one_birth_at_a_time { (servers : ℕ) → BirthsAreAlone servers }
+    ensures births_of_one_thing { (servers : ℕ) → BirthsAreOfOneThing servers }
     ensures edges { (servers : ℕ) → GreaterBirthsReplaceEdges servers }
     ensures linked { (servers : ℕ) → LinksNameTheSender servers }
-    ensures had { (servers : ℕ) → servers < 2 ^ 32 → AcknowledgedKeysAreHad servers }
+    ensures acked_is_had { (servers : ℕ) → servers < 2 ^ 32 → AcknowledgedKeysAreHad servers }
 
     // Whoever lets a replica go leaves its whole state with another server that holds the thing, and is
     // not removed in its view. Of what went the birth is over; an edge that its peer heard of is named
-    // back, or a Bye is owed, unless the edge's server is removed in the peer's view.
+    // back, or a Bye is owed, unless the edge's server is removed in the peer's view. Each peer is told of
+    // a replica that goes.
     ensures drops { (servers : ℕ) → servers < 2 ^ 32 → DropsAreSafe servers }
-    ensures went { (servers : ℕ) → servers < 2 ^ 32 → WhatWentIsOver servers }
+    ensures gone_is_over { (servers : ℕ) → servers < 2 ^ 32 → WhatWentIsOver servers }
     ensures heard { (servers : ℕ) → servers < 2 ^ 32 → HeardEdgesAreKnown servers }
     ensures byes { (servers : ℕ) → servers < 2 ^ 32 → ByesAreOver servers }
+    ensures told { (servers : ℕ) → EachPeerIsTold servers }
 
     // Quiet is told exactly where no message is under way, each live server has entered the last
     // removal, and none owes anything. There live servers that are joined agree, and where all are, all
@@ -169,7 +179,17 @@ pub fn run<S: Source, K: Sink>(
     ensures tree { (servers : ℕ) → servers < 2 ^ 32 → QuietNamesFormATree servers }
     ensures listed { (servers : ℕ) → servers < 2 ^ 32
         → QuietThingsAreListedOnlyWhereTheyStand servers }
-    ensures back { (servers : ℕ) → servers < 2 ^ 32 → QuietDirectoriesAreBroughtBack servers }
+    ensures no_dead_parent { (servers : ℕ) → servers < 2 ^ 32 → QuietDirectoriesAreBroughtBack servers }
+
+    // So it is, with no premise on graphs, of what was kept: where between each two neighbouring moments of
+    // a thing, its creation and the quiet ends of events, one replica of a live server stayed gold, and
+    // none forgot the thing.
+    ensures kept { (servers : ℕ) → servers < 2 ^ 32 → KeptThingsAreConnected servers }
+    ensures kept_agree { (servers : ℕ) → servers < 2 ^ 32 → KeptServersAgree servers }
+    ensures kept_tree { (servers : ℕ) → servers < 2 ^ 32 → KeptNamesFormATree servers }
+    ensures kept_listed { (servers : ℕ) → servers < 2 ^ 32
+        → KeptThingsAreListedOnlyWhereTheyStand servers }
+    ensures kept_back { (servers : ℕ) → servers < 2 ^ 32 → KeptDirectoriesAreBroughtBack servers }
 
     // Where a directory comes back, whoever removed it in an earlier event had not heard of the places
     // that it lists, unless it is removed in the view of who brings the directory back.

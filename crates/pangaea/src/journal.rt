@@ -3,23 +3,23 @@
 ghost use Rattle.std.specs.Prelude.{◌≡◌, ◌++◌, ◌||◌, IfOk, OnOk};
 ghost use Rattle.pg_sched.specs.Schedule.{IsCount};
 ghost use Rattle.pg_base.specs.Id.{Fits};
-ghost use Rattle.pg_event.specs.declared.entry.VoidCause.TheVariants.{Unbuilt};
+ghost use Rattle.pg_event.specs.declared.entry.VoidCause.TheVariants.{NoMeter};
 ghost use Rattle.pg_event.specs.Event.{IsEvent};
 ghost use Rattle.pg_sched.specs.Line.{IsLine};
 ghost use Rattle.pg_sched.specs.Schedule.{AreLines};
-ghost use Rattle.pg_trace.specs.Printed.{ArePrinted, IsPrinted, printed_text};
+ghost use Rattle.pg_trace.specs.JournalLine.{ArePrinted, IsPrinted, printed_text};
 ghost use Rattle.pg_trace.specs.Text.{head_lines, head_text};
-ghost use Rattle.pg_trace.specs.declared.printed.Printed.TheVariants as printed;
+ghost use Rattle.pg_trace.specs.declared.journal_line.JournalLine.TheVariants as printed;
 ghost use Rattle.pangaea.specs.Text as journal;
 ghost use Rattle.pangaea.specs.Text.{text_of};
 
 use crate::shown::write_held;
+use law_printable::entries_suit;
 use pg_base::{Bytes, FileId, NodeId};
 use pg_event::{Event, Quiet};
 use pg_sched::{Form, Line, Schedule};
-use pg_trace::{Word, write_entry, write_head, write_quiet};
+use pg_trace::{AskedAt, write_entry, write_head, write_quiet};
 use pg_world::World;
-use pg_written::entries_suit;
 use std::alloc::{AllocError, Global};
 
 /// How many messages one round of a settling delivers at most.
@@ -37,9 +37,9 @@ struct Replay {
 
 impl Replay {
     ghost use Rattle.std.specs.Prelude.{◌∷◌, ◌≤◌, [], false};
-    ghost use Rattle.pg_trace.specs.declared.printed.Word.{Word};
+    ghost use Rattle.pg_trace.specs.declared.journal_line.AskedAt.{AskedAt};
     ghost use Rattle.pg_world.specs.Played.{final, held};
-    ghost use Rattle.pg_run.specs.Quiet.{has_some, quiet_of};
+    ghost use Rattle.law_printable.specs.pg_run.Quiet.{has_some, quiet_of};
     ghost use Rattle.pangaea.specs.Going.{Answers, GoesOn, Reaches, Takes};
     ghost use Rattle.pangaea.specs.Settling.{deliveries, settling, tick_of, ticks};
     ghost use Rattle.pangaea.specs.Shown.{held_lines};
@@ -196,7 +196,7 @@ impl Replay {
     }
 
     /// Writes whether all is done, behind this word.
-    fn tell(&mut self, word: Word) -> Result<(), AllocError>
+    fn tell(&mut self, word: AskedAt) -> Result<(), AllocError>
         requires { self.old.world.failed ≡ false }
         ensures { let quiet = quiet_of self.old.world.servers (final self.old.world) in
             OnOk result (Reaches self.old self.new [] (printed.Asked word quiet ∷ [])) }
@@ -215,12 +215,12 @@ impl Replay {
             Line::Happens(event) => Ok(self.happen(event.copy()?)?),
             Line::Settle { rounds, moment } => {
                 self.settle(*rounds, *moment, MOST_DELIVERIES)?;
-                Ok(self.tell(Word::Settle)?)
+                Ok(self.tell(AskedAt::Settle)?)
             }
             Line::Show(file) => Ok(self.show(file)?),
-            Line::Quiet => Ok(self.tell(Word::Quiet)?),
+            Line::Quiet => Ok(self.tell(AskedAt::Quiet)?),
             Line::Trace(_) => Ok(()),
-            Line::MeterOff(_) => Ok(write_unbuilt(self.number, &mut self.out)?),
+            Line::MeterOff(_) => Ok(write_no_meter(self.number, &mut self.out)?),
         }
     }
 
@@ -287,12 +287,12 @@ fn write_nowhere(id: FileId, out: &mut Bytes) -> Result<(), AllocError>
     write!(out, "at - {id}\n")
 }
 
-/// Writes that nothing is done of the line with this number yet.
-fn write_unbuilt(number: u64, out: &mut Bytes) -> Result<(), AllocError>
-    ensures text { OnOk result (out.new ≡ out.old ++ printed_text (printed.Void number Unbuilt)) }
-    ensures spelled { IsPrinted (printed.Void number Unbuilt) }
+/// Writes that the line with this number is void: there is no such meter.
+fn write_no_meter(number: u64, out: &mut Bytes) -> Result<(), AllocError>
+    ensures text { OnOk result (out.new ≡ out.old ++ printed_text (printed.Void number NoMeter)) }
+    ensures spelled { IsPrinted (printed.Void number NoMeter) }
 {
-    write!(out, "void {number} unbuilt\n")
+    write!(out, "void {number} no-meter\n")
 }
 
 /// The whole journal of a schedule: the text is the spelling of its lines, each of which is a line of a journal.
@@ -314,6 +314,6 @@ pub fn journal_of(alloc: Global, schedule: &Schedule) -> Result<Bytes, AllocErro
     for (i, line) in lines.iter().enumerate() {
         replay.take(i as u64 + 2, line)?;
     }
-    replay.tell(Word::End)?;
+    replay.tell(AskedAt::End)?;
     Ok(replay.out)
 }

@@ -2,15 +2,15 @@
 
 ghost use Rattle.std.specs.Prelude.{◌≡◌, ◌++◌, IfOk, OnOk, map};
 ghost use Rattle.pg_base.specs.Version.{stamp_of};
-ghost use Rattle.pg_run.specs.Quiet.{has_some};
-ghost use Rattle.pg_trace.specs.Printed.{ArePrinted, journal_spelling};
+ghost use Rattle.law_printable.specs.pg_run.Quiet.{has_some};
+ghost use Rattle.pg_trace.specs.JournalLine.{ArePrinted, journal_spelling};
 ghost use Rattle.pangaea.specs.Shown.{HoldsSuited, contents_at, contents_of, file_contents, held_lines, no_content, shown_of};
 
 use pg_base::{Bytes, FileId, Items, Kind, NodeId, SharedBytes, Stamp, Version};
 use pg_content::Content;
-use pg_names::Held;
+use pg_names::Inode;
 use pg_store::Store;
-use pg_trace::{Contents, ShownReplica, write_replica};
+use pg_trace::{ShownContent, ShownReplica, write_replica};
 use std::alloc::{AllocError, Global};
 
 /// The most bytes that are shown of a file.
@@ -41,7 +41,7 @@ fn shown_of(
     server: NodeId,
     id: FileId,
     store: &Store,
-    held: &Held,
+    held: &Inode,
 ) -> Result<ShownReplica, AllocError>
     ensures { IfOk result (λ shown. shown ≡ shown_of server store.now id held.now) }
 {
@@ -56,16 +56,16 @@ fn shown_of(
     })
 }
 
-fn contents_at(id: FileId, store: &Store, held: &Held) -> Result<Contents, AllocError>
+fn contents_at(id: FileId, store: &Store, held: &Inode) -> Result<ShownContent, AllocError>
     ensures { IfOk result (λ shown. shown ≡ contents_at store.now id id.kind held.now) }
 {
     match id.kind {
-        Kind::Dir => Ok(Contents::Dir(held.entries().count_listed(id) as u64)),
+        Kind::Dir => Ok(ShownContent::Dir(held.entries().count_listed(id) as u64)),
         Kind::File => file_contents(store, &id),
     }
 }
 
-fn file_contents(store: &Store, id: &FileId) -> Result<Contents, AllocError>
+fn file_contents(store: &Store, id: &FileId) -> Result<ShownContent, AllocError>
     ensures { IfOk result (λ shown. shown ≡ file_contents store.now id.now) }
 {
     match store.replica(id) {
@@ -75,11 +75,11 @@ fn file_contents(store: &Store, id: &FileId) -> Result<Contents, AllocError>
 }
 
 /// The stamps of the heads, how many bytes are shown, and the first 16 of them.
-fn contents_of(alloc: Global, content: &Content) -> Result<Contents, AllocError>
+fn contents_of(alloc: Global, content: &Content) -> Result<ShownContent, AllocError>
     ensures { IfOk result (λ shown. shown ≡ contents_of content.now) }
 {
     let first = content.view(0, SHOWN)?.into_vec();
-    Ok(Contents::File {
+    Ok(ShownContent::File {
         heads: Items::from_vec(stamps_of(alloc, content.heads())?),
         length: content.length(),
         first: SharedBytes::from_vec(alloc, first)?,
@@ -87,10 +87,10 @@ fn contents_of(alloc: Global, content: &Content) -> Result<Contents, AllocError>
 }
 
 /// The same of a content with no head.
-fn no_contents(alloc: Global) -> Result<Contents, AllocError>
+fn no_contents(alloc: Global) -> Result<ShownContent, AllocError>
     ensures { IfOk result (λ shown. shown ≡ no_content) }
 {
-    Ok(Contents::File {
+    Ok(ShownContent::File {
         heads: Items::new(alloc),
         length: 0,
         first: SharedBytes::from_vec(alloc, Vec::new(alloc))?,

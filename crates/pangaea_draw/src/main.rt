@@ -1,11 +1,7 @@
 //! A run as a picture.
 #![tactic(auto)]
 
-mod command;
-mod ending;
-
-pub use command::{LIMIT, picture, run};
-pub use ending::Ending;
+use pg_draw::{Ending, run};
 use pg_io::{Reading, Writing};
 use std::alloc::AllocError;
 use std::io::ErrorKind;
@@ -45,6 +41,3 @@ fn main(rt: HostRuntime) -> ExitCode {
     }
     ExitCode::from(ending.number())
 }
-
-#[cfg(test)]
-mod tests;

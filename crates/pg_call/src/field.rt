@@ -20,7 +20,7 @@ use pg_words::{is_text, read_hex_word, read_id};
 use std::alloc::Global;
 
 /// The number below 2^32 that the word spells.
-pub fn narrow_of(word: &[u8]) -> Result<u32, WordsError>
+pub fn parse_u32(word: &[u8]) -> Result<u32, WordsError>
     ensures found { IfOk result (λ n. word.now ≡ decimal n) }
     ensures bad { IfErr result (λ e. e ≡ Bad fault.Number) }
     ensures none { IfErr result (λ e. IsWordOf Narrow word.now → ⊥) }
@@ -32,7 +32,7 @@ pub fn narrow_of(word: &[u8]) -> Result<u32, WordsError>
 }
 
 /// The number below 2^64 that the word spells.
-pub fn wide_of(word: &[u8]) -> Result<u64, WordsError>
+pub fn parse_u64(word: &[u8]) -> Result<u64, WordsError>
     ensures found { IfOk result (λ n. word.now ≡ decimal n) }
     ensures bad { IfErr result (λ e. e ≡ Bad fault.Number) }
     ensures none { IfErr result (λ e. IsWordOf Wide word.now → ⊥) }
@@ -49,7 +49,7 @@ pub fn count_of(word: &[u8]) -> Result<ReadCount, WordsError>
     ensures bad { IfErr result (λ e. e ≡ Bad fault.Number) }
     ensures none { IfErr result (λ e. IsWordOf Count word.now → ⊥) }
 {
-    let count = narrow_of(word)?;
+    let count = parse_u32(word)?;
     match ReadCount::new(count) {
         Some(count) => Ok(count),
         None => Err(WordsError::Bad(Fault::Number)),

@@ -11,7 +11,7 @@ ghost use Rattle.pg_call.specs.declared.fault.Fault.{Fault};
 use crate::call::{Call, CallKind};
 use crate::error::WordsError;
 use crate::field::{
-    count_of, have_bytes, id_of, narrow_of, path_of, payload_of, policy_of, target_of, wide_of,
+    count_of, have_bytes, id_of, parse_u32, parse_u64, path_of, payload_of, policy_of, target_of,
 };
 use pg_words::first_word;
 use std::alloc::{AllocError, Global};
@@ -43,7 +43,7 @@ fn write_of(alloc: Global, path: &[u8], offset: &[u8], bytes: &[u8]) -> Result<C
         → IsBadWord (call_fields kind.Write) (path.now ∷ offset.now ∷ bytes.now ∷ []) f) }
 {
     let path = path_of(alloc, path)?;
-    let offset = narrow_of(offset)?;
+    let offset = parse_u32(offset)?;
     let bytes = payload_of(alloc, bytes)?;
     Ok(Call::Write {
         path,
@@ -60,7 +60,7 @@ fn cut_of(alloc: Global, path: &[u8], length: &[u8]) -> Result<Call, WordsError>
         → IsBadWord (call_fields kind.Cut) (path.now ∷ length.now ∷ []) f) }
 {
     let path = path_of(alloc, path)?;
-    let length = narrow_of(length)?;
+    let length = parse_u32(length)?;
     Ok(Call::Cut { path, length })
 }
 
@@ -72,7 +72,7 @@ fn read_of(alloc: Global, path: &[u8], offset: &[u8], count: &[u8]) -> Result<Ca
         → IsBadWord (call_fields kind.Read) (path.now ∷ offset.now ∷ count.now ∷ []) f) }
 {
     let path = path_of(alloc, path)?;
-    let offset = narrow_of(offset)?;
+    let offset = parse_u32(offset)?;
     let count = count_of(count)?;
     Ok(Call::Read {
         path,
@@ -89,7 +89,7 @@ fn ls_of(alloc: Global, path: &[u8], from: &[u8]) -> Result<Call, WordsError>
         → IsBadWord (call_fields kind.Ls) (path.now ∷ from.now ∷ []) f) }
 {
     let path = path_of(alloc, path)?;
-    let from = narrow_of(from)?;
+    let from = parse_u32(from)?;
     Ok(Call::Ls { path, from })
 }
 
@@ -112,13 +112,13 @@ fn giveup_of(view: &[u8], server: &[u8]) -> Result<Call, WordsError>
     ensures bad { IfErr result (λ e. (f : Fault) → e ≡ Bad f
         → IsBadWord (call_fields kind.Giveup) (view.now ∷ server.now ∷ []) f) }
 {
-    let view = wide_of(view)?;
-    let server = narrow_of(server)?;
+    let view = parse_u64(view)?;
+    let server = parse_u32(server)?;
     Ok(Call::Giveup { view, server })
 }
 
 /// A call with one word behind its own.
-fn one_of(alloc: Global, kind: CallKind, word: &[u8]) -> Result<Call, WordsError>
+fn parse_one_word(alloc: Global, kind: CallKind, word: &[u8]) -> Result<Call, WordsError>
     requires { length (call_fields kind) ≡ 1 }
     ensures found { IfOk result (λ c. IsCall c × (kind_word kind ∷ word.now ∷ [] ≡ call_words c)) }
     ensures bad { IfErr result (λ e. (f : Fault) → e ≡ Bad f
@@ -180,7 +180,7 @@ pub fn arguments_of(alloc: Global, kind: CallKind, words: &[&[u8]]) -> Result<Ca
     match (kind, words) {
         (CallKind::Status, []) => Ok(Call::Status),
         (CallKind::Stop, []) => Ok(Call::Stop),
-        (kind, [word]) => one_of(alloc, kind, word),
+        (kind, [word]) => parse_one_word(alloc, kind, word),
         (kind, [first, second]) => two_of(alloc, kind, first, second),
         (CallKind::Write, [path, offset, bytes]) => write_of(alloc, path, offset, bytes),
         (CallKind::Read, [path, offset, count]) => read_of(alloc, path, offset, count),

@@ -82,6 +82,31 @@ pub enum Refusal {
     ManyActors,
 }
 
+/// The kinds of refusals, without their values, in the same order.
+#[derive(Clone, Copy, Debug, PartialEq, Eq)]
+pub enum RefusalKind {
+    BadPath,
+    ClockEnd,
+    NotYet,
+    NoName,
+    NotDir,
+    IsDir,
+    Root,
+    Exists,
+    DirFull,
+    NotEmpty,
+    Loop,
+    TooLong,
+    Behind,
+    IsGold,
+    LastGold,
+    HasChild,
+    Unsettled,
+    Held,
+    WrongView,
+    ManyActors,
+}
+
 impl fmt::Display for IntentKind {
     ghost use Rattle.std.specs.Prelude.{Some};
     ghost use Rattle.pg_call.specs.Refusal.{intent_word};

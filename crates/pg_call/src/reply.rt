@@ -63,6 +63,20 @@ pub enum Reply {
     Refused(Refusal),
 }
 
+/// The kinds of replies, without what they tell.
+#[derive(Clone, Copy, Debug, PartialEq, Eq)]
+pub enum ReplyKind {
+    Done,
+    Made,
+    Wrote,
+    Bytes,
+    Names,
+    Stat,
+    Leaving,
+    Status,
+    Refused,
+}
+
 impl Reply {
     /// The same reply again. What is large is shared.
     pub fn copy(&self, alloc: Global) -> Result<Reply, AllocError>

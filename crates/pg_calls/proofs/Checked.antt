@@ -5,22 +5,22 @@ use Rattle.pg_patch.specs.Ranges.{RangesValue}
 use Rattle.pg_replica.specs.Replica.{has_many_actors, is_too_long}
 use Rattle.pg_call.specs.declared.refusal.Refusal.{Refusal}
 use Rattle.pg_call.specs.declared.refusal.Refusal.TheVariants.{ManyActors, TooLong}
-use Rattle.pg_walk.specs.declared.paths.Stop.{Stop}
-use Rattle.pg_walk.specs.declared.paths.Stop.TheVariants as stop
-use Rattle.pg_walk.specs.Walk.{and_then}
+use Rattle.pg_lookup.specs.declared.paths.LookupError.{LookupError}
+use Rattle.pg_lookup.specs.declared.paths.LookupError.TheVariants as stop
+use Rattle.pg_lookup.specs.Walk.{and_then}
 use Rattle.pg_store.specs.declared.store.Store.{Store}
 use Rattle.pg_store.specs.Store.{replica_of}
 use Rattle.pg_checks.specs.Answer.{unless}
 use Rattle.pg_calls.specs.Bodies.{when_fit}
 
-pub same_ok : {A : Type 0} (x y : A) → ◌≡◌ {A = Result A Stop} (Ok x) (Ok y) → x ≡ y
+pub same_ok : {A : Type 0} (x y : A) → ◌≡◌ {A = Result A LookupError} (Ok x) (Ok y) → x ≡ y
 same_ok x y h = cc
 
-pub no_ok : {A : Type 0} (why : Stop) (x : A) → ◌≡◌ {A = Result A Stop} (Err why) (Ok x) → ⊥
+pub no_ok : {A : Type 0} (why : LookupError) (x : A) → ◌≡◌ {A = Result A LookupError} (Err why) (Ok x) → ⊥
 no_ok why x h = cc
 
 -- a check behind another
-pub behind : {A B : Type 0} (first : Result A Stop) (second : A → Result B Stop) (found : B) → and_then first second ≡ Ok found → (x : A) × (first ≡ Ok x) × (second x ≡ Ok found)
+pub behind : {A B : Type 0} (first : Result A LookupError) (second : A → Result B LookupError) (found : B) → and_then first second ≡ Ok found → (x : A) × (first ≡ Ok x) × (second x ≡ Ok found)
 behind (Err why) second found h = absurd (no_ok why found h)
 behind (Ok x) second found h = (x, refl, h)
 

@@ -12,12 +12,12 @@ use Rattle.pg_call.specs.declared.refusal.Refusal.{Refusal}
 use Rattle.pg_call.specs.declared.refusal.Refusal.TheVariants.{ClockEnd, IsDir, Root}
 use Rattle.pg_names.specs.Names.{is_dir, known}
 use Rattle.pg_house.specs.Returning.{is_root}
-use Rattle.pg_walk.specs.declared.paths.Found.{Found}
-use Rattle.pg_walk.specs.declared.paths.Stop.{Stop}
-use Rattle.pg_walk.specs.declared.paths.Stop.TheVariants as stop
-use Rattle.pg_walk.specs.Walk.{and_then, reach, refused}
+use Rattle.pg_lookup.specs.declared.paths.Found.{Found}
+use Rattle.pg_lookup.specs.declared.paths.LookupError.{LookupError}
+use Rattle.pg_lookup.specs.declared.paths.LookupError.TheVariants as stop
+use Rattle.pg_lookup.specs.Walk.{and_then, reach, refused}
 use Rattle.pg_store.specs.declared.store.Store.{Store}
-use Rattle.pg_store.specs.Store.{is_in_time}
+use Rattle.pg_store.specs.Store.{is_before_clock_end}
 use Rattle.pg_checks.specs.Answer.{Answer, answered, unless}
 use Rattle.pg_calls.specs.Bodies.{change_file}
 use Rattle.pg_checks.specs.Checks.{dir_at, empty_dir_at, file_at, first_child, in_time, move_along, move_of, new_name, target_at, thing_at, unless_child}
@@ -31,21 +31,21 @@ use Rattle.pg_calls.specs.Refused.{LateDoesNothing}
 use Rattle.pg_checks.proofs.Stopping.{StopsAt, stops_new_path, stops_path, stops_paths}
 
 -- a check is refused
-abbrev IsRefused : {A : Type 0} → Result A Stop → Type 0
+abbrev IsRefused : {A : Type 0} → Result A LookupError → Type 0
 IsRefused check = (why : Refusal) × (check ≡ refused why)
 
-refused_then : {A B : Type 0} (check : Result A Stop) (next : A → Result B Stop) → IsRefused check → IsRefused (and_then check next)
+refused_then : {A B : Type 0} (check : Result A LookupError) (next : A → Result B LookupError) → IsRefused check → IsRefused (and_then check next)
 refused_then check next h = (h.0, ap (λ c. and_then c next) h.1)
 
 -- texts are never what is not here yet
 abbrev Never : Found → Type 0
 Never found = ⊥
 
-module _ (store : Store) (late : is_in_time store ≡ false) where
+module _ (store : Store) (late : is_before_clock_end store ≡ false) where
   time_refused : {A : Type 0} (x : A) → IsRefused (in_time store x)
   time_refused x = (ClockEnd, ap (λ t. unless (not t) ClockEnd x) late)
 
-  texts_refused : {A : Type 0} (texts : Result A Stop) → StopsAt Never texts → IsRefused (and_then texts (in_time store))
+  texts_refused : {A : Type 0} (texts : Result A LookupError) → StopsAt Never texts → IsRefused (and_then texts (in_time store))
   texts_refused (Ok x) h = time_refused x
   texts_refused (Err (stop.Refused why)) h = (why, refl)
   texts_refused (Err (stop.NotYet found)) h = absurd h
@@ -106,7 +106,7 @@ module _ (store : Store) (late : is_in_time store ≡ false) where
 abbrev IsIdle : Store → Work → Answer → Type 0
 IsIdle store work left = (left.store ≡ store) × (left.work ≡ work)
 
-idle_by : {A : Type 0} (store : Store) (work : Work) (check : Result A Stop) (next : A → Answer) → IsRefused check
+idle_by : {A : Type 0} (store : Store) (work : Work) (check : Result A LookupError) (next : A → Answer) → IsRefused check
     → IsIdle store work (answered store work check next)
 idle_by store work check next h = subst (λ c. IsIdle store work (answered store work c next)) (sym h.1) (refl, refl)
 

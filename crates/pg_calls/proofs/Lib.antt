@@ -12,3 +12,8 @@ pub mod Refused
 pub mod Late
 pub mod Filled
 pub mod LastPlace
+pub use Rattle.pg_cells.proofs.pg_pieces as pg_pieces
+pub use Rattle.pg_cells.proofs as pg_cells
+pub use Rattle.pg_intentions.proofs.pg_graph as pg_graph
+pub use Rattle.pg_intentions.proofs as pg_intentions
+pub use Rattle.pg_checks.proofs as pg_checks

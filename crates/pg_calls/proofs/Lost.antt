@@ -4,8 +4,8 @@ use Rattle.std.proofs.lemmas.Bool.{eq-eqb, eqb-false, eqb-true, ne_eqb}
 use Rattle.pg_base.specs.declared.id.FileId.{FileId}
 use Rattle.pg_names.specs.Names.{NamesValue}
 use Rattle.pg_store.specs.declared.store.Store.{Store}
-use Rattle.pg_store.specs.Store.{is_in_time}
-use Rattle.pg_walk.specs.Walk.{and_then}
+use Rattle.pg_store.specs.Store.{is_before_clock_end}
+use Rattle.pg_lookup.specs.Walk.{and_then}
 use Rattle.pg_checks.specs.Asking.{later, latest}
 use Rattle.pg_checks.specs.Checks.{in_time}
 use Rattle.pg_calls.specs.Demoting.{unless_root}
@@ -24,11 +24,11 @@ one_listing names id first dir rest = by (lists_in names id dir)
     by true = refl
     by false = refl
 
-pub lost_in_time : (store : Store) (id found : FileId) → lost_at store id ≡ Ok found → is_in_time store ≡ true
+pub lost_in_time : (store : Store) (id found : FileId) → lost_at store id ≡ Ok found → is_before_clock_end store ≡ true
 lost_in_time store id found h =
     let t = behind (and_then (in_time store id) unless_root) (unless_full store) found h in
     let s = behind (in_time store id) unless_root t.0 t.1 in
-    time_by (is_in_time store) id s.0 s.1
+    time_by (is_before_clock_end store) id s.0 s.1
 
 -- ---- views
 

@@ -11,9 +11,9 @@ use Rattle.pg_patch.specs.declared.error.RangeError.TheVariants.{TooLong, OutOfM
 use Rattle.pg_content.specs.Content.{body_limit}
 use Rattle.pg_msg.specs.declared.work.Work.{Work}
 use Rattle.pg_call.specs.declared.reply.Reply.TheVariants.{Made}
-use Rattle.pg_walk.specs.declared.paths.Stop.{Stop}
+use Rattle.pg_lookup.specs.declared.paths.LookupError.{LookupError}
 use Rattle.pg_store.specs.declared.store.Store.{Store}
-use Rattle.pg_cells.specs.Done.{Done, idle}
+use Rattle.pg_cells.specs.pg_pieces.Done.{Done, idle}
 use Rattle.pg_checks.specs.declared.checks.NewName.{NewName}
 use Rattle.pg_checks.specs.Answer.{answer, answered}
 use Rattle.pg_calls.specs.Bodies.{IsAlwaysTooLong, Makes}
@@ -36,7 +36,7 @@ module _ (store given : Store) (work : Work) (text : List ℕ) (new : NewName) (
   pub mkdir_is : new_name store (next_id store Dir) text ≡ Ok new → given ≡ with_id store → id ≡ next_id store Dir
       → mkdir store text work ≡ answer (with_thing given work id Last new) (Made id)
   mkdir_is found is same =
-      ap (λ (r : Result NewName Stop). answered store work r
+      ap (λ (r : Result NewName LookupError). answered store work r
       (λ n. answer (with_thing (with_id store) work (next_id store Dir) Last n) (Made (next_id store Dir)))) found
       ∙ ap (λ (d : Done). answer d (Made (next_id store Dir))) (sym (thing_made Dir Last is same))
       ∙ ap (λ (x : FileId). answer (with_thing given work id Last new) (Made x)) (sym same)
@@ -47,7 +47,7 @@ module _ (store given : Store) (work : Work) (text : List ℕ) (new : NewName) (
       → so_far ≡ (with_thing given work id policy new).work
       → create store text policy work ≡ answer (with_first_version id (idle after so_far)) (Made id)
   create_is policy after so_far found is same left so =
-      ap (λ (r : Result NewName Stop). answered store work r
+      ap (λ (r : Result NewName LookupError). answered store work r
       (λ n. answer (with_first_version (next_id store File)
       (with_thing (with_id store) work (next_id store File) policy n)) (Made (next_id store File)))) found
       ∙ ap (λ (d : Done). answer (with_first_version (next_id store File) d) (Made (next_id store File)))

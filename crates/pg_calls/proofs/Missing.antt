@@ -11,16 +11,16 @@ use Rattle.pg_call.specs.declared.refusal.Refusal.{Refusal}
 use Rattle.pg_call.specs.declared.refusal.Refusal.TheVariants.{DirFull, Exists, HasChild, Held, IsDir, LastGold, Loop, NotDir, Root, WrongView}
 use Rattle.pg_names.specs.Names.{NamesValue, is_dir, is_full, known}
 use Rattle.pg_house.specs.Returning.{is_root}
-use Rattle.pg_walk.specs.declared.paths.Found.{Found}
-use Rattle.pg_walk.specs.declared.paths.Stop.TheVariants as stop
-use Rattle.pg_walk.specs.declared.paths.Way.TheVariants as way
-use Rattle.pg_walk.specs.Chain.{is_above}
-use Rattle.pg_walk.specs.Walk.{and_then, has_more, has_no_room, led_to, look_in, look_up, reach, reach_parent, reached, refused, shown_by, start, walk, walk_from}
+use Rattle.pg_lookup.specs.declared.paths.Found.{Found}
+use Rattle.pg_lookup.specs.declared.paths.LookupError.TheVariants as stop
+use Rattle.pg_lookup.specs.declared.paths.Way.TheVariants as way
+use Rattle.pg_lookup.specs.Chain.{is_above}
+use Rattle.pg_lookup.specs.Walk.{and_then, has_more, is_dir_full, led_to, look_in, look_up, reach, reach_parent, reached, refused, shown_by, start, walk, walk_from}
 use Rattle.pg_store.specs.declared.store.Store.{Store}
 use Rattle.pg_store.specs.Servers.{view_of}
 use Rattle.pg_store.specs.Store.{replica_of}
-use Rattle.pg_cells.specs.Golds.{is_gold}
-use Rattle.pg_cells.specs.Parting.{by_edge, by_intent, first_child as first_inside, has_child, if_gold, is_unclean, stays_for, unsettled_by}
+use Rattle.pg_cells.specs.pg_pieces.Golds.{is_gold}
+use Rattle.pg_cells.specs.pg_pieces.Parting.{by_edge, by_intent, first_child as first_inside, has_child, if_gold, is_unclean, stays_for, unsettled_by}
 use Rattle.pg_checks.specs.declared.checks.NewName.{NewName}
 use Rattle.pg_checks.specs.declared.paths.Paths.{Paths}
 use Rattle.pg_checks.specs.Answer.{unless}
@@ -166,7 +166,7 @@ module _ (store : Store) where
   free_missing child new =
       stops_then (IsMissing store.names) (unless_shown (shown_by store.names new.dir new.name) new) _
       (shown_missing (shown_by store.names new.dir new.name) new)
-      (λ found. stops_unless (IsMissing store.names) (has_no_room store.names found.dir child) DirFull found refl)
+      (λ found. stops_unless (IsMissing store.names) (is_dir_full store.names found.dir child) DirFull found refl)
 
   named_by : (child dir : FileId) (parts : List (List ℕ)) (none : Bool) → StopsAt (IsMissing store.names)
       (if none then refused (Exists root) else when_free store.names child (record { dir = dir; name = last_of parts }))

@@ -25,8 +25,8 @@ use Rattle.pg_store.specs.declared.store.Store.{Store}
 use Rattle.pg_store.specs.Beginning.{patches_of, put_new, take_patch, take_patches, take_told, take_told_in, with_intents}
 use Rattle.pg_store.specs.Births.{draw_birth, with_birth}
 use Rattle.pg_store.specs.Store.{is_newer_entry, is_newer_flag, is_newer_place, put_entry, put_flag, put_place, replica_at, take_entry, take_flag, take_place, touch, with_names}
-use Rattle.pg_cells.specs.Done.{idle}
-use Rattle.pg_cells.specs.Making.{own_next}
+use Rattle.pg_cells.specs.pg_pieces.Done.{idle}
+use Rattle.pg_cells.specs.pg_pieces.Making.{own_next}
 use Rattle.pg_checks.specs.declared.checks.NewName.{NewName}
 use Rattle.pg_calls.specs.Making.{HasNoVersion, make_place}
 use Rattle.pg_calls.specs.Naming.{begun, place_in, with_thing}

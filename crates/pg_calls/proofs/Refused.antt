@@ -15,15 +15,15 @@ use Rattle.pg_call.specs.declared.refusal.Refusal.TheVariants.{ManyActors, NotYe
 use Rattle.pg_call.specs.declared.reply.Reply.{Reply}
 use Rattle.pg_call.specs.declared.reply.Reply.TheVariants as reply
 use Rattle.pg_house.proofs.Truths.{chosen}
-use Rattle.pg_walk.specs.declared.paths.Found.{Found}
-use Rattle.pg_walk.specs.declared.paths.Stop.{Stop}
-use Rattle.pg_walk.specs.declared.paths.Stop.TheVariants as stop
+use Rattle.pg_lookup.specs.declared.paths.Found.{Found}
+use Rattle.pg_lookup.specs.declared.paths.LookupError.{LookupError}
+use Rattle.pg_lookup.specs.declared.paths.LookupError.TheVariants as stop
 use Rattle.pg_store.specs.declared.store.Store.{Store}
 use Rattle.pg_store.specs.declared.wishes.Wish.{Wish}
 use Rattle.pg_store.specs.Births.{with_birth, with_wish}
 use Rattle.pg_store.specs.Store.{is_full, replica_of}
-use Rattle.pg_cells.specs.Done.{Done, idle}
-use Rattle.pg_cells.specs.Posting.{post}
+use Rattle.pg_cells.specs.pg_pieces.Done.{Done, idle}
+use Rattle.pg_cells.specs.pg_pieces.Posting.{post}
 use Rattle.pg_checks.specs.Answer.{Answer, answer, answered, deny, replied, told, unless}
 use Rattle.pg_checks.specs.Asking.{ask_by, ask_first, fetch, fresh_wish, holder, standing}
 use Rattle.pg_calls.specs.Bodies.{change, change_file, when_fit}
@@ -97,7 +97,7 @@ same_refusal a b h = cc
 no_file : (a b : Refusal) (file : FileId) → a ≡ b → is_not_yet a ≡ false → b ≡ NotYet file → ⊥
 no_file a b file same other h = false≢true (sym other ∙ ap is_not_yet (same ∙ h))
 
-denied_left : (store : Store) (work : Work) (why : Refusal) (halt : Stop)
+denied_left : (store : Store) (work : Work) (why : Refusal) (halt : LookupError)
     → StopsAt {A = Unit {0}} (IsMissing store.names) (Err halt) → Left store work why (deny store halt work)
 denied_left store work why (stop.Refused r) other h = record {
   kept = inl refl;
@@ -125,13 +125,13 @@ leaving_told store file work (Some flag) = refl
 -- ---- each call
 
 module _ (store : Store) (work : Work) (why : Refusal) where
-  passes : {A : Type 0} (check : Result A Stop) (next : A → Answer) → StopsAt (IsMissing store.names) check
+  passes : {A : Type 0} (check : Result A LookupError) (next : A → Answer) → StopsAt (IsMissing store.names) check
       → ((x : A) → Left store work why (next x)) → Left store work why (answered store work check next)
   passes (Err (stop.Refused r)) next other each = denied_left store work why (stop.Refused r) other
   passes (Err (stop.NotYet found)) next none each = denied_left store work why (stop.NotYet found) none
   passes (Ok x) next none each = each x
 
-  looks : {A : Type 0} (check : Result A Stop) (tell : A → Reply) → StopsAt (IsMissing store.names) check
+  looks : {A : Type 0} (check : Result A LookupError) (tell : A → Reply) → StopsAt (IsMissing store.names) check
       → ((x : A) → tell x ≡ reply.Refused why → ⊥) → Left store work why (replied store work check tell)
   looks check tell none never = passes check (λ x. told store work (tell x)) none (λ x h. absurd (never x h))
 

@@ -5,11 +5,11 @@ use Rattle.std.proofs.lemmas.Bool.{false≢true}
 use Rattle.std.specs.Option.{is_some}
 use Rattle.pg_base.specs.declared.id.FileId.{FileId}
 use Rattle.pg_call.specs.declared.refusal.Refusal.TheVariants.{IsDir, NoName, NotDir}
-use Rattle.pg_names.specs.Names.{HeldValue, NamesValue, is_dir, is_full, is_full_of, is_held, known, own_of}
-use Rattle.pg_walk.specs.declared.paths.Found.{Found}
-use Rattle.pg_walk.specs.declared.paths.Stop.TheVariants as stop
-use Rattle.pg_walk.specs.declared.paths.Way.TheVariants as way
-use Rattle.pg_walk.specs.Walk.{and_then, has_more, led_to, look_in, look_up, reach, reach_parent, reached, refused, shown_by, start, walk, walk_from}
+use Rattle.pg_names.specs.Names.{InodeValue, NamesValue, is_dir, is_full, is_full_of, is_held, known, own_of}
+use Rattle.pg_lookup.specs.declared.paths.Found.{Found}
+use Rattle.pg_lookup.specs.declared.paths.LookupError.TheVariants as stop
+use Rattle.pg_lookup.specs.declared.paths.Way.TheVariants as way
+use Rattle.pg_lookup.specs.Walk.{and_then, has_more, led_to, look_in, look_up, reach, reach_parent, reached, refused, shown_by, start, walk, walk_from}
 use Rattle.pg_house.specs.Facts.{IsHeld}
 use Rattle.pg_store.specs.declared.store.Store.{Store}
 use Rattle.pg_checks.specs.Answer.{unless}
@@ -19,14 +19,14 @@ use Rattle.pg_calls.proofs.Checked.{behind, no_ok, same_ok, unless_ok}
 
 -- ---- what is full is held
 
-own_by : (names : NamesValue) (f : FileId) (o : Option HeldValue) → known names f ≡ o → is_full_of o ≡ true → IsHeld names f
+own_by : (names : NamesValue) (f : FileId) (o : Option InodeValue) → known names f ≡ o → is_full_of o ≡ true → IsHeld names f
 own_by names f None e h = absurd (false≢true h)
 own_by names f (Some x) e h = (x.own, ap own_of e)
 
 pub full_own : (names : NamesValue) (f : FileId) → is_full names f ≡ true → IsHeld names f
 full_own names f h = own_by names f (known names f) refl h
 
-held_by : (o : Option HeldValue) → is_full_of o ≡ true → is_some o ≡ true
+held_by : (o : Option InodeValue) → is_full_of o ≡ true → is_some o ≡ true
 held_by None h = absurd (false≢true h)
 held_by (Some x) h = refl
 

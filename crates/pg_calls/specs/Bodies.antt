@@ -9,11 +9,11 @@ use Rattle.pg_replica.specs.Replica.{has_many_actors, is_too_long}
 use Rattle.pg_msg.specs.declared.work.Work.{Work}
 use Rattle.pg_call.specs.declared.refusal.Refusal.TheVariants.{TooLong, ManyActors}
 use Rattle.pg_call.specs.declared.reply.Reply.TheVariants.{Bytes, Wrote}
-use Rattle.pg_walk.specs.declared.paths.Stop.{Stop}
-use Rattle.pg_walk.specs.Walk.{and_then}
+use Rattle.pg_lookup.specs.declared.paths.LookupError.{LookupError}
+use Rattle.pg_lookup.specs.Walk.{and_then}
 use Rattle.pg_store.specs.declared.store.Store.{Store}
 use Rattle.pg_store.specs.Store.{content_of, replica_of}
-use Rattle.pg_cells.specs.Done.{idle}
+use Rattle.pg_cells.specs.pg_pieces.Done.{idle}
 use Rattle.pg_checks.specs.Answer.{Answer, answer, answered, replied, unless}
 use Rattle.pg_checks.specs.Checks.{file_at}
 use Rattle.pg_calls.specs.Making.{drawn, make_version}
@@ -21,7 +21,7 @@ use Rattle.pg_calls.specs.Making.{drawn, make_version}
 -- ---- writing
 
 -- the new body is not too long, and then the new vector has not too many actors
-abbrev pub when_fit : Store → RangesValue → FileId → Result FileId Stop
+abbrev pub when_fit : Store → RangesValue → FileId → Result FileId LookupError
 when_fit store ranges file =
     and_then (unless (is_too_long (replica_of store file) ranges) TooLong file)
     (λ fit. unless (has_many_actors (replica_of store fit) store.names.server) ManyActors fit)

@@ -6,16 +6,16 @@ use Rattle.pg_register.specs.declared.flag.Flag.{Flag}
 use Rattle.pg_register.specs.Flag.{is_live}
 use Rattle.pg_msg.specs.declared.work.Work.{Work}
 use Rattle.pg_house.specs.Returning.{is_root}
-use Rattle.pg_walk.specs.declared.paths.Stop.{Stop}
-use Rattle.pg_walk.specs.Walk.{and_then}
+use Rattle.pg_lookup.specs.declared.paths.LookupError.{LookupError}
+use Rattle.pg_lookup.specs.Walk.{and_then}
 use Rattle.pg_call.specs.declared.call.Target.{Target}
 use Rattle.pg_call.specs.declared.refusal.Refusal.TheVariants.{LastGold, Root}
 use Rattle.pg_call.specs.declared.reply.Reply.TheVariants.{Done as IsDone}
 use Rattle.pg_store.specs.declared.store.Store.{Store}
 use Rattle.pg_store.specs.Links.{is_clean}
-use Rattle.pg_cells.specs.Done.{Done, idle}
-use Rattle.pg_cells.specs.Golds.{flags_of, is_gold}
-use Rattle.pg_cells.specs.Making.{lower_flag}
+use Rattle.pg_cells.specs.pg_pieces.Done.{Done, idle}
+use Rattle.pg_cells.specs.pg_pieces.Golds.{flags_of, is_gold}
+use Rattle.pg_cells.specs.pg_pieces.Making.{lower_flag}
 use Rattle.pg_checks.specs.Answer.{Answer, answer, answered, unless}
 use Rattle.pg_checks.specs.Checks.{target_at}
 
@@ -33,15 +33,15 @@ has_clean_gold store file =
 
 -- ---- the check
 
-abbrev pub unless_root : FileId → Result FileId Stop
+abbrev pub unless_root : FileId → Result FileId LookupError
 unless_root file = unless (is_root file) Root file
 
 -- any but the root, also one that is not gold: else, where no clean edge matches a raised flag of a
 -- live server, it is refused
-abbrev pub unless_last : Store → FileId → Result FileId Stop
+abbrev pub unless_last : Store → FileId → Result FileId LookupError
 unless_last store file = unless (not (has_clean_gold store file)) LastGold file
 
-abbrev pub demoted_at : Store → Target → Result FileId Stop
+abbrev pub demoted_at : Store → Target → Result FileId LookupError
 demoted_at store target =
     and_then (and_then (target_at store target) unless_root) (unless_last store)
 

@@ -6,31 +6,31 @@ use Rattle.pg_register.specs.declared.flag.Flag.{Flag}
 use Rattle.pg_intent.specs.declared.intent.Intent.{Intent}
 use Rattle.pg_intent.specs.declared.intent.Intent.TheVariants as intent
 use Rattle.pg_msg.specs.declared.work.Work.{Work}
-use Rattle.pg_walk.specs.declared.paths.Stop.{Stop}
-use Rattle.pg_walk.specs.Walk.{and_then, refused}
+use Rattle.pg_lookup.specs.declared.paths.LookupError.{LookupError}
+use Rattle.pg_lookup.specs.Walk.{and_then, refused}
 use Rattle.pg_call.specs.declared.call.Target.{Target}
 use Rattle.pg_call.specs.declared.refusal.Refusal.{Refusal}
 use Rattle.pg_call.specs.declared.reply.Reply.TheVariants.{Leaving}
 use Rattle.pg_store.specs.declared.store.Store.{Store}
-use Rattle.pg_cells.specs.Done.{Done, idle}
-use Rattle.pg_cells.specs.Golds.{flags_of}
-use Rattle.pg_cells.specs.Intending.{begin_intent}
-use Rattle.pg_cells.specs.Parting.{stays_for}
+use Rattle.pg_cells.specs.pg_pieces.Done.{Done, idle}
+use Rattle.pg_cells.specs.pg_pieces.Golds.{flags_of}
+use Rattle.pg_cells.specs.pg_pieces.Intending.{begin_intent}
+use Rattle.pg_cells.specs.pg_pieces.Parting.{stays_for}
 use Rattle.pg_checks.specs.Answer.{Answer, answer, answered}
 use Rattle.pg_checks.specs.Checks.{target_at}
 use Rattle.pg_calls.specs.Demoting.{is_clean_gold, unless_root}
 
 -- ---- the check
 
-abbrev pub refused_for : FileId → Option Refusal → Result FileId Stop
+abbrev pub refused_for : FileId → Option Refusal → Result FileId LookupError
 refused_for file None = Ok file
 refused_for file (Some why) = refused why
 
 -- any but the root that nothing keeps here
-abbrev pub unless_kept : Store → FileId → Result FileId Stop
+abbrev pub unless_kept : Store → FileId → Result FileId LookupError
 unless_kept store file = refused_for file (stays_for store file)
 
-abbrev pub dropped_at : Store → Target → Result FileId Stop
+abbrev pub dropped_at : Store → Target → Result FileId LookupError
 dropped_at store target =
     and_then (and_then (target_at store target) unless_root) (unless_kept store)
 

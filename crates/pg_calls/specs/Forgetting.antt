@@ -16,22 +16,22 @@ use Rattle.pg_intent.specs.Intents.{ended}
 use Rattle.pg_msg.specs.declared.update.Update.TheVariants as update
 use Rattle.pg_msg.specs.declared.work.Work.{Work}
 use Rattle.pg_msg.specs.Work.{with_made}
-use Rattle.pg_names.specs.declared.own.Own.{Own}
+use Rattle.pg_names.specs.declared.attributes.Attributes.{Attributes}
 use Rattle.pg_names.specs.Names.{NamesValue, blank_own, cell_at, is_dir, own_or_blank}
 use Rattle.pg_names.specs.Same.{is_same_stamp}
 use Rattle.pg_register.specs.declared.place.Place.{Place}
 use Rattle.pg_register.specs.Place.{blank_place, root, tilde_name}
-use Rattle.pg_walk.specs.declared.paths.Stop.{Stop}
-use Rattle.pg_walk.specs.Walk.{and_then}
+use Rattle.pg_lookup.specs.declared.paths.LookupError.{LookupError}
+use Rattle.pg_lookup.specs.Walk.{and_then}
 use Rattle.pg_store.specs.declared.store.Store.{Store}
 use Rattle.pg_store.specs.Beginning.{begin, with_intents}
 use Rattle.pg_store.specs.Births.{draw_birth, fill_at, with_birth}
 use Rattle.pg_store.specs.Store.{is_full, is_held}
 use Rattle.pg_store.specs.Wishes.{without_wish}
-use Rattle.pg_cells.specs.Done.{Done, idle}
-use Rattle.pg_cells.specs.Intending.{each}
-use Rattle.pg_cells.specs.Taking.{take_entry_noted}
-use Rattle.pg_repair.specs.Filling.{fill}
+use Rattle.pg_cells.specs.pg_pieces.Done.{Done, idle}
+use Rattle.pg_cells.specs.pg_pieces.Intending.{each}
+use Rattle.pg_cells.specs.pg_pieces.Taking.{take_entry_noted}
+use Rattle.pg_intentions.specs.pg_repair.Filling.{fill}
 use Rattle.pg_checks.specs.Answer.{Answer, answer, answered, unless}
 use Rattle.pg_checks.specs.Asking.{later, latest}
 use Rattle.pg_checks.specs.Checks.{in_time}
@@ -41,11 +41,11 @@ use Rattle.pg_calls.specs.Naming.{raised}
 
 -- ---- the check
 
-abbrev pub unless_full : Store → FileId → Result FileId Stop
+abbrev pub unless_full : Store → FileId → Result FileId LookupError
 unless_full store file = unless (is_full store file) Held file
 
 -- neither the root nor what is held and full
-abbrev pub lost_at : Store → FileId → Result FileId Stop
+abbrev pub lost_at : Store → FileId → Result FileId LookupError
 lost_at store id = and_then (and_then (in_time store id) unless_root) (unless_full store)
 
 -- ---- a filling replica
@@ -176,7 +176,7 @@ last_place names id = place_in names id (latest names id None (dirs_of names id)
 abbrev pub unfilled : Store → FileId → Store
 unfilled store id = with_intents store (ended store.intents (intent_key.Fill id))
 
-abbrev pub begun_with : Store → FileId → Own → Store
+abbrev pub begun_with : Store → FileId → Attributes → Store
 begun_with store id own =
     begin (unfilled (with_birth store) id) id (draw_birth store) Last own true
 

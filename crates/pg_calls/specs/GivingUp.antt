@@ -7,14 +7,14 @@ use Rattle.pg_call.specs.declared.refusal.Refusal.TheVariants as refusal
 use Rattle.pg_call.specs.declared.reply.Reply.TheVariants as reply
 use Rattle.pg_msg.specs.declared.work.Slot.{Slot}
 use Rattle.pg_msg.specs.declared.work.Work.{Work}
-use Rattle.pg_names.specs.Names.{HeldValue, NamesValue, directories, known}
-use Rattle.pg_walk.specs.declared.paths.Stop.{Stop}
-use Rattle.pg_walk.specs.Walk.{and_then}
+use Rattle.pg_names.specs.Names.{InodeValue, NamesValue, directories, known}
+use Rattle.pg_lookup.specs.declared.paths.LookupError.{LookupError}
+use Rattle.pg_lookup.specs.Walk.{and_then}
 use Rattle.pg_store.specs.declared.store.Store.{Store}
 use Rattle.pg_store.specs.Servers.{is_live_other, view_of}
 use Rattle.pg_store.specs.Views.{enter}
-use Rattle.pg_cells.specs.Done.{Done, idle}
-use Rattle.pg_repair.specs.Inviting.{invite_all}
+use Rattle.pg_cells.specs.pg_pieces.Done.{Done, idle}
+use Rattle.pg_intentions.specs.Inviting.{invite_all}
 use Rattle.pg_checks.specs.Answer.{Answer, answer, answered, unless}
 use Rattle.pg_checks.specs.Checks.{in_time}
 
@@ -27,7 +27,7 @@ is_next_view store view = view == view_of store + 1
 abbrev pub may_give_up : Store → ℕ → ℕ → Bool
 may_give_up store view server = is_next_view store view && is_live_other store server
 
-abbrev pub removal_at : Store → ℕ → ℕ → Result (Unit {0}) Stop
+abbrev pub removal_at : Store → ℕ → ℕ → Result (Unit {0}) LookupError
 removal_at store view server = and_then (in_time store (tt {0}))
     (λ found. unless (not (may_give_up store view server)) (refusal.WrongView (view_of store)) (tt {0}))
 
@@ -36,7 +36,7 @@ removal_at store view server = and_then (in_time store (tt {0}))
 abbrev pub slots_to : FileId → List FileId → List Slot
 slots_to dir children = map (λ child. record { dir = dir; child = child }) children
 
-abbrev pub slots_in : FileId → Option HeldValue → List Slot
+abbrev pub slots_in : FileId → Option InodeValue → List Slot
 slots_in dir None = []
 slots_in dir (Some x) = slots_to dir (keys_of x.entries)
 

@@ -8,3 +8,9 @@ pub mod Forgetting
 pub mod GivingUp
 pub mod Calls
 pub mod Refused
+pub use Rattle.pg_cells.specs.pg_pieces as pg_pieces
+pub use Rattle.pg_cells.specs as pg_cells
+pub use Rattle.pg_intentions.specs.pg_graph as pg_graph
+pub use Rattle.pg_intentions.specs.pg_repair as pg_repair
+pub use Rattle.pg_intentions.specs as pg_intentions
+pub use Rattle.pg_checks.specs as pg_checks

@@ -5,8 +5,8 @@ use Rattle.pg_content.specs.Content.{shown_bytes}
 use Rattle.pg_entries.specs.Shown.{listing_of}
 use Rattle.pg_path.specs.declared.row.Row.{Row}
 use Rattle.pg_register.specs.Flag.{is_live, is_raised}
-use Rattle.pg_names.specs.declared.own.Own.{Own}
-use Rattle.pg_names.specs.Names.{HeldValue, is_dir, known, own_or_blank}
+use Rattle.pg_names.specs.declared.attributes.Attributes.{Attributes}
+use Rattle.pg_names.specs.Names.{InodeValue, is_dir, known, own_or_blank}
 use Rattle.pg_house.specs.Holding.{held_back}
 use Rattle.pg_msg.specs.declared.work.Work.{Work}
 use Rattle.pg_call.specs.declared.call.Target.{Target}
@@ -28,7 +28,7 @@ use Rattle.pg_checks.specs.Checks.{dir_at, file_at, in_time, target_at}
 abbrev pub most_names : ℕ
 most_names = 100
 
-abbrev pub listing : FileId → Option HeldValue → List Row
+abbrev pub listing : FileId → Option InodeValue → List Row
 listing dir None = []
 listing dir (Some x) = listing_of x.entries dir
 
@@ -61,7 +61,7 @@ abbrev pub shown_length : Store → FileId → ℕ
 shown_length store file =
     if is_dir file then 0 else at_most (length (shown_bytes (content_of store file)))
 
-abbrev pub stat_with : Store → FileId → Own → Stat
+abbrev pub stat_with : Store → FileId → Attributes → Stat
 stat_with store file own = record {
   id = file;
   place = own.place;

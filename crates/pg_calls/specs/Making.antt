@@ -13,8 +13,8 @@ use Rattle.pg_msg.specs.declared.work.Work.{Work}
 use Rattle.pg_msg.specs.Work.{with_made, with_touched}
 use Rattle.pg_store.specs.declared.store.Store.{Store}
 use Rattle.pg_store.specs.Store.{content_of, has_replica, write}
-use Rattle.pg_cells.specs.Done.{Done}
-use Rattle.pg_cells.specs.Taking.{take_place_noted}
+use Rattle.pg_cells.specs.pg_pieces.Done.{Done}
+use Rattle.pg_cells.specs.pg_pieces.Taking.{take_place_noted}
 
 -- the stamp that the server draws next, at this moment
 abbrev pub drawn : Store → ℕ → Stamp

@@ -12,8 +12,8 @@ use Rattle.pg_call.specs.declared.reply.Reply.TheVariants.{Done as IsDone, Made}
 use Rattle.pg_store.specs.declared.store.Store.{Store}
 use Rattle.pg_store.specs.Beginning.{begin}
 use Rattle.pg_store.specs.Births.{draw_birth, with_birth}
-use Rattle.pg_cells.specs.Done.{Done, idle}
-use Rattle.pg_cells.specs.Making.{raise_flag}
+use Rattle.pg_cells.specs.pg_pieces.Done.{Done, idle}
+use Rattle.pg_cells.specs.pg_pieces.Making.{raise_flag}
 use Rattle.pg_checks.specs.declared.checks.Move.{Move}
 use Rattle.pg_checks.specs.declared.checks.NewName.{NewName}
 use Rattle.pg_checks.specs.Answer.{Answer, answer, answered}

@@ -11,8 +11,8 @@ use Rattle.pg_call.specs.declared.refusal.Refusal.TheVariants.{NotYet}
 use Rattle.pg_call.specs.declared.reply.Reply.TheVariants.{Refused}
 use Rattle.pg_store.specs.declared.store.Store.{Store}
 use Rattle.pg_store.specs.Births.{with_birth, with_wish}
-use Rattle.pg_store.specs.Store.{is_full, is_in_time}
-use Rattle.pg_cells.specs.Posting.{post}
+use Rattle.pg_store.specs.Store.{is_full, is_before_clock_end}
+use Rattle.pg_cells.specs.pg_pieces.Posting.{post}
 use Rattle.pg_checks.specs.Answer.{Answer}
 use Rattle.pg_checks.specs.Asking.{fresh_wish, standing}
 use Rattle.pg_calls.specs.Calls.{do_call}
@@ -42,7 +42,7 @@ RefusedOnlyAsks store call work why = (do_call store call work).reply ≡ Refuse
 
 -- at the end of the clock a call changes nothing
 abbrev pub LateDoesNothing : Store → Call → Work → Type 0
-LateDoesNothing store call work = is_in_time store ≡ false
+LateDoesNothing store call work = is_before_clock_end store ≡ false
     → ((do_call store call work).store ≡ store) × ((do_call store call work).work ≡ work)
 
 -- what a call came to and is filling is asked for as its Fill asks: where that stands no wish is kept,

@@ -2,7 +2,7 @@
 
 ghost use Rattle.std.specs.Prelude.{◌≡◌, IfOk, OnOk, true};
 ghost use Rattle.pg_patch.specs.Ranges.{RangesValue, cut_to, written};
-ghost use Rattle.pg_store.specs.Store.{has_replica, is_in_time};
+ghost use Rattle.pg_store.specs.Store.{has_replica, is_before_clock_end};
 ghost use Rattle.pg_calls.specs.Bodies.{Makes, change, change_file, cut, read, shown_part, write};
 
 use crate::making::{make_version, next_stamp};
@@ -135,7 +135,7 @@ fn change_file(
     ranges: Result<Ranges, RangeError>,
     work: &mut Work,
 ) -> Result<Reply, AllocError>
-    requires { is_in_time store.old ≡ true }
+    requires { is_before_clock_end store.old ≡ true }
     ensures store { (r : RangesValue) → Makes ranges r → OnOk result
         (store.new ≡ (change_file store.old r work.old file).store) }
     ensures work { (r : RangesValue) → Makes ranges r → OnOk result
@@ -158,7 +158,7 @@ fn change_where_fit(
     ranges: Ranges,
     work: &mut Work,
 ) -> Result<Reply, AllocError>
-    requires { is_in_time store.old ≡ true }
+    requires { is_before_clock_end store.old ≡ true }
     ensures store { OnOk result
         (store.new ≡ (change_file store.old ranges work.old file).store) }
     ensures work { OnOk result

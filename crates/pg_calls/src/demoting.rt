@@ -6,8 +6,8 @@ ghost use Rattle.pg_calls.specs.Demoting.{demote, demoted_at, has_clean_gold, is
 
 use pg_base::FileId;
 use pg_call::{Refusal, Reply, Target};
-use pg_cells::{is_gold, lower_flag};
-use pg_checks::{Denied, deny, target_at};
+use pg_cells::pieces::{is_gold, lower_flag};
+use pg_checks::{CallError, deny, target_at};
 use pg_house::is_root;
 use pg_msg::Work;
 use pg_register::Flag;
@@ -37,27 +37,27 @@ fn has_clean_gold(store: &Store, file: &FileId) -> bool
     }
 }
 
-pub(crate) fn unless_root(file: FileId) -> Result<FileId, Denied>
+pub(crate) fn unless_root(file: FileId) -> Result<FileId, CallError>
     ensures { Tells result (unless_root file) }
 {
     if is_root(&file) {
-        return Err(Denied::refused(Refusal::Root));
+        return Err(CallError::refused(Refusal::Root));
     }
     Ok(file)
 }
 
 /// Any replica but the last that is known to have all that this one has.
-fn unless_last(store: &Store, file: FileId) -> Result<FileId, Denied>
+fn unless_last(store: &Store, file: FileId) -> Result<FileId, CallError>
     ensures { Tells result (unless_last store.now file) }
 {
     if !has_clean_gold(store, &file) {
-        return Err(Denied::refused(Refusal::LastGold));
+        return Err(CallError::refused(Refusal::LastGold));
     }
     Ok(file)
 }
 
 /// What is to be bronze, also where it is not gold: no root, and not without a clean edge to a live gold replica.
-fn demoted_at(store: &Store, target: &Target) -> Result<FileId, Denied>
+fn demoted_at(store: &Store, target: &Target) -> Result<FileId, CallError>
     ensures { Tells result (demoted_at store.now target.now) }
 {
     let file = unless_root(target_at(store, target)?)?;

@@ -10,8 +10,8 @@ ghost use Rattle.pg_calls.specs.Dropping.{clean_gold, drop, dropped_at, leaving,
 use crate::demoting::{is_clean_gold, unless_root};
 use pg_base::FileId;
 use pg_call::{Reply, Target};
-use pg_cells::{begin_intent, stays_for};
-use pg_checks::{Denied, deny, target_at};
+use pg_cells::pieces::{begin_intent, stays_for};
+use pg_checks::{CallError, deny, target_at};
 use pg_intent::Intent;
 use pg_msg::Work;
 use pg_register::Flag;
@@ -19,17 +19,17 @@ use pg_store::Store;
 use std::alloc::AllocError;
 
 /// Any replica that nothing keeps here.
-fn unless_kept(store: &Store, file: FileId) -> Result<FileId, Denied>
+fn unless_kept(store: &Store, file: FileId) -> Result<FileId, CallError>
     ensures { Tells result (unless_kept store.now file) }
 {
     match stays_for(store, &file) {
-        Some(why) => Err(Denied::refused(why)),
+        Some(why) => Err(CallError::refused(why)),
         None => Ok(file),
     }
 }
 
 /// What is to go: no root, and nothing that is kept here.
-fn dropped_at(store: &Store, target: &Target) -> Result<FileId, Denied>
+fn dropped_at(store: &Store, target: &Target) -> Result<FileId, CallError>
     ensures { Tells result (dropped_at store.now target.now) }
 {
     let file = unless_root(target_at(store, target)?)?;

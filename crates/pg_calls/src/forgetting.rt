@@ -10,30 +10,30 @@ use crate::demoting::unless_root;
 use crate::making::{make_place, next_stamp};
 use pg_base::{FileId, Items, Policy, Stamp};
 use pg_call::{Refusal, Reply};
-use pg_cells::{raise_flag, take_entry};
-use pg_checks::{Denied, deny, in_time, is_later};
+use pg_cells::pieces::{raise_flag, take_entry};
+use pg_checks::{CallError, deny, in_time, is_later};
 use pg_entries::Entry;
 use pg_intent::{Intent, IntentKey, Intents};
+use pg_intentions::repair::fill;
+use pg_lookup::ROOT;
 use pg_msg::{Update, Work};
-use pg_names::{Names, Own, is_dir, is_same_stamp};
+use pg_names::{Attributes, Names, is_dir, is_same_stamp};
 use pg_register::{GoldFlags, Place, tilde_name};
-use pg_repair::fill;
-use pg_store::{MOST_TAGS, Store};
-use pg_walk::ROOT;
+use pg_store::{COUNTER_LIMIT, Store};
 use std::alloc::AllocError;
 
 /// Any thing that is not held and full.
-fn unless_full(store: &Store, file: FileId) -> Result<FileId, Denied>
+fn unless_full(store: &Store, file: FileId) -> Result<FileId, CallError>
     ensures { Tells result (unless_full store.now file) }
 {
     if store.names.is_full(&file) {
-        return Err(Denied::refused(Refusal::Held));
+        return Err(CallError::refused(Refusal::Held));
     }
     Ok(file)
 }
 
 /// What may be given up: neither the root nor what is held and full.
-fn lost_at(store: &Store, id: FileId) -> Result<FileId, Denied>
+fn lost_at(store: &Store, id: FileId) -> Result<FileId, CallError>
     ensures { Tells result (lost_at store.now id) }
 {
     in_time(store)?;
@@ -311,7 +311,7 @@ fn live_place(names: &Names, id: FileId, dir: Option<FileId>) -> Result<Option<P
 }
 
 /// A full replica of a directory begins under a fresh birth, with this place and these flags.
-fn begin_with(store: &mut Store, id: FileId, own: Own) -> Result<(), AllocError>
+fn begin_with(store: &mut Store, id: FileId, own: Attributes) -> Result<(), AllocError>
     ensures { OnOk result (store.new ≡ begun_with store.old id own) }
 {
     let birth = store.draw_birth()?;
@@ -325,9 +325,9 @@ fn begin_in_root(store: &mut Store, id: FileId, work: &mut Work) -> Result<(), A
     ensures store { OnOk result (store.new ≡ (begun_at store.old id work.old None).store) }
     ensures work { OnOk result (work.new ≡ (begun_at store.old id work.old None).work) }
 {
-    let blank = Own::blank(store.allocator(), id)?;
+    let blank = Attributes::blank(store.allocator(), id)?;
     begin_with(store, id, blank)?;
-    if store.names.last() >= MOST_TAGS {
+    if store.names.last() >= COUNTER_LIMIT {
         return Err(AllocError);
     }
     place_in_root(store, id, work)
@@ -346,7 +346,7 @@ fn begin_at(
     match known {
         Some(place) => {
             let flags = GoldFlags::new(store.allocator());
-            begin_with(store, id, Own { place, flags })
+            begin_with(store, id, Attributes { place, flags })
         }
         None => begin_in_root(store, id, work),
     }

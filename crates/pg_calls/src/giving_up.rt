@@ -8,10 +8,10 @@ ghost use Rattle.pg_calls.specs.GivingUp.{cells_of, doubt_all, enter_view, giveu
 
 use pg_base::{FileId, Items, NodeId};
 use pg_call::{Refusal, Reply};
-use pg_checks::{Denied, deny, in_time};
+use pg_checks::{CallError, deny, in_time};
+use pg_intentions::invite_all;
 use pg_msg::{Slot, Work};
-use pg_names::{Held, Names};
-use pg_repair::invite_all;
+use pg_names::{Inode, Names};
 use pg_store::Store;
 use std::alloc::AllocError;
 
@@ -34,12 +34,12 @@ fn may_give_up(store: &Store, view: u64, server: NodeId) -> bool
 }
 
 /// The next removal is of this server.
-fn removal_at(store: &Store, view: u64, server: NodeId) -> Result<(), Denied>
+fn removal_at(store: &Store, view: u64, server: NodeId) -> Result<(), CallError>
     ensures { Tells result (removal_at store.now view server) }
 {
     in_time(store)?;
     if !may_give_up(store, view, server) {
-        return Err(Denied::refused(Refusal::WrongView(store.view())));
+        return Err(CallError::refused(Refusal::WrongView(store.view())));
     }
     Ok(())
 }
@@ -55,7 +55,7 @@ fn add_cells(names: &Names, dir: FileId, slots: &mut Items<Slot>) -> Result<(), 
 }
 
 /// Those of what is held of it.
-fn push_slots(held: &Held, dir: FileId, slots: &mut Items<Slot>) -> Result<(), AllocError>
+fn push_slots(held: &Inode, dir: FileId, slots: &mut Items<Slot>) -> Result<(), AllocError>
     ensures { OnOk result
         (slots.new ≡ slots.old ++ slots_to dir (keys_of held.now.entries)) }
 {

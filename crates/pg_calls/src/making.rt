@@ -3,11 +3,11 @@
 ghost use Rattle.std.specs.Prelude.{◌≡◌, ◌≢◌, ◌<◌, ◌≤◌, ◌^◌, IfErr, IfOk, None, OnOk, Some, true};
 ghost use Rattle.pg_replica.specs.Replica.{has_room, refusal_of};
 ghost use Rattle.pg_store.specs.Store.{has_replica, replica_of};
-ghost use Rattle.pg_cells.specs.Done.{idle};
+ghost use Rattle.pg_cells.specs.pg_pieces.Done.{idle};
 ghost use Rattle.pg_calls.specs.Making.{drawn, first_ranges, make_place, make_version, with_version};
 
 use pg_base::{FileId, Items, Stamp};
-use pg_cells::take_place;
+use pg_cells::pieces::take_place;
 use pg_content::WriteError;
 use pg_edges::Key;
 use pg_msg::{MadeVersion, Touched, Update, Work};

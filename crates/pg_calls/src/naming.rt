@@ -1,7 +1,7 @@
 //! Calls that make names, move them and take them away.
 
 ghost use Rattle.std.specs.Prelude.{◌≡◌, ◌<◌, ◌^◌, IfOk, OnOk};
-ghost use Rattle.pg_cells.specs.Done.{idle};
+ghost use Rattle.pg_cells.specs.pg_pieces.Done.{idle};
 ghost use Rattle.pg_checks.specs.Answer.{Tells};
 ghost use Rattle.pg_checks.specs.Checks.{new_name};
 ghost use Rattle.pg_calls.specs.Making.{HasNoVersion};
@@ -10,13 +10,13 @@ ghost use Rattle.pg_calls.specs.Naming.{begun, create, dead_place, mkdir, moved,
 use crate::making::{first_ranges, make_place, make_version, next_stamp};
 use pg_base::{FileId, Kind, Policy};
 use pg_call::Reply;
-use pg_cells::raise_flag;
-use pg_checks::{Denied, Move, NewName, deny, empty_dir_at, file_at, move_of, new_name};
+use pg_cells::pieces::raise_flag;
+use pg_checks::{CallError, Move, NewName, deny, empty_dir_at, file_at, move_of, new_name};
 use pg_content::WriteError;
 use pg_msg::Work;
-use pg_names::Own;
+use pg_names::Attributes;
 use pg_register::Place;
-use pg_store::{MOST_TAGS, Store};
+use pg_store::{COUNTER_LIMIT, Store};
 use std::alloc::AllocError;
 
 /// A new directory. Where it is refused nothing changes, but that what is not here yet is asked for. After out of memory
@@ -120,7 +120,7 @@ pub(crate) fn rmdir(store: &mut Store, text: &[u8], work: &mut Work) -> Result<R
 
 /// The directory and the name of a thing that is to be made, under the id that the server gives out next. Where ids are at
 /// their end the clock is too, so that the call is refused whatever the id is.
-fn name_for_new(store: &Store, kind: Kind, text: &[u8]) -> Result<NewName, Denied>
+fn name_for_new(store: &Store, kind: Kind, text: &[u8]) -> Result<NewName, CallError>
     ensures { Tells result (new_name store.now (next_id store.now kind) text.now) }
 {
     let id = FileId {
@@ -185,7 +185,7 @@ fn begin_thing(store: &mut Store, id: FileId, policy: Policy) -> Result<(), Allo
     ensures { OnOk result (store.new ≡ begun store.old id policy) }
 {
     let birth = store.draw_birth()?;
-    let blank = Own::blank(store.allocator(), id)?;
+    let blank = Attributes::blank(store.allocator(), id)?;
     store.begin(id, birth, policy, blank, true)?;
     Ok(())
 }
@@ -199,7 +199,7 @@ fn make_first_version(store: &mut Store, id: FileId, work: &mut Work) -> Result<
     ensures work { OnOk result
         (work.new ≡ (with_first_version id (idle store.old work.old)).work) }
 {
-    if store.tags > MOST_TAGS || store.names.last() >= MOST_TAGS {
+    if store.tags > COUNTER_LIMIT || store.names.last() >= COUNTER_LIMIT {
         return Err(AllocError);
     }
     let stamp = next_stamp(store, work.now);

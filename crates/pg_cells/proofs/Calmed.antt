@@ -22,10 +22,10 @@ use Rattle.pg_names.specs.Names.{NamesValue, known}
 use Rattle.pg_store.specs.declared.store.Store.{Store}
 use Rattle.pg_store.specs.Births.{birth_of}
 use Rattle.pg_store.specs.Store.{with_names}
-use Rattle.pg_cells.specs.Done.{Done, idle}
-use Rattle.pg_cells.proofs.Goldless.{filter_none}
-use Rattle.pg_cells.specs.Golds.{goldless, is_goldless}
-use Rattle.pg_cells.specs.Making.{raise_flag}
+use Rattle.pg_pieces.specs.Done.{Done, idle}
+use Rattle.pg_pieces.proofs.SeenGolds.{filter_none}
+use Rattle.pg_pieces.specs.Golds.{goldless, is_goldless}
+use Rattle.pg_pieces.specs.Making.{raise_flag}
 use Rattle.pg_cells.specs.Raised.{DiffersByGolds}
 use Rattle.pg_cells.specs.Settling.{raise_golds, ruled, rules, settle, touch_all, with_state}
 use Rattle.pg_cells.proofs.Ruled.{golds_not, golds_then, raised_calm_again, raised_golds, touched_names}

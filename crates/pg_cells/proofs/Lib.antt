@@ -1,9 +1,8 @@
 mod Counted
 mod Listed
-pub mod News
-mod Flagged
+mod Raising
 pub mod Settled
-pub mod Goldless
 pub mod Ruled
 pub mod Live
 pub mod Calmed
+pub use Rattle.pg_pieces.proofs as pg_pieces

@@ -23,9 +23,9 @@ use Rattle.pg_replica.proofs.Clean.{clean_pieces}
 use Rattle.pg_replica.proofs.Merging.{by_index}
 use Rattle.pg_store.specs.declared.store.Store.{Store}
 use Rattle.pg_store.specs.Store.{replica_at}
-use Rattle.pg_cells.specs.declared.choice.Choice.{Choice}
-use Rattle.pg_cells.specs.declared.choice.Choice.TheVariants as choice
-use Rattle.pg_cells.specs.Choice.{ListsChosen, ListsLinked, ListsTouched, chosen_cells, file_cells, wanted_by}
+use Rattle.pg_cells.specs.declared.key_filter.KeyFilter.{KeyFilter}
+use Rattle.pg_cells.specs.declared.key_filter.KeyFilter.TheVariants as choice
+use Rattle.pg_cells.specs.KeyFilter.{ListsChosen, ListsLinked, ListsTouched, chosen_cells, file_cells, passes}
 use Rattle.pg_cells.specs.Sending.{cells_where, edge_cells, is_chosen, is_linked, is_touched, key_cell, replica_cells}
 
 -- ---- the keys of an edge
@@ -41,24 +41,24 @@ pub chosen_pieces : {A B : Type 0} (p : A → Bool) (f : A → List B) (xs : Lis
 chosen_pieces p f [] = refl
 chosen_pieces p f (x ∷ xs) = one_by p f x xs (p x) (chosen_pieces p f xs)
 
-pub chosen_edge : (store : Store) (which : Choice) (file : FileId) (birth : ℕ) (e : Edge)
-    → flat_map (chosen_cells store which file birth e) e.keys ≡ edge_cells store (wanted_by which) file birth e
-chosen_edge store which file birth e = chosen_pieces (λ (k : Key × ℕ). wanted_by which file e.peer k.0) (key_cell store file birth e) e.keys
+pub chosen_edge : (store : Store) (which : KeyFilter) (file : FileId) (birth : ℕ) (e : Edge)
+    → flat_map (chosen_cells store which file birth e) e.keys ≡ edge_cells store (passes which) file birth e
+chosen_edge store which file birth e = chosen_pieces (λ (k : Key × ℕ). passes which file e.peer k.0) (key_cell store file birth e) e.keys
 
 -- ---- all files that have something are listed
 
-pub all_chosen : (store : Store) (which : Choice) (files : Files) → IsStrictlySortedBy file_cmp (keys_of files) → IsStrictlySortedBy file_cmp (keys_of store.replicas)
+pub all_chosen : (store : Store) (which : KeyFilter) (files : Files) → IsStrictlySortedBy file_cmp (keys_of files) → IsStrictlySortedBy file_cmp (keys_of store.replicas)
     → ListsChosen store which files
-    → flat_map (λ k. file_cells store (wanted_by which) k (replica_at store k)) (keys_of files) ≡ cells_where store (wanted_by which)
+    → flat_map (λ k. file_cells store (passes which) k (replica_at store k)) (keys_of files) ≡ cells_where store (passes which)
 all_chosen store which files su se lists =
-    by_index file_cmp file_total file_exact (replica_cells store (wanted_by which)) (file_cells store (wanted_by which)) files store.replicas su se (λ e. refl) (λ k. refl) lists
+    by_index file_cmp file_total file_exact (replica_cells store (passes which)) (file_cells store (passes which)) files store.replicas su se (λ e. refl) (λ k. refl) lists
 
 -- ---- of a tick: a replica whose peers have acknowledged every key has nothing
 
 pub all_unacknowledged : (store : Store) (files : Files) → IsIndex files store.replicas → ListsChosen store choice.All files
 all_unacknowledged store files index = λ file x there none.
-    clean_pieces (edge_cells store (wanted_by choice.All) file x.birth)
-    (λ e h. ap (λ (ks : List (Key × ℕ)). flat_map (key_cell store file x.birth e) (filter (λ k. wanted_by choice.All file e.peer k.0) ks)) h)
+    clean_pieces (edge_cells store (passes choice.All) file x.birth)
+    (λ e h. ap (λ (ks : List (Key × ℕ)). flat_map (key_cell store file x.birth e) (filter (λ k. passes choice.All file e.peer k.0) ks)) h)
     x.edges (index.lists file x there none)
 
 -- ---- of the end of an event: a file of which nothing was touched or linked has nothing

@@ -10,8 +10,8 @@ use Rattle.pg_base.specs.Id.{is_same_file}
 use Rattle.pg_register.specs.declared.flag.Flag.{Flag}
 use Rattle.pg_register.specs.Flag.{flag_of, is_live, is_new, is_older, is_removed, join_flag, newest, number_with}
 use Rattle.pg_register.proofs.ByServer.{flag_of-join_flag, joined_new}
-use Rattle.pg_names.specs.declared.own.Own.{Own}
-use Rattle.pg_names.specs.Names.{HeldValue, NamesValue, is_flag_new, is_full_of, known, or_blank, own_at, own_of, own_or_blank}
+use Rattle.pg_names.specs.declared.attributes.Attributes.{Attributes}
+use Rattle.pg_names.specs.Names.{InodeValue, NamesValue, is_flag_new, is_full_of, known, or_blank, own_at, own_of, own_or_blank}
 use Rattle.pg_names.proofs.Lookups.{flag_other, flag_same, own_with_flag}
 use Rattle.pg_house.specs.Calm.{IsCalm}
 use Rattle.pg_replica.specs.declared.replica.Replica.{Replica}
@@ -20,8 +20,8 @@ use Rattle.pg_store.specs.declared.store.Store.{Store}
 use Rattle.pg_store.specs.Births.{birth_of}
 use Rattle.pg_store.specs.Store.{is_newer_flag, replica_at}
 use Rattle.pg_store.specs.Together.{birth_at}
-use Rattle.pg_cells.specs.Done.{Done}
-use Rattle.pg_cells.specs.Golds.{is_goldless, is_goldless_held, is_of_later, sees_gold}
+use Rattle.pg_pieces.specs.Done.{Done}
+use Rattle.pg_pieces.specs.Golds.{is_goldless, is_goldless_held, is_of_later, sees_gold}
 use Rattle.pg_cells.specs.Raised.{DiffersByGolds}
 use Rattle.pg_cells.proofs.Ruled.{Made, Raised, Then, raised_golds, raised_own}
 
@@ -51,24 +51,24 @@ flag_seen removed (h ∷ hs) s g e live = seen_by removed h g hs s (h.server == 
 -- ---- what is held, by its own place and flags
 
 module _ (removed : List ℕ) (server birth : ℕ) where
-  abbrev pub goldless_held : Option HeldValue → Bool
+  abbrev pub goldless_held : Option InodeValue → Bool
   goldless_held = is_goldless_held removed server birth
 
-  not_goldless : (o : Option HeldValue) (own : Own) → own_of o ≡ Some own → sees_gold removed own.flags ≡ true → goldless_held o ≡ false
+  not_goldless : (o : Option InodeValue) (own : Attributes) → own_of o ≡ Some own → sees_gold removed own.flags ≡ true → goldless_held o ≡ false
   not_goldless None own h seen = refl
   not_goldless (Some x) own h seen =
-      let there : sees_gold removed x.own.flags ≡ true = ap (λ (c : Own). sees_gold removed c.flags) (same_Some x.own own h) ∙ seen in
+      let there : sees_gold removed x.own.flags ≡ true = ap (λ (c : Attributes). sees_gold removed c.flags) (same_Some x.own own h) ∙ seen in
       and_right x.full _ (and_left (not (sees_gold removed x.own.flags)) _ (ap not there))
 
-  goldless_same : (o p : Option HeldValue) → own_of p ≡ own_of o → is_full_of p ≡ is_full_of o → goldless_held p ≡ goldless_held o
+  goldless_same : (o p : Option InodeValue) → own_of p ≡ own_of o → is_full_of p ≡ is_full_of o → goldless_held p ≡ goldless_held o
   goldless_same None None e h = refl
   goldless_same None (Some y) e h = absurd (none-some y.own (sym e))
   goldless_same (Some x) None e h = absurd (none-some x.own e)
   goldless_same (Some x) (Some y) e h =
-      let Rest : Own → Bool = λ c. not (sees_gold removed c.flags) && not (is_of_later birth (flag_of c.flags server)) in
-      ap (λ t. t && Rest y.own) h ∙ ap (λ (c : Own). x.full && Rest c) (same_Some y.own x.own e)
+      let Rest : Attributes → Bool = λ c. not (sees_gold removed c.flags) && not (is_of_later birth (flag_of c.flags server)) in
+      ap (λ t. t && Rest y.own) h ∙ ap (λ (c : Attributes). x.full && Rest c) (same_Some y.own x.own e)
 
-  pub goldless_parts : (o : Option HeldValue) → goldless_held o ≡ true → (own : Own) × (own_of o ≡ Some own) × (is_of_later birth (flag_of own.flags server) ≡ false)
+  pub goldless_parts : (o : Option InodeValue) → goldless_held o ≡ true → (own : Attributes) × (own_of o ≡ Some own) × (is_of_later birth (flag_of own.flags server) ≡ false)
   goldless_parts None h = absurd (false≢true h)
   goldless_parts (Some x) h =
       let rest = and_parts (not (sees_gold removed x.own.flags)) _ (and_parts x.full _ h).1 in
@@ -118,7 +118,7 @@ module _ (f : FileId) (d : Done) (calm : IsCalm d.store.names) where
     abbrev S : NamesValue
     S = d.store.names
 
-    parts : (own : Own) × (own_at S f ≡ Some own) × (is_of_later (birth_of d.store f) (flag_of own.flags S.server) ≡ false)
+    parts : (own : Attributes) × (own_at S f ≡ Some own) × (is_of_later (birth_of d.store f) (flag_of own.flags S.server) ≡ false)
     parts = goldless_parts S.removed S.server (birth_of d.store f) (known S f) is
 
     known_own : own_or_blank S f ≡ parts.0
@@ -128,9 +128,9 @@ module _ (f : FileId) (d : Done) (calm : IsCalm d.store.names) where
     newer =
         let fs = (own_or_blank S f).flags in
         let later : is_of_later (birth_of d.store f) (flag_of fs S.server) ≡ false =
-        ap (λ (c : Own). is_of_later (birth_of d.store f) (flag_of c.flags S.server)) known_own ∙ parts.2 in
+        ap (λ (c : Attributes). is_of_later (birth_of d.store f) (flag_of c.flags S.server)) known_own ∙ parts.2 in
         ap (λ o. is_flag_new o Flag_made) parts.1
-        ∙ ap (λ (c : Own). is_new (flag_of c.flags S.server) Flag_made) (sym known_own)
+        ∙ ap (λ (c : Attributes). is_new (flag_of c.flags S.server) Flag_made) (sym known_own)
         ∙ next_new (flag_of fs S.server) S.server (birth_of d.store f) later
 
     own_after : own_at E.store.names f ≡ Some (own_with_flag Flag_made parts.0)

@@ -29,11 +29,11 @@ use Rattle.pg_store.specs.declared.store.Store.{Store}
 use Rattle.pg_store.specs.Store.{is_newer_flag, put_flag, touch, with_names}
 use Rattle.pg_store.specs.Together.{birth_at}
 use Rattle.pg_store.proofs.Pairs.{touch_as_before}
-use Rattle.pg_cells.specs.Done.{Done}
-use Rattle.pg_cells.specs.Making.{own_next, raise_flag}
+use Rattle.pg_pieces.specs.Done.{Done}
+use Rattle.pg_pieces.specs.Making.{own_next, raise_flag}
 use Rattle.pg_cells.specs.Raised.{DiffersByGolds, IsFlagMade}
 use Rattle.pg_cells.specs.Settling.{ruled, touch_all}
-use Rattle.pg_cells.specs.Taking.{with_news}
+use Rattle.pg_pieces.specs.Taking.{with_news}
 
 -- ---- keys are touched
 

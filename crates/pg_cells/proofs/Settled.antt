@@ -4,9 +4,9 @@ use Rattle.std.specs.Prelude.{Bool, true, false, ◌≡◌, if◌then◌else◌,
 use Rattle.pg_base.specs.declared.id.FileId.{FileId}
 use Rattle.pg_msg.specs.declared.work.Work.{Work}
 use Rattle.pg_store.specs.declared.store.Store.{Store}
-use Rattle.pg_cells.specs.Done.{Done, idle}
-use Rattle.pg_cells.specs.Golds.{goldless, is_goldless}
-use Rattle.pg_cells.specs.Making.{raise_flag}
+use Rattle.pg_pieces.specs.Done.{Done, idle}
+use Rattle.pg_pieces.specs.Golds.{goldless, is_goldless}
+use Rattle.pg_pieces.specs.Making.{raise_flag}
 use Rattle.pg_cells.specs.Settling.{raise_gold, raise_golds, ruled, rules, settle}
 
 chosen : (P : Done → Type 0) (b : Bool) (x y : Done) → (b ≡ true → P x) → P y → P (if b then x else y)

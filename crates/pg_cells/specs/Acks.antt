@@ -5,7 +5,7 @@ use Rattle.pg_msg.specs.declared.message.Ends.{Ends}
 use Rattle.pg_msg.specs.declared.work.Work.{Work}
 use Rattle.pg_store.specs.declared.store.Store.{Store}
 use Rattle.pg_store.specs.Store.{acknowledge}
-use Rattle.pg_cells.specs.Done.{Done, link_of}
+use Rattle.pg_pieces.specs.Done.{Done, link_of}
 
 -- the key goes off the sender's edge where there is that edge, and the tag is the present one there
 abbrev pub ack : Store → Ends → Key → ℕ → Work → Done

@@ -11,11 +11,11 @@ use Rattle.pg_msg.specs.Ends.{back}
 use Rattle.pg_msg.specs.Sent.{cell_key}
 use Rattle.pg_names.specs.Names.{is_dir}
 use Rattle.pg_store.specs.declared.store.Store.{Store}
-use Rattle.pg_cells.specs.declared.accepting.Manner.TheVariants as manner
-use Rattle.pg_cells.specs.Accepting.{accept, is_accepted}
-use Rattle.pg_cells.specs.Done.{Done, idle}
-use Rattle.pg_cells.specs.Posting.{reply}
-use Rattle.pg_cells.specs.Taking.{take_entry_cell, take_flag_noted, take_place_noted, take_version_noted}
+use Rattle.pg_pieces.specs.declared.accepting.EdgeUse.TheVariants as manner
+use Rattle.pg_pieces.specs.Accepting.{accept, is_accepted}
+use Rattle.pg_pieces.specs.Done.{Done, idle}
+use Rattle.pg_pieces.specs.Posting.{reply}
+use Rattle.pg_pieces.specs.Taking.{take_entry_cell, take_flag_noted, take_place_noted, take_version_noted}
 
 -- only directories have entries, and only files have versions
 abbrev pub fits : FileId → Cell → Bool
@@ -48,7 +48,7 @@ taken_along ends tag c done =
 abbrev pub cell : Store → Ends → ℕ → Cell → Work → Done
 cell store ends tag c work =
     if fits ends.file c
-    then (if is_accepted store work.from manner.Link ends
-    then taken_along ends tag c (accept store ends manner.Link work)
-    else accept store ends manner.Link work)
+    then (if is_accepted store work.from manner.Makes ends
+    then taken_along ends tag c (accept store ends manner.Makes work)
+    else accept store ends manner.Makes work)
     else idle store work

@@ -1,17 +1,10 @@
-pub mod Done
-pub mod Posting
-pub mod Accepting
-pub mod Intending
-pub mod Taking
-pub mod Making
 pub mod Sending
 pub mod Cells
 pub mod Acks
 pub mod Ticks
-pub mod Golds
 pub mod Finish
 pub mod Settling
-pub mod Parting
 pub mod Raised
 pub mod Counts
-pub mod Choice
+pub mod KeyFilter
+pub use Rattle.pg_pieces.specs as pg_pieces

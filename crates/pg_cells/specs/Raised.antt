@@ -9,7 +9,7 @@ use Rattle.pg_msg.specs.declared.update.Update.TheVariants as update
 use Rattle.pg_names.specs.Names.{cell_at, is_full, own_at}
 use Rattle.pg_house.specs.Calm.{IsSameOrPlaced, held_place}
 use Rattle.pg_store.specs.Together.{birth_at}
-use Rattle.pg_cells.specs.Done.{Done}
+use Rattle.pg_pieces.specs.Done.{Done}
 
 -- the update is that of a flag
 abbrev pub IsFlagMade : Update → Type 0

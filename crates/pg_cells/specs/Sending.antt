@@ -17,7 +17,7 @@ use Rattle.pg_names.specs.Names.{is_dir, own_or_blank}
 use Rattle.pg_replica.specs.declared.replica.Replica.{Replica}
 use Rattle.pg_store.specs.declared.store.Store.{Store}
 use Rattle.pg_store.specs.Cells.{cell_at}
-use Rattle.pg_cells.specs.Posting.{sent_to}
+use Rattle.pg_pieces.specs.Posting.{sent_to}
 
 -- ---- one cell
 

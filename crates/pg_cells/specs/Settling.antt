@@ -7,9 +7,9 @@ use Rattle.pg_house.specs.House.{house}
 use Rattle.pg_house.specs.Work.{State, state_of}
 use Rattle.pg_store.specs.declared.store.Store.{Store}
 use Rattle.pg_store.specs.Store.{touch, with_names}
-use Rattle.pg_cells.specs.Done.{Done, idle}
-use Rattle.pg_cells.specs.Golds.{goldless, is_goldless}
-use Rattle.pg_cells.specs.Making.{raise_flag}
+use Rattle.pg_pieces.specs.Done.{Done, idle}
+use Rattle.pg_pieces.specs.Golds.{goldless, is_goldless}
+use Rattle.pg_pieces.specs.Making.{raise_flag}
 
 -- each of these keys is touched, in their order
 abbrev pub touch_all : Store → List Touched → Store

@@ -2,15 +2,13 @@
 
 ghost use Rattle.std.specs.Prelude.{◌≡◌, OnOk};
 ghost use Rattle.pg_cells.specs.Cells.{cell, fits, taken, taken_along};
-ghost use Rattle.pg_cells.specs.Done.{idle};
+ghost use Rattle.pg_pieces.specs.Done.{idle};
 
-use crate::accepting::{Manner, accept};
-use crate::posting::post;
-use crate::taking::{take_entry_cell, take_flag, take_place, take_version};
 use pg_base::FileId;
 use pg_entries::Cell;
 use pg_msg::{Ends, Message, Work, key_of};
 use pg_names::is_dir;
+use pg_pieces::{EdgeUse, accept, post, take_entry_cell, take_flag, take_place, take_version};
 use pg_store::Store;
 use std::alloc::AllocError;
 
@@ -78,7 +76,7 @@ pub fn cell(
     if !fits(&ends.file, &received) {
         return Ok(());
     }
-    if accept(store, &ends, Manner::Link, work)? {
+    if accept(store, &ends, EdgeUse::Makes, work)? {
         take_and_answer(store, ends, tag, received, work)?;
     }
     Ok(())

@@ -2,10 +2,10 @@
 
 ghost use Rattle.std.specs.Prelude.{◌≡◌, List, IfOk, OnOk};
 ghost use Rattle.pg_msg.specs.declared.work.Touched.{Touched};
-ghost use Rattle.pg_cells.specs.Choice.{ListsLinked, ListsTouched};
+ghost use Rattle.pg_cells.specs.KeyFilter.{ListsLinked, ListsTouched};
 ghost use Rattle.pg_cells.specs.Finish.{finish};
 
-use crate::choice::Choice;
+use crate::key_filter::KeyFilter;
 use crate::sending::send_cells;
 use pg_base::FileId;
 use pg_msg::{Linked, Touched, Work};
@@ -48,7 +48,7 @@ pub fn finish(store: &Store, work: &mut Work) -> Result<(), AllocError>
     let linked = work.linked.as_slice();
     let mut files = touched_files(store.allocator(), touched)?;
     add_linked(&mut files, linked)?;
-    let choice = Choice::Changed { touched, linked };
+    let choice = KeyFilter::Changed { touched, linked };
     send_cells(store, &choice, &files, &mut work.sent)?;
     Ok(())
 }

@@ -7,8 +7,8 @@ ghost use Rattle.pg_msg.specs.declared.work.Work.{Work};
 ghost use Rattle.pg_house.specs.Calm.{IsCalm};
 ghost use Rattle.pg_house.specs.Facts.{AreByServer, AreOrdered, IsLast, IsOfDirs};
 ghost use Rattle.pg_store.specs.declared.store.Store.{Store};
-ghost use Rattle.pg_cells.specs.Done.{idle};
-ghost use Rattle.pg_cells.specs.Golds.{is_goldless};
+ghost use Rattle.pg_pieces.specs.Done.{idle};
+ghost use Rattle.pg_pieces.specs.Golds.{is_goldless};
 ghost use Rattle.pg_cells.specs.Raised.{DiffersByGolds};
 ghost use Rattle.pg_cells.specs.Settling.{rules, settle};
 

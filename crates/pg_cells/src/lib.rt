@@ -1,38 +1,47 @@
-//! What a server does with cells, acknowledgements and ticks, the house rules behind the first effect of an event, and
-//! what is sent of the keys that were touched.
+//! Cells and the end of an event: what a server does with cells, acknowledgements and ticks, the
+//! house rules behind the first effect of an event, and what is sent of the keys that were touched.
+//!
+//! It stands on the pieces of `pg_pieces` and the rules of `pg_house`, and touches what they touch:
+//! the server's `Store` and the event's `Work`. It knows one kind of message and its answer; all
+//! others have their handlers above.
+//!
+//! What holds here:
+//! - a cell that is accepted is taken and then answered, whether it was news or not;
+//! - behind `settle` no house rule applies, and each full thing sees a live gold (`laws`); what the
+//!   rules change is touched, in their order;
+//! - `finish` and `tick` send by file, peer and key, each key once, under its present tag and with
+//!   its present cell; the dead place of a directory waits while the key of an entry is on the
+//!   edge;
+//! - sending changes nothing that the server holds.
+//!
+//! The definitions: `specs/Cells`, `Acks`, `Ticks`, `Settling` (with `Raised`), `Sending` and
+//! `Finish` (with `Choice`), `Counts`. The rules: docs/RULES.md, "Cells, answers and ticks".
+//!
+//! A kind of cell more: a case in `specs/Cells` and `src/cells.rt`, over a piece that takes it
+//! (`pg_pieces`). One thing more that the end of an event does stands in `pg_server`, behind
+//! `settle` and before `finish`.
 #![tactic(auto)]
 
-mod accepting;
 mod acks;
 mod cells;
-mod choice;
 mod counting;
 mod finishing;
-mod golds;
-mod intending;
+mod key_filter;
 mod laws;
-mod making;
-mod parting;
-mod posting;
 mod sending;
 mod settling;
-mod taking;
 mod ticks;
 
-pub use accepting::{Manner, accept, ends_to, is_accepted, link_peer};
 pub use acks::ack;
 pub use cells::cell;
 pub use counting::key_count;
 pub use finishing::finish;
-pub use golds::is_gold;
-pub use intending::begin_intent;
 pub use laws::{
     every_full_thing_sees_a_gold, golds_change_flags_alone, settled_names_are_calm,
     settled_stores_stay,
 };
-pub use making::{lower_flag, raise_flag};
-pub use parting::stays_for;
-pub use posting::{post, send};
 pub use settling::settle;
-pub use taking::{take_entry, take_flag, take_flags, take_place};
 pub use ticks::tick;
+
+// What the floors above name through this one.
+pub use pg_pieces as pieces;

@@ -3,16 +3,16 @@
 ghost use Rattle.std.specs.Prelude.{◌≡◌, ◌++◌, ◌∷◌, [], OnOk, not};
 ghost use Rattle.pg_names.specs.Names.{is_dir, own_or_blank};
 ghost use Rattle.pg_store.specs.Store.{replica_at};
-ghost use Rattle.pg_cells.specs.Choice.{ListsChosen, chosen_cells, file_cells, wanted_by};
+ghost use Rattle.pg_cells.specs.KeyFilter.{ListsChosen, chosen_cells, file_cells, passes};
 ghost use Rattle.pg_cells.specs.Sending.{cell_to, cells_where, edge_cells, is_place, key_cell, replica_cells, waits};
 
-use crate::choice::Choice;
-use crate::posting::send;
+use crate::key_filter::KeyFilter;
 use pg_base::{FileId, Items};
 use pg_edges::{Edge, Key};
 use pg_entries::Cell;
 use pg_msg::{Ends, Message, Sent};
 use pg_names::is_dir;
+use pg_pieces::send;
 use pg_replica::Replica;
 use pg_store::Store;
 use std::alloc::AllocError;
@@ -88,7 +88,7 @@ fn send_key(
 /// The same, where it is chosen.
 fn send_chosen(
     store: &Store,
-    choice: &Choice<'_>,
+    choice: &KeyFilter<'_>,
     file: FileId,
     birth: u64,
     edge: &Edge,
@@ -109,14 +109,14 @@ fn send_chosen(
 /// Of each key of an edge, by key.
 fn send_edge(
     store: &Store,
-    choice: &Choice<'_>,
+    choice: &KeyFilter<'_>,
     file: FileId,
     birth: u64,
     edge: &Edge,
     sent: &mut Items<Sent>,
 ) -> Result<(), AllocError>
     ensures { OnOk result (sent.new
-        ≡ sent.old ++ edge_cells store.now (wanted_by choice.now) file birth edge.now) }
+        ≡ sent.old ++ edge_cells store.now (passes choice.now) file birth edge.now) }
 {
     for entry in edge.keys.as_slice() {
         send_chosen(store, choice, file, birth, edge, &entry.0, entry.1, sent)?;
@@ -127,13 +127,13 @@ fn send_edge(
 /// Of each edge of a replica, by peer.
 fn send_replica(
     store: &Store,
-    choice: &Choice<'_>,
+    choice: &KeyFilter<'_>,
     file: FileId,
     replica: &Replica,
     sent: &mut Items<Sent>,
 ) -> Result<(), AllocError>
     ensures { OnOk result (sent.new
-        ≡ sent.old ++ replica_cells store.now (wanted_by choice.now) (file, replica.now)) }
+        ≡ sent.old ++ replica_cells store.now (passes choice.now) (file, replica.now)) }
 {
     for edge in replica.edges.as_slice() {
         send_edge(store, choice, file, replica.birth, edge, sent)?;
@@ -144,13 +144,13 @@ fn send_replica(
 /// Of the replica of a file, if it was touched.
 fn send_file(
     store: &Store,
-    choice: &Choice<'_>,
+    choice: &KeyFilter<'_>,
     file: &FileId,
     sent: &mut Items<Sent>,
 ) -> Result<(), AllocError>
     ensures { OnOk result (sent.new
         ≡ sent.old
-        ++ file_cells store.now (wanted_by choice.now) file.now (replica_at store.now file.now)) }
+        ++ file_cells store.now (passes choice.now) file.now (replica_at store.now file.now)) }
 {
     if let Some(replica) = store.replica(file) {
         send_replica(store, choice, *file, replica, sent)?;
@@ -161,12 +161,12 @@ fn send_file(
 /// All cells of keys that are chosen, by file, peer and key. These are the files that may have one.
 pub(crate) fn send_cells(
     store: &Store,
-    choice: &Choice<'_>,
+    choice: &KeyFilter<'_>,
     files: &BTreeMap<FileId, ()>,
     sent: &mut Items<Sent>,
 ) -> Result<(), AllocError>
     requires { ListsChosen store.now choice.now files.now.entries }
-    ensures { OnOk result (sent.new ≡ sent.old ++ cells_where store.now (wanted_by choice.now)) }
+    ensures { OnOk result (sent.new ≡ sent.old ++ cells_where store.now (passes choice.now)) }
 {
     // It says that the replicas are in order.
     let _index = store.replicas.unacknowledged();

@@ -1,14 +1,13 @@
 //! The house rules, behind the first effect of an event.
 
 ghost use Rattle.std.specs.Prelude.{◌≡◌, ◌≤◌, ◌+◌, ◌^◌, OnOk};
-ghost use Rattle.pg_cells.specs.Done.{idle};
+ghost use Rattle.pg_pieces.specs.Done.{idle};
 ghost use Rattle.pg_cells.specs.Settling.{raise_gold, raise_golds, rules, settle, touch_all};
 
-use crate::golds::{goldless, is_goldless};
-use crate::making::raise_flag;
 use pg_base::FileId;
 use pg_house::house;
 use pg_msg::{Touched, Work};
+use pg_pieces::{goldless, is_goldless, raise_flag};
 use pg_store::{LATEST_TIME, Store};
 use std::alloc::AllocError;
 

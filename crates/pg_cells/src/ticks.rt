@@ -3,7 +3,7 @@
 ghost use Rattle.std.specs.Prelude.{◌≡◌, OnOk};
 ghost use Rattle.pg_cells.specs.Ticks.{tick};
 
-use crate::choice::Choice;
+use crate::key_filter::KeyFilter;
 use crate::sending::send_cells;
 use pg_msg::Work;
 use pg_store::Store;
@@ -14,6 +14,6 @@ pub fn tick(store: &Store, work: &mut Work) -> Result<(), AllocError>
     ensures { OnOk result (work.new ≡ tick store.now work.old) }
 {
     let files = store.replicas.unacknowledged();
-    send_cells(store, &Choice::All, files, &mut work.sent)?;
+    send_cells(store, &KeyFilter::All, files, &mut work.sent)?;
     Ok(())
 }

@@ -12,7 +12,7 @@ use Rattle.pg_path.specs.Path.{HasBadName, IsComponent, IsPath, parts_of, path_t
 use Rattle.pg_path.specs.Tested.{is_client_name, is_component}
 use Rattle.pg_path.proofs.Tested.{client_name, client_name_is, component, component_is}
 use Rattle.pg_call.specs.declared.refusal.Refusal.TheVariants.{BadPath}
-use Rattle.pg_walk.specs.Walk.{refused}
+use Rattle.pg_lookup.specs.Walk.{refused}
 use Rattle.pg_house.proofs.Truths.{bool_cases, chosen_false}
 use Rattle.pg_checks.specs.Paths.{all_of, checked_parts, is_none, last_of, path_of}
 

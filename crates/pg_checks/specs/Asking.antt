@@ -11,15 +11,15 @@ use Rattle.pg_intent.specs.declared.intent.Intent.TheVariants as intent
 use Rattle.pg_msg.specs.declared.message.Message.TheVariants as message
 use Rattle.pg_msg.specs.declared.work.Work.{Work}
 use Rattle.pg_names.specs.Names.{NamesValue, cell_at}
-use Rattle.pg_walk.specs.declared.paths.Found.{Found}
-use Rattle.pg_walk.specs.declared.paths.Way.{Way}
-use Rattle.pg_walk.specs.declared.paths.Way.TheVariants as way
+use Rattle.pg_lookup.specs.declared.paths.Found.{Found}
+use Rattle.pg_lookup.specs.declared.paths.Way.{Way}
+use Rattle.pg_lookup.specs.declared.paths.Way.TheVariants as way
 use Rattle.pg_store.specs.declared.store.Store.{Store}
 use Rattle.pg_store.specs.declared.wishes.Wish.{Wish}
 use Rattle.pg_store.specs.Births.{draw_birth, fill_at, wish_at, with_birth, with_wish}
 use Rattle.pg_store.specs.Servers.{next_target}
-use Rattle.pg_cells.specs.Done.{Done, idle}
-use Rattle.pg_cells.specs.Posting.{post}
+use Rattle.pg_pieces.specs.Done.{Done, idle}
+use Rattle.pg_pieces.specs.Posting.{post}
 
 -- ---- the entry that tells of whom to ask
 

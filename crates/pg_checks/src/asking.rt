@@ -7,39 +7,39 @@ ghost use Rattle.pg_checks.specs.Answer.{Leaves, deny};
 ghost use Rattle.pg_store.specs.Births.{fill_at};
 ghost use Rattle.pg_checks.specs.Asking.{ask_first, ask_for, cell_in, dir_by, fetch, gold_of, holder, is_later, latest, standing, wish_by};
 
-use crate::denied::Denied;
+use crate::call_error::CallError;
 use pg_base::{FileId, NodeId};
 use pg_call::{Refusal, Reply};
-use pg_cells::post;
 use pg_entries::Entry;
 use pg_intent::{Intent, IntentKey};
+use pg_lookup::{Found, LookupError, Way};
 use pg_msg::{Message, Work};
 use pg_names::Names;
+use pg_pieces::post;
 use pg_store::{Store, Wish};
-use pg_walk::{Found, Stop, Way};
 use std::alloc::AllocError;
 
 /// What the client is told whose call does not go on. What is not here yet is fetched.
 #[tactic(auto, using(crate::proofs::Parts::whole))]
-pub fn deny(store: &mut Store, why: Denied, work: &mut Work) -> Result<Reply, AllocError>
+pub fn deny(store: &mut Store, why: CallError, work: &mut Work) -> Result<Reply, AllocError>
     ensures { IfOk result (λ r. Leaves why store.old work.old
         (record { store = store.new; work = work.new; reply = r })) }
 {
     match why {
-        Denied::Stopped(why) => Ok(refuse(store, why, work)?),
-        Denied::OutOfMemory => Err(AllocError),
+        CallError::Stopped(why) => Ok(refuse(store, why, work)?),
+        CallError::OutOfMemory => Err(AllocError),
     }
 }
 
 /// The same of what stops a call for another reason than want of memory.
-fn refuse(store: &mut Store, why: Stop, work: &mut Work) -> Result<Reply, AllocError>
+fn refuse(store: &mut Store, why: LookupError, work: &mut Work) -> Result<Reply, AllocError>
     ensures store { OnOk result (store.new ≡ (deny store.old why work.old).store) }
     ensures work { OnOk result (work.new ≡ (deny store.old why work.old).work) }
     ensures reply { IfOk result (λ r. r ≡ (deny store.old why work.old).reply) }
 {
     match why {
-        Stop::Refused(why) => Ok(Reply::Refused(why)),
-        Stop::NotYet(found) => {
+        LookupError::Refused(why) => Ok(Reply::Refused(why)),
+        LookupError::NotYet(found) => {
             ask_for(store, found, work)?;
             Ok(Reply::Refused(Refusal::NotYet(found.file)))
         }

@@ -5,15 +5,15 @@ ghost use Rattle.pg_names.specs.Names.{known};
 ghost use Rattle.pg_checks.specs.Answer.{Tells};
 ghost use Rattle.pg_checks.specs.Checks.{dir_at, empty_dir_at, file_at, first_child, first_row, id_at, in_time, move_along, move_of, move_to, new_name, new_name_in, target_at, thing_at, when_free};
 
-use crate::denied::Denied;
+use crate::call_error::CallError;
 use crate::paths::{Paths, last_of, new_path_of, path_of, paths_of};
 use pg_base::{FileId, SharedBytes};
 use pg_call::{Refusal, Target};
 use pg_house::is_root;
+use pg_lookup::{Found, ROOT, Way, is_above, is_dir_full, reach, reach_parent, reached, shown_by};
 use pg_names::{Names, is_dir};
 use pg_path::{Path, Row};
 use pg_store::Store;
-use pg_walk::{Found, ROOT, Way, has_no_room, is_above, reach, reach_parent, reached, shown_by};
 use std::alloc::AllocError;
 
 /// The directory in which a new name is to be, and the name.
@@ -35,17 +35,17 @@ pub struct Move {
 }
 
 /// The clock is looked at behind the texts of paths: `ClockEnd` at its end.
-pub fn in_time(store: &Store) -> Result<(), Denied>
+pub fn in_time(store: &Store) -> Result<(), CallError>
     ensures { Tells result (in_time store.now tt) }
 {
-    if !store.is_in_time() {
-        return Err(Denied::refused(Refusal::ClockEnd));
+    if !store.is_before_clock_end() {
+        return Err(CallError::refused(Refusal::ClockEnd));
     }
     Ok(())
 }
 
 /// What the text of a path leads to, held and full.
-fn thing_at(store: &Store, needs_dir: bool, text: &[u8]) -> Result<FileId, Denied>
+fn thing_at(store: &Store, needs_dir: bool, text: &[u8]) -> Result<FileId, CallError>
     ensures { Tells result (thing_at store.now needs_dir text.now) }
 {
     let path = path_of(store.allocator(), text)?;
@@ -54,25 +54,25 @@ fn thing_at(store: &Store, needs_dir: bool, text: &[u8]) -> Result<FileId, Denie
 }
 
 /// What the text of a path leads to, held and full, which has to be a file: else `IsDir`.
-pub fn file_at(store: &Store, text: &[u8]) -> Result<FileId, Denied>
+pub fn file_at(store: &Store, text: &[u8]) -> Result<FileId, CallError>
     ensures { Tells result (file_at store.now text.now) }
 {
     let file = thing_at(store, false, text)?;
     if is_dir(&file) {
-        return Err(Denied::refused(Refusal::IsDir));
+        return Err(CallError::refused(Refusal::IsDir));
     }
     Ok(file)
 }
 
 /// What the text of a path leads to, held and full, which has to be a directory.
-pub fn dir_at(store: &Store, text: &[u8]) -> Result<FileId, Denied>
+pub fn dir_at(store: &Store, text: &[u8]) -> Result<FileId, CallError>
     ensures { Tells result (dir_at store.now text.now) }
 {
     thing_at(store, true, text)
 }
 
 /// What a target names, held and full.
-pub fn target_at(store: &Store, target: &Target) -> Result<FileId, Denied>
+pub fn target_at(store: &Store, target: &Target) -> Result<FileId, CallError>
     ensures { Tells result (target_at store.now target.now) }
 {
     match target {
@@ -82,7 +82,7 @@ pub fn target_at(store: &Store, target: &Target) -> Result<FileId, Denied>
 }
 
 /// What an id names, held and full.
-fn id_at(store: &Store, id: FileId) -> Result<FileId, Denied>
+fn id_at(store: &Store, id: FileId) -> Result<FileId, CallError>
     ensures { Tells result (id_at store.now id) }
 {
     in_time(store)?;
@@ -95,7 +95,7 @@ fn id_at(store: &Store, id: FileId) -> Result<FileId, Denied>
 
 /// Where the last component of the path is to be a new name, for this child. `Exists` where its directory shows it
 /// already, as the root does its own path; `DirFull` where there is no room for a cell of the child.
-pub fn new_name(store: &Store, child: FileId, text: &[u8]) -> Result<NewName, Denied>
+pub fn new_name(store: &Store, child: FileId, text: &[u8]) -> Result<NewName, CallError>
     ensures { Tells result (new_name store.now child text.now) }
 {
     let path = new_path_of(store.allocator(), text)?;
@@ -105,25 +105,25 @@ pub fn new_name(store: &Store, child: FileId, text: &[u8]) -> Result<NewName, De
 }
 
 /// The last component as a new name in this directory. The root shows its own path.
-fn new_name_in(names: &Names, child: FileId, path: &Path, dir: FileId) -> Result<NewName, Denied>
+fn new_name_in(names: &Names, child: FileId, path: &Path, dir: FileId) -> Result<NewName, CallError>
     ensures { Tells result (new_name_in names.now child path.now dir) }
 {
     if path.is_empty() {
-        return Err(Denied::refused(Refusal::Exists(ROOT)));
+        return Err(CallError::refused(Refusal::Exists(ROOT)));
     }
     when_free(names, child, dir, last_of(path))
 }
 
 /// The name, if nothing shows it in the directory, which has room for a cell of the child.
-fn when_free(names: &Names, child: FileId, dir: FileId, name: &[u8]) -> Result<NewName, Denied>
+fn when_free(names: &Names, child: FileId, dir: FileId, name: &[u8]) -> Result<NewName, CallError>
     ensures { Tells result
         (when_free names.now child (record { dir = dir; name = name.now })) }
 {
     if let Some(other) = shown_by(names, dir, name) {
-        return Err(Denied::refused(Refusal::Exists(other)));
+        return Err(CallError::refused(Refusal::Exists(other)));
     }
-    if has_no_room(names, dir, child) {
-        return Err(Denied::refused(Refusal::DirFull));
+    if is_dir_full(names, dir, child) {
+        return Err(CallError::refused(Refusal::DirFull));
     }
     let name = SharedBytes::from_slice(names.allocator(), name)?;
     Ok(NewName { dir, name })
@@ -131,7 +131,7 @@ fn when_free(names: &Names, child: FileId, dir: FileId, name: &[u8]) -> Result<N
 
 /// What the first path leads to, and the last component of the second as its new name. Both texts are looked at before
 /// either is walked. `Root` and `Loop` where it cannot go there.
-pub fn move_of(store: &Store, from: &[u8], to: &[u8]) -> Result<Move, Denied>
+pub fn move_of(store: &Store, from: &[u8], to: &[u8]) -> Result<Move, CallError>
     ensures { Tells result (move_of store.now from.now to.now) }
 {
     let paths = paths_of(store.allocator(), from, to)?;
@@ -140,7 +140,7 @@ pub fn move_of(store: &Store, from: &[u8], to: &[u8]) -> Result<Move, Denied>
 }
 
 /// The same along these paths.
-fn move_along(store: &Store, paths: &Paths) -> Result<Move, Denied>
+fn move_along(store: &Store, paths: &Paths) -> Result<Move, CallError>
     ensures { Tells result (move_along store.now paths.now) }
 {
     let thing = reach(&store.names, &paths.from, false)?;
@@ -149,29 +149,29 @@ fn move_along(store: &Store, paths: &Paths) -> Result<Move, Denied>
 }
 
 /// The thing as it is to go into this directory: the root does not move, and a directory not below itself.
-fn move_to(names: &Names, thing: FileId, path: &Path, dir: FileId) -> Result<Move, Denied>
+fn move_to(names: &Names, thing: FileId, path: &Path, dir: FileId) -> Result<Move, CallError>
     ensures { Tells result (move_to names.now thing path.now dir) }
 {
     if is_root(&thing) {
-        return Err(Denied::refused(Refusal::Root));
+        return Err(CallError::refused(Refusal::Root));
     }
     let to = new_name_in(names, thing, path, dir)?;
     if is_dir(&thing) && is_above(names, thing, to.dir) {
-        return Err(Denied::refused(Refusal::Loop));
+        return Err(CallError::refused(Refusal::Loop));
     }
     Ok(Move { thing, to })
 }
 
 /// A directory other than the root, which shows no name: else `NotEmpty` with the first child that it shows.
-pub fn empty_dir_at(store: &Store, text: &[u8]) -> Result<FileId, Denied>
+pub fn empty_dir_at(store: &Store, text: &[u8]) -> Result<FileId, CallError>
     ensures { Tells result (empty_dir_at store.now text.now) }
 {
     let dir = dir_at(store, text)?;
     if is_root(&dir) {
-        return Err(Denied::refused(Refusal::Root));
+        return Err(CallError::refused(Refusal::Root));
     }
     match first_child(&store.names, dir)? {
-        Some(child) => Err(Denied::refused(Refusal::NotEmpty(child))),
+        Some(child) => Err(CallError::refused(Refusal::NotEmpty(child))),
         None => Ok(dir),
     }
 }

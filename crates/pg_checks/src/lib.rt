@@ -2,13 +2,13 @@
 #![tactic(auto)]
 
 mod asking;
+mod call_error;
 mod checks;
-mod denied;
 mod paths;
 
 pub use asking::{deny, is_later};
+pub use call_error::CallError;
 pub use checks::{
     Move, NewName, dir_at, empty_dir_at, file_at, in_time, move_of, new_name, target_at,
 };
-pub use denied::Denied;
 pub use paths::Paths;

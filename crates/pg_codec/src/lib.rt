@@ -4,8 +4,6 @@
 mod error;
 mod laws;
 mod reader;
-#[cfg(test)]
-mod tests;
 mod writer;
 
 pub use error::ReadError;

@@ -193,14 +193,14 @@ impl Content {
         Ok(())
     }
 
-    /// Whether all numbers of the actor that the heads know are below `Stamp::LATEST`. Then `write`
-    /// has room at the actor.
+    /// Whether all numbers of the actor that the heads know are below `Stamp::CLOCK_END`. Then
+    /// `write` has room at the actor.
     pub fn has_room(&self, actor: Actor) -> bool
         ensures test { result ≡ not (is_covered self.now.heads actor clock_end) }
         ensures room { IsTrue result
             → All (λ v. number_at v.head.vector actor < 2 ^ 63) self.now.heads }
     {
-        !self.covers(actor, Stamp::LATEST)
+        !self.covers(actor, Stamp::CLOCK_END)
     }
 
     /// Whether what the ranges make of what is shown is longer than a body may be, so that `write`

@@ -5,8 +5,6 @@ mod delta;
 mod kept;
 mod laws;
 mod taking;
-#[cfg(test)]
-mod tests;
 mod walking;
 
 pub use delta::KeptDelta;

@@ -40,30 +40,30 @@ pub joined_new : (es ns : List (FileId × Entry)) (e : Entry) → entry_of es e.
 joined_new es ns e none put = put ∙ ap (insert_entry file_cmp es e.child) (sym (ap (λ o. joined_to o e) none))
 
 -- each entry stands at its own child
-abbrev pub Own : FileId × Entry → Type 0
-Own e = e.0 ≡ e.1.child
+abbrev pub Attributes : FileId × Entry → Type 0
+Attributes e = e.0 ≡ e.1.child
 
-own_set_by : (p : FileId → Bool) (v w : Entry) (e : FileId × Entry) (es : List (FileId × Entry)) (t : Bool) → p e.0 ≡ t → lookup p (e ∷ es) ≡ Some v → w.child ≡ v.child → All Own (e ∷ es)
-    → (lookup p es ≡ Some v → All Own (set_value p es w)) → All Own (cond t ((e.0, w) ∷ es) (e ∷ set_value p es w))
+own_set_by : (p : FileId → Bool) (v w : Entry) (e : FileId × Entry) (es : List (FileId × Entry)) (t : Bool) → p e.0 ≡ t → lookup p (e ∷ es) ≡ Some v → w.child ≡ v.child → All Attributes (e ∷ es)
+    → (lookup p es ≡ Some v → All Attributes (set_value p es w)) → All Attributes (cond t ((e.0, w) ∷ es) (e ∷ set_value p es w))
 own_set_by p v w e es true o there same own more =
     let is : ◌≡◌ {A = Option Entry} (Some e.1) (Some v) = sym (ap (λ r. cond r (Some e.1) (lookup p es)) o) ∙ there in
     let one : e.1 ≡ v = cc in
-    All-cons Own (e.0, w) es (All-head Own e es own ∙ ap (λ (x : Entry). x.child) one ∙ sym same) (All-tail Own e es own)
-own_set_by p v w e es false o there same own more = All-cons Own e (set_value p es w) (All-head Own e es own) (more (sym (ap (λ r. cond r (Some e.1) (lookup p es)) o) ∙ there))
+    All-cons Attributes (e.0, w) es (All-head Attributes e es own ∙ ap (λ (x : Entry). x.child) one ∙ sym same) (All-tail Attributes e es own)
+own_set_by p v w e es false o there same own more = All-cons Attributes e (set_value p es w) (All-head Attributes e es own) (more (sym (ap (λ r. cond r (Some e.1) (lookup p es)) o) ∙ there))
 
-pub own_set : (p : FileId → Bool) (v w : Entry) (es : List (FileId × Entry)) → lookup p es ≡ Some v → w.child ≡ v.child → All Own es → All Own (set_value p es w)
-own_set p v w [] there same own = All-nil Own
-own_set p v w (e ∷ es) there same own = own_set_by p v w e es (p e.0) refl there same own (λ h. own_set p v w es h same (All-tail Own e es own))
+pub own_set : (p : FileId → Bool) (v w : Entry) (es : List (FileId × Entry)) → lookup p es ≡ Some v → w.child ≡ v.child → All Attributes es → All Attributes (set_value p es w)
+own_set p v w [] there same own = All-nil Attributes
+own_set p v w (e ∷ es) there same own = own_set_by p v w e es (p e.0) refl there same own (λ h. own_set p v w es h same (All-tail Attributes e es own))
 
-own_insert_by : (w : Entry) (e : FileId × Entry) (es : List (FileId × Entry)) (o : Ordering) → file_cmp w.child e.0 ≡ o → All Own (e ∷ es) → All Own (insert_entry file_cmp es w.child w)
-    → All Own (match_ordering o ((w.child, w) ∷ e ∷ es) ((e.0, w) ∷ es) (e ∷ insert_entry file_cmp es w.child w))
-own_insert_by w e es Less o own more = All-cons Own (w.child, w) (e ∷ es) refl own
-own_insert_by w e es Equal o own more = All-cons Own (e.0, w) es (sym (is_same_file-true w.child e.0 (ap is_eq o))) (All-tail Own e es own)
-own_insert_by w e es Greater o own more = All-cons Own e (insert_entry file_cmp es w.child w) (All-head Own e es own) more
+own_insert_by : (w : Entry) (e : FileId × Entry) (es : List (FileId × Entry)) (o : Ordering) → file_cmp w.child e.0 ≡ o → All Attributes (e ∷ es) → All Attributes (insert_entry file_cmp es w.child w)
+    → All Attributes (match_ordering o ((w.child, w) ∷ e ∷ es) ((e.0, w) ∷ es) (e ∷ insert_entry file_cmp es w.child w))
+own_insert_by w e es Less o own more = All-cons Attributes (w.child, w) (e ∷ es) refl own
+own_insert_by w e es Equal o own more = All-cons Attributes (e.0, w) es (sym (is_same_file-true w.child e.0 (ap is_eq o))) (All-tail Attributes e es own)
+own_insert_by w e es Greater o own more = All-cons Attributes e (insert_entry file_cmp es w.child w) (All-head Attributes e es own) more
 
-pub own_insert : (w : Entry) (es : List (FileId × Entry)) → All Own es → All Own (insert_entry file_cmp es w.child w)
-own_insert w [] own = All-cons Own (w.child, w) [] refl (All-nil Own)
-own_insert w (e ∷ es) own = own_insert_by w e es (file_cmp w.child e.0) refl own (own_insert w es (All-tail Own e es own))
+pub own_insert : (w : Entry) (es : List (FileId × Entry)) → All Attributes es → All Attributes (insert_entry file_cmp es w.child w)
+own_insert w [] own = All-cons Attributes (w.child, w) [] refl (All-nil Attributes)
+own_insert w (e ∷ es) own = own_insert_by w e es (file_cmp w.child e.0) refl own (own_insert w es (All-tail Attributes e es own))
 
 -- ---- whether something changed
 

@@ -25,8 +25,6 @@ pub enum VoidCause {
     Last,
     /// There is no such meter.
     NoMeter,
-    /// Nothing of the kind is done yet.
-    Unbuilt,
 }
 
 impl fmt::Display for VoidCause {
@@ -43,7 +41,6 @@ impl fmt::Display for VoidCause {
             VoidCause::Unremoved => f.write_str("unremoved"),
             VoidCause::Last => f.write_str("last"),
             VoidCause::NoMeter => f.write_str("no-meter"),
-            VoidCause::Unbuilt => f.write_str("unbuilt"),
         }
     }
 }
@@ -60,7 +57,6 @@ pub fn read_void(word: &[u8]) -> Option<VoidCause>
         b"unremoved" => Some(VoidCause::Unremoved),
         b"last" => Some(VoidCause::Last),
         b"no-meter" => Some(VoidCause::NoMeter),
-        b"unbuilt" => Some(VoidCause::Unbuilt),
         _ => None,
     }
 }

@@ -22,19 +22,19 @@ use Rattle.pg_msg.specs.declared.work.Work.{Work}
 use Rattle.pg_names.specs.Same.{is_same_stamp}
 use Rattle.pg_store.specs.declared.store.Store.{Store}
 use Rattle.pg_store.specs.Store.{replica_of}
-use Rattle.pg_cells.specs.declared.accepting.Manner.TheVariants as manner
-use Rattle.pg_cells.specs.Accepting.{is_accepted}
-use Rattle.pg_cells.specs.Done.{Done, idle}
-use Rattle.pg_cells.specs.Golds.{is_gold}
-use Rattle.pg_cells.specs.Intending.{begin_intent}
-use Rattle.pg_cells.specs.Parting.{by_edge, by_intent, first_child, has_child, if_gold, is_unclean, stays_for, unsettled_by}
+use Rattle.pg_pieces.specs.declared.accepting.EdgeUse.TheVariants as manner
+use Rattle.pg_pieces.specs.Accepting.{is_accepted}
+use Rattle.pg_pieces.specs.Done.{Done, idle}
+use Rattle.pg_pieces.specs.Golds.{is_gold}
+use Rattle.pg_pieces.specs.Intending.{begin_intent}
+use Rattle.pg_pieces.specs.Parting.{by_edge, by_intent, first_child, has_child, if_gold, is_unclean, stays_for, unsettled_by}
 use Rattle.pg_graph.specs.Leaving.{begin_byes, bye_to, goes, goes_or_stays, is_leave_to, leave_ok, may_leave, place_stamp, without_leave}
 
 -- ---- what is known where the answer is to what was asked
 
 -- the message is accepted, the Leave stood, to who answers, and the place is the one that was told
 pub record IsAnswered (a : Store) (ends : Ends) (stamp : Stamp) (w : Work) : Type 0 where
-  pub accepted : is_accepted a w.from manner.Answer ends ≡ true
+  pub accepted : is_accepted a w.from manner.Answers ends ≡ true
   pub stood : intent_at a.intents (intent_key.Leave ends.file) ≡ Some (intent.Leave ends.file w.from ends.sender)
   pub same : is_same_stamp (place_stamp a ends.file) stamp ≡ true
 
@@ -81,7 +81,7 @@ module _ (file : FileId) (is : List Intent) (from sender : ℕ) where
 
 pub answered_is : (a : Store) (ends : Ends) (stamp : Stamp) (w : Work) → may_leave a ends stamp w ≡ true → IsAnswered a ends stamp w
 answered_is a ends stamp w h =
-    let here = is_accepted a w.from manner.Answer ends in
+    let here = is_accepted a w.from manner.Answers ends in
     let stood = is_leave_to (intent_at a.intents (intent_key.Leave ends.file)) w.from ends.sender in
     let same = is_same_stamp (place_stamp a ends.file) stamp in
     let one = and_parts here (stood && same) h in

@@ -1,3 +1,3 @@
 pub mod LeaveOk
-pub mod Each
 pub mod Byes
+pub use Rattle.pg_pieces.proofs as pg_pieces

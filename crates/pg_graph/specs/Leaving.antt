@@ -17,14 +17,14 @@ use Rattle.pg_store.specs.Beginning.{let_go, with_intents}
 use Rattle.pg_store.specs.Births.{birth_of}
 use Rattle.pg_store.specs.Links.{is_linked, unlink}
 use Rattle.pg_store.specs.Store.{is_full, replica_of}
-use Rattle.pg_cells.specs.declared.accepting.Manner.TheVariants as manner
-use Rattle.pg_cells.specs.Accepting.{accept, ends_to, is_accepted}
-use Rattle.pg_cells.specs.Done.{Done, idle}
+use Rattle.pg_pieces.specs.declared.accepting.EdgeUse.TheVariants as manner
+use Rattle.pg_pieces.specs.Accepting.{accept, ends_to, is_accepted}
+use Rattle.pg_pieces.specs.Done.{Done, idle}
 use Rattle.pg_register.specs.Flag.{is_raised}
-use Rattle.pg_cells.specs.Golds.{flags_of, is_gold}
-use Rattle.pg_cells.specs.Intending.{begin_intent}
-use Rattle.pg_cells.specs.Parting.{stays_for}
-use Rattle.pg_cells.specs.Posting.{reply}
+use Rattle.pg_pieces.specs.Golds.{flags_of, is_gold}
+use Rattle.pg_pieces.specs.Intending.{begin_intent}
+use Rattle.pg_pieces.specs.Parting.{stays_for}
+use Rattle.pg_pieces.specs.Posting.{reply}
 
 -- ---- leave is asked for
 
@@ -46,9 +46,9 @@ leave_given ends stamp done = idle done.store
 -- who asks is linked
 abbrev pub leave : Store → Ends → Stamp → Work → Done
 leave store ends stamp work =
-    if is_accepted store work.from manner.Link ends
-    then leave_given ends stamp (accept store ends manner.Link work)
-    else accept store ends manner.Link work
+    if is_accepted store work.from manner.Makes ends
+    then leave_given ends stamp (accept store ends manner.Makes work)
+    else accept store ends manner.Makes work
 
 -- the peer is listed with this birth, and its flag of that birth is raised
 abbrev pub may_still_leave : Store → FileId → ℕ → ℕ → Bool
@@ -69,7 +69,7 @@ is_leave_to (Some i) from sender = is_leave_with i from sender
 
 -- the answer is to what was asked, and the place is still the one that was told
 abbrev pub may_leave : Store → Ends → Stamp → Work → Bool
-may_leave store ends stamp work = is_accepted store work.from manner.Answer ends
+may_leave store ends stamp work = is_accepted store work.from manner.Answers ends
     && (is_leave_to (intent_at store.intents (intent_key.Leave ends.file)) work.from ends.sender
     && is_same_stamp (place_stamp store ends.file) stamp)
 

@@ -8,10 +8,10 @@ use Rattle.pg_msg.specs.declared.work.Work.{Work}
 use Rattle.pg_store.specs.declared.store.Store.{Store}
 use Rattle.pg_store.specs.Links.{knows_later}
 use Rattle.pg_store.specs.Store.{is_held}
-use Rattle.pg_cells.specs.declared.accepting.Manner.TheVariants as manner
-use Rattle.pg_cells.specs.Accepting.{accept, ends_to, link_peer}
-use Rattle.pg_cells.specs.Done.{Done, idle}
-use Rattle.pg_cells.specs.Posting.{reply}
+use Rattle.pg_pieces.specs.declared.accepting.EdgeUse.TheVariants as manner
+use Rattle.pg_pieces.specs.Accepting.{accept, ends_to, link_peer}
+use Rattle.pg_pieces.specs.Done.{Done, idle}
+use Rattle.pg_pieces.specs.Posting.{reply}
 
 abbrev pub answered_seek : FileId → ℕ → Done → Done
 answered_seek file birth done =
@@ -28,4 +28,4 @@ seek store file birth work =
 
 -- whoever is here, or was met by a walk, is linked
 abbrev pub here : Store → Ends → Work → Done
-here store ends work = accept store ends manner.Link work
+here store ends work = accept store ends manner.Makes work

@@ -11,12 +11,15 @@ use Rattle.pg_msg.specs.declared.work.Work.{Work}
 use Rattle.pg_msg.specs.Work.{with_tail}
 use Rattle.pg_store.specs.declared.store.Store.{Store}
 use Rattle.pg_store.specs.Births.{birth_of}
-use Rattle.pg_store.specs.Store.{is_full}
-use Rattle.pg_cells.specs.declared.accepting.Manner.TheVariants as manner
-use Rattle.pg_cells.specs.Accepting.{accept, ends_to, is_accepted, link_peer}
-use Rattle.pg_cells.specs.Done.{Done, idle}
-use Rattle.pg_cells.specs.Posting.{post, sent_to}
-use Rattle.pg_graph.specs.Seeks.{edges_of}
+use Rattle.pg_store.specs.Store.{is_full, replica_of}
+use Rattle.pg_pieces.specs.declared.accepting.EdgeUse.TheVariants as manner
+use Rattle.pg_pieces.specs.Accepting.{accept, ends_to, is_accepted, link_peer}
+use Rattle.pg_pieces.specs.Done.{Done, idle}
+use Rattle.pg_pieces.specs.Posting.{post, sent_to}
+
+-- the edges of a thing: none where it has no replica
+abbrev pub edges_of : Store → FileId → List Edge
+edges_of store file = (replica_of store file).edges
 
 -- a walk has so many steps
 abbrev pub most_hops : ℕ
@@ -94,8 +97,8 @@ walked store ends origin birth hops word edges work =
 -- it comes along an edge that is there. At its origin nothing comes of it
 abbrev pub walk : Store → Ends → ℕ → ℕ → ℕ → ℕ → Work → Done
 walk store ends origin birth hops word work =
-    if is_accepted store work.from manner.Ask ends
+    if is_accepted store work.from manner.Needs ends
     then (if origin == store.names.server then idle store work
     else walked store ends origin birth hops word
     (onward store ends.file work.from origin) work)
-    else accept store ends manner.Ask work
+    else accept store ends manner.Needs work

@@ -4,18 +4,18 @@ ghost use Rattle.std.specs.Prelude.{◌≡◌, IfOk, OnOk};
 ghost use Rattle.pg_intent.specs.Intents.{intent_at};
 ghost use Rattle.pg_intent.specs.declared.key.IntentKey.TheVariants as intent_key;
 ghost use Rattle.pg_names.specs.Same.{is_same_stamp};
-ghost use Rattle.pg_cells.specs.Done.{idle};
-ghost use Rattle.pg_cells.specs.Golds.{flags_of};
+ghost use Rattle.pg_pieces.specs.Done.{idle};
+ghost use Rattle.pg_pieces.specs.Golds.{flags_of};
 ghost use Rattle.pg_register.specs.Flag.{is_raised};
 ghost use Rattle.pg_store.specs.Links.{is_linked};
 ghost use Rattle.pg_graph.specs.Leaving.{begin_byes, bye, bye_ok, gives_leave, goes, goes_or_stays, is_leave_to, is_leave_with, leave, leave_given, leave_ok, may_leave, may_still_leave, place_stamp, without_leave};
 
 use pg_base::{FileId, NodeId, Stamp};
-use pg_cells::{Manner, accept, begin_intent, ends_to, is_accepted, is_gold, post, stays_for};
 use pg_edges::Edge;
 use pg_intent::{Intent, IntentKey};
 use pg_msg::{Ends, Message, Work};
 use pg_names::is_same_stamp;
+use pg_pieces::{EdgeUse, accept, begin_intent, ends_to, is_accepted, is_gold, post, stays_for};
 use pg_store::Store;
 use std::alloc::AllocError;
 
@@ -42,7 +42,7 @@ pub fn leave(store: &mut Store, ends: Ends, stamp: Stamp, work: &mut Work) -> Re
     ensures store { OnOk result (store.new ≡ (leave store.old ends stamp work.old).store) }
     ensures work { OnOk result (work.new ≡ (leave store.old ends stamp work.old).work) }
 {
-    let accepted = accept(store, &ends, Manner::Link, work)?;
+    let accepted = accept(store, &ends, EdgeUse::Makes, work)?;
     if accepted && gives_leave(store, &ends.file, stamp) {
         let ends = ends_to(store, ends.file, ends.sender);
         post(store, work.from, Message::LeaveOk { ends, stamp }, work)?;
@@ -107,7 +107,7 @@ fn is_leave_to(store: &Store, ends: &Ends, work: &Work) -> bool
 fn may_leave(store: &Store, ends: &Ends, stamp: Stamp, work: &Work) -> bool
     ensures { result ≡ may_leave store.now ends.now stamp work.entry.now }
 {
-    is_accepted(store, work.from, Manner::Answer, ends)
+    is_accepted(store, work.from, EdgeUse::Answers, ends)
         && is_leave_to(store, ends, work)
         && has_place_stamp(store, &ends.file, stamp)
 }

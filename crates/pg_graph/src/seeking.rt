@@ -4,8 +4,8 @@ ghost use Rattle.std.specs.Prelude.{◌≡◌, OnOk};
 ghost use Rattle.pg_graph.specs.Seeking.{here, seek};
 
 use pg_base::FileId;
-use pg_cells::{Manner, accept, ends_to, link_peer, post};
 use pg_msg::{Ask, Ends, Message, Work};
+use pg_pieces::{EdgeUse, accept, ends_to, link_peer, post};
 use pg_store::Store;
 use std::alloc::AllocError;
 
@@ -39,6 +39,6 @@ pub fn here(store: &mut Store, ends: Ends, work: &mut Work) -> Result<(), AllocE
     ensures store { OnOk result (store.new ≡ (here store.old ends work.old).store) }
     ensures work { OnOk result (work.new ≡ (here store.old ends work.old).work) }
 {
-    accept(store, &ends, Manner::Link, work)?;
+    accept(store, &ends, EdgeUse::Makes, work)?;
     Ok(())
 }

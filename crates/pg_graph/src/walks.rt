@@ -2,14 +2,13 @@
 
 ghost use Rattle.std.specs.Prelude.{◌≡◌, ◌<◌, IfOk, OnOk, Some, count_by, filter, length, slice_get};
 ghost use Rattle.std.specs.Option.{option_copied};
-ghost use Rattle.pg_graph.specs.Seeks.{edges_of};
-ghost use Rattle.pg_graph.specs.Walks.{has_few_edges, is_onward, meet_origin, onward, walk, walk_along, walk_from, walk_of, walk_of_tick, walk_on, walked, with_few_edges};
+ghost use Rattle.pg_graph.specs.Walks.{edges_of, has_few_edges, is_onward, meet_origin, onward, walk, walk_along, walk_from, walk_of, walk_of_tick, walk_on, walked, with_few_edges};
 
 use pg_base::{FileId, Items, NodeId};
-use pg_cells::{Manner, accept, ends_to, is_accepted, link_peer, post, send};
 use pg_edges::Edge;
 use pg_house::is_root;
 use pg_msg::{Ends, Message, Work};
+use pg_pieces::{EdgeUse, accept, ends_to, is_accepted, link_peer, post, send};
 use pg_store::Store;
 use std::alloc::AllocError;
 
@@ -251,8 +250,8 @@ pub fn walk(
     ensures work { OnOk result
         (work.new ≡ (walk store.old ends origin birth hops word work.old).work) }
 {
-    if !is_accepted(store, work.from, Manner::Ask, &ends) {
-        accept(store, &ends, Manner::Ask, work)?;
+    if !is_accepted(store, work.from, EdgeUse::Needs, &ends) {
+        accept(store, &ends, EdgeUse::Needs, work)?;
         return Ok(());
     }
     if origin == store.server() {

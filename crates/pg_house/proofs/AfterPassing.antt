@@ -9,7 +9,7 @@ use Rattle.pg_base.proofs.Orders.{is_same_file-true, is_same_file-refl}
 use Rattle.pg_register.specs.Flag.{IsByServer, join_flags}
 use Rattle.pg_register.specs.Place.{newer_place}
 use Rattle.pg_entries.specs.declared.entry.Entry.{Entry}
-use Rattle.pg_names.specs.declared.own.Own.{Own}
+use Rattle.pg_names.specs.declared.attributes.Attributes.{Attributes}
 use Rattle.pg_names.specs.Names.{NamesValue, own_at, cell_at, is_dir}
 use Rattle.pg_names.proofs.Lookups.{SameFrame, SameFrame-trans}
 use Rattle.pg_names.proofs.Alike.{own_of_parts}
@@ -25,10 +25,10 @@ use Rattle.pg_house.proofs.Greatest.{AllAre, cell_held, greatest_cases, greatest
 -- every directory is among these: those with a cell, and those that are held. The flags of all that is held are by server
 pub record AreDirs (s : NamesValue) (ds : List FileId) : Type 0 where
   pub cells : (q g : FileId) (c : Entry) → cell_at s q g ≡ Some c → is_among q ds ≡ true
-  pub held : (q : FileId) (b : Own) → own_at s q ≡ Some b → is_dir q ≡ true → is_among q ds ≡ true
-  pub sorted : (q : FileId) (b : Own) → own_at s q ≡ Some b → IsByServer b.flags
+  pub held : (q : FileId) (b : Attributes) → own_at s q ≡ Some b → is_dir q ≡ true → is_among q ds ≡ true
+  pub sorted : (q : FileId) (b : Attributes) → own_at s q ≡ Some b → IsByServer b.flags
 
-module _ (st : State) (ds : List FileId) (f : FileId) (own top : Own) (back : Bool) where
+module _ (st : State) (ds : List FileId) (f : FileId) (own top : Attributes) (back : Bool) where
   abbrev pub After : NamesValue
   After = (passed st ds f own top back).names
 
@@ -44,7 +44,7 @@ module _ (st : State) (ds : List FileId) (f : FileId) (own top : Own) (back : Bo
   pub after_frame : SameFrame After st.names
   after_frame = SameFrame-trans (taking_frame (spread st f own top back ds) f own (own_taken own top back)) (spread_frame st f own top back ds)
 
-  pub after_gives : (q : FileId) (b : Own) → own_at st.names q ≡ Some b → is_among q ds ≡ true → wants st.names f own top back q ≡ true → cell_at After q f ≡ Some (cell_for f top)
+  pub after_gives : (q : FileId) (b : Attributes) → own_at st.names q ≡ Some b → is_among q ds ≡ true → wants st.names f own top back q ≡ true → cell_at After q f ≡ Some (cell_for f top)
   after_gives q b held among w = taking_cell (spread st f own top back ds) f own (own_taken own top back) q f ∙ spread_gives st f own top back ds q b held among w
 
   -- every cell for the file is the greatest
@@ -69,34 +69,34 @@ module _ (st : State) (ds : List FileId) (f : FileId) (own top : Own) (back : Bo
       ]
 
 -- a directory that is held was held
-module _ (st : State) (ds : List FileId) (f : FileId) (own top : Own) (back : Bool) (held : own_at st.names f ≡ Some own) where
-  held_back_by : (q : FileId) (b : Own) (t : Bool) → is_same_file f q ≡ t → own_at (After st ds f own top back) q ≡ Some b → (c : Own) × (own_at st.names q ≡ Some c)
+module _ (st : State) (ds : List FileId) (f : FileId) (own top : Attributes) (back : Bool) (held : own_at st.names f ≡ Some own) where
+  held_back_by : (q : FileId) (b : Attributes) (t : Bool) → is_same_file f q ≡ t → own_at (After st ds f own top back) q ≡ Some b → (c : Attributes) × (own_at st.names q ≡ Some c)
   held_back_by q b true same h = (own, ap (own_at st.names) (sym (is_same_file-true f q same)) ∙ held)
   held_back_by q b false apart h = (b, sym (after_other st ds f own top back q apart) ∙ h)
 
-  pub was_held : (q : FileId) (b : Own) → own_at (After st ds f own top back) q ≡ Some b → (c : Own) × (own_at st.names q ≡ Some c)
+  pub was_held : (q : FileId) (b : Attributes) → own_at (After st ds f own top back) q ≡ Some b → (c : Attributes) × (own_at st.names q ≡ Some c)
   was_held q b h = held_back_by q b (is_same_file f q) refl h
 
 -- what the thing took, raised by the greatest, is the greatest
-raised_up : (f : FileId) (own top : Own) (t : Bool) → IsByServer top.flags → ((t ≡ true) → is_before own.place.stamp top.place.stamp ≡ true) → joined (own_taken own top t) (cell_for f top) ≡ top
+raised_up : (f : FileId) (own top : Attributes) (t : Bool) → IsByServer top.flags → ((t ≡ true) → is_before own.place.stamp top.place.stamp ≡ true) → joined (own_taken own top t) (cell_for f top) ≡ top
 raised_up f own top false sorted up = joined_same f top (join_same top.flags sorted)
 raised_up f own top true sorted up = own_of_parts (newer_place own.place top.place) top.place (join_flags top.flags top.flags) top.flags (chosen_true (is_before own.place.stamp top.place.stamp) top.place own.place (up refl)) (join_same top.flags sorted)
 
 -- what holding back says
-record IsBack (removed : List ℕ) (f : FileId) (own top : Own) : Type 0 where
+record IsBack (removed : List ℕ) (f : FileId) (own top : Attributes) : Type 0 where
   dir : is_dir f ≡ true
   dead : top.place.live ≡ false
   before : is_before own.place.stamp top.place.stamp ≡ true
 
-back_parts : (removed : List ℕ) (f : FileId) (own top : Own) → is_held_back removed f own top ≡ true → IsBack removed f own top
+back_parts : (removed : List ℕ) (f : FileId) (own top : Attributes) → is_held_back removed f own top ≡ true → IsBack removed f own top
 back_parts removed f own top h =
     let a = and_parts (is_dir f) _ h in
     let b = and_parts (not top.place.live) _ a.1 in
     let e = and_parts (is_before own.place.stamp top.place.stamp) _ b.1 in
     record { dir = a.0; dead = not-true top.place.live b.0; before = e.0 }
 
-module _ (st : State) (ds : List FileId) (f : FileId) (own : Own) (dirs : AreDirs st.names ds) (held : own_at st.names f ≡ Some own) where
-  abbrev Top : Own
+module _ (st : State) (ds : List FileId) (f : FileId) (own : Attributes) (dirs : AreDirs st.names ds) (held : own_at st.names f ≡ Some own) where
+  abbrev Top : Attributes
   Top = greatest st.names f own ds
 
   abbrev Back : Bool → Type 0
@@ -114,20 +114,20 @@ module _ (st : State) (ds : List FileId) (f : FileId) (own : Own) (dirs : AreDir
   still_top true b =
       let parts = back_parts st.names.removed f own Top b in
       elim (greatest_cases st.names f own ds) [
-        | inl same ↦ absurd (false≢true (sym (before_itself own.place.stamp) ∙ subst (λ (c : Own). is_before own.place.stamp c.place.stamp ≡ true) same parts.before))
+        | inl same ↦ absurd (false≢true (sym (before_itself own.place.stamp) ∙ subst (λ (c : Attributes). is_before own.place.stamp c.place.stamp ≡ true) same parts.before))
         | inr some ↦
             let b = cell_held st.names some.0 f some.1 some.3 in
             greatest_meets (Then true) f some.0 (own_taken own Top true) Top ds (join_same Top.flags top_sorted) (after_all st ds f own Top true dirs) (raised_up f own Top true top_sorted (λ t. parts.before))
             (after_gives st ds f own Top true some.0 b.0 b.1 some.2 (or_left (is_cell (cell_at st.names some.0 f)) _ (ap is_cell some.3))) some.2
       ]
 
-  gets : (t : Bool) (q : FileId) (b : Own) → own_at (Then t) q ≡ Some b → is_dir q ≡ true → wants st.names f own Top t q ≡ true → is_cell (cell_at (Then t) q f) ≡ true
+  gets : (t : Bool) (q : FileId) (b : Attributes) → own_at (Then t) q ≡ Some b → is_dir q ≡ true → wants st.names f own Top t q ≡ true → is_cell (cell_at (Then t) q f) ≡ true
   gets t q b h d w =
       let was = was_held st ds f own Top t held q b h in
       ap is_cell (after_gives st ds f own Top t q was.0 was.1 (dirs.held q was.0 was.1 d) w)
 
-  abbrev HasParent : Bool → Own → Type 0
-  HasParent t g = (c : Own) → is_update g.place ≡ true → own_at (Then t) g.place.parent ≡ Some c → is_dir g.place.parent ≡ true → is_cell (cell_at (Then t) g.place.parent f) ≡ true
+  abbrev HasParent : Bool → Attributes → Type 0
+  HasParent t g = (c : Attributes) → is_update g.place ≡ true → own_at (Then t) g.place.parent ≡ Some c → is_dir g.place.parent ≡ true → is_cell (cell_at (Then t) g.place.parent f) ≡ true
 
   has_parent : (t : Bool) → HasParent t Top
   has_parent t c up h d =
@@ -138,13 +138,13 @@ module _ (st : State) (ds : List FileId) (f : FileId) (own : Own) (dirs : AreDir
   flags_are false = refl
 
   -- the flags of all that is held are by server
-  sorted_by : (t : Bool) (q : FileId) (b : Own) (s : Bool) → is_same_file f q ≡ s → own_at (Then t) q ≡ Some b → IsByServer b.flags
+  sorted_by : (t : Bool) (q : FileId) (b : Attributes) (s : Bool) → is_same_file f q ≡ s → own_at (Then t) q ≡ Some b → IsByServer b.flags
   sorted_by t q b false apart h = dirs.sorted q b (sym (after_other st ds f own Top t q apart) ∙ h)
   sorted_by t q b true same h =
       let e : own_taken own Top t ≡ b = same_Some (own_taken own Top t) b (sym (after_own st ds f own Top t held) ∙ ap (own_at (Then t)) (is_same_file-true f q same) ∙ h) in
-      subst IsByServer (sym (flags_are t) ∙ ap (λ (x : Own). x.flags) e) top_sorted
+      subst IsByServer (sym (flags_are t) ∙ ap (λ (x : Attributes). x.flags) e) top_sorted
 
-  pub still_sorted : (t : Bool) (q : FileId) (b : Own) → own_at (Then t) q ≡ Some b → IsByServer b.flags
+  pub still_sorted : (t : Bool) (q : FileId) (b : Attributes) → own_at (Then t) q ≡ Some b → IsByServer b.flags
   still_sorted t q b h = sorted_by t q b (is_same_file f q) refl h
 
   place_is : (t : Bool) → Back t → (own_taken own Top t ≡ Top) ⊎ (is_held_back (Then t).removed f (own_taken own Top t) Top ≡ true)
@@ -157,8 +157,8 @@ module _ (st : State) (ds : List FileId) (f : FileId) (own : Own) (dirs : AreDir
       record {
         cells = λ q c h. after_all st ds f own Top t dirs q c h ∙ ap (cell_for f) (sym e);
         parent = subst (HasParent t) (sym e) (has_parent t);
-        flags = flags_are t ∙ ap (λ (c : Own). c.flags) (sym e);
-        place = subst (λ (g : Own). (own_taken own Top t ≡ g) ⊎ (is_held_back (Then t).removed f (own_taken own Top t) g ≡ true)) (sym e) (place_is t b);
+        flags = flags_are t ∙ ap (λ (c : Attributes). c.flags) (sym e);
+        place = subst (λ (g : Attributes). (own_taken own Top t ≡ g) ⊎ (is_held_back (Then t).removed f (own_taken own Top t) g ≡ true)) (sym e) (place_is t b);
       }
 
   pub own_parent : (t : Bool) → Back t → HasOwnParent (Then t) f (own_taken own Top t)

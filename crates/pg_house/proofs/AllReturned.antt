@@ -9,8 +9,8 @@ use Rattle.pg_base.specs.Id.{is_same_file}
 use Rattle.pg_base.proofs.Orders.{is_same_file-true}
 use Rattle.pg_register.specs.declared.place.Place.{Place}
 use Rattle.pg_entries.specs.declared.entry.Entry.{Entry}
-use Rattle.pg_names.specs.declared.own.Own.{Own}
-use Rattle.pg_names.specs.Names.{HeldValue, NamesValue, known, own_of, entry_in, own_at}
+use Rattle.pg_names.specs.declared.attributes.Attributes.{Attributes}
+use Rattle.pg_names.specs.Names.{InodeValue, NamesValue, known, own_of, entry_in, own_at}
 use Rattle.pg_entries.specs.Entry.{is_listed, lists_any}
 use Rattle.pg_house.specs.Work.{State}
 use Rattle.pg_house.specs.Placing.{place_at, placed, repeated}
@@ -22,7 +22,7 @@ use Rattle.pg_house.proofs.Touches.{IsHeld}
 use Rattle.pg_house.proofs.Placed.{Settled, placed_is_last, placed_own, placed_settled, placed_touches}
 
 -- a held directory with a dead place
-abbrev pub is_dead_own : FileId → Option Own → Bool
+abbrev pub is_dead_own : FileId → Option Attributes → Bool
 is_dead_own d None = false
 is_dead_own d (Some c) = is_dead d c.place
 
@@ -35,14 +35,14 @@ pub record IsReturning (s : NamesValue) (d : FileId) : Type 0 where
   pub held : IsHeld s d
   pub dead_one : dead s d ≡ true
 
-pub returning_by : (s : NamesValue) (d : FileId) (o : Option HeldValue) → known s d ≡ o → is_returning_held d o ≡ true → IsReturning s d
+pub returning_by : (s : NamesValue) (d : FileId) (o : Option InodeValue) → known s d ≡ o → is_returning_held d o ≡ true → IsReturning s d
 returning_by s d None h r = absurd (false≢true r)
 returning_by s d (Some x) h r =
     let own : own_at s d ≡ Some x.own = ap own_of h in
     record { held = (x.own, own); dead_one = ap (is_dead_own d) own ∙ (and_parts (is_dead d x.own.place) _ r).0 }
 
 -- it is not the root
-pub not_root : (d : FileId) (o : Option Own) → is_dead_own d o ≡ true → is_root d ≡ false
+pub not_root : (d : FileId) (o : Option Attributes) → is_dead_own d o ≡ true → is_root d ≡ false
 not_root d None h = absurd (false≢true h)
 not_root d (Some c) h = not-true (is_root d) (and_parts _ _ h).0
 
@@ -55,7 +55,7 @@ live_not_dead d p live true h = absurd (false≢true (sym (not-true p.live (and_
 pub not_dead : (d : FileId) (p : Place) → p.live ≡ true → is_dead d p ≡ false
 not_dead d p live = live_not_dead d p live (is_dead d p) refl
 
-own_not_dead : (d : FileId) (o : Option Own) → ((c : Own) → o ≡ Some c → c.place.live ≡ true) → is_dead_own d o ≡ false
+own_not_dead : (d : FileId) (o : Option Attributes) → ((c : Attributes) → o ≡ Some c → c.place.live ≡ true) → is_dead_own d o ≡ false
 own_not_dead d None live = refl
 own_not_dead d (Some c) live = not_dead d c.place (live c refl)
 
@@ -119,11 +119,11 @@ and_not : (a b : Bool) → (a && b) ≡ false → a ≡ true → b ≡ false
 and_not true b h g = h
 and_not false b h g = absurd (false≢true g)
 
-dead_lists : (d : FileId) (o : Option HeldValue) (own : Own) → own_of o ≡ Some own → is_returning_held d o ≡ false → is_dead d own.place ≡ true → (child : FileId) (c : Entry) → entry_in child o ≡ Some c → is_listed d c ≡ false
+dead_lists : (d : FileId) (o : Option InodeValue) (own : Attributes) → own_of o ≡ Some own → is_returning_held d o ≡ false → is_dead d own.place ≡ true → (child : FileId) (c : Entry) → entry_in child o ≡ Some c → is_listed d c ≡ false
 dead_lists d None own h r gone child c g = absurd (none-some own h)
 dead_lists d (Some x) own h r gone child c g =
     let same : x.own ≡ own = same_Some x.own own h in
-    let none = and_not (is_dead d x.own.place) (lists_any x.entries d) r (ap (λ (q : Own). is_dead d q.place) same ∙ gone) in
+    let none = and_not (is_dead d x.own.place) (lists_any x.entries d) r (ap (λ (q : Attributes). is_dead d q.place) same ∙ gone) in
     none_listed (is_listed d) _ x.entries c g none
 
 pub no_dead_lists : (ds : List FileId) (s : NamesValue) → Settled ds s → first_returning s ds ≡ None → NoDeadLists s

@@ -6,7 +6,7 @@ use Rattle.pg_base.specs.Id.{is_same_file}
 use Rattle.pg_base.proofs.Orders.{is_same_file-true, is_same_file-refl}
 use Rattle.pg_msg.specs.declared.work.Work.{Work}
 use Rattle.pg_entries.specs.declared.entry.Entry.{Entry}
-use Rattle.pg_names.specs.declared.own.Own.{Own}
+use Rattle.pg_names.specs.declared.attributes.Attributes.{Attributes}
 use Rattle.pg_names.specs.Names.{cell_at}
 use Rattle.pg_names.proofs.Lookups.{apart_back, entry_other_dir, entry_same}
 use Rattle.pg_house.specs.Work.{State}
@@ -45,21 +45,21 @@ module _ (st t : State) (ds : List FileId) (f : FileId) (passed : pass st ds f �
 -- ---- only cells that are there change
 
 -- a cell is as it was, or it was there and is the greatest
-abbrev pub IsSpread : FileId → Own → Option Entry → Option Entry → Type 0
+abbrev pub IsSpread : FileId → Attributes → Option Entry → Option Entry → Type 0
 IsSpread f top before after = (after ≡ before) ⊎ ((old : Entry) × (before ≡ Some old) × (after ≡ Some (cell_for f top)))
 
-spread_then : (f : FileId) (top : Own) (a b c : Option Entry) → IsSpread f top a b → IsSpread f top b c → IsSpread f top a c
+spread_then : (f : FileId) (top : Attributes) (a b c : Option Entry) → IsSpread f top a b → IsSpread f top b c → IsSpread f top a c
 spread_then f top a b c (inl e) (inl g) = inl (g ∙ e)
 spread_then f top a b c (inl e) (inr k) = inr (k.0, sym e ∙ k.1, k.2)
 spread_then f top a b c (inr k) (inl g) = inr (k.0, k.1, g ∙ k.2)
 spread_then f top a b c (inr k) (inr l) = inr (k.0, k.1, l.2)
 
 -- so it is there just where it was
-was_cell : (f : FileId) (top : Own) (a b : Option Entry) → IsSpread f top a b → is_cell b ≡ true → is_cell a ≡ true
+was_cell : (f : FileId) (top : Attributes) (a b : Option Entry) → IsSpread f top a b → is_cell b ≡ true → is_cell a ≡ true
 was_cell f top a b (inl e) h = ap is_cell (sym e) ∙ h
 was_cell f top a b (inr k) h = ap is_cell k.1
 
-still_cell : (f : FileId) (top : Own) (a b : Option Entry) → IsSpread f top a b → is_cell a ≡ true → is_cell b ≡ true
+still_cell : (f : FileId) (top : Attributes) (a b : Option Entry) → IsSpread f top a b → is_cell a ≡ true → is_cell b ≡ true
 still_cell f top a b (inl e) h = ap is_cell e ∙ h
 still_cell f top a b (inr k) h = ap is_cell k.2
 
@@ -70,7 +70,7 @@ OnlyTouches v w = w ≡ record v { touched = w.touched }
 touches_then : (u v w : Work) → OnlyTouches u v → OnlyTouches v w → OnlyTouches u w
 touches_then u v w a b = b ∙ ap (λ (x : Work). let y : Work = record x { touched = w.touched } in y) a
 
-module _ (f : FileId) (own top : Own) (back : Bool) where
+module _ (f : FileId) (own top : Attributes) (back : Bool) where
   -- each directory that is to have a cell has one
   abbrev pub HaveCells : State → List FileId → Type 0
   HaveCells st ds = (q : FileId) → is_among q ds ≡ true → wants st.names f own top back q ≡ true → is_cell (cell_at st.names q f) ≡ true

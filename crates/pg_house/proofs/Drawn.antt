@@ -9,7 +9,7 @@ use Rattle.pg_edges.specs.declared.key.Key.TheVariants as key
 use Rattle.pg_msg.specs.declared.update.Update.{Update}
 use Rattle.pg_msg.specs.declared.update.Update.TheVariants as update
 use Rattle.pg_msg.specs.Work.{with_made, with_touched}
-use Rattle.pg_names.specs.declared.own.Own.{Own}
+use Rattle.pg_names.specs.declared.attributes.Attributes.{Attributes}
 use Rattle.pg_names.specs.Names.{directories, own_at, with_last, with_own}
 use Rattle.pg_names.proofs.Lookups.{SameFrame, SameFrame-refl, update_frame}
 use Rattle.pg_house.specs.Work.{State}
@@ -39,7 +39,7 @@ pub record IsDrawn (s least : ℕ) (st : State) : Type 0 where
   pub one : (f g : FileId) (p q : Place) → IsMade st f p → IsMade st g q
       → p.stamp ≡ q.stamp → (f ≡ g) × (p ≡ q)
 
-pass_own_frame : (st : State) (ds : List FileId) (f : FileId) (o : Option Own) → SameFrame (pass_own st ds f o).names st.names
+pass_own_frame : (st : State) (ds : List FileId) (f : FileId) (o : Option Attributes) → SameFrame (pass_own st ds f o).names st.names
 pass_own_frame st ds f None = SameFrame-refl st.names
 pass_own_frame st ds f (Some own) =
     after_frame st ds f own (greatest st.names f own ds) (is_held_back st.names.removed f own (greatest st.names f own ds))

@@ -9,8 +9,8 @@ use Rattle.pg_base.specs.declared.id.FileId.{FileId}
 use Rattle.pg_base.specs.Id.{is_same_file, file_cmp}
 use Rattle.pg_base.proofs.Orders.{is_same_file-true, is_same_file-refl}
 use Rattle.pg_register.specs.Place.{root, tilde_name}
-use Rattle.pg_names.specs.declared.own.Own.{Own}
-use Rattle.pg_names.specs.Names.{HeldValue, NamesValue, directories, is_dir, known, own_of, own_at}
+use Rattle.pg_names.specs.declared.attributes.Attributes.{Attributes}
+use Rattle.pg_names.specs.Names.{InodeValue, NamesValue, directories, is_dir, known, own_of, own_at}
 use Rattle.pg_house.specs.Work.{State}
 use Rattle.pg_house.specs.Passing.{pass_all}
 use Rattle.pg_house.specs.Placing.{place_at, repeated}
@@ -31,19 +31,19 @@ use Rattle.pg_house.proofs.NoCycles.{KeepsAll, all_broken, no_cycles}
 
 -- ---- what is held is among the keys
 
-key_at : (f : FileId) (e : FileId × HeldValue) (es : List (FileId × HeldValue)) (x : HeldValue) (t : Bool) → is_at (file_cmp f) e.0 ≡ t → cond t (Some e.1) (lookup (is_at (file_cmp f)) es) ≡ Some x → ((lookup (is_at (file_cmp f)) es ≡ Some x) → is_among f (keys_of es) ≡ true) → is_among f (keys_of (e ∷ es)) ≡ true
+key_at : (f : FileId) (e : FileId × InodeValue) (es : List (FileId × InodeValue)) (x : InodeValue) (t : Bool) → is_at (file_cmp f) e.0 ≡ t → cond t (Some e.1) (lookup (is_at (file_cmp f)) es) ≡ Some x → ((lookup (is_at (file_cmp f)) es ≡ Some x) → is_among f (keys_of es) ≡ true) → is_among f (keys_of (e ∷ es)) ≡ true
 key_at f e es x true h g rest = or_left (is_same_file e.0 f) _ (ap (λ q. is_same_file q f) (sym (is_same_file-true f e.0 h)) ∙ is_same_file-refl f)
 key_at f e es x false h g rest = or_right (is_same_file e.0 f) _ (rest g)
 
-key_there : (f : FileId) (es : List (FileId × HeldValue)) (x : HeldValue) → lookup (is_at (file_cmp f)) es ≡ Some x → is_among f (keys_of es) ≡ true
+key_there : (f : FileId) (es : List (FileId × InodeValue)) (x : InodeValue) → lookup (is_at (file_cmp f)) es ≡ Some x → is_among f (keys_of es) ≡ true
 key_there f [] x h = absurd (none-some x h)
 key_there f (e ∷ es) x h = key_at f e es x (is_at (file_cmp f) e.0) refl h (key_there f es x)
 
-held_key : (s : NamesValue) (f : FileId) (o : Option HeldValue) (b : Own) → known s f ≡ o → own_of o ≡ Some b → is_among f (keys_of s.held) ≡ true
+held_key : (s : NamesValue) (f : FileId) (o : Option InodeValue) (b : Attributes) → known s f ≡ o → own_of o ≡ Some b → is_among f (keys_of s.held) ≡ true
 held_key s f None b h g = absurd (none-some b g)
 held_key s f (Some x) b h g = key_there f s.held x h
 
-pub key_of_held : (s : NamesValue) (f : FileId) (b : Own) → own_at s f ≡ Some b → is_among f (keys_of s.held) ≡ true
+pub key_of_held : (s : NamesValue) (f : FileId) (b : Attributes) → own_at s f ≡ Some b → is_among f (keys_of s.held) ≡ true
 key_of_held s f b h = held_key s f (known s f) b refl h
 
 -- ---- a rule leaves no file behind

@@ -10,7 +10,7 @@ use Rattle.pg_register.specs.Flag.{IsByServer, join_flags}
 use Rattle.pg_register.specs.Place.{newer_place}
 use Rattle.pg_register.proofs.ByServer.{IsByServer-join_flag}
 use Rattle.pg_entries.specs.declared.entry.Entry.{Entry}
-use Rattle.pg_names.specs.declared.own.Own.{Own}
+use Rattle.pg_names.specs.declared.attributes.Attributes.{Attributes}
 use Rattle.pg_names.specs.Names.{NamesValue, cell_at, join_flag, known, own_at, with_flag}
 use Rattle.pg_names.proofs.Lookups.{SameFrame, flag_cell, flag_other, flag_same, known_absent, own_back, own_with_flag, update_frame}
 use Rattle.pg_house.specs.Passing.{greatest, joined_with}
@@ -37,22 +37,22 @@ module _ (s : NamesValue) (f : FileId) (flag : Flag) where
   }
 
   -- what is held was held, in the same place, with flags by server
-  abbrev WasHeld : FileId → Own → Type 0
-  WasHeld q b = (a : Own) × (own_at s q ≡ Some a) × (b.place ≡ a.place) × (IsByServer a.flags → IsByServer b.flags)
+  abbrev WasHeld : FileId → Attributes → Type 0
+  WasHeld q b = (a : Attributes) × (own_at s q ≡ Some a) × (b.place ≡ a.place) × (IsByServer a.flags → IsByServer b.flags)
 
-  here : (b : Own) → own_at Flagged f ≡ Some b → WasHeld f b
+  here : (b : Attributes) → own_at Flagged f ≡ Some b → WasHeld f b
   here b h =
       let was = own_back s f (with_flag flag) f b h in
       let e : own_with_flag flag was.0 ≡ b = same_Some (own_with_flag flag was.0) b (sym (flag_same s f flag was.0 was.1) ∙ h) in
-      (was.0, was.1, ap (λ (o : Own). o.place) (sym e), λ sorted. subst (λ (o : Own). IsByServer o.flags) e (IsByServer-join_flag flag was.0.flags sorted))
+      (was.0, was.1, ap (λ (o : Attributes). o.place) (sym e), λ sorted. subst (λ (o : Attributes). IsByServer o.flags) e (IsByServer-join_flag flag was.0.flags sorted))
 
-  held_by : (q : FileId) (b : Own) (t : Bool) → is_same_file f q ≡ t → own_at Flagged q ≡ Some b → WasHeld q b
+  held_by : (q : FileId) (b : Attributes) (t : Bool) → is_same_file f q ≡ t → own_at Flagged q ≡ Some b → WasHeld q b
   held_by q b false apart h = (b, sym (flag_other s f flag q apart) ∙ h, refl, λ sorted. sorted)
   held_by q b true same h =
       let e = is_same_file-true f q same in
       subst (λ r. WasHeld r b) e (here b (ap (own_at Flagged) e ∙ h))
 
-  pub was_held : (q : FileId) (b : Own) → own_at Flagged q ≡ Some b → WasHeld q b
+  pub was_held : (q : FileId) (b : Attributes) → own_at Flagged q ≡ Some b → WasHeld q b
   was_held q b h = held_by q b (is_same_file f q) refl h
 
   -- what the laws ask for still holds
@@ -74,7 +74,7 @@ module _ (s : NamesValue) (f : FileId) (flag : Flag) where
   flagged_ordered ordered = changed_ordered s f (with_flag flag) (λ x h. h) (known s f) refl ordered
 
   -- every place is where it was
-  place_here : (o : Option Own) → own_at s f ≡ o → held_place (own_at Flagged f) ≡ held_place (own_at s f)
+  place_here : (o : Option Attributes) → own_at s f ≡ o → held_place (own_at Flagged f) ≡ held_place (own_at s f)
   place_here None h = ap (λ (n : NamesValue). held_place (own_at n f)) (known_absent s f (with_flag flag) h)
   place_here (Some a) h = ap held_place (flag_same s f flag a h) ∙ sym (ap held_place h)
 
@@ -91,17 +91,17 @@ module _ (s : NamesValue) (f : FileId) (flag : Flag) where
 -- and what the thing has
 module _ (s t : NamesValue) (f : FileId) (flags more : List Flag) (again : join_flags more flags ≡ more)
     (same : (d : FileId) → cell_at t d f ≡ cell_at s d f) (all : (d : FileId) (c : Entry) → cell_at s d f ≡ Some c → c.flags ≡ flags) where
-  abbrev pub IsBeside : Own → Own → Type 0
+  abbrev pub IsBeside : Attributes → Attributes → Type 0
   IsBeside a b = (b.place ≡ a.place) × (b.flags ≡ more)
 
-  joined_beside : (d : FileId) (a b : Own) (o : Option Entry) → cell_at s d f ≡ o → IsBeside a b → IsBeside (joined_with a o) (joined_with b o)
+  joined_beside : (d : FileId) (a b : Attributes) (o : Option Entry) → cell_at s d f ≡ o → IsBeside a b → IsBeside (joined_with a o) (joined_with b o)
   joined_beside d a b None h k = k
   joined_beside d a b (Some c) h k = (
     ap (λ (p : Place). newer_place p c.place) k.0,
     ap (join_flags b.flags) (all d c h) ∙ ap (λ (fs : List Flag). join_flags fs flags) k.1 ∙ again,
   )
 
-  pub greatest_beside : (a b : Own) (ds : List FileId) → IsBeside a b → IsBeside (greatest s f a ds) (greatest t f b ds)
+  pub greatest_beside : (a b : Attributes) (ds : List FileId) → IsBeside a b → IsBeside (greatest s f a ds) (greatest t f b ds)
   greatest_beside a b [] k = k
   greatest_beside a b (d ∷ ds) k =
       let next = joined_with a (cell_at s d f) in

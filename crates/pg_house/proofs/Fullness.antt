@@ -2,7 +2,7 @@
 use Rattle.std.proofs.Common.{◌≡◌, ℕ, Bool, List, [], ◌∷◌, length, Option, None, Some, refl, ◌∙◌}
 use Rattle.pg_base.specs.declared.id.FileId.{FileId}
 use Rattle.pg_register.specs.Place.{root, tilde_name}
-use Rattle.pg_names.specs.declared.own.Own.{Own}
+use Rattle.pg_names.specs.declared.attributes.Attributes.{Attributes}
 use Rattle.pg_names.specs.Names.{directories, is_full, own_at, with_entry, with_last, with_own}
 use Rattle.pg_names.specs.Same.{is_same_own}
 use Rattle.pg_names.proofs.Holding.{full_kept}
@@ -19,16 +19,16 @@ module _ (q : FileId) where
   abbrev pub full : State → Bool
   full st = is_full st.names q
 
-  pub spread_full : (st : State) (f : FileId) (own top : Own) (back : Bool) (ds : List FileId) → full (spread st f own top back ds) ≡ full st
+  pub spread_full : (st : State) (f : FileId) (own top : Attributes) (back : Bool) (ds : List FileId) → full (spread st f own top back ds) ≡ full st
   spread_full st f own top back [] = refl
   spread_full st f own top back (d ∷ ds) =
       spread_full (offered st f own top back d) f own top back ds
       ∙ chosen (λ (s : State). full s ≡ full st) (gets st.names f own top back d) (given st f top d) st (full_kept st.names d (with_entry (cell_for f top)) (λ x. refl) q) refl
 
-  taking_full : (st : State) (f : FileId) (own taken : Own) → full (taking st f own taken) ≡ full st
+  taking_full : (st : State) (f : FileId) (own taken : Attributes) → full (taking st f own taken) ≡ full st
   taking_full st f own taken = chosen (λ (s : State). full s ≡ full st) (is_same_own own taken) st (took st f own taken) refl (full_kept st.names f (with_own taken) (λ x. refl) q)
 
-  pass_own_full : (st : State) (ds : List FileId) (f : FileId) (o : Option Own) → full (pass_own st ds f o) ≡ full st
+  pass_own_full : (st : State) (ds : List FileId) (f : FileId) (o : Option Attributes) → full (pass_own st ds f o) ≡ full st
   pass_own_full st ds f None = refl
   pass_own_full st ds f (Some own) =
       let top = greatest st.names f own ds in

@@ -6,7 +6,7 @@ use Rattle.pg_entries.specs.declared.entry.Entry.{Entry}
 use Rattle.pg_msg.specs.declared.update.Update.{Update}
 use Rattle.pg_msg.specs.declared.work.Slot.{Slot}
 use Rattle.pg_msg.specs.declared.work.Touched.{Touched}
-use Rattle.pg_names.specs.declared.own.Own.{Own}
+use Rattle.pg_names.specs.declared.attributes.Attributes.{Attributes}
 use Rattle.pg_names.specs.Names.{NamesValue, cell_at, own_at}
 use Rattle.pg_house.specs.Work.{State}
 use Rattle.pg_house.specs.Facts.{IsIn, IsKeptOrLeft, IsKnownPlace, IsLeft, IsNoted, IsOneOf, IsReplaced}
@@ -21,7 +21,7 @@ pub record Goes (s t : State) : Type 0 where
   pub noted : IsNoted s t
   pub told : (x : Touched) → IsIn x s.work.touched → IsIn x t.work.touched
   pub made : (x : Update) → IsOneOf x s.work.made → IsOneOf x t.work.made
-  pub own : (q : FileId) (a : Own) → own_at t.names q ≡ Some a → IsKnownPlace s.names t.work.made q a.place
+  pub own : (q : FileId) (a : Attributes) → own_at t.names q ≡ Some a → IsKnownPlace s.names t.work.made q a.place
   pub cells : (d q : FileId) (c : Entry) → cell_at t.names d q ≡ Some c → IsKnownPlace s.names t.work.made q c.place
   pub child : HaveChildren s.names → HaveChildren t.names
 
@@ -54,7 +54,7 @@ module _ (s t u : State) (a : Goes s t) (b : Goes t u) where
         | inr left ↦ inr (subst (λ (p : Place). IsLeft u.work p.parent q) same left)
       ]
 
-  all_later : (q : FileId) (own : Own) → own_at s.names q ≡ Some own → IsKeptOrLeft u q own
+  all_later : (q : FileId) (own : Attributes) → own_at s.names q ≡ Some own → IsKeptOrLeft u q own
   all_later q own h =
       let x = a.noted.all q own h in
       let y = b.noted.all q x.0 x.1 in (

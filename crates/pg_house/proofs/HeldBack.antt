@@ -13,25 +13,25 @@ use Rattle.pg_base.proofs.Orders.{is_same_file-true}
 use Rattle.pg_register.specs.declared.place.Place.{Place}
 use Rattle.pg_entries.specs.declared.entry.Entry.{Entry}
 use Rattle.pg_entries.specs.Entry.{entry_of}
-use Rattle.pg_names.specs.declared.own.Own.{Own}
-use Rattle.pg_names.specs.Names.{HeldValue, NamesValue, cell_at, directories, entry_in, is_dir, own_at}
+use Rattle.pg_names.specs.declared.attributes.Attributes.{Attributes}
+use Rattle.pg_names.specs.Names.{InodeValue, NamesValue, cell_at, directories, entry_in, is_dir, own_at}
 use Rattle.pg_house.specs.Passing.{greatest, joined_with}
 use Rattle.pg_house.specs.Holding.{any_waiting, has_waiting, held_back, is_any_waiting, is_back, is_dir_back, is_waiting, later, latest, waits}
 use Rattle.pg_house.specs.Returning.{is_root}
 use Rattle.pg_house.proofs.Truths.{before_itself, chosen}
 
-joined_place : (top : Own) (o : Option Entry) → (joined_with top o).place ≡ later top.place o
+joined_place : (top : Attributes) (o : Option Entry) → (joined_with top o).place ≡ later top.place o
 joined_place top None = refl
 joined_place top (Some cell) = refl
 
 -- the place of the greatest is the latest place
-pub latest_is : (s : NamesValue) (f : FileId) (top : Own) (ds : List FileId) → (greatest s f top ds).place ≡ latest s f top.place ds
+pub latest_is : (s : NamesValue) (f : FileId) (top : Attributes) (ds : List FileId) → (greatest s f top ds).place ≡ latest s f top.place ds
 latest_is s f top [] = refl
 latest_is s f top (d ∷ ds) =
     latest_is s f (joined_with top (cell_at s d f)) ds ∙ ap (λ p. latest s f p ds) (joined_place top (cell_at s d f))
 
 -- so it is enough to look at the latest place
-pub back_is : (s : NamesValue) (d : FileId) (own : Own) → own_at s d ≡ Some own → is_root d ≡ false
+pub back_is : (s : NamesValue) (d : FileId) (own : Attributes) → own_at s d ≡ Some own → is_root d ≡ false
     → waits s.removed d own.place (latest s d own.place (directories s)) ≡ is_dir_back s d
 back_is s d own held other =
     ap (waits s.removed d own.place) (sym (latest_is s d own (directories s)))
@@ -71,11 +71,11 @@ module _ (s : NamesValue) (f : FileId) where
       let both = or_parts (is_waiting s e.0 (own_at s e.0) e.1) (has_waiting s es) h in
       taken_by e es c (is_same_file f e.0) refl both.0 (none_has es both.1 c) there
 
-  held_by : (x : FileId × HeldValue) (xs : List (FileId × HeldValue)) (d : FileId) (c : Entry) (t : Bool) → (entry_of x.1.entries f ≡ Some c → IsTaken c) → (entry_in f (lookup (is_at (file_cmp d)) xs) ≡ Some c → IsTaken c) → entry_in f (cond t (Some x.1) (lookup (is_at (file_cmp d)) xs)) ≡ Some c → IsTaken c
+  held_by : (x : FileId × InodeValue) (xs : List (FileId × InodeValue)) (d : FileId) (c : Entry) (t : Bool) → (entry_of x.1.entries f ≡ Some c → IsTaken c) → (entry_in f (lookup (is_at (file_cmp d)) xs) ≡ Some c → IsTaken c) → entry_in f (cond t (Some x.1) (lookup (is_at (file_cmp d)) xs)) ≡ Some c → IsTaken c
   held_by x xs d c true one rest h = one h
   held_by x xs d c false one rest h = rest h
 
-  none_in : (xs : List (FileId × HeldValue)) → any_waiting s (values_of xs) ≡ false → (d : FileId) (c : Entry) → entry_in f (lookup (is_at (file_cmp d)) xs) ≡ Some c → IsTaken c
+  none_in : (xs : List (FileId × InodeValue)) → any_waiting s (values_of xs) ≡ false → (d : FileId) (c : Entry) → entry_in f (lookup (is_at (file_cmp d)) xs) ≡ Some c → IsTaken c
   none_in [] h d c there = absurd (none-some c there)
   none_in (x ∷ xs) h d c there =
       let both = or_parts (has_waiting s x.1.entries) (any_waiting s (values_of xs)) h in
@@ -94,11 +94,11 @@ module _ (s : NamesValue) (f : FileId) where
     own_waits : waits s.removed f own own ≡ false
     own_waits = and_right (is_dir f) _ (and_right (not own.live) _ (and_left (is_before own.stamp own.stamp) _ (before_itself own.stamp)))
 
-  back_by : is_any_waiting s ≡ false → (o : Option Own) → own_at s f ≡ o → is_back s (directories s) f o ≡ false
+  back_by : is_any_waiting s ≡ false → (o : Option Attributes) → own_at s f ≡ o → is_back s (directories s) f o ≡ false
   back_by none None h = refl
   back_by none (Some own) h =
       ap (waits s.removed f own.place) (latest_is s f own (directories s))
-      ∙ latest_waits own.place (λ d c there. ap (λ (o : Option Own). is_waiting s f o c) (sym h) ∙ none_in s.held none d c there) own.place (own_waits own.place) (directories s)
+      ∙ latest_waits own.place (λ d c there. ap (λ (o : Option Attributes). is_waiting s f o c) (sym h) ∙ none_in s.held none d c there) own.place (own_waits own.place) (directories s)
 
   not_back_at : is_any_waiting s ≡ false → is_dir_back s f ≡ false
   not_back_at none = and_right (not (is_root f)) _ (back_by none (own_at s f) refl)

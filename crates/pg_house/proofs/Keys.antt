@@ -2,7 +2,7 @@
 use Rattle.std.proofs.Common.{◌≡◌, ℕ, List, [], ◌∷◌, length, Option, None, Some, refl, ◌∙◌}
 use Rattle.std.specs.Map.{keys_of}
 use Rattle.pg_base.specs.declared.id.FileId.{FileId}
-use Rattle.pg_names.specs.declared.own.Own.{Own}
+use Rattle.pg_names.specs.declared.attributes.Attributes.{Attributes}
 use Rattle.pg_names.specs.Names.{NamesValue, own_at, directories, with_last, with_own}
 use Rattle.pg_names.proofs.Lookups.{update_frame}
 use Rattle.pg_house.specs.Work.{State}
@@ -17,7 +17,7 @@ use Rattle.pg_house.proofs.Repeating.{repeated_keeps}
 abbrev pub keys : State → List FileId
 keys st = keys_of st.names.held
 
-pub pass_own_keys : (st : State) (ds : List FileId) (f : FileId) (o : Option Own) → keys (pass_own st ds f o) ≡ keys st
+pub pass_own_keys : (st : State) (ds : List FileId) (f : FileId) (o : Option Attributes) → keys (pass_own st ds f o) ≡ keys st
 pass_own_keys st ds f None = refl
 pass_own_keys st ds f (Some own) = (after_frame st ds f own (greatest st.names f own ds) (is_held_back st.names.removed f own (greatest st.names f own ds))).keys
 
@@ -51,7 +51,7 @@ module _ (s : NamesValue) where
   abbrev pub IsBy : State → Type 0
   IsBy st = (st.names.server ≡ s.server) × (st.names.removed ≡ s.removed)
 
-  pass_own_by : (st : State) (ds : List FileId) (f : FileId) (o : Option Own) → IsBy st → IsBy (pass_own st ds f o)
+  pass_own_by : (st : State) (ds : List FileId) (f : FileId) (o : Option Attributes) → IsBy st → IsBy (pass_own st ds f o)
   pass_own_by st ds f None k = k
   pass_own_by st ds f (Some own) k =
       let frame = after_frame st ds f own (greatest st.names f own ds) (is_held_back st.names.removed f own (greatest st.names f own ds)) in

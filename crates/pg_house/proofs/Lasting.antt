@@ -1,7 +1,7 @@
 -- How late the stamps become.
 use Rattle.std.proofs.Common.{◌≡◌, ℕ, ◌≤◌, ◌<◌, ◌+◌, ◌^◌, max, min, List, [], ◌∷◌, Option, None, Some, refl, sym, ap, ◌∙◌, subst, arith}
 use Rattle.pg_base.specs.declared.id.FileId.{FileId}
-use Rattle.pg_names.specs.declared.own.Own.{Own}
+use Rattle.pg_names.specs.declared.attributes.Attributes.{Attributes}
 use Rattle.pg_names.specs.Names.{own_at, with_last, with_own}
 use Rattle.pg_names.proofs.Lookups.{update_frame}
 use Rattle.pg_house.specs.Work.{State}
@@ -11,7 +11,7 @@ use Rattle.pg_house.specs.Returning.{return_first, returned}
 use Rattle.pg_house.specs.Cycles.{break_first, moved}
 use Rattle.pg_house.proofs.AfterPassing.{after_frame}
 
-pass_own_last : (st : State) (ds : List FileId) (f : FileId) (o : Option Own) → (pass_own st ds f o).names.last ≡ st.names.last
+pass_own_last : (st : State) (ds : List FileId) (f : FileId) (o : Option Attributes) → (pass_own st ds f o).names.last ≡ st.names.last
 pass_own_last st ds f None = refl
 pass_own_last st ds f (Some own) = (after_frame st ds f own (greatest st.names f own ds) (is_held_back st.names.removed f own (greatest st.names f own ds))).last
 

@@ -8,8 +8,8 @@ use Rattle.pg_base.specs.declared.id.FileId.{FileId}
 use Rattle.pg_register.specs.declared.flag.Flag.{Flag}
 use Rattle.pg_register.specs.declared.place.Place.{Place}
 use Rattle.pg_register.specs.Flag.{IsByServer, join_flags}
-use Rattle.pg_names.specs.declared.own.Own.{Own}
-use Rattle.pg_names.specs.Names.{HeldValue, NamesValue, cell_at, directories, entry_in, is_dir, known, own_at, own_of}
+use Rattle.pg_names.specs.declared.attributes.Attributes.{Attributes}
+use Rattle.pg_names.specs.Names.{InodeValue, NamesValue, cell_at, directories, entry_in, is_dir, known, own_at, own_of}
 use Rattle.pg_names.specs.Same.{is_same_flags}
 use Rattle.pg_names.proofs.Alike.{flags-refl, flags-true}
 use Rattle.pg_house.specs.Work.{State}
@@ -39,21 +39,21 @@ stays_itself flags h = flags-true (join_flags flags flags) flags (not-false (is_
 -- ---- the parent
 
 -- where it is held, and is to have a cell for the thing, it has one
-abbrev IsThere : FileId → Place → Option HeldValue → Type 0
-IsThere f place o = (c : Own) → own_of o ≡ Some c → is_update place ≡ true → is_dir place.parent ≡ true → is_cell (entry_in f o) ≡ true
+abbrev IsThere : FileId → Place → Option InodeValue → Type 0
+IsThere f place o = (c : Attributes) → own_of o ≡ Some c → is_update place ≡ true → is_dir place.parent ≡ true → is_cell (entry_in f o) ≡ true
 
 has_cell : (up dir cell : Bool) → (up && (dir && not cell)) ≡ false → up ≡ true → dir ≡ true → cell ≡ true
 has_cell true true cell h u d = not-false cell h
 has_cell true false cell h u d = absurd (false≢true d)
 has_cell false dir cell h u d = absurd (false≢true u)
 
-is_there : (f : FileId) (place : Place) (o : Option HeldValue) → is_lacking f place o ≡ false → IsThere f place o
+is_there : (f : FileId) (place : Place) (o : Option InodeValue) → is_lacking f place o ≡ false → IsThere f place o
 is_there f place None h = λ c e up dir. absurd (none-some c e)
 is_there f place (Some x) h = λ c e up dir. has_cell (is_update place) (is_dir place.parent) (is_cell (entry_in f (Some x))) h up dir
 
 -- ---- a thing that is not busy
 
-module _ (s : NamesValue) (f : FileId) (own : Own) (held : own_at s f ≡ Some own) (idle : is_busy s (marks_of s) f (Some own) ≡ false) where
+module _ (s : NamesValue) (f : FileId) (own : Attributes) (held : own_at s f ≡ Some own) (idle : is_busy s (marks_of s) f (Some own) ≡ false) where
   abbrev Parts : Type 0
   Parts = (is_marked (marks_of s) f ≡ false) × ((is_lacking f own.place (known s own.place.parent) ≡ false) × (is_unsettled own.flags ≡ false))
 
@@ -72,8 +72,8 @@ module _ (s : NamesValue) (f : FileId) (own : Own) (held : own_at s f ≡ Some o
   there : IsThere f own.place (known s own.place.parent)
   there = is_there f own.place (known s own.place.parent) parts.1.0
 
-  abbrev HasParent : Own → Type 0
-  HasParent top = (c : Own) → is_update top.place ≡ true → own_at s top.place.parent ≡ Some c → is_dir top.place.parent ≡ true → is_cell (cell_at s top.place.parent f) ≡ true
+  abbrev HasParent : Attributes → Type 0
+  HasParent top = (c : Attributes) → is_update top.place ≡ true → own_at s top.place.parent ≡ Some c → is_dir top.place.parent ≡ true → is_cell (cell_at s top.place.parent f) ≡ true
 
   passed : (ds : List FileId) → IsPassed s ds f own
   passed ds =
@@ -82,15 +82,15 @@ module _ (s : NamesValue) (f : FileId) (own : Own) (held : own_at s f ≡ Some o
       record {
         cells = λ q c h. all q c h ∙ ap (cell_for f) e;
         parent = subst HasParent e parent;
-        flags = ap (λ (x : Own). x.flags) e;
+        flags = ap (λ (x : Attributes). x.flags) e;
         place = inl e;
       }
 
   own_parent : HasOwnParent s f own
   own_parent c live h d = there c h (or_left own.place.live _ live) d
 
-idle_at : (s : NamesValue) (f : FileId) (own : Own) → own_at s f ≡ Some own → is_busy s (marks_of s) f (own_at s f) ≡ false → is_busy s (marks_of s) f (Some own) ≡ false
-idle_at s f own held h = ap (λ (o : Option Own). is_busy s (marks_of s) f o) (sym held) ∙ h
+idle_at : (s : NamesValue) (f : FileId) (own : Attributes) → own_at s f ≡ Some own → is_busy s (marks_of s) f (own_at s f) ≡ false → is_busy s (marks_of s) f (Some own) ≡ false
+idle_at s f own held h = ap (λ (o : Option Attributes). is_busy s (marks_of s) f o) (sym held) ∙ h
 
 -- it has passed
 idle_passed : (s : NamesValue) (ds : List FileId) (f : FileId) → is_busy s (marks_of s) f (own_at s f) ≡ false → HasPassed s ds f

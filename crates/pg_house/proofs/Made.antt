@@ -12,7 +12,7 @@ use Rattle.pg_msg.specs.declared.update.Update.{Update}
 use Rattle.pg_msg.specs.declared.work.Work.{Work}
 use Rattle.pg_msg.specs.declared.update.Update.TheVariants as update
 use Rattle.pg_msg.specs.Work.{with_left, with_made, with_touched}
-use Rattle.pg_names.specs.declared.own.Own.{Own}
+use Rattle.pg_names.specs.declared.attributes.Attributes.{Attributes}
 use Rattle.pg_names.specs.Names.{directories, is_dir, own_at}
 use Rattle.pg_names.specs.Same.{is_same_own, is_same_place}
 use Rattle.pg_house.specs.Work.{State, note_left, place_touched, touched}
@@ -41,19 +41,19 @@ flags_made work f held (g ∷ gs) =
     let other = is_other_flag (flag_of held g.server) g in
     flags_made (touched work f (key.Flag g.server) other) f held gs ∙ touched_made work f (key.Flag g.server) other
 
-pub spread_made : (st : State) (f : FileId) (own top : Own) (back : Bool) (ds : List FileId) → (spread st f own top back ds).work.made ≡ st.work.made
+pub spread_made : (st : State) (f : FileId) (own top : Attributes) (back : Bool) (ds : List FileId) → (spread st f own top back ds).work.made ≡ st.work.made
 spread_made st f own top back [] = refl
 spread_made st f own top back (d ∷ ds) =
     spread_made (offered st f own top back d) f own top back ds
     ∙ chosen (λ (s : State). s.work.made ≡ st.work.made) (gets st.names f own top back d) (given st f top d) st refl refl
 
-pub taking_made : (st : State) (f : FileId) (own taken : Own) → (taking st f own taken).work.made ≡ st.work.made
+pub taking_made : (st : State) (f : FileId) (own taken : Attributes) → (taking st f own taken).work.made ≡ st.work.made
 taking_made st f own taken =
     let moved = not (is_same_place own.place taken.place) in
     chosen (λ (s : State). s.work.made ≡ st.work.made) (is_same_own own taken) st (took st f own taken) refl
     (flags_made (place_touched st.work f own.place moved) f own.flags taken.flags ∙ place_made st.work f own.place moved)
 
-pass_own_made : (st : State) (ds : List FileId) (f : FileId) (o : Option Own) → (pass_own st ds f o).work.made ≡ st.work.made
+pass_own_made : (st : State) (ds : List FileId) (f : FileId) (o : Option Attributes) → (pass_own st ds f o).work.made ≡ st.work.made
 pass_own_made st ds f None = refl
 pass_own_made st ds f (Some own) =
     let top = greatest st.names f own ds in

@@ -11,8 +11,8 @@ use Rattle.pg_base.proofs.Orders.{file_total, is_same_file-true}
 use Rattle.pg_base.proofs.Maps.{lookup-insert_entry}
 use Rattle.pg_entries.specs.declared.entry.Entry.{Entry}
 use Rattle.pg_entries.specs.Entry.{entry_of}
-use Rattle.pg_names.specs.declared.own.Own.{Own}
-use Rattle.pg_names.specs.Names.{HeldValue, NamesValue, entry_in, own_at}
+use Rattle.pg_names.specs.declared.attributes.Attributes.{Attributes}
+use Rattle.pg_names.specs.Names.{InodeValue, NamesValue, entry_in, own_at}
 use Rattle.pg_names.specs.Same.{is_same_entry}
 use Rattle.pg_names.proofs.Alike.{entry-true}
 use Rattle.pg_house.specs.Passing.{cell_for}
@@ -53,11 +53,11 @@ module _ (s : NamesValue) (f : FileId) where
       let one = mark_by m e.0 (is_apart (own_at s e.0) e.0 e.1) rest.0 in
       (one.0, λ c there. alike_by e es c (is_same_file f e.0) refl one.1 (rest.1 c) there)
 
-  held_by : (x : FileId × HeldValue) (xs : List (FileId × HeldValue)) (d : FileId) (c : Entry) (t : Bool) → (entry_of x.1.entries f ≡ Some c → IsAlike c) → (entry_in f (lookup (is_at (file_cmp d)) xs) ≡ Some c → IsAlike c) → entry_in f (cond t (Some x.1) (lookup (is_at (file_cmp d)) xs)) ≡ Some c → IsAlike c
+  held_by : (x : FileId × InodeValue) (xs : List (FileId × InodeValue)) (d : FileId) (c : Entry) (t : Bool) → (entry_of x.1.entries f ≡ Some c → IsAlike c) → (entry_in f (lookup (is_at (file_cmp d)) xs) ≡ Some c → IsAlike c) → entry_in f (cond t (Some x.1) (lookup (is_at (file_cmp d)) xs)) ≡ Some c → IsAlike c
   held_by x xs d c true one rest h = one h
   held_by x xs d c false one rest h = rest h
 
-  unmarked_in : (m : Marks) (xs : List (FileId × HeldValue)) → is_marked (marked_in s m (values_of xs)) f ≡ false → (is_marked m f ≡ false) × ((d : FileId) (c : Entry) → entry_in f (lookup (is_at (file_cmp d)) xs) ≡ Some c → IsAlike c)
+  unmarked_in : (m : Marks) (xs : List (FileId × InodeValue)) → is_marked (marked_in s m (values_of xs)) f ≡ false → (is_marked m f ≡ false) × ((d : FileId) (c : Entry) → entry_in f (lookup (is_at (file_cmp d)) xs) ≡ Some c → IsAlike c)
   unmarked_in m [] h = (h, λ d c e. absurd (none-some c e))
   unmarked_in m (x ∷ xs) h =
       let rest = unmarked_in (marked_by s m x.1.entries) xs h in
@@ -65,7 +65,7 @@ module _ (s : NamesValue) (f : FileId) where
       (one.0, λ d c there. held_by x xs d c (is_at (file_cmp d) x.0) (one.1 c) (rest.1 d c) there)
 
   -- so every cell for it is as it is
-  pub all_alike : (own : Own) → own_at s f ≡ Some own → is_marked (marks_of s) f ≡ false → AllAre s f own
+  pub all_alike : (own : Attributes) → own_at s f ≡ Some own → is_marked (marks_of s) f ≡ false → AllAre s f own
   all_alike own held h d c there =
-      let alike : is_apart (Some own) f c ≡ false = ap (λ (o : Option Own). is_apart o f c) (sym held) ∙ (unmarked_in [] s.held h).1 d c there in
+      let alike : is_apart (Some own) f c ≡ false = ap (λ (o : Option Attributes). is_apart o f c) (sym held) ∙ (unmarked_in [] s.held h).1 d c there in
       entry-true c (cell_for f own) (not-false (is_same_entry c (cell_for f own)) alike)

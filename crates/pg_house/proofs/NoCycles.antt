@@ -8,7 +8,7 @@ use Rattle.pg_base.proofs.Orders.{is_same_file-true}
 use Rattle.pg_register.specs.declared.place.Place.{Place}
 use Rattle.pg_register.specs.Place.{root, tilde_name}
 use Rattle.pg_entries.specs.declared.entry.Entry.{Entry}
-use Rattle.pg_names.specs.declared.own.Own.{Own}
+use Rattle.pg_names.specs.declared.attributes.Attributes.{Attributes}
 use Rattle.pg_names.specs.Names.{NamesValue, own_at, cell_at, is_dir}
 use Rattle.pg_entries.specs.Entry.{is_listed}
 use Rattle.pg_names.proofs.Lookups.{apart_back}
@@ -26,10 +26,10 @@ use Rattle.pg_house.proofs.AllReturned.{not_dead}
 use Rattle.pg_house.proofs.AllClimb.{IsDeep, cycle_lost, member_deep, moving_member, none_lost}
 
 -- a live directory with a parent other than the root
-abbrev is_inner_own : FileId → Option Own → Bool
+abbrev is_inner_own : FileId → Option Attributes → Bool
 is_inner_own d o = is_dir d && (not (is_root d) && is_live_own o)
 
-abbrev is_stray_own : FileId → Option Own → Bool
+abbrev is_stray_own : FileId → Option Attributes → Bool
 is_stray_own d o = is_inner_own d o && not (is_root (place_of o).parent)
 
 abbrev pub stray : NamesValue → FileId → Bool
@@ -42,7 +42,7 @@ pub record IsLive (s : NamesValue) (d : FileId) : Type 0 where
   pub other : is_root d ≡ false
   pub held : IsHeld s d
 
-live_held : (s : NamesValue) (d : FileId) (o : Option Own) → own_at s d ≡ o → is_live_own o ≡ true → IsHeld s d
+live_held : (s : NamesValue) (d : FileId) (o : Option Attributes) → own_at s d ≡ o → is_live_own o ≡ true → IsHeld s d
 live_held s d None h g = absurd (false≢true g)
 live_held s d (Some c) h g = (c, h)
 
@@ -61,7 +61,7 @@ deep_stray s d h =
 
 -- ---- each move leaves fewer of them
 
-in_root : (d : FileId) (o : Option Own) → ((c : Own) → o ≡ Some c → is_root c.place.parent ≡ true) → (t : Bool) → is_stray_own d o ≡ t → t ≡ false
+in_root : (d : FileId) (o : Option Attributes) → ((c : Attributes) → o ≡ Some c → is_root c.place.parent ≡ true) → (t : Bool) → is_stray_own d o ≡ t → t ≡ false
 in_root d o h false e = refl
 in_root d None h true e = absurd (false≢true (and_parts (not (is_root d)) _ (and_parts (is_dir d) _ (and_parts (is_inner_own d None) _ e).0).1).1)
 in_root d (Some c) h true e = absurd (false≢true (sym (not-true (is_root c.place.parent) (and_parts (is_inner_own d (Some c)) _ e).1) ∙ h c refl))
@@ -86,7 +86,7 @@ module _ (moment : ℕ) (ds : List FileId) where
     live : IsLive st.names d
     live = inner_parts st.names d deep.0
 
-    own_is : (c : Own) → own_at Next.names d ≡ Some c → c.place ≡ New
+    own_is : (c : Attributes) → own_at Next.names d ≡ Some c → c.place ≡ New
     own_is c h = placed_own moment ds st d root (tilde_name d) k.0 k.1 live.held c h
 
     now_in : stray Next.names d ≡ false
@@ -103,13 +103,13 @@ module _ (moment : ℕ) (ds : List FileId) where
     in_dead : (q : FileId) (c : Entry) → c.place ≡ New → is_root q ≡ false → is_listed q c ≡ false
     in_dead q c h other = ap (λ (p : Place). p.live && is_in q p) h ∙ apart_back q root other
 
-    lists_by : (q : FileId) (own : Own) → own_at st.names q ≡ Some own → is_dir q ≡ true → is_dead q own.place ≡ true → (child : FileId) (c : Entry) → cell_at Next.names q child ≡ Some c → (is_same_file d child ≡ true) ⊎ (is_same_file d child ≡ false) → is_listed q c ≡ false
+    lists_by : (q : FileId) (own : Attributes) → own_at st.names q ≡ Some own → is_dir q ≡ true → is_dead q own.place ≡ true → (child : FileId) (c : Entry) → cell_at Next.names q child ≡ Some c → (is_same_file d child ≡ true) ⊎ (is_same_file d child ≡ false) → is_listed q c ≡ false
     lists_by q own h dir gone child c g (inl same) =
         in_dead q c (placed_cells moment ds st d root (tilde_name d) k.0 k.1 live.held q c (ap (cell_at Next.names q) (is_same_file-true d child same) ∙ g))
         (not-true (is_root q) (and_parts (not (is_root q)) _ gone).0)
     lists_by q own h dir gone child c g (inr apart) = k.2 q own h dir gone child c (sym ((placed_touches moment ds st d root (tilde_name d) k.0.dirs).cells q child apart) ∙ g)
 
-    no_lists_by : (q : FileId) (own : Own) → own_at Next.names q ≡ Some own → is_dir q ≡ true → is_dead q own.place ≡ true → (child : FileId) (c : Entry) → cell_at Next.names q child ≡ Some c → (is_same_file d q ≡ true) ⊎ (is_same_file d q ≡ false) → is_listed q c ≡ false
+    no_lists_by : (q : FileId) (own : Attributes) → own_at Next.names q ≡ Some own → is_dir q ≡ true → is_dead q own.place ≡ true → (child : FileId) (c : Entry) → cell_at Next.names q child ≡ Some c → (is_same_file d q ≡ true) ⊎ (is_same_file d q ≡ false) → is_listed q c ≡ false
     no_lists_by q own h dir gone child c g (inl same) =
         absurd (false≢true (sym (not_dead q own.place (ap (λ (p : Place). p.live) (own_is own (ap (own_at Next.names) (is_same_file-true d q same) ∙ h)))) ∙ gone))
     no_lists_by q own h dir gone child c g (inr apart) =

@@ -14,7 +14,7 @@ use Rattle.pg_msg.specs.declared.work.Slot.{Slot}
 use Rattle.pg_msg.specs.declared.work.Touched.{Touched}
 use Rattle.pg_msg.specs.declared.work.Work.{Work}
 use Rattle.pg_msg.specs.Work.{with_left, with_touched}
-use Rattle.pg_names.specs.declared.own.Own.{Own}
+use Rattle.pg_names.specs.declared.attributes.Attributes.{Attributes}
 use Rattle.pg_names.specs.Names.{own_at}
 use Rattle.pg_names.specs.Same.{is_same_own, is_same_place}
 use Rattle.pg_names.proofs.Alike.{place-true}
@@ -84,7 +84,7 @@ module _ (work : Work) (f : FileId) (old : Place) where
 
 -- a live place that the thing had in this directory
 pub record IsMoved (s t : State) (x : Slot) : Type 0 where
-  pub own : Own
+  pub own : Attributes
   pub was : own_at s.names x.child ≡ Some own
   pub live : own.place.live ≡ true
   pub parent : own.place.parent ≡ x.dir
@@ -94,7 +94,7 @@ pub record IsMoved (s t : State) (x : Slot) : Type 0 where
 
 -- what a step notes, of the places at its start
 pub record Notes (s t : State) : Type 0 where
-  pub all : (q : FileId) (a : Own) → own_at s.names q ≡ Some a → IsKeptOrLeft t q a
+  pub all : (q : FileId) (a : Attributes) → own_at s.names q ≡ Some a → IsKeptOrLeft t q a
   pub only : (x : Slot) → IsOneOf x t.work.left → IsOneOf x s.work.left ⊎ IsMoved s t x
   pub stays : (x : Slot) → IsOneOf x s.work.left → IsOneOf x t.work.left
   pub told : (x : Touched) → IsIn x s.work.touched → IsIn x t.work.touched
@@ -103,7 +103,7 @@ Notes-refl : (s : State) → Notes s s
 Notes-refl s = record { all = λ q a h. (a, h, λ other live. inl refl); only = λ x h. inl h; stays = λ x h. h; told = λ x h. h }
 
 -- it is noted of the place that the thing had
-pub moved_this : (s t : State) (f : FileId) (own : Own) → own_at s.names f ≡ Some own → IsHeld t.names f → IsTouched t.work f key.Place → (x : Slot) → (slot own.place.parent f ≡ x) × (own.place.live ≡ true) × (is_root f ≡ false) → IsMoved s t x
+pub moved_this : (s t : State) (f : FileId) (own : Attributes) → own_at s.names f ≡ Some own → IsHeld t.names f → IsTouched t.work f key.Place → (x : Slot) → (slot own.place.parent f ≡ x) × (own.place.live ≡ true) × (is_root f ≡ false) → IsMoved s t x
 moved_this s t f own was held touched x this =
     subst (IsMoved s t) this.0 (record { own = own; was = was; live = this.1; parent = refl; other = this.2; held = held; touched = touched })
 
@@ -116,7 +116,7 @@ flags_left work f held (g ∷ gs) =
     let other = is_other_flag (flag_of held g.server) g in
     flags_left (touched work f (key.Flag g.server) other) f held gs ∙ touched_left work f (key.Flag g.server) other
 
-module _ (st : State) (f : FileId) (own taken : Own) (h : own_at st.names f ≡ Some own) where
+module _ (st : State) (f : FileId) (own taken : Attributes) (h : own_at st.names f ≡ Some own) where
   abbrev Took : State
   Took = took st f own taken
 
@@ -144,7 +144,7 @@ module _ (st : State) (f : FileId) (own taken : Own) (h : own_at st.names f ≡ 
         ],
   )
 
-  took_all : (q : FileId) (a : Own) → own_at st.names q ≡ Some a → (is_same_file f q ≡ true) ⊎ (is_same_file f q ≡ false) → IsKeptOrLeft Took q a
+  took_all : (q : FileId) (a : Attributes) → own_at st.names q ≡ Some a → (is_same_file f q ≡ true) ⊎ (is_same_file f q ≡ false) → IsKeptOrLeft Took q a
   took_all q a g (inr apart) = (a, own_other st.names f taken q apart ∙ g, λ other live. inl refl)
   took_all q a g (inl same) =
       let is : f ≡ q = is_same_file-true f q same in

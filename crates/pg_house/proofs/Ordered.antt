@@ -9,8 +9,8 @@ use Rattle.pg_base.proofs.Orders.{file_total}
 use Rattle.pg_base.proofs.Entries.{IsStrictlySortedBy-insert_entry}
 use Rattle.pg_register.specs.Place.{root, tilde_name}
 use Rattle.pg_entries.specs.declared.entry.Entry.{Entry}
-use Rattle.pg_names.specs.declared.own.Own.{Own}
-use Rattle.pg_names.specs.Names.{HeldValue, NamesValue, changed, directories, known, own_at, set_entry, set_own, with_entry, with_last, with_own}
+use Rattle.pg_names.specs.declared.attributes.Attributes.{Attributes}
+use Rattle.pg_names.specs.Names.{InodeValue, NamesValue, changed, directories, known, own_at, set_entry, set_own, with_entry, with_last, with_own}
 use Rattle.pg_names.specs.Same.{is_same_own}
 use Rattle.pg_names.proofs.Lookups.{known_held}
 use Rattle.pg_house.specs.Work.{State}
@@ -23,31 +23,31 @@ use Rattle.pg_house.specs.Facts.{AreOrdered}
 use Rattle.pg_house.proofs.Truths.{chosen}
 use Rattle.pg_house.proofs.Repeating.{repeated_keeps}
 
-ordered_at : (s : NamesValue) (d : FileId) (x y : HeldValue) → known s d ≡ Some x → AreOrdered s → IsStrictlySortedBy file_cmp (keys_of y.entries) → (q : FileId) (z : HeldValue) (t : Bool) → cond t (Some y) (known s q) ≡ Some z → IsStrictlySortedBy file_cmp (keys_of z.entries)
+ordered_at : (s : NamesValue) (d : FileId) (x y : InodeValue) → known s d ≡ Some x → AreOrdered s → IsStrictlySortedBy file_cmp (keys_of y.entries) → (q : FileId) (z : InodeValue) (t : Bool) → cond t (Some y) (known s q) ≡ Some z → IsStrictlySortedBy file_cmp (keys_of z.entries)
 ordered_at s d x y h ordered sorted q z false g = ordered q z g
-ordered_at s d x y h ordered sorted q z true g = subst (λ (w : HeldValue). IsStrictlySortedBy file_cmp (keys_of w.entries)) (same_Some y z g) sorted
+ordered_at s d x y h ordered sorted q z true g = subst (λ (w : InodeValue). IsStrictlySortedBy file_cmp (keys_of w.entries)) (same_Some y z g) sorted
 
 -- a change that keeps the order of entries
-pub changed_ordered : (s : NamesValue) (d : FileId) (change : HeldValue → HeldValue) → ((x : HeldValue) → IsStrictlySortedBy file_cmp (keys_of x.entries) → IsStrictlySortedBy file_cmp (keys_of (change x).entries)) → (o : Option HeldValue) → known s d ≡ o → AreOrdered s → AreOrdered (changed s d change o)
+pub changed_ordered : (s : NamesValue) (d : FileId) (change : InodeValue → InodeValue) → ((x : InodeValue) → IsStrictlySortedBy file_cmp (keys_of x.entries) → IsStrictlySortedBy file_cmp (keys_of (change x).entries)) → (o : Option InodeValue) → known s d ≡ o → AreOrdered s → AreOrdered (changed s d change o)
 changed_ordered s d change keeps None h ordered = ordered
 changed_ordered s d change keeps (Some x) h ordered = λ q z g. ordered_at s d x (change x) h ordered (keeps x (ordered d x h)) q z (is_same_file d q) (sym (known_held s d x (change x) q h) ∙ g)
 
 entry_ordered : (s : NamesValue) (d : FileId) (e : Entry) → AreOrdered s → AreOrdered (set_entry s d e)
 entry_ordered s d e ordered = changed_ordered s d (with_entry e) (λ x h. IsStrictlySortedBy-insert_entry file_cmp file_total e.child e x.entries h) (known s d) refl ordered
 
-own_ordered : (s : NamesValue) (f : FileId) (c : Own) → AreOrdered s → AreOrdered (set_own s f c)
+own_ordered : (s : NamesValue) (f : FileId) (c : Attributes) → AreOrdered s → AreOrdered (set_own s f c)
 own_ordered s f c ordered = changed_ordered s f (with_own c) (λ x h. h) (known s f) refl ordered
 
-spread_ordered : (st : State) (f : FileId) (own top : Own) (back : Bool) (ds : List FileId) → AreOrdered st.names → AreOrdered (spread st f own top back ds).names
+spread_ordered : (st : State) (f : FileId) (own top : Attributes) (back : Bool) (ds : List FileId) → AreOrdered st.names → AreOrdered (spread st f own top back ds).names
 spread_ordered st f own top back [] ordered = ordered
 spread_ordered st f own top back (d ∷ ds) ordered =
     spread_ordered (offered st f own top back d) f own top back ds
     (chosen (λ (s : State). AreOrdered s.names) (gets st.names f own top back d) (given st f top d) st (entry_ordered st.names d (cell_for f top) ordered) ordered)
 
-taking_ordered : (st : State) (f : FileId) (own taken : Own) → AreOrdered st.names → AreOrdered (taking st f own taken).names
+taking_ordered : (st : State) (f : FileId) (own taken : Attributes) → AreOrdered st.names → AreOrdered (taking st f own taken).names
 taking_ordered st f own taken ordered = chosen (λ (s : State). AreOrdered s.names) (is_same_own own taken) st (took st f own taken) ordered (own_ordered st.names f taken ordered)
 
-pass_ordered_by : (st : State) (ds : List FileId) (f : FileId) (o : Option Own) → AreOrdered st.names → AreOrdered (pass_own st ds f o).names
+pass_ordered_by : (st : State) (ds : List FileId) (f : FileId) (o : Option Attributes) → AreOrdered st.names → AreOrdered (pass_own st ds f o).names
 pass_ordered_by st ds f None ordered = ordered
 pass_ordered_by st ds f (Some own) ordered =
     let top = greatest st.names f own ds in

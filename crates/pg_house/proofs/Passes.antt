@@ -5,7 +5,7 @@ use Rattle.std.proofs.lemmas.Bool.{false≢true}
 use Rattle.std.proofs.lemmas.Option.{none-some, same_Some}
 use Rattle.pg_base.specs.declared.id.FileId.{FileId}
 use Rattle.pg_base.specs.Id.{is_same_file}
-use Rattle.pg_names.specs.declared.own.Own.{Own}
+use Rattle.pg_names.specs.declared.attributes.Attributes.{Attributes}
 use Rattle.pg_names.specs.Names.{NamesValue, own_at}
 use Rattle.pg_names.proofs.Lookups.{apart_back}
 use Rattle.pg_house.specs.Work.{State}
@@ -17,7 +17,7 @@ use Rattle.pg_house.proofs.Touches.{IsHeld, Touches, Touches-refl, passed_of}
 
 -- one pass changes what is known of the thing alone
 module _ (st : State) (ds : List FileId) (f : FileId) where
-  own_touches : (own top : Own) (back : Bool) → own_at st.names f ≡ Some own → Touches f st.names (passed st ds f own top back).names
+  own_touches : (own top : Attributes) (back : Bool) → own_at st.names f ≡ Some own → Touches f st.names (passed st ds f own top back).names
   own_touches own top back held = record {
     own = λ q a. after_other st ds f own top back q a;
     cells = λ q g a. after_child st ds f own top back q g (apart_back f g a);
@@ -27,7 +27,7 @@ module _ (st : State) (ds : List FileId) (f : FileId) where
     keys = (after_frame st ds f own top back).keys;
   }
 
-  touches_by : (o : Option Own) → own_at st.names f ≡ o → Touches f st.names (pass_own st ds f o).names
+  touches_by : (o : Option Attributes) → own_at st.names f ≡ o → Touches f st.names (pass_own st ds f o).names
   touches_by None h = Touches-refl f st.names
   touches_by (Some own) h = let top = greatest st.names f own ds in own_touches own top (is_held_back st.names.removed f own top) h
 
@@ -45,8 +45,8 @@ module _ (st : State) (ds : List FileId) (f : FileId) (dirs : AreDirs st.names d
   none_passed : own_at st.names f ≡ None → Pass ds f st.names st.names
   none_passed h = record { touches = Touches-refl f st.names; last = refl; dirs = dirs; passed = λ own g. absurd (none-some own (sym h ∙ g)) }
 
-  module _ (own : Own) (held : own_at st.names f ≡ Some own) where
-    abbrev Top : Own
+  module _ (own : Attributes) (held : own_at st.names f ≡ Some own) where
+    abbrev Top : Attributes
     Top = greatest st.names f own ds
 
     abbrev Then : Bool → NamesValue
@@ -67,7 +67,7 @@ module _ (st : State) (ds : List FileId) (f : FileId) (dirs : AreDirs st.names d
     some_passed : (t : Bool) → is_held_back st.names.removed f own Top ≡ t → Pass ds f st.names (Then t)
     some_passed t b = record { touches = own_touches st ds f own Top t held; last = (after_frame st ds f own Top t).last; dirs = are_dirs t; passed = has_passed t b }
 
-  by_own : (o : Option Own) → own_at st.names f ≡ o → Pass ds f st.names (pass_own st ds f o).names
+  by_own : (o : Option Attributes) → own_at st.names f ≡ o → Pass ds f st.names (pass_own st ds f o).names
   by_own None h = none_passed h
   by_own (Some own) h = some_passed own h (is_held_back st.names.removed f own (greatest st.names f own ds)) refl
 

@@ -13,7 +13,7 @@ use Rattle.pg_register.specs.Flag.{IsByServer, is_removed}
 use Rattle.pg_register.specs.Place.{root, newer_place}
 use Rattle.pg_register.proofs.ByServer.{IsByServer-nil}
 use Rattle.pg_entries.specs.declared.entry.Entry.{Entry}
-use Rattle.pg_names.specs.declared.own.Own.{Own}
+use Rattle.pg_names.specs.declared.attributes.Attributes.{Attributes}
 use Rattle.pg_names.specs.Names.{NamesValue, own_at, cell_at, is_dir, with_last, with_own}
 use Rattle.pg_names.proofs.Lookups.{own_other, own_same, own_cell, update_frame, own_back}
 use Rattle.pg_house.specs.Work.{State}
@@ -39,18 +39,18 @@ up_to : (a b n : ℕ) → a < b → n ≡ b → a ≤ n
 up_to a b n h g = omega arith
 
 -- a live place is not held back
-live_passes : (removed : List ℕ) (f : FileId) (own top : Own) → top.place.live ≡ true → is_held_back removed f own top ≡ false
+live_passes : (removed : List ℕ) (f : FileId) (own top : Attributes) → top.place.live ≡ true → is_held_back removed f own top ≡ false
 live_passes removed f own top live = and_right (is_dir f) _ (ap (λ t. not t && (is_before own.place.stamp top.place.stamp && not (is_removed removed top.place.stamp.server))) live)
 
 -- where every cell is older than this place, it is the greatest
-not_older : (place : Place) (top : Own) (c : Entry) → top.place ≡ place → is_before place.stamp c.place.stamp ≡ false → newer_place top.place c.place ≡ place
+not_older : (place : Place) (top : Attributes) (c : Entry) → top.place ≡ place → is_before place.stamp c.place.stamp ≡ false → newer_place top.place c.place ≡ place
 not_older place top c same older = ap (λ (q : Place). newer_place q c.place) same ∙ chosen_false (is_before place.stamp c.place.stamp) c.place place older
 
-fresh_with : (place : Place) (top : Own) (o : Option Entry) → top.place ≡ place → ((c : Entry) → o ≡ Some c → is_before place.stamp c.place.stamp ≡ false) → (joined_with top o).place ≡ place
+fresh_with : (place : Place) (top : Attributes) (o : Option Entry) → top.place ≡ place → ((c : Entry) → o ≡ Some c → is_before place.stamp c.place.stamp ≡ false) → (joined_with top o).place ≡ place
 fresh_with place top None same older = same
 fresh_with place top (Some c) same older = not_older place top c same (older c refl)
 
-fresh_greatest : (s : NamesValue) (f : FileId) (place : Place) → ((d : FileId) (c : Entry) → cell_at s d f ≡ Some c → is_before place.stamp c.place.stamp ≡ false) → (top : Own) → top.place ≡ place → (ds : List FileId) → (greatest s f top ds).place ≡ place
+fresh_greatest : (s : NamesValue) (f : FileId) (place : Place) → ((d : FileId) (c : Entry) → cell_at s d f ≡ Some c → is_before place.stamp c.place.stamp ≡ false) → (top : Attributes) → top.place ≡ place → (ds : List FileId) → (greatest s f top ds).place ≡ place
 fresh_greatest s f place older top same [] = same
 fresh_greatest s f place older top same (d ∷ ds) = fresh_greatest s f place older (joined_with top (cell_at s d f)) (fresh_with place top (cell_at s d f) same (older d)) ds
 
@@ -63,7 +63,7 @@ module _ (moment : ℕ) (ds : List FileId) (st : State) (f p : FileId) (name : L
   abbrev New : Place
   New = live_place (drawn moment st.names) p name
 
-  abbrev Mine : Own
+  abbrev Mine : Attributes
   Mine = own_with st.names f New
 
   abbrev Made : State
@@ -85,17 +85,17 @@ module _ (moment : ℕ) (ds : List FileId) (st : State) (f p : FileId) (name : L
     keys = (update_frame Late f (with_own Mine)).keys;
   }
 
-  flags_by : (o : Option Own) → own_at st.names f ≡ o → AreDirs st.names ds → IsByServer (flags_of o)
+  flags_by : (o : Option Attributes) → own_at st.names f ≡ o → AreDirs st.names ds → IsByServer (flags_of o)
   flags_by None h dirs = IsByServer-nil
   flags_by (Some x) h dirs = dirs.sorted f x h
 
-  made_sorted : AreDirs st.names ds → (q : FileId) (b : Own) (s : Bool) → is_same_file f q ≡ s → own_at Made.names q ≡ Some b → IsByServer b.flags
+  made_sorted : AreDirs st.names ds → (q : FileId) (b : Attributes) (s : Bool) → is_same_file f q ≡ s → own_at Made.names q ≡ Some b → IsByServer b.flags
   made_sorted dirs q b false apart h = dirs.sorted q b (sym (own_other Late f Mine q apart) ∙ h)
   made_sorted dirs q b true same h =
       let was = own_back Late f (with_own Mine) q b h in
       let here : own_at st.names f ≡ Some was.0 = ap (own_at st.names) (is_same_file-true f q same) ∙ was.1 in
       let e : Mine ≡ b = same_Some Mine b (sym (own_same Late f was.0 Mine here) ∙ ap (own_at Made.names) (is_same_file-true f q same) ∙ h) in
-      subst (λ (x : Own). IsByServer x.flags) e (flags_by (own_at st.names f) refl dirs)
+      subst (λ (x : Attributes). IsByServer x.flags) e (flags_by (own_at st.names f) refl dirs)
 
   pub made_dirs : AreDirs st.names ds → AreDirs Made.names ds
   made_dirs dirs = record {
@@ -119,7 +119,7 @@ module _ (moment : ℕ) (ds : List FileId) (st : State) (f p : FileId) (name : L
   later_time n h = drawn_late moment st.names.last n New.stamp.time refl h
 
   module _ (k : Settled ds st.names) (last : IsLast st.names) (held : IsHeld st.names f) where
-    abbrev Top : Own
+    abbrev Top : Attributes
     Top = greatest Made.names f Mine ds
 
     made_own : own_at Made.names f ≡ Some Mine
@@ -130,14 +130,14 @@ module _ (moment : ℕ) (ds : List FileId) (st : State) (f p : FileId) (name : L
 
     after_is : After ≡ (passed Made ds f Mine Top false).names
     after_is =
-        ap (λ (o : Option Own). (pass_own Made ds f o).names) made_own
+        ap (λ (o : Option Attributes). (pass_own Made ds f o).names) made_own
         ∙ ap (λ t. (passed Made ds f Mine Top t).names) (live_passes Made.names.removed f Mine Top (ap (λ (q : Place). q.live) top_place))
 
     -- the file has the new place, and so has every cell for it
-    pub placed_own : (c : Own) → own_at After f ≡ Some c → c.place ≡ New
+    pub placed_own : (c : Attributes) → own_at After f ≡ Some c → c.place ≡ New
     placed_own c h =
         let same : c ≡ Top = same_Some c Top (sym h ∙ ap (λ (s : NamesValue). own_at s f) after_is ∙ after_own Made ds f Mine Top false made_own) in
-        ap (λ (x : Own). x.place) same ∙ top_place
+        ap (λ (x : Attributes). x.place) same ∙ top_place
 
     pub placed_cells : (q : FileId) (c : Entry) → cell_at After q f ≡ Some c → c.place ≡ New
     placed_cells q c h =
@@ -152,7 +152,7 @@ module _ (moment : ℕ) (ds : List FileId) (st : State) (f p : FileId) (name : L
     old_time : (n : ℕ) → n ≤ st.names.last → n ≤ After.last
     old_time n h = up_to n New.stamp.time After.last (later_time n h) time_is
 
-    own_time : (q : FileId) (c : Own) → own_at After q ≡ Some c → (is_same_file f q ≡ true) ⊎ (is_same_file f q ≡ false) → c.place.stamp.time ≤ After.last
+    own_time : (q : FileId) (c : Attributes) → own_at After q ≡ Some c → (is_same_file f q ≡ true) ⊎ (is_same_file f q ≡ false) → c.place.stamp.time ≤ After.last
     own_time q c h (inl same) = new_time c.place (placed_own c (ap (own_at After) (is_same_file-true f q same) ∙ h))
     own_time q c h (inr apart) = old_time c.place.stamp.time (last.own q c (sym ((placed_touches k.dirs).own q apart) ∙ h))
 

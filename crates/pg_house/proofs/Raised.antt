@@ -14,7 +14,7 @@ use Rattle.pg_register.specs.Flag.{is_removed}
 use Rattle.pg_register.specs.Place.{root}
 use Rattle.pg_entries.specs.declared.entry.Entry.{Entry}
 use Rattle.pg_entries.specs.Entry.{is_listed}
-use Rattle.pg_names.specs.declared.own.Own.{Own}
+use Rattle.pg_names.specs.declared.attributes.Attributes.{Attributes}
 use Rattle.pg_names.specs.Names.{NamesValue, cell_at, directories, is_dir, own_at, with_flag}
 use Rattle.pg_names.proofs.Alike.{own_of_parts}
 use Rattle.pg_names.proofs.Lookups.{apart_back, flag_cell, flag_same, known_absent, own_with_flag}
@@ -80,7 +80,7 @@ module _ (moment : ℕ) (st : State) (f : FileId) (flag : Flag) (calm : IsCalm s
   -- ---- what stands where it stood
 
   -- in the end no dead directory lists a child
-  listed_by : (t : State) → DiffersByFlags f Raised t → (d : FileId) (own : Own) → own_at S d ≡ Some own → is_dir d ≡ true → is_dead d own.place ≡ true
+  listed_by : (t : State) → DiffersByFlags f Raised t → (d : FileId) (own : Attributes) → own_at S d ≡ Some own → is_dir d ≡ true → is_dead d own.place ≡ true
       → (child : FileId) (c : Entry) → cell_at t.names d child ≡ Some c → (b : Bool) → is_same_file f child ≡ b → is_listed d c ≡ false
   listed_by t k d own h dir gone child c g false apart =
       calm.no_dead_lists d own h dir gone child c (sym (k.others d child apart ∙ flag_cell S f flag d child) ∙ g)
@@ -138,17 +138,17 @@ module _ (moment : ℕ) (st : State) (f : FileId) (flag : Flag) (calm : IsCalm s
 
   -- ---- the thing itself passes
 
-  module _ (own : Own) (held : own_at S f ≡ Some own) (other : is_root f ≡ false) where
+  module _ (own : Attributes) (held : own_at S f ≡ Some own) (other : is_root f ≡ false) where
     k : IsPassed S Ds f own
     k = calm.passing f own held other
 
-    abbrev More : Own
+    abbrev More : Attributes
     More = own_with_flag flag own
 
-    abbrev Old : Own
+    abbrev Old : Attributes
     Old = greatest S f own Ds
 
-    abbrev New : Own
+    abbrev New : Attributes
     New = greatest R f More Ds
 
     beside : (New.place ≡ Old.place) × (New.flags ≡ More.flags)
@@ -177,7 +177,7 @@ module _ (moment : ℕ) (st : State) (f : FileId) (flag : Flag) (calm : IsCalm s
     taken_by true b = own_of_parts own.place own.place New.flags More.flags refl beside.1
     taken_by false b =
         let still : Old.place ≡ own.place = elim k.place [
-          | inl same ↦ ap (λ (o : Own). o.place) (sym same)
+          | inl same ↦ ap (λ (o : Attributes). o.place) (sym same)
           | inr back ↦ absurd (false≢true (sym b ∙ back))
         ] in
         own_of_parts New.place own.place New.flags More.flags (beside.0 ∙ still) beside.1
@@ -239,7 +239,7 @@ module _ (moment : ℕ) (st : State) (f : FileId) (flag : Flag) (calm : IsCalm s
         let ordered : AreOrdered End.names = subst (λ (t : State). AreOrdered t.names) passes (pass_ordered Raised Ds f (flagged_ordered S f flag calm.ordered)) in
         subst (DiffersByFlags f Raised) (sym (ends End differs ordered alone)) differs
 
-  by_own : (o : Option Own) → own_at S f ≡ o → (t : Bool) → is_root f ≡ t → DiffersByFlags f Raised (house moment Raised)
+  by_own : (o : Option Attributes) → own_at S f ≡ o → (t : Bool) → is_root f ≡ t → DiffersByFlags f Raised (house moment Raised)
   by_own None h t e = subst (DiffersByFlags f Raised) (sym (of_none h)) (differs_not f Raised)
   by_own (Some own) h true e = subst (DiffersByFlags f Raised) (sym (of_root e)) (differs_not f Raised)
   by_own (Some own) h false e = of_held own h e

@@ -14,7 +14,7 @@ use Rattle.pg_msg.specs.declared.work.Slot.{Slot}
 use Rattle.pg_msg.specs.declared.work.Touched.{Touched}
 use Rattle.pg_msg.specs.declared.work.Work.{Work}
 use Rattle.pg_msg.specs.Work.{with_made, with_touched}
-use Rattle.pg_names.specs.declared.own.Own.{Own}
+use Rattle.pg_names.specs.declared.attributes.Attributes.{Attributes}
 use Rattle.pg_names.specs.Names.{NamesValue, cell_at, directories, known, own_at, with_last}
 use Rattle.pg_names.proofs.Lookups.{apart_back, own_cell, own_other, own_same}
 use Rattle.pg_house.specs.Work.{State, is_root}
@@ -40,20 +40,20 @@ use Rattle.pg_house.proofs.Noting.{IsMoved, Notes, moved_this, noted_live, noted
 
 -- ---- a pass
 
-spread_left : (st : State) (f : FileId) (own top : Own) (back : Bool) (ds : List FileId) → (spread st f own top back ds).work.left ≡ st.work.left
+spread_left : (st : State) (f : FileId) (own top : Attributes) (back : Bool) (ds : List FileId) → (spread st f own top back ds).work.left ≡ st.work.left
 spread_left st f own top back [] = refl
 spread_left st f own top back (d ∷ ds) =
     spread_left (offered st f own top back d) f own top back ds
     ∙ chosen (λ (s : State). s.work.left ≡ st.work.left) (gets st.names f own top back d) (given st f top d) st refl refl
 
-module _ (st : State) (ds : List FileId) (f : FileId) (own : Own) (held : own_at st.names f ≡ Some own) (back : Bool) where
-  abbrev Top : Own
+module _ (st : State) (ds : List FileId) (f : FileId) (own : Attributes) (held : own_at st.names f ≡ Some own) (back : Bool) where
+  abbrev Top : Attributes
   Top = greatest st.names f own ds
 
   abbrev Mid : State
   Mid = spread st f own Top back ds
 
-  abbrev Taken : Own
+  abbrev Taken : Attributes
   Taken = own_taken own Top back
 
   abbrev Then : State
@@ -72,12 +72,12 @@ module _ (st : State) (ds : List FileId) (f : FileId) (own : Own) (held : own_at
   taken_known true = inl (own, held, refl)
   taken_known false = top_known
 
-  own_known : (q : FileId) (a : Own) → own_at Then.names q ≡ Some a → (is_same_file f q ≡ true) ⊎ (is_same_file f q ≡ false) → Known q a.place
+  own_known : (q : FileId) (a : Attributes) → own_at Then.names q ≡ Some a → (is_same_file f q ≡ true) ⊎ (is_same_file f q ≡ false) → Known q a.place
   own_known q a h (inr apart) = inl (a, sym (after_other st ds f own Top back q apart) ∙ h, refl)
   own_known q a h (inl same) =
       let is : f ≡ q = is_same_file-true f q same in
       let e : Taken ≡ a = same_Some Taken a (sym (after_own st ds f own Top back held) ∙ ap (own_at Then.names) is ∙ h) in
-      subst (λ (x : FileId). Known x a.place) is (subst (λ (x : Own). Known f x.place) e (taken_known back))
+      subst (λ (x : FileId). Known x a.place) is (subst (λ (x : Attributes). Known f x.place) e (taken_known back))
 
   cell_here : (d : FileId) (c : Entry) → cell_at Then.names d f ≡ Some c → Known f c.place
   cell_here d c h =
@@ -137,7 +137,7 @@ module _ (st : State) (ds : List FileId) (f : FileId) (own : Own) (held : own_at
     child = λ own_child d q c h. child_kept own_child d q c h (bool_cases (is_same_file f q));
   }
 
-pass_own_goes : (st : State) (ds : List FileId) (f : FileId) (o : Option Own) → own_at st.names f ≡ o → Goes st (pass_own st ds f o)
+pass_own_goes : (st : State) (ds : List FileId) (f : FileId) (o : Option Attributes) → own_at st.names f ≡ o → Goes st (pass_own st ds f o)
 pass_own_goes st ds f None h = Goes-refl st
 pass_own_goes st ds f (Some own) h = passed_goes st ds f own h (is_held_back st.names.removed f own (greatest st.names f own ds))
 
@@ -157,7 +157,7 @@ module _ (st : State) (f : FileId) (place : Place) (held : IsHeld st.names f) wh
   abbrev Late : NamesValue
   Late = with_last st.names place.stamp.time
 
-  abbrev Mine : Own
+  abbrev Mine : Attributes
   Mine = own_with st.names f place
 
   abbrev Before : Work
@@ -179,7 +179,7 @@ module _ (st : State) (f : FileId) (place : Place) (held : IsHeld st.names f) wh
     λ other live. inr (subst (λ (p : Place). IsLeft Made.work p.parent f) old_is (noted_live Before f Old other (ap (λ (p : Place). p.live) old_is ∙ live))),
   )
 
-  made_all : (q : FileId) (a : Own) → own_at st.names q ≡ Some a → (is_same_file f q ≡ true) ⊎ (is_same_file f q ≡ false) → IsKeptOrLeft Made q a
+  made_all : (q : FileId) (a : Attributes) → own_at st.names q ≡ Some a → (is_same_file f q ≡ true) ⊎ (is_same_file f q ≡ false) → IsKeptOrLeft Made q a
   made_all q a g (inr apart) = (a, own_other Late f Mine q apart ∙ g, λ other live. inl refl)
   made_all q a g (inl same) =
       let is : f ≡ q = is_same_file-true f q same in
@@ -202,12 +202,12 @@ module _ (st : State) (f : FileId) (place : Place) (held : IsHeld st.names f) wh
   new_made : IsOneOf (update.Place f place) Made.work.made
   new_made = subst (IsOneOf (update.Place f place)) (sym (left_made Before f Old)) (one_last (update.Place f place) st.work.made)
 
-  made_own_known : (q : FileId) (a : Own) → own_at Made.names q ≡ Some a → (is_same_file f q ≡ true) ⊎ (is_same_file f q ≡ false) → Since q a.place
+  made_own_known : (q : FileId) (a : Attributes) → own_at Made.names q ≡ Some a → (is_same_file f q ≡ true) ⊎ (is_same_file f q ≡ false) → Since q a.place
   made_own_known q a h (inr apart) = inl (a, sym (own_other Late f Mine q apart) ∙ h, refl)
   made_own_known q a h (inl same) =
       let is : f ≡ q = is_same_file-true f q same in
       let e : Mine ≡ a = same_Some Mine a (sym made_own ∙ ap (own_at Made.names) is ∙ h) in
-      subst (λ (x : FileId). Since x a.place) is (subst (λ (x : Own). Since f x.place) e (inr (inr new_made)))
+      subst (λ (x : FileId). Since x a.place) is (subst (λ (x : Attributes). Since f x.place) e (inr (inr new_made)))
 
   made_goes : Goes st Made
   made_goes = record {
@@ -262,7 +262,7 @@ pub noted : (moment : ℕ) (st : State) → IsNoted st (house moment st)
 noted moment st = (house_goes moment st).noted
 
 -- the places that are known then were known, or were made
-pub own_places : (moment : ℕ) (st : State) (q : FileId) (a : Own) → own_at (house moment st).names q ≡ Some a → IsKnownPlace st.names (house moment st).work.made q a.place
+pub own_places : (moment : ℕ) (st : State) (q : FileId) (a : Attributes) → own_at (house moment st).names q ≡ Some a → IsKnownPlace st.names (house moment st).work.made q a.place
 own_places moment st q a h = (house_goes moment st).own q a h
 
 pub cell_places : (moment : ℕ) (st : State) (d q : FileId) (c : Entry) → cell_at (house moment st).names d q ≡ Some c → IsKnownPlace st.names (house moment st).work.made q c.place

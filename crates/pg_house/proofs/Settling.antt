@@ -15,7 +15,7 @@ use Rattle.pg_base.proofs.Entries.{lookup-place}
 use Rattle.pg_register.specs.Place.{root}
 use Rattle.pg_entries.specs.declared.entry.Entry.{Entry}
 use Rattle.pg_entries.specs.Entry.{is_listed, lists_any}
-use Rattle.pg_names.specs.Names.{HeldValue, NamesValue, directories, is_dir, known, entry_in, own_of}
+use Rattle.pg_names.specs.Names.{InodeValue, NamesValue, directories, is_dir, known, entry_in, own_of}
 use Rattle.pg_house.specs.Work.{State}
 use Rattle.pg_house.specs.Passing.{pass_all}
 use Rattle.pg_house.specs.Placing.{repeated}
@@ -34,12 +34,12 @@ use Rattle.pg_house.proofs.Ends.{by_server, is_last, is_of_dirs, no_dead_directo
 
 -- ---- what is among the keys is held
 
-found_at : (q : FileId) (e : FileId × HeldValue) (es : List (FileId × HeldValue)) (t : Bool) → is_at (file_cmp q) e.0 ≡ t → (is_same_file e.0 q ≡ true) ⊎ (is_among q (keys_of es) ≡ true) → ((is_among q (keys_of es) ≡ true) → (x : HeldValue) × (lookup (is_at (file_cmp q)) es ≡ Some x)) → (x : HeldValue) × (cond t (Some e.1) (lookup (is_at (file_cmp q)) es) ≡ Some x)
+found_at : (q : FileId) (e : FileId × InodeValue) (es : List (FileId × InodeValue)) (t : Bool) → is_at (file_cmp q) e.0 ≡ t → (is_same_file e.0 q ≡ true) ⊎ (is_among q (keys_of es) ≡ true) → ((is_among q (keys_of es) ≡ true) → (x : InodeValue) × (lookup (is_at (file_cmp q)) es ≡ Some x)) → (x : InodeValue) × (cond t (Some e.1) (lookup (is_at (file_cmp q)) es) ≡ Some x)
 found_at q e es true h among rest = (e.1, refl)
 found_at q e es false h (inl same) rest = absurd (false≢true (sym h ∙ ap (is_same_file q) (is_same_file-true e.0 q same) ∙ is_same_file-refl q))
 found_at q e es false h (inr later) rest = rest later
 
-pub key_found : (q : FileId) (es : List (FileId × HeldValue)) → is_among q (keys_of es) ≡ true → (x : HeldValue) × (lookup (is_at (file_cmp q)) es ≡ Some x)
+pub key_found : (q : FileId) (es : List (FileId × InodeValue)) → is_among q (keys_of es) ≡ true → (x : InodeValue) × (lookup (is_at (file_cmp q)) es ≡ Some x)
 key_found q [] among = absurd (false≢true among)
 key_found q (e ∷ es) among = found_at q e es (is_at (file_cmp q) e.0) refl (or_cases (is_same_file e.0 q) (is_among q (keys_of es)) among) (key_found q es)
 
@@ -78,12 +78,12 @@ none_listed d es sorted all =
     let e = get_or es i (root, c) in
     ap (is_listed d) (get_or-map (λ (x : FileId × Entry). x.1) es i (root, c) c inside) ∙ all e.0 e.1 (lookup-place file_cmp file_total e.0 e.1 es i (root, c) sorted inside refl))
 
-dead_or_not : (s : NamesValue) (d : FileId) (x : HeldValue) → known s d ≡ Some x → is_dir d ≡ true → AreOrdered s → NoDeadLists s → (t : Bool) → is_dead d x.own.place ≡ t → (t && lists_any x.entries d) ≡ false
+dead_or_not : (s : NamesValue) (d : FileId) (x : InodeValue) → known s d ≡ Some x → is_dir d ≡ true → AreOrdered s → NoDeadLists s → (t : Bool) → is_dead d x.own.place ≡ t → (t && lists_any x.entries d) ≡ false
 dead_or_not s d x h dir ordered none false e = refl
 dead_or_not s d x h dir ordered none true e =
     none_listed d x.entries (ordered d x h) (λ child c g. none d x.own (ap own_of h) dir e child c (ap (entry_in child) h ∙ g))
 
-no_return_by : (s : NamesValue) (d : FileId) (o : Option HeldValue) → known s d ≡ o → is_dir d ≡ true → AreOrdered s → NoDeadLists s → is_returning_held d o ≡ false
+no_return_by : (s : NamesValue) (d : FileId) (o : Option InodeValue) → known s d ≡ o → is_dir d ≡ true → AreOrdered s → NoDeadLists s → is_returning_held d o ≡ false
 no_return_by s d None h dir ordered none = refl
 no_return_by s d (Some x) h dir ordered none = dead_or_not s d x h dir ordered none (is_dead d x.own.place) refl
 

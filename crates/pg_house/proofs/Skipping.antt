@@ -4,7 +4,7 @@ use Rattle.std.specs.List.{filter}
 use Rattle.pg_base.specs.declared.id.FileId.{FileId}
 use Rattle.pg_base.specs.Id.{is_same_file}
 use Rattle.pg_base.proofs.Orders.{is_same_file-true}
-use Rattle.pg_names.specs.declared.own.Own.{Own}
+use Rattle.pg_names.specs.declared.attributes.Attributes.{Attributes}
 use Rattle.pg_names.specs.Names.{own_at}
 use Rattle.pg_house.specs.Work.{State}
 use Rattle.pg_house.specs.Passing.{greatest, is_held_back, own_taken, pass, pass_own, pass_all, passed}
@@ -17,7 +17,7 @@ use Rattle.pg_house.proofs.Idle.{AreHeld, pass_idle}
 
 -- ---- what is held stays held
 
-still_by : (st : State) (ds : List FileId) (f : FileId) (o : Option Own) → own_at st.names f ≡ o → (q : FileId) → IsHeld st.names q → IsHeld (pass_own st ds f o).names q
+still_by : (st : State) (ds : List FileId) (f : FileId) (o : Option Attributes) → own_at st.names f ≡ o → (q : FileId) → IsHeld st.names q → IsHeld (pass_own st ds f o).names q
 still_by st ds f None h q held = held
 still_by st ds f (Some own) h q held =
     let top = greatest st.names f own ds in

@@ -2,7 +2,7 @@
 use Rattle.std.proofs.Common.{◌≡◌, Bool, true, false, Some, refl, ap, ◌∙◌, if◌then◌else◌}
 use Rattle.pg_base.specs.declared.id.FileId.{FileId}
 use Rattle.pg_base.specs.Id.{is_same_file}
-use Rattle.pg_names.specs.declared.own.Own.{Own}
+use Rattle.pg_names.specs.declared.attributes.Attributes.{Attributes}
 use Rattle.pg_names.specs.Names.{cell_at, own_at, with_own}
 use Rattle.pg_names.specs.Same.{is_same_own}
 use Rattle.pg_names.proofs.Alike.{own-true}
@@ -11,7 +11,7 @@ use Rattle.pg_house.specs.Work.{State}
 use Rattle.pg_house.specs.Passing.{taking, took}
 use Rattle.pg_house.proofs.Truths.{chosen}
 
-module _ (st : State) (f : FileId) (own taken : Own) where
+module _ (st : State) (f : FileId) (own taken : Attributes) where
   own_by : (t : Bool) → is_same_own own taken ≡ t → own_at st.names f ≡ Some own → own_at (if t then st else took st f own taken).names f ≡ Some taken
   own_by true e h = h ∙ ap Some (own-true own taken e)
   own_by false e h = own_same st.names f own taken h

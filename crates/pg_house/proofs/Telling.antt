@@ -13,7 +13,7 @@ use Rattle.pg_edges.specs.declared.key.Key.TheVariants as key
 use Rattle.pg_msg.specs.declared.work.Touched.{Touched}
 use Rattle.pg_msg.specs.declared.work.Work.{Work}
 use Rattle.pg_msg.specs.Work.{with_left, with_touched}
-use Rattle.pg_names.specs.declared.own.Own.{Own}
+use Rattle.pg_names.specs.declared.attributes.Attributes.{Attributes}
 use Rattle.pg_names.specs.Names.{cell_at, own_at, or_blank, own_or_blank}
 use Rattle.pg_names.specs.Same.{is_same_flag, is_same_own, is_same_place}
 use Rattle.pg_names.proofs.Alike.{flag-true, place-true}
@@ -82,7 +82,7 @@ Tells-trans s t u a b = record {
 
 -- ---- a cell is given
 
-module _ (st : State) (f : FileId) (top : Own) (d : FileId) where
+module _ (st : State) (f : FileId) (top : Attributes) (d : FileId) where
   abbrev Given : State
   Given = given st f top d
 
@@ -97,16 +97,16 @@ module _ (st : State) (f : FileId) (top : Own) (d : FileId) where
   given_tells = record {
     told = record {
       cells = λ q g. given_cell q g (bool_cases (is_same_file d q)) (bool_cases (is_same_file f g));
-      places = λ q. inl (ap (λ (o : Option Own). (or_blank q o).place) (entry_own st.names d (cell_for f top) q));
-      flags = λ q n. inl (ap (λ (o : Option Own). flag_of (or_blank q o).flags n) (entry_own st.names d (cell_for f top) q));
+      places = λ q. inl (ap (λ (o : Option Attributes). (or_blank q o).place) (entry_own st.names d (cell_for f top) q));
+      flags = λ q n. inl (ap (λ (o : Option Attributes). flag_of (or_blank q o).flags n) (entry_own st.names d (cell_for f top) q));
     };
     stays = λ x h. in_front x st.work.touched _ h;
   }
 
-offered_tells : (st : State) (f : FileId) (own top : Own) (back : Bool) (d : FileId) → Tells st (offered st f own top back d)
+offered_tells : (st : State) (f : FileId) (own top : Attributes) (back : Bool) (d : FileId) → Tells st (offered st f own top back d)
 offered_tells st f own top back d = chosen (Tells st) (gets st.names f own top back d) (given st f top d) st (given_tells st f top d) (Tells-refl st)
 
-pub spread_tells : (st : State) (f : FileId) (own top : Own) (back : Bool) (ds : List FileId) → Tells st (spread st f own top back ds)
+pub spread_tells : (st : State) (f : FileId) (own top : Attributes) (back : Bool) (ds : List FileId) → Tells st (spread st f own top back ds)
 spread_tells st f own top back [] = Tells-refl st
 spread_tells st f own top back (d ∷ ds) =
     let next = offered st f own top back d in
@@ -151,7 +151,7 @@ none_before : (fs gs : List Flag) (n : ℕ) (o : Option Flag) → KeepFlags fs g
 none_before fs gs n None keep h e = refl
 none_before fs gs n (Some g) keep h e = let k = keep n g e in absurd (none_some (flag_of gs n) k.0 h k.1)
 
-module _ (st : State) (f : FileId) (own taken : Own) (h : own_at st.names f ≡ Some own) (keep : KeepFlags own.flags taken.flags) where
+module _ (st : State) (f : FileId) (own taken : Attributes) (h : own_at st.names f ≡ Some own) (keep : KeepFlags own.flags taken.flags) where
   abbrev Took : State
   Took = took st f own taken
 
@@ -169,11 +169,11 @@ module _ (st : State) (f : FileId) (own taken : Own) (h : own_at st.names f ≡ 
   place_here false e = inr (left_stays (with_touched st.work f key.Place) f own.place _ (in_last (record { file = f; key = key.Place }) st.work.touched))
 
   place_at : (q : FileId) → (is_same_file f q ≡ true) ⊎ (is_same_file f q ≡ false) → ((own_or_blank Took.names q).place ≡ (own_or_blank st.names q).place) ⊎ IsTouched Took.work q key.Place
-  place_at q (inr apart) = inl (ap (λ (o : Option Own). (or_blank q o).place) (own_other st.names f taken q apart))
+  place_at q (inr apart) = inl (ap (λ (o : Option Attributes). (or_blank q o).place) (own_other st.names f taken q apart))
   place_at q (inl same) =
       subst (λ (x : FileId). ((own_or_blank Took.names x).place ≡ (own_or_blank st.names x).place) ⊎ IsTouched Took.work x key.Place) (is_same_file-true f q same)
       (elim (place_here (is_same_place own.place taken.place) refl) [
-        | inl e ↦ inl (ap (λ (o : Own). o.place) after ∙ e ∙ sym (ap (λ (o : Own). o.place) before))
+        | inl e ↦ inl (ap (λ (o : Attributes). o.place) after ∙ e ∙ sym (ap (λ (o : Attributes). o.place) before))
         | inr done ↦ inr (flags_stay Moved f own.flags taken.flags _ done)
       ])
 
@@ -185,11 +185,11 @@ module _ (st : State) (f : FileId) (own taken : Own) (h : own_at st.names f ≡ 
       ]
 
   flags_at : (q : FileId) (n : ℕ) → (is_same_file f q ≡ true) ⊎ (is_same_file f q ≡ false) → (flag_of (own_or_blank Took.names q).flags n ≡ flag_of (own_or_blank st.names q).flags n) ⊎ IsTouched Took.work q (key.Flag n)
-  flags_at q n (inr apart) = inl (ap (λ (o : Option Own). flag_of (or_blank q o).flags n) (own_other st.names f taken q apart))
+  flags_at q n (inr apart) = inl (ap (λ (o : Option Attributes). flag_of (or_blank q o).flags n) (own_other st.names f taken q apart))
   flags_at q n (inl same) =
       subst (λ (x : FileId). (flag_of (own_or_blank Took.names x).flags n ≡ flag_of (own_or_blank st.names x).flags n) ⊎ IsTouched Took.work x (key.Flag n)) (is_same_file-true f q same)
       (elim (flag_told n) [
-        | inl e ↦ inl (ap (λ (o : Own). flag_of o.flags n) after ∙ e ∙ sym (ap (λ (o : Own). flag_of o.flags n) before))
+        | inl e ↦ inl (ap (λ (o : Attributes). flag_of o.flags n) after ∙ e ∙ sym (ap (λ (o : Attributes). flag_of o.flags n) before))
         | inr done ↦ inr done
       ])
 
@@ -208,11 +208,11 @@ module _ (st : State) (f : FileId) (own taken : Own) (h : own_at st.names f ≡ 
 
 -- ---- a pass
 
-keeps_taken : (own top : Own) (t : Bool) → KeepFlags own.flags top.flags → KeepFlags own.flags (own_taken own top t).flags
+keeps_taken : (own top : Attributes) (t : Bool) → KeepFlags own.flags top.flags → KeepFlags own.flags (own_taken own top t).flags
 keeps_taken own top true keep = keep
 keeps_taken own top false keep = keep
 
-pass_own_tells : (st : State) (ds : List FileId) (f : FileId) (o : Option Own) → own_at st.names f ≡ o → Tells st (pass_own st ds f o)
+pass_own_tells : (st : State) (ds : List FileId) (f : FileId) (o : Option Attributes) → own_at st.names f ≡ o → Tells st (pass_own st ds f o)
 pass_own_tells st ds f None h = Tells-refl st
 pass_own_tells st ds f (Some own) h =
     let top = greatest st.names f own ds in

@@ -6,7 +6,7 @@ use Rattle.pg_base.specs.Id.{is_same_file}
 use Rattle.pg_base.proofs.Orders.{is_same_file-true}
 use Rattle.pg_register.specs.declared.place.Place.{Place}
 use Rattle.pg_entries.specs.declared.entry.Entry.{Entry}
-use Rattle.pg_names.specs.declared.own.Own.{Own}
+use Rattle.pg_names.specs.declared.attributes.Attributes.{Attributes}
 use Rattle.pg_names.specs.Names.{NamesValue, own_at, cell_at}
 use Rattle.pg_names.proofs.Lookups.{apart_back}
 use Rattle.pg_house.specs.Work.{State}
@@ -21,13 +21,13 @@ use Rattle.pg_house.proofs.Passes.{one_pass}
 abbrev IsUpTo : ℕ → Place → Type 0
 IsUpTo n p = p.stamp.time ≤ n
 
-taken_up : (n : ℕ) (own top : Own) (t : Bool) → IsUpTo n own.place → IsUpTo n top.place → IsUpTo n (own_taken own top t).place
+taken_up : (n : ℕ) (own top : Attributes) (t : Bool) → IsUpTo n own.place → IsUpTo n top.place → IsUpTo n (own_taken own top t).place
 taken_up n own top true a b = a
 taken_up n own top false a b = b
 
 module _ (st : State) (ds : List FileId) (f : FileId) (dirs : AreDirs st.names ds) (last : IsLast st.names) where
-  module _ (own : Own) (held : own_at st.names f ≡ Some own) (t : Bool) where
-    abbrev Top : Own
+  module _ (own : Attributes) (held : own_at st.names f ≡ Some own) (t : Bool) where
+    abbrev Top : Attributes
     Top = greatest st.names f own ds
 
     abbrev Then : NamesValue
@@ -42,10 +42,10 @@ module _ (st : State) (ds : List FileId) (f : FileId) (dirs : AreDirs st.names d
     own_up : IsUpTo Then.last (own_taken own Top t).place
     own_up = taken_up Then.last own Top t (subst (λ n. IsUpTo n own.place) same_last (last.own f own held)) top_up
 
-    own_by : (q : FileId) (c : Own) → own_at Then q ≡ Some c → (is_same_file f q ≡ true) ⊎ (is_same_file f q ≡ false) → IsUpTo Then.last c.place
+    own_by : (q : FileId) (c : Attributes) → own_at Then q ≡ Some c → (is_same_file f q ≡ true) ⊎ (is_same_file f q ≡ false) → IsUpTo Then.last c.place
     own_by q c h (inl same) =
         let e : own_taken own Top t ≡ c = same_Some (own_taken own Top t) c (sym (after_own st ds f own Top t held) ∙ ap (own_at Then) (is_same_file-true f q same) ∙ h) in
-        subst (λ (x : Own). IsUpTo Then.last x.place) e own_up
+        subst (λ (x : Attributes). IsUpTo Then.last x.place) e own_up
     own_by q c h (inr apart) = subst (λ n. IsUpTo n c.place) same_last (last.own q c (sym (after_other st ds f own Top t q apart) ∙ h))
 
     cells_by : (q g : FileId) (c : Entry) → cell_at Then q g ≡ Some c → (is_same_file f g ≡ true) ⊎ (is_same_file f g ≡ false) → IsUpTo Then.last c.place
@@ -55,7 +55,7 @@ module _ (st : State) (ds : List FileId) (f : FileId) (dirs : AreDirs st.names d
     some_last : IsLast Then
     some_last = record { own = λ q c h. own_by q c h (bool_cases (is_same_file f q)); cells = λ q g c h. cells_by q g c h (bool_cases (is_same_file f g)) }
 
-  by_own : (o : Option Own) → own_at st.names f ≡ o → IsLast (pass_own st ds f o).names
+  by_own : (o : Option Attributes) → own_at st.names f ≡ o → IsLast (pass_own st ds f o).names
   by_own None h = last
   by_own (Some own) h = some_last own h (is_held_back st.names.removed f own (greatest st.names f own ds))
 

@@ -10,7 +10,7 @@ use Rattle.pg_edges.specs.declared.key.Key.TheVariants as key
 use Rattle.pg_msg.specs.declared.update.Update.TheVariants as update
 use Rattle.pg_msg.specs.declared.work.Work.{Work}
 use Rattle.pg_msg.specs.Work.{with_made, with_touched}
-use Rattle.pg_names.specs.declared.own.Own.{Own}
+use Rattle.pg_names.specs.declared.attributes.Attributes.{Attributes}
 use Rattle.pg_names.specs.Names.{NamesValue, directories, own_at, with_last, with_own, or_blank, own_or_blank}
 use Rattle.pg_names.proofs.Lookups.{known_absent, own_cell, own_other, own_same}
 use Rattle.pg_house.specs.Work.{State}
@@ -36,20 +36,20 @@ module _ (st : State) (f : FileId) (place : Place) where
   abbrev Noted : Work
   Noted = with_touched (with_made st.work (update.Place f place)) f key.Place
 
-  abbrev Mine : Own
+  abbrev Mine : Attributes
   Mine = own_with st.names f place
 
-  flags_by : (o : Option Own) (n : ℕ) → own_at st.names f ≡ o → flag_of (or_blank f (own_at Made.names f)).flags n ≡ flag_of (or_blank f o).flags n
-  flags_by None n h = ap (λ (s : NamesValue). flag_of (or_blank f (own_at s f)).flags n) (known_absent Late f (with_own Mine) h) ∙ ap (λ (o : Option Own). flag_of (or_blank f o).flags n) h
+  flags_by : (o : Option Attributes) (n : ℕ) → own_at st.names f ≡ o → flag_of (or_blank f (own_at Made.names f)).flags n ≡ flag_of (or_blank f o).flags n
+  flags_by None n h = ap (λ (s : NamesValue). flag_of (or_blank f (own_at s f)).flags n) (known_absent Late f (with_own Mine) h) ∙ ap (λ (o : Option Attributes). flag_of (or_blank f o).flags n) h
   flags_by (Some own) n h =
-      ap (λ (o : Option Own). flag_of (or_blank f o).flags n) (own_same Late f own Mine h) ∙ ap (λ (o : Option Own). flag_of (flags_of o) n) h
+      ap (λ (o : Option Attributes). flag_of (or_blank f o).flags n) (own_same Late f own Mine h) ∙ ap (λ (o : Option Attributes). flag_of (flags_of o) n) h
 
   place_at_one : (q : FileId) → (is_same_file f q ≡ true) ⊎ (is_same_file f q ≡ false) → ((own_or_blank Made.names q).place ≡ (own_or_blank st.names q).place) ⊎ IsTouched Made.work q key.Place
-  place_at_one q (inr apart) = inl (ap (λ (o : Option Own). (or_blank q o).place) (own_other Late f Mine q apart))
+  place_at_one q (inr apart) = inl (ap (λ (o : Option Attributes). (or_blank q o).place) (own_other Late f Mine q apart))
   place_at_one q (inl same) = inr (subst (λ (x : FileId). IsTouched Made.work x key.Place) (is_same_file-true f q same) (left_stays Noted f (place_at st.names f) _ (in_last (record { file = f; key = key.Place }) st.work.touched)))
 
   flags_at_one : (q : FileId) (n : ℕ) → (is_same_file f q ≡ true) ⊎ (is_same_file f q ≡ false) → flag_of (own_or_blank Made.names q).flags n ≡ flag_of (own_or_blank st.names q).flags n
-  flags_at_one q n (inr apart) = ap (λ (o : Option Own). flag_of (or_blank q o).flags n) (own_other Late f Mine q apart)
+  flags_at_one q n (inr apart) = ap (λ (o : Option Attributes). flag_of (or_blank q o).flags n) (own_other Late f Mine q apart)
   flags_at_one q n (inl same) =
       subst (λ (x : FileId). flag_of (own_or_blank Made.names x).flags n ≡ flag_of (own_or_blank st.names x).flags n) (is_same_file-true f q same) (flags_by (own_at st.names f) n refl)
 

@@ -4,7 +4,7 @@ use Rattle.std.specs.Map.{keys_of}
 use Rattle.pg_base.specs.declared.id.FileId.{FileId}
 use Rattle.pg_base.specs.Id.{is_same_file}
 use Rattle.pg_base.proofs.Orders.{is_same_file-true}
-use Rattle.pg_names.specs.declared.own.Own.{Own}
+use Rattle.pg_names.specs.declared.attributes.Attributes.{Attributes}
 use Rattle.pg_names.specs.Names.{NamesValue, own_at, cell_at, is_dir}
 use Rattle.pg_house.specs.Passing.{cell_for, greatest, is_cell, is_held_back, is_update, joined_with}
 pub use Rattle.pg_house.specs.Facts.{IsHeld}
@@ -36,25 +36,25 @@ Touches-trans f s t u a b = record {
 -- ---- what is known of the other files
 
 module _ (f : FileId) (s t : NamesValue) (m : Touches f s t) (g : FileId) (apart : is_same_file f g ≡ false) where
-  pub same_greatest : (top : Own) (ds : List FileId) → greatest t g top ds ≡ greatest s g top ds
+  pub same_greatest : (top : Attributes) (ds : List FileId) → greatest t g top ds ≡ greatest s g top ds
   same_greatest top [] = refl
   same_greatest top (d ∷ ds) = ap (λ o. greatest t g (joined_with top o) ds) (m.cells d g apart) ∙ same_greatest (joined_with top (cell_at s d g)) ds
 
   kept_parent : (p : FileId) → is_cell (cell_at s p g) ≡ true → is_cell (cell_at t p g) ≡ true
   kept_parent p h = ap is_cell (m.cells p g apart) ∙ h
 
-  pub kept_passed : (ds : List FileId) (own : Own) → IsPassed s ds g own → IsPassed t ds g own
+  pub kept_passed : (ds : List FileId) (own : Attributes) → IsPassed s ds g own → IsPassed t ds g own
   kept_passed ds own k =
       let e = sym (same_greatest own ds) in
-      let P : Own → Type 0 = λ top. (c : Own) → is_update top.place ≡ true → own_at t top.place.parent ≡ Some c → is_dir top.place.parent ≡ true → is_cell (cell_at t top.place.parent g) ≡ true in
+      let P : Attributes → Type 0 = λ top. (c : Attributes) → is_update top.place ≡ true → own_at t top.place.parent ≡ Some c → is_dir top.place.parent ≡ true → is_cell (cell_at t top.place.parent g) ≡ true in
       record {
         cells = λ q c h. k.cells q c (sym (m.cells q g apart) ∙ h) ∙ ap (cell_for g) e;
         parent = subst P e (λ c up h d. let was = m.was (greatest s g own ds).place.parent (c, h) in kept_parent (greatest s g own ds).place.parent (k.parent was.0 up was.1 d));
-        flags = k.flags ∙ ap (λ (c : Own). c.flags) e;
-        place = subst (λ (c : Own). (own ≡ c) ⊎ (is_held_back t.removed g own c ≡ true)) e (subst (λ r. (own ≡ greatest s g own ds) ⊎ (is_held_back r g own (greatest s g own ds) ≡ true)) (sym m.removed) k.place);
+        flags = k.flags ∙ ap (λ (c : Attributes). c.flags) e;
+        place = subst (λ (c : Attributes). (own ≡ c) ⊎ (is_held_back t.removed g own c ≡ true)) e (subst (λ r. (own ≡ greatest s g own ds) ⊎ (is_held_back r g own (greatest s g own ds) ≡ true)) (sym m.removed) k.place);
       }
 
-  pub kept_own_parent : (own : Own) → HasOwnParent s g own → HasOwnParent t g own
+  pub kept_own_parent : (own : Attributes) → HasOwnParent s g own → HasOwnParent t g own
   kept_own_parent own k c live h d = let was = m.was own.place.parent (c, h) in kept_parent own.place.parent (k was.0 live was.1 d)
 
 -- ---- all files

@@ -4,7 +4,7 @@ use Rattle.pg_base.specs.declared.id.FileId.{FileId}
 use Rattle.pg_base.specs.Stamp.{is_before}
 use Rattle.pg_register.specs.declared.place.Place.{Place}
 use Rattle.pg_register.specs.Place.{root, root_place}
-use Rattle.pg_names.specs.declared.own.Own.{Own}
+use Rattle.pg_names.specs.declared.attributes.Attributes.{Attributes}
 use Rattle.pg_names.specs.Names.{NamesValue, is_dir, own_at}
 use Rattle.pg_house.specs.Placing.{place_at, place_of}
 use Rattle.pg_house.specs.Returning.{is_root}
@@ -21,18 +21,18 @@ abbrev is_live_in : Option Place → Bool
 is_live_in None = false
 is_live_in (Some place) = place.live
 
-place_is : (o : Option Own) → place_of o ≡ place_in (held_place o)
+place_is : (o : Option Attributes) → place_of o ≡ place_in (held_place o)
 place_is None = refl
 place_is (Some own) = refl
 
-live_is : (o : Option Own) → is_live_own o ≡ is_live_in (held_place o)
+live_is : (o : Option Attributes) → is_live_own o ≡ is_live_in (held_place o)
 live_is None = refl
 live_is (Some own) = refl
 
-same_place : (o p : Option Own) → held_place o ≡ held_place p → place_of o ≡ place_of p
+same_place : (o p : Option Attributes) → held_place o ≡ held_place p → place_of o ≡ place_of p
 same_place o p h = place_is o ∙ ap place_in h ∙ sym (place_is p)
 
-same_live : (o p : Option Own) → held_place o ≡ held_place p → is_live_own o ≡ is_live_own p
+same_live : (o p : Option Attributes) → held_place o ≡ held_place p → is_live_own o ≡ is_live_own p
 same_live o p h = live_is o ∙ ap is_live_in h ∙ sym (live_is p)
 
 -- ---- so the steps up are the same

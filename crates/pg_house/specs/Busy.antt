@@ -10,8 +10,8 @@ use Rattle.pg_register.specs.declared.place.Place.{Place}
 use Rattle.pg_register.specs.Flag.{join_flags}
 use Rattle.pg_entries.specs.declared.entry.Entry.{Entry}
 use Rattle.pg_entries.specs.Entry.{entry_of}
-use Rattle.pg_names.specs.declared.own.Own.{Own}
-use Rattle.pg_names.specs.Names.{HeldValue, NamesValue, is_dir, known, own_at}
+use Rattle.pg_names.specs.declared.attributes.Attributes.{Attributes}
+use Rattle.pg_names.specs.Names.{InodeValue, NamesValue, is_dir, known, own_at}
 use Rattle.pg_names.specs.Same.{is_same_entry, is_same_flags}
 use Rattle.pg_house.specs.Passing.{cell_for, is_cell, is_update}
 use Rattle.pg_house.specs.Returning.{is_root}
@@ -19,7 +19,7 @@ use Rattle.pg_house.specs.Returning.{is_root}
 -- ---- things with a cell that is not as they are themselves
 
 -- a cell is not as the held thing itself
-abbrev pub is_apart : Option Own → FileId → Entry → Bool
+abbrev pub is_apart : Option Attributes → FileId → Entry → Bool
 is_apart None child cell = false
 is_apart (Some own) child cell = not (is_same_entry cell (cell_for child own))
 
@@ -40,7 +40,7 @@ marked_by names marks [] = marks
 marked_by names marks (e ∷ es) = marked_by names (marked names marks e.0 e.1) es
 
 -- and of all cells in these
-abbrev pub marked_in : NamesValue → Marks → List HeldValue → Marks
+abbrev pub marked_in : NamesValue → Marks → List InodeValue → Marks
 marked_in names marks [] = marks
 marked_in names marks (x ∷ xs) = marked_in names (marked_by names marks x.entries) xs
 
@@ -54,7 +54,7 @@ is_marked marks file = is_some (lookup (is_at (file_cmp file)) marks)
 -- ---- busy things
 
 -- the held parent in the place lacks a cell that it is to have
-abbrev pub is_lacking : FileId → Place → Option HeldValue → Bool
+abbrev pub is_lacking : FileId → Place → Option InodeValue → Bool
 is_lacking file place None = false
 is_lacking file place (Some x) =
     is_update place && (is_dir place.parent && not (is_cell (entry_of x.entries file)))
@@ -64,7 +64,7 @@ abbrev pub is_unsettled : List Flag → Bool
 is_unsettled flags = not (is_same_flags (join_flags flags flags) flags)
 
 -- it is marked, or its parent lacks it
-abbrev pub is_busy : NamesValue → Marks → FileId → Option Own → Bool
+abbrev pub is_busy : NamesValue → Marks → FileId → Option Attributes → Bool
 is_busy names marks file None = false
 is_busy names marks file (Some own) = is_marked marks file
     || (is_lacking file own.place (known names own.place.parent)

@@ -6,7 +6,7 @@ use Rattle.pg_base.specs.Id.{is_same_file}
 use Rattle.pg_register.specs.declared.flag.Flag.{Flag}
 use Rattle.pg_register.specs.declared.place.Place.{Place}
 use Rattle.pg_entries.specs.declared.entry.Entry.{Entry}
-use Rattle.pg_names.specs.declared.own.Own.{Own}
+use Rattle.pg_names.specs.declared.attributes.Attributes.{Attributes}
 use Rattle.pg_names.specs.Names.{NamesValue, cell_at, directories, is_full, join_flag, own_at}
 use Rattle.pg_house.specs.Work.{State}
 use Rattle.pg_house.specs.Cycles.{first_moving}
@@ -27,7 +27,7 @@ pub record IsCalm (names : NamesValue) : Type 0 where
   pub none_moves : first_moving names (length (directories names)) None (directories names) ≡ None
 
 -- the place of a thing, where it is held
-abbrev pub held_place : Option Own → Option Place
+abbrev pub held_place : Option Attributes → Option Place
 held_place None = None
 held_place (Some own) = Some own.place
 

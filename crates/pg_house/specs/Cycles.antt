@@ -5,13 +5,13 @@ use Rattle.pg_base.specs.declared.id.FileId.{FileId}
 use Rattle.pg_base.specs.Id.{file_cmp}
 use Rattle.pg_base.specs.Stamp.{is_before}
 use Rattle.pg_register.specs.Place.{root, tilde_name}
-use Rattle.pg_names.specs.declared.own.Own.{Own}
+use Rattle.pg_names.specs.declared.attributes.Attributes.{Attributes}
 use Rattle.pg_names.specs.Names.{NamesValue, is_dir, own_at}
 use Rattle.pg_house.specs.Work.{State}
 use Rattle.pg_house.specs.Placing.{place_at, placed}
 use Rattle.pg_house.specs.Returning.{is_root}
 
-abbrev pub is_live_own : Option Own → Bool
+abbrev pub is_live_own : Option Attributes → Bool
 is_live_own None = false
 is_live_own (Some own) = own.place.live
 

@@ -16,8 +16,8 @@ use Rattle.pg_msg.specs.declared.update.Update.TheVariants as update
 use Rattle.pg_msg.specs.declared.work.Slot.{Slot}
 use Rattle.pg_msg.specs.declared.work.Touched.{Touched}
 use Rattle.pg_msg.specs.declared.work.Work.{Work}
-use Rattle.pg_names.specs.declared.own.Own.{Own}
-use Rattle.pg_names.specs.Names.{HeldValue, NamesValue, cell_at, directories, is_dir, known, own_at, own_or_blank}
+use Rattle.pg_names.specs.declared.attributes.Attributes.{Attributes}
+use Rattle.pg_names.specs.Names.{InodeValue, NamesValue, cell_at, directories, is_dir, known, own_at, own_or_blank}
 use Rattle.pg_house.specs.Work.{State, is_root}
 use Rattle.pg_house.specs.Passing.{cell_for, greatest, is_cell, is_held_back, is_update}
 use Rattle.pg_house.specs.Returning.{is_dead}
@@ -27,11 +27,11 @@ use Rattle.pg_house.specs.Cycles.{climb, is_inner}
 
 -- every cell for the thing is the greatest, the held parent in the greatest place has a cell, and
 -- the thing has the greatest itself, or the place is held back
-pub record IsPassed (names : NamesValue) (dirs : List FileId) (file : FileId) (own : Own)
+pub record IsPassed (names : NamesValue) (dirs : List FileId) (file : FileId) (own : Attributes)
     : Type 0 where
   pub cells : (dir : FileId) (cell : Entry) → cell_at names dir file ≡ Some cell
       → cell ≡ cell_for file (greatest names file own dirs)
-  pub parent : (c : Own) → is_update (greatest names file own dirs).place ≡ true
+  pub parent : (c : Attributes) → is_update (greatest names file own dirs).place ≡ true
       → own_at names (greatest names file own dirs).place.parent ≡ Some c
       → is_dir (greatest names file own dirs).place.parent ≡ true
       → is_cell (cell_at names (greatest names file own dirs).place.parent file) ≡ true
@@ -40,30 +40,30 @@ pub record IsPassed (names : NamesValue) (dirs : List FileId) (file : FileId) (o
       ⊎ (is_held_back names.removed file own (greatest names file own dirs) ≡ true)
 
 -- the held parent in a thing's own live place has a cell for it
-abbrev pub HasOwnParent : NamesValue → FileId → Own → Type 0
-HasOwnParent names file own = (c : Own) → own.place.live ≡ true
+abbrev pub HasOwnParent : NamesValue → FileId → Attributes → Type 0
+HasOwnParent names file own = (c : Attributes) → own.place.live ≡ true
     → own_at names own.place.parent ≡ Some c → is_dir own.place.parent ≡ true
     → is_cell (cell_at names own.place.parent file) ≡ true
 
 abbrev pub Passing : NamesValue → Type 0
-Passing names = (file : FileId) (own : Own) → own_at names file ≡ Some own
+Passing names = (file : FileId) (own : Attributes) → own_at names file ≡ Some own
     → is_same_file file root ≡ false → IsPassed names (directories names) file own
 
 abbrev pub OwnParent : NamesValue → Type 0
-OwnParent names = (file : FileId) (own : Own) → own_at names file ≡ Some own
+OwnParent names = (file : FileId) (own : Attributes) → own_at names file ≡ Some own
     → is_same_file file root ≡ false → HasOwnParent names file own
 
 -- a thing has passed, where it is held
 abbrev pub HasPassed : NamesValue → List FileId → FileId → Type 0
-HasPassed names dirs file = (own : Own) → own_at names file ≡ Some own
+HasPassed names dirs file = (own : Attributes) → own_at names file ≡ Some own
     → (IsPassed names dirs file own) × (HasOwnParent names file own)
 
 -- ---- return and cycles
 
 -- no directory with a dead place lists a child
 abbrev pub NoDeadLists : NamesValue → Type 0
-NoDeadLists names = (dir : FileId) (own : Own) → own_at names dir ≡ Some own → is_dir dir ≡ true
-    → is_dead dir own.place ≡ true → (child : FileId) (cell : Entry)
+NoDeadLists names = (dir : FileId) (own : Attributes) → own_at names dir ≡ Some own
+    → is_dir dir ≡ true → is_dead dir own.place ≡ true → (child : FileId) (cell : Entry)
     → cell_at names dir child ≡ Some cell → is_listed dir cell ≡ false
 
 -- from each live directory one comes out of the live directories, so none stands in itself
@@ -74,7 +74,7 @@ NoCycle names = (dir : FileId) (n : ℕ) → is_inner names dir ≡ true → cli
 
 -- no stamp of a place is later than the greatest time
 pub record IsLast (names : NamesValue) : Type 0 where
-  pub own : (file : FileId) (own : Own) → own_at names file ≡ Some own
+  pub own : (file : FileId) (own : Attributes) → own_at names file ≡ Some own
       → own.place.stamp.time ≤ names.last
   pub cells : (dir child : FileId) (cell : Entry) → cell_at names dir child ≡ Some cell
       → cell.place.stamp.time ≤ names.last
@@ -86,12 +86,12 @@ IsOfDirs names = (dir child : FileId) (cell : Entry)
 
 -- the flags of each thing are by server
 abbrev pub AreByServer : NamesValue → Type 0
-AreByServer names = (file : FileId) (own : Own)
+AreByServer names = (file : FileId) (own : Attributes)
     → own_at names file ≡ Some own → IsByServer own.flags
 
 -- the entries of each directory are in order
 abbrev pub AreOrdered : NamesValue → Type 0
-AreOrdered names = (dir : FileId) (x : HeldValue)
+AreOrdered names = (dir : FileId) (x : InodeValue)
     → known names dir ≡ Some x → IsStrictlySortedBy file_cmp (keys_of x.entries)
 
 -- a thing is among these
@@ -102,7 +102,7 @@ is_among file (f ∷ fs) = is_same_file f file || is_among file fs
 -- ---- what is held
 
 abbrev pub IsHeld : NamesValue → FileId → Type 0
-IsHeld names file = (own : Own) × (own_at names file ≡ Some own)
+IsHeld names file = (own : Attributes) × (own_at names file ≡ Some own)
 
 -- ---- what is told of a change
 
@@ -139,16 +139,16 @@ IsLeft work dir child = IsOneOf {A = Slot} (record { dir = dir; child = child })
 
 -- what was held with this place is held in the end, with the same place, or, where it was a live one
 -- and the thing is not the root, it is noted that it was replaced
-abbrev pub IsKeptOrLeft : State → FileId → Own → Type 0
+abbrev pub IsKeptOrLeft : State → FileId → Attributes → Type 0
 IsKeptOrLeft after file own =
-    (new : Own) × (own_at after.names file ≡ Some new)
+    (new : Attributes) × (own_at after.names file ≡ Some new)
     × (is_root file ≡ false → own.place.live ≡ true
     → (new.place ≡ own.place) ⊎ IsLeft after.work own.place.parent file)
 
 -- the thing or a cell for it had this place at the start, or it was made
 abbrev pub IsKnownPlace : NamesValue → List Update → FileId → Place → Type 0
 IsKnownPlace before made file place =
-    ((own : Own) × (own_at before file ≡ Some own) × (own.place ≡ place))
+    ((own : Attributes) × (own_at before file ≡ Some own) × (own.place ≡ place))
     ⊎ (((dir : FileId) × (cell : Entry)
     × (cell_at before dir file ≡ Some cell) × (cell.place ≡ place))
     ⊎ IsOneOf {A = Update} (update.Place file place) made)
@@ -169,7 +169,7 @@ pub record IsReplaced (before after : State) (s : Slot) : Type 0 where
 -- only: what is noted was noted before, or it was such a place
 -- stays: what was noted before
 pub record IsNoted (before after : State) : Type 0 where
-  pub all : (file : FileId) (own : Own)
+  pub all : (file : FileId) (own : Attributes)
       → own_at before.names file ≡ Some own → IsKeptOrLeft after file own
   pub only : (s : Slot)
       → IsOneOf s after.work.left → IsOneOf s before.work.left ⊎ IsReplaced before after s

@@ -8,13 +8,13 @@ use Rattle.pg_register.specs.declared.place.Place.{Place}
 use Rattle.pg_register.specs.Flag.{is_removed}
 use Rattle.pg_register.specs.Place.{newer_place}
 use Rattle.pg_entries.specs.declared.entry.Entry.{Entry}
-use Rattle.pg_names.specs.declared.own.Own.{Own}
-use Rattle.pg_names.specs.Names.{HeldValue, NamesValue, cell_at, directories, is_dir, own_at}
+use Rattle.pg_names.specs.declared.attributes.Attributes.{Attributes}
+use Rattle.pg_names.specs.Names.{InodeValue, NamesValue, cell_at, directories, is_dir, own_at}
 use Rattle.pg_house.specs.Passing.{greatest, is_held_back}
 use Rattle.pg_house.specs.Returning.{is_root}
 
 -- the greatest place of a held thing is held back
-abbrev pub is_back : NamesValue → List FileId → FileId → Option Own → Bool
+abbrev pub is_back : NamesValue → List FileId → FileId → Option Attributes → Bool
 is_back names dirs file None = false
 is_back names dirs file (Some own) =
     is_held_back names.removed file own (greatest names file own dirs)
@@ -46,7 +46,7 @@ waits removed file own top = is_dir file && (not top.live
 
 -- ---- a cell with a place that its child does not take
 
-abbrev pub is_waiting : NamesValue → FileId → Option Own → Entry → Bool
+abbrev pub is_waiting : NamesValue → FileId → Option Attributes → Entry → Bool
 is_waiting names child None cell = false
 is_waiting names child (Some own) cell = waits names.removed child own.place cell.place
 
@@ -57,7 +57,7 @@ has_waiting names (e ∷ es) =
     is_waiting names e.0 (own_at names e.0) e.1 || has_waiting names es
 
 -- one of these has such a cell
-abbrev pub any_waiting : NamesValue → List HeldValue → Bool
+abbrev pub any_waiting : NamesValue → List InodeValue → Bool
 any_waiting names [] = false
 any_waiting names (x ∷ xs) = has_waiting names x.entries || any_waiting names xs
 

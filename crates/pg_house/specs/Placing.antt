@@ -9,12 +9,12 @@ use Rattle.pg_register.specs.Place.{root_place}
 use Rattle.pg_edges.specs.declared.key.Key.TheVariants as key
 use Rattle.pg_msg.specs.declared.update.Update.TheVariants as update
 use Rattle.pg_msg.specs.Work.{with_made, with_touched}
-use Rattle.pg_names.specs.declared.own.Own.{Own}
+use Rattle.pg_names.specs.declared.attributes.Attributes.{Attributes}
 use Rattle.pg_names.specs.Names.{NamesValue, own_at, set_own, with_last}
 use Rattle.pg_house.specs.Work.{State, note_left}
 use Rattle.pg_house.specs.Passing.{pass}
 
-abbrev pub place_of : Option Own → Place
+abbrev pub place_of : Option Attributes → Place
 place_of None = root_place
 place_of (Some own) = own.place
 
@@ -22,7 +22,7 @@ place_of (Some own) = own.place
 abbrev pub place_at : NamesValue → FileId → Place
 place_at names file = place_of (own_at names file)
 
-abbrev pub flags_of : Option Own → List Flag
+abbrev pub flags_of : Option Attributes → List Flag
 flags_of None = []
 flags_of (Some own) = own.flags
 
@@ -36,7 +36,7 @@ live_place stamp parent name =
     record { stamp = stamp; parent = parent; name = name; live = true }
 
 -- the thing has this place, and the flags that it has
-abbrev pub own_with : NamesValue → FileId → Place → Own
+abbrev pub own_with : NamesValue → FileId → Place → Attributes
 own_with names file place = record { place = place; flags = flags_of (own_at names file) }
 
 -- the thing has this place from now on, which was made; the old one is noted

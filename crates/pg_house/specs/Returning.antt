@@ -6,7 +6,7 @@ use Rattle.pg_base.specs.Stamp.{is_before}
 use Rattle.pg_register.specs.declared.place.Place.{Place}
 use Rattle.pg_register.specs.Place.{first_stamp}
 use Rattle.pg_entries.specs.Entry.{lists_any}
-use Rattle.pg_names.specs.Names.{HeldValue, NamesValue, known}
+use Rattle.pg_names.specs.Names.{InodeValue, NamesValue, known}
 pub use Rattle.pg_house.specs.Work.{is_root}
 use Rattle.pg_house.specs.Work.{State}
 use Rattle.pg_house.specs.Placing.{place_at, placed}
@@ -15,7 +15,7 @@ use Rattle.pg_house.specs.Placing.{place_at, placed}
 abbrev pub is_dead : FileId → Place → Bool
 is_dead dir place = not (is_root dir) && (not place.live && is_before first_stamp place.stamp)
 
-abbrev pub is_returning_held : FileId → Option HeldValue → Bool
+abbrev pub is_returning_held : FileId → Option InodeValue → Bool
 is_returning_held dir None = false
 is_returning_held dir (Some x) = is_dead dir x.own.place && lists_any x.entries dir
 

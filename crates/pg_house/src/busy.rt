@@ -10,7 +10,7 @@ use crate::passing::{is_other_cell, is_update};
 use crate::returning::is_root;
 use pg_base::{FileId, Items};
 use pg_entries::{Entries, Entry};
-use pg_names::{Names, Own, is_dir};
+use pg_names::{Attributes, Names, is_dir};
 use pg_register::GoldFlags;
 use std::alloc::AllocError;
 use std::collections::BTreeMap;
@@ -61,7 +61,7 @@ fn marks(names: &Names) -> Result<Marks, AllocError>
 }
 
 /// Whether the held parent in a thing's place lacks a cell for the thing.
-fn is_lacking(names: &Names, file: &FileId, own: &Own) -> bool
+fn is_lacking(names: &Names, file: &FileId, own: &Attributes) -> bool
     ensures { result ≡ is_lacking file.now own.now.place (known names.now own.now.place.parent) }
 {
     match names.get(&own.place.parent) {

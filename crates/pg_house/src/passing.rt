@@ -12,7 +12,7 @@ use pg_base::{FileId, Stamp};
 use pg_edges::Key;
 use pg_entries::Entry;
 use pg_msg::Work;
-use pg_names::{Names, Own, is_dir, is_same_flags, is_same_own, is_same_place};
+use pg_names::{Attributes, Names, is_dir, is_same_flags, is_same_own, is_same_place};
 use pg_register::Place;
 use std::alloc::AllocError;
 
@@ -32,7 +32,7 @@ fn is_in(dir: &FileId, place: &Place) -> bool
 
 /// Takes the newer place, and of each server the newer flag. After out of memory a part may be
 /// taken.
-fn raise(top: &mut Own, cell: &Entry) -> Result<(), AllocError>
+fn raise(top: &mut Attributes, cell: &Entry) -> Result<(), AllocError>
     ensures { OnOk result (top.new ≡ joined top.old cell.now) }
 {
     top.flags.join_all(&cell.flags)?;
@@ -43,7 +43,12 @@ fn raise(top: &mut Own, cell: &Entry) -> Result<(), AllocError>
 }
 
 /// The same with a directory's cell for a thing, where it has one.
-fn raise_by(top: &mut Own, names: &Names, file: &FileId, dir: &FileId) -> Result<(), AllocError>
+fn raise_by(
+    top: &mut Attributes,
+    names: &Names,
+    file: &FileId,
+    dir: &FileId,
+) -> Result<(), AllocError>
     ensures { OnOk result (top.new ≡ joined_with top.old (cell_at names.now dir.now file.now)) }
 {
     match names.entry(dir, file) {
@@ -60,8 +65,8 @@ pub(crate) fn greatest(
     names: &Names,
     dirs: &[FileId],
     file: &FileId,
-    own: &Own,
-) -> Result<Own, AllocError>
+    own: &Attributes,
+) -> Result<Attributes, AllocError>
     ensures { IfOk result (λ top. top ≡ greatest names.now file.now own.now dirs.now) }
 {
     let mut top = own.copy()?;
@@ -72,7 +77,7 @@ pub(crate) fn greatest(
 }
 
 /// Whether the thing itself does not take the greatest place.
-pub(crate) fn is_held_back(names: &Names, file: &FileId, own: &Own, top: &Own) -> bool
+pub(crate) fn is_held_back(names: &Names, file: &FileId, own: &Attributes, top: &Attributes) -> bool
     ensures { result ≡ is_held_back names.now.removed file.now own.now top.now }
 {
     is_dir(file)
@@ -82,7 +87,14 @@ pub(crate) fn is_held_back(names: &Names, file: &FileId, own: &Own, top: &Own) -
 }
 
 /// Whether the directory is to have a cell for the thing.
-fn wants(names: &Names, file: &FileId, own: &Own, top: &Own, back: bool, dir: &FileId) -> bool
+fn wants(
+    names: &Names,
+    file: &FileId,
+    own: &Attributes,
+    top: &Attributes,
+    back: bool,
+    dir: &FileId,
+) -> bool
     ensures { result ≡ wants names.now file.now own.now top.now back dir.now }
 {
     names.entry(dir, file).is_some()
@@ -91,7 +103,7 @@ fn wants(names: &Names, file: &FileId, own: &Own, top: &Own, back: bool, dir: &F
 }
 
 /// The place and flags as a cell for the thing.
-fn cell_for(file: &FileId, own: &Own) -> Result<Entry, AllocError>
+fn cell_for(file: &FileId, own: &Attributes) -> Result<Entry, AllocError>
     ensures { IfOk result (λ cell. cell ≡ cell_for file.now own.now) }
 {
     Ok(Entry {
@@ -102,7 +114,7 @@ fn cell_for(file: &FileId, own: &Own) -> Result<Entry, AllocError>
 }
 
 /// Whether a cell is another than the greatest.
-pub(crate) fn is_other_cell(held: &Entry, file: &FileId, top: &Own) -> bool
+pub(crate) fn is_other_cell(held: &Entry, file: &FileId, top: &Attributes) -> bool
     ensures { result ≡ not (is_same_entry held.now (cell_for file.now top.now)) }
 {
     !(held.child.compare(file).is_eq()
@@ -111,7 +123,7 @@ pub(crate) fn is_other_cell(held: &Entry, file: &FileId, top: &Own) -> bool
 }
 
 /// Whether the directory has another cell for the thing than the greatest, or none.
-fn differs(names: &Names, file: &FileId, top: &Own, dir: &FileId) -> bool
+fn differs(names: &Names, file: &FileId, top: &Attributes, dir: &FileId) -> bool
     ensures { result ≡ differs (cell_at names.now dir.now file.now) (cell_for file.now top.now) }
 {
     match names.entry(dir, file) {
@@ -121,7 +133,14 @@ fn differs(names: &Names, file: &FileId, top: &Own, dir: &FileId) -> bool
 }
 
 /// Whether the directory is to get the greatest: it is to have it, and has it not.
-fn gets(names: &Names, file: &FileId, own: &Own, top: &Own, back: bool, dir: &FileId) -> bool
+fn gets(
+    names: &Names,
+    file: &FileId,
+    own: &Attributes,
+    top: &Attributes,
+    back: bool,
+    dir: &FileId,
+) -> bool
     ensures { result ≡ gets names.now file.now own.now top.now back dir.now }
 {
     wants(names, file, own, top, back, dir) && differs(names, file, top, dir)
@@ -132,7 +151,7 @@ fn give(
     names: &mut Names,
     work: &mut Work,
     file: &FileId,
-    top: &Own,
+    top: &Attributes,
     dir: &FileId,
 ) -> Result<(), AllocError>
     ensures { OnOk result (state_of names.new work.new
@@ -148,8 +167,8 @@ fn offer(
     names: &mut Names,
     work: &mut Work,
     file: &FileId,
-    own: &Own,
-    top: &Own,
+    own: &Attributes,
+    top: &Attributes,
     back: bool,
     dir: &FileId,
 ) -> Result<(), AllocError>
@@ -169,8 +188,8 @@ fn spread(
     work: &mut Work,
     dirs: &[FileId],
     file: &FileId,
-    own: &Own,
-    top: &Own,
+    own: &Attributes,
+    top: &Attributes,
     back: bool,
 ) -> Result<(), AllocError>
     ensures { OnOk result (state_of names.new work.new
@@ -183,11 +202,15 @@ fn spread(
 }
 
 /// What the thing itself takes.
-pub(crate) fn own_taken(own: &Own, top: &Own, back: bool) -> Result<Own, AllocError>
+pub(crate) fn own_taken(
+    own: &Attributes,
+    top: &Attributes,
+    back: bool,
+) -> Result<Attributes, AllocError>
     ensures { IfOk result (λ taken. taken ≡ own_taken own.now top.now back) }
 {
     if back {
-        Ok(Own {
+        Ok(Attributes {
             place: own.place.copy()?,
             flags: top.flags.copy()?,
         })
@@ -200,8 +223,8 @@ fn take_other(
     names: &mut Names,
     work: &mut Work,
     file: &FileId,
-    own: &Own,
-    taken: Own,
+    own: &Attributes,
+    taken: Attributes,
 ) -> Result<(), AllocError>
     ensures { OnOk result (state_of names.new work.new
         ≡ took (state_of names.old work.old) file.now own.now taken) }
@@ -216,8 +239,8 @@ fn take(
     names: &mut Names,
     work: &mut Work,
     file: &FileId,
-    own: &Own,
-    taken: Own,
+    own: &Attributes,
+    taken: Attributes,
 ) -> Result<(), AllocError>
     ensures { OnOk result (state_of names.new work.new
         ≡ taking (state_of names.old work.old) file.now own.now taken) }
@@ -234,8 +257,8 @@ fn pass_to(
     work: &mut Work,
     dirs: &[FileId],
     file: &FileId,
-    own: &Own,
-    top: &Own,
+    own: &Attributes,
+    top: &Attributes,
 ) -> Result<(), AllocError>
     ensures { OnOk result (state_of names.new work.new
         ≡ passed_to (state_of names.old work.old) dirs.now file.now own.now top.now) }

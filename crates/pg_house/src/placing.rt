@@ -12,7 +12,7 @@ use crate::touching::{note_left, touch};
 use pg_base::{FileId, SharedBytes};
 use pg_edges::Key;
 use pg_msg::{Update, Work};
-use pg_names::{Names, Own};
+use pg_names::{Attributes, Names};
 use pg_register::{GoldFlags, Place};
 use std::alloc::AllocError;
 
@@ -55,7 +55,7 @@ fn make(names: &mut Names, work: &mut Work, file: &FileId, place: Place) -> Resu
     touch(work, *file, Key::Place)?;
     note_left(work, *file, &place_at(names, file)?)?;
     let flags = flags_at(names, file)?;
-    names.set_own(file, Own { place, flags });
+    names.set_own(file, Attributes { place, flags });
     Ok(())
 }
 

@@ -12,7 +12,7 @@ use crate::returning::is_root;
 use pg_base::FileId;
 use pg_edges::Key;
 use pg_msg::{Slot, Touched, Work};
-use pg_names::{Own, is_same_flag, is_same_place};
+use pg_names::{Attributes, is_same_flag, is_same_place};
 use pg_register::{Flag, GoldFlags, Place};
 use std::alloc::AllocError;
 
@@ -104,8 +104,8 @@ fn touch_place(work: &mut Work, file: FileId, own: &Place, taken: &Place) -> Res
 pub(crate) fn touch_own(
     work: &mut Work,
     file: FileId,
-    own: &Own,
-    taken: &Own,
+    own: &Attributes,
+    taken: &Attributes,
 ) -> Result<(), AllocError>
     ensures { OnOk result (work.new ≡ own_touched work.old file own.now taken.now) }
 {

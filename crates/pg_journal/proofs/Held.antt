@@ -10,11 +10,11 @@ use Rattle.pg_base.specs.declared.stamp.Stamp.{Stamp}
 use Rattle.pg_base.proofs.Parts.{decimal-without}
 use Rattle.pg_base.proofs.Spellings.{spelling-same}
 use Rattle.pg_register.specs.declared.place.Place.{Place}
-use Rattle.pg_trace.specs.declared.printed.Printed.{Printed}
-use Rattle.pg_trace.specs.declared.printed.Printed.TheVariants.{Replica, Nowhere}
-use Rattle.pg_trace.specs.declared.replica.Contents.{Contents}
-use Rattle.pg_trace.specs.declared.replica.Contents.TheVariants as contents
-use Rattle.pg_trace.specs.Printed.{contents_words, AreFirst, IsContents}
+use Rattle.pg_trace.specs.declared.journal_line.JournalLine.{JournalLine}
+use Rattle.pg_trace.specs.declared.journal_line.JournalLine.TheVariants.{Replica, Nowhere}
+use Rattle.pg_trace.specs.declared.replica.ShownContent.{ShownContent}
+use Rattle.pg_trace.specs.declared.replica.ShownContent.TheVariants as contents
+use Rattle.pg_trace.specs.JournalLine.{contents_words, AreFirst, IsContents}
 use Rattle.pg_journal.specs.Reading.{Reads}
 use Rattle.pg_journal.specs.declared.verb.Verb.TheVariants as verb
 use Rattle.pg_words.specs.ChoiceWord.{full_word, gold_word}
@@ -35,24 +35,24 @@ abbrev pub IsFileShown : List (List ℕ) → Type 0
 IsFileShown words =
     (s : List Stamp) × (k : ℕ) × (b : List ℕ) × AllByRecursion IsStamp s × (k < 2 ^ 64) × AreFirst b × (words ≡ contents_words (contents.File s k b))
 
-pub file_shown : (words : List (List ℕ)) (c : Contents) → IsContents File c → words ≡ contents_words c → IsFileShown words
+pub file_shown : (words : List (List ℕ)) (c : ShownContent) → IsContents File c → words ≡ contents_words c → IsFileShown words
 file_shown words (contents.File s k b) fits e = (s, k, b, fits.0, fits.1, fits.2, e)
 file_shown words (contents.Dir n) fits e = absurd fits
 
 -- a dash, and an id
-pub nowhere_is : (words : List (List ℕ)) (p : Printed) → Reads verb.At (codes "-" ∷ words) p → (f : FileId) × Fits f × (words ≡ spelling f ∷ [])
+pub nowhere_is : (words : List (List ℕ)) (p : JournalLine) → Reads verb.At (codes "-" ∷ words) p → (f : FileId) × Fits f × (words ≡ spelling f ∷ [])
 nowhere_is words (Nowhere f) h = (f, h.fits, ap behind h.behind)
 nowhere_is words (Replica r) h = let t = h.fits in absurd (no_dash r.server t.server (ap (word_at 0) h.behind))
 nowhere_is words p h = absurd (let v = h.verb in cc)
 
 -- something stands behind the id
-pub some_held : (n : ℕ) (f : FileId) (p : Printed) → n < 2 ^ 32 → Reads verb.At (decimal n ∷ spelling f ∷ []) p → ⊥
+pub some_held : (n : ℕ) (f : FileId) (p : JournalLine) → n < 2 ^ 32 → Reads verb.At (decimal n ∷ spelling f ∷ []) p → ⊥
 some_held n f (Replica r) lt h = let l = ap length h.behind in omega arith
 some_held n f (Nowhere g) lt h = no_dash n lt (sym (ap (word_at 0) h.behind))
 some_held n f p lt h = let v = h.verb in cc
 
 -- and that is the word of a gold flag
-pub gold_held : (n : ℕ) (f : FileId) (word : List ℕ) (rest : List (List ℕ)) (p : Printed) → n < 2 ^ 32 → ((g : Bool) → word ≡ gold_word g → ⊥) → Reads verb.At (decimal n ∷ spelling f ∷ word ∷ rest) p → ⊥
+pub gold_held : (n : ℕ) (f : FileId) (word : List ℕ) (rest : List (List ℕ)) (p : JournalLine) → n < 2 ^ 32 → ((g : Bool) → word ≡ gold_word g → ⊥) → Reads verb.At (decimal n ∷ spelling f ∷ word ∷ rest) p → ⊥
 gold_held n f word rest (Replica r) lt other h = other r.gold (ap (word_at 2) h.behind)
 gold_held n f word rest (Nowhere g) lt other h = no_dash n lt (sym (ap (word_at 0) h.behind))
 gold_held n f word rest p lt other h = let v = h.verb in cc
@@ -60,9 +60,9 @@ gold_held n f word rest p lt other h = let v = h.verb in cc
 -- what stands behind a replica's gold flag
 abbrev pub IsReplicaHeld : Kind → List (List ℕ) → Type 0
 IsReplicaHeld kind words =
-    (full : Bool) × (p : Place) × (c : Contents) × IsPlace p × IsContents kind c × (words ≡ full_word full ∷ codes "place" ∷ (place_words p ++ contents_words c))
+    (full : Bool) × (p : Place) × (c : ShownContent) × IsPlace p × IsContents kind c × (words ≡ full_word full ∷ codes "place" ∷ (place_words p ++ contents_words c))
 
-pub replica_is : (n : ℕ) (f : FileId) (g : Bool) (words : List (List ℕ)) (p : Printed) → Fits f → Reads verb.At (decimal n ∷ spelling f ∷ gold_word g ∷ words) p → IsReplicaHeld f.kind words
+pub replica_is : (n : ℕ) (f : FileId) (g : Bool) (words : List (List ℕ)) (p : JournalLine) → Fits f → Reads verb.At (decimal n ∷ spelling f ∷ gold_word g ∷ words) p → IsReplicaHeld f.kind words
 replica_is n f g words (Replica r) fits h =
     let t = h.fits in
     let same : r.id ≡ f = sym (spelling-same f r.id fits t.id_fits (ap (word_at 1) h.behind)) in

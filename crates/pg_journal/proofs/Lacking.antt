@@ -16,15 +16,15 @@ use Rattle.pg_event.proofs.Quiets.{quiet-lack}
 use Rattle.pg_event.proofs.Voids.{Lacks-void}
 use Rattle.pg_msg.proofs.Summaries.{summary-lack}
 use Rattle.pg_msg.proofs.Updates.{update-lack}
-use Rattle.pg_reply.proofs.ReplyLacks.{Lacks-gold, reply-lack, tick_reply}
-use Rattle.pg_trace.specs.declared.printed.Word.{Word}
-use Rattle.pg_trace.specs.declared.printed.Word.TheVariants as word
-use Rattle.pg_trace.specs.declared.printed.Printed.{Printed}
-use Rattle.pg_trace.specs.declared.printed.Printed.TheVariants as printed
-use Rattle.pg_trace.specs.declared.replica.Contents.{Contents}
-use Rattle.pg_trace.specs.declared.replica.Contents.TheVariants as contents
+use Rattle.pg_journal.proofs.ReplyLacks.{Lacks-gold, reply-lack, tick_reply}
+use Rattle.pg_trace.specs.declared.journal_line.AskedAt.{AskedAt}
+use Rattle.pg_trace.specs.declared.journal_line.AskedAt.TheVariants as word
+use Rattle.pg_trace.specs.declared.journal_line.JournalLine.{JournalLine}
+use Rattle.pg_trace.specs.declared.journal_line.JournalLine.TheVariants as printed
+use Rattle.pg_trace.specs.declared.replica.ShownContent.{ShownContent}
+use Rattle.pg_trace.specs.declared.replica.ShownContent.TheVariants as contents
 use Rattle.pg_trace.specs.declared.replica.ShownReplica.{ShownReplica}
-use Rattle.pg_trace.specs.Printed.{asked_word, contents_words, IsContents, IsPrinted, IsReplica}
+use Rattle.pg_trace.specs.JournalLine.{asked_word, contents_words, IsContents, IsPrinted, IsReplica}
 use Rattle.pg_journal.specs.declared.verb.Verb.{Verb}
 use Rattle.pg_journal.specs.declared.verb.Verb.TheVariants as verb
 use Rattle.pg_journal.specs.Reading.{answer_words, verb_word, verb_of, words_behind}
@@ -34,7 +34,7 @@ use Rattle.pg_words.proofs.Lacking.{Ends, literal, Lacks-decimal, Lacks-hex, Lac
 use Rattle.pg_words.proofs.Places.{place-lack}
 use Rattle.pg_words.proofs.Splitting.{Lacks}
 
-Lacks-asked : (c : ℕ) (w : Word) → Ends c → Lacks c (asked_word w)
+Lacks-asked : (c : ℕ) (w : AskedAt) → Ends c → Lacks c (asked_word w)
 Lacks-asked c word.Settle h = let low = h.low in literal c (codes "settle") (omega arith)
 Lacks-asked c word.Quiet h = let low = h.low in literal c (codes "quiet") (omega arith)
 Lacks-asked c word.End h = let low = h.low in literal c (codes "end") (omega arith)
@@ -67,7 +67,7 @@ Lacks-full c false h = let low = h.low in literal c (codes "filling") (omega ari
 answer-lack : (c : ℕ) (r : Reply) → Ends c → c < 33 → IsReply r → AllByRecursion (Lacks c) (answer_words r)
 answer-lack c r h low fits = (literal c (codes "->") (omega arith), reply-lack c r h low fits)
 
-contents-lack : (c : ℕ) (k : Kind) (x : Contents) → Ends c → c < 33 → IsContents k x → AllByRecursion (Lacks c) (contents_words x)
+contents-lack : (c : ℕ) (k : Kind) (x : ShownContent) → Ends c → c < 33 → IsContents k x → AllByRecursion (Lacks c) (contents_words x)
 contents-lack c File (contents.File s n b) h low fits = (
   literal c (codes "heads") (omega arith),
   (
@@ -99,7 +99,7 @@ replica-lack c r h low fits =
     )
 
 -- of each line that is no event
-pub behind-lack : (c : ℕ) (p : Printed) → Ends c → c < 33 → IsPrinted p → verb_of p ≢ verb.Event → AllByRecursion (Lacks c) (words_behind p)
+pub behind-lack : (c : ℕ) (p : JournalLine) → Ends c → c < 33 → IsPrinted p → verb_of p ≢ verb.Event → AllByRecursion (Lacks c) (words_behind p)
 behind-lack c (printed.Event n what) h low fits other = absurd (other refl)
 behind-lack c (printed.Call k n r) h low fits other = (Lacks-server c n h fits.0, (Lacks-call c k h, answer-lack c r h low fits.1))
 behind-lack c (printed.Tick n r) h low fits other = (Lacks-server c n h fits.0, answer-lack c r h low (tick_reply r fits.1))

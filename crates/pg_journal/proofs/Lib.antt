@@ -1,3 +1,7 @@
+pub mod RefusalSpelling
+pub mod ReplyLacks
+pub mod ReplySpelling
+pub mod ReplyWords
 pub mod Behinds
 pub mod Held
 pub mod Lacking

@@ -1,8 +1,8 @@
 -- A text has at most one reading: one journal, or one first other line.
 use Rattle.std.proofs.Common.{ℕ, ◌≡◌, List, sym, ap, ◌∙◌, inl, inr, ◌+◌, subst}
 use Rattle.pg_call.specs.declared.fault.Fault.{Fault}
-use Rattle.pg_trace.specs.declared.printed.Printed.{Printed}
-use Rattle.pg_trace.specs.Printed.{printed_body, journal_spelling, ArePrinted, IsPrinted}
+use Rattle.pg_trace.specs.declared.journal_line.JournalLine.{JournalLine}
+use Rattle.pg_trace.specs.JournalLine.{printed_body, journal_spelling, ArePrinted, IsPrinted}
 use Rattle.pg_journal.specs.Journal.{LacksPrinted, IsOtherFault, IsFirstOther}
 use Rattle.pg_journal.proofs.OnePrinted.{one_printed}
 use Rattle.pg_journal.proofs.PrintedWords.{printed_body-lacks}
@@ -28,10 +28,10 @@ one_other text n m f g a b =
     )
 
 -- no two journals have one spelling
-pub one_journal : (xs ys : List Printed) → ArePrinted xs → ArePrinted ys → journal_spelling xs ≡ journal_spelling ys → xs ≡ ys
+pub one_journal : (xs ys : List JournalLine) → ArePrinted xs → ArePrinted ys → journal_spelling xs ≡ journal_spelling ys → xs ≡ ys
 one_journal xs ys hx hy e = same_lines printed_body IsPrinted printed_body-lacks one_printed xs ys hx hy e
 
 -- a text that spells a journal has no first other line
-pub none_other_in : (text : List ℕ) (xs : List Printed) (m : ℕ) (f : Fault) → ArePrinted xs → text ≡ journal_spelling xs → IsFirstOther text m f → ⊥
+pub none_other_in : (text : List ℕ) (xs : List JournalLine) (m : ℕ) (f : Fault) → ArePrinted xs → text ≡ journal_spelling xs → IsFirstOther text m f → ⊥
 none_other_in text xs m f each same b =
     stops_nowhere printed_body IsPrinted printed_body-lacks b.good xs b.rest b.each each (sym same ∙ b.whole) (lacking b.rest b.other)

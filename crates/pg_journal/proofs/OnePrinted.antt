@@ -16,19 +16,19 @@ use Rattle.pg_event.proofs.Voids.{same_void}
 use Rattle.pg_msg.proofs.Summaries.{same_summary}
 use Rattle.pg_msg.proofs.Updates.{same_update}
 use Rattle.pg_register.specs.declared.place.Place.{Place}
-use Rattle.pg_reply.proofs.ReplyLacks.{tick_reply}
-use Rattle.pg_reply.proofs.ReplySpelling.{one_reply, same_gold}
+use Rattle.pg_journal.proofs.ReplyLacks.{tick_reply}
+use Rattle.pg_journal.proofs.ReplySpelling.{one_reply, same_gold}
 use Rattle.pg_sched.specs.declared.line.Line.{Line}
 use Rattle.pg_sched.specs.Line.{line_body, IsLine}
 use Rattle.pg_sched.proofs.OneLine.{one_line}
-use Rattle.pg_trace.specs.declared.printed.Word.{Word}
-use Rattle.pg_trace.specs.declared.printed.Word.TheVariants as word
-use Rattle.pg_trace.specs.declared.printed.Printed.{Printed}
-use Rattle.pg_trace.specs.declared.printed.Printed.TheVariants.{Event, Call, Tick, Void, Made, Sent, Asked, Replica, Nowhere, Meter}
-use Rattle.pg_trace.specs.declared.replica.Contents.{Contents}
-use Rattle.pg_trace.specs.declared.replica.Contents.TheVariants as contents
+use Rattle.pg_trace.specs.declared.journal_line.AskedAt.{AskedAt}
+use Rattle.pg_trace.specs.declared.journal_line.AskedAt.TheVariants as word
+use Rattle.pg_trace.specs.declared.journal_line.JournalLine.{JournalLine}
+use Rattle.pg_trace.specs.declared.journal_line.JournalLine.TheVariants.{Event, Call, Tick, Void, Made, Sent, Asked, Replica, Nowhere, Meter}
+use Rattle.pg_trace.specs.declared.replica.ShownContent.{ShownContent}
+use Rattle.pg_trace.specs.declared.replica.ShownContent.TheVariants as contents
 use Rattle.pg_trace.specs.declared.replica.ShownReplica.{ShownReplica}
-use Rattle.pg_trace.specs.Printed.{contents_words, printed_body, IsContents, IsPrinted, IsReplica}
+use Rattle.pg_trace.specs.JournalLine.{contents_words, printed_body, IsContents, IsPrinted, IsReplica}
 use Rattle.pg_journal.specs.declared.verb.Verb.{Verb}
 use Rattle.pg_journal.specs.declared.verb.Verb.TheVariants as verb
 use Rattle.pg_journal.specs.Reading.{verb_word, verb_of, words_behind}
@@ -74,12 +74,12 @@ first_cut word [] a rest h ha e = absurd (not_cut 32 word a rest h e)
 first_cut word (next ∷ words) a rest h ha e = (cut_same 32 word (join_with_byte 32 (next ∷ words)) a rest h ha e).0
 
 -- only an event's text begins as one
-pub event_only : (p : Printed) (rest : List ℕ) → printed_body p ≡ codes "event" ++ 32 ∷ rest → verb_of p ≡ verb.Event
+pub event_only : (p : JournalLine) (rest : List ℕ) → printed_body p ≡ codes "event" ++ 32 ∷ rest → verb_of p ≡ verb.Event
 event_only p rest e =
     one_verb (verb_of p) verb.Event
     (first_cut (verb_word (verb_of p)) (words_behind p) (codes "event") rest (Lacks-verb 32 (verb_of p) space) (Lacks-verb 32 verb.Event space) (ap (join_with_byte 32) (sym (spelled p)) ∙ e))
 
-same_contents : (k : Kind) (x y : Contents) → IsContents k x → IsContents k y → contents_words x ≡ contents_words y → x ≡ y
+same_contents : (k : Kind) (x y : ShownContent) → IsContents k x → IsContents k y → contents_words x ≡ contents_words y → x ≡ y
 same_contents File (contents.File s n b) (contents.File t m d) hx hy e =
     let heads = same_stamps s t hx.0 hy.0 (ap (word_at 1) e) in
     let count = decimal_injective n m hx.1 hy.1 (ap (word_at 3) e) in
@@ -97,7 +97,7 @@ same_full = search rules
 same_meter : (a b : MeterKind) → meter_word a ≡ meter_word b → a ≡ b
 same_meter = search rules
 
-replica_of_parts : (s t : ℕ) (f g : FileId) (a b c d : Bool) (p q : Place) (x y : Contents) → s ≡ t → f ≡ g → a ≡ b → c ≡ d → p ≡ q → x ≡ y
+replica_of_parts : (s t : ℕ) (f g : FileId) (a b c d : Bool) (p q : Place) (x y : ShownContent) → s ≡ t → f ≡ g → a ≡ b → c ≡ d → p ≡ q → x ≡ y
     → (let r : ShownReplica = record { server = s; id = f; gold = a; full = c; place = p; contents = x } in let u : ShownReplica = record { server = t; id = g; gold = b; full = d; place = q; contents = y } in r ≡ u)
 replica_of_parts s t f g a b c d p q x y es ef ea ec ep ex = cc
 
@@ -120,7 +120,7 @@ same_replica a b ha hb e =
     (same_contents a.id.kind a.contents b.contents ha.contents_fit (subst P (sym same_id) hb.contents_fit) (ap behind_place e))
 
 -- lines of one verb with the same words behind it are one
-same_behind : (x y : Printed) → IsPrinted x → IsPrinted y → verb_of x ≢ verb.Event → verb_of x ≡ verb_of y → words_behind x ≡ words_behind y → x ≡ y
+same_behind : (x y : JournalLine) → IsPrinted x → IsPrinted y → verb_of x ≢ verb.Event → verb_of x ≡ verb_of y → words_behind x ≡ words_behind y → x ≡ y
 same_behind (Event n what) y hx hy other v e = absurd (other refl)
 same_behind (Call a n r) (Call b k s) hx hy other v e =
     let server = same_server n k hx.0 hy.0 (ap (word_at 0) e) in
@@ -151,7 +151,7 @@ same_behind (Meter a n) (Meter b m) hx hy other v e =
     cc
 same_behind x y hx hy other v e = absurd (cc)
 
-same_other : (x y : Printed) → IsPrinted x → IsPrinted y → verb_of x ≢ verb.Event → verb_of y ≢ verb.Event → printed_body x ≡ printed_body y → x ≡ y
+same_other : (x y : JournalLine) → IsPrinted x → IsPrinted y → verb_of x ≢ verb.Event → verb_of y ≢ verb.Event → printed_body x ≡ printed_body y → x ≡ y
 same_other x y hx hy ox oy e =
     let words = sym (words-again x hx ox) ∙ ap (slice_split (λ b. eqb b 32)) e ∙ words-again y hy oy in
     let both = sym (spelled x) ∙ words ∙ spelled y in
@@ -165,7 +165,7 @@ same_event n k x y ln lk hx hy e =
     let line = one_line x y hx hy cut.1 in
     cc
 
-pub one_printed : (x y : Printed) → IsPrinted x → IsPrinted y → printed_body x ≡ printed_body y → x ≡ y
+pub one_printed : (x y : JournalLine) → IsPrinted x → IsPrinted y → printed_body x ≡ printed_body y → x ≡ y
 one_printed (Event n a) (Event k b) hx hy e = same_event n k a b hx.0 hy.0 hx.1 hy.1 e
 one_printed (Event n a) y hx hy e = absurd (let h = event_only y (decimal n ++ 32 ∷ line_body a) (sym e ∙ event_body n a) in cc)
 one_printed x (Event k b) hx hy e = absurd (let h = event_only x (decimal k ++ 32 ∷ line_body b) (e ∙ event_body k b) in cc)

@@ -2,13 +2,13 @@
 use Rattle.std.specs.Prelude.{ℕ, ◌≡◌, ◌≢◌, ◌+◌, ◌⊎◌, List, [], ◌∷◌, ◌++◌, length}
 use Rattle.pg_call.specs.declared.fault.Fault.{Fault}
 use Rattle.pg_call.specs.declared.fault.Fault.TheVariants.{End, Verb}
-use Rattle.pg_trace.specs.declared.printed.Printed.{Printed}
-use Rattle.pg_trace.specs.Printed.{printed_text, journal_spelling, IsPrinted, ArePrinted}
+use Rattle.pg_trace.specs.declared.journal_line.JournalLine.{JournalLine}
+use Rattle.pg_trace.specs.JournalLine.{printed_text, journal_spelling, IsPrinted, ArePrinted}
 
 -- the text goes on, and not with a line of a journal
 pub record LacksPrinted (text : List ℕ) : Type 0 where
   pub some : text ≢ []
-  pub none : (line : Printed) (rest : List ℕ) → IsPrinted line
+  pub none : (line : JournalLine) (rest : List ℕ) → IsPrinted line
       → text ≡ printed_text line ++ rest → ⊥
 
 -- a line feed stands in the text
@@ -21,7 +21,7 @@ IsOtherFault text fault = ((HasEnd text → ⊥) × (fault ≡ End)) ⊎ (HasEnd
 
 -- the line with this number is the first that is none of a journal, for this fault; the text's first line has number 1
 pub record IsFirstOther (text : List ℕ) (number : ℕ) (fault : Fault) : Type 0 where
-  pub good : List Printed
+  pub good : List JournalLine
   pub rest : List ℕ
   pub each : ArePrinted good
   pub whole : text ≡ journal_spelling good ++ rest

@@ -1,2 +1,4 @@
+pub mod Reason
+pub mod Told
 pub mod Reading
 pub mod Journal

@@ -11,9 +11,9 @@ use Rattle.pg_event.specs.Quiet.{quiet_words}
 use Rattle.pg_msg.specs.Text.{summary_words}
 use Rattle.pg_msg.specs.UpdateText.{update_spelling}
 use Rattle.pg_sched.specs.Line.{line_words}
-use Rattle.pg_trace.specs.declared.printed.Printed.{Printed}
-use Rattle.pg_trace.specs.declared.printed.Printed.TheVariants as printed
-use Rattle.pg_trace.specs.Printed.{asked_word, contents_words, IsPrinted}
+use Rattle.pg_trace.specs.declared.journal_line.JournalLine.{JournalLine}
+use Rattle.pg_trace.specs.declared.journal_line.JournalLine.TheVariants as printed
+use Rattle.pg_trace.specs.JournalLine.{asked_word, contents_words, IsPrinted}
 use Rattle.pg_journal.specs.declared.verb.Verb.{Verb}
 use Rattle.pg_journal.specs.declared.verb.Verb.TheVariants.{Event, Call, Tick, Void, Made, Sent, Asked, At, Meter}
 use Rattle.pg_words.specs.ChoiceWord.{full_word, gold_word}
@@ -32,7 +32,7 @@ verb_word At = codes "at"
 verb_word Meter = codes "meter"
 
 -- the verb of a line
-abbrev pub verb_of : Printed → Verb
+abbrev pub verb_of : JournalLine → Verb
 verb_of (printed.Event line what) = Event
 verb_of (printed.Tick server reply) = Tick
 verb_of (printed.Void line cause) = Void
@@ -57,7 +57,7 @@ abbrev pub told_words : ℕ → Reply → List (List ℕ)
 told_words server reply = decimal server ∷ answer_words reply
 
 -- the words of a line behind the first
-abbrev pub words_behind : Printed → List (List ℕ)
+abbrev pub words_behind : JournalLine → List (List ℕ)
 words_behind (printed.Event line what) = decimal line ∷ line_words what
 words_behind (printed.Call kind server reply) =
     decimal server ∷ call.kind_word kind ∷ answer_words reply
@@ -73,7 +73,7 @@ words_behind (printed.Nowhere what) = codes "-" ∷ id.spelling what ∷ []
 words_behind (printed.Meter kind value) = meter_word kind ∷ decimal value ∷ []
 
 -- the verb with these words behind it is the line
-pub record Reads (v : Verb) (words : List (List ℕ)) (line : Printed) : Type 0 where
+pub record Reads (v : Verb) (words : List (List ℕ)) (line : JournalLine) : Type 0 where
   pub fits : IsPrinted line
   pub verb : verb_of line ≡ v
   pub behind : words ≡ words_behind line

@@ -5,15 +5,15 @@ ghost use Rattle.std.specs.List.{AllByRecursion};
 ghost use Rattle.pg_sched.specs.declared.error.ReadError.TheVariants.{BadLine, OutOfMemory};
 ghost use Rattle.pg_call.specs.declared.fault.Fault.{Fault};
 ghost use Rattle.pg_journal.specs.Journal.{LacksPrinted, IsOtherFault, IsFirstOther};
-ghost use Rattle.pg_trace.specs.Printed.{IsPrinted, ArePrinted, printed_text, journal_spelling};
+ghost use Rattle.pg_trace.specs.JournalLine.{IsPrinted, ArePrinted, printed_text, journal_spelling};
 ghost use Rattle.pg_journal.specs.declared.journal.Stop.TheVariants as stop;
-ghost use Rattle.pg_trace.specs.declared.printed.Printed.{Printed};
+ghost use Rattle.pg_trace.specs.declared.journal_line.JournalLine.{JournalLine};
 
 use crate::reading::read_printed;
 use pg_base::{Items, cut_at};
 use pg_call::Fault;
 use pg_sched::ReadError;
-use pg_trace::Printed;
+use pg_trace::JournalLine;
 use std::alloc::{AllocError, Global};
 
 /// Why the next line was not read.
@@ -33,7 +33,7 @@ impl From<AllocError> for Stop {
 }
 
 /// The first line of a text, and what stands behind it.
-fn first_line(alloc: Global, text: &[u8]) -> Result<(Printed, &[u8]), Stop>
+fn first_line(alloc: Global, text: &[u8]) -> Result<(JournalLine, &[u8]), Stop>
     requires { 0 < length text.now }
     ensures found { IfOk result (λ x. IsPrinted x.0 × (text.now ≡ printed_text x.0 ++ x.1.now)) }
     ensures lacks { IfErr result (λ e. (f : Fault) → e ≡ stop.Other f → LacksPrinted text.now) }
@@ -49,7 +49,7 @@ fn first_line(alloc: Global, text: &[u8]) -> Result<(Printed, &[u8]), Stop>
 }
 
 /// The lines that a text spells.
-fn lines_of(alloc: Global, text: &[u8]) -> Result<Vec<Printed>, ReadError>
+fn lines_of(alloc: Global, text: &[u8]) -> Result<Vec<JournalLine>, ReadError>
     ensures found { IfOk result (λ v. ArePrinted v.items × (text.now ≡ journal_spelling v.items)) }
     ensures bad { IfErr result (λ e. (n : ℕ) (f : Fault) → e ≡ BadLine n f
         → IsFirstOther text.now n f) }
@@ -73,12 +73,12 @@ fn lines_of(alloc: Global, text: &[u8]) -> Result<Vec<Printed>, ReadError>
 /// The journal that the text spells. The text of no byte is the journal of no line.
 ///
 /// The error names the first line that is none of a journal: `End` where no line feed ends it, and else `Verb`.
-pub fn read_journal(alloc: Global, text: &[u8]) -> Result<Items<Printed>, ReadError>
+pub fn read_journal(alloc: Global, text: &[u8]) -> Result<Items<JournalLine>, ReadError>
     ensures found { IfOk result (λ j. AllByRecursion IsPrinted j
         × (text.now ≡ journal_spelling j)) }
     ensures bad { IfErr result (λ e. (n : ℕ) (f : Fault) → e ≡ BadLine n f
         → IsFirstOther text.now n f) }
-    ensures complete { (j : List Printed) → AllByRecursion IsPrinted j
+    ensures complete { (j : List JournalLine) → AllByRecursion IsPrinted j
         → text.now ≡ journal_spelling j
         → MatchResult result (λ r. r ≡ j) (λ e. e ≡ OutOfMemory) }
     ensures first { (n : ℕ) (f : Fault) → IsFirstOther text.now n f
@@ -90,6 +90,6 @@ pub fn read_journal(alloc: Global, text: &[u8]) -> Result<Items<Printed>, ReadEr
 
 /// No two journals have one spelling, so what was written is read again.
 pub fn one_journal()
-    ensures { (x y : List Printed) → ArePrinted x → ArePrinted y
+    ensures { (x y : List JournalLine) → ArePrinted x → ArePrinted y
         → journal_spelling x ≡ journal_spelling y → x ≡ y }
 {}

@@ -4,8 +4,8 @@ ghost use Rattle.std.specs.Prelude.{◌≡◌, ◌≢◌, ◌<◌, ◌++◌, ℕ
 ghost use Rattle.pg_journal.specs.Reading.{Reads, event_text, verb_of};
 ghost use Rattle.pg_journal.specs.declared.verb.Verb.{Verb};
 ghost use Rattle.pg_journal.specs.declared.verb.Verb.TheVariants as verb;
-ghost use Rattle.pg_trace.specs.Printed.{IsPrinted, printed_words, printed_body};
-ghost use Rattle.pg_trace.specs.declared.printed.Printed.{Printed};
+ghost use Rattle.pg_trace.specs.JournalLine.{IsPrinted, printed_words, printed_body};
+ghost use Rattle.pg_trace.specs.declared.journal_line.JournalLine.{JournalLine};
 
 use crate::replica::at_of;
 use crate::told::{is_tick_reply, read_answer, read_told};
@@ -15,7 +15,7 @@ use pg_call::CallKind;
 use pg_event::{read_meter_kind, read_quiet, read_void};
 use pg_msg::{read_summary, read_update};
 use pg_sched::read_line;
-use pg_trace::{Printed, Word};
+use pg_trace::{AskedAt, JournalLine};
 use pg_words::{first_word, first_words};
 use std::alloc::{AllocError, Global};
 
@@ -23,9 +23,9 @@ use std::alloc::{AllocError, Global};
 const TOO_MANY: usize = 107;
 
 /// What the client of a call was told, from the words behind `call`.
-fn call_of(alloc: Global, words: &[&[u8]]) -> Result<Option<Printed>, AllocError>
+fn call_of(alloc: Global, words: &[&[u8]]) -> Result<Option<JournalLine>, AllocError>
     ensures found { IfOk result (λ o. IfSome o (Reads verb.Call (map (λ w. w.now) words.now))) }
-    ensures none { IfOk result (λ o. IfNone o ((p : Printed)
+    ensures none { IfOk result (λ o. IfNone o ((p : JournalLine)
         → Reads verb.Call (map (λ w. w.now) words.now) p → ⊥)) }
 {
     let Some((server, words)) = first_word(words) else {
@@ -41,7 +41,7 @@ fn call_of(alloc: Global, words: &[&[u8]]) -> Result<Option<Printed>, AllocError
         return Ok(None);
     };
     match read_answer(alloc, words)? {
-        Some(reply) => Ok(Some(Printed::Call {
+        Some(reply) => Ok(Some(JournalLine::Call {
             kind,
             server,
             reply,
@@ -51,9 +51,9 @@ fn call_of(alloc: Global, words: &[&[u8]]) -> Result<Option<Printed>, AllocError
 }
 
 /// What came of a tick, from the words behind `tick`.
-fn tick_of(alloc: Global, words: &[&[u8]]) -> Result<Option<Printed>, AllocError>
+fn tick_of(alloc: Global, words: &[&[u8]]) -> Result<Option<JournalLine>, AllocError>
     ensures found { IfOk result (λ o. IfSome o (Reads verb.Tick (map (λ w. w.now) words.now))) }
-    ensures none { IfOk result (λ o. IfNone o ((p : Printed)
+    ensures none { IfOk result (λ o. IfNone o ((p : JournalLine)
         → Reads verb.Tick (map (λ w. w.now) words.now) p → ⊥)) }
 {
     let Some((server, reply)) = read_told(alloc, words)? else {
@@ -62,13 +62,13 @@ fn tick_of(alloc: Global, words: &[&[u8]]) -> Result<Option<Printed>, AllocError
     if !is_tick_reply(&reply) {
         return Ok(None);
     }
-    Ok(Some(Printed::Tick { server, reply }))
+    Ok(Some(JournalLine::Tick { server, reply }))
 }
 
 /// Which event changes nothing, from the words behind `void`.
-fn nothing_of(words: &[&[u8]]) -> Option<Printed>
+fn nothing_of(words: &[&[u8]]) -> Option<JournalLine>
     ensures found { IfSome result (Reads verb.Void (map (λ w. w.now) words.now)) }
-    ensures none { IfNone result ((p : Printed)
+    ensures none { IfNone result ((p : JournalLine)
         → Reads verb.Void (map (λ w. w.now) words.now) p → ⊥) }
 {
     let [line, cause] = words else {
@@ -76,45 +76,45 @@ fn nothing_of(words: &[&[u8]]) -> Option<Printed>
     };
     let line = number(line)?;
     let cause = read_void(cause)?;
-    Some(Printed::Void { line, cause })
+    Some(JournalLine::Void { line, cause })
 }
 
 /// Which version was made, from the words behind `made`.
-fn made_of(alloc: Global, words: &[&[u8]]) -> Result<Option<Printed>, AllocError>
+fn made_of(alloc: Global, words: &[&[u8]]) -> Result<Option<JournalLine>, AllocError>
     ensures found { IfOk result (λ o. IfSome o (Reads verb.Made (map (λ w. w.now) words.now))) }
-    ensures none { IfOk result (λ o. IfNone o ((p : Printed)
+    ensures none { IfOk result (λ o. IfNone o ((p : JournalLine)
         → Reads verb.Made (map (λ w. w.now) words.now) p → ⊥)) }
 {
     match read_update(alloc, words)? {
-        Some(update) => Ok(Some(Printed::Made(update))),
+        Some(update) => Ok(Some(JournalLine::Made(update))),
         None => Ok(None),
     }
 }
 
 /// Which message was sent, from the words behind `sent`.
-fn sent_of(words: &[&[u8]]) -> Option<Printed>
+fn sent_of(words: &[&[u8]]) -> Option<JournalLine>
     ensures found { IfSome result (Reads verb.Sent (map (λ w. w.now) words.now)) }
-    ensures none { IfNone result ((p : Printed)
+    ensures none { IfNone result ((p : JournalLine)
         → Reads verb.Sent (map (λ w. w.now) words.now) p → ⊥) }
 {
     let summary = read_summary(words)?;
-    Some(Printed::Sent(summary))
+    Some(JournalLine::Sent(summary))
 }
 
 /// Whether all is done, from the words behind this one.
-fn asked_of(word: Word, words: &[&[u8]]) -> Option<Printed>
+fn asked_of(word: AskedAt, words: &[&[u8]]) -> Option<JournalLine>
     ensures found { IfSome result (Reads (verb.Asked word) (map (λ w. w.now) words.now)) }
-    ensures none { IfNone result ((p : Printed)
+    ensures none { IfNone result ((p : JournalLine)
         → Reads (verb.Asked word) (map (λ w. w.now) words.now) p → ⊥) }
 {
     let quiet = read_quiet(words)?;
-    Some(Printed::Asked { word, quiet })
+    Some(JournalLine::Asked { word, quiet })
 }
 
 /// What a meter has counted, from the words behind `meter`.
-fn meter_of(words: &[&[u8]]) -> Option<Printed>
+fn meter_of(words: &[&[u8]]) -> Option<JournalLine>
     ensures found { IfSome result (Reads verb.Meter (map (λ w. w.now) words.now)) }
-    ensures none { IfNone result ((p : Printed)
+    ensures none { IfNone result ((p : JournalLine)
         → Reads verb.Meter (map (λ w. w.now) words.now) p → ⊥) }
 {
     let [kind, value] = words else {
@@ -122,13 +122,13 @@ fn meter_of(words: &[&[u8]]) -> Option<Printed>
     };
     let kind = read_meter_kind(kind)?;
     let value = number(value)?;
-    Some(Printed::Meter { kind, value })
+    Some(JournalLine::Meter { kind, value })
 }
 
 /// The line that begins with this verb and goes on with these words. An event's line is read by its text.
-fn verb_line(alloc: Global, verb: Verb, words: &[&[u8]]) -> Result<Option<Printed>, AllocError>
+fn verb_line(alloc: Global, verb: Verb, words: &[&[u8]]) -> Result<Option<JournalLine>, AllocError>
     ensures found { IfOk result (λ o. IfSome o (Reads verb (map (λ w. w.now) words.now))) }
-    ensures none { IfOk result (λ o. IfNone o ((p : Printed) → verb ≢ Verb.Event
+    ensures none { IfOk result (λ o. IfNone o ((p : JournalLine) → verb ≢ Verb.Event
         → Reads verb (map (λ w. w.now) words.now) p → ⊥)) }
 {
     match verb {
@@ -145,11 +145,11 @@ fn verb_line(alloc: Global, verb: Verb, words: &[&[u8]]) -> Result<Option<Printe
 }
 
 /// The line of these words, if it is no event's.
-fn line_of(alloc: Global, words: &[&[u8]]) -> Result<Option<Printed>, AllocError>
+fn line_of(alloc: Global, words: &[&[u8]]) -> Result<Option<JournalLine>, AllocError>
     ensures found { IfOk result (λ o. IfSome o (λ p. IsPrinted p
         × (map (λ w. w.now) words.now ≡ printed_words p))) }
-    ensures none { IfOk result (λ o. IfNone o ((p : Printed) → IsPrinted p → verb_of p ≢ verb.Event
-        → map (λ w. w.now) words.now ≡ printed_words p → ⊥)) }
+    ensures none { IfOk result (λ o. IfNone o ((p : JournalLine) → IsPrinted p
+        → verb_of p ≢ verb.Event → map (λ w. w.now) words.now ≡ printed_words p → ⊥)) }
 {
     let Some((word, rest)) = first_word(words) else {
         return Ok(None);
@@ -162,10 +162,10 @@ fn line_of(alloc: Global, words: &[&[u8]]) -> Result<Option<Printed>, AllocError
 }
 
 /// The line that the text spells, if it is no event's.
-fn other_of(alloc: Global, text: &[u8]) -> Result<Option<Printed>, AllocError>
+fn other_of(alloc: Global, text: &[u8]) -> Result<Option<JournalLine>, AllocError>
     ensures found { IfOk result (λ o. IfSome o (λ p. IsPrinted p × (text.now ≡ printed_body p))) }
-    ensures none { IfOk result (λ o. IfNone o ((p : Printed) → IsPrinted p → verb_of p ≢ verb.Event
-        → text.now ≡ printed_body p → ⊥)) }
+    ensures none { IfOk result (λ o. IfNone o ((p : JournalLine) → IsPrinted p
+        → verb_of p ≢ verb.Event → text.now ≡ printed_body p → ⊥)) }
 {
     let mut room = [b"".as_slice(); TOO_MANY];
     let count = first_words(text, &mut room);
@@ -192,11 +192,15 @@ fn event_parts(text: &[u8]) -> Option<(&[u8], &[u8])>
 }
 
 /// The event's line of these texts for its number and for the schedule's line.
-fn event_of(alloc: Global, number_text: &[u8], line: &[u8]) -> Result<Option<Printed>, AllocError>
+fn event_of(
+    alloc: Global,
+    number_text: &[u8],
+    line: &[u8],
+) -> Result<Option<JournalLine>, AllocError>
     requires { All (λ b. b ≢ 32) number_text.now }
     ensures found { IfOk result (λ o. IfSome o (λ p. IsPrinted p
         × (event_text number_text.now line.now ≡ printed_body p))) }
-    ensures none { IfOk result (λ o. IfNone o ((p : Printed) → IsPrinted p
+    ensures none { IfOk result (λ o. IfNone o ((p : JournalLine) → IsPrinted p
         → event_text number_text.now line.now ≡ printed_body p → ⊥)) }
 {
     let Some(number) = number(number_text) else {
@@ -205,13 +209,13 @@ fn event_of(alloc: Global, number_text: &[u8], line: &[u8]) -> Result<Option<Pri
     let Some(what) = read_line(alloc, line)? else {
         return Ok(None);
     };
-    Ok(Some(Printed::Event { line: number, what }))
+    Ok(Some(JournalLine::Event { line: number, what }))
 }
 
 /// The line that the text spells, which has no line feed: nothing where it spells none.
-pub(crate) fn read_printed(alloc: Global, text: &[u8]) -> Result<Option<Printed>, AllocError>
+pub(crate) fn read_printed(alloc: Global, text: &[u8]) -> Result<Option<JournalLine>, AllocError>
     ensures found { IfOk result (λ o. IfSome o (λ p. IsPrinted p × (text.now ≡ printed_body p))) }
-    ensures none { IfOk result (λ o. IfNone o ((p : Printed) → IsPrinted p
+    ensures none { IfOk result (λ o. IfNone o ((p : JournalLine) → IsPrinted p
         → text.now ≡ printed_body p → ⊥)) }
 {
     match event_parts(text) {

@@ -6,16 +6,16 @@ ghost use Rattle.pg_base.specs.declared.id.Kind.TheVariants as kind;
 ghost use Rattle.pg_journal.specs.Reading.{Reads};
 ghost use Rattle.pg_journal.specs.declared.verb.Verb.TheVariants as verb;
 ghost use Rattle.pg_register.specs.declared.place.Place.{Place};
-ghost use Rattle.pg_trace.specs.Printed.{IsContents, contents_words};
-ghost use Rattle.pg_trace.specs.declared.printed.Printed.{Printed};
-ghost use Rattle.pg_trace.specs.declared.replica.Contents.{Contents};
+ghost use Rattle.pg_trace.specs.JournalLine.{IsContents, contents_words};
+ghost use Rattle.pg_trace.specs.declared.journal_line.JournalLine.{JournalLine};
+ghost use Rattle.pg_trace.specs.declared.replica.ShownContent.{ShownContent};
 ghost use Rattle.pg_words.specs.ChoiceWord.{gold_word};
 ghost use Rattle.pg_words.specs.PlaceWords.{IsPlace, place_words};
 
+use crate::only::only_id;
 use pg_base::{FileId, Kind, NodeId, number, number_u32};
 use pg_register::Place;
-use pg_reply::only_id;
-use pg_trace::{Contents, Printed, ShownReplica};
+use pg_trace::{JournalLine, ShownContent, ShownReplica};
 use pg_words::{
     first_word, is_same, read_full, read_gold, read_hex_word, read_id, read_place, read_stamps,
 };
@@ -25,10 +25,10 @@ use std::alloc::{AllocError, Global};
 const MOST_SHOWN: usize = 16;
 
 /// What a file shows.
-fn file_contents_of(alloc: Global, words: &[&[u8]]) -> Result<Option<Contents>, AllocError>
+fn file_contents_of(alloc: Global, words: &[&[u8]]) -> Result<Option<ShownContent>, AllocError>
     ensures found { IfOk result (λ o. IfSome o (λ c. IsContents kind.File c
         × (map (λ w. w.now) words.now ≡ contents_words c))) }
-    ensures none { IfOk result (λ o. IfNone o ((c : Contents) → IsContents kind.File c
+    ensures none { IfOk result (λ o. IfNone o ((c : ShownContent) → IsContents kind.File c
         → map (λ w. w.now) words.now ≡ contents_words c → ⊥)) }
 {
     let [named, heads, shown, length, first] = words else {
@@ -49,7 +49,7 @@ fn file_contents_of(alloc: Global, words: &[&[u8]]) -> Result<Option<Contents>, 
     let Some(first) = read_hex_word(alloc, first, MOST_SHOWN)? else {
         return Ok(None);
     };
-    Ok(Some(Contents::File {
+    Ok(Some(ShownContent::File {
         heads,
         length,
         first,
@@ -57,10 +57,10 @@ fn file_contents_of(alloc: Global, words: &[&[u8]]) -> Result<Option<Contents>, 
 }
 
 /// How many names a directory shows.
-fn dir_contents_of(words: &[&[u8]]) -> Option<Contents>
+fn dir_contents_of(words: &[&[u8]]) -> Option<ShownContent>
     ensures found { IfSome result (λ c. IsContents kind.Dir c
         × (map (λ w. w.now) words.now ≡ contents_words c)) }
-    ensures none { IfNone result ((c : Contents) → IsContents kind.Dir c
+    ensures none { IfNone result ((c : ShownContent) → IsContents kind.Dir c
         → map (λ w. w.now) words.now ≡ contents_words c → ⊥) }
 {
     let [named, count] = words else {
@@ -69,14 +69,18 @@ fn dir_contents_of(words: &[&[u8]]) -> Option<Contents>
     if !is_same(named, b"lists") {
         return None;
     }
-    Some(Contents::Dir(number(count)?))
+    Some(ShownContent::Dir(number(count)?))
 }
 
 /// What a file or a directory shows.
-fn contents_of(alloc: Global, kind: Kind, words: &[&[u8]]) -> Result<Option<Contents>, AllocError>
+fn contents_of(
+    alloc: Global,
+    kind: Kind,
+    words: &[&[u8]],
+) -> Result<Option<ShownContent>, AllocError>
     ensures found { IfOk result (λ o. IfSome o (λ c. IsContents kind c
         × (map (λ w. w.now) words.now ≡ contents_words c))) }
-    ensures none { IfOk result (λ o. IfNone o ((c : Contents) → IsContents kind c
+    ensures none { IfOk result (λ o. IfNone o ((c : ShownContent) → IsContents kind c
         → map (λ w. w.now) words.now ≡ contents_words c → ⊥)) }
 {
     match kind {
@@ -126,11 +130,11 @@ fn replica_of(
     id: FileId,
     gold: bool,
     words: &[&[u8]],
-) -> Result<Option<Printed>, AllocError>
+) -> Result<Option<JournalLine>, AllocError>
     requires { Fits id }
     ensures found { IfOk result (λ o. IfSome o (Reads verb.At
         (decimal server ∷ spelling id ∷ gold_word gold ∷ map (λ w. w.now) words.now))) }
-    ensures none { IfOk result (λ o. IfNone o ((p : Printed) → Reads verb.At
+    ensures none { IfOk result (λ o. IfNone o ((p : JournalLine) → Reads verb.At
         (decimal server ∷ spelling id ∷ gold_word gold ∷ map (λ w. w.now) words.now) p → ⊥)) }
 {
     let Some((full, words)) = first_word(words) else {
@@ -145,7 +149,7 @@ fn replica_of(
     let Some(contents) = contents_of(alloc, id.kind, words)? else {
         return Ok(None);
     };
-    Ok(Some(Printed::Replica(ShownReplica {
+    Ok(Some(JournalLine::Replica(ShownReplica {
         server,
         id,
         gold,
@@ -161,11 +165,11 @@ fn shown_of(
     server: NodeId,
     id: FileId,
     words: &[&[u8]],
-) -> Result<Option<Printed>, AllocError>
+) -> Result<Option<JournalLine>, AllocError>
     requires { Fits id }
     ensures found { IfOk result (λ o. IfSome o (Reads verb.At
         (decimal server ∷ spelling id ∷ map (λ w. w.now) words.now))) }
-    ensures none { IfOk result (λ o. IfNone o ((p : Printed) → Reads verb.At
+    ensures none { IfOk result (λ o. IfNone o ((p : JournalLine) → Reads verb.At
         (decimal server ∷ spelling id ∷ map (λ w. w.now) words.now) p → ⊥)) }
 {
     let Some((word, rest)) = first_word(words) else {
@@ -178,23 +182,23 @@ fn shown_of(
 }
 
 /// What no server holds, from the words behind the dash.
-fn nowhere_of(words: &[&[u8]]) -> Option<Printed>
+fn nowhere_of(words: &[&[u8]]) -> Option<JournalLine>
     ensures found { IfSome result (Reads verb.At (codes "-" ∷ map (λ w. w.now) words.now)) }
-    ensures none { IfNone result ((p : Printed)
+    ensures none { IfNone result ((p : JournalLine)
         → Reads verb.At (codes "-" ∷ map (λ w. w.now) words.now) p → ⊥) }
 {
     let Some(id) = only_id(words) else {
         return None;
     };
-    Some(Printed::Nowhere(id))
+    Some(JournalLine::Nowhere(id))
 }
 
 /// What a server shows, from the words behind the one for the server, which is no dash.
-fn held_of(alloc: Global, server: &[u8], words: &[&[u8]]) -> Result<Option<Printed>, AllocError>
+fn held_of(alloc: Global, server: &[u8], words: &[&[u8]]) -> Result<Option<JournalLine>, AllocError>
     requires { server.now ≢ codes "-" }
     ensures found { IfOk result (λ o. IfSome o (Reads verb.At
         (server.now ∷ map (λ w. w.now) words.now))) }
-    ensures none { IfOk result (λ o. IfNone o ((p : Printed) → Reads verb.At
+    ensures none { IfOk result (λ o. IfNone o ((p : JournalLine) → Reads verb.At
         (server.now ∷ map (λ w. w.now) words.now) p → ⊥)) }
 {
     let Some(server) = number_u32(server) else {
@@ -210,9 +214,9 @@ fn held_of(alloc: Global, server: &[u8], words: &[&[u8]]) -> Result<Option<Print
 }
 
 /// What a server shows or no server holds, from the words behind `at`.
-pub(crate) fn at_of(alloc: Global, words: &[&[u8]]) -> Result<Option<Printed>, AllocError>
+pub(crate) fn at_of(alloc: Global, words: &[&[u8]]) -> Result<Option<JournalLine>, AllocError>
     ensures found { IfOk result (λ o. IfSome o (Reads verb.At (map (λ w. w.now) words.now))) }
-    ensures none { IfOk result (λ o. IfNone o ((p : Printed)
+    ensures none { IfOk result (λ o. IfNone o ((p : JournalLine)
         → Reads verb.At (map (λ w. w.now) words.now) p → ⊥)) }
 {
     let Some((word, rest)) = first_word(words) else {

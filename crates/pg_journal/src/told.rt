@@ -5,9 +5,9 @@ ghost use Rattle.pg_call.specs.Reply.{IsReply, IsTickReply};
 ghost use Rattle.pg_call.specs.declared.reply.Reply.{Reply};
 ghost use Rattle.pg_journal.specs.Reading.{answer_words, told_words};
 
+use crate::reply::read_reply;
 use pg_base::{NodeId, number_u32};
 use pg_call::{Refusal, Reply};
-use pg_reply::read_reply;
 use pg_words::{first_word, is_same};
 use std::alloc::{AllocError, Global};
 

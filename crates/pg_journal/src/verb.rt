@@ -4,7 +4,7 @@ ghost use Rattle.std.specs.Prelude.{◌≡◌, ◌≢◌, IfSome, IfNone};
 ghost use Rattle.pg_journal.specs.Reading.{verb_word};
 ghost use Rattle.pg_journal.specs.declared.verb.Verb.{Verb};
 
-use pg_trace::Word;
+use pg_trace::AskedAt;
 
 /// What a line of a journal is, as its first word tells.
 #[derive(Clone, Copy, Debug, PartialEq, Eq)]
@@ -15,7 +15,7 @@ pub(crate) enum Verb {
     Void,
     Made,
     Sent,
-    Asked(Word),
+    Asked(AskedAt),
     At,
     Meter,
 }
@@ -33,9 +33,9 @@ impl Verb {
             b"void" => Verb::Void,
             b"made" => Verb::Made,
             b"sent" => Verb::Sent,
-            b"settle" => Verb::Asked(Word::Settle),
-            b"quiet" => Verb::Asked(Word::Quiet),
-            b"end" => Verb::Asked(Word::End),
+            b"settle" => Verb::Asked(AskedAt::Settle),
+            b"quiet" => Verb::Asked(AskedAt::Quiet),
+            b"end" => Verb::Asked(AskedAt::End),
             b"at" => Verb::At,
             b"meter" => Verb::Meter,
             _ => return None,

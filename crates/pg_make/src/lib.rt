@@ -7,6 +7,3 @@ mod event;
 mod making;
 
 pub use making::schedule;
-
-#[cfg(test)]
-mod tests;

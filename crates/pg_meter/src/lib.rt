@@ -4,8 +4,6 @@
 mod counter;
 mod meter;
 mod note;
-#[cfg(test)]
-mod tests;
 
 pub use counter::Counter;
 pub use meter::{Meter, see_all};

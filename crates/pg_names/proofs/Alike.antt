@@ -11,7 +11,7 @@ use Rattle.pg_base.proofs.Orders.{is_same_file-true, is_same_file-refl, stamp_of
 use Rattle.pg_register.specs.declared.flag.Flag.{Flag}
 use Rattle.pg_register.specs.declared.place.Place.{Place}
 use Rattle.pg_entries.specs.declared.entry.Entry.{Entry}
-use Rattle.pg_names.specs.declared.own.Own.{Own}
+use Rattle.pg_names.specs.declared.attributes.Attributes.{Attributes}
 use Rattle.pg_names.specs.Same.{is_same_entry, is_same_flag, is_same_flags, is_same_own, is_same_place, is_same_stamp, is_same_truth}
 
 truth-true : (a b : Bool) → is_same_truth a b ≡ true → a ≡ b
@@ -78,15 +78,15 @@ pub flags-refl : (a : List Flag) → is_same_flags a a ≡ true
 flags-refl [] = refl
 flags-refl (f ∷ fs) = and_from (is_same_flag f f) _ (flag-refl f) (flags-refl fs)
 
-pub own_of_parts : (p q : Place) (fs gs : List Flag) → p ≡ q → fs ≡ gs → ◌≡◌ {A = Own} (record { place = p; flags = fs }) (record { place = q; flags = gs })
+pub own_of_parts : (p q : Place) (fs gs : List Flag) → p ≡ q → fs ≡ gs → ◌≡◌ {A = Attributes} (record { place = p; flags = fs }) (record { place = q; flags = gs })
 own_of_parts p q fs gs a b = cc
 
-pub own-true : (a b : Own) → is_same_own a b ≡ true → a ≡ b
+pub own-true : (a b : Attributes) → is_same_own a b ≡ true → a ≡ b
 own-true a b h =
     let x = and_parts (is_same_place a.place b.place) _ h in
     own_of_parts a.place b.place a.flags b.flags (place-true a.place b.place x.0) (flags-true a.flags b.flags x.1)
 
-pub own-refl : (a : Own) → is_same_own a a ≡ true
+pub own-refl : (a : Attributes) → is_same_own a a ≡ true
 own-refl a = and_from (is_same_place a.place a.place) _ (place-refl a.place) (flags-refl a.flags)
 
 pub entry_of_parts : (c d : FileId) (p q : Place) (fs gs : List Flag) → c ≡ d → p ≡ q → fs ≡ gs → ◌≡◌ {A = Entry} (record { child = c; place = p; flags = fs }) (record { child = d; place = q; flags = gs })

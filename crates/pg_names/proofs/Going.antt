@@ -10,24 +10,24 @@ use Rattle.pg_base.specs.Id.{file_cmp}
 use Rattle.pg_base.proofs.Entries.{entries_from_lookup}
 use Rattle.pg_base.proofs.Maps.{lookup-where_key}
 use Rattle.pg_base.proofs.Orders.{file_exact, file_total}
-use Rattle.pg_names.specs.Names.{HeldValue, NamesValue}
+use Rattle.pg_names.specs.Names.{InodeValue, NamesValue}
 
 abbrev Order : Type 0
 Order = FileId → FileId → Ordering
 
 abbrev Things : Type 0
-Things = List (FileId × HeldValue)
+Things = List (FileId × InodeValue)
 
 -- ---- those whose keys pass
 
-keys_by : (p : FileId → Bool) (e : FileId × HeldValue) (es left : Things) (t : Bool) → p e.0 ≡ t → keys_of left ≡ filter p (keys_of es)
+keys_by : (p : FileId → Bool) (e : FileId × InodeValue) (es left : Things) (t : Bool) → p e.0 ≡ t → keys_of left ≡ filter p (keys_of es)
     → keys_of (cond t (e ∷ left) left) ≡ cond t (e.0 ∷ filter p (keys_of es)) (filter p (keys_of es))
 keys_by p e es left true is rest = ap (λ ks. e.0 ∷ ks) rest
 keys_by p e es left false is rest = rest
 
 keys_where : (p : FileId → Bool) (es : Things) → keys_of (filter (λ e. p e.0) es) ≡ filter p (keys_of es)
 keys_where p [] = refl
-keys_where p (e ∷ es) = keys_by p e es (filter (λ (x : FileId × HeldValue). p x.0) es) (p e.0) refl (keys_where p es)
+keys_where p (e ∷ es) = keys_by p e es (filter (λ (x : FileId × InodeValue). p x.0) es) (p e.0) refl (keys_where p es)
 
 sorted_where : (p : FileId → Bool) (es : Things) → IsStrictlySortedBy file_cmp (keys_of es)
     → IsStrictlySortedBy file_cmp (keys_of (filter (λ e. p e.0) es))
@@ -38,7 +38,7 @@ sorted_where p es s = subst (IsStrictlySortedBy file_cmp) (sym (keys_where p es)
 abbrev without : FileId → FileId → Bool
 without file k = not (is_at (file_cmp file) k)
 
-turned : (t : Bool) (o : Option HeldValue) → cond t None o ≡ cond (not t) o None
+turned : (t : Bool) (o : Option InodeValue) → cond t None o ≡ cond (not t) o None
 turned true o = refl
 turned false o = refl
 

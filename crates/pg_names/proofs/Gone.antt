@@ -8,8 +8,8 @@ use Rattle.pg_base.specs.Id.{file_cmp, is_same_file}
 use Rattle.pg_base.proofs.Maps.{lookup-where_key}
 use Rattle.pg_base.proofs.Orders.{file_exact, is_same_file-refl}
 use Rattle.pg_entries.specs.declared.entry.Entry.{Entry}
-use Rattle.pg_names.specs.declared.own.Own.{Own}
-use Rattle.pg_names.specs.Names.{HeldValue, NamesValue, cell_at, entry_in, is_held, known, let_go, own_at, own_of}
+use Rattle.pg_names.specs.declared.attributes.Attributes.{Attributes}
+use Rattle.pg_names.specs.Names.{InodeValue, NamesValue, cell_at, entry_in, is_held, known, let_go, own_at, own_of}
 
 module _ (s : NamesValue) (f : FileId) where
   pub gone_known : (q : FileId) → known (let_go s f) q ≡ cond (not (is_same_file f q)) (known s q) None
@@ -31,20 +31,20 @@ module _ (s : NamesValue) (f : FileId) where
   gone_cell_other q g apart = ap (entry_in g) (gone_other q apart)
 
   -- what is found then is of another, and was found before
-  stayed : (q : FileId) (x : HeldValue) (t : Bool) → is_same_file f q ≡ t → cond (not t) (known s q) None ≡ Some x
+  stayed : (q : FileId) (x : InodeValue) (t : Bool) → is_same_file f q ≡ t → cond (not t) (known s q) None ≡ Some x
       → (is_same_file f q ≡ false) × (known s q ≡ Some x)
   stayed q x false apart h = (apart, h)
   stayed q x true same h = absurd (none-some x h)
 
-  pub gone_stayed : (q : FileId) (x : HeldValue) → known (let_go s f) q ≡ Some x → (is_same_file f q ≡ false) × (known s q ≡ Some x)
+  pub gone_stayed : (q : FileId) (x : InodeValue) → known (let_go s f) q ≡ Some x → (is_same_file f q ≡ false) × (known s q ≡ Some x)
   gone_stayed q x h = stayed q x (is_same_file f q) refl (sym (gone_known q) ∙ h)
 
-  own_stayed : (q : FileId) (b : Own) (t : Bool) → is_same_file f q ≡ t → own_of (cond (not t) (known s q) None) ≡ Some b
+  own_stayed : (q : FileId) (b : Attributes) (t : Bool) → is_same_file f q ≡ t → own_of (cond (not t) (known s q) None) ≡ Some b
       → (is_same_file f q ≡ false) × (own_at s q ≡ Some b)
   own_stayed q b false apart h = (apart, h)
   own_stayed q b true same h = absurd (none-some b h)
 
-  pub gone_own : (q : FileId) (b : Own) → own_at (let_go s f) q ≡ Some b → (is_same_file f q ≡ false) × (own_at s q ≡ Some b)
+  pub gone_own : (q : FileId) (b : Attributes) → own_at (let_go s f) q ≡ Some b → (is_same_file f q ≡ false) × (own_at s q ≡ Some b)
   gone_own q b h = own_stayed q b (is_same_file f q) refl (sym (ap own_of (gone_known q)) ∙ h)
 
   cell_stayed : (q g : FileId) (e : Entry) (t : Bool) → is_same_file f q ≡ t → entry_in g (cond (not t) (known s q) None) ≡ Some e
@@ -61,11 +61,11 @@ module _ (s : NamesValue) (f : FileId) where
   held_stayed q true same h = absurd (false≢true h)
 
   pub gone_held : (q : FileId) → is_held (let_go s f) q ≡ true → (is_same_file f q ≡ false) × (is_held s q ≡ true)
-  gone_held q h = held_stayed q (is_same_file f q) refl (sym (ap (λ (o : Option HeldValue). is_some o) (gone_known q)) ∙ h)
+  gone_held q h = held_stayed q (is_same_file f q) refl (sym (ap (λ (o : Option InodeValue). is_some o) (gone_known q)) ∙ h)
 
   away_stayed : (q : FileId) (t : Bool) → is_held s q ≡ false → is_some (cond (not t) (known s q) None) ≡ false
   away_stayed q false h = h
   away_stayed q true h = refl
 
   pub gone_away : (q : FileId) → is_held s q ≡ false → is_held (let_go s f) q ≡ false
-  gone_away q h = ap (λ (o : Option HeldValue). is_some o) (gone_known q) ∙ away_stayed q (is_same_file f q) h
+  gone_away q h = ap (λ (o : Option InodeValue). is_some o) (gone_known q) ∙ away_stayed q (is_same_file f q) h

@@ -5,41 +5,41 @@ use Rattle.std.specs.Map.{lookup, set_value}
 use Rattle.std.specs.BTreeMap.{is_at, insert_entry}
 use Rattle.pg_base.specs.declared.id.FileId.{FileId}
 use Rattle.pg_base.specs.Id.{file_cmp}
-use Rattle.pg_names.specs.declared.own.Own.{Own}
-use Rattle.pg_names.specs.Names.{HeldValue, NamesValue, begin, changed, known, new_held, own_at, own_of, update, with_held}
+use Rattle.pg_names.specs.declared.attributes.Attributes.{Attributes}
+use Rattle.pg_names.specs.Names.{InodeValue, NamesValue, begin, changed, known, new_held, own_at, own_of, update, with_held}
 
 abbrev pub Order : Type 0
 Order = FileId → FileId → Ordering
 
 -- the names of a server's parts
-abbrev pub names_of : ℕ → ℕ → List ℕ → List (FileId × HeldValue) → NamesValue
+abbrev pub names_of : ℕ → ℕ → List ℕ → List (FileId × InodeValue) → NamesValue
 names_of server last removed es = record { server = server; last = last; removed = removed; held = es }
 
 -- what is held of a thing is written
-pub held_put : (R : Order) → R ≡ file_cmp → (server last : ℕ) (removed : List ℕ) (es fs : List (FileId × HeldValue)) (file : FileId) (x : HeldValue) → fs ≡ set_value (is_at (R file)) es x → names_of server last removed fs ≡ with_held (names_of server last removed es) file x
+pub held_put : (R : Order) → R ≡ file_cmp → (server last : ℕ) (removed : List ℕ) (es fs : List (FileId × InodeValue)) (file : FileId) (x : InodeValue) → fs ≡ set_value (is_at (R file)) es x → names_of server last removed fs ≡ with_held (names_of server last removed es) file x
 held_put R same server last removed es fs file x h = ap (names_of server last removed) (subst (λ (r : Order). fs ≡ set_value (is_at (r file)) es x) same h)
 
-found : (R : Order) → R ≡ file_cmp → (es : List (FileId × HeldValue)) (file : FileId) (x : HeldValue) → lookup (is_at (R file)) es ≡ Some x → lookup (is_at (file_cmp file)) es ≡ Some x
+found : (R : Order) → R ≡ file_cmp → (es : List (FileId × InodeValue)) (file : FileId) (x : InodeValue) → lookup (is_at (R file)) es ≡ Some x → lookup (is_at (file_cmp file)) es ≡ Some x
 found R same es file x h = subst (λ (r : Order). lookup (is_at (r file)) es ≡ Some x) same h
 
 -- and stood there before
-pub update_there : (R : Order) → R ≡ file_cmp → (s t : NamesValue) (file : FileId) (change : HeldValue → HeldValue) (x y : HeldValue) → lookup (is_at (R file)) s.held ≡ Some x → y ≡ change x → t ≡ with_held s file y → t ≡ update s file change
+pub update_there : (R : Order) → R ≡ file_cmp → (s t : NamesValue) (file : FileId) (change : InodeValue → InodeValue) (x y : InodeValue) → lookup (is_at (R file)) s.held ≡ Some x → y ≡ change x → t ≡ with_held s file y → t ≡ update s file change
 update_there R same s t file change x y there new h = h ∙ ap (with_held s file) new ∙ sym (ap (changed s file change) (found R same s.held file x there))
 
 -- where it did not stand there, nothing changes
-pub update_absent : (R : Order) → R ≡ file_cmp → (s : NamesValue) (file : FileId) (change : HeldValue → HeldValue) → lookup (is_at (R file)) s.held ≡ None → s ≡ update s file change
+pub update_absent : (R : Order) → R ≡ file_cmp → (s : NamesValue) (file : FileId) (change : InodeValue → InodeValue) → lookup (is_at (R file)) s.held ≡ None → s ≡ update s file change
 update_absent R same s file change h = sym (ap (changed s file change) (subst (λ (r : Order). lookup (is_at (r file)) s.held ≡ None) same h))
 
 -- one thing more is held
-pub new_put : (R : Order) → R ≡ file_cmp → (server last : ℕ) (removed : List ℕ) (es fs : List (FileId × HeldValue)) (file : FileId) (own : Own) (full : Bool) (x : HeldValue) → x ≡ new_held own full → fs ≡ insert_entry R es file x → names_of server last removed fs ≡ begin (names_of server last removed es) file own full
+pub new_put : (R : Order) → R ≡ file_cmp → (server last : ℕ) (removed : List ℕ) (es fs : List (FileId × InodeValue)) (file : FileId) (own : Attributes) (full : Bool) (x : InodeValue) → x ≡ new_held own full → fs ≡ insert_entry R es file x → names_of server last removed fs ≡ begin (names_of server last removed es) file own full
 new_put R same server last removed es fs file own full x is h =
     ap (names_of server last removed) (subst (λ (r : Order). fs ≡ insert_entry r es file x) same h ∙ ap (insert_entry file_cmp es file) is)
 
 -- what was found there
-pub known_found : (R : Order) → R ≡ file_cmp → (s : NamesValue) (file : FileId) (x : HeldValue) → lookup (is_at (R file)) s.held ≡ Some x → known s file ≡ Some x
+pub known_found : (R : Order) → R ≡ file_cmp → (s : NamesValue) (file : FileId) (x : InodeValue) → lookup (is_at (R file)) s.held ≡ Some x → known s file ≡ Some x
 known_found R same s file x h = found R same s.held file x h
 
-pub own_found : (R : Order) → R ≡ file_cmp → (s : NamesValue) (file : FileId) (x : HeldValue) → lookup (is_at (R file)) s.held ≡ Some x → own_at s file ≡ Some x.own
+pub own_found : (R : Order) → R ≡ file_cmp → (s : NamesValue) (file : FileId) (x : InodeValue) → lookup (is_at (R file)) s.held ≡ Some x → own_at s file ≡ Some x.own
 own_found R same s file x h = ap own_of (found R same s.held file x h)
 
 pub known_absent : (R : Order) → R ≡ file_cmp → (s : NamesValue) (file : FileId) → lookup (is_at (R file)) s.held ≡ None → known s file ≡ None

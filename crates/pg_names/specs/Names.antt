@@ -17,14 +17,14 @@ use Rattle.pg_register.specs.Place.{blank_place, newer_place}
 use Rattle.pg_entries.specs.declared.entry.Entry.{Entry}
 use Rattle.pg_entries.specs.Entry.{brings, entry_of, put_entry}
 use Rattle.pg_entries.specs.Entry as entries
-use Rattle.pg_names.specs.declared.own.Own.{Own}
+use Rattle.pg_names.specs.declared.attributes.Attributes.{Attributes}
 
 -- full: it has all that the replica had from which it was filled; else it is filling
 -- own: the thing's own place and flags
 -- entries: of a directory, by child
-pub record HeldValue : Type 0 where
+pub record InodeValue : Type 0 where
   pub full : Bool
-  pub own : Own
+  pub own : Attributes
   pub entries : List (FileId × Entry)
 
 -- last: the greatest time of a stamp that the server made or took
@@ -34,7 +34,7 @@ pub record NamesValue : Type 0 where
   pub server : ℕ
   pub last : ℕ
   pub removed : List ℕ
-  pub held : List (FileId × HeldValue)
+  pub held : List (FileId × InodeValue)
 
 abbrev pub is_dir_kind : Kind → Bool
 is_dir_kind Dir = true
@@ -45,14 +45,14 @@ is_dir file = is_dir_kind file.kind
 
 -- ---- what is held
 
-abbrev pub known : NamesValue → FileId → Option HeldValue
+abbrev pub known : NamesValue → FileId → Option InodeValue
 known names file = lookup (is_at (file_cmp file)) names.held
 
-abbrev pub own_of : Option HeldValue → Option Own
+abbrev pub own_of : Option InodeValue → Option Attributes
 own_of None = None
 own_of (Some x) = Some x.own
 
-abbrev pub entry_in : FileId → Option HeldValue → Option Entry
+abbrev pub entry_in : FileId → Option InodeValue → Option Entry
 entry_in child None = None
 entry_in child (Some x) = entry_of x.entries child
 
@@ -60,7 +60,7 @@ entry_in child (Some x) = entry_of x.entries child
 abbrev pub is_held : NamesValue → FileId → Bool
 is_held names file = is_some (known names file)
 
-abbrev pub is_full_of : Option HeldValue → Bool
+abbrev pub is_full_of : Option InodeValue → Bool
 is_full_of None = false
 is_full_of (Some x) = x.full
 
@@ -69,7 +69,7 @@ abbrev pub is_full : NamesValue → FileId → Bool
 is_full names file = is_full_of (known names file)
 
 -- the own place and flags of a thing, where it is held
-abbrev pub own_at : NamesValue → FileId → Option Own
+abbrev pub own_at : NamesValue → FileId → Option Attributes
 own_at names file = own_of (known names file)
 
 -- the cell for a child in a directory, where it is held and has one
@@ -83,15 +83,15 @@ directories names = filter is_dir (keys_of names.held)
 -- ---- changes
 
 -- what is known of a thing before anything is: the blank place, and no flag
-abbrev pub blank_own : FileId → Own
+abbrev pub blank_own : FileId → Attributes
 blank_own file = record { place = blank_place file; flags = [] }
 
-abbrev pub or_blank : FileId → Option Own → Own
+abbrev pub or_blank : FileId → Option Attributes → Attributes
 or_blank file None = blank_own file
 or_blank file (Some own) = own
 
 -- what is known of a thing itself: where it is not held, nothing
-abbrev pub own_or_blank : NamesValue → FileId → Own
+abbrev pub own_or_blank : NamesValue → FileId → Attributes
 own_or_blank names file = or_blank file (own_at names file)
 
 -- a server that holds nothing
@@ -99,7 +99,7 @@ abbrev pub new_names : ℕ → NamesValue
 new_names server = record { server = server; last = 0; removed = []; held = [] }
 
 -- this is what is held of a thing from now on, where it is held
-abbrev pub with_held : NamesValue → FileId → HeldValue → NamesValue
+abbrev pub with_held : NamesValue → FileId → InodeValue → NamesValue
 with_held names file x = record {
   server = names.server;
   last = names.last;
@@ -107,20 +107,21 @@ with_held names file x = record {
   held = set_value (is_at (file_cmp file)) names.held x;
 }
 
-abbrev pub changed : NamesValue → FileId → (HeldValue → HeldValue) → Option HeldValue → NamesValue
+abbrev pub changed :
+    NamesValue → FileId → (InodeValue → InodeValue) → Option InodeValue → NamesValue
 changed names file change None = names
 changed names file change (Some x) = with_held names file (change x)
 
 -- what is held of a thing changes; where it is not held nothing does
-abbrev pub update : NamesValue → FileId → (HeldValue → HeldValue) → NamesValue
+abbrev pub update : NamesValue → FileId → (InodeValue → InodeValue) → NamesValue
 update names file change = changed names file change (known names file)
 
 -- with this place and these flags, and no entry
-abbrev pub new_held : Own → Bool → HeldValue
+abbrev pub new_held : Attributes → Bool → InodeValue
 new_held own full = record { full = full; own = own; entries = [] }
 
 -- one thing more is held
-abbrev pub begin : NamesValue → FileId → Own → Bool → NamesValue
+abbrev pub begin : NamesValue → FileId → Attributes → Bool → NamesValue
 begin names file own full = record {
   server = names.server;
   last = names.last;
@@ -141,35 +142,35 @@ let_go names file = record {
   held = filter (λ e. not (is_at (file_cmp file) e.0)) names.held;
 }
 
-abbrev pub filled : HeldValue → HeldValue
+abbrev pub filled : InodeValue → InodeValue
 filled x = record { full = true; own = x.own; entries = x.entries }
 
 -- a held thing is full
 abbrev pub fill : NamesValue → FileId → NamesValue
 fill names file = update names file filled
 
-abbrev pub with_own : Own → HeldValue → HeldValue
+abbrev pub with_own : Attributes → InodeValue → InodeValue
 with_own own x = record { full = x.full; own = own; entries = x.entries }
 
-abbrev pub with_entries : HeldValue → List (FileId × Entry) → HeldValue
+abbrev pub with_entries : InodeValue → List (FileId × Entry) → InodeValue
 with_entries x entries = record { full = x.full; own = x.own; entries = entries }
 
-abbrev pub with_entry : Entry → HeldValue → HeldValue
+abbrev pub with_entry : Entry → InodeValue → InodeValue
 with_entry entry x = with_entries x (put_entry x.entries entry)
 
-abbrev pub with_joined : Entry → HeldValue → HeldValue
+abbrev pub with_joined : Entry → InodeValue → InodeValue
 with_joined entry x = with_entries x (entries.join_entry x.entries entry)
 
-abbrev pub with_place : Place → HeldValue → HeldValue
+abbrev pub with_place : Place → InodeValue → InodeValue
 with_place place x =
     with_own (record { place = newer_place x.own.place place; flags = x.own.flags }) x
 
-abbrev pub with_flag : Flag → HeldValue → HeldValue
+abbrev pub with_flag : Flag → InodeValue → InodeValue
 with_flag flag x =
     with_own (record { place = x.own.place; flags = flags.join_flag x.own.flags flag }) x
 
 -- the own place and flags of a held thing are these
-abbrev pub set_own : NamesValue → FileId → Own → NamesValue
+abbrev pub set_own : NamesValue → FileId → Attributes → NamesValue
 set_own names file own = update names file (with_own own)
 
 -- this is the cell for its child in a held directory, whole
@@ -200,16 +201,16 @@ raise names time = with_last names (max names.last time)
 -- ---- which of these change a cell
 
 -- a place that comes is newer than the one of a held thing
-abbrev pub is_place_new : Option Own → Place → Bool
+abbrev pub is_place_new : Option Attributes → Place → Bool
 is_place_new None place = false
 is_place_new (Some own) place = is_before own.place.stamp place.stamp
 
 -- a flag that comes is newer than the one that a held thing has of its server
-abbrev pub is_flag_new : Option Own → Flag → Bool
+abbrev pub is_flag_new : Option Attributes → Flag → Bool
 is_flag_new None flag = false
 is_flag_new (Some own) flag = flags.is_new (flag_of own.flags flag.server) flag
 
 -- a cell that comes brings a held directory a newer place or flag
-abbrev pub is_entry_new : Option HeldValue → Entry → Bool
+abbrev pub is_entry_new : Option InodeValue → Entry → Bool
 is_entry_new None entry = false
 is_entry_new (Some x) entry = brings (entry_of x.entries entry.child) entry

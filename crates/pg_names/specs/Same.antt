@@ -7,7 +7,7 @@ use Rattle.pg_base.specs.Id.{is_same_file}
 use Rattle.pg_register.specs.declared.flag.Flag.{Flag}
 use Rattle.pg_register.specs.declared.place.Place.{Place}
 use Rattle.pg_entries.specs.declared.entry.Entry.{Entry}
-use Rattle.pg_names.specs.declared.own.Own.{Own}
+use Rattle.pg_names.specs.declared.attributes.Attributes.{Attributes}
 
 abbrev pub is_same_truth : Bool → Bool → Bool
 is_same_truth a b = if a then b else not b
@@ -26,7 +26,7 @@ is_same_flag a b = a.server == b.server
 abbrev pub is_same_flags : List Flag → List Flag → Bool
 is_same_flags a b = pointwise is_same_flag a b
 
-abbrev pub is_same_own : Own → Own → Bool
+abbrev pub is_same_own : Attributes → Attributes → Bool
 is_same_own a b = is_same_place a.place b.place && is_same_flags a.flags b.flags
 
 abbrev pub is_same_entry : Entry → Entry → Bool

@@ -7,8 +7,8 @@ ghost use Rattle.pg_register.specs.Flag.{is_removed};
 ghost use Rattle.pg_base.specs.Stamp.{next_stamp};
 ghost use Rattle.pg_names.specs.Names.{begin, cell_at, directories, fill, is_dir, is_entry_new, is_flag_new, is_full, is_held, is_place_new, join_entry, join_flag, join_place, known, let_go, new_names, own_at, own_or_blank, raise, remove_server, set_entry, set_own, with_last};
 
-use crate::held::Held;
-use crate::own::Own;
+use crate::attributes::Attributes;
+use crate::inode::Inode;
 use pg_base::{FileId, Items, Kind, NodeId, Stamp};
 use pg_entries::Entry;
 use pg_register::{Flag, Place, is_removed};
@@ -25,7 +25,7 @@ pub struct Names {
     server: NodeId,
     last: u64,
     removed: Items<NodeId>,
-    held: BTreeMap<FileId, Held>,
+    held: BTreeMap<FileId, Inode>,
 }
 
 impl Model for Names {
@@ -105,7 +105,7 @@ impl Names {
     }
 
     /// What is held, to go through it by id.
-    pub fn as_map(&self) -> &BTreeMap<FileId, Held>
+    pub fn as_map(&self) -> &BTreeMap<FileId, Inode>
         ensures { result.now.entries ≡ self.now.held }
     {
         &self.held
@@ -124,14 +124,14 @@ impl Names {
         ))
     }
 
-    pub fn get(&self, file: &FileId) -> Option<&Held>
+    pub fn get(&self, file: &FileId) -> Option<&Inode>
         ensures { option_copied result ≡ known self.now file.now }
     {
         self.held.get(file)
     }
 
     /// The own place and flags of a thing.
-    pub fn own(&self, file: &FileId) -> Option<&Own>
+    pub fn own(&self, file: &FileId) -> Option<&Attributes>
         ensures { option_copied result ≡ own_at self.now file.now }
     {
         match self.get(file) {
@@ -141,12 +141,12 @@ impl Names {
     }
 
     /// A copy of the own place and flags of a thing: where it is not held the blank place, and no flag.
-    pub fn own_or_blank(&self, file: FileId) -> Result<Own, AllocError>
+    pub fn own_or_blank(&self, file: FileId) -> Result<Attributes, AllocError>
         ensures { IfOk result (λ own. own ≡ own_or_blank self.now file) }
     {
         match self.own(&file) {
             Some(own) => own.copy(),
-            None => Own::blank(self.alloc, file),
+            None => Attributes::blank(self.alloc, file),
         }
     }
 
@@ -188,10 +188,10 @@ impl Names {
     }
 
     /// One thing more is held, full or filling, with this place and these flags, and no entry.
-    pub fn begin(&mut self, file: FileId, own: Own, full: bool) -> Result<(), AllocError>
+    pub fn begin(&mut self, file: FileId, own: Attributes, full: bool) -> Result<(), AllocError>
         ensures { OnOk result (self.new ≡ begin self.old file own full) }
     {
-        let held = Held::new(self.alloc, own, full);
+        let held = Inode::new(self.alloc, own, full);
         self.held.insert(file, held)?;
         Ok(())
     }
@@ -215,7 +215,7 @@ impl Names {
     }
 
     /// The own place and flags of a held thing are these from now on.
-    pub fn set_own(&mut self, file: &FileId, own: Own)
+    pub fn set_own(&mut self, file: &FileId, own: Attributes)
         ensures { self.new ≡ set_own self.old file.now own }
     {
         let Some(held) = self.held.get_mut(file) else {

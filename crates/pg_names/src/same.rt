@@ -3,7 +3,7 @@
 ghost use Rattle.std.specs.Prelude.{◌≡◌};
 ghost use Rattle.pg_names.specs.Same.{is_same_entry, is_same_flag, is_same_flags, is_same_own, is_same_place, is_same_stamp, is_same_truth};
 
-use crate::own::Own;
+use crate::attributes::Attributes;
 use pg_base::Stamp;
 use pg_entries::Entry;
 use pg_register::{Flag, Place};
@@ -48,7 +48,7 @@ pub fn is_same_flags(a: &[Flag], b: &[Flag]) -> bool
 }
 
 /// Whether place and flags are the same.
-pub fn is_same_own(a: &Own, b: &Own) -> bool
+pub fn is_same_own(a: &Attributes, b: &Attributes) -> bool
     ensures { result ≡ is_same_own a.now b.now }
 {
     is_same_place(&a.place, &b.place) && is_same_flags(a.flags.as_slice(), b.flags.as_slice())

@@ -14,8 +14,6 @@ mod queue;
 mod spawner;
 mod started;
 mod system_clock;
-#[cfg(test)]
-mod tests;
 mod udp;
 
 pub use clock::Clock;

@@ -8,23 +8,23 @@ use Rattle.pg_event.specs.declared.event.Event.{Event}
 use Rattle.pg_event.specs.declared.event.Event.TheVariants as event
 use Rattle.pg_sched.specs.declared.line.Line.{Line}
 use Rattle.pg_sched.specs.declared.line.Line.TheVariants as line
-use Rattle.pg_trace.specs.declared.printed.Printed.{Printed}
-use Rattle.pg_trace.specs.declared.printed.Printed.TheVariants as printed
-use Rattle.pg_trace.specs.declared.printed.Word.{Word}
-use Rattle.pg_trace.specs.declared.printed.Word.TheVariants as word
+use Rattle.pg_trace.specs.declared.journal_line.JournalLine.{JournalLine}
+use Rattle.pg_trace.specs.declared.journal_line.JournalLine.TheVariants as printed
+use Rattle.pg_trace.specs.declared.journal_line.AskedAt.{AskedAt}
+use Rattle.pg_trace.specs.declared.journal_line.AskedAt.TheVariants as word
 use Rattle.pg_picture.specs.Messages.{is_for, is_gone, message_at, split, with_copy, without}
 use Rattle.pg_picture.specs.Note.{is_void, outcome_of}
 use Rattle.pg_picture.specs.Sketch.{bag_after, happening_bag, happening_height, height_after, line_bag, line_height, rise, sent_now, word_rise}
 use Rattle.pg_picture.specs.declared.messages.Message.{Message}
 use Rattle.pg_picture.specs.declared.sketch.Sketch.{Sketch}
 
-word_rise_most : (w : Word) → word_rise w ≤ 2
+word_rise_most : (w : AskedAt) → word_rise w ≤ 2
 word_rise_most word.Settle = omega arith
 word_rise_most word.Quiet = omega arith
 word_rise_most word.End = omega arith
 
 -- one line makes the picture at most two lines of text higher
-pub rise_most : (p : Printed) → rise p ≤ 2
+pub rise_most : (p : JournalLine) → rise p ≤ 2
 rise_most (printed.Asked word state) = word_rise_most word
 rise_most p = omega arith
 
@@ -86,7 +86,7 @@ sent_most true height bag m = omega arith
 sent_most false height bag m = omega (arith, length-append bag (m ∷ []))
 
 -- one line brings at most two lines of text and one message more
-pub room_most : (s : Sketch) (p : Printed) (next : Option Printed)
+pub room_most : (s : Sketch) (p : JournalLine) (next : Option JournalLine)
     → height_after s p next + length (bag_after s p next) ≤ s.height + length s.bag + 3
 room_most s (printed.Event number what) next =
     let most = chosen (is_void (outcome_of next)) s.bag (s.height + 2) what in omega arith

@@ -7,8 +7,8 @@ use Rattle.pg_event.specs.declared.event.Event.TheVariants as event
 use Rattle.pg_msg.specs.declared.summary.Summary.{Summary}
 use Rattle.pg_sched.specs.declared.line.Line.{Line}
 use Rattle.pg_sched.specs.declared.line.Line.TheVariants as line
-use Rattle.pg_trace.specs.declared.printed.Printed.{Printed}
-use Rattle.pg_trace.specs.declared.printed.Printed.TheVariants as printed
+use Rattle.pg_trace.specs.declared.journal_line.JournalLine.{JournalLine}
+use Rattle.pg_trace.specs.declared.journal_line.JournalLine.TheVariants as printed
 use Rattle.pg_picture.specs.Counts.{ended_by, ended_from, event_ended, is_same_end, is_to, left_over, line_ended, line_event, listed, number_of, numbers_of, sent_ended, under_way, way, ways}
 use Rattle.pg_picture.specs.Course.{after}
 use Rattle.pg_picture.specs.Messages.{is_for, is_gone, message_at}
@@ -126,7 +126,7 @@ sent_more : (late : Bool) (E : LegEnd) (legs : List Leg) (height : ℕ) (m : Mes
 sent_more true E legs height m = way_more E ending.Fallen legs height m
 sent_more false E legs height m = sym (append-nil _)
 
-printed_more : (E : LegEnd) (s : Sketch) (p : Printed) (next : Option Printed)
+printed_more : (E : LegEnd) (s : Sketch) (p : JournalLine) (next : Option JournalLine)
     → ways E (legs_after s p next) ≡ ways E s.legs ++ line_ended E s.removed (told s.bag) p next
 printed_more E s (printed.Event number what) next =
     chosen_more (is_void (outcome_of next)) E s.legs s.bag (s.height + 2) what
@@ -157,7 +157,7 @@ line_drawn (Some l) n d z e = absurd (cc)
 
 -- ---- all lines
 
-pub ways_from : (E : LegEnd) (rest : List Printed) (n : ℕ) (c : Course) (s z : Sketch)
+pub ways_from : (E : LegEnd) (rest : List JournalLine) (n : ℕ) (c : Course) (s z : Sketch)
     → draw_from n c s rest ≡ Drawn z → ways E z.legs ≡ ways E s.legs ++ ended_from E s.removed (told s.bag) rest
 ways_from E [] n c s z e =
     ap (λ (k : Sketch). ways E k.legs) (sym (ended_drawn (is_ended c.before) n _ (hung s) z e))
@@ -175,12 +175,12 @@ ways_from E (p ∷ rest) n c s z e =
     (gone_after s p (slice_get rest 0))
     ∙ append_assoc (ways E s.legs) _ _
 
-marks_more : (s : Sketch) (p : Printed) (next : Option Printed)
+marks_more : (s : Sketch) (p : JournalLine) (next : Option JournalLine)
     → map (λ m. m.line) (marks_after s p next) ≡ map (λ m. m.line) s.marks ++ number_of p
 marks_more s (printed.Event number what) next = map-append (λ m. m.line) s.marks _
 marks_more s p next = sym (append-nil _)
 
-pub marks_from : (rest : List Printed) (n : ℕ) (c : Course) (s z : Sketch)
+pub marks_from : (rest : List JournalLine) (n : ℕ) (c : Course) (s z : Sketch)
     → draw_from n c s rest ≡ Drawn z → map (λ m. m.line) z.marks ≡ map (λ m. m.line) s.marks ++ numbers_of rest
 marks_from [] n c s z e =
     ap (λ (k : Sketch). map (λ m. m.line) k.marks) (sym (ended_drawn (is_ended c.before) n _ (hung s) z e))

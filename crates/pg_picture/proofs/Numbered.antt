@@ -5,8 +5,8 @@ use Rattle.pg_event.specs.declared.event.Event.TheVariants as event
 use Rattle.pg_msg.specs.declared.summary.Summary.{Summary}
 use Rattle.pg_sched.specs.declared.line.Line.{Line}
 use Rattle.pg_sched.specs.declared.line.Line.TheVariants as line
-use Rattle.pg_trace.specs.declared.printed.Printed.{Printed}
-use Rattle.pg_trace.specs.declared.printed.Printed.TheVariants as printed
+use Rattle.pg_trace.specs.declared.journal_line.JournalLine.{JournalLine}
+use Rattle.pg_trace.specs.declared.journal_line.JournalLine.TheVariants as printed
 use Rattle.pg_picture.specs.Counts.{IsWholePicture, count, count_of, ended_by, ended_from, ends, event_ended, gone, happened, is_same_end, left_over, line_ended, line_event, listed, under_way}
 use Rattle.pg_picture.specs.Course.{after, greatest_server, happening_has_message, has_message, is_due, lack_of}
 use Rattle.pg_picture.specs.Messages.{is_gone, message_at}
@@ -76,8 +76,8 @@ lacks_none true false true there e = absurd (cc)
 lacks_none true false false true h = refl
 lacks_none true false false false e = absurd (cc)
 
-printed_counted : (E : LegEnd) (c : Course) (removed : List ℕ) (bag : List Message) (p : Printed)
-    (next : Option Printed) → is_same_end E ending.Fallen ≡ false → lack_of c bag p next ≡ None
+printed_counted : (E : LegEnd) (c : Course) (removed : List ℕ) (bag : List Message) (p : JournalLine)
+    (next : Option JournalLine) → is_same_end E ending.Fallen ≡ false → lack_of c bag p next ≡ None
     → length (line_ended E removed (told bag) p next) ≡ count_of E (happened p next)
 printed_counted E c removed bag (printed.Event number what) next other h =
     chosen_counted (is_void (outcome_of next)) E bag what other
@@ -94,7 +94,7 @@ none_lacks None n d z e = refl
 none_lacks (Some l) n d z e = absurd (cc)
 
 counted_from : (E : LegEnd) → ((bag : List Summary) → left_over E bag ≡ []) → is_same_end E ending.Fallen ≡ false
-    → (rest : List Printed) (n : ℕ) (c : Course) (s z : Sketch) → draw_from n c s rest ≡ Drawn z
+    → (rest : List JournalLine) (n : ℕ) (c : Course) (s z : Sketch) → draw_from n c s rest ≡ Drawn z
     → length (ended_from E s.removed (told s.bag) rest) ≡ count E rest
 counted_from E none other [] n c s z e = ap length (none (told s.bag))
 counted_from E none other (p ∷ rest) n c s z e =
@@ -109,7 +109,7 @@ counted_from E none other (p ∷ rest) n c s z e =
     ∙ ap (λ b. count_of E (happened p next) + length (ended_from E (removed_after s p next) b rest)) (sym (told_after s p next))
     ∙ ap (λ k. count_of E (happened p next) + k) more
 
-pub whole_picture : (journal : List Printed) (s : Sketch) → draw journal ≡ Drawn s → IsWholePicture journal s
+pub whole_picture : (journal : List JournalLine) (s : Sketch) → draw journal ≡ Drawn s → IsWholePicture journal s
 whole_picture journal s e =
     let arrows = ways_from ending.Delivered journal 1 start empty s e in
     let crosses = ways_from ending.Lost journal 1 start empty s e in

@@ -10,18 +10,18 @@ use Rattle.pg_picture.specs.declared.course.Course.{Course}
 use Rattle.pg_picture.specs.declared.lack.Lack.{Lack}
 use Rattle.pg_picture.specs.declared.lack.Lack.TheVariants as lack
 use Rattle.pg_picture.specs.declared.sketch.Sketch.{Sketch}
-use Rattle.pg_trace.specs.declared.printed.Printed.{Printed}
+use Rattle.pg_trace.specs.declared.journal_line.JournalLine.{JournalLine}
 use Rattle.pg_picture.proofs.Bounds.{room_most}
 
 -- a line that lacks nothing is drawn
-pub goes_on_by : (n : ℕ) (c : Course) (s : Sketch) (p : Printed) (rest : List Printed)
+pub goes_on_by : (n : ℕ) (c : Course) (s : Sketch) (p : JournalLine) (rest : List JournalLine)
     → lack_of c s.bag p (slice_get rest 0) ≡ None
     → draw_from n c s (p ∷ rest) ≡ draw_from (n + 1) (after c p) (drawn s p (slice_get rest 0)) rest
 goes_on_by n c s p rest none =
     ap (λ o. or_lack o n (draw_from (n + 1) (after c p) (drawn s p (slice_get rest 0)) rest)) none
 
 -- a line that lacks something ends the drawing
-pub stops_by : (n : ℕ) (c : Course) (s : Sketch) (p : Printed) (rest : List Printed) (l : Lack)
+pub stops_by : (n : ℕ) (c : Course) (s : Sketch) (p : JournalLine) (rest : List JournalLine) (l : Lack)
     → lack_of c s.bag p (slice_get rest 0) ≡ Some l
     → draw_from n c s (p ∷ rest) ≡ Lacking n l
 stops_by n c s p rest l found =
@@ -38,15 +38,15 @@ lacks_end n c s over = ap (λ t. if t then Drawn (hung s) else Lacking n lack.En
 -- ---- with the journal, of which this is left
 
 -- how many lines are left, behind one
-pub one_less : (rest behind : List Printed) (line : Printed) → rest ≡ line ∷ behind
+pub one_less : (rest behind : List JournalLine) (line : JournalLine) → rest ≡ line ∷ behind
     → length rest ≡ length behind + 1
 one_less rest behind line cut = let e : length rest ≡ suc (length behind) = ap length cut in omega arith
 
 number_on : (all left behind : ℕ) → left ≡ behind + 1 → left ≤ all → all - behind + 1 ≡ all - left + 1 + 1
 number_on all left behind one within = omega arith
 
-pub same_on : (all : ℕ) (whole : Drawing) (c d : Course) (s z : Sketch) (line : Printed)
-    (rest behind : List Printed) (next : Option Printed)
+pub same_on : (all : ℕ) (whole : Drawing) (c d : Course) (s z : Sketch) (line : JournalLine)
+    (rest behind : List JournalLine) (next : Option JournalLine)
     → rest ≡ line ∷ behind → next ≡ slice_get behind 0 → lack_of c s.bag line next ≡ None
     → z ≡ drawn s line next → d ≡ after c line → length rest ≤ all
     → draw_from (all - length rest + 1) c s rest ≡ whole
@@ -61,8 +61,8 @@ same_on all whole c d s z line rest behind next cut first none new course within
     ∙ ap (λ k. draw_from n c s k) (sym cut)
     ∙ same
 
-pub room_on : (all : ℕ) (s z : Sketch) (line : Printed) (rest behind : List Printed)
-    (next : Option Printed) → rest ≡ line ∷ behind → z ≡ drawn s line next
+pub room_on : (all : ℕ) (s z : Sketch) (line : JournalLine) (rest behind : List JournalLine)
+    (next : Option JournalLine) → rest ≡ line ∷ behind → z ≡ drawn s line next
     → s.height + length s.bag + 3 * length rest ≤ 3 * all
     → z.height + length z.bag + 3 * length behind ≤ 3 * all
 room_on all s z line rest behind next cut new within =
@@ -72,7 +72,7 @@ room_on all s z line rest behind next cut new within =
     let most = room_most s line next in
     omega arith
 
-pub whole_on : (all : ℕ) (line : Printed) (rest behind : List Printed) → rest ≡ line ∷ behind
+pub whole_on : (all : ℕ) (line : JournalLine) (rest behind : List JournalLine) → rest ≡ line ∷ behind
     → length rest ≤ all → length behind ≤ all
 whole_on all line rest behind cut within =
     let one = one_less rest behind line cut in omega arith

@@ -7,8 +7,8 @@ use Rattle.pg_event.specs.declared.event.Event.TheVariants as event
 use Rattle.pg_msg.specs.declared.summary.Summary.{Summary}
 use Rattle.pg_sched.specs.declared.line.Line.{Line}
 use Rattle.pg_sched.specs.declared.line.Line.TheVariants as line
-use Rattle.pg_trace.specs.declared.printed.Printed.{Printed}
-use Rattle.pg_trace.specs.declared.printed.Printed.TheVariants as printed
+use Rattle.pg_trace.specs.declared.journal_line.JournalLine.{JournalLine}
+use Rattle.pg_trace.specs.declared.journal_line.JournalLine.TheVariants as printed
 use Rattle.pg_picture.specs.Counts.{copied, gone, gone_by, happened, is_to, line_event, moved, moved_by, under_way}
 use Rattle.pg_picture.specs.Messages.{is_gone, message_at, split, with_copy, without}
 use Rattle.pg_picture.specs.Note.{is_void, outcome_of}
@@ -101,7 +101,7 @@ told_sent true bag m = refl
 told_sent false bag m = map-append (λ m. m.summary) bag (m ∷ [])
 
 -- behind a line more
-pub told_after : (s : Sketch) (p : Printed) (next : Option Printed)
+pub told_after : (s : Sketch) (p : JournalLine) (next : Option JournalLine)
     → told (bag_after s p next) ≡ under_way s.removed (told s.bag) p next
 told_after s (printed.Event number what) next =
     told_chosen (is_void (outcome_of next)) s.bag (s.height + 2) what
@@ -124,7 +124,7 @@ gone_chosen : (test : Bool) (removed : List ℕ) (l : Line)
 gone_chosen true removed l = refl
 gone_chosen false removed l = gone_line removed l
 
-pub gone_after : (s : Sketch) (p : Printed) (next : Option Printed)
+pub gone_after : (s : Sketch) (p : JournalLine) (next : Option JournalLine)
     → removed_after s p next ≡ gone s.removed (happened p next)
 gone_after s (printed.Event number what) next = gone_chosen (is_void (outcome_of next)) s.removed what
 gone_after s p next = refl

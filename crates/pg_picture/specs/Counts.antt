@@ -6,8 +6,8 @@ use Rattle.pg_event.specs.declared.event.Event.TheVariants as event
 use Rattle.pg_msg.specs.declared.summary.Summary.{Summary}
 use Rattle.pg_sched.specs.declared.line.Line.{Line}
 use Rattle.pg_sched.specs.declared.line.Line.TheVariants as line
-use Rattle.pg_trace.specs.declared.printed.Printed.{Printed}
-use Rattle.pg_trace.specs.declared.printed.Printed.TheVariants as printed
+use Rattle.pg_trace.specs.declared.journal_line.JournalLine.{JournalLine}
+use Rattle.pg_trace.specs.declared.journal_line.JournalLine.TheVariants as printed
 use Rattle.pg_picture.specs.Messages.{is_gone, message_at, without}
 use Rattle.pg_picture.specs.Note.{is_void, outcome_of}
 use Rattle.pg_picture.specs.declared.mark.Leg.{Leg}
@@ -18,11 +18,11 @@ use Rattle.pg_picture.specs.declared.sketch.Sketch.{Sketch}
 -- ---- events
 
 -- the numbers of the schedule's lines of all events, in order
-abbrev pub number_of : Printed → List ℕ
+abbrev pub number_of : JournalLine → List ℕ
 number_of (printed.Event number what) = number ∷ []
 number_of _ = []
 
-abbrev pub numbers_of : List Printed → List ℕ
+abbrev pub numbers_of : List JournalLine → List ℕ
 numbers_of journal = flat_map number_of journal
 
 abbrev pub line_event : Line → Option Event
@@ -30,7 +30,7 @@ line_event (line.Happens event) = Some event
 line_event _ = None
 
 -- the event that a line tells of, unless the line behind it says that it is void
-abbrev pub happened : Printed → Option Printed → Option Event
+abbrev pub happened : JournalLine → Option JournalLine → Option Event
 happened (printed.Event number what) next =
     if is_void (outcome_of next) then None else line_event what
 happened _ next = None
@@ -68,7 +68,7 @@ moved bag None = bag
 moved bag (Some event) = moved_by bag event
 
 -- behind a line of the journal: what is sent to a removed server never is
-abbrev pub under_way : List ℕ → List Summary → Printed → Option Printed → List Summary
+abbrev pub under_way : List ℕ → List Summary → JournalLine → Option JournalLine → List Summary
 under_way removed bag (printed.Sent summary) next =
     if is_gone removed summary.to then bag else bag ++ summary ∷ []
 under_way removed bag line next = moved bag (happened line next)
@@ -105,7 +105,8 @@ abbrev pub sent_ended : LegEnd → Bool → Summary → List Summary
 sent_ended end late summary =
     if late && is_same_end end ending.Fallen then summary ∷ [] else []
 
-abbrev pub line_ended : LegEnd → List ℕ → List Summary → Printed → Option Printed → List Summary
+abbrev pub line_ended :
+    LegEnd → List ℕ → List Summary → JournalLine → Option JournalLine → List Summary
 line_ended end removed bag (printed.Sent summary) next =
     sent_ended end (is_gone removed summary.to) summary
 line_ended end removed bag line next = event_ended end bag (happened line next)
@@ -117,7 +118,7 @@ left_over end bag = []
 
 -- all messages that end so, in order, from a line on in front of which these servers are removed, and
 -- these messages are under way
-abbrev pub ended_from : LegEnd → List ℕ → List Summary → List Printed → List Summary
+abbrev pub ended_from : LegEnd → List ℕ → List Summary → List JournalLine → List Summary
 ended_from end removed bag [] = left_over end bag
 ended_from end removed bag (line ∷ rest) =
     line_ended end removed bag line (slice_get rest 0)
@@ -125,7 +126,7 @@ ended_from end removed bag (line ∷ rest) =
     (under_way removed bag line (slice_get rest 0)) rest
 
 -- of a whole journal: in front of its first line no server is removed, and no message under way
-abbrev pub ended : LegEnd → List Printed → List Summary
+abbrev pub ended : LegEnd → List JournalLine → List Summary
 ended end journal = ended_from end [] [] journal
 
 -- ---- how many events of a kind there are
@@ -141,7 +142,7 @@ count_of end None = 0
 count_of end (Some event) = if ends end event then 1 else 0
 
 -- how many events deliver, lose or repeat a message, void ones not counted
-abbrev pub count : LegEnd → List Printed → ℕ
+abbrev pub count : LegEnd → List JournalLine → ℕ
 count end [] = 0
 count end (line ∷ rest) = count_of end (happened line (slice_get rest 0)) + count end rest
 
@@ -158,7 +159,7 @@ ways end legs = flat_map (way end) legs
 -- that was lost, one more for each whose receiver is removed, when it is or before it was sent, one fork
 -- for each that was repeated, one open end for each that is still under way, and no other; and as many
 -- arrows, crosses of lost messages and forks as the journal has such events.
-pub record IsWholePicture (journal : List Printed) (s : Sketch) : Type 0 where
+pub record IsWholePicture (journal : List JournalLine) (s : Sketch) : Type 0 where
   pub marks : map (λ m. m.line) s.marks ≡ numbers_of journal
   pub arrows : ways ending.Delivered s.legs ≡ ended ending.Delivered journal
   pub crosses : ways ending.Lost s.legs ≡ ended ending.Lost journal

@@ -9,10 +9,10 @@ use Rattle.pg_event.specs.declared.quiet.Quiet.TheVariants as quiet
 use Rattle.pg_msg.specs.declared.summary.Summary.{Summary}
 use Rattle.pg_sched.specs.declared.line.Line.{Line}
 use Rattle.pg_sched.specs.declared.line.Line.TheVariants as line
-use Rattle.pg_trace.specs.declared.printed.Printed.{Printed}
-use Rattle.pg_trace.specs.declared.printed.Printed.TheVariants as printed
-use Rattle.pg_trace.specs.declared.printed.Word.{Word}
-use Rattle.pg_trace.specs.declared.printed.Word.TheVariants as word
+use Rattle.pg_trace.specs.declared.journal_line.JournalLine.{JournalLine}
+use Rattle.pg_trace.specs.declared.journal_line.JournalLine.TheVariants as printed
+use Rattle.pg_trace.specs.declared.journal_line.AskedAt.{AskedAt}
+use Rattle.pg_trace.specs.declared.journal_line.AskedAt.TheVariants as word
 use Rattle.pg_picture.specs.Messages.{message_at}
 use Rattle.pg_picture.specs.Note.{outcome_of, is_void}
 use Rattle.pg_picture.specs.Part.{may_follow, part_of}
@@ -41,12 +41,12 @@ agrees bag quiet.Quiet = length bag == 0
 agrees bag (quiet.Waits cause) = cause_agrees bag cause
 
 -- behind a settling stands that it is over, and the end is in none
-abbrev pub word_is_due : Course → Word → Bool
+abbrev pub word_is_due : Course → AskedAt → Bool
 word_is_due c word.Settle = c.settles
 word_is_due c word.Quiet = true
 word_is_due c word.End = not c.settles
 
-abbrev pub is_due : Course → List Message → Printed → Bool
+abbrev pub is_due : Course → List Message → JournalLine → Bool
 is_due c bag (printed.Event line what) = goes_on c line
 is_due c bag (printed.Asked word state) = word_is_due c word && agrees bag state
 is_due c bag _ = true
@@ -70,7 +70,7 @@ abbrev pub event_server : Line → Outcome → ℕ
 event_server what outcome = if is_void outcome then 0 else line_server what
 
 -- the greatest server that is drawn of a line
-abbrev pub greatest_server : Printed → Option Printed → ℕ
+abbrev pub greatest_server : JournalLine → Option JournalLine → ℕ
 greatest_server (printed.Event line what) next = event_server what (outcome_of next)
 greatest_server (printed.Sent summary) next = max summary.from summary.to
 greatest_server (printed.Replica replica) next = replica.server
@@ -92,12 +92,12 @@ event_lack c bag what outcome =
     if c.left == 0 then Some lack.Events
     else (if is_void outcome || has_message bag what then None else Some lack.Message)
 
-abbrev pub other_lack : Course → List Message → Printed → Option Printed → Option Lack
+abbrev pub other_lack : Course → List Message → JournalLine → Option JournalLine → Option Lack
 other_lack c bag (printed.Event line what) next = event_lack c bag what (outcome_of next)
 other_lack c bag _ next = None
 
 -- what a line lacks that has this one behind it, if anything
-abbrev pub lack_of : Course → List Message → Printed → Option Printed → Option Lack
+abbrev pub lack_of : Course → List Message → JournalLine → Option JournalLine → Option Lack
 lack_of c bag p next =
     if may_follow c.before (part_of p) && is_due c bag p
     then (if nat_lt 64 (greatest_server p next) then Some lack.Server else other_lack c bag p next)
@@ -107,24 +107,24 @@ abbrev pub is_settle : Line → Bool
 is_settle (line.Settle rounds moment) = true
 is_settle _ = false
 
-abbrev pub is_settled : Word → Bool
+abbrev pub is_settled : AskedAt → Bool
 is_settled word.Settle = true
 is_settled _ = false
 
-abbrev pub settles_after : Course → Printed → Bool
+abbrev pub settles_after : Course → JournalLine → Bool
 settles_after c (printed.Event line what) = c.settles || is_settle what
 settles_after c (printed.Asked word state) = c.settles && not (is_settled word)
 settles_after c _ = c.settles
 
-abbrev pub line_after : Course → Printed → ℕ
+abbrev pub line_after : Course → JournalLine → ℕ
 line_after c (printed.Event line what) = line
 line_after c _ = c.line
 
-abbrev pub left_after : Course → Printed → ℕ
+abbrev pub left_after : Course → JournalLine → ℕ
 left_after c (printed.Event line what) = c.left - 1
 left_after c _ = c.left
 
-abbrev pub after : Course → Printed → Course
+abbrev pub after : Course → JournalLine → Course
 after c p = record {
   line = line_after c p;
   settles = settles_after c p;

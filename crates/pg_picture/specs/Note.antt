@@ -8,11 +8,11 @@ use Rattle.pg_event.specs.Quiet.{quiet_body}
 use Rattle.pg_event.specs.declared.quiet.Quiet.{Quiet}
 use Rattle.pg_sched.specs.declared.line.Line.{Line}
 use Rattle.pg_sched.specs.Line.{line_body}
-use Rattle.pg_trace.specs.declared.printed.Printed.{Printed}
-use Rattle.pg_trace.specs.declared.printed.Printed.TheVariants as printed
-use Rattle.pg_trace.specs.declared.printed.Word.{Word}
-use Rattle.pg_trace.specs.declared.printed.Word.TheVariants as word
-use Rattle.pg_trace.specs.Printed.{printed_body}
+use Rattle.pg_trace.specs.declared.journal_line.JournalLine.{JournalLine}
+use Rattle.pg_trace.specs.declared.journal_line.JournalLine.TheVariants as printed
+use Rattle.pg_trace.specs.declared.journal_line.AskedAt.{AskedAt}
+use Rattle.pg_trace.specs.declared.journal_line.AskedAt.TheVariants as word
+use Rattle.pg_trace.specs.JournalLine.{printed_body}
 use Rattle.pg_picture.specs.declared.note.Outcome.{Outcome}
 use Rattle.pg_picture.specs.declared.note.Outcome.TheVariants.{Done, Refused, Void}
 
@@ -21,13 +21,13 @@ reply_outcome (reply.Refused refusal) = Refused
 reply_outcome _ = Done
 
 -- how an event went, as the line behind its own tells
-abbrev pub line_outcome : Printed → Outcome
+abbrev pub line_outcome : JournalLine → Outcome
 line_outcome (printed.Call kind server reply) = reply_outcome reply
 line_outcome (printed.Tick server reply) = reply_outcome reply
 line_outcome (printed.Void line cause) = Void
 line_outcome _ = Done
 
-abbrev pub outcome_of : Option Printed → Outcome
+abbrev pub outcome_of : Option JournalLine → Outcome
 outcome_of None = Done
 outcome_of (Some line) = line_outcome line
 
@@ -43,25 +43,25 @@ is_done _ = false
 abbrev pub shortened : List ℕ → List ℕ
 shortened text = if nat_le (length text) 64 then text else take 64 text ++ codes "..."
 
-abbrev pub asked_answer : Word → Quiet → List ℕ
+abbrev pub asked_answer : AskedAt → Quiet → List ℕ
 asked_answer word.Quiet state = codes " -> " ++ quiet_body state
 asked_answer _ state = []
 
 -- what the line behind an event's own tells of it: the reply, why it is void, or whether all is done
-abbrev pub line_answer : Printed → List ℕ
+abbrev pub line_answer : JournalLine → List ℕ
 line_answer (printed.Call kind server reply) = codes " -> " ++ reply_body reply
 line_answer (printed.Tick server reply) = codes " -> " ++ reply_body reply
 line_answer (printed.Void line cause) = codes " -> void " ++ void_word cause
 line_answer (printed.Asked word state) = asked_answer word state
 line_answer _ = []
 
-abbrev pub answer : Option Printed → List ℕ
+abbrev pub answer : Option JournalLine → List ℕ
 answer None = []
 answer (Some line) = line_answer line
 
 -- beside an event stands its line of the schedule, and what is told of it
-abbrev pub event_text : Line → Option Printed → List ℕ
+abbrev pub event_text : Line → Option JournalLine → List ℕ
 event_text what next = shortened (line_body what) ++ shortened (answer next)
 
-abbrev pub line_text : Printed → List ℕ
+abbrev pub line_text : JournalLine → List ℕ
 line_text line = shortened (printed_body line)

@@ -4,10 +4,10 @@ use Rattle.pg_event.specs.declared.event.Event.{Event}
 use Rattle.pg_event.specs.declared.event.Event.TheVariants as event
 use Rattle.pg_sched.specs.declared.line.Line.{Line}
 use Rattle.pg_sched.specs.declared.line.Line.TheVariants as line
-use Rattle.pg_trace.specs.declared.printed.Printed.{Printed}
-use Rattle.pg_trace.specs.declared.printed.Printed.TheVariants as printed
-use Rattle.pg_trace.specs.declared.printed.Word.{Word}
-use Rattle.pg_trace.specs.declared.printed.Word.TheVariants as word
+use Rattle.pg_trace.specs.declared.journal_line.JournalLine.{JournalLine}
+use Rattle.pg_trace.specs.declared.journal_line.JournalLine.TheVariants as printed
+use Rattle.pg_trace.specs.declared.journal_line.AskedAt.{AskedAt}
+use Rattle.pg_trace.specs.declared.journal_line.AskedAt.TheVariants as word
 use Rattle.pg_picture.specs.declared.part.Part.{Part}
 use Rattle.pg_picture.specs.declared.part.Part.TheVariants.{Outside, Call, Tick, Deliver, Other, Settle, Quiet, Show, Meter, Called, Ticked, Void, Made, Sent, Shown, Metered, Asked, Settled, Ended}
 
@@ -29,13 +29,13 @@ event_part (line.Trace form) = Outside
 event_part (line.Show id) = Show
 event_part (line.MeterOff meter) = Meter
 
-abbrev pub word_part : Word → Part
+abbrev pub word_part : AskedAt → Part
 word_part word.Settle = Settled
 word_part word.Quiet = Asked
 word_part word.End = Ended
 
 -- what a line of a journal is
-abbrev pub part_of : Printed → Part
+abbrev pub part_of : JournalLine → Part
 part_of (printed.Event line what) = event_part what
 part_of (printed.Call kind server reply) = Called
 part_of (printed.Tick server reply) = Ticked

@@ -1,6 +1,6 @@
 -- The picture of a whole journal.
 use Rattle.std.specs.Prelude.{ℕ, ◌+◌, false, List, [], ◌∷◌, ◌++◌, Option, None, Some, if◌then◌else◌, length, slice_get}
-use Rattle.pg_trace.specs.declared.printed.Printed.{Printed}
+use Rattle.pg_trace.specs.declared.journal_line.JournalLine.{JournalLine}
 use Rattle.pg_picture.specs.Course.{after, lack_of}
 use Rattle.pg_picture.specs.Part.{is_ended}
 use Rattle.pg_picture.specs.Sketch.{drawn, hanging}
@@ -35,12 +35,12 @@ or_lack None number drawing = drawing
 or_lack (Some lack) number drawing = Lacking number lack
 
 -- the same of the lines from the one with this number on
-abbrev pub draw_from : ℕ → Course → Sketch → List Printed → Drawing
+abbrev pub draw_from : ℕ → Course → Sketch → List JournalLine → Drawing
 draw_from number course sketch [] =
     if is_ended course.before then Drawn (hung sketch) else Lacking number lack.End
 draw_from number course sketch (line ∷ rest) =
     or_lack (lack_of course sketch.bag line (slice_get rest 0)) number
     (draw_from (number + 1) (after course line) (drawn sketch line (slice_get rest 0)) rest)
 
-abbrev pub draw : List Printed → Drawing
+abbrev pub draw : List JournalLine → Drawing
 draw journal = draw_from 1 start empty journal

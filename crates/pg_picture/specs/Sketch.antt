@@ -5,10 +5,10 @@ use Rattle.pg_event.specs.declared.event.Event.TheVariants as event
 use Rattle.pg_msg.specs.declared.summary.Summary.{Summary}
 use Rattle.pg_sched.specs.declared.line.Line.{Line}
 use Rattle.pg_sched.specs.declared.line.Line.TheVariants as line
-use Rattle.pg_trace.specs.declared.printed.Printed.{Printed}
-use Rattle.pg_trace.specs.declared.printed.Printed.TheVariants as printed
-use Rattle.pg_trace.specs.declared.printed.Word.{Word}
-use Rattle.pg_trace.specs.declared.printed.Word.TheVariants as word
+use Rattle.pg_trace.specs.declared.journal_line.JournalLine.{JournalLine}
+use Rattle.pg_trace.specs.declared.journal_line.JournalLine.TheVariants as printed
+use Rattle.pg_trace.specs.declared.journal_line.AskedAt.{AskedAt}
+use Rattle.pg_trace.specs.declared.journal_line.AskedAt.TheVariants as word
 use Rattle.pg_picture.specs.Course.{event_server, greatest_server}
 use Rattle.pg_picture.specs.Messages.{is_for, is_gone, message_at, with_copy, without, without_to}
 use Rattle.pg_picture.specs.Note.{event_text, is_done, is_void, line_text, outcome_of}
@@ -71,7 +71,7 @@ mark_of bag height number what outcome = record {
   kind = kind_of what outcome;
 }
 
-abbrev pub marks_after : Sketch → Printed → Option Printed → List Mark
+abbrev pub marks_after : Sketch → JournalLine → Option JournalLine → List Mark
 marks_after s (printed.Event number what) next =
     s.marks ++ mark_of s.bag (s.height + 2) number what (outcome_of next) ∷ []
 marks_after s _ next = s.marks
@@ -119,7 +119,7 @@ sent_legs s summary =
     else s.legs
 
 -- a void event moves nothing
-abbrev pub legs_after : Sketch → Printed → Option Printed → List Leg
+abbrev pub legs_after : Sketch → JournalLine → Option JournalLine → List Leg
 legs_after s (printed.Event number what) next =
     if is_void (outcome_of next) then s.legs else line_legs s.legs s.bag (s.height + 2) what
 legs_after s (printed.Sent summary) next = sent_legs s summary
@@ -143,7 +143,7 @@ abbrev pub sent_bag : Sketch → Summary → List Message
 sent_bag s summary =
     if is_gone s.removed summary.to then s.bag else s.bag ++ sent_now s summary ∷ []
 
-abbrev pub bag_after : Sketch → Printed → Option Printed → List Message
+abbrev pub bag_after : Sketch → JournalLine → Option JournalLine → List Message
 bag_after s (printed.Event number what) next =
     if is_void (outcome_of next) then s.bag else line_bag s.bag (s.height + 2) what
 bag_after s (printed.Sent summary) next = sent_bag s summary
@@ -159,20 +159,20 @@ abbrev pub line_removed : List ℕ → Line → List ℕ
 line_removed removed (line.Happens event) = happening_removed removed event
 line_removed removed _ = removed
 
-abbrev pub removed_after : Sketch → Printed → Option Printed → List ℕ
+abbrev pub removed_after : Sketch → JournalLine → Option JournalLine → List ℕ
 removed_after s (printed.Event number what) next =
     if is_void (outcome_of next) then s.removed else line_removed s.removed what
 removed_after s _ next = s.removed
 
 -- ---- notes
 
-abbrev pub word_rise : Word → ℕ
+abbrev pub word_rise : AskedAt → ℕ
 word_rise word.Settle = 2
 word_rise word.Quiet = 0
 word_rise word.End = 2
 
 -- how much lower a line stands than what was drawn before it: 0 where it has no note of its own
-abbrev pub rise : Printed → ℕ
+abbrev pub rise : JournalLine → ℕ
 rise (printed.Event number what) = 2
 rise (printed.Made update) = 1
 rise (printed.Replica replica) = 1
@@ -182,20 +182,20 @@ rise (printed.Asked word state) = word_rise word
 rise _ = 0
 
 -- and the note of a line that has one
-abbrev pub with_note : List Note → ℕ → Printed → List Note
+abbrev pub with_note : List Note → ℕ → JournalLine → List Note
 with_note notes height line =
     if nat_lt 0 (rise line)
     then notes ++ record { height = height; refused = false; text = line_text line } ∷ []
     else notes
 
-abbrev pub event_note : ℕ → Line → Option Printed → Note
+abbrev pub event_note : ℕ → Line → Option JournalLine → Note
 event_note height what next = record {
   height = height;
   refused = not (is_done (outcome_of next));
   text = event_text what next;
 }
 
-abbrev pub notes_after : Sketch → Printed → Option Printed → List Note
+abbrev pub notes_after : Sketch → JournalLine → Option JournalLine → List Note
 notes_after s (printed.Event number what) next = s.notes ++ event_note (s.height + 2) what next ∷ []
 notes_after s line next = with_note s.notes (s.height + rise line) line
 
@@ -213,7 +213,7 @@ line_height bag height _ = height
 abbrev pub sent_height : Sketch → Summary → ℕ
 sent_height s summary = if is_gone s.removed summary.to then s.height + 1 else s.height
 
-abbrev pub height_after : Sketch → Printed → Option Printed → ℕ
+abbrev pub height_after : Sketch → JournalLine → Option JournalLine → ℕ
 height_after s (printed.Event number what) next =
     if is_void (outcome_of next) then s.height + 2 else line_height s.bag (s.height + 2) what
 height_after s (printed.Sent summary) next = sent_height s summary
@@ -222,12 +222,12 @@ height_after s line next = s.height + rise line
 -- ---- all of it
 
 -- the height of the last event
-abbrev pub row_after : Sketch → Printed → ℕ
+abbrev pub row_after : Sketch → JournalLine → ℕ
 row_after s (printed.Event number what) = s.height + 2
 row_after s _ = s.row
 
 -- the picture with this line, which has that one behind it
-abbrev pub drawn : Sketch → Printed → Option Printed → Sketch
+abbrev pub drawn : Sketch → JournalLine → Option JournalLine → Sketch
 drawn s line next = record {
   servers = max s.servers (greatest_server line next);
   row = row_after s line;
@@ -247,7 +247,7 @@ with_sent s summary = record s
     { height = sent_height s summary; bag = sent_bag s summary; legs = sent_legs s summary }
 
 -- a line that is no event's and sends nothing
-abbrev pub with_told : Sketch → Printed → Sketch
+abbrev pub with_told : Sketch → JournalLine → Sketch
 with_told s line = record s
     { height = s.height + rise line; notes = with_note s.notes (s.height + rise line) line }
 
@@ -276,7 +276,7 @@ with_fallen s server = record s {
   legs = s.legs ++ hanging ending.Fallen s.height (filter (is_for server) s.bag);
 }
 
-abbrev pub with_event : Sketch → ℕ → Line → Option Printed → Sketch
+abbrev pub with_event : Sketch → ℕ → Line → Option JournalLine → Sketch
 with_event s number what next = record s {
   row = s.height + 2;
   height = height_after s (printed.Event number what) next;

@@ -12,7 +12,7 @@ use pg_base::NodeId;
 use pg_event::{Cause, Event, Quiet};
 use pg_msg::Summary;
 use pg_sched::Line;
-use pg_trace::{Printed, Word};
+use pg_trace::{AskedAt, JournalLine};
 
 /// The most events that are drawn.
 pub const MOST_EVENTS: u32 = 2_000;
@@ -98,13 +98,13 @@ pub(crate) fn event_server(what: &Line, outcome: Outcome) -> NodeId
 }
 
 /// The greatest server that is drawn of the line, or 0.
-pub(crate) fn greatest_server(line: &Printed, next: Option<&Printed>) -> NodeId
+pub(crate) fn greatest_server(line: &JournalLine, next: Option<&JournalLine>) -> NodeId
     ensures { result ≡ greatest_server line.now (option_copied next.entry) }
 {
     match line {
-        Printed::Event { what, .. } => event_server(what, outcome_of(next)),
-        Printed::Sent(summary) => summary.from.max(summary.to),
-        Printed::Replica(replica) => replica.server,
+        JournalLine::Event { what, .. } => event_server(what, outcome_of(next)),
+        JournalLine::Sent(summary) => summary.from.max(summary.to),
+        JournalLine::Replica(replica) => replica.server,
         _ => 0,
     }
 }
@@ -137,10 +137,10 @@ fn is_settle(what: &Line) -> bool
 }
 
 /// Whether it is the word behind a settling.
-fn is_settled(word: Word) -> bool
+fn is_settled(word: AskedAt) -> bool
     ensures { result ≡ is_settled word }
 {
-    matches!(word, Word::Settle)
+    matches!(word, AskedAt::Settle)
 }
 
 impl Course {
@@ -165,22 +165,22 @@ impl Course {
         }
     }
 
-    fn word_is_due(self, word: Word) -> bool
+    fn word_is_due(self, word: AskedAt) -> bool
         ensures { result ≡ word_is_due self word }
     {
         match word {
-            Word::Settle => self.settles,
-            Word::Quiet => true,
-            Word::End => !self.settles,
+            AskedAt::Settle => self.settles,
+            AskedAt::Quiet => true,
+            AskedAt::End => !self.settles,
         }
     }
 
-    fn is_due(self, bag: &Messages, line: &Printed) -> bool
+    fn is_due(self, bag: &Messages, line: &JournalLine) -> bool
         ensures { result ≡ is_due self bag.now line.now }
     {
         match line {
-            Printed::Event { line, .. } => self.goes_on(*line),
-            Printed::Asked { word, quiet } => self.word_is_due(*word)
+            JournalLine::Event { line, .. } => self.goes_on(*line),
+            JournalLine::Asked { word, quiet } => self.word_is_due(*word)
                 && agrees(bag.as_slice(), quiet),
             _ => true,
         }
@@ -199,11 +199,16 @@ impl Course {
         }
     }
 
-    fn other_lack(self, bag: &Messages, line: &Printed, next: Option<&Printed>) -> Option<Lack>
+    fn other_lack(
+        self,
+        bag: &Messages,
+        line: &JournalLine,
+        next: Option<&JournalLine>,
+    ) -> Option<Lack>
         ensures { result ≡ other_lack self bag.now line.now (option_copied next.entry) }
     {
         match line {
-            Printed::Event { what, .. } => self.event_lack(bag, what, outcome_of(next)),
+            JournalLine::Event { what, .. } => self.event_lack(bag, what, outcome_of(next)),
             _ => None,
         }
     }
@@ -212,8 +217,8 @@ impl Course {
     pub(crate) fn lack_of(
         self,
         bag: &Messages,
-        line: &Printed,
-        next: Option<&Printed>,
+        line: &JournalLine,
+        next: Option<&JournalLine>,
     ) -> Option<Lack>
         ensures { result ≡ lack_of self bag.now line.now (option_copied next.entry) }
     {
@@ -226,36 +231,36 @@ impl Course {
         self.other_lack(bag, line, next)
     }
 
-    fn settles_after(self, line: &Printed) -> bool
+    fn settles_after(self, line: &JournalLine) -> bool
         ensures { result ≡ settles_after self line.now }
     {
         match line {
-            Printed::Event { what, .. } => self.settles || is_settle(what),
-            Printed::Asked { word, .. } => self.settles && !is_settled(*word),
+            JournalLine::Event { what, .. } => self.settles || is_settle(what),
+            JournalLine::Asked { word, .. } => self.settles && !is_settled(*word),
             _ => self.settles,
         }
     }
 
-    fn line_after(self, line: &Printed) -> u64
+    fn line_after(self, line: &JournalLine) -> u64
         ensures { result ≡ line_after self line.now }
     {
         match line {
-            Printed::Event { line, .. } => *line,
+            JournalLine::Event { line, .. } => *line,
             _ => self.line,
         }
     }
 
-    fn left_after(self, line: &Printed) -> u32
+    fn left_after(self, line: &JournalLine) -> u32
         ensures { result ≡ left_after self line.now }
     {
         match line {
-            Printed::Event { .. } => self.left.saturating_sub(1),
+            JournalLine::Event { .. } => self.left.saturating_sub(1),
             _ => self.left,
         }
     }
 
     /// How far the journal has come behind the line.
-    pub(crate) fn after(self, line: &Printed) -> Course
+    pub(crate) fn after(self, line: &JournalLine) -> Course
         ensures { result ≡ after self line.now }
     {
         Course {

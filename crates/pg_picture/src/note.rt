@@ -8,7 +8,7 @@ use pg_base::Bytes;
 use pg_call::Reply;
 use pg_event::Quiet;
 use pg_sched::Line;
-use pg_trace::{Printed, Word};
+use pg_trace::{AskedAt, JournalLine};
 use std::alloc::{AllocError, Global};
 
 /// The most bytes that are shown of one text.
@@ -46,19 +46,19 @@ fn reply_outcome(reply: &Reply) -> Outcome
 }
 
 /// How the event went that stands in front of the line.
-fn line_outcome(line: &Printed) -> Outcome
+fn line_outcome(line: &JournalLine) -> Outcome
     ensures { result ≡ line_outcome line.now }
 {
     match line {
-        Printed::Call { reply, .. } => reply_outcome(reply),
-        Printed::Tick { reply, .. } => reply_outcome(reply),
-        Printed::Void { .. } => Outcome::Void,
+        JournalLine::Call { reply, .. } => reply_outcome(reply),
+        JournalLine::Tick { reply, .. } => reply_outcome(reply),
+        JournalLine::Void { .. } => Outcome::Void,
         _ => Outcome::Done,
     }
 }
 
 /// How the event went whose line has this one behind it.
-pub(crate) fn outcome_of(next: Option<&Printed>) -> Outcome
+pub(crate) fn outcome_of(next: Option<&JournalLine>) -> Outcome
     ensures { result ≡ outcome_of (option_copied next.entry) }
 {
     match next {
@@ -79,30 +79,30 @@ fn shortened(alloc: Global, text: &[u8]) -> Result<Bytes, AllocError>
     Ok(short)
 }
 
-fn write_asked(word: Word, quiet: &Quiet, text: &mut Bytes) -> Result<(), AllocError>
+fn write_asked(word: AskedAt, quiet: &Quiet, text: &mut Bytes) -> Result<(), AllocError>
     ensures { OnOk result (text.new ≡ text.old ++ asked_answer word quiet.now) }
 {
     match word {
-        Word::Quiet => write!(text, " -> {quiet}"),
+        AskedAt::Quiet => write!(text, " -> {quiet}"),
         _ => Ok(()),
     }
 }
 
 /// Writes what the line tells of the event in front of it.
-fn write_answer(line: &Printed, text: &mut Bytes) -> Result<(), AllocError>
+fn write_answer(line: &JournalLine, text: &mut Bytes) -> Result<(), AllocError>
     ensures { OnOk result (text.new ≡ text.old ++ line_answer line.now) }
 {
     match line {
-        Printed::Call { reply, .. } => write!(text, " -> {reply}"),
-        Printed::Tick { reply, .. } => write!(text, " -> {reply}"),
-        Printed::Void { cause, .. } => write!(text, " -> void {cause}"),
-        Printed::Asked { word, quiet } => write_asked(*word, quiet, text),
+        JournalLine::Call { reply, .. } => write!(text, " -> {reply}"),
+        JournalLine::Tick { reply, .. } => write!(text, " -> {reply}"),
+        JournalLine::Void { cause, .. } => write!(text, " -> void {cause}"),
+        JournalLine::Asked { word, quiet } => write_asked(*word, quiet, text),
         _ => Ok(()),
     }
 }
 
 /// What is told of the event whose line has this one behind it.
-fn answer(alloc: Global, next: Option<&Printed>) -> Result<Bytes, AllocError>
+fn answer(alloc: Global, next: Option<&JournalLine>) -> Result<Bytes, AllocError>
     ensures { IfOk result (λ t. t ≡ answer (option_copied next.entry)) }
 {
     let mut text = Bytes::new(alloc);
@@ -116,7 +116,7 @@ fn answer(alloc: Global, next: Option<&Printed>) -> Result<Bytes, AllocError>
 pub(crate) fn event_text(
     alloc: Global,
     what: &Line,
-    next: Option<&Printed>,
+    next: Option<&JournalLine>,
 ) -> Result<Bytes, AllocError>
     ensures { IfOk result (λ t. t ≡ event_text what.now (option_copied next.entry)) }
 {
@@ -130,7 +130,7 @@ pub(crate) fn event_text(
 }
 
 /// What is written of a line that has a note of its own.
-pub(crate) fn line_text(alloc: Global, line: &Printed) -> Result<Bytes, AllocError>
+pub(crate) fn line_text(alloc: Global, line: &JournalLine) -> Result<Bytes, AllocError>
     ensures { IfOk result (λ t. t ≡ line_text line.now) }
 {
     let mut text = Bytes::new(alloc);

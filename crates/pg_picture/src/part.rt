@@ -5,7 +5,7 @@ ghost use Rattle.pg_picture.specs.Part.{event_part, happening_part, is_ended, ma
 
 use pg_event::Event;
 use pg_sched::Line;
-use pg_trace::{Printed, Word};
+use pg_trace::{AskedAt, JournalLine};
 
 /// What a line of a journal is.
 #[derive(Clone, Copy, Debug, PartialEq, Eq)]
@@ -64,31 +64,31 @@ fn event_part(what: &Line) -> Part
     }
 }
 
-fn word_part(word: Word) -> Part
+fn word_part(word: AskedAt) -> Part
     ensures { result ≡ word_part word }
 {
     match word {
-        Word::Settle => Part::Settled,
-        Word::Quiet => Part::Asked,
-        Word::End => Part::Ended,
+        AskedAt::Settle => Part::Settled,
+        AskedAt::Quiet => Part::Asked,
+        AskedAt::End => Part::Ended,
     }
 }
 
 /// What the line is.
-pub(crate) fn part_of(line: &Printed) -> Part
+pub(crate) fn part_of(line: &JournalLine) -> Part
     ensures { result ≡ part_of line.now }
 {
     match line {
-        Printed::Event { what, .. } => event_part(what),
-        Printed::Call { .. } => Part::Called,
-        Printed::Tick { .. } => Part::Ticked,
-        Printed::Void { .. } => Part::Void,
-        Printed::Made(_) => Part::Made,
-        Printed::Sent(_) => Part::Sent,
-        Printed::Asked { word, .. } => word_part(*word),
-        Printed::Replica(_) => Part::Shown,
-        Printed::Nowhere(_) => Part::Shown,
-        Printed::Meter { .. } => Part::Metered,
+        JournalLine::Event { what, .. } => event_part(what),
+        JournalLine::Call { .. } => Part::Called,
+        JournalLine::Tick { .. } => Part::Ticked,
+        JournalLine::Void { .. } => Part::Void,
+        JournalLine::Made(_) => Part::Made,
+        JournalLine::Sent(_) => Part::Sent,
+        JournalLine::Asked { word, .. } => word_part(*word),
+        JournalLine::Replica(_) => Part::Shown,
+        JournalLine::Nowhere(_) => Part::Shown,
+        JournalLine::Meter { .. } => Part::Metered,
     }
 }
 

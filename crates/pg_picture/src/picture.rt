@@ -9,7 +9,7 @@ ghost use Rattle.pg_picture.specs.Sketch.{hanging};
 ghost use Rattle.pg_picture.specs.declared.mark.LegEnd.TheVariants.{UnderWay};
 ghost use Rattle.pg_picture.specs.Picture.Drawing.{Drawn, Lacking};
 ghost use Rattle.pg_picture.specs.declared.sketch.Sketch.{Sketch};
-ghost use Rattle.pg_trace.specs.declared.printed.Printed.{Printed};
+ghost use Rattle.pg_trace.specs.declared.journal_line.JournalLine.{JournalLine};
 
 use crate::course::Course;
 use crate::lack::{Lack, NoPicture};
@@ -18,7 +18,7 @@ use crate::messages::Message;
 use crate::part::is_ended;
 use crate::sketch::Sketch;
 use pg_base::Items;
-use pg_trace::Printed;
+use pg_trace::JournalLine;
 use std::alloc::{AllocError, Global};
 
 /// Draws the ways of what is still under way, each a line lower than the one before, from this height on.
@@ -51,7 +51,7 @@ fn hang(sketch: &mut Sketch) -> Result<(), AllocError>
 }
 
 /// The picture of a full journal. The error names the first line that lacks something.
-pub fn draw(alloc: Global, journal: &[Printed]) -> Result<Sketch, NoPicture>
+pub fn draw(alloc: Global, journal: &[JournalLine]) -> Result<Sketch, NoPicture>
     requires { length journal.now ≤ 2 ^ 26 }
     ensures drawn { IfOk result (λ s. draw journal.now ≡ Drawn s) }
     ensures lacks { IfErr result (λ e. (n : ℕ) (l : Lack) → e ≡ no_picture.Lacks n l
@@ -81,6 +81,6 @@ pub fn draw(alloc: Global, journal: &[Printed]) -> Result<Sketch, NoPicture>
 /// each that was lost and for each whose receiver is removed, one fork for each that was repeated, and one open end for each
 /// that is still under way.
 pub fn pictures_are_whole()
-    ensures { (journal : List Printed) (s : Sketch) → draw journal ≡ Drawn s
+    ensures { (journal : List JournalLine) (s : Sketch) → draw journal ≡ Drawn s
         → IsWholePicture journal s }
 {}

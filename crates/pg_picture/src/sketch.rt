@@ -15,7 +15,7 @@ use pg_base::{Items, NodeId};
 use pg_event::Event;
 use pg_msg::Summary;
 use pg_sched::Line;
-use pg_trace::{Printed, Word};
+use pg_trace::{AskedAt, JournalLine};
 use std::alloc::{AllocError, Global};
 
 /// A picture so far.
@@ -106,27 +106,27 @@ fn column_of(bag: &Messages, what: &Line, outcome: Outcome) -> NodeId
     line_column(bag, what, event_server(what, outcome))
 }
 
-fn word_rise(word: Word) -> u32
+fn word_rise(word: AskedAt) -> u32
     ensures { result ≡ word_rise word }
 {
     match word {
-        Word::Settle => 2,
-        Word::Quiet => 0,
-        Word::End => 2,
+        AskedAt::Settle => 2,
+        AskedAt::Quiet => 0,
+        AskedAt::End => 2,
     }
 }
 
 /// How much lower the line stands than what was drawn before it: 0 where it has no note of its own.
-fn rise(line: &Printed) -> u32
+fn rise(line: &JournalLine) -> u32
     ensures { result ≡ rise line.now }
 {
     match line {
-        Printed::Event { .. } => 2,
-        Printed::Made(_) => 1,
-        Printed::Replica(_) => 1,
-        Printed::Nowhere(_) => 1,
-        Printed::Meter { .. } => 1,
-        Printed::Asked { word, .. } => word_rise(*word),
+        JournalLine::Event { .. } => 2,
+        JournalLine::Made(_) => 1,
+        JournalLine::Replica(_) => 1,
+        JournalLine::Nowhere(_) => 1,
+        JournalLine::Meter { .. } => 1,
+        JournalLine::Asked { word, .. } => word_rise(*word),
         _ => 0,
     }
 }
@@ -189,24 +189,24 @@ impl Sketch {
     pub(crate) fn take(
         &mut self,
         alloc: Global,
-        line: &Printed,
-        next: Option<&Printed>,
+        line: &JournalLine,
+        next: Option<&JournalLine>,
     ) -> Result<(), AllocError>
         requires { self.old.height + length self.old.bag + 2 < 2 ^ 32 }
         ensures { OnOk result (self.new ≡ drawn self.old line.now (option_copied next.entry)) }
     {
         self.servers = self.servers.max(greatest_server(line, next));
         match line {
-            Printed::Event { line, what } => self.happen(alloc, *line, what, next),
-            Printed::Sent(summary) => self.send(*summary),
-            Printed::Call { .. } => Ok(()),
-            Printed::Tick { .. } => Ok(()),
-            Printed::Void { .. } => Ok(()),
-            Printed::Made(_) => self.tell(alloc, line),
-            Printed::Asked { .. } => self.tell(alloc, line),
-            Printed::Replica(_) => self.tell(alloc, line),
-            Printed::Nowhere(_) => self.tell(alloc, line),
-            Printed::Meter { .. } => self.tell(alloc, line),
+            JournalLine::Event { line, what } => self.happen(alloc, *line, what, next),
+            JournalLine::Sent(summary) => self.send(*summary),
+            JournalLine::Call { .. } => Ok(()),
+            JournalLine::Tick { .. } => Ok(()),
+            JournalLine::Void { .. } => Ok(()),
+            JournalLine::Made(_) => self.tell(alloc, line),
+            JournalLine::Asked { .. } => self.tell(alloc, line),
+            JournalLine::Replica(_) => self.tell(alloc, line),
+            JournalLine::Nowhere(_) => self.tell(alloc, line),
+            JournalLine::Meter { .. } => self.tell(alloc, line),
         }
     }
 
@@ -233,7 +233,7 @@ impl Sketch {
     }
 
     /// Writes the line beside the picture, where it has a note of its own.
-    fn tell(&mut self, alloc: Global, line: &Printed) -> Result<(), AllocError>
+    fn tell(&mut self, alloc: Global, line: &JournalLine) -> Result<(), AllocError>
         requires { self.old.height + 2 < 2 ^ 32 }
         ensures { OnOk result (self.new ≡ with_told self.old line.now) }
     {
@@ -255,7 +255,7 @@ impl Sketch {
         alloc: Global,
         number: u64,
         what: &Line,
-        next: Option<&Printed>,
+        next: Option<&JournalLine>,
     ) -> Result<(), AllocError>
         requires { self.old.height + length self.old.bag + 2 < 2 ^ 32 }
         ensures { OnOk result (self.new ≡ with_event self.old number what.now (option_copied next.entry)) }

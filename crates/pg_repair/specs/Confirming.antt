@@ -9,18 +9,18 @@ use Rattle.pg_intent.specs.Intents.{ended}
 use Rattle.pg_msg.specs.declared.message.Ask.TheVariants as ask
 use Rattle.pg_msg.specs.declared.message.Message.TheVariants as message
 use Rattle.pg_msg.specs.declared.work.Work.{Work}
-use Rattle.pg_names.specs.declared.own.Own.{Own}
+use Rattle.pg_names.specs.declared.attributes.Attributes.{Attributes}
 use Rattle.pg_names.specs.Names.{cell_at, own_or_blank}
 use Rattle.pg_names.specs.Same.{is_same_stamp}
 use Rattle.pg_house.specs.Work.{is_root}
 use Rattle.pg_store.specs.declared.store.Store.{Store}
 use Rattle.pg_store.specs.Beginning.{with_intents}
 use Rattle.pg_store.specs.Store.{is_held}
-use Rattle.pg_cells.specs.Done.{Done, idle}
-use Rattle.pg_cells.specs.Posting.{reply}
-use Rattle.pg_cells.specs.Taking.{take_entry_noted, take_flags_noted, take_place_noted}
+use Rattle.pg_pieces.specs.Done.{Done, idle}
+use Rattle.pg_pieces.specs.Posting.{reply}
+use Rattle.pg_pieces.specs.Taking.{take_entry_noted, take_flags_noted, take_place_noted}
 
-abbrev pub entry_for : FileId → Own → Entry
+abbrev pub entry_for : FileId → Attributes → Entry
 entry_for file own = record { child = file; place = own.place; flags = own.flags }
 
 -- the own place and flags of a thing, as a cell for it

@@ -7,16 +7,16 @@ use Rattle.pg_msg.specs.declared.message.Ends.{Ends}
 use Rattle.pg_msg.specs.declared.message.Granted.{Granted}
 use Rattle.pg_msg.specs.declared.message.Message.TheVariants as message
 use Rattle.pg_msg.specs.declared.work.Work.{Work}
-use Rattle.pg_names.specs.declared.own.Own.{Own}
+use Rattle.pg_names.specs.declared.attributes.Attributes.{Attributes}
 use Rattle.pg_names.specs.Names.{is_dir, own_or_blank}
 use Rattle.pg_replica.specs.declared.replica.Replica.{Replica}
 use Rattle.pg_store.specs.declared.store.Store.{Store}
 use Rattle.pg_store.specs.Links.{is_clean, knows_later}
 use Rattle.pg_store.specs.Store.{is_full, replica_at}
-use Rattle.pg_cells.specs.Accepting.{link_peer}
-pub use Rattle.pg_cells.specs.Accepting.{ends_to}
-use Rattle.pg_cells.specs.Done.{Done, idle}
-use Rattle.pg_cells.specs.Posting.{reply}
+use Rattle.pg_pieces.specs.Accepting.{link_peer}
+pub use Rattle.pg_pieces.specs.Accepting.{ends_to}
+use Rattle.pg_pieces.specs.Done.{Done, idle}
+use Rattle.pg_pieces.specs.Posting.{reply}
 
 -- ---- what a new replica begins with
 
@@ -25,7 +25,7 @@ abbrev pub place_to_grant : FileId → Place → Place
 place_to_grant file place = if is_dir file && not place.live then blank_place file else place
 
 -- the policy, the place and the flags of the replica from which it is filled
-abbrev pub granted_from : FileId → Own → Replica → Granted
+abbrev pub granted_from : FileId → Attributes → Replica → Granted
 granted_from file own x = record {
   policy = x.content.policy;
   place = place_to_grant file own.place;

@@ -4,18 +4,18 @@ use Rattle.pg_base.specs.declared.id.FileId.{FileId}
 use Rattle.pg_register.specs.Flag.{is_live}
 use Rattle.pg_msg.specs.declared.message.Ends.{Ends}
 use Rattle.pg_msg.specs.declared.work.Work.{Work}
-use Rattle.pg_names.specs.declared.own.Own.{Own}
+use Rattle.pg_names.specs.declared.attributes.Attributes.{Attributes}
 use Rattle.pg_names.specs.Names.{own_at}
 use Rattle.pg_names.specs.Names as names
 use Rattle.pg_store.specs.declared.store.Store.{Store}
 use Rattle.pg_store.specs.Store.{is_full, with_names}
-use Rattle.pg_cells.specs.declared.accepting.Manner.TheVariants as manner
-use Rattle.pg_cells.specs.Accepting.{accept, is_accepted}
-use Rattle.pg_cells.specs.Done.{Done, idle}
-use Rattle.pg_cells.specs.Golds.{is_gold}
-use Rattle.pg_cells.specs.Making.{raise_flag}
+use Rattle.pg_pieces.specs.declared.accepting.EdgeUse.TheVariants as manner
+use Rattle.pg_pieces.specs.Accepting.{accept, is_accepted}
+use Rattle.pg_pieces.specs.Done.{Done, idle}
+use Rattle.pg_pieces.specs.Golds.{is_gold}
+use Rattle.pg_pieces.specs.Making.{raise_flag}
 
-abbrev pub golds_of : List ℕ → Option Own → ℕ
+abbrev pub golds_of : List ℕ → Option Attributes → ℕ
 golds_of removed None = 0
 golds_of removed (Some own) = count_by (is_live removed) own.flags
 
@@ -41,7 +41,7 @@ fill store file work =
 -- is full
 abbrev pub full : Store → Ends → Work → Done
 full store ends work =
-    if is_accepted store work.from manner.Answer ends && not (is_full store ends.file)
+    if is_accepted store work.from manner.Answers ends && not (is_full store ends.file)
     then fill store ends.file work
     else idle store work
 
@@ -57,6 +57,6 @@ invited ends done = if is_bronze done.store ends.file
     else done
 
 abbrev pub invite : Store → Ends → Work → Done
-invite store ends work = if is_accepted store work.from manner.Ask ends
-    then invited ends (accept store ends manner.Ask work)
-    else accept store ends manner.Ask work
+invite store ends work = if is_accepted store work.from manner.Needs ends
+    then invited ends (accept store ends manner.Needs work)
+    else accept store ends manner.Needs work

@@ -8,7 +8,7 @@ use Rattle.pg_intent.specs.Intents.{aimed}
 use Rattle.pg_msg.specs.declared.message.Ends.{Ends}
 use Rattle.pg_msg.specs.declared.message.Granted.{Granted}
 use Rattle.pg_msg.specs.declared.work.Work.{Work}
-use Rattle.pg_names.specs.declared.own.Own.{Own}
+use Rattle.pg_names.specs.declared.attributes.Attributes.{Attributes}
 use Rattle.pg_store.specs.declared.store.Store.{Store}
 use Rattle.pg_store.specs.declared.wishes.Wish.{Wish}
 use Rattle.pg_store.specs.Beginning.{begin, with_intents}
@@ -16,9 +16,9 @@ use Rattle.pg_store.specs.Births.{fill_at, is_pending, wish_at, with_wishes}
 use Rattle.pg_store.specs.Links.{unlink}
 use Rattle.pg_store.specs.Servers.{next_target}
 use Rattle.pg_store.specs.Wishes.{aim_wish}
-use Rattle.pg_cells.specs.declared.accepting.Manner.TheVariants as manner
-use Rattle.pg_cells.specs.Accepting.{accept, link_peer}
-use Rattle.pg_cells.specs.Done.{Done, idle}
+use Rattle.pg_pieces.specs.declared.accepting.EdgeUse.TheVariants as manner
+use Rattle.pg_pieces.specs.Accepting.{accept, link_peer}
+use Rattle.pg_pieces.specs.Done.{Done, idle}
 
 -- the Fill of a thing asks this server from now on, if there is one
 abbrev pub aim_fill : Store → FileId → ℕ → Store
@@ -27,7 +27,7 @@ aim_fill store file target =
 
 -- ---- granted
 
-abbrev pub granted_own : Granted → Own
+abbrev pub granted_own : Granted → Attributes
 granted_own g = record { place = g.place; flags = g.flags }
 
 -- a replica begins, filling, with what it was granted
@@ -47,7 +47,7 @@ begin_granted store ends g work = fill_from ends.file
 abbrev pub grant : Store → Ends → Granted → Work → Done
 grant store ends g work =
     if is_pending store ends.file ends.receiver then begin_granted store ends g work
-    else accept store ends manner.Link work
+    else accept store ends manner.Makes work
 
 -- ---- not granted
 

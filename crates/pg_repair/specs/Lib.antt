@@ -1,14 +1,6 @@
-pub mod Intending
 pub mod Fetching
 pub mod Granting
 pub mod Filling
-pub mod Inviting
 pub mod Confirming
 pub mod Telling
 pub mod NoneHere
-pub mod Patches
-pub mod Fills
-pub mod Confirms
-pub mod Beginning
-pub mod Requests
-pub mod Needed

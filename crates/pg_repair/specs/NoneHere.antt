@@ -12,7 +12,7 @@ use Rattle.pg_msg.specs.declared.work.Work.{Work}
 use Rattle.pg_store.specs.declared.store.Store.{Store}
 use Rattle.pg_store.specs.Beginning.{with_intents}
 use Rattle.pg_store.specs.Servers.{next_target}
-use Rattle.pg_cells.specs.Done.{Done, idle}
+use Rattle.pg_pieces.specs.Done.{Done, idle}
 
 -- which intention asked
 abbrev pub asking_key : Ask → FileId → FileId → IntentKey

@@ -14,9 +14,9 @@ use Rattle.pg_names.specs.Same.{is_same_stamp}
 use Rattle.pg_store.specs.declared.store.Store.{Store}
 use Rattle.pg_store.specs.Beginning.{with_intents}
 use Rattle.pg_store.specs.Store.{is_held}
-use Rattle.pg_cells.specs.Done.{Done, idle}
-use Rattle.pg_cells.specs.Posting.{reply}
-use Rattle.pg_cells.specs.Taking.{take_entry_noted}
+use Rattle.pg_pieces.specs.Done.{Done, idle}
+use Rattle.pg_pieces.specs.Posting.{reply}
+use Rattle.pg_pieces.specs.Taking.{take_entry_noted}
 
 -- ---- tell
 

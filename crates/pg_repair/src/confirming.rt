@@ -4,12 +4,12 @@ ghost use Rattle.std.specs.Prelude.{◌≡◌, IfOk, OnOk};
 ghost use Rattle.pg_repair.specs.Confirming.{confirm, end_confirmed, is_confirmed, own_entry, place_is, take_told_place, with_place_told};
 
 use pg_base::{FileId, Shared, Stamp};
-use pg_cells::{post, take_entry, take_flags, take_place};
 use pg_entries::Entry;
 use pg_house::is_root;
 use pg_intent::IntentKey;
 use pg_msg::{Ask, Message, Work};
 use pg_names::is_same_stamp;
+use pg_pieces::{post, take_entry, take_flags, take_place};
 use pg_store::Store;
 use std::alloc::AllocError;
 
@@ -62,7 +62,7 @@ fn tell_place(store: &Store, dir: FileId, child: FileId, work: &mut Work) -> Res
 }
 
 /// The own place and flags of a thing, as a cell for it.
-pub(crate) fn own_entry(store: &Store, file: FileId) -> Result<Entry, AllocError>
+pub fn own_entry(store: &Store, file: FileId) -> Result<Entry, AllocError>
     ensures { IfOk result (λ entry. entry ≡ own_entry store.now file) }
 {
     let own = store.names.own_or_blank(file)?;

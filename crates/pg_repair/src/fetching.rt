@@ -4,9 +4,9 @@ ghost use Rattle.std.specs.Prelude.{◌≡◌, IfOk, OnOk};
 ghost use Rattle.pg_repair.specs.Fetching.{answer_fetch, fetch, give, granted_from, place_to_grant};
 
 use pg_base::{FileId, Shared};
-use pg_cells::{ends_to, link_peer, post};
 use pg_msg::{Ends, Granted, Message, Work};
-use pg_names::{Own, is_dir};
+use pg_names::{Attributes, is_dir};
+use pg_pieces::{ends_to, link_peer, post};
 use pg_register::Place;
 use pg_replica::Replica;
 use pg_store::Store;
@@ -60,12 +60,12 @@ fn give(store: &Store, ends: Ends, work: &mut Work) -> Result<(), AllocError>
 fn granted_from(
     alloc: Global,
     file: FileId,
-    own: Own,
+    own: Attributes,
     replica: &Replica,
 ) -> Result<Granted, AllocError>
     ensures { IfOk result (λ granted. granted ≡ granted_from file own replica.now) }
 {
-    let Own { place, flags } = own;
+    let Attributes { place, flags } = own;
     Ok(Granted {
         policy: replica.content.policy(),
         place: place_to_grant(alloc, file, place)?,

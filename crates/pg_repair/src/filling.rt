@@ -4,13 +4,13 @@ ghost use Rattle.std.specs.Prelude.{◌≡◌, OnOk};
 ghost use Rattle.pg_repair.specs.Filling.{fill, full, invite, is_bronze, live_golds, raise_if_few};
 
 use pg_base::FileId;
-use pg_cells::{Manner, accept, is_accepted, is_gold, raise_flag};
 use pg_msg::{Ends, Work};
+use pg_pieces::{EdgeUse, accept, is_accepted, is_gold, raise_flag};
 use pg_store::Store;
 use std::alloc::AllocError;
 
 /// A replica that sees fewer live golds than this becomes one when it is full.
-pub(crate) const FEW_GOLDS: u32 = 3;
+pub const FEW_GOLDS: u32 = 3;
 
 /// The sender has nothing that the replica here does not have: it is full from then on, where the message is accepted.
 /// After out of memory a part may be done.
@@ -18,7 +18,7 @@ pub fn full(store: &mut Store, ends: Ends, work: &mut Work) -> Result<(), AllocE
     ensures store { OnOk result (store.new ≡ (full store.old ends work.old).store) }
     ensures work { OnOk result (work.new ≡ (full store.old ends work.old).work) }
 {
-    if is_accepted(store, work.from, Manner::Answer, &ends) && !store.names.is_full(&ends.file) {
+    if is_accepted(store, work.from, EdgeUse::Answers, &ends) && !store.names.is_full(&ends.file) {
         fill(store, ends.file, work)?;
     }
     Ok(())
@@ -30,7 +30,7 @@ pub fn invite(store: &mut Store, ends: Ends, work: &mut Work) -> Result<(), Allo
     ensures store { OnOk result (store.new ≡ (invite store.old ends work.old).store) }
     ensures work { OnOk result (work.new ≡ (invite store.old ends work.old).work) }
 {
-    let accepted = accept(store, &ends, Manner::Ask, work)?;
+    let accepted = accept(store, &ends, EdgeUse::Needs, work)?;
     if accepted && is_bronze(store, &ends.file) {
         raise_if_few(store, ends.file, work)?;
     }
@@ -67,7 +67,7 @@ fn raise_if_few(store: &mut Store, file: FileId, work: &mut Work) -> Result<(), 
 }
 
 /// How many live golds a thing sees.
-pub(crate) fn live_golds(store: &Store, file: &FileId) -> u32
+pub fn live_golds(store: &Store, file: &FileId) -> u32
     ensures { result ≡ live_golds store.now file.now }
 {
     match store.names.own(file) {

@@ -5,10 +5,10 @@ ghost use Rattle.pg_store.specs.Births.{fill_at, wish_at};
 ghost use Rattle.pg_repair.specs.Granting.{aim_fill, begin_granted, begun_by, fill_asks, gone, grant, granted_own, no_grant, turn_fill, turn_wish, wish_asks};
 
 use pg_base::{FileId, NodeId};
-use pg_cells::{Manner, accept, link_peer};
 use pg_intent::{Intent, IntentKey};
 use pg_msg::{Ends, Granted, Work};
-use pg_names::Own;
+use pg_names::Attributes;
+use pg_pieces::{EdgeUse, accept, link_peer};
 use pg_store::Store;
 use std::alloc::AllocError;
 
@@ -27,14 +27,14 @@ pub fn grant(
     if store.is_pending(ends.file, ends.receiver) {
         return begin_granted(store, ends, granted, work);
     }
-    accept(store, &ends, Manner::Link, work)?;
+    accept(store, &ends, EdgeUse::Makes, work)?;
     Ok(())
 }
 
-fn granted_own(granted: &Granted) -> Result<Own, AllocError>
+fn granted_own(granted: &Granted) -> Result<Attributes, AllocError>
     ensures { IfOk result (λ own. own ≡ granted_own granted.now) }
 {
-    Ok(Own {
+    Ok(Attributes {
         place: granted.place.copy()?,
         flags: granted.flags.copy()?,
     })

@@ -5,11 +5,11 @@ ghost use Rattle.pg_intent.specs.Intents.{intent_at};
 ghost use Rattle.pg_repair.specs.Telling.{end_told, is_told, tell, tell_ok};
 
 use pg_base::{FileId, NodeId, Stamp};
-use pg_cells::{post, take_entry};
 use pg_entries::Entry;
 use pg_intent::{Intent, IntentKey};
 use pg_msg::{Ask, Message, Work};
 use pg_names::is_same_stamp;
+use pg_pieces::{post, take_entry};
 use pg_store::Store;
 use std::alloc::AllocError;
 

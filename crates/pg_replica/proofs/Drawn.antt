@@ -9,10 +9,10 @@ use Rattle.pg_edges.proofs.Orders.{is_same_key-refl}
 use Rattle.pg_base.specs.Version.{VersionValue}
 use Rattle.pg_content.specs.Content.{covers_version, put_version, next_version}
 use Rattle.pg_content.specs.StandsFor.{InStrictOrder}
-use Rattle.pg_flood.specs.Server.{Replica as Seen}
-use Rattle.pg_flood.proofs.Draws.{Draws, Draws-refl, Draws-trans}
-use Rattle.pg_flood.proofs.Touch.{SameBut, touch_draws}
-use Rattle.pg_flood.proofs.Retire.{retire_draws}
+use Rattle.theory_flood.specs.Server.{Replica as Seen}
+use Rattle.theory_flood.proofs.Draws.{Draws, Draws-refl, Draws-trans}
+use Rattle.theory_flood.proofs.Touch.{SameBut, touch_draws}
+use Rattle.theory_flood.proofs.Retire.{retire_draws}
 use Rattle.pg_replica.specs.declared.replica.Replica.{Replica}
 use Rattle.pg_replica.specs.Replica.{key_of, keys, cell_at, covers, covered_heads, without_keys, with_head, with_version, tags_after, with_write}
 use Rattle.pg_replica.proofs.Listed.{length-without_keys}

@@ -16,7 +16,7 @@ use Rattle.pg_edges.proofs.Tags.{keeps_or_brings}
 use Rattle.pg_base.specs.Version.{VersionValue}
 use Rattle.pg_content.specs.Content.{Among, covers_version, put_version, next_version}
 use Rattle.pg_content.proofs.Inserting.{inserted_among}
-use Rattle.pg_flood.proofs.Worlds.{clean_tags}
+use Rattle.theory_flood.proofs.Worlds.{clean_tags}
 use Rattle.pg_replica.specs.declared.replica.Replica.{Replica}
 use Rattle.pg_replica.specs.Replica.{key_of, keys, cell_at, covers, covered_heads, without_keys, with_head, with_version, with_write, with_ack}
 use Rattle.pg_replica.specs.Laws.{IsKeyOf, OnlyHeads, KeysAreHeads}

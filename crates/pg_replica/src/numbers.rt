@@ -17,13 +17,13 @@ pub(crate) fn has_end(vector: &Vector) -> bool
 fn is_end(entry: &(Actor, u64)) -> bool
     ensures { result ≡ nat_le clock_end entry.now.1 }
 {
-    Stamp::LATEST <= entry.1
+    Stamp::CLOCK_END <= entry.1
 }
 
 fn is_own_end(server: NodeId, entry: &(Actor, u64)) -> bool
     ensures { result ≡ (entry.now.0.server == server && nat_le clock_end entry.now.1) }
 {
-    entry.0.server == server && Stamp::LATEST <= entry.1
+    entry.0.server == server && Stamp::CLOCK_END <= entry.1
 }
 
 /// Whether a version knows a number at its end of this server, of whichever birth.

@@ -5,7 +5,7 @@ use Rattle.pg_base.specs.declared.id.FileId.{FileId}
 use Rattle.pg_base.specs.Id.{is_same_file}
 use Rattle.pg_base.proofs.Orders.{is_same_file-refl, is_same_file-true}
 use Rattle.pg_content.specs.Content.{Among}
-use Rattle.pg_flood.proofs.Flood.{here}
+use Rattle.theory_flood.proofs.Flood.{here}
 use Rattle.pg_event.specs.declared.event.Event.{Event}
 use Rattle.pg_server.specs.declared.input.Input.{Input}
 use Rattle.pg_server.specs.Local.{takes_effect}

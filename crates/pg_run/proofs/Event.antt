@@ -20,19 +20,19 @@ use Rattle.pg_call.specs.declared.reply.Reply.{Reply}
 use Rattle.pg_replica.specs.declared.replica.Replica.{Replica}
 use Rattle.pg_store.specs.declared.store.Store.{Store}
 use Rattle.pg_store.specs.Cells.{cell_at}
-use Rattle.pg_store.specs.Store.{is_in_time}
-use Rattle.pg_cells.specs.Done.{Done, idle}
-use Rattle.pg_cells.specs.Posting.{sent_to}
-use Rattle.pg_cells.specs.Sending.{Wanted, cell_to, cell_under, cells_where, edge_cells, is_chosen, key_cell, replica_cells, waits}
-use Rattle.pg_repair.specs.Intending.{pieces}
-use Rattle.pg_repair.specs.Requests.{asked_of, asks, asks_by, request}
-use Rattle.pg_repair.proofs.Steady.{begin_end_stays}
-use Rattle.pg_calls.specs.Calls.{do_call}
+use Rattle.pg_store.specs.Store.{is_before_clock_end}
+use Rattle.pg_server.specs.pg_pieces.Done.{Done, idle}
+use Rattle.pg_server.specs.pg_pieces.Posting.{sent_to}
+use Rattle.pg_server.specs.pg_cells.Sending.{Wanted, cell_to, cell_under, cells_where, edge_cells, is_chosen, key_cell, replica_cells, waits}
+use Rattle.pg_server.specs.pg_intentions.Intending.{pieces}
+use Rattle.pg_server.specs.pg_intentions.Requests.{asked_of, asks, asks_by, request}
+use Rattle.pg_server.proofs.pg_intentions.Steady.{begin_end_stays}
+use Rattle.pg_server.specs.pg_calls.Calls.{do_call}
 use Rattle.pg_server.specs.declared.input.Input.{Input}
 use Rattle.pg_server.specs.declared.input.Input.TheVariants as input
 use Rattle.pg_server.specs.Local.{Effect, done_of, effect, finished, first_effect, intended, is_heard, receive, reply_to, sent_again, settled, takes_effect, without_wishes}
-use Rattle.pg_promises.proofs.Choices.{All-flat_map, chosen, decided}
-use Rattle.pg_promises.proofs.Settling.{settle_sent, settle_tail}
+use Rattle.theory_flood_pieces.proofs.Choices.{All-flat_map, chosen, decided}
+use Rattle.theory_flood_pieces.proofs.Settling.{settle_sent, settle_tail}
 
 -- ---- an effect
 
@@ -123,7 +123,7 @@ Comes H input.Restart = Unit {0}
 -- tick at the end of the clock
 pub record FirstHas (H : Packet → Type 0) (a : Store) (P : Done → Type 0) : Type 0 where
   pub calls : (moment : ℕ) (call : Call) → P (done_of (do_call a call (new_work moment 0)))
-  pub ticks : (moment word : ℕ) → is_in_time a ≡ true
+  pub ticks : (moment word : ℕ) → is_before_clock_end a ≡ true
       → P (idle a (sent_again a word (new_work moment 0)))
   pub arrivals : (packet : Packet) → is_heard a packet ≡ true → H packet
       → P (receive a packet.message (new_work 0 packet.from))
@@ -131,14 +131,14 @@ pub record FirstHas (H : Packet → Type 0) (a : Store) (P : Done → Type 0) : 
   pub nothing : (moment from : ℕ) → P (idle a (new_work moment from))
 
 module _ (H : Packet → Type 0) (a : Store) (P : Done → Type 0) (k : FirstHas H a P) where
-  tick_has : (moment word : ℕ) (t : Bool) → is_in_time a ≡ t
+  tick_has : (moment word : ℕ) (t : Bool) → is_before_clock_end a ≡ t
       → P (idle a (cond t (sent_again a word (new_work moment 0)) (new_work moment 0)))
   tick_has moment word true is = k.ticks moment word is
   tick_has moment word false is = k.nothing moment 0
 
   pub first_has : (asked : Input) → Comes H asked → P (first_effect a asked)
   first_has (input.Call moment call) h = k.calls moment call
-  first_has (input.Tick moment word) h = tick_has moment word (is_in_time a) refl
+  first_has (input.Tick moment word) h = tick_has moment word (is_before_clock_end a) refl
   first_has (input.Arrival packet) h =
       decided P (is_heard a packet) (receive a packet.message (new_work 0 packet.from))
       (idle a (new_work 0 packet.from)) (λ t. k.arrivals packet t h) (λ f. k.nothing 0 packet.from)

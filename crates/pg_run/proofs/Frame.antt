@@ -11,8 +11,8 @@ use Rattle.pg_event.specs.declared.entry.VoidCause.{VoidCause}
 use Rattle.pg_event.specs.declared.entry.VoidCause.TheVariants.{Last, NoMessage, Unremoved}
 use Rattle.pg_event.specs.declared.event.Event.{Event}
 use Rattle.pg_event.specs.declared.event.Event.TheVariants.{Call as Called, Tick, Deliver, Lose, Repeat, Restart, Remove}
-use Rattle.pg_flood.specs.World.{after}
-use Rattle.pg_flood.proofs.Flood.{after_itself, here}
+use Rattle.theory_flood.specs.World.{after}
+use Rattle.theory_flood.proofs.Flood.{after_itself, here}
 use Rattle.pg_register.specs.Flag.{is_removed}
 use Rattle.pg_server.specs.declared.input.Input.{Input}
 use Rattle.pg_server.specs.declared.input.Input.TheVariants as input

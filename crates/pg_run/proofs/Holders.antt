@@ -7,16 +7,16 @@ use Rattle.pg_msg.specs.declared.message.Ends.{Ends}
 use Rattle.pg_msg.specs.declared.work.Work.{Work}
 use Rattle.pg_names.specs.Names as names
 use Rattle.pg_names.proofs.Lookups.{update_frame}
-use Rattle.pg_promises.proofs.Choices.{chosen}
+use Rattle.theory_flood_pieces.proofs.Choices.{chosen}
 use Rattle.pg_store.specs.declared.store.Store.{Store}
 use Rattle.pg_store.specs.Births.{has_birth}
 use Rattle.pg_store.specs.Links.{is_new_link, knows_later, put_link}
 use Rattle.pg_store.specs.Store.{is_new_version, is_newer_entry, is_newer_flag, is_newer_place, put_entry, put_flag, put_place, put_version}
-use Rattle.pg_cells.specs.declared.accepting.Manner.{Manner}
-use Rattle.pg_cells.specs.declared.accepting.Manner.TheVariants as manner
-use Rattle.pg_cells.specs.Accepting.{accept, link_peer, met, with_gone}
-use Rattle.pg_cells.specs.Cells.{taken}
-use Rattle.pg_cells.specs.Done.{Done, idle}
+use Rattle.pg_server.specs.pg_pieces.declared.accepting.EdgeUse.{EdgeUse}
+use Rattle.pg_server.specs.pg_pieces.declared.accepting.EdgeUse.TheVariants as manner
+use Rattle.pg_server.specs.pg_pieces.Accepting.{accept, link_peer, met, with_gone}
+use Rattle.pg_server.specs.pg_cells.Cells.{taken}
+use Rattle.pg_server.specs.pg_pieces.Done.{Done, idle}
 
 linked_names : (a : Store) (f : FileId) (peer birth : ℕ) (work : Work)
     → (link_peer a f peer birth work).store.names ≡ a.names
@@ -24,12 +24,12 @@ linked_names a f peer birth work =
     let P : Store → Type 0 = λ b. b.names ≡ a.names in
     chosen P (is_new_link a f peer birth) (put_link a f peer birth) a refl refl
 
-met_names : (a : Store) (ends : Ends) (way : Manner) (work : Work) → (met a ends way work).store.names ≡ a.names
-met_names a ends manner.Link work = linked_names a ends.file work.from ends.sender work
-met_names a ends manner.Ask work = refl
-met_names a ends manner.Answer work = refl
+met_names : (a : Store) (ends : Ends) (way : EdgeUse) (work : Work) → (met a ends way work).store.names ≡ a.names
+met_names a ends manner.Makes work = linked_names a ends.file work.from ends.sender work
+met_names a ends manner.Needs work = refl
+met_names a ends manner.Answers work = refl
 
-pub accept_names : (a : Store) (ends : Ends) (way : Manner) (work : Work)
+pub accept_names : (a : Store) (ends : Ends) (way : EdgeUse) (work : Work)
     → (accept a ends way work).store.names ≡ a.names
 accept_names a ends way work =
     let P : Done → Type 0 = λ d. d.store.names ≡ a.names in

@@ -17,36 +17,36 @@ use Rattle.pg_msg.specs.declared.work.Work.{Work}
 use Rattle.pg_msg.specs.Work.{new_work}
 use Rattle.pg_store.specs.declared.store.Store.{Store}
 use Rattle.pg_store.specs.Births.{birth_of}
-use Rattle.pg_store.specs.Store.{is_in_time}
-use Rattle.pg_cells.specs.declared.accepting.Manner.TheVariants as manner
-use Rattle.pg_cells.specs.Accepting.{accept, is_accepted}
-use Rattle.pg_cells.specs.Done.{Done, idle}
-use Rattle.pg_cells.specs.Posting.{sent_to}
-use Rattle.pg_repair.specs.Fetching.{ends_to, fetch}
-use Rattle.pg_cells.specs.Cells.{cell}
-use Rattle.pg_repair.specs.Confirming.{confirm, place_is}
-use Rattle.pg_repair.specs.Filling.{full, invite}
-use Rattle.pg_repair.specs.Inviting.{first_loose, invite_along, invite_each, invite_of, invites, loose_edge}
-use Rattle.pg_repair.specs.Granting.{grant}
-use Rattle.pg_graph.specs.Seeking.{seek}
-use Rattle.pg_repair.specs.Telling.{tell}
+use Rattle.pg_store.specs.Store.{is_before_clock_end}
+use Rattle.pg_server.specs.pg_pieces.declared.accepting.EdgeUse.TheVariants as manner
+use Rattle.pg_server.specs.pg_pieces.Accepting.{accept, is_accepted}
+use Rattle.pg_server.specs.pg_pieces.Done.{Done, idle}
+use Rattle.pg_server.specs.pg_pieces.Posting.{sent_to}
+use Rattle.pg_server.specs.pg_repair.Fetching.{ends_to, fetch}
+use Rattle.pg_server.specs.pg_cells.Cells.{cell}
+use Rattle.pg_server.specs.pg_repair.Confirming.{confirm, place_is}
+use Rattle.pg_server.specs.pg_repair.Filling.{full, invite}
+use Rattle.pg_server.specs.pg_intentions.Inviting.{first_loose, invite_along, invite_each, invite_of, invites, loose_edge}
+use Rattle.pg_server.specs.pg_repair.Granting.{grant}
+use Rattle.pg_server.specs.pg_graph.Seeking.{seek}
+use Rattle.pg_server.specs.pg_repair.Telling.{tell}
 use Rattle.pg_call.specs.declared.call.Call.{Call}
 use Rattle.pg_call.specs.declared.call.Call.TheVariants as call
 use Rattle.pg_call.specs.declared.reply.Reply.TheVariants as reply
-use Rattle.pg_walk.specs.declared.paths.Stop.{Stop}
+use Rattle.pg_lookup.specs.declared.paths.LookupError.{LookupError}
 use Rattle.pg_store.specs.Views.{enter}
-use Rattle.pg_names.specs.declared.own.Own.{Own}
+use Rattle.pg_names.specs.declared.attributes.Attributes.{Attributes}
 use Rattle.pg_names.specs.Names.{own_at}
-use Rattle.pg_checks.specs.Answer.{Answer, answer, answered, told}
-use Rattle.pg_calls.specs.Calls.{do_call}
-use Rattle.pg_calls.specs.GivingUp.{doubt_all, enter_view, removal_at}
-use Rattle.pg_graph.specs.Seeks.{edges_of, matches}
-use Rattle.pg_graph.specs.Leaving.{leave, leave_ok}
-use Rattle.pg_graph.specs.Walks.{goes_on, is_onward, meet_origin, onward, walk, walk_along, walk_from, walk_of, walk_on, walked, with_few_edges}
+use Rattle.pg_server.specs.pg_checks.Answer.{Answer, answer, answered, told}
+use Rattle.pg_server.specs.pg_calls.Calls.{do_call}
+use Rattle.pg_server.specs.pg_calls.GivingUp.{doubt_all, enter_view, removal_at}
+use Rattle.pg_server.specs.pg_graph.Walks.{edges_of, goes_on, is_onward, meet_origin, onward, walk, walk_along, walk_from, walk_of, walk_on, walked, with_few_edges}
+use Rattle.pg_server.specs.pg_intentions.Seeks.{matches}
+use Rattle.pg_server.specs.pg_graph.Leaving.{leave, leave_ok}
 use Rattle.pg_server.specs.declared.input.Input.{Input}
 use Rattle.pg_server.specs.declared.input.Input.TheVariants as input
 use Rattle.pg_server.specs.Local.{first_effect, is_heard, receive, sent_again}
-use Rattle.pg_promises.proofs.Choices.{chosen, decided}
+use Rattle.theory_flood_pieces.proofs.Choices.{chosen, decided}
 use Rattle.pg_run.specs.Ticks.{HasFewEdges}
 use Rattle.pg_run.proofs.Walks.{again_is, at_among, few_there, tick_walks}
 use Rattle.pg_run.proofs.Lists.{among_contained}
@@ -66,7 +66,7 @@ pub record IsWalkOf (a : Store) (file : FileId) (origin birth : ℕ) (m : Sent) 
 -- what came is a walk that is passed on: it was accepted, and this server is not its origin
 abbrev pub IsPassedOn : Store → ℕ → Message → Sent → Type 0
 IsPassedOn a from (message.Walk ends origin birth hops word) m =
-    (is_accepted a from manner.Ask ends ≡ true) × ((origin == a.names.server) ≡ false)
+    (is_accepted a from manner.Needs ends ≡ true) × ((origin == a.names.server) ≡ false)
     × IsWalkOf a ends.file origin birth m
 IsPassedOn a from _ m = ⊥
 
@@ -131,7 +131,7 @@ module _ (a : Store) (from : ℕ) (ends : Ends) (origin birth hops word : ℕ) w
   abbrev Passes : Sent → Type 0
   Passes = IsPassedOn a from Comes
 
-  walked_has : is_accepted a from manner.Ask ends ≡ true → (origin == a.names.server) ≡ false
+  walked_has : is_accepted a from manner.Needs ends ≡ true → (origin == a.names.server) ≡ false
       → All Passes (walked a ends origin birth hops word Ons W).work.tail
   walked_has accepted other =
       chosen (λ (d : Done). All Passes d.work.tail) (goes_on hops Ons) (idle a (walk_on a ends.file origin birth hops word Ons W))
@@ -145,9 +145,9 @@ module _ (a : Store) (from : ℕ) (ends : Ends) (origin birth hops word : ℕ) w
       let P : Done → Type 0 = λ d. All Passes d.work.tail in
       let mine = origin == a.names.server in
       let on = walked a ends origin birth hops word Ons W in
-      decided P (is_accepted a from manner.Ask ends) (cond mine (idle a W) on) (accept a ends manner.Ask W)
+      decided P (is_accepted a from manner.Needs ends) (cond mine (idle a W) on) (accept a ends manner.Needs W)
       (λ accepted. decided P mine (idle a W) on (λ own. All-nil Passes) (λ other. walked_has accepted other))
-      (λ no. nothing Passes (accept a ends manner.Ask W).work.tail (accept_same a ends manner.Ask W))
+      (λ no. nothing Passes (accept a ends manner.Needs W).work.tail (accept_same a ends manner.Needs W))
 
 module _ (a : Store) (from : ℕ) where
   -- other messages put nothing last
@@ -163,7 +163,7 @@ module _ (a : Store) (from : ℕ) where
   receive_has (message.Grant ends granted) = none_last (message.Grant ends granted) (grant a ends granted Fresh).work (grant_same a ends granted Fresh)
   receive_has (message.Full ends) = none_last (message.Full ends) (full a ends Fresh).work (full_same a ends Fresh)
   receive_has (message.Seek file birth) = none_last (message.Seek file birth) (seek a file birth Fresh).work (seek_same a file birth Fresh)
-  receive_has (message.Here ends) = none_last (message.Here ends) (accept a ends manner.Link Fresh).work (accept_same a ends manner.Link Fresh)
+  receive_has (message.Here ends) = none_last (message.Here ends) (accept a ends manner.Makes Fresh).work (accept_same a ends manner.Makes Fresh)
   receive_has (message.Confirm dir e) = none_last (message.Confirm dir e) (confirm a dir e Fresh).work (confirm_same a dir e Fresh)
   receive_has (message.PlaceIs dir e) = none_last (message.PlaceIs dir e) (place_is a dir e Fresh).work (place_is_same a dir e Fresh)
   receive_has (message.Tell dir e) = none_last (message.Tell dir e) (tell a dir e Fresh).work (tell_same a dir e Fresh)
@@ -171,7 +171,7 @@ module _ (a : Store) (from : ℕ) where
   receive_has (message.LeaveOk ends stamp) = none_last (message.LeaveOk ends stamp) (leave_ok a ends stamp Fresh).work (leave_ok_same a ends stamp Fresh)
   receive_has (message.Invite ends) = none_last (message.Invite ends) (invite a ends Fresh).work (invite_same a ends Fresh)
   receive_has (message.Walk ends origin birth hops word) = walk_has a from ends origin birth hops word
-  receive_has (message.Meet ends) = none_last (message.Meet ends) (accept a ends manner.Link Fresh).work (accept_same a ends manner.Link Fresh)
+  receive_has (message.Meet ends) = none_last (message.Meet ends) (accept a ends manner.Makes Fresh).work (accept_same a ends manner.Makes Fresh)
   receive_has m = All-nil (IsPassedOn a from m)
 
 -- ---- a server is given up
@@ -184,7 +184,7 @@ find_in p (x ∷ es) e h = by (p x) (find_in p es e) h
     by true more k = inl (sym (same_Some x e k))
     by false more k = inr (more k)
 
-loose_in : (removed : List ℕ) (o : Option Own) (es : List Edge) (e : Edge) → first_loose removed o es ≡ Some e → Among e es
+loose_in : (removed : List ℕ) (o : Option Attributes) (es : List Edge) (e : Edge) → first_loose removed o es ≡ Some e → Among e es
 loose_in removed None es e h = absurd (none-some e h)
 loose_in removed (Some own) es e h = find_in (λ d. not (matches removed own.flags d)) es e h
 
@@ -211,7 +211,7 @@ module _ (a : Store) (moment view server : ℕ) where
   abbrev Invited : Sent → Type 0
   Invited = IsInvited a (call.Giveup view server)
 
-  by_removal : (o : Result (Unit {0}) Stop) → removal_at a view server ≡ o
+  by_removal : (o : Result (Unit {0}) LookupError) → removal_at a view server ≡ o
       → All Invited (answered a Up o (λ found. answer (enter_view a server Up) reply.Done)).work.tail
   by_removal (Err why) is =
       let next : Unit {0} → Answer = λ found. told a Up reply.Done in
@@ -251,7 +251,7 @@ module _ (a : Store) (moment word : ℕ) where
 
   tick_has : All Begins (first_effect a (input.Tick moment word)).work.tail
   tick_has =
-      chosen (λ (w : Work). All Begins w.tail) (is_in_time a) (sent_again a word (new_work moment 0)) (new_work moment 0)
+      chosen (λ (w : Work). All Begins w.tail) (is_before_clock_end a) (sent_again a word (new_work moment 0)) (new_work moment 0)
       (subst (λ (w : Work). All Begins w.tail) (sym (again_is a word (new_work moment 0))) begun_has) (All-nil Begins)
 
 -- ALL THAT GOES LAST are walks and invites

@@ -28,3 +28,23 @@ pub mod Sends
 pub mod SendsLosses
 pub mod SendsCalls
 pub mod Still
+pub use Rattle.pg_base.proofs as pg_base
+pub use Rattle.pg_path.proofs as pg_path
+pub use Rattle.pg_register.proofs as pg_register
+pub use Rattle.pg_entries.proofs as pg_entries
+pub use Rattle.pg_edges.proofs as pg_edges
+pub use Rattle.pg_intent.proofs as pg_intent
+pub use Rattle.pg_names.proofs as pg_names
+pub use Rattle.pg_content.proofs as pg_content
+pub use Rattle.theory_flood.proofs as theory_flood
+pub use Rattle.pg_replica.proofs as pg_replica
+pub use Rattle.pg_msg.proofs as pg_msg
+pub use Rattle.pg_house.proofs as pg_house
+pub use Rattle.pg_store.proofs as pg_store
+pub use Rattle.pg_server.proofs.pg_pieces as pg_pieces
+pub use Rattle.pg_server.proofs.pg_cells as pg_cells
+pub use Rattle.pg_server.proofs.pg_graph as pg_graph
+pub use Rattle.pg_server.proofs.pg_intentions as pg_intentions
+pub use Rattle.theory_flood_pieces.proofs as theory_flood_pieces
+pub use Rattle.pg_server.proofs.pg_checks as pg_checks
+pub use Rattle.pg_server.proofs.pg_calls as pg_calls

@@ -22,11 +22,11 @@ use Rattle.pg_call.specs.declared.reply.Reply.{Reply}
 use Rattle.pg_msg.specs.declared.work.Work.{Work}
 use Rattle.pg_store.specs.declared.store.Store.{Store}
 use Rattle.pg_store.specs.Store.{is_newer_flag}
-use Rattle.pg_cells.specs.Done.{Done}
-use Rattle.pg_cells.specs.Making.{own_next, raise_flag}
-use Rattle.pg_cells.specs.Settling.{rules, settle}
-use Rattle.pg_cells.proofs.Settled.{settle_keeps}
-use Rattle.pg_repair.proofs.Steady.{begin_end_stays}
+use Rattle.pg_server.specs.pg_pieces.Done.{Done}
+use Rattle.pg_server.specs.pg_pieces.Making.{own_next, raise_flag}
+use Rattle.pg_server.specs.pg_cells.Settling.{rules, settle}
+use Rattle.pg_server.proofs.pg_cells.Settled.{settle_keeps}
+use Rattle.pg_server.proofs.pg_intentions.Steady.{begin_end_stays}
 use Rattle.pg_server.specs.declared.input.Input.{Input}
 use Rattle.pg_server.specs.Local.{Effect, closed, effect, finished, first_effect, reply_to, settled, takes_effect}
 use Rattle.pg_run.specs.Run.{first_made}

@@ -16,9 +16,9 @@ use Rattle.pg_event.specs.declared.quiet.OwedKey.{OwedKey}
 use Rattle.pg_store.specs.declared.store.Store.{Store}
 use Rattle.pg_store.specs.Cells.{cell_at}
 use Rattle.pg_store.specs.Store.{replica_at}
-use Rattle.pg_cells.specs.Sending.{cell_to, cell_under, cells_where, edge_cells, is_any, key_cell, replica_cells, waits}
-use Rattle.pg_promises.specs.Whole.{AreEdges, IsEdge, IsWhole}
-use Rattle.pg_promises.proofs.Found.{edges_found, entries_known, keys_found, tag_on_edge}
+use Rattle.pg_server.specs.pg_cells.Sending.{cell_to, cell_under, cells_where, edge_cells, is_any, key_cell, replica_cells, waits}
+use Rattle.theory_flood_pieces.specs.Whole.{AreEdges, IsEdge, IsWhole}
+use Rattle.theory_flood_pieces.proofs.Found.{edges_found, entries_known, keys_found, tag_on_edge}
 use Rattle.pg_server.specs.Owing.{edge_owes, replica_owes}
 use Rattle.pg_run.specs.Ticks.{IsOwedCell, edge_of, is_let, let_through, owed_cell, waits_on}
 use Rattle.pg_run.proofs.Zips.{zip_parts, zip_singles}

@@ -18,7 +18,7 @@ use Rattle.pg_store.specs.declared.store.Store.{Store}
 use Rattle.pg_event.specs.declared.quiet.OwedKey.{OwedKey}
 use Rattle.pg_server.specs.Owing.{edge_owes, owed_keys, replica_owes}
 use Rattle.pg_run.specs.Ticks.{owing_cmp}
-use Rattle.pg_promises.specs.Whole.{AreEdges, IsEdge, IsWhole}
+use Rattle.theory_flood_pieces.specs.Whole.{AreEdges, IsEdge, IsWhole}
 
 -- ---- sorted lists of sorted parts
 

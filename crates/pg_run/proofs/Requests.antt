@@ -10,11 +10,11 @@ use Rattle.pg_intent.specs.declared.intent.Intent.TheVariants as intent
 use Rattle.pg_intent.specs.Intent.{target_of}
 use Rattle.pg_msg.specs.declared.message.Message.{Message}
 use Rattle.pg_msg.specs.declared.message.Message.TheVariants as message
-use Rattle.pg_names.specs.declared.own.Own.{Own}
+use Rattle.pg_names.specs.declared.attributes.Attributes.{Attributes}
 use Rattle.pg_names.specs.Names.{cell_at, own_at}
 use Rattle.pg_store.specs.declared.store.Store.{Store}
 use Rattle.pg_store.specs.Births.{birth_of}
-use Rattle.pg_repair.specs.Requests.{asked_of, asks, bye_message, confirm_message, leave_message, request}
+use Rattle.pg_server.specs.pg_intentions.Requests.{asked_of, asks, bye_message, confirm_message, leave_message, request}
 use Rattle.pg_run.specs.Ticks.{IsAskedBy, IsRequest, asking}
 use Rattle.pg_run.proofs.Zips.{zip_head}
 
@@ -28,7 +28,7 @@ module _ (a : Store) where
   confirm_by dir child target None m is h = absurd (let z : None ≡ Some m = h in cc)
   confirm_by dir child target (Some e) m is h = (e, is, sym (same_Some (message.Confirm dir e) m h))
 
-  leave_by : (file : FileId) (peer peer_birth : ℕ) (o : Option Own) (m : Message) → own_at a.names file ≡ o → leave_message a file peer_birth o ≡ Some m
+  leave_by : (file : FileId) (peer peer_birth : ℕ) (o : Option Attributes) (m : Message) → own_at a.names file ≡ o → leave_message a file peer_birth o ≡ Some m
       → IsAskedBy a (intent.Leave file peer peer_birth) m
   leave_by file peer peer_birth None m is h = absurd (let z : None ≡ Some m = h in cc)
   leave_by file peer peer_birth (Some own) m is h = (

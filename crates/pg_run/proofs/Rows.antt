@@ -9,7 +9,7 @@ use Rattle.pg_call.specs.declared.call.Call.TheVariants.{Ls, Mkdir, Rmdir}
 use Rattle.pg_event.specs.declared.event.Event.{Event}
 use Rattle.pg_event.specs.declared.event.Event.TheVariants.{Call, Deliver}
 use Rattle.pg_house.specs.Holding.{held_back}
-use Rattle.pg_names.specs.declared.own.Own.{Own}
+use Rattle.pg_names.specs.declared.attributes.Attributes.{Attributes}
 use Rattle.pg_names.specs.Names.{cell_at, own_at}
 use Rattle.pg_store.specs.Births.{birth_of}
 use Rattle.pg_run.specs.Journal.{bag}
@@ -21,7 +21,7 @@ abbrev dir : FileId
 dir = record { kind = Dir; server = 1; number = 1 }
 
 -- the replica of its maker is the second that this began, behind that of the root
-abbrev own : Own
+abbrev own : Attributes
 own = record {
   place = record {
     stamp = record { time = 10; server = 1 };

@@ -28,7 +28,7 @@ use Rattle.pg_msg.specs.Sent.{cell_key}
 use Rattle.pg_msg.specs.Work.{with_begun, with_left, with_linked, with_made, with_touched, with_unsure}
 use Rattle.pg_names.specs.Names.{own_or_blank}
 use Rattle.pg_names.specs.Names as names
-use Rattle.pg_promises.proofs.Choices.{chosen, decided}
+use Rattle.theory_flood_pieces.proofs.Choices.{chosen, decided}
 use Rattle.pg_register.specs.declared.flag.Flag.{Flag}
 use Rattle.pg_register.specs.declared.place.Place.{Place}
 use Rattle.pg_replica.specs.declared.replica.Replica.{Replica}
@@ -37,24 +37,23 @@ use Rattle.pg_store.specs.Births.{birth_of, has_birth, is_pending}
 use Rattle.pg_store.specs.Beginning.{let_go}
 use Rattle.pg_store.specs.Links.{is_clean, is_new_link, knows_later}
 use Rattle.pg_store.specs.Store.{entry_news, is_full, is_held, is_new_version, is_newer_flag, is_newer_place, replica_at, replica_of, with_names}
-use Rattle.pg_cells.specs.declared.accepting.Manner.{Manner}
-use Rattle.pg_cells.specs.declared.accepting.Manner.TheVariants as manner
-use Rattle.pg_cells.specs.Accepting.{accept, ends_to, is_accepted, is_answer, link_peer, met, with_gone}
-use Rattle.pg_cells.specs.Cells.{cell as take_cell, fits, taken, taken_along}
-use Rattle.pg_cells.specs.Done.{Done, idle}
-use Rattle.pg_cells.specs.Intending.{begin_intent}
-use Rattle.pg_cells.specs.Making.{make_flag, own_next, raise_flag}
-use Rattle.pg_cells.specs.Posting.{post, sent_to}
-use Rattle.pg_cells.specs.Taking.{is_any_news, is_place_news, take_entry_noted, take_flag_noted, take_flags_noted, take_place_noted, with_left_if, with_news}
-use Rattle.pg_repair.specs.Confirming.{confirm, confirmed, own_entry, place_is, place_told, take_told_flags, take_told_place}
-use Rattle.pg_repair.specs.Fetching.{answer_fetch, fetch, give, given}
-use Rattle.pg_repair.specs.Filling.{few_golds, fill, full, invite, invited, is_bronze, live_golds, raise_if_few}
-use Rattle.pg_repair.specs.Granting.{begin_granted, begun_by, grant}
-use Rattle.pg_repair.specs.Telling.{tell, told}
-use Rattle.pg_graph.specs.Leaving.{begin_byes, bye_to, gives_leave, goes, goes_or_stays, leave, leave_given, leave_ok, may_leave, without_leave}
-use Rattle.pg_graph.specs.Seeking.{answered_seek, seek}
-use Rattle.pg_graph.specs.Seeks.{edges_of}
-use Rattle.pg_graph.specs.Walks.{goes_on, meet_origin, most_hops, onward, walk, walk_along, walk_from, walk_of, walk_of_tick, walk_on, walked, with_few_edges}
+use Rattle.pg_server.specs.pg_pieces.declared.accepting.EdgeUse.{EdgeUse}
+use Rattle.pg_server.specs.pg_pieces.declared.accepting.EdgeUse.TheVariants as manner
+use Rattle.pg_server.specs.pg_pieces.Accepting.{accept, ends_to, is_accepted, is_answer, link_peer, met, with_gone}
+use Rattle.pg_server.specs.pg_cells.Cells.{cell as take_cell, fits, taken, taken_along}
+use Rattle.pg_server.specs.pg_pieces.Done.{Done, idle}
+use Rattle.pg_server.specs.pg_pieces.Intending.{begin_intent}
+use Rattle.pg_server.specs.pg_pieces.Making.{make_flag, own_next, raise_flag}
+use Rattle.pg_server.specs.pg_pieces.Posting.{post, sent_to}
+use Rattle.pg_server.specs.pg_pieces.Taking.{is_any_news, is_place_news, take_entry_noted, take_flag_noted, take_flags_noted, take_place_noted, with_left_if, with_news}
+use Rattle.pg_server.specs.pg_repair.Confirming.{confirm, confirmed, own_entry, place_is, place_told, take_told_flags, take_told_place}
+use Rattle.pg_server.specs.pg_repair.Fetching.{answer_fetch, fetch, give, given}
+use Rattle.pg_server.specs.pg_repair.Filling.{few_golds, fill, full, invite, invited, is_bronze, live_golds, raise_if_few}
+use Rattle.pg_server.specs.pg_repair.Granting.{begin_granted, begun_by, grant}
+use Rattle.pg_server.specs.pg_repair.Telling.{tell, told}
+use Rattle.pg_server.specs.pg_graph.Leaving.{begin_byes, bye_to, gives_leave, goes, goes_or_stays, leave, leave_given, leave_ok, may_leave, without_leave}
+use Rattle.pg_server.specs.pg_graph.Seeking.{answered_seek, seek}
+use Rattle.pg_server.specs.pg_graph.Walks.{edges_of, goes_on, meet_origin, most_hops, onward, walk, walk_along, walk_from, walk_of, walk_of_tick, walk_on, walked, with_few_edges}
 use Rattle.pg_server.specs.Local.{receive}
 use Rattle.pg_run.proofs.Holders.{IsBy, accept_names, taken_by}
 
@@ -88,12 +87,12 @@ module _ (Q : Sent → Type 0) (plain : (m : Sent) → is_plain m.packet.message
   linked_fine : (a : Store) (f : FileId) (peer birth : ℕ) (work : Work) → Fine work → Fine (link_peer a f peer birth work).work
   linked_fine a f peer birth work k = chosen Fine (is_new_link a f peer birth) (with_linked work f peer) work k k
 
-  met_fine : (a : Store) (ends : Ends) (way : Manner) (work : Work) → Fine work → Fine (met a ends way work).work
-  met_fine a ends manner.Link work k = linked_fine a ends.file work.from ends.sender work k
-  met_fine a ends manner.Ask work k = k
-  met_fine a ends manner.Answer work k = k
+  met_fine : (a : Store) (ends : Ends) (way : EdgeUse) (work : Work) → Fine work → Fine (met a ends way work).work
+  met_fine a ends manner.Makes work k = linked_fine a ends.file work.from ends.sender work k
+  met_fine a ends manner.Needs work k = k
+  met_fine a ends manner.Answers work k = k
 
-  pub accept_fine : (a : Store) (ends : Ends) (way : Manner) (work : Work) → Fine work → Fine (accept a ends way work).work
+  pub accept_fine : (a : Store) (ends : Ends) (way : EdgeUse) (work : Work) → Fine work → Fine (accept a ends way work).work
   accept_fine a ends way work k =
       let P : Done → Type 0 = λ d. Fine d.work in
       chosen P (has_birth a ends.file ends.receiver) _ (idle a (with_gone a ends way work))
@@ -150,21 +149,21 @@ module _ (Q : Sent → Type 0) (plain : (m : Sent) → is_plain m.packet.message
 
   -- the answer, where it is accepted
   abbrev pub AnswerHas : Store → Ends → ℕ → Cell → ℕ → Type 0
-  AnswerHas a ends tag c asker = fits ends.file c ≡ true → is_accepted a asker manner.Link ends ≡ true
+  AnswerHas a ends tag c asker = fits ends.file c ≡ true → is_accepted a asker manner.Makes ends ≡ true
       → (b : Store) → IsBy a b → Q (sent_to b from (message.Ack (back ends) (cell_key c) tag))
 
   pub cell_fine : (a : Store) (ends : Ends) (tag : ℕ) (c : Cell) (work : Work) → AnswerHas a ends tag c work.from → Fine work
       → Fine (take_cell a ends tag c work).work
   cell_fine a ends tag c work has k =
       let P : Done → Type 0 = λ d. Fine d.work in
-      let m = accept a ends manner.Link work in
-      let h = accept_fine a ends manner.Link work k in
+      let m = accept a ends manner.Makes work in
+      let h = accept_fine a ends manner.Makes work k in
       let t = taken m.store ends.file c m.work in
       let u = taken_fine m.store ends.file c m.work h in
       let ack = message.Ack (back ends) (cell_key c) tag in
-      let by : IsBy a t.store = taken_by m.store ends.file c m.work ∙ ap (λ (n : names.NamesValue). n.server) (accept_names a ends manner.Link work) in
+      let by : IsBy a t.store = taken_by m.store ends.file c m.work ∙ ap (λ (n : names.NamesValue). n.server) (accept_names a ends manner.Makes work) in
       decided P (fits ends.file c) _ (idle a work)
-      (λ fit. decided P (is_accepted a work.from manner.Link ends) (taken_along ends tag c m) m
+      (λ fit. decided P (is_accepted a work.from manner.Makes ends) (taken_along ends tag c m) m
       (λ met. posted t.store t.work.from ack t.work (subst (λ (to : ℕ). Q (sent_to t.store to ack)) (sym u.2) (has fit met t.store by)) u) (λ no. h)) (λ no. k)
 
   -- ---- replicas begin, and are filled
@@ -188,8 +187,8 @@ module _ (Q : Sent → Type 0) (plain : (m : Sent) → is_plain m.packet.message
   pub grant_fine : (a : Store) (ends : Ends) (g : Granted) (work : Work) → Fine work → Fine (grant a ends g work).work
   grant_fine a ends g work k =
       let b = begun_by a ends g in
-      chosen (λ (d : Done). Fine d.work) (is_pending a ends.file ends.receiver) (begin_granted a ends g work) (accept a ends manner.Link work)
-      (linked_fine b ends.file work.from ends.sender work k) (accept_fine a ends manner.Link work k)
+      chosen (λ (d : Done). Fine d.work) (is_pending a ends.file ends.receiver) (begin_granted a ends g work) (accept a ends manner.Makes work)
+      (linked_fine b ends.file work.from ends.sender work k) (accept_fine a ends manner.Makes work k)
 
   few_fine : (a : Store) (f : FileId) (work : Work) → Fine work → Fine (raise_if_few a f work).work
   few_fine a f work k =
@@ -201,15 +200,15 @@ module _ (Q : Sent → Type 0) (plain : (m : Sent) → is_plain m.packet.message
 
   pub full_fine : (a : Store) (ends : Ends) (work : Work) → Fine work → Fine (full a ends work).work
   full_fine a ends work k =
-      let t = is_accepted a work.from manner.Answer ends && not (is_full a ends.file) in
+      let t = is_accepted a work.from manner.Answers ends && not (is_full a ends.file) in
       chosen (λ (d : Done). Fine d.work) t (fill a ends.file work) (idle a work) (fill_fine a ends.file work k) k
 
   pub invite_fine : (a : Store) (ends : Ends) (work : Work) → Fine work → Fine (invite a ends work).work
   invite_fine a ends work k =
       let P : Done → Type 0 = λ d. Fine d.work in
-      let m = accept a ends manner.Ask work in
-      let h = accept_fine a ends manner.Ask work k in
-      chosen P (is_accepted a work.from manner.Ask ends) (invited ends m) m
+      let m = accept a ends manner.Needs work in
+      let h = accept_fine a ends manner.Needs work k in
+      chosen P (is_accepted a work.from manner.Needs ends) (invited ends m) m
       (chosen P (is_bronze m.store ends.file) (raise_if_few m.store ends.file m.work) m
       (few_fine m.store ends.file m.work h) h) h
 
@@ -289,19 +288,19 @@ module _ (Q : Sent → Type 0) (plain : (m : Sent) → is_plain m.packet.message
   walk_fine a ends origin birth hops word work k =
       let P : Done → Type 0 = λ d. Fine d.work in
       let edges = onward a ends.file work.from origin in
-      chosen P (is_accepted a work.from manner.Ask ends) _ (accept a ends manner.Ask work)
+      chosen P (is_accepted a work.from manner.Needs ends) _ (accept a ends manner.Needs work)
       (chosen P (origin == a.names.server) (idle a work) (walked a ends origin birth hops word edges work) k (walked_fine a ends origin birth hops word edges work k))
-      (accept_fine a ends manner.Ask work k)
+      (accept_fine a ends manner.Needs work k)
 
   -- ---- leave
 
   leave_fine : (a : Store) (ends : Ends) (stamp : Stamp) (work : Work)
       → ((b : Store) → Q (sent_to b from (message.LeaveOk (ends_to b ends.file ends.sender) stamp))) → Fine work → Fine (leave a ends stamp work).work
   leave_fine a ends stamp work has k =
-      let m = accept a ends manner.Link work in
-      let h = accept_fine a ends manner.Link work k in
+      let m = accept a ends manner.Makes work in
+      let h = accept_fine a ends manner.Makes work k in
       let ok = message.LeaveOk (ends_to m.store ends.file ends.sender) stamp in
-      chosen (λ (d : Done). Fine d.work) (is_accepted a work.from manner.Link ends) (leave_given ends stamp m) m
+      chosen (λ (d : Done). Fine d.work) (is_accepted a work.from manner.Makes ends) (leave_given ends stamp m) m
       (chosen Fine (gives_leave m.store ends.file stamp) (post m.store m.work.from ok m.work) m.work (answered m.store ok m.work (has m.store) h) h) h
 
   byes_fine : (file : FileId) (birth : ℕ) (es : List Edge) (d : Done) → Fine d.work → Fine (begin_byes file birth es d).work
@@ -336,7 +335,7 @@ module _ (Q : Sent → Type 0) (plain : (m : Sent) → is_plain m.packet.message
   received_fine a (message.Grant ends g) work has k = grant_fine a ends g work k
   received_fine a (message.Full ends) work has k = full_fine a ends work k
   received_fine a (message.Seek f birth) work has k = seek_fine a f birth work k
-  received_fine a (message.Here ends) work has k = accept_fine a ends manner.Link work k
+  received_fine a (message.Here ends) work has k = accept_fine a ends manner.Makes work k
   received_fine a (message.Confirm dir e) work has k = confirm_fine a dir e work has k
   received_fine a (message.PlaceIs dir e) work has k = place_is_fine a dir e work k
   received_fine a (message.Tell dir e) work has k = tell_fine a dir e work has k
@@ -344,5 +343,5 @@ module _ (Q : Sent → Type 0) (plain : (m : Sent) → is_plain m.packet.message
   received_fine a (message.LeaveOk ends stamp) work has k = leave_ok_fine a ends stamp work k
   received_fine a (message.Invite ends) work has k = invite_fine a ends work k
   received_fine a (message.Walk ends origin birth hops word) work has k = walk_fine a ends origin birth hops word work k
-  received_fine a (message.Meet ends) work has k = accept_fine a ends manner.Link work k
+  received_fine a (message.Meet ends) work has k = accept_fine a ends manner.Makes work k
   received_fine a m work has k = k

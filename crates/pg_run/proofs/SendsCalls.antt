@@ -17,31 +17,31 @@ use Rattle.pg_msg.specs.declared.work.Work.{Work}
 use Rattle.pg_msg.specs.Work.{new_work, with_made}
 use Rattle.pg_names.specs.Names.{known}
 use Rattle.pg_patch.specs.Ranges.{RangesValue, cut_to, written}
-use Rattle.pg_promises.proofs.Choices.{chosen}
+use Rattle.theory_flood_pieces.proofs.Choices.{chosen}
 use Rattle.pg_register.specs.declared.flag.Flag.{Flag}
 use Rattle.pg_register.specs.declared.place.Place.{Place}
 use Rattle.pg_store.specs.declared.store.Store.{Store}
 use Rattle.pg_store.specs.declared.wishes.Wish.{Wish}
 use Rattle.pg_store.specs.Births.{with_birth, with_wish}
-use Rattle.pg_walk.specs.declared.paths.Found.{Found}
-use Rattle.pg_walk.specs.declared.paths.Stop.{Stop}
-use Rattle.pg_walk.specs.declared.paths.Stop.TheVariants as stop
-use Rattle.pg_cells.specs.Done.{Done, idle}
-use Rattle.pg_cells.specs.Golds.{is_gold}
-use Rattle.pg_cells.specs.Making.{lower_flag, own_next}
-use Rattle.pg_checks.specs.declared.checks.NewName.{NewName}
-use Rattle.pg_checks.specs.Answer.{Answer, answer, answered, deny, replied, told}
-use Rattle.pg_checks.specs.Asking.{ask_by, fetch as fetch_wish, fresh_wish, holder, standing}
-use Rattle.pg_calls.specs.Bodies.{change, change_file, shown_part, when_fit}
-use Rattle.pg_calls.specs.Calls.{do_call}
-use Rattle.pg_checks.specs.Checks.{dir_at, empty_dir_at, file_at, in_time, move_of, new_name, target_at}
-use Rattle.pg_calls.specs.Demoting.{demoted_at, lowered}
-use Rattle.pg_calls.specs.Dropping.{clean_gold, dropped_at, leave_of, leaving}
-use Rattle.pg_calls.specs.Forgetting.{forget_lost, lost_at}
-use Rattle.pg_calls.specs.GivingUp.{enter_view, removal_at}
-use Rattle.pg_calls.specs.Looks.{counts, listing, page, stat_of}
-use Rattle.pg_calls.specs.Making.{drawn, make_place, make_version}
-use Rattle.pg_calls.specs.Naming.{begun, dead_place, moved, next_id, place_in, taken_away, with_first_version, with_id, with_thing}
+use Rattle.pg_lookup.specs.declared.paths.Found.{Found}
+use Rattle.pg_lookup.specs.declared.paths.LookupError.{LookupError}
+use Rattle.pg_lookup.specs.declared.paths.LookupError.TheVariants as stop
+use Rattle.pg_server.specs.pg_pieces.Done.{Done, idle}
+use Rattle.pg_server.specs.pg_pieces.Golds.{is_gold}
+use Rattle.pg_server.specs.pg_pieces.Making.{lower_flag, own_next}
+use Rattle.pg_server.specs.pg_checks.declared.checks.NewName.{NewName}
+use Rattle.pg_server.specs.pg_checks.Answer.{Answer, answer, answered, deny, replied, told}
+use Rattle.pg_server.specs.pg_checks.Asking.{ask_by, fetch as fetch_wish, fresh_wish, holder, standing}
+use Rattle.pg_server.specs.pg_calls.Bodies.{change, change_file, shown_part, when_fit}
+use Rattle.pg_server.specs.pg_calls.Calls.{do_call}
+use Rattle.pg_server.specs.pg_checks.Checks.{dir_at, empty_dir_at, file_at, in_time, move_of, new_name, target_at}
+use Rattle.pg_server.specs.pg_calls.Demoting.{demoted_at, lowered}
+use Rattle.pg_server.specs.pg_calls.Dropping.{clean_gold, dropped_at, leave_of, leaving}
+use Rattle.pg_server.specs.pg_calls.Forgetting.{forget_lost, lost_at}
+use Rattle.pg_server.specs.pg_calls.GivingUp.{enter_view, removal_at}
+use Rattle.pg_server.specs.pg_calls.Looks.{counts, listing, page, stat_of}
+use Rattle.pg_server.specs.pg_calls.Making.{drawn, make_place, make_version}
+use Rattle.pg_server.specs.pg_calls.Naming.{begun, dead_place, moved, next_id, place_in, taken_away, with_first_version, with_id, with_thing}
 use Rattle.pg_run.proofs.SendsLosses.{enter_fine, lost_fine}
 use Rattle.pg_run.proofs.Sends.{Fine, intent_fine, is_plain, made_fine, place_fine, posted_plain, raised_fine}
 
@@ -74,15 +74,15 @@ module _ (Q : Sent → Type 0) (plain : (m : Sent) → is_plain m.packet.message
         let wish = fresh_wish a target in
         chosen (λ (d : Done). Fits d.work) (target == 0) (idle a W) (idle (with_wish (with_birth a) found.file wish) (fetch_wish a found.file wish W)) none (fetch_quiet found.file wish)
 
-    denied_quiet : (why : Stop) → Quiet (deny a why W)
+    denied_quiet : (why : LookupError) → Quiet (deny a why W)
     denied_quiet (stop.Refused why) = none
     denied_quiet (stop.NotYet found) = asked_quiet found (standing a found.file)
 
-    going : {A : Type 0} (r : Result A Stop) (next : A → Answer) → ((x : A) → Quiet (next x)) → Quiet (answered a W r next)
+    going : {A : Type 0} (r : Result A LookupError) (next : A → Answer) → ((x : A) → Quiet (next x)) → Quiet (answered a W r next)
     going (Err why) next each = denied_quiet why
     going (Ok x) next each = each x
 
-    looks : {A : Type 0} (r : Result A Stop) (tell : A → Reply) → Quiet (replied a W r tell)
+    looks : {A : Type 0} (r : Result A LookupError) (tell : A → Reply) → Quiet (replied a W r tell)
     looks r tell = going r (λ x. told a W (tell x)) (λ x. none)
 
     thing_quiet : (kind : Kind) (policy : Policy) (new : NewName) → Fits (with_thing (with_id a) W (next_id a kind) policy new).work

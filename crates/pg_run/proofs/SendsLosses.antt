@@ -10,18 +10,18 @@ use Rattle.pg_msg.specs.declared.update.Update.TheVariants as update
 use Rattle.pg_msg.specs.declared.work.Work.{Work}
 use Rattle.pg_msg.specs.Work.{with_made}
 use Rattle.pg_names.specs.Names.{blank_own, is_dir}
-use Rattle.pg_promises.proofs.Choices.{chosen}
+use Rattle.theory_flood_pieces.proofs.Choices.{chosen}
 use Rattle.pg_register.specs.declared.place.Place.{Place}
 use Rattle.pg_store.specs.declared.store.Store.{Store}
 use Rattle.pg_store.specs.Store.{is_held}
 use Rattle.pg_store.specs.Views.{enter}
-use Rattle.pg_cells.specs.Accepting.{ends_to}
-use Rattle.pg_cells.specs.Done.{Done, idle}
-use Rattle.pg_cells.specs.Posting.{sent_to}
-use Rattle.pg_repair.specs.Inviting.{invite_along, invite_each, invite_of, invites, loose_edge}
-use Rattle.pg_calls.specs.Forgetting.{bare_entry, begin_lost, begun_at, begun_with, dead_at, dirs_of, fill_lost, forget_lost, has_blank_place, is_wanted, last_listing, last_place, mark, marked_each, placed_in_root, placed_lost, root_place, strike_out, struck_out, unwished}
-use Rattle.pg_calls.specs.GivingUp.{doubt_all, enter_view}
-use Rattle.pg_calls.specs.Naming.{raised}
+use Rattle.pg_server.specs.pg_pieces.Accepting.{ends_to}
+use Rattle.pg_server.specs.pg_pieces.Done.{Done, idle}
+use Rattle.pg_server.specs.pg_pieces.Posting.{sent_to}
+use Rattle.pg_server.specs.pg_intentions.Inviting.{invite_along, invite_each, invite_of, invites, loose_edge}
+use Rattle.pg_server.specs.pg_calls.Forgetting.{bare_entry, begin_lost, begun_at, begun_with, dead_at, dirs_of, fill_lost, forget_lost, has_blank_place, is_wanted, last_listing, last_place, mark, marked_each, placed_in_root, placed_lost, root_place, strike_out, struck_out, unwished}
+use Rattle.pg_server.specs.pg_calls.GivingUp.{doubt_all, enter_view}
+use Rattle.pg_server.specs.pg_calls.Naming.{raised}
 use Rattle.pg_run.proofs.Sends.{Fine, entry_fine, fill_fine, is_plain, place_fine, raised_fine}
 
 module _ (Q : Sent → Type 0) (plain : (m : Sent) → is_plain m.packet.message ≡ true → Q m) (from : ℕ) where

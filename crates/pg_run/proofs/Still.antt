@@ -15,10 +15,10 @@ use Rattle.pg_register.specs.declared.place.Place.{Place}
 use Rattle.pg_store.specs.declared.store.Store.{Store}
 use Rattle.pg_store.specs.Links.{is_new_link}
 use Rattle.pg_store.specs.Store.{entry_news, is_new_version, is_newer_flag, is_newer_place}
-use Rattle.pg_cells.specs.Accepting.{link_peer, with_link}
-use Rattle.pg_cells.specs.Intending.{with_begun_if}
-use Rattle.pg_cells.specs.Taking.{is_any_news, is_place_news, take_entry_cell, take_entry_noted, take_flag_noted, take_place_noted, take_version_noted, with_doubt, with_left_if, with_news}
-use Rattle.pg_promises.proofs.Choices.{chosen}
+use Rattle.pg_server.specs.pg_pieces.Accepting.{link_peer, with_link}
+use Rattle.pg_server.specs.pg_pieces.Intending.{with_begun_if}
+use Rattle.pg_server.specs.pg_pieces.Taking.{is_any_news, is_place_news, take_entry_cell, take_entry_noted, take_flag_noted, take_place_noted, take_version_noted, with_doubt, with_left_if, with_news}
+use Rattle.theory_flood_pieces.proofs.Choices.{chosen}
 
 -- the same is sent, be it last, and to the same server it answers
 pub record SameMail (v w : Work) : Type 0 where

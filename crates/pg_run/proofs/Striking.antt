@@ -18,14 +18,14 @@ use Rattle.pg_call.specs.declared.call.Call.{Call}
 use Rattle.pg_call.specs.declared.call.Call.TheVariants as call
 use Rattle.pg_call.specs.declared.reply.Reply.TheVariants as reply
 use Rattle.pg_names.specs.Names.{NamesValue, cell_at, is_dir}
-use Rattle.pg_walk.specs.declared.paths.Stop.{Stop}
+use Rattle.pg_lookup.specs.declared.paths.LookupError.{LookupError}
 use Rattle.pg_store.specs.declared.store.Store.{Store}
 use Rattle.pg_store.specs.Store.{entry_news, is_held}
-use Rattle.pg_cells.specs.Done.{Done}
-use Rattle.pg_cells.specs.Taking.{is_any_news, with_news}
-use Rattle.pg_checks.specs.Answer.{Answer, answer, answered}
-use Rattle.pg_checks.specs.Asking.{cell_in, is_later, later, latest}
-use Rattle.pg_calls.specs.Forgetting.{bare_entry, begin_lost, dead_at, dirs_of, fill_lost, forget_lost, lists_in, lost_at, mark, marked_each, strike_out, struck_out, unwished}
+use Rattle.pg_server.specs.pg_pieces.Done.{Done}
+use Rattle.pg_server.specs.pg_pieces.Taking.{is_any_news, with_news}
+use Rattle.pg_server.specs.pg_checks.Answer.{Answer, answer, answered}
+use Rattle.pg_server.specs.pg_checks.Asking.{cell_in, is_later, later, latest}
+use Rattle.pg_server.specs.pg_calls.Forgetting.{bare_entry, begin_lost, dead_at, dirs_of, fill_lost, forget_lost, lists_in, lost_at, mark, marked_each, strike_out, struck_out, unwished}
 use Rattle.pg_server.specs.declared.input.Input.{Input}
 use Rattle.pg_server.specs.declared.input.Input.TheVariants as input
 use Rattle.pg_run.specs.Carried.{anew_takes, came, forgotten_takes, strikes_out, struck_by, struck_takes}
@@ -127,10 +127,10 @@ module _ (a : Store) (moment : ℕ) (id : FileId) where
   by_kind false false = struck (latest a.names id None Lists) refl
 
 module _ (a : Store) (moment : ℕ) where
-  abbrev Asked : Result FileId Stop → Answer
+  abbrev Asked : Result FileId LookupError → Answer
   Asked o = answered a (new_work moment 0) o (λ found. answer (forget_lost a found (new_work moment 0)) reply.Done)
 
-  by_check : (o : Result FileId Stop) → Within (map take_of (Asked o).work.made)
+  by_check : (o : Result FileId LookupError) → Within (map take_of (Asked o).work.made)
       (cond (strikes_out a o) [] (map take_of (Asked o).work.made) ++ forgotten_takes a moment o)
   by_check (Err stop) = front_told (map take_of (Asked (Err stop)).work.made) []
   by_check (Ok id) = by_kind a moment id (is_held a id) (is_dir id)

@@ -23,34 +23,34 @@ use Rattle.pg_intent.specs.Intents.{stands}
 use Rattle.pg_names.specs.Names.{own_or_blank}
 use Rattle.pg_house.specs.Work.{is_root, note_left}
 use Rattle.pg_call.specs.declared.call.Call.TheVariants as call
-use Rattle.pg_walk.specs.declared.paths.Stop.TheVariants as stop
+use Rattle.pg_lookup.specs.declared.paths.LookupError.TheVariants as stop
 use Rattle.pg_replica.specs.declared.replica.Replica.{Replica}
 use Rattle.pg_store.specs.declared.store.Store.{Store}
 use Rattle.pg_store.specs.Beginning.{let_go}
 use Rattle.pg_store.specs.Births.{birth_of, has_birth, is_pending}
 use Rattle.pg_store.specs.Links.{is_clean, is_new_link, knows_later}
 use Rattle.pg_store.specs.Store.{entry_news, is_full, is_held, is_new_version, is_newer_flag, is_newer_place, replica_at, replica_of, with_names}
-use Rattle.pg_cells.specs.declared.accepting.Manner.{Manner}
-use Rattle.pg_cells.specs.declared.accepting.Manner.TheVariants as manner
-use Rattle.pg_cells.specs.Accepting.{accept, is_accepted, is_answer, link_peer, met, with_gone, with_link}
-use Rattle.pg_cells.specs.Cells.{cell, fits, taken, taken_along}
-use Rattle.pg_cells.specs.Golds.{is_gold}
-use Rattle.pg_cells.specs.Done.{Done, idle}
-use Rattle.pg_cells.specs.Making.{make_flag, own_next, raise_flag}
-use Rattle.pg_cells.specs.Posting.{reply}
-use Rattle.pg_cells.specs.Taking.{is_any_news, is_place_news, take_entry_cell, take_entry_noted, take_flag_noted, take_flags_noted, take_place_noted, with_doubt, with_left_if, with_news}
-use Rattle.pg_repair.specs.Confirming.{confirm, place_is, place_told, take_told_flags, take_told_place}
-use Rattle.pg_repair.specs.Fetching.{answer_fetch, answered_fetch, ends_to, fetch, give, given}
-use Rattle.pg_repair.specs.Filling.{few_golds, fill, full, invite, invited, live_golds, raise_if_few}
-use Rattle.pg_repair.specs.Granting.{begin_granted, begun_by, grant}
-use Rattle.pg_graph.specs.Seeking.{answered_seek, seek}
-use Rattle.pg_repair.specs.Telling.{tell}
-use Rattle.pg_graph.specs.Leaving.{begin_byes, bye_to, gives_leave, goes, goes_or_stays, leave, leave_given, leave_ok, may_leave, without_leave}
-use Rattle.pg_cells.specs.Intending.{begin_intent}
-use Rattle.pg_cells.specs.Parting.{stays_for}
-use Rattle.pg_checks.specs.Answer.{Answer}
-use Rattle.pg_calls.specs.Making.{make_place}
-use Rattle.pg_promises.proofs.Choices.{chosen}
+use Rattle.pg_server.specs.pg_pieces.declared.accepting.EdgeUse.{EdgeUse}
+use Rattle.pg_server.specs.pg_pieces.declared.accepting.EdgeUse.TheVariants as manner
+use Rattle.pg_server.specs.pg_pieces.Accepting.{accept, is_accepted, is_answer, link_peer, met, with_gone, with_link}
+use Rattle.pg_server.specs.pg_cells.Cells.{cell, fits, taken, taken_along}
+use Rattle.pg_server.specs.pg_pieces.Golds.{is_gold}
+use Rattle.pg_server.specs.pg_pieces.Done.{Done, idle}
+use Rattle.pg_server.specs.pg_pieces.Making.{make_flag, own_next, raise_flag}
+use Rattle.pg_server.specs.pg_pieces.Posting.{reply}
+use Rattle.pg_server.specs.pg_pieces.Taking.{is_any_news, is_place_news, take_entry_cell, take_entry_noted, take_flag_noted, take_flags_noted, take_place_noted, with_doubt, with_left_if, with_news}
+use Rattle.pg_server.specs.pg_repair.Confirming.{confirm, place_is, place_told, take_told_flags, take_told_place}
+use Rattle.pg_server.specs.pg_repair.Fetching.{answer_fetch, answered_fetch, ends_to, fetch, give, given}
+use Rattle.pg_server.specs.pg_repair.Filling.{few_golds, fill, full, invite, invited, live_golds, raise_if_few}
+use Rattle.pg_server.specs.pg_repair.Granting.{begin_granted, begun_by, grant}
+use Rattle.pg_server.specs.pg_graph.Seeking.{answered_seek, seek}
+use Rattle.pg_server.specs.pg_repair.Telling.{tell}
+use Rattle.pg_server.specs.pg_graph.Leaving.{begin_byes, bye_to, gives_leave, goes, goes_or_stays, leave, leave_given, leave_ok, may_leave, without_leave}
+use Rattle.pg_server.specs.pg_pieces.Intending.{begin_intent}
+use Rattle.pg_server.specs.pg_pieces.Parting.{stays_for}
+use Rattle.pg_server.specs.pg_checks.Answer.{Answer}
+use Rattle.pg_server.specs.pg_calls.Making.{make_place}
+use Rattle.theory_flood_pieces.proofs.Choices.{chosen}
 use Rattle.pg_names.specs.Names as names
 
 -- ---- what is put last stays so
@@ -125,12 +125,12 @@ link_same a file peer birth w = by (is_new_link a file peer birth)
     by true = refl
     by false = refl
 
-met_same : (a : Store) (ends : Ends) (m : Manner) (w : Work) → Same w (met a ends m w).work
-met_same a ends manner.Link w = link_same a ends.file w.from ends.sender w
-met_same a ends manner.Ask w = refl
-met_same a ends manner.Answer w = refl
+met_same : (a : Store) (ends : Ends) (m : EdgeUse) (w : Work) → Same w (met a ends m w).work
+met_same a ends manner.Makes w = link_same a ends.file w.from ends.sender w
+met_same a ends manner.Needs w = refl
+met_same a ends manner.Answers w = refl
 
-pub accept_same : (a : Store) (ends : Ends) (m : Manner) (w : Work) → Same w (accept a ends m w).work
+pub accept_same : (a : Store) (ends : Ends) (m : EdgeUse) (w : Work) → Same w (accept a ends m w).work
 accept_same a ends m w =
     let later = knows_later a ends.file w.from ends.sender in
     done_either w (has_birth a ends.file ends.receiver) (cond later (idle a w) (met a ends m w)) (idle a (with_gone a ends m w))
@@ -141,11 +141,11 @@ accept_same a ends m w =
 
 pub cell_same : (a : Store) (ends : Ends) (tag : ℕ) (c : Cell) (w : Work) → Same w (cell a ends tag c w).work
 cell_same a ends tag c w =
-    let accepted = is_accepted a w.from manner.Link ends in
-    let d = accept a ends manner.Link w in
+    let accepted = is_accepted a w.from manner.Makes ends in
+    let d = accept a ends manner.Makes w in
     done_either w (fits ends.file c) (cond accepted (taken_along ends tag c d) d) (idle a w)
     (done_either w accepted (taken_along ends tag c d) d
-    (taken_same d.store ends.file c d.work ∙ accept_same a ends manner.Link w) (accept_same a ends manner.Link w)) refl
+    (taken_same d.store ends.file c d.work ∙ accept_same a ends manner.Makes w) (accept_same a ends manner.Makes w)) refl
 
 given_same : (a : Store) (ends : Ends) (o : Option Replica) (w : Work) → Same w (given a ends o w)
 given_same a ends None w = refl
@@ -166,8 +166,8 @@ fetch_same a file birth w =
 
 pub grant_same : (a : Store) (ends : Ends) (g : Granted) (w : Work) → Same w (grant a ends g w).work
 grant_same a ends g w =
-    done_either w (is_pending a ends.file ends.receiver) (begin_granted a ends g w) (accept a ends manner.Link w)
-    (link_same (begun_by a ends g) ends.file w.from ends.sender w) (accept_same a ends manner.Link w)
+    done_either w (is_pending a ends.file ends.receiver) (begin_granted a ends g w) (accept a ends manner.Makes w)
+    (link_same (begun_by a ends g) ends.file w.from ends.sender w) (accept_same a ends manner.Makes w)
 
 pub fill_same : (a : Store) (file : FileId) (w : Work) → Same w (raise_if_few a file w).work
 fill_same a file w =
@@ -175,13 +175,13 @@ fill_same a file w =
 
 pub full_same : (a : Store) (ends : Ends) (w : Work) → Same w (full a ends w).work
 full_same a ends w =
-    done_either w (is_accepted a w.from manner.Answer ends && not (is_full a ends.file)) (fill a ends.file w) (idle a w) (fill_same (with_names a (names.fill a.names ends.file)) ends.file w) refl
+    done_either w (is_accepted a w.from manner.Answers ends && not (is_full a ends.file)) (fill a ends.file w) (idle a w) (fill_same (with_names a (names.fill a.names ends.file)) ends.file w) refl
 
 pub invite_same : (a : Store) (ends : Ends) (w : Work) → Same w (invite a ends w).work
 invite_same a ends w =
-    let d = accept a ends manner.Ask w in
-    let one = accept_same a ends manner.Ask w in
-    done_either w (is_accepted a w.from manner.Ask ends) (invited ends d) d
+    let d = accept a ends manner.Needs w in
+    let one = accept_same a ends manner.Needs w in
+    done_either w (is_accepted a w.from manner.Needs ends) (invited ends d) d
     (done_either w (is_full d.store ends.file && not (is_gold d.store ends.file)) (raise_if_few d.store ends.file d.work) d
     (fill_same d.store ends.file d.work ∙ one) one) one
 
@@ -220,9 +220,9 @@ leave_given_same ends stamp d = either d.work (gives_leave d.store ends.file sta
 
 pub leave_same : (a : Store) (ends : Ends) (stamp : Stamp) (w : Work) → Same w (leave a ends stamp w).work
 leave_same a ends stamp w =
-    let d = accept a ends manner.Link w in
-    done_either w (is_accepted a w.from manner.Link ends) (leave_given ends stamp d) d
-    (leave_given_same ends stamp d ∙ accept_same a ends manner.Link w) (accept_same a ends manner.Link w)
+    let d = accept a ends manner.Makes w in
+    done_either w (is_accepted a w.from manner.Makes ends) (leave_given ends stamp d) d
+    (leave_given_same ends stamp d ∙ accept_same a ends manner.Makes w) (accept_same a ends manner.Makes w)
 
 pub leave_ok_same : (a : Store) (ends : Ends) (stamp : Stamp) (w : Work) → Same w (leave_ok a ends stamp w).work
 leave_ok_same a ends stamp w =

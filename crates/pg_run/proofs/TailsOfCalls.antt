@@ -13,33 +13,33 @@ use Rattle.pg_msg.specs.Work.{with_made}
 use Rattle.pg_names.specs.Names.{is_dir}
 use Rattle.pg_call.specs.declared.call.Call.{Call}
 use Rattle.pg_call.specs.declared.call.Call.TheVariants as call
-use Rattle.pg_walk.specs.declared.paths.Stop.{Stop}
-use Rattle.pg_walk.specs.declared.paths.Stop.TheVariants as stop
+use Rattle.pg_lookup.specs.declared.paths.LookupError.{LookupError}
+use Rattle.pg_lookup.specs.declared.paths.LookupError.TheVariants as stop
 use Rattle.pg_store.specs.declared.store.Store.{Store}
 use Rattle.pg_store.specs.Births.{with_birth, with_wish}
 use Rattle.pg_store.specs.Store.{is_held, with_names}
-use Rattle.pg_cells.specs.Golds.{is_gold}
-use Rattle.pg_cells.specs.Done.{idle}
-use Rattle.pg_cells.specs.Making.{lower_flag, own_next, raise_flag}
-use Rattle.pg_cells.specs.Posting.{post}
-use Rattle.pg_checks.specs.Answer.{Answer, answered, deny}
-use Rattle.pg_checks.specs.Asking.{ask_by, ask_first, fetch as ask, fresh_wish, holder, latest, standing}
-use Rattle.pg_calls.specs.Forgetting.{bare_entry, begin_lost, begun_at, begun_with, dead_at, dirs_of, fill_lost, forget_lost, has_blank_place, is_wanted, last_place, lists_in, lost_at, mark, marked_each, placed_lost, root_place, strike_out, struck_out, unwished}
-use Rattle.pg_calls.specs.Calls.{do_call}
-use Rattle.pg_calls.specs.Demoting.{demoted_at}
-use Rattle.pg_calls.specs.Dropping.{clean_gold, dropped_at, leave_of, leaving}
-use Rattle.pg_calls.specs.Making.{make_place}
+use Rattle.pg_server.specs.pg_pieces.Golds.{is_gold}
+use Rattle.pg_server.specs.pg_pieces.Done.{idle}
+use Rattle.pg_server.specs.pg_pieces.Making.{lower_flag, own_next, raise_flag}
+use Rattle.pg_server.specs.pg_pieces.Posting.{post}
+use Rattle.pg_server.specs.pg_checks.Answer.{Answer, answered, deny}
+use Rattle.pg_server.specs.pg_checks.Asking.{ask_by, ask_first, fetch as ask, fresh_wish, holder, latest, standing}
+use Rattle.pg_server.specs.pg_calls.Forgetting.{bare_entry, begin_lost, begun_at, begun_with, dead_at, dirs_of, fill_lost, forget_lost, has_blank_place, is_wanted, last_place, lists_in, lost_at, mark, marked_each, placed_lost, root_place, strike_out, struck_out, unwished}
+use Rattle.pg_server.specs.pg_calls.Calls.{do_call}
+use Rattle.pg_server.specs.pg_calls.Demoting.{demoted_at}
+use Rattle.pg_server.specs.pg_calls.Dropping.{clean_gold, dropped_at, leave_of, leaving}
+use Rattle.pg_server.specs.pg_calls.Making.{make_place}
 use Rattle.pg_base.specs.declared.id.Kind.TheVariants.{Dir, File}
 use Rattle.pg_base.specs.declared.policy.Policy.{Policy}
 use Rattle.pg_base.specs.declared.policy.Policy.TheVariants.{Last}
 use Rattle.pg_patch.specs.Ranges.{RangesValue, cut_to, written}
 use Rattle.pg_names.specs.Names as names
-use Rattle.pg_walk.specs.declared.paths.Found.{Found}
-use Rattle.pg_checks.specs.declared.checks.NewName.{NewName}
+use Rattle.pg_lookup.specs.declared.paths.Found.{Found}
+use Rattle.pg_server.specs.pg_checks.declared.checks.NewName.{NewName}
 use Rattle.pg_store.specs.declared.wishes.Wish.{Wish}
-use Rattle.pg_checks.specs.Checks.{dir_at, empty_dir_at, file_at, in_time, move_of, new_name, target_at}
-use Rattle.pg_calls.specs.Naming.{begun, dead_place, next_id, place_in, with_id, with_thing}
-use Rattle.pg_calls.specs.Bodies.{change, change_file, when_fit}
+use Rattle.pg_server.specs.pg_checks.Checks.{dir_at, empty_dir_at, file_at, in_time, move_of, new_name, target_at}
+use Rattle.pg_server.specs.pg_calls.Naming.{begun, dead_place, next_id, place_in, with_id, with_thing}
+use Rattle.pg_server.specs.pg_calls.Bodies.{change, change_file, when_fit}
 use Rattle.pg_run.proofs.Tails.{Same, begin_same, done_either, either, entry_same, fill_same, flag_made_same, place_made_same}
 
 ask_first_same : (a : Store) (file : FileId) (target : ℕ) (w : Work) → Same w (ask_first a file target w).work
@@ -54,11 +54,11 @@ ask_by_same : (a : Store) (found : Found) (o : Option Wish) (w : Work) → Same 
 ask_by_same a found None w = ask_first_same a found.file (holder a found) w
 ask_by_same a found (Some wish) w = either w (wish.target == 0) w (post a wish.target (message.Fetch found.file wish.birth) w) refl refl
 
-deny_same : (a : Store) (why : Stop) (w : Work) → Same w (deny a why w).work
+deny_same : (a : Store) (why : LookupError) (w : Work) → Same w (deny a why w).work
 deny_same a (stop.Refused why) w = refl
 deny_same a (stop.NotYet found) w = ask_by_same a found (standing a found.file) w
 
-pub answered_same : {A : Type 0} (a : Store) (w : Work) (r : Result A Stop) (next : A → Answer)
+pub answered_same : {A : Type 0} (a : Store) (w : Work) (r : Result A LookupError) (next : A → Answer)
     → ((x : A) → Same w (next x).work) → Same w (answered a w r next).work
 answered_same a w (Err why) next h = deny_same a why w
 answered_same a w (Ok x) next h = h x

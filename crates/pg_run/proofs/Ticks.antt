@@ -11,7 +11,7 @@ use Rattle.pg_base.specs.declared.id.FileId.{FileId}
 use Rattle.pg_base.specs.Id.{file_cmp}
 use Rattle.pg_register.specs.declared.flag.Flag.{Flag}
 use Rattle.pg_register.specs.Flag.{flag_of, is_live}
-use Rattle.pg_names.specs.Names.{HeldValue, known}
+use Rattle.pg_names.specs.Names.{InodeValue, known}
 use Rattle.pg_edges.specs.declared.key.Key.{Key}
 use Rattle.pg_edges.specs.declared.edge.Edge.{Edge}
 use Rattle.pg_replica.specs.declared.replica.Replica.{Replica}
@@ -23,18 +23,18 @@ use Rattle.pg_event.specs.declared.event.Event.{Event}
 use Rattle.pg_event.specs.declared.event.Event.TheVariants.{Restart, Tick}
 use Rattle.pg_house.specs.Facts.{AreOrdered}
 use Rattle.pg_house.specs.Work.{state_of}
-use Rattle.pg_flood.proofs.Flood.{here}
+use Rattle.theory_flood.proofs.Flood.{here}
 use Rattle.pg_store.specs.declared.store.Store.{Store}
 use Rattle.pg_store.specs.Births.{birth_of}
-use Rattle.pg_store.specs.Store.{is_in_time}
-use Rattle.pg_cells.specs.Done.{Done, idle}
-use Rattle.pg_cells.specs.Sending.{cells_where, edge_cells, is_any, is_chosen, key_cell, replica_cells}
-use Rattle.pg_cells.specs.Golds.{goldless, is_goldless, is_goldless_held, is_of_later, sees_gold}
-use Rattle.pg_cells.specs.Settling.{golds_raised, raise_golds, rules, settle, touch_all, with_state}
-use Rattle.pg_cells.specs.Ticks.{tick}
-use Rattle.pg_promises.specs.Whole.{IsWhole}
-use Rattle.pg_repair.specs.Beginning.{begin_end}
-use Rattle.pg_repair.specs.Requests.{ask_all, asks}
+use Rattle.pg_store.specs.Store.{is_before_clock_end}
+use Rattle.pg_server.specs.pg_pieces.Done.{Done, idle}
+use Rattle.pg_server.specs.pg_cells.Sending.{cells_where, edge_cells, is_any, is_chosen, key_cell, replica_cells}
+use Rattle.pg_server.specs.pg_pieces.Golds.{goldless, is_goldless, is_goldless_held, is_of_later, sees_gold}
+use Rattle.pg_server.specs.pg_cells.Settling.{golds_raised, raise_golds, rules, settle, touch_all, with_state}
+use Rattle.pg_server.specs.pg_cells.Ticks.{tick}
+use Rattle.theory_flood_pieces.specs.Whole.{IsWhole}
+use Rattle.pg_server.specs.pg_intentions.Beginning.{begin_end}
+use Rattle.pg_server.specs.pg_intentions.Requests.{ask_all, asks}
 use Rattle.pg_server.specs.declared.input.Input.TheVariants as input
 use Rattle.pg_server.specs.Local.{Effect, closed, effect, finished, intended, sent_again, settled, without_wishes}
 use Rattle.pg_call.specs.declared.refusal.Refusal.TheVariants.{ClockEnd}
@@ -118,7 +118,7 @@ full_by false seen later h = refl
 full_by true seen later h = ap (λ (t : Bool). not t && not later) (h refl)
 
 module _ (a : Store) (golds : FullSeeGold a) where
-  sees_one : (f : FileId) (o : Option HeldValue) → known a.names f ≡ o
+  sees_one : (f : FileId) (o : Option InodeValue) → known a.names f ≡ o
       → is_goldless_held a.names.removed a.names.server (birth_of a f) o ≡ false
   sees_one f None is = refl
   sees_one f (Some x) is =
@@ -219,10 +219,10 @@ module _ (a : Store) (moment word : ℕ) where
     abbrev Leaving : Work → Effect
     Leaving w =
         let done : Bool → Done = λ t. idle a (cond t w (new_work moment 0)) in
-        cond (is_in_time a) (closed (Answering (is_in_time a)) (done (is_in_time a))) (finished (Answering (is_in_time a)) (done (is_in_time a)))
+        cond (is_before_clock_end a) (closed (Answering (is_before_clock_end a)) (done (is_before_clock_end a))) (finished (Answering (is_before_clock_end a)) (done (is_before_clock_end a)))
 
-    pub tick_is : IsTick (is_in_time a) (effect a (input.Tick moment word))
-    tick_is = subst (λ (w : Work). IsTick (is_in_time a) (Leaving w)) (sym again) (by_clock (is_in_time a))
+    pub tick_is : IsTick (is_before_clock_end a) (effect a (input.Tick moment word))
+    tick_is = subst (λ (w : Work). IsTick (is_before_clock_end a) (Leaving w)) (sym again) (by_clock (is_before_clock_end a))
 
 -- ---- the laws, where it holds of each server what events leave
 
@@ -270,7 +270,7 @@ module _ (n s : ℕ) (a : Store) (k : IsTidy n s a) where
   either_way false = refl
 
   pub restart_is : effect a input.Restart ≡ Bare
-  restart_is = either_way (is_in_time a)
+  restart_is = either_way (is_before_clock_end a)
 
   pub bare_sends : Bare.out.sent ≡ []
   bare_sends = nothing_more Lost [] []

@@ -17,25 +17,24 @@ use Rattle.pg_msg.specs.declared.message.Message.TheVariants as message
 use Rattle.pg_msg.specs.declared.message.Sent.{Sent}
 use Rattle.pg_msg.specs.declared.work.Work.{Work}
 use Rattle.pg_msg.specs.Work.{new_work}
-use Rattle.pg_names.specs.declared.own.Own.{Own}
-use Rattle.pg_names.specs.Names.{HeldValue, is_full_of, known, own_of}
+use Rattle.pg_names.specs.declared.attributes.Attributes.{Attributes}
+use Rattle.pg_names.specs.Names.{InodeValue, is_full_of, known, own_of}
 use Rattle.pg_house.specs.Facts.{is_among}
 use Rattle.pg_house.specs.Work.{is_root}
 use Rattle.pg_house.proofs.Counting.{among_kept, kept_dir}
 use Rattle.pg_house.proofs.Ends.{key_of_held}
-use Rattle.pg_promises.specs.Whole.{AreEdges, IsWhole}
-use Rattle.pg_promises.proofs.Choices.{found_replica}
+use Rattle.theory_flood_pieces.specs.Whole.{AreEdges, IsWhole}
+use Rattle.theory_flood_pieces.proofs.Choices.{found_replica}
 use Rattle.pg_replica.specs.declared.replica.Replica.{Replica}
 use Rattle.pg_replica.specs.Replicas.{or_nothing}
 use Rattle.pg_store.specs.declared.store.Store.{Store}
 use Rattle.pg_store.specs.Births.{birth_of}
 use Rattle.pg_store.specs.Store.{is_full, replica_at}
-use Rattle.pg_cells.specs.Posting.{sent_to}
-use Rattle.pg_cells.specs.Ticks.{tick}
-use Rattle.pg_repair.specs.Fetching.{ends_to}
-use Rattle.pg_repair.specs.Requests.{ask_all}
-use Rattle.pg_graph.specs.Seeks.{edges_of}
-use Rattle.pg_graph.specs.Walks.{has_few_edges, walk_along, walk_from, walk_of, walk_of_tick, with_few_edges}
+use Rattle.pg_server.specs.pg_pieces.Posting.{sent_to}
+use Rattle.pg_server.specs.pg_cells.Ticks.{tick}
+use Rattle.pg_server.specs.pg_repair.Fetching.{ends_to}
+use Rattle.pg_server.specs.pg_intentions.Requests.{ask_all}
+use Rattle.pg_server.specs.pg_graph.Walks.{edges_of, has_few_edges, walk_along, walk_from, walk_of, walk_of_tick, with_few_edges}
 use Rattle.pg_server.specs.Local.{sent_again}
 use Rattle.pg_run.specs.Ticks.{AreWalks, HasFewEdges, IsWalk}
 
@@ -93,7 +92,7 @@ few_test : (n : ℕ) → 1 ≤ n → n ≤ 2 → (nat_lt 0 n && nat_lt n 3) ≡ 
 few_test n least most =
     and_from (nat_lt 0 n) (nat_lt n 3) (grind (arith, nat_tests)) (grind (arith, nat_tests))
 
-full_own : (o : Option HeldValue) → is_full_of o ≡ true → (own : Own) × (own_of o ≡ Some own)
+full_own : (o : Option InodeValue) → is_full_of o ≡ true → (own : Attributes) × (own_of o ≡ Some own)
 full_own None h = absurd (let z : false ≡ true = h in cc)
 full_own (Some x) h = (x.own, refl)
 

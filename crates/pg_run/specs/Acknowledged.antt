@@ -7,8 +7,8 @@ use Rattle.pg_edges.specs.declared.key.Key.{Key}
 use Rattle.pg_edges.specs.Keys.{tag_in}
 use Rattle.pg_entries.specs.declared.cell.Cell.{Cell}
 use Rattle.pg_event.specs.declared.event.Event.{Event}
-use Rattle.pg_flood.specs.Server.{Holds}
-use Rattle.pg_promises.specs.UpTo.{IsUpTo}
+use Rattle.theory_flood.specs.Server.{Holds}
+use Rattle.theory_flood_pieces.specs.UpTo.{IsUpTo}
 use Rattle.pg_replica.specs.declared.replica.Replica.{Replica}
 use Rattle.pg_store.specs.Cells.{cell_at}
 use Rattle.pg_store.specs.Store.{replica_at}

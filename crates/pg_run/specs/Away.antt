@@ -12,8 +12,8 @@ use Rattle.pg_store.specs.declared.store.Store.{Store}
 use Rattle.pg_store.specs.declared.wishes.Wish.{Wish}
 use Rattle.pg_store.specs.Births.{wish_at}
 use Rattle.pg_store.specs.Store.{is_held}
-use Rattle.pg_calls.specs.Naming.{next_id}
-use Rattle.pg_promises.specs.Whole.{PatchesAreForDirs}
+use Rattle.pg_server.specs.pg_calls.Naming.{next_id}
+use Rattle.theory_flood_pieces.specs.Whole.{PatchesAreForDirs}
 use Rattle.pg_run.specs.Journal.{mail}
 use Rattle.pg_run.specs.Laws.{AtEach, store_after}
 use Rattle.pg_run.specs.Run.{World, run}

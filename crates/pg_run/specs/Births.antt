@@ -14,12 +14,12 @@ use Rattle.pg_msg.specs.declared.message.Message.TheVariants as message
 use Rattle.pg_msg.specs.declared.message.Packet.{Packet}
 use Rattle.pg_msg.specs.declared.message.Sent.{Sent}
 use Rattle.pg_event.specs.declared.event.Event.{Event}
-use Rattle.pg_names.specs.declared.own.Own.{Own}
+use Rattle.pg_names.specs.declared.attributes.Attributes.{Attributes}
 use Rattle.pg_names.specs.Names.{cell_at, own_at}
 use Rattle.pg_register.specs.declared.flag.Flag.{Flag}
 use Rattle.pg_replica.specs.declared.replica.Replica.{Replica}
-use Rattle.pg_cells.specs.Accepting.{is_current}
-use Rattle.pg_cells.specs.Cells.{fits}
+use Rattle.pg_server.specs.pg_pieces.Accepting.{is_current}
+use Rattle.pg_server.specs.pg_cells.Cells.{fits}
 use Rattle.pg_server.specs.declared.input.Input.TheVariants as input
 use Rattle.pg_server.specs.declared.input.Input.{Input}
 use Rattle.pg_server.specs.Local.{effect, first_effect, takes_effect}
@@ -91,7 +91,7 @@ pub record BirthsWereGivenOut (servers : ℕ) (events : List Event) : Type 0 whe
   pub edges : AtEach servers (λ s. (file : FileId) (x : Replica) (e : Edge)
       → replica_at (store_after servers events s) file ≡ Some x → IsAmong x.edges e
       → WasGivenOut servers events file e.peer e.birth)
-  pub flags : AtEach servers (λ s. (file : FileId) (own : Own) (flag : Flag)
+  pub flags : AtEach servers (λ s. (file : FileId) (own : Attributes) (flag : Flag)
       → own_at (store_after servers events s).names file ≡ Some own → IsAmong own.flags flag
       → WasGivenOut servers events file flag.server flag.birth)
   pub entry_flags : AtEach servers (λ s. (dir child : FileId) (e : Entry) (flag : Flag)

@@ -24,14 +24,14 @@ use Rattle.pg_register.specs.declared.place.Place.{Place}
 use Rattle.pg_store.specs.declared.store.Store.{Store}
 use Rattle.pg_store.specs.Births.{is_pending}
 use Rattle.pg_store.specs.Store.{is_held}
-use Rattle.pg_cells.specs.Accepting.{is_current}
-use Rattle.pg_cells.specs.Cells.{fits}
-use Rattle.pg_checks.specs.Asking.{latest}
-use Rattle.pg_calls.specs.Forgetting.{dead_at, dirs_of, is_wanted, last_place, lists_in, lost_at}
-use Rattle.pg_graph.specs.Leaving.{goes_now}
+use Rattle.pg_server.specs.pg_pieces.Accepting.{is_current}
+use Rattle.pg_server.specs.pg_cells.Cells.{fits}
+use Rattle.pg_server.specs.pg_checks.Asking.{latest}
+use Rattle.pg_server.specs.pg_calls.Forgetting.{dead_at, dirs_of, is_wanted, last_place, lists_in, lost_at}
+use Rattle.pg_server.specs.pg_graph.Leaving.{goes_now}
 use Rattle.pg_server.specs.declared.input.Input.{Input}
 use Rattle.pg_server.specs.declared.input.Input.TheVariants as input
-use Rattle.pg_walk.specs.declared.paths.Stop.{Stop}
+use Rattle.pg_lookup.specs.declared.paths.LookupError.{LookupError}
 use Rattle.pg_server.specs.Local.{reply_to}
 use Rattle.pg_run.specs.Took.{Take, entry_takes, flags_of, places_of, takes_in}
 use Rattle.pg_run.specs.Took.Take.{Began, TookPlace}
@@ -163,12 +163,12 @@ lost_takes store moment id = if is_held store id then []
     else (if is_dir id then anew_takes store id else struck_takes store moment id)
 
 -- what a forget brings besides what is made of what is held; one that is refused brings nothing
-abbrev pub forgotten_takes : Store → ℕ → Result FileId Stop → List Take
+abbrev pub forgotten_takes : Store → ℕ → Result FileId LookupError → List Take
 forgotten_takes store moment (Err stop) = []
 forgotten_takes store moment (Ok id) = lost_takes store moment id
 
 -- a forget makes a place of a file that is not held: no replica of the file takes it
-abbrev pub strikes_out : Store → Result FileId Stop → Bool
+abbrev pub strikes_out : Store → Result FileId LookupError → Bool
 strikes_out store (Err stop) = false
 strikes_out store (Ok id) = not (is_held store id) && not (is_dir id)
 

@@ -19,8 +19,8 @@ use Rattle.pg_replica.specs.declared.replica.Replica.{Replica}
 use Rattle.pg_server.specs.declared.input.Input.{Input}
 use Rattle.pg_server.specs.declared.input.Input.TheVariants as input
 use Rattle.pg_server.specs.Local.{effect, takes_effect}
-use Rattle.pg_cells.specs.Accepting.{is_current}
-use Rattle.pg_cells.specs.Cells.{fits}
+use Rattle.pg_server.specs.pg_pieces.Accepting.{is_current}
+use Rattle.pg_server.specs.pg_cells.Cells.{fits}
 use Rattle.pg_store.specs.declared.store.Store.{Store}
 use Rattle.pg_store.specs.Store.{replica_at}
 use Rattle.pg_store.specs.Together.{birth_at}

@@ -7,7 +7,7 @@ use Rattle.pg_edges.specs.declared.edge.Edge.{Edge}
 use Rattle.pg_event.specs.declared.event.Event.{Event}
 use Rattle.pg_intent.specs.declared.key.IntentKey.TheVariants as key
 use Rattle.pg_intent.specs.Intents.{stands}
-use Rattle.pg_names.specs.Names.{HeldValue, known}
+use Rattle.pg_names.specs.Names.{InodeValue, known}
 use Rattle.pg_replica.specs.declared.replica.Replica.{Replica}
 use Rattle.pg_store.specs.declared.store.Store.{Store}
 use Rattle.pg_store.specs.Store.{replica_at}
@@ -21,7 +21,7 @@ IsLiveGold a flag = is_live a.names.removed flag ≡ true
 
 -- what is full sees a live gold
 abbrev pub FullSeeGold : Store → Type 0
-FullSeeGold a = (file : FileId) (x : HeldValue) → known a.names file ≡ Some x → x.full ≡ true
+FullSeeGold a = (file : FileId) (x : InodeValue) → known a.names file ≡ Some x → x.full ≡ true
     → (flag : Flag) × Contains x.own.flags flag × IsLiveGold a flag
 
 -- GOLDS ARE SEEN: at each server, after every event
@@ -32,12 +32,12 @@ FullReplicasSeeGold servers = (events : List Event)
 -- ---- what is named
 
 -- a replica, and what the server knows of its flags
-pub record HasReplica (a : Store) (file : FileId) (x : HeldValue) (r : Replica) : Type 0 where
+pub record HasReplica (a : Store) (file : FileId) (x : InodeValue) (r : Replica) : Type 0 where
   pub known_is : known a.names file ≡ Some x
   pub replica_is : replica_at a file ≡ Some r
 
 -- the server's own flag of it is raised, with the replica's birth
-abbrev pub IsGold : Store → HeldValue → Replica → Type 0
+abbrev pub IsGold : Store → InodeValue → Replica → Type 0
 IsGold a x r = (flag : Flag) × Contains x.own.flags flag
     × (flag.server ≡ a.names.server) × (flag.birth ≡ r.birth) × (flag.raised ≡ true)
 
@@ -49,7 +49,7 @@ abbrev pub NamesOne : Replica → Flag → Type 0
 NamesOne r flag = (edge : Edge) × Contains r.edges edge × Names edge flag
 
 -- some edge names a live gold that is seen
-abbrev pub NamesAGold : Store → HeldValue → Replica → Type 0
+abbrev pub NamesAGold : Store → InodeValue → Replica → Type 0
 NamesAGold a x r = (flag : Flag) × Contains x.own.flags flag × IsLiveGold a flag × NamesOne r flag
 
 abbrev pub Seeks : Store → FileId → Type 0
@@ -57,7 +57,7 @@ Seeks a file = stands a.intents (key.Seek file) ≡ true
 
 -- gold: a gold replica names every live gold of another server that it sees, or owes a Seek
 -- bronze: another names a live gold that it sees, or owes a Seek
-pub record NamesGolds (a : Store) (file : FileId) (x : HeldValue) (r : Replica) : Type 0 where
+pub record NamesGolds (a : Store) (file : FileId) (x : InodeValue) (r : Replica) : Type 0 where
   pub gold : IsGold a x r → (flag : Flag) → Contains x.own.flags flag → IsLiveGold a flag
       → flag.server ≢ a.names.server → NamesOne r flag ⊎ Seeks a file
   pub bronze : (IsGold a x r → ⊥) → NamesAGold a x r ⊎ Seeks a file
@@ -65,6 +65,6 @@ pub record NamesGolds (a : Store) (file : FileId) (x : HeldValue) (r : Replica) 
 -- GOLDS ARE NAMED: at each server, after every event
 abbrev pub ReplicasNameGolds : ℕ → Type 0
 ReplicasNameGolds servers = (events : List Event)
-    → AtEach servers (λ s. (file : FileId) (x : HeldValue) (r : Replica)
+    → AtEach servers (λ s. (file : FileId) (x : InodeValue) (r : Replica)
     → HasReplica (store_after servers events s) file x r
     → NamesGolds (store_after servers events s) file x r)

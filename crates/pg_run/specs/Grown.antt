@@ -3,7 +3,7 @@ use Rattle.std.specs.Prelude.{ℕ, List, ◌++◌}
 use Rattle.pg_event.specs.declared.event.Event.{Event}
 use Rattle.pg_server.specs.declared.input.Input.{Input}
 use Rattle.pg_server.specs.Local.{effect, first_effect}
-use Rattle.pg_promises.specs.Growing.{Grows}
+use Rattle.theory_flood_pieces.specs.Growing.{Grows}
 use Rattle.pg_run.specs.Laws.{TakesIn, store_after}
 use Rattle.pg_run.specs.Run.{run}
 

@@ -16,7 +16,7 @@ use Rattle.pg_msg.specs.declared.message.Message.TheVariants as message
 use Rattle.pg_msg.specs.declared.message.Sent.{Sent}
 use Rattle.pg_event.specs.declared.entry.Entry.{Entry}
 use Rattle.pg_event.specs.declared.event.Event.{Event}
-use Rattle.pg_store.specs.Store.{has_time, have_own_flag_at_end, is_in_time}
+use Rattle.pg_store.specs.Store.{has_time, have_own_flag_at_end, is_before_clock_end}
 use Rattle.pg_run.specs.Journal.{Born, made_versions, mail, versions}
 use Rattle.pg_run.specs.State.{policy_made, versions_taken}
 use Rattle.pg_run.specs.Laws.{content_taken}
@@ -125,5 +125,5 @@ CarriesHistory servers = (events : List Event) (m : Sent)
 abbrev pub ClockEndsFirst : ℕ → Type 0
 ClockEndsFirst servers = (events : List Event) (server : ℕ) → 1 ≤ server → server ≤ servers
     → let a = (run servers events).stores server in
-    is_in_time a ≡ (has_time a.names.last a.tags a.files a.births
+    is_before_clock_end a ≡ (has_time a.names.last a.tags a.files a.births
     && not (have_own_flag_at_end a.names))

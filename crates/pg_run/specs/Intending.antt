@@ -12,15 +12,15 @@ use Rattle.pg_intent.specs.declared.intent.Intent.TheVariants as intent
 use Rattle.pg_intent.specs.declared.key.IntentKey.TheVariants as key
 use Rattle.pg_intent.specs.Intent.{target_of}
 use Rattle.pg_intent.specs.Intents.{HaveOwnKeys, intent_at, stands}
-use Rattle.pg_names.specs.declared.own.Own.{Own}
-use Rattle.pg_names.specs.Names.{HeldValue, cell_at, known, own_at}
+use Rattle.pg_names.specs.declared.attributes.Attributes.{Attributes}
+use Rattle.pg_names.specs.Names.{InodeValue, cell_at, known, own_at}
 use Rattle.pg_register.specs.Place.{root}
 use Rattle.pg_store.specs.declared.store.Store.{Store}
 use Rattle.pg_store.specs.Servers.{is_live_other}
 use Rattle.pg_store.specs.Store.{is_full, is_held}
 use Rattle.pg_store.specs.Together.{AreBirths, AreTogether}
-use Rattle.pg_graph.specs.Leaving.{may_still_leave}
-use Rattle.pg_graph.specs.Seeks.{is_seeking}
+use Rattle.pg_server.specs.pg_graph.Leaving.{may_still_leave}
+use Rattle.pg_server.specs.pg_intentions.Seeks.{is_seeking}
 use Rattle.pg_run.specs.Laws.{AtEach, store_after}
 
 -- ---- what is held
@@ -36,13 +36,13 @@ pub record HoldsBoth (a : Store) : Type 0 where
 
 -- what is held and filling
 abbrev pub IsFilling : Store → FileId → Type 0
-IsFilling a file = (x : HeldValue) × (known a.names file ≡ Some x) × (x.full ≡ false)
+IsFilling a file = (x : InodeValue) × (known a.names file ≡ Some x) × (x.full ≡ false)
 
 -- what is not held, and is the parent in the live place of something held that is not the root
 pub record IsLackedParent (a : Store) (file : FileId) : Type 0 where
   pub away : is_held a file ≡ false
   pub child : FileId
-  pub own : Own
+  pub own : Attributes
   pub held : own_at a.names child ≡ Some own
   pub inner : is_same_file child root ≡ false
   pub live : own.place.live ≡ true
@@ -57,7 +57,7 @@ FillsStand a = (file : FileId) → stands a.intents (key.Fill file) ≡ true ↔
 
 -- CONTAINMENT: the parent in a held live place is held, or a Fill of it stands
 abbrev pub ParentsAreHeldOrFilled : Store → Type 0
-ParentsAreHeldOrFilled a = (file : FileId) (own : Own) → own_at a.names file ≡ Some own
+ParentsAreHeldOrFilled a = (file : FileId) (own : Attributes) → own_at a.names file ≡ Some own
     → is_same_file file root ≡ false → own.place.live ≡ true
     → (is_held a own.place.parent ≡ true)
     ⊎ (stands a.intents (key.Fill own.place.parent) ≡ true)
@@ -74,7 +74,7 @@ ConfirmsStand a = (dir child : FileId) → stands a.intents (key.Confirm dir chi
 -- Patch or a later one; it is just that where the Patch's place is live in the directory
 pub record IsPatchOf (a : Store) (dir : FileId) (entry : Entry) : Type 0 where
   pub away : is_held a dir ≡ false
-  pub own : Own
+  pub own : Attributes
   pub held : own_at a.names entry.child ≡ Some own
   pub upto : UpTo entry.place.stamp own.place.stamp
   pub same : entry.place.live ≡ true → entry.place.parent ≡ dir → own.place ≡ entry.place

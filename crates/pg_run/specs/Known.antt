@@ -17,7 +17,7 @@ use Rattle.pg_msg.specs.declared.message.Sent.{Sent}
 use Rattle.pg_msg.specs.declared.update.Update.TheVariants as update
 use Rattle.pg_event.specs.declared.entry.Entry.{Entry}
 use Rattle.pg_event.specs.declared.event.Event.{Event}
-use Rattle.pg_names.specs.declared.own.Own.{Own}
+use Rattle.pg_names.specs.declared.attributes.Attributes.{Attributes}
 use Rattle.pg_names.specs.Names.{cell_at, is_dir, own_at}
 use Rattle.pg_store.specs.declared.store.Store.{Store}
 use Rattle.pg_store.specs.Start.{first_flags}
@@ -84,7 +84,7 @@ IsMessageTold p _ = Unit {0}
 
 -- what a server has of things itself, in the cells of directories, and in what it is to tell
 pub record IsStoreTold (p : Told) (a : Store) : Type 0 where
-  pub own : (file : FileId) (own : Own) → own_at a.names file ≡ Some own
+  pub own : (file : FileId) (own : Attributes) → own_at a.names file ≡ Some own
       → AreTold p file own.place own.flags
   pub cells : (dir child : FileId) (e : ChildEntry) → cell_at a.names dir child ≡ Some e
       → (e.child ≡ child) × IsEntryTold p e
@@ -127,7 +127,7 @@ IsUpToOwn flag own = (flag ≡ own) ⊎ ((flag.birth ≡ own.birth) × (flag.num
 
 pub record IsOwnFlag (a : Store) (file : FileId) (flag : Flag) : Type 0 where
   pub birth : birth_at a file ≡ Some flag.birth
-  pub own : Own
+  pub own : Attributes
   pub held : own_at a.names file ≡ Some own
   pub last : Flag
   pub is : flag_of own.flags flag.server ≡ Some last

@@ -14,8 +14,8 @@ use Rattle.pg_event.specs.declared.event.Event.{Event}
 use Rattle.pg_msg.specs.declared.update.Update.TheVariants as update
 use Rattle.pg_server.specs.declared.input.Input.{Input}
 use Rattle.pg_event.specs.declared.quiet.Quiet.TheVariants.{Quiet}
-use Rattle.pg_names.specs.declared.own.Own.{Own}
-use Rattle.pg_names.specs.Names.{HeldValue, NamesValue, cell_at, known, own_at, own_or_blank}
+use Rattle.pg_names.specs.declared.attributes.Attributes.{Attributes}
+use Rattle.pg_names.specs.Names.{InodeValue, NamesValue, cell_at, known, own_at, own_or_blank}
 use Rattle.pg_content.specs.Content.{ContentValue}
 use Rattle.pg_house.specs.Facts.{NoCycle, NoDeadLists, OwnParent, Passing}
 use Rattle.pg_replica.specs.declared.replica.Replica.{Replica}
@@ -61,7 +61,7 @@ HoldsWhatItTook servers = (events : List Event) (file : FileId) → AtEach serve
 pub record KnowsWhatItTook (servers : ℕ) (events : List Event) (s : ℕ) : Type 0 where
   pub held : (file : FileId)
       → is_held file ((run servers events).took s) ≡ true
-      ↔ ((own : Own) × (own_at (names_after servers events s) file ≡ Some own))
+      ↔ ((own : Attributes) × (own_at (names_after servers events s) file ≡ Some own))
   pub own : (file : FileId) → own_or_blank (names_after servers events s) file
       ≡ own_state file ((run servers events).took s)
   pub entries : (dir child : FileId) → cell_at (names_after servers events s) dir child
@@ -115,7 +115,7 @@ QuietServersAgree servers = WhereQuiet servers (λ w. (file : FileId)
 pub record Stands (servers : ℕ) (w : World) (file : FileId) (place : Place) : Type 0 where
   pub server : ℕ
   pub there : is_live servers w server ≡ true
-  pub own : Own
+  pub own : Attributes
   pub held : own_at (w.stores server).names file ≡ Some own
   pub is : own.place ≡ place
   pub live : place.live ≡ true
@@ -131,14 +131,14 @@ LeadsToRoot servers w (suc n) file =
     (place : Place) × Stands servers w file place × LeadsToRoot servers w n place.parent
 
 -- no two children that a directory lists show one name
-abbrev pub ShowsDistinctNames : FileId → HeldValue → Type 0
+abbrev pub ShowsDistinctNames : FileId → InodeValue → Type 0
 ShowsDistinctNames dir x = (a b : Cell) → IsAmong (values_of x.entries) a
     → IsAmong (values_of x.entries) b → is_listed dir a ≡ true → is_listed dir b ≡ true
     → shown_name x.entries dir a ≡ shown_name x.entries dir b → a.child ≡ b.child
 
 pub record IsTree (servers : ℕ) (w : World) : Type 0 where
   pub leads : (file : FileId) → Survives servers w file → (n : ℕ) × LeadsToRoot servers w n file
-  pub distinct : AtLive servers w (λ s. (dir : FileId) (x : HeldValue)
+  pub distinct : AtLive servers w (λ s. (dir : FileId) (x : InodeValue)
       → known (w.stores s).names dir ≡ Some x → ShowsDistinctNames dir x)
 
 -- a live server's directory lists the thing by this cell
@@ -153,11 +153,11 @@ pub record Lists (servers : ℕ) (w : World) (dir file : FileId) (cell : Cell) :
 -- only: whatever is listed stands there, be it held where it is listed or not
 -- nowhere_else: and a survivor is listed by no other directory, and with no other place
 pub record IsListedOnly (servers : ℕ) (w : World) : Type 0 where
-  pub there : (file : FileId) (own : Own) (s t : ℕ) → is_live servers w s ≡ true
+  pub there : (file : FileId) (own : Attributes) (s t : ℕ) → is_live servers w s ≡ true
       → is_live servers w t ≡ true
       → is_same_file file root ≡ false → own_at (w.stores s).names file ≡ Some own
       → own.place.live ≡ true
-      → (parent : Own) → own_at (w.stores t).names own.place.parent ≡ Some parent
+      → (parent : Attributes) → own_at (w.stores t).names own.place.parent ≡ Some parent
       → (cell : Cell) × (cell_at (w.stores t).names own.place.parent file ≡ Some cell)
       × (cell.place ≡ own.place) × (cell.flags ≡ own.flags)
   pub only : (dir file : FileId) (cell : Cell) → Lists servers w dir file cell
@@ -169,7 +169,7 @@ pub record IsListedOnly (servers : ℕ) (w : World) : Type 0 where
 -- no directory that is dead at a server holds a survivor
 abbrev pub IsBroughtBack : ℕ → World → Type 0
 IsBroughtBack servers w = (file : FileId) (place : Place) → Stands servers w file place
-    → is_same_file file root ≡ false → AtLive servers w (λ s. (own : Own)
+    → is_same_file file root ≡ false → AtLive servers w (λ s. (own : Attributes)
     → own_at (w.stores s).names place.parent ≡ Some own → own.place.live ≡ true)
 
 abbrev pub QuietNamesFormATree : ℕ → Type 0

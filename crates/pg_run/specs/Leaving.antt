@@ -10,14 +10,14 @@ use Rattle.pg_edges.specs.declared.key.Key.{Key}
 use Rattle.pg_edges.specs.Keys.{tag_in}
 use Rattle.pg_entries.specs.declared.cell.Cell.{Cell}
 use Rattle.pg_event.specs.declared.event.Event.{Event}
-use Rattle.pg_flood.specs.Server as flooding
+use Rattle.theory_flood.specs.Server as flooding
 use Rattle.pg_house.specs.Passing.{is_update}
 use Rattle.pg_intent.specs.declared.intent.Intent.TheVariants as intent
 use Rattle.pg_msg.specs.declared.message.Ends.{Ends}
 use Rattle.pg_msg.specs.declared.message.Message.TheVariants as message
 use Rattle.pg_msg.specs.declared.message.Packet.{Packet}
 use Rattle.pg_msg.specs.declared.message.Sent.{Sent}
-use Rattle.pg_promises.specs.UpTo.{IsUpTo}
+use Rattle.theory_flood_pieces.specs.UpTo.{IsUpTo}
 use Rattle.pg_register.specs.declared.flag.Flag.{Flag}
 use Rattle.pg_register.specs.Flag.{is_removed}
 use Rattle.pg_replica.specs.declared.replica.Replica.{Replica}

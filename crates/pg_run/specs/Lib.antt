@@ -21,3 +21,30 @@ pub mod Came
 pub mod Away
 pub mod Grown
 pub mod Views
+pub use Rattle.pg_base.specs as pg_base
+pub use Rattle.pg_patch.specs as pg_patch
+pub use Rattle.pg_path.specs as pg_path
+pub use Rattle.pg_register.specs as pg_register
+pub use Rattle.pg_entries.specs as pg_entries
+pub use Rattle.pg_edges.specs as pg_edges
+pub use Rattle.pg_intent.specs as pg_intent
+pub use Rattle.pg_names.specs as pg_names
+pub use Rattle.pg_content.specs as pg_content
+pub use Rattle.theory_flood.specs as theory_flood
+pub use Rattle.pg_replica.specs as pg_replica
+pub use Rattle.pg_words.specs as pg_words
+pub use Rattle.pg_msg.specs as pg_msg
+pub use Rattle.pg_call.specs as pg_call
+pub use Rattle.pg_lookup.specs as pg_lookup
+pub use Rattle.pg_event.specs as pg_event
+pub use Rattle.pg_house.specs as pg_house
+pub use Rattle.pg_store.specs as pg_store
+pub use Rattle.pg_server.specs.pg_pieces as pg_pieces
+pub use Rattle.pg_server.specs.pg_cells as pg_cells
+pub use Rattle.pg_server.specs.pg_graph as pg_graph
+pub use Rattle.pg_server.specs.pg_repair as pg_repair
+pub use Rattle.pg_server.specs.pg_intentions as pg_intentions
+pub use Rattle.theory_flood_pieces.specs as theory_flood_pieces
+pub use Rattle.pg_server.specs.pg_checks as pg_checks
+pub use Rattle.pg_server.specs.pg_calls as pg_calls
+pub use Rattle.pg_server.specs as pg_server

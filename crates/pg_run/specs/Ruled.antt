@@ -2,11 +2,11 @@
 use Rattle.std.specs.Prelude.{ℕ, ◌≡◌, true, Some}
 use Rattle.pg_base.specs.declared.id.FileId.{FileId}
 use Rattle.pg_entries.specs.declared.cell.Cell.{Cell}
-use Rattle.pg_flood.specs.Promises.{Saying}
-use Rattle.pg_flood.specs.Promises.Saying.{Other}
-use Rattle.pg_flood.specs.Server.{Slot}
-use Rattle.pg_flood.proofs.Steps.{Rule}
-use Rattle.pg_promises.specs.Seen.{cells, saying}
+use Rattle.theory_flood.specs.Promises.{Saying}
+use Rattle.theory_flood.specs.Promises.Saying.{Other}
+use Rattle.theory_flood.specs.Server.{Slot}
+use Rattle.theory_flood.proofs.Steps.{Rule}
+use Rattle.theory_flood_pieces.specs.Seen.{cells, saying}
 use Rattle.pg_server.specs.declared.input.Input.{Input}
 use Rattle.pg_server.specs.declared.input.Input.TheVariants as input
 use Rattle.pg_server.specs.Local.{takes_effect}

@@ -11,7 +11,7 @@ use Rattle.pg_event.specs.declared.event.Event.TheVariants.{Call as Called, Tick
 use Rattle.pg_event.specs.declared.entry.Entry.{Entry}
 use Rattle.pg_event.specs.declared.entry.VoidCause.{VoidCause}
 use Rattle.pg_event.specs.declared.entry.VoidCause.TheVariants.{Last, NoMessage, NoServer, Removed, Unremoved}
-use Rattle.pg_flood.specs.World.{after}
+use Rattle.theory_flood.specs.World.{after}
 use Rattle.pg_store.specs.declared.store.Store.{Store}
 use Rattle.pg_store.specs.Start.{first_flags}
 use Rattle.pg_store.specs.Store.{new_store}

@@ -16,7 +16,7 @@ use Rattle.pg_call.specs.declared.reply.Reply.TheVariants as reply
 use Rattle.pg_event.specs.declared.event.Event.{Event}
 use Rattle.pg_event.specs.declared.event.Event.TheVariants as event
 use Rattle.pg_event.specs.declared.entry.Entry.{Entry}
-use Rattle.pg_names.specs.declared.own.Own.{Own}
+use Rattle.pg_names.specs.declared.attributes.Attributes.{Attributes}
 use Rattle.pg_run.specs.Journal.{Born, versions, with_ancestors}
 use Rattle.pg_run.specs.Took.{Take, flags_in, own_place, place_in, stamps_taken}
 use Rattle.pg_run.specs.Took.Taker.{InDir, Itself}
@@ -25,7 +25,7 @@ use Rattle.pg_run.specs.Passed.{has_cell}
 -- ---- names
 
 -- a thing's own place and flags: of the places the latest, of each server's flags the newest
-abbrev pub own_state : FileId → List Take → Own
+abbrev pub own_state : FileId → List Take → Attributes
 own_state file takes =
     record { place = own_place file takes; flags = flags_in Itself file takes }
 

@@ -30,23 +30,23 @@ use Rattle.pg_event.specs.declared.event.Event.TheVariants.{Restart, Tick}
 use Rattle.pg_event.specs.declared.quiet.OwedKey.{OwedKey}
 use Rattle.pg_store.specs.declared.store.Store.{Store}
 use Rattle.pg_store.specs.Cells.{cell_at}
-use Rattle.pg_names.specs.declared.own.Own.{Own}
+use Rattle.pg_names.specs.declared.attributes.Attributes.{Attributes}
 use Rattle.pg_names.specs.Names.{cell_at as entry_at, own_at}
 use Rattle.pg_replica.specs.declared.replica.Replica.{Replica}
 use Rattle.pg_store.specs.Births.{birth_of}
-use Rattle.pg_store.specs.Store.{is_full, is_in_time, replica_at}
-use Rattle.pg_cells.specs.Posting.{sent_to}
-use Rattle.pg_cells.specs.Sending.{waits}
+use Rattle.pg_store.specs.Store.{is_full, is_before_clock_end, replica_at}
+use Rattle.pg_server.specs.pg_pieces.Posting.{sent_to}
+use Rattle.pg_server.specs.pg_cells.Sending.{waits}
 use Rattle.pg_house.specs.Facts.{is_among}
 use Rattle.pg_register.specs.Place.{root}
-use Rattle.pg_graph.specs.Seeks.{edges_of}
+use Rattle.pg_server.specs.pg_graph.Walks.{edges_of}
 use Rattle.pg_server.specs.Local.{without_wishes}
 use Rattle.pg_server.specs.Owing.{owed_keys}
 use Rattle.pg_run.specs.Run.{Step, is_live, next, run}
 
 -- its clock is not at its end
 abbrev pub HasTime : Store → Type 0
-HasTime a = is_in_time a ≡ true
+HasTime a = is_before_clock_end a ≡ true
 
 -- ---- the gate
 
@@ -113,7 +113,7 @@ IsAskedBy a (intent.Patch dir entry target) m = m ≡ message.Tell dir entry
 IsAskedBy a (intent.Confirm dir child target) m =
     (e : ChildEntry) × (entry_at a.names dir child ≡ Some e) × (m ≡ message.Confirm dir e)
 IsAskedBy a (intent.Leave file peer peer_birth) m =
-    (own : Own) × (own_at a.names file ≡ Some own) × (m ≡ message.Leave
+    (own : Attributes) × (own_at a.names file ≡ Some own) × (m ≡ message.Leave
     (record { file = file; sender = birth_of a file; receiver = peer_birth }) own.place.stamp)
 
 pub record IsRequest (a : Store) (i : Intent) (m : Sent) : Type 0 where

@@ -35,8 +35,8 @@ pub record IsInView (w : World) (s : ℕ) (a : Store) : Type 0 where
       → is_live_other a wish.target ≡ true
 
 -- EACH VIEW IS A FRONT of the removals
-abbrev pub ViewsAreFronts : ℕ → Type 0
-ViewsAreFronts servers = (events : List Event)
+abbrev pub ViewsArePrefixes : ℕ → Type 0
+ViewsArePrefixes servers = (events : List Event)
     → AtEach servers (λ s. IsInView (run servers events) s (store_after servers events s))
 
 -- ---- messages

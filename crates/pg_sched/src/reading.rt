@@ -16,7 +16,7 @@ ghost use Rattle.pg_words.specs.Words.{words_in};
 use crate::leaves::{form_of, off_of};
 use crate::line::{Line, MOST_IN_LINE};
 use crate::verb::Verb;
-use pg_call::{CallKind, Fault, WordsError, arguments_of, have_bytes, id_of, narrow_of, wide_of};
+use pg_call::{CallKind, Fault, WordsError, arguments_of, have_bytes, id_of, parse_u32, parse_u64};
 use pg_event::Event;
 use pg_words::{first_word, first_words, is_same};
 use std::alloc::{AllocError, Global};
@@ -31,9 +31,9 @@ fn tick_of(server: &[u8], moment: &[u8], word: &[u8]) -> Result<Line, WordsError
     ensures bad { IfErr result (λ e. (f : Fault) → e ≡ Bad f
         → IsBadWord (fields verb.Tick) (server.now ∷ moment.now ∷ word.now ∷ []) f) }
 {
-    let server = narrow_of(server)?;
-    let moment = wide_of(moment)?;
-    let word = wide_of(word)?;
+    let server = parse_u32(server)?;
+    let moment = parse_u64(moment)?;
+    let word = parse_u64(word)?;
     Ok(Line::Happens(Event::Tick {
         server,
         moment,
@@ -48,8 +48,8 @@ fn settle_of(rounds: &[u8], moment: &[u8]) -> Result<Line, WordsError>
     ensures bad { IfErr result (λ e. (f : Fault) → e ≡ Bad f
         → IsBadWord (fields verb.Settle) (rounds.now ∷ moment.now ∷ []) f) }
 {
-    let rounds = narrow_of(rounds)?;
-    let moment = wide_of(moment)?;
+    let rounds = parse_u32(rounds)?;
+    let moment = parse_u64(moment)?;
     Ok(Line::Settle { rounds, moment })
 }
 
@@ -61,12 +61,12 @@ fn meter_of(off: &[u8], number: &[u8]) -> Result<Line, WordsError>
         → IsBadWord (fields verb.Meter) (off.now ∷ number.now ∷ []) f) }
 {
     off_of(off)?;
-    let number = wide_of(number)?;
+    let number = parse_u64(number)?;
     Ok(Line::MeterOff(number))
 }
 
 /// The line of a verb with one word after it.
-fn one_of(verb: Verb, word: &[u8]) -> Result<Line, WordsError>
+fn parse_one_word(verb: Verb, word: &[u8]) -> Result<Line, WordsError>
     requires { length (fields verb) ≡ 1 }
     ensures found { IfOk result (λ l. HasWords l
         × (verb_word verb ∷ word.now ∷ [] ≡ line_words l)) }
@@ -74,11 +74,11 @@ fn one_of(verb: Verb, word: &[u8]) -> Result<Line, WordsError>
         → IsBadWord (fields verb) (word.now ∷ []) f) }
 {
     match verb {
-        Verb::Deliver => Ok(Line::Happens(Event::Deliver(wide_of(word)?))),
-        Verb::Lose => Ok(Line::Happens(Event::Lose(wide_of(word)?))),
-        Verb::Repeat => Ok(Line::Happens(Event::Repeat(wide_of(word)?))),
-        Verb::Restart => Ok(Line::Happens(Event::Restart(narrow_of(word)?))),
-        Verb::Remove => Ok(Line::Happens(Event::Remove(narrow_of(word)?))),
+        Verb::Deliver => Ok(Line::Happens(Event::Deliver(parse_u64(word)?))),
+        Verb::Lose => Ok(Line::Happens(Event::Lose(parse_u64(word)?))),
+        Verb::Repeat => Ok(Line::Happens(Event::Repeat(parse_u64(word)?))),
+        Verb::Restart => Ok(Line::Happens(Event::Restart(parse_u32(word)?))),
+        Verb::Remove => Ok(Line::Happens(Event::Remove(parse_u32(word)?))),
         Verb::Trace => Ok(Line::Trace(form_of(word)?)),
         Verb::Show => Ok(Line::Show(id_of(word)?)),
         _ => unreachable!(),
@@ -105,7 +105,7 @@ fn rest_of(verb: Verb, words: &[&[u8]]) -> Result<Line, WordsError>
         (Verb::Settle, [rounds, moment]) => settle_of(rounds, moment),
         (Verb::Meter, [off, number]) => meter_of(off, number),
         (Verb::Quiet, []) => Ok(Line::Quiet),
-        (verb, [word]) => one_of(verb, word),
+        (verb, [word]) => parse_one_word(verb, word),
         _ => unreachable!(),
     }
 }
@@ -126,8 +126,8 @@ fn call_of(
         → IsBadWord (called_fields kind) (server.now ∷ moment.now
         ∷ map (λ w. w.now) arguments.now) f) }
 {
-    let server = narrow_of(server)?;
-    let moment = wide_of(moment)?;
+    let server = parse_u32(server)?;
+    let moment = parse_u64(moment)?;
     let call = arguments_of(alloc, kind, arguments)?;
     Ok(Line::Happens(Event::Call {
         server,
@@ -174,7 +174,7 @@ fn named_of(
 }
 
 /// The line of the words behind `call`.
-fn called_of(alloc: Global, words: &[&[u8]]) -> Result<Line, WordsError>
+fn parse_call(alloc: Global, words: &[&[u8]]) -> Result<Line, WordsError>
     ensures found { IfOk result (λ l. HasWords l
         × (codes "call" ∷ map (λ w. w.now) words.now ≡ line_words l)) }
     ensures bad { IfErr result (λ e. (f : Fault) → e ≡ Bad f
@@ -217,7 +217,7 @@ fn line_of(alloc: Global, words: &[&[u8]]) -> Result<Line, WordsError>
         return Err(WordsError::Bad(Fault::Verb));
     };
     if is_same(word, b"call") {
-        return called_of(alloc, rest);
+        return parse_call(alloc, rest);
     }
     verb_line_of(word, rest)
 }

@@ -8,12 +8,12 @@ use Rattle.pg_msg.specs.declared.message.Packet.{Packet}
 use Rattle.pg_msg.specs.declared.work.Work.{Work}
 use Rattle.pg_msg.specs.Work.{new_work}
 use Rattle.pg_store.specs.declared.store.Store.{Store}
-use Rattle.pg_store.specs.Store.{is_in_time}
+use Rattle.pg_store.specs.Store.{is_before_clock_end}
 use Rattle.pg_store.specs.Wishes.{WishesValue}
-use Rattle.pg_cells.specs.Done.{idle}
-use Rattle.pg_cells.specs.Ticks.{tick}
-use Rattle.pg_graph.specs.Walks.{walk_of_tick}
-use Rattle.pg_repair.specs.Requests.{ask_all}
+use Rattle.pg_calls.specs.pg_pieces.Done.{idle}
+use Rattle.pg_calls.specs.pg_cells.Ticks.{tick}
+use Rattle.pg_calls.specs.pg_graph.Walks.{walk_of_tick}
+use Rattle.pg_calls.specs.pg_intentions.Requests.{ask_all}
 use Rattle.pg_calls.specs.Calls.{do_call}
 use Rattle.pg_server.specs.declared.input.Input.{Input}
 use Rattle.pg_server.specs.declared.input.Input.TheVariants as input
@@ -33,7 +33,7 @@ same_end r q b d v w rs bs vs =
 
 -- where the clock is not at its end the house rules run behind a call
 pub called : (a : Store) (m : ℕ) (call : Call) (v : Work) (goes : Bool) (r : Reply) (b : Store) (w : Work)
-    → v ≡ new_work m 0 → goes ≡ is_in_time a → goes ≡ true
+    → v ≡ new_work m 0 → goes ≡ is_before_clock_end a → goes ≡ true
     → r ≡ (do_call a call v).reply → b ≡ (do_call a call v).store → w ≡ (do_call a call v).work
     → closed (Some r) (idle b w) ≡ effect a (input.Call m call)
 called a m call v goes r b w new is true_is rs bs ws =
@@ -58,7 +58,7 @@ heard a p v goes b w new is true_is bs ws =
 
 -- behind a tick
 pub ticked : (a : Store) (m word : ℕ) (v u x w : Work) (goes : Bool)
-    → v ≡ new_work m 0 → goes ≡ is_in_time a → goes ≡ true
+    → v ≡ new_work m 0 → goes ≡ is_before_clock_end a → goes ≡ true
     → u ≡ tick a v → x ≡ ask_all a u → w ≡ walk_of_tick a word x
     → closed (Some reply.Done) (idle a w) ≡ effect a (input.Tick m word)
 ticked a m word v u x w goes new is true_is us xs ws =
@@ -73,7 +73,7 @@ ticked a m word v u x w goes new is true_is us xs ws =
 
 -- and behind a restart
 pub restarted : (a : Store) (v : Work) (goes : Bool) (wishes : WishesValue)
-    → v ≡ new_work 0 0 → goes ≡ is_in_time a → goes ≡ true → wishes ≡ []
+    → v ≡ new_work 0 0 → goes ≡ is_before_clock_end a → goes ≡ true → wishes ≡ []
     → closed None (idle (record a { wishes = wishes }) v) ≡ effect a input.Restart
 restarted a v goes wishes new is true_is none =
     ap (λ (x : WishesValue). closed None (idle (record a { wishes = x }) v)) none

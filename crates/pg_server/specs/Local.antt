@@ -11,25 +11,25 @@ use Rattle.pg_msg.specs.Numbers.{is_in_range}
 use Rattle.pg_msg.specs.Work.{new_work}
 use Rattle.pg_store.specs.declared.store.Store.{Store}
 use Rattle.pg_store.specs.Servers.{is_live_other, view_of}
-use Rattle.pg_store.specs.Store.{is_in_time}
-use Rattle.pg_cells.specs.Acks.{ack}
-use Rattle.pg_cells.specs.Cells.{cell}
-use Rattle.pg_cells.specs.Done.{Done, idle}
-use Rattle.pg_cells.specs.Finish.{finish}
-use Rattle.pg_cells.specs.Settling.{settle}
-use Rattle.pg_cells.specs.Ticks.{tick}
-use Rattle.pg_repair.specs.Beginning.{begin_end}
-use Rattle.pg_repair.specs.Confirming.{confirm, place_is}
-use Rattle.pg_repair.specs.Fetching.{fetch}
-use Rattle.pg_repair.specs.Filling.{full, invite}
-use Rattle.pg_repair.specs.Granting.{gone, grant, no_grant}
-use Rattle.pg_repair.specs.NoneHere.{none_here}
-use Rattle.pg_repair.specs.Requests.{ask_all, ask_begun}
-use Rattle.pg_graph.specs.Leaving.{bye, bye_ok, leave, leave_ok}
-use Rattle.pg_graph.specs.Seeking.{here, seek}
-use Rattle.pg_repair.specs.Telling.{tell, tell_ok}
-use Rattle.pg_graph.specs.Walks.{walk, walk_of_tick}
-use Rattle.pg_checks.specs.Answer.{Answer}
+use Rattle.pg_store.specs.Store.{is_before_clock_end}
+use Rattle.pg_calls.specs.pg_cells.Acks.{ack}
+use Rattle.pg_calls.specs.pg_cells.Cells.{cell}
+use Rattle.pg_calls.specs.pg_pieces.Done.{Done, idle}
+use Rattle.pg_calls.specs.pg_cells.Finish.{finish}
+use Rattle.pg_calls.specs.pg_cells.Settling.{settle}
+use Rattle.pg_calls.specs.pg_cells.Ticks.{tick}
+use Rattle.pg_calls.specs.pg_intentions.Beginning.{begin_end}
+use Rattle.pg_calls.specs.pg_repair.Confirming.{confirm, place_is}
+use Rattle.pg_calls.specs.pg_repair.Fetching.{fetch}
+use Rattle.pg_calls.specs.pg_repair.Filling.{full, invite}
+use Rattle.pg_calls.specs.pg_repair.Granting.{gone, grant, no_grant}
+use Rattle.pg_calls.specs.pg_repair.NoneHere.{none_here}
+use Rattle.pg_calls.specs.pg_intentions.Requests.{ask_all, ask_begun}
+use Rattle.pg_calls.specs.pg_graph.Leaving.{bye, bye_ok, leave, leave_ok}
+use Rattle.pg_calls.specs.pg_graph.Seeking.{here, seek}
+use Rattle.pg_calls.specs.pg_repair.Telling.{tell, tell_ok}
+use Rattle.pg_calls.specs.pg_graph.Walks.{walk, walk_of_tick}
+use Rattle.pg_calls.specs.pg_checks.Answer.{Answer}
 use Rattle.pg_calls.specs.Calls.{do_call}
 use Rattle.pg_server.specs.declared.input.Input.{Input}
 use Rattle.pg_server.specs.declared.input.Input.TheVariants as input
@@ -71,7 +71,7 @@ closed answer done = finished answer (intended (settled done))
 -- it comes from another live server of the run, in the same view; its numbers are in range, and the
 -- clock is not at its end
 abbrev pub is_heard : Store → Packet → Bool
-is_heard store packet = is_in_time store && ((packet.view == view_of store)
+is_heard store packet = is_before_clock_end store && ((packet.view == view_of store)
     && (is_live_other store packet.from && is_in_range packet.message))
 
 -- each kind of message goes to its handler, which does nothing where the message is not accepted.
@@ -124,7 +124,8 @@ without_wishes store = record store { wishes = [] }
 abbrev pub first_effect : Store → Input → Done
 first_effect store (input.Call moment call) = done_of (do_call store call (new_work moment 0))
 first_effect store (input.Tick moment word) = idle store
-    (if is_in_time store then sent_again store word (new_work moment 0) else new_work moment 0)
+    (if is_before_clock_end store then sent_again store word (new_work moment 0)
+    else new_work moment 0)
 first_effect store (input.Arrival packet) =
     if is_heard store packet then receive store packet.message (new_work 0 packet.from)
     else idle store (new_work 0 packet.from)
@@ -134,7 +135,7 @@ first_effect store input.Restart = idle (without_wishes store) (new_work 0 0)
 abbrev pub reply_to : Store → Input → Option Reply
 reply_to store (input.Call moment call) = Some (do_call store call (new_work moment 0)).reply
 reply_to store (input.Tick moment word) =
-    Some (if is_in_time store then reply.Done else reply.Refused ClockEnd)
+    Some (if is_before_clock_end store then reply.Done else reply.Refused ClockEnd)
 reply_to store (input.Arrival packet) = None
 reply_to store input.Restart = None
 
@@ -142,10 +143,10 @@ reply_to store input.Restart = None
 
 -- at the end of the clock nothing takes effect, and of messages only those that are heard
 abbrev pub takes_effect : Store → Input → Bool
-takes_effect store (input.Call moment call) = is_in_time store
-takes_effect store (input.Tick moment word) = is_in_time store
+takes_effect store (input.Call moment call) = is_before_clock_end store
+takes_effect store (input.Tick moment word) = is_before_clock_end store
 takes_effect store (input.Arrival packet) = is_heard store packet
-takes_effect store input.Restart = is_in_time store
+takes_effect store input.Restart = is_before_clock_end store
 
 -- the house rules and the intentions stand behind whatever takes effect
 abbrev pub effect : Store → Input → Effect

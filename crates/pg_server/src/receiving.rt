@@ -1,20 +1,20 @@
 //! What an input does to what a server holds, and what comes of it.
 
 ghost use Rattle.std.specs.Prelude.{◌≡◌, ◌≤◌, ◌^◌, ◌++◌, OnOk, IfOk};
-ghost use Rattle.pg_cells.specs.Done.{idle};
+ghost use Rattle.pg_calls.specs.pg_pieces.Done.{idle};
 ghost use Rattle.pg_server.specs.Local.{closed, effect, effect_of, finished, is_heard, out_of, receive};
 
 use crate::input::{Input, Out};
 use pg_base::Items;
 use pg_call::{Call, Refusal, Reply};
+use pg_calls::cells::{ack, cell, finish, settle, tick};
 use pg_calls::do_call;
-use pg_cells::{ack, cell, finish, settle, tick};
-use pg_graph::{bye, bye_ok, here, leave, leave_ok, seek, walk, walk_of_tick};
-use pg_msg::{Message, Packet, Sent, Work};
-use pg_repair::{
-    ask_all, ask_begun, begin_end, confirm, fetch, full, gone, grant, invite, no_grant, none_here,
-    place_is, tell, tell_ok,
+use pg_calls::graph::{bye, bye_ok, here, leave, leave_ok, seek, walk, walk_of_tick};
+use pg_calls::intentions::{ask_all, ask_begun, begin_end};
+use pg_calls::repair::{
+    confirm, fetch, full, gone, grant, invite, no_grant, none_here, place_is, tell, tell_ok,
 };
+use pg_msg::{Message, Packet, Sent, Work};
 use pg_store::{LATEST_TIME, Store};
 use std::alloc::AllocError;
 
@@ -84,7 +84,7 @@ fn call_effect(store: &mut Store, moment: u64, call: &Call) -> Result<Out, Alloc
     ensures out { IfOk result (λ out. out ≡ (effect store.old (Input.Call moment call.now)).out) }
 {
     let mut work = Work::new(store.allocator(), moment, 0);
-    let goes = store.is_in_time();
+    let goes = store.is_before_clock_end();
     let reply = do_call(store, call, &mut work)?;
     if goes {
         Ok(closed(Some(reply), store, work)?)
@@ -99,7 +99,7 @@ fn tick_effect(store: &mut Store, moment: u64, word: u64) -> Result<Out, AllocEr
     ensures out { IfOk result (λ out. out ≡ (effect store.old (Input.Tick moment word)).out) }
 {
     let mut work = Work::new(store.allocator(), moment, 0);
-    if store.is_in_time() {
+    if store.is_before_clock_end() {
         tick(store, &mut work)?;
         ask_all(store, &mut work)?;
         walk_of_tick(store, word, &mut work)?;
@@ -117,7 +117,7 @@ fn restart_effect(store: &mut Store) -> Result<Out, AllocError>
     ensures out { IfOk result (λ out. out ≡ (effect store.old Input.Restart).out) }
 {
     let work = Work::new(store.allocator(), 0, 0);
-    let goes = store.is_in_time();
+    let goes = store.is_before_clock_end();
     store.wishes.clear();
     if goes {
         Ok(closed(None, store, work)?)
@@ -131,7 +131,7 @@ fn restart_effect(store: &mut Store) -> Result<Out, AllocError>
 fn is_heard(store: &Store, packet: &Packet) -> bool
     ensures { result ≡ is_heard store.now packet.now }
 {
-    store.is_in_time()
+    store.is_before_clock_end()
         && packet.view == store.view()
         && store.is_live_other(packet.from)
         && packet.message.is_in_range()

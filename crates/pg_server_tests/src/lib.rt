@@ -1,13 +1,5 @@
-//! Tests of one server and of two.
+//! Tests of one server in states that no run of the examples reaches.
 #![tactic(auto)]
 
 #[cfg(test)]
-mod confirming;
-#[cfg(test)]
-mod linking;
-#[cfg(test)]
-mod messages;
-#[cfg(test)]
-mod serving;
-#[cfg(test)]
-mod steps;
+mod refusals;

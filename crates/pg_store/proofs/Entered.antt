@@ -12,7 +12,7 @@ use Rattle.pg_edges.specs.declared.edge.Edge.{Edge}
 use Rattle.pg_edges.specs.Edges.{edge_to, is_listed, keys_if_born, without_edge}
 use Rattle.pg_edges.proofs.Edits.{not_taken_out}
 use Rattle.pg_intent.specs.Intents.{keys_to, turned_each}
-use Rattle.pg_names.specs.Names.{HeldValue, remove_server}
+use Rattle.pg_names.specs.Names.{InodeValue, remove_server}
 use Rattle.pg_replica.specs.declared.replica.Replica.{Replica}
 use Rattle.pg_replica.specs.Replica.{with_unlink}
 use Rattle.pg_replica.specs.Replicas.{lists_peer, or_nothing, replica_in, replicas_unlinked}
@@ -152,7 +152,7 @@ module _ (server : ℕ) where
 
 -- ---- those of all that is held
 
-is_there : (q : FileId) (es : List (FileId × HeldValue)) → list_any (is_same_file q) (keys_of es) ≡ is_some (lookup (is_at (file_cmp q)) es)
+is_there : (q : FileId) (es : List (FileId × InodeValue)) → list_any (is_same_file q) (keys_of es) ≡ is_some (lookup (is_at (file_cmp q)) es)
 is_there q [] = refl
 is_there q (e ∷ es) = by (is_same_file q e.0) (is_there q es)
   where

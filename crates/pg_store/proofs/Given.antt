@@ -9,8 +9,8 @@ use Rattle.pg_base.proofs.Maps.{lookup-insert_entry}
 use Rattle.pg_base.proofs.Orders.{file_total, is_same_file-true}
 use Rattle.pg_intent.specs.declared.intent.Intent.{Intent}
 use Rattle.pg_intent.specs.declared.intent.Intent.TheVariants as intent
-use Rattle.pg_names.specs.declared.own.Own.{Own}
-use Rattle.pg_names.specs.Names.{HeldValue, known, new_held}
+use Rattle.pg_names.specs.declared.attributes.Attributes.{Attributes}
+use Rattle.pg_names.specs.Names.{InodeValue, known, new_held}
 use Rattle.pg_names.proofs.Holding.{begun_known}
 use Rattle.pg_names.proofs.Lookups.{apart_back}
 use Rattle.pg_replica.specs.declared.replica.Replica.{Replica}
@@ -101,12 +101,12 @@ pub born_by : (birth b : ℕ) (o : Option Replica) (x : Replica) (t : Bool) → 
 born_by birth b o x true same there = inl (refl, let z : x.birth ≡ b = (let k : ◌≡◌ {A = Option ℕ} (Some x.birth) (Some b) = there in cc) in sym same ∙ z)
 born_by birth b o x false same there = inr (refl, there)
 
-module _ (a : Store) (file : FileId) (birth : ℕ) (policy : Policy) (own : Own) (full : Bool) where
+module _ (a : Store) (file : FileId) (birth : ℕ) (policy : Policy) (own : Attributes) (full : Bool) where
   abbrev pub After : Store
   After = put_new a file birth policy own full
 
   pub held_behind : (q : FileId) → is_held After q ≡ is_some (cond (is_same_file q file) (Some (new_held own full)) (known a.names q))
-  held_behind q = ap (λ (o : Option HeldValue). is_some o) (begun_known a.names file own full q)
+  held_behind q = ap (λ (o : Option InodeValue). is_some o) (begun_known a.names file own full q)
 
   pub born_behind : (q : FileId) → birth_at After q ≡ option_map (λ (y : Replica). y.birth) (cond (is_same_file q file) (Some (new_replica birth policy)) (replica_at a q))
   born_behind q =

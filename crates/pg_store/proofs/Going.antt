@@ -7,8 +7,8 @@ use Rattle.pg_base.specs.declared.id.FileId.{FileId}
 use Rattle.pg_base.specs.Id.{file_cmp}
 use Rattle.pg_entries.specs.declared.entry.Entry.{Entry}
 use Rattle.pg_intent.specs.declared.intent.Intent.TheVariants as intent
-use Rattle.pg_names.specs.declared.own.Own.{Own}
-use Rattle.pg_names.specs.Names.{HeldValue, cell_at, entry_in, known, own_at, own_of}
+use Rattle.pg_names.specs.declared.attributes.Attributes.{Attributes}
+use Rattle.pg_names.specs.Names.{InodeValue, cell_at, entry_in, known, own_at, own_of}
 use Rattle.pg_replica.specs.declared.replica.Replica.{Replica}
 use Rattle.pg_replica.proofs.Going.{replica_behind}
 use Rattle.pg_store.specs.declared.store.Store.{Store}
@@ -41,14 +41,14 @@ module _ (a : Store) (file : FileId) where
 
   -- ---- names
 
-  own_by : (t : Bool) (o : Option HeldValue) (own : Own) → own_of (cond t o None) ≡ Some own → own_of o ≡ Some own
+  own_by : (t : Bool) (o : Option InodeValue) (own : Attributes) → own_of (cond t o None) ≡ Some own → own_of o ≡ Some own
   own_by true o own e = e
-  own_by false o own e = absurd (let z : ◌≡◌ {A = Option Own} None (Some own) = e in cc)
+  own_by false o own e = absurd (let z : ◌≡◌ {A = Option Attributes} None (Some own) = e in cc)
 
-  pub own_left : (q : FileId) (own : Own) → own_at Left.names q ≡ Some own → own_at a.names q ≡ Some own
+  pub own_left : (q : FileId) (own : Attributes) → own_at Left.names q ≡ Some own → own_at a.names q ≡ Some own
   own_left q own e = own_by (other q) (known a.names q) own (sym (ap own_of (known_behind a file q)) ∙ e)
 
-  cell_by : (child : FileId) (t : Bool) (o : Option HeldValue) (entry : Entry) → entry_in child (cond t o None) ≡ Some entry
+  cell_by : (child : FileId) (t : Bool) (o : Option InodeValue) (entry : Entry) → entry_in child (cond t o None) ≡ Some entry
       → entry_in child o ≡ Some entry
   cell_by child true o entry e = e
   cell_by child false o entry e = absurd (let z : ◌≡◌ {A = Option Entry} None (Some entry) = e in cc)
@@ -59,7 +59,7 @@ module _ (a : Store) (file : FileId) where
 
   -- ---- names and replicas
 
-  together_by : (t : Bool) (o : Option Replica) (p : Option HeldValue) → is_some o ≡ is_some p → is_some (cond t o None) ≡ is_some (cond t p None)
+  together_by : (t : Bool) (o : Option Replica) (p : Option InodeValue) → is_some o ≡ is_some p → is_some (cond t o None) ≡ is_some (cond t p None)
   together_by true o p e = e
   together_by false o p e = refl
 
@@ -67,7 +67,7 @@ module _ (a : Store) (file : FileId) where
   go_together both q =
       ap (λ (o : Option Replica). is_some o) (replica_behind a.replicas file q)
       ∙ together_by (other q) (replica_at a q) (known a.names q) (both q)
-      ∙ sym (ap (λ (o : Option HeldValue). is_some o) (known_behind a file q))
+      ∙ sym (ap (λ (o : Option InodeValue). is_some o) (known_behind a file q))
 
   -- ---- births
 
@@ -78,7 +78,7 @@ module _ (a : Store) (file : FileId) where
 
   held_left : (q : FileId) → is_held Left q ≡ true → other q ≡ true
   held_left q e =
-      left_there (other q) (known a.names q) (sym (ap (λ (o : Option HeldValue). is_some o) (known_behind a file q)) ∙ e)
+      left_there (other q) (known a.names q) (sym (ap (λ (o : Option InodeValue). is_some o) (known_behind a file q)) ∙ e)
 
   here_by : (q : FileId) (t : Bool) → other q ≡ t → t ≡ true → birth_at Left q ≡ birth_at a q
   here_by q true e here =
@@ -87,7 +87,7 @@ module _ (a : Store) (file : FileId) where
 
   was_held : (q : FileId) (t : Bool) → other q ≡ t → t ≡ true → is_held Left q ≡ is_held a q
   was_held q true e here =
-      ap (λ (o : Option HeldValue). is_some o) (known_behind a file q ∙ ap (λ (t : Bool). cond t (known a.names q) None) e)
+      ap (λ (o : Option InodeValue). is_some o) (known_behind a file q ∙ ap (λ (t : Bool). cond t (known a.names q) None) e)
   was_held q false e here = absurd (false≢true here)
 
   pub go_births : AreBirths a → AreBirths Left
@@ -97,7 +97,7 @@ module _ (a : Store) (file : FileId) where
     fills = h.fills;
     wished = λ q w e. (
         let k = h.wished q w e in
-        (ap (λ (o : Option HeldValue). is_some o) (known_behind a file q) ∙ left_none (other q) (known a.names q) k.0, k.1));
+        (ap (λ (o : Option InodeValue). is_some o) (known_behind a file q) ∙ left_none (other q) (known a.names q) k.0, k.1));
     own = λ q f n t e held. (
         let here = held_left q held in
         here_by q (other q) refl here ∙ h.own q f n t e (sym (was_held q (other q) refl here) ∙ held));

@@ -5,7 +5,7 @@ use Rattle.pg_base.specs.Stamp.{is_before}
 use Rattle.pg_register.specs.Flag.{brings_news}
 use Rattle.pg_entries.specs.declared.entry.Entry.{Entry}
 use Rattle.pg_entries.specs.Entry.{brings, entry_of}
-use Rattle.pg_names.specs.Names.{HeldValue, is_entry_new, known}
+use Rattle.pg_names.specs.Names.{InodeValue, is_entry_new, known}
 use Rattle.pg_store.specs.declared.store.Store.{Store}
 use Rattle.pg_store.specs.declared.taking.EntryNews.{EntryNews}
 use Rattle.pg_store.specs.declared.taking.EntryNews.TheVariants as news
@@ -21,7 +21,7 @@ any_beside : (o : Option Entry) (e : Entry) → brings o e ≡ is_any_news (news
 any_beside None e = refl
 any_beside (Some held) e = any_by (is_before held.place.stamp e.place.stamp) (brings_news held.flags e.flags)
 
-any_in : (o : Option HeldValue) (e : Entry) → is_entry_new o e ≡ is_any_news (news_in o e)
+any_in : (o : Option InodeValue) (e : Entry) → is_entry_new o e ≡ is_any_news (news_in o e)
 any_in None e = refl
 any_in (Some x) e = any_beside (entry_of x.entries e.child) e
 

@@ -22,8 +22,8 @@ use Rattle.pg_intent.specs.declared.key.IntentKey.TheVariants as intent_key
 use Rattle.pg_intent.specs.Key.{is_same_key}
 use Rattle.pg_intent.specs.Intents.{ended, intent_at}
 use Rattle.pg_intent.proofs.Found.{ended_found}
-use Rattle.pg_names.specs.declared.own.Own.{Own}
-use Rattle.pg_names.specs.Names.{HeldValue, NamesValue, changed, join_entry, join_flag, join_place, known, new_held, new_names, raise, update, with_flag, with_joined, with_place}
+use Rattle.pg_names.specs.declared.attributes.Attributes.{Attributes}
+use Rattle.pg_names.specs.Names.{InodeValue, NamesValue, changed, join_entry, join_flag, join_place, known, new_held, new_names, raise, update, with_flag, with_joined, with_place}
 use Rattle.pg_names.proofs.Lookups.{known_held}
 use Rattle.pg_names.proofs.Holding.{begun_known}
 use Rattle.pg_replica.specs.declared.link.Link.{Link}
@@ -114,20 +114,20 @@ birth_of x = x.birth
 
 -- ---- what is held of a thing is something else
 
-held_if : (names : NamesValue) (file q : FileId) (x y : HeldValue) (t : Bool) → is_same_file file q ≡ t → known names file ≡ Some x
+held_if : (names : NamesValue) (file q : FileId) (x y : InodeValue) (t : Bool) → is_same_file file q ≡ t → known names file ≡ Some x
     → is_some (cond t (Some y) (known names q)) ≡ is_some (known names q)
 held_if names file q x y true e there =
-    sym (ap (λ (o : Option HeldValue). is_some o) (ap (known names) (sym (is_same_file-true file q e)) ∙ there))
+    sym (ap (λ (o : Option InodeValue). is_some o) (ap (known names) (sym (is_same_file-true file q e)) ∙ there))
 held_if names file q x y false e there = refl
 
-changed_held : (names : NamesValue) (file : FileId) (change : HeldValue → HeldValue) (o : Option HeldValue) → known names file ≡ o
+changed_held : (names : NamesValue) (file : FileId) (change : InodeValue → InodeValue) (o : Option InodeValue) → known names file ≡ o
     → (q : FileId) → is_some (known (changed names file change o) q) ≡ is_some (known names q)
 changed_held names file change None there q = refl
 changed_held names file change (Some x) there q =
-    ap (λ (o : Option HeldValue). is_some o) (known_held names file x (change x) q there)
+    ap (λ (o : Option InodeValue). is_some o) (known_held names file x (change x) q there)
     ∙ held_if names file q x (change x) (is_same_file file q) refl there
 
-pub update_held : (names : NamesValue) (file : FileId) (change : HeldValue → HeldValue) (q : FileId)
+pub update_held : (names : NamesValue) (file : FileId) (change : InodeValue → InodeValue) (q : FileId)
     → is_some (known (update names file change) q) ≡ is_some (known names q)
 update_held names file change q = changed_held names file change (known names file) refl q
 
@@ -279,19 +279,19 @@ patches_as_before a dir (k ∷ ks) =
 
 -- ---- a replica that begins
 
-new_by : (o : Option HeldValue) (p : Option Replica) (x : HeldValue) (y : Replica) (t : Bool) → is_some p ≡ is_some o
+new_by : (o : Option InodeValue) (p : Option Replica) (x : InodeValue) (y : Replica) (t : Bool) → is_some p ≡ is_some o
     → is_some (cond t (Some y) p) ≡ is_some (cond t (Some x) o)
 new_by o p x y true same = refl
 new_by o p x y false same = same
 
-pub new_together : (a : Store) (file : FileId) (birth : ℕ) (policy : Policy) (own : Own) (full : Bool) → AreTogether a
+pub new_together : (a : Store) (file : FileId) (birth : ℕ) (policy : Policy) (own : Attributes) (full : Bool) → AreTogether a
     → AreTogether (put_new a file birth policy own full)
 new_together a file birth policy own full together q =
     ap (λ (o : Option Replica). is_some o) (lookup-insert_entry file_cmp file_total q file (new_replica birth policy) a.replicas)
     ∙ new_by (known a.names q) (replica_at a q) (new_held own full) (new_replica birth policy) (is_same_file q file) (together q)
-    ∙ sym (ap (λ (o : Option HeldValue). is_some o) (begun_known a.names file own full q))
+    ∙ sym (ap (λ (o : Option InodeValue). is_some o) (begun_known a.names file own full q))
 
-pub begin_together : (a : Store) (file : FileId) (birth : ℕ) (policy : Policy) (own : Own) (full : Bool) → AreTogether a
+pub begin_together : (a : Store) (file : FileId) (birth : ℕ) (policy : Policy) (own : Attributes) (full : Bool) → AreTogether a
     → AreTogether (begin a file birth policy own full)
 begin_together a file birth policy own full together =
     together_as_before (put_new a file birth policy own full) (begin a file birth policy own full)
@@ -300,7 +300,7 @@ begin_together a file birth policy own full together =
 
 -- ---- the start
 
-start_by : (x : HeldValue) (y : Replica) (t : Bool) → is_some (cond t (Some y) None) ≡ is_some (cond t (Some x) None)
+start_by : (x : InodeValue) (y : Replica) (t : Bool) → is_some (cond t (Some y) None) ≡ is_some (cond t (Some x) None)
 start_by x y true = refl
 start_by x y false = refl
 
@@ -308,7 +308,7 @@ pub start_together : (servers server : ℕ) → AreTogether (new_store servers s
 start_together servers server q =
     ap (λ (o : Option Replica). is_some o) (lookup-insert_entry file_cmp file_total q root (first_root server servers) [])
     ∙ start_by (new_held (root_own servers) true) (first_root server servers) (is_same_file q root)
-    ∙ sym (ap (λ (o : Option HeldValue). is_some o) (begun_known (new_names server) root (root_own servers) true q))
+    ∙ sym (ap (λ (o : Option InodeValue). is_some o) (begun_known (new_names server) root (root_own servers) true q))
 
 -- what is held has a replica, so a version of it may be made
 pub held_there : (a : Store) (file : FileId) → AreTogether a → is_held a file ≡ true → has_replica a file ≡ true

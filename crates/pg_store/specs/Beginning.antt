@@ -9,7 +9,7 @@ use Rattle.pg_intent.specs.declared.intent.Intent.TheVariants as intent
 use Rattle.pg_intent.specs.declared.key.IntentKey.{IntentKey}
 use Rattle.pg_intent.specs.declared.key.IntentKey.TheVariants as intent_key
 use Rattle.pg_intent.specs.Intents.{ended, intent_at}
-use Rattle.pg_names.specs.declared.own.Own.{Own}
+use Rattle.pg_names.specs.declared.attributes.Attributes.{Attributes}
 use Rattle.pg_names.specs.Names.{begin as begin_names, let_go as let_go_names, raise}
 use Rattle.pg_replica.specs.Replica.{new_replica}
 use Rattle.pg_replica.specs.Replicas.{put_replica, without_replica}
@@ -66,7 +66,7 @@ let_go store file = record store {
 
 -- a replica of this birth stands, full or filling, with this place and these flags, no version and
 -- no edge, and the wish for the thing has ended
-abbrev pub put_new : Store → FileId → ℕ → Policy → Own → Bool → Store
+abbrev pub put_new : Store → FileId → ℕ → Policy → Attributes → Bool → Store
 put_new store file birth policy own full = record store {
   names = raise (begin_names store.names file own full) own.place.stamp.time;
   replicas = put_replica store.replicas file (new_replica birth policy);
@@ -74,6 +74,6 @@ put_new store file birth policy own full = record store {
 }
 
 -- and a directory has taken the entries of its Patches, which have ended
-abbrev pub begin : Store → FileId → ℕ → Policy → Own → Bool → Store
+abbrev pub begin : Store → FileId → ℕ → Policy → Attributes → Bool → Store
 begin store file birth policy own full =
     take_patches (put_new store file birth policy own full) file (patches_of file store.intents)

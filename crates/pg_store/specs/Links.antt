@@ -5,7 +5,7 @@ use Rattle.pg_base.specs.declared.id.FileId.{FileId}
 use Rattle.pg_edges.specs.declared.key.Key.{Key}
 use Rattle.pg_edges.specs.declared.key.Key.TheVariants as key
 use Rattle.pg_register.specs.declared.flag.Flag.{Flag}
-use Rattle.pg_names.specs.Names.{HeldValue, known}
+use Rattle.pg_names.specs.Names.{InodeValue, known}
 use Rattle.pg_replica.specs.Replica as replica
 use Rattle.pg_replica.specs.Replicas.{lists_peer, replicas_linked, replicas_unlinked, takes_link}
 use Rattle.pg_store.specs.declared.store.Store.{Store}
@@ -28,7 +28,7 @@ abbrev pub entry_keys : List FileId → List Key
 entry_keys children = map (λ child. key.Entry child) children
 
 -- the place, the flags by server, the entries by child
-abbrev pub name_keys : Option HeldValue → List Key
+abbrev pub name_keys : Option InodeValue → List Key
 name_keys None = []
 name_keys (Some x) =
     key.Place ∷ (flag_keys x.own.flags ++ entry_keys (keys_of x.entries))

@@ -3,7 +3,7 @@ use Rattle.std.specs.Prelude.{ℕ, true, List, [], zero, suc}
 use Rattle.pg_register.specs.declared.flag.Flag.{Flag}
 use Rattle.pg_register.specs.Flag.{join_flag}
 use Rattle.pg_register.specs.Place.{root, root_place}
-use Rattle.pg_names.specs.declared.own.Own.{Own}
+use Rattle.pg_names.specs.declared.attributes.Attributes.{Attributes}
 use Rattle.pg_names.specs.Names.{NamesValue, begin, new_names}
 use Rattle.pg_replica.specs.Replicas.{ByFile, put_replica}
 use Rattle.pg_replica.specs.Root.{first_root}
@@ -17,7 +17,7 @@ abbrev pub first_flags : ℕ → List Flag
 first_flags zero = []
 first_flags (suc k) = join_flag (first_flags k) (first_flag (suc k))
 
-abbrev pub root_own : ℕ → Own
+abbrev pub root_own : ℕ → Attributes
 root_own servers = record { place = root_place; flags = first_flags servers }
 
 abbrev pub first_names : ℕ → ℕ → NamesValue

@@ -16,7 +16,7 @@ use Rattle.pg_register.specs.declared.place.Place.{Place}
 use Rattle.pg_register.specs.Flag.{flag_of, number_or_0}
 use Rattle.pg_entries.specs.declared.entry.Entry.{Entry}
 use Rattle.pg_entries.specs.Entry.{covers as covers_entry, entry_of}
-use Rattle.pg_names.specs.Names.{HeldValue, NamesValue, is_entry_new, is_flag_new, is_place_new, join_entry, join_flag, join_place, known, own_at, raise}
+use Rattle.pg_names.specs.Names.{InodeValue, NamesValue, is_entry_new, is_flag_new, is_place_new, join_entry, join_flag, join_place, known, own_at, raise}
 use Rattle.pg_names.specs.Names.{is_full as names_fill, is_held as names_hold}
 use Rattle.pg_replica.specs.declared.link.Link.{Link}
 use Rattle.pg_replica.specs.declared.replica.Replica.{Replica}
@@ -72,7 +72,7 @@ has_time last tags files births = nat_lt last clock_end
     && (nat_le tags clock_end && (nat_lt files clock_end && nat_lt births clock_end))
 
 -- the server's own flag of a thing has a number at its end
-abbrev pub is_own_flag_at_end : ℕ → HeldValue → Bool
+abbrev pub is_own_flag_at_end : ℕ → InodeValue → Bool
 is_own_flag_at_end server x =
     nat_le clock_end (number_or_0 (flag_of x.own.flags server))
 
@@ -83,8 +83,8 @@ have_own_flag_at_end names =
 
 -- the clock is not at its end: nor is a number of one of the server's own actors or flags that is
 -- known here
-abbrev pub is_in_time : Store → Bool
-is_in_time store = has_time store.names.last store.tags store.files store.births
+abbrev pub is_before_clock_end : Store → Bool
+is_before_clock_end store = has_time store.names.last store.tags store.files store.births
     && (not (have_own_end store.replicas store.names.server)
     && not (have_own_flag_at_end store.names))
 
@@ -153,7 +153,7 @@ news_beside (Some held) entry =
     if is_before held.place.stamp entry.place.stamp then news.Place
     else (if covers_entry held entry then news.Nothing else news.Flags)
 
-abbrev pub news_in : Option HeldValue → Entry → EntryNews
+abbrev pub news_in : Option InodeValue → Entry → EntryNews
 news_in None entry = news.Nothing
 news_in (Some x) entry = news_beside (entry_of x.entries entry.child) entry
 

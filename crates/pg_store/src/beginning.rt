@@ -6,10 +6,10 @@ ghost use Rattle.pg_store.specs.Births.{draw_birth, fill_at, is_fill_at, is_fill
 ghost use Rattle.pg_store.specs.Wishes.{is_with_birth};
 ghost use Rattle.pg_store.specs.Beginning.{begin, let_go, patch_key, patch_key_if, patches_of, take_patch, take_patches, take_told};
 
-use crate::store::{MOST_TAGS, Store};
+use crate::store::{COUNTER_LIMIT, Store};
 use pg_base::{FileId, Items, Policy};
 use pg_intent::{Intent, IntentKey};
-use pg_names::Own;
+use pg_names::Attributes;
 use pg_replica::Replica;
 use std::alloc::AllocError;
 
@@ -20,7 +20,7 @@ impl Store {
         ensures store { OnOk result (self.new ≡ with_birth self.old) }
         ensures err { OnErr result (self.new ≡ self.old) }
     {
-        if self.births > MOST_TAGS {
+        if self.births > COUNTER_LIMIT {
             return Err(AllocError);
         }
         self.births += 1;
@@ -62,7 +62,7 @@ impl Store {
         file: FileId,
         birth: u64,
         policy: Policy,
-        own: Own,
+        own: Attributes,
         full: bool,
     ) -> Result<(), AllocError>
         ensures { OnOk result (self.new ≡ begin self.old file birth policy own full) }

@@ -9,7 +9,7 @@ use pg_base::{FileId, NodeId, Shared, Stamp};
 use pg_edges::Key;
 use pg_entries::Cell;
 use pg_intent::IntentKey;
-use pg_names::Own;
+use pg_names::Attributes;
 use std::alloc::AllocError;
 
 impl Store {

@@ -15,6 +15,6 @@ mod views;
 mod wishes;
 
 pub use laws::{births_move, views_are_entered};
-pub use store::{LATEST_TIME, MOST_TAGS, Store};
+pub use store::{COUNTER_LIMIT, LATEST_TIME, Store};
 pub use taking::EntryNews;
 pub use wishes::{Wish, Wishes};

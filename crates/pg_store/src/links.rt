@@ -1,16 +1,16 @@
 //! Edges that are made and go.
 
-ghost use Rattle.std.specs.Prelude.{◌≡◌, ◌++◌, IfOk, OnOk};
+ghost use Rattle.std.specs.Prelude.{◌≡◌, ◌++◌, IfOk, OnOk, true};
 ghost use Rattle.pg_replica.specs.Replica.{keys as head_keys};
 ghost use Rattle.std.specs.Map.{keys_of};
 ghost use Rattle.pg_names.specs.Names.{known};
-ghost use Rattle.pg_store.specs.Links.{entry_keys, flag_keys, is_clean, is_new_link, keys, knows_later, link, name_keys, unlink};
+ghost use Rattle.pg_store.specs.Links.{entry_keys, flag_keys, is_clean, is_new_link, keys, knows_later, link, name_keys, put_link, unlink};
 ghost use Rattle.pg_store.specs.Store.{content_of};
 
-use crate::store::{MOST_TAGS, Store};
+use crate::store::{COUNTER_LIMIT, Store};
 use pg_base::{FileId, Items, NodeId, Version};
 use pg_edges::Key;
-use pg_names::Held;
+use pg_names::Inode;
 use pg_register::Flag;
 use std::alloc::AllocError;
 
@@ -22,14 +22,37 @@ impl Store {
         ensures store { OnOk result (self.new ≡ link self.old file peer birth) }
         ensures news { IfOk result (λ news. news ≡ is_new_link self.old file peer birth) }
     {
-        if self.tags > MOST_TAGS {
+        if !self.is_new_link(&file, peer, birth) {
+            return Ok(false);
+        }
+        self.put_link(file, peer, birth)?;
+        Ok(true)
+    }
+
+    /// Whether a link to this birth of a peer makes an edge: the thing is held, and the peer is not listed, or with a lesser
+    /// birth.
+    fn is_new_link(&self, file: &FileId, peer: NodeId, birth: u64) -> bool
+        ensures { result ≡ is_new_link self.now file.now peer birth }
+    {
+        match self.replica(file) {
+            Some(replica) => replica.edges.makes_edge(peer, birth),
+            None => false,
+        }
+    }
+
+    /// The edge to a birth of a peer is made, on which each key of the replica has a fresh tag. After out of memory a part
+    /// may be done.
+    fn put_link(&mut self, file: FileId, peer: NodeId, birth: u64) -> Result<(), AllocError>
+        requires { is_new_link self.old file peer birth ≡ true }
+        ensures { OnOk result (self.new ≡ put_link self.old file peer birth) }
+    {
+        if self.tags > COUNTER_LIMIT {
             return Err(AllocError);
         }
         let keys = self.keys(&file)?;
-        let news = self
-            .replicas
+        self.replicas
             .link(file, peer, birth, keys.as_slice(), &mut self.tags)?;
-        Ok(news)
+        Ok(())
     }
 
     /// The edge to a peer goes, where it is listed with this birth.
@@ -104,7 +127,7 @@ fn push_flag_keys(flags: &[Flag], keys: &mut Items<Key>) -> Result<(), AllocErro
 }
 
 /// The keys of the entries of a directory.
-fn push_entry_keys(held: &Held, keys: &mut Items<Key>) -> Result<(), AllocError>
+fn push_entry_keys(held: &Inode, keys: &mut Items<Key>) -> Result<(), AllocError>
     ensures { OnOk result (keys.new ≡ keys.old ++ entry_keys (keys_of held.now.entries)) }
 {
     for child in held.entries().as_map().keys() {

@@ -4,7 +4,7 @@ ghost use Rattle.std.specs.Prelude.{◌≡◌, IfOk};
 ghost use Rattle.pg_store.specs.Start.{first_flag, first_flags, first_names, first_replicas, root_own};
 
 use pg_base::{FileId, Kind, NodeId};
-use pg_names::{Names, Own};
+use pg_names::{Attributes, Names};
 use pg_register::{Flag, GoldFlags, Place};
 use pg_replica::{FIRST_BIRTH, Replicas, first_root};
 use std::alloc::{AllocError, Global};
@@ -39,10 +39,10 @@ fn first_flags(alloc: Global, servers: u32) -> Result<GoldFlags, AllocError>
     Ok(flags)
 }
 
-fn root_own(alloc: Global, servers: u32) -> Result<Own, AllocError>
+fn root_own(alloc: Global, servers: u32) -> Result<Attributes, AllocError>
     ensures { IfOk result (λ own. own ≡ root_own servers) }
 {
-    Ok(Own {
+    Ok(Attributes {
         place: Place::root(alloc)?,
         flags: first_flags(alloc, servers)?,
     })

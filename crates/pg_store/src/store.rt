@@ -4,14 +4,14 @@ ghost use Rattle.std.specs.Prelude.{◌≡◌, ◌≤◌, ◌^◌, IfOk, OnOk, l
 ghost use Rattle.std.specs.Option.{option_copied};
 ghost use Rattle.pg_replica.specs.Replica.{has_edge};
 ghost use Rattle.pg_store.specs.Births.{birth_of, has_birth};
-ghost use Rattle.pg_store.specs.Store.{acknowledge, has_time, have_own_flag_at_end, is_in_time, is_own_flag_at_end, new_store, replica_at, replica_of, touch};
+ghost use Rattle.pg_store.specs.Store.{acknowledge, has_time, have_own_flag_at_end, is_before_clock_end, is_own_flag_at_end, new_store, replica_at, replica_of, touch};
 
 use crate::start::{first_names, first_replicas};
 use crate::wishes::Wishes;
 use pg_base::{FileId, NodeId, Stamp};
 use pg_edges::Key;
 use pg_intent::Intents;
-use pg_names::{Held, Names};
+use pg_names::{Inode, Names};
 use pg_replica::{FIRST_BIRTH, Link, Replica, Replicas};
 use std::alloc::{AllocError, Global};
 
@@ -37,7 +37,7 @@ pub struct Store {
 }
 
 /// Where more tags than this were given out, no version is made and no key is touched: memory ends before.
-pub const MOST_TAGS: u64 = 1 << 63;
+pub const COUNTER_LIMIT: u64 = 1 << 63;
 
 /// From a greatest time behind this no house rule draws a stamp: memory ends before. A call draws two stamps at most from a
 /// clock that is not at its end, and no message with a later time is heard.
@@ -73,8 +73,8 @@ impl Store {
 
     /// Whether the clock is not at its end: no stamp that was taken, no tag, no id and no birth that was given out, and no
     /// number of one of the server's own actors or flags that is known here, has come to 2^62.
-    pub fn is_in_time(&self) -> bool
-        ensures { result ≡ is_in_time self.now }
+    pub fn is_before_clock_end(&self) -> bool
+        ensures { result ≡ is_before_clock_end self.now }
     {
         self.has_time()
             && !self.replicas.have_own_end(self.server())
@@ -85,10 +85,10 @@ impl Store {
         ensures { result
             ≡ has_time self.now.names.last self.now.tags self.now.files self.now.births }
     {
-        self.names.last() < Stamp::LATEST
-            && self.tags <= Stamp::LATEST
-            && self.files < Stamp::LATEST
-            && self.births < Stamp::LATEST
+        self.names.last() < Stamp::CLOCK_END
+            && self.tags <= Stamp::CLOCK_END
+            && self.files < Stamp::CLOCK_END
+            && self.births < Stamp::CLOCK_END
     }
 
     fn have_own_flag_at_end(&self) -> bool
@@ -152,7 +152,7 @@ impl Store {
     pub fn touch(&mut self, file: FileId, key: Key) -> Result<(), AllocError>
         ensures { OnOk result (self.new ≡ touch self.old file key) }
     {
-        if self.tags > MOST_TAGS {
+        if self.tags > COUNTER_LIMIT {
             return Err(AllocError);
         }
         self.replicas.touch(file, key, &mut self.tags)?;
@@ -168,8 +168,8 @@ impl Store {
 }
 
 /// Whether the server's own flag of a thing has a number of 2^62 or more.
-fn is_own_flag_at_end(server: NodeId, held: &Held) -> bool
+fn is_own_flag_at_end(server: NodeId, held: &Inode) -> bool
     ensures { result ≡ is_own_flag_at_end server held.now }
 {
-    Stamp::LATEST <= held.own().flags.number(server)
+    Stamp::CLOCK_END <= held.own().flags.number(server)
 }

@@ -5,7 +5,7 @@ ghost use Rattle.pg_base.specs.Version.{stamp_of};
 ghost use Rattle.pg_replica.specs.Replica.{has_room, refusal_of};
 ghost use Rattle.pg_store.specs.Store.{content_of, has_replica, is_new_version, replica_of, take_version, write};
 
-use crate::store::{MOST_TAGS, Store};
+use crate::store::{COUNTER_LIMIT, Store};
 use pg_base::{FileId, Items, Stamp, Version};
 use pg_content::WriteError;
 use pg_patch::Ranges;
@@ -18,7 +18,7 @@ impl Store {
         ensures store { OnOk result (self.new ≡ take_version self.old file version) }
         ensures news { IfOk result (λ news. news ≡ is_new_version self.old file version) }
     {
-        if self.tags > MOST_TAGS {
+        if self.tags > COUNTER_LIMIT {
             return Err(AllocError);
         }
         let time = version.head().stamp.time;

@@ -15,16 +15,16 @@ use Rattle.pg_sched.specs.declared.line.Form.{Form}
 use Rattle.pg_sched.specs.declared.line.Form.TheVariants.{Full, Short}
 use Rattle.pg_sched.specs.declared.line.Line.{Line}
 use Rattle.pg_sched.specs.Line.{IsLine}
-use Rattle.pg_trace.specs.declared.printed.Printed.{Printed}
-use Rattle.pg_trace.specs.declared.printed.Printed.TheVariants as printed
+use Rattle.pg_trace.specs.declared.journal_line.JournalLine.{JournalLine}
+use Rattle.pg_trace.specs.declared.journal_line.JournalLine.TheVariants as printed
 use Rattle.pg_msg.specs.Text.{IsSummary}
 use Rattle.pg_msg.specs.UpdateText.{IsUpdate}
-use Rattle.pg_trace.specs.Printed.{ArePrinted}
+use Rattle.pg_trace.specs.JournalLine.{ArePrinted}
 use Rattle.pg_call.specs.Reply.{IsTickReply}
 use Rattle.pg_trace.specs.Spelled.{IsTold, IsEntry}
 use Rattle.pg_trace.specs.Text.{tick_lines, told_lines, done_lines, outcome_lines, head_lines}
 
-pub joined : (xs ys : List Printed) → ArePrinted xs → ArePrinted ys → ArePrinted (xs ++ ys)
+pub joined : (xs ys : List JournalLine) → ArePrinted xs → ArePrinted ys → ArePrinted (xs ++ ys)
 joined [] ys a b = b
 joined (x ∷ xs) ys a b = (a.0, joined xs ys a.1 b)
 

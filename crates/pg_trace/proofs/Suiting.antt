@@ -7,8 +7,8 @@ use Rattle.pg_msg.specs.declared.message.Sent.{Sent}
 use Rattle.pg_msg.specs.declared.update.Update.{Update}
 use Rattle.pg_msg.specs.Sent.{summary}
 use Rattle.pg_sched.specs.declared.line.Form.{Form}
-use Rattle.pg_trace.specs.declared.printed.Printed.{Printed}
-use Rattle.pg_trace.specs.Printed.{ArePrinted}
+use Rattle.pg_trace.specs.declared.journal_line.JournalLine.{JournalLine}
+use Rattle.pg_trace.specs.JournalLine.{ArePrinted}
 use Rattle.pg_trace.specs.Suited.{SuitsKind, SuitsUpdate}
 use Rattle.pg_trace.specs.Text.{done_lines}
 
@@ -26,7 +26,7 @@ one_fits P xs i x more is h p =
     (All-more P xs i x more (All-from_recursion P (take i xs) h) (subst P is p))
 
 -- behind the texts of the first ones stands that of the next one
-pub one_more : {A : Type 0} (text : Printed → List ℕ) (line : A → Printed) (start at new : List ℕ)
+pub one_more : {A : Type 0} (text : JournalLine → List ℕ) (line : A → JournalLine) (start at new : List ℕ)
     (xs : List A) (i : ℕ) (x : A) → i < length xs → x ≡ get_or xs i x
     → at ≡ start ++ flat_map text (map line (take i xs)) → new ≡ at ++ text (line x)
     → new ≡ start ++ flat_map text (map line (take (i + 1) xs))

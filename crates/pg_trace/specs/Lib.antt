@@ -1,4 +1,4 @@
-pub mod Printed
+pub mod JournalLine
 pub mod Text
 pub mod Spelled
 pub mod Suited

@@ -29,8 +29,8 @@ use Rattle.pg_path.specs.Path.{IsComponent}
 use Rattle.pg_path.specs.declared.row.Row.{Row}
 use Rattle.pg_register.specs.Place.{tilde_name}
 use Rattle.pg_register.specs.declared.place.Place.{Place}
-use Rattle.pg_trace.specs.declared.replica.Contents.{Contents}
-use Rattle.pg_trace.specs.declared.replica.Contents.TheVariants as contents
+use Rattle.pg_trace.specs.declared.replica.ShownContent.{ShownContent}
+use Rattle.pg_trace.specs.declared.replica.ShownContent.TheVariants as contents
 use Rattle.pg_trace.specs.declared.replica.ShownReplica.{ShownReplica}
 use Rattle.pg_words.specs.StampWord.{IsStamp}
 
@@ -112,7 +112,7 @@ SuitsQuiet (quiet.Waits c) = SuitsCause c
 abbrev pub most_shown : ℕ
 most_shown = 16
 
-abbrev pub SuitsContents : Kind → Contents → Type 0
+abbrev pub SuitsContents : Kind → ShownContent → Type 0
 SuitsContents File (contents.File heads count bytes) = length bytes ≤ most_shown
 SuitsContents Dir (contents.Dir count) = Unit {0}
 SuitsContents File (contents.Dir count) = ⊥

@@ -11,13 +11,13 @@ ghost use Rattle.pg_call.specs.Reply.{IsCounts, IsReply, IsRow, IsStat};
 ghost use Rattle.pg_event.specs.Quiet.{IsAnswer, IsCause, IsOwing};
 ghost use Rattle.pg_msg.specs.Text.{IsKey, IsSummary};
 ghost use Rattle.pg_msg.specs.UpdateText.{ArePartBytes, IsFlag, IsMadeVersion, IsUpdate};
-ghost use Rattle.pg_trace.specs.Printed.{IsContents, IsReplica};
+ghost use Rattle.pg_trace.specs.JournalLine.{IsContents, IsReplica};
 ghost use Rattle.pg_trace.specs.Spelled.{IsTold};
 ghost use Rattle.pg_trace.specs.Suited.{Answers, DetailFits, IsCallAnswer, SuitsCause, SuitsContents, SuitsKind, SuitsPlace, SuitsQuiet, SuitsReplica, SuitsRow, SuitsUpdate};
 ghost use Rattle.pg_words.specs.PlaceWords.{IsPlace};
 ghost use Rattle.pg_words.specs.StampWord.{IsStamp};
 
-use crate::replica::{Contents, ShownReplica};
+use crate::replica::{ShownContent, ShownReplica};
 use pg_base::{FileId, Stamp};
 use pg_call::{Counts, Refusal, Reply, Stat};
 use pg_edges::Key;
@@ -237,11 +237,11 @@ fn cause_fits(cause: Cause)
     }
 }
 
-fn contents_fit(contents: &Contents)
+fn contents_fit(contents: &ShownContent)
     ensures { (kind : Kind) → SuitsContents kind contents.now → IsContents kind contents.now }
 {
     match contents {
-        Contents::File {
+        ShownContent::File {
             heads,
             length,
             first,
@@ -250,7 +250,7 @@ fn contents_fit(contents: &Contents)
             number_fits(*length);
             bytes_fit(first.as_slice());
         }
-        Contents::Dir(count) => number_fits(*count),
+        ShownContent::Dir(count) => number_fits(*count),
     }
 }
 

@@ -5,7 +5,7 @@ ghost use Rattle.pg_event.specs.declared.entry.Entry.{Entry};
 ghost use Rattle.pg_sched.specs.declared.line.Form.{Form};
 ghost use Rattle.pg_sched.specs.declared.line.Line.{Line};
 ghost use Rattle.pg_sched.specs.Line.{IsLine};
-ghost use Rattle.pg_trace.specs.Printed.{ArePrinted};
+ghost use Rattle.pg_trace.specs.JournalLine.{ArePrinted};
 ghost use Rattle.pg_trace.specs.Spelled.{IsEntry};
 ghost use Rattle.pg_trace.specs.Text.{entry_lines, head_lines};
 

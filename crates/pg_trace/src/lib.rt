@@ -2,12 +2,12 @@
 #![tactic(auto)]
 
 mod fitting;
+mod journal_line;
 mod laws;
-mod printed;
 mod replica;
 mod writing;
 
+pub use journal_line::{AskedAt, JournalLine};
 pub use laws::what_is_written_is_spelled;
-pub use printed::{Printed, Word};
-pub use replica::{Contents, ShownReplica};
+pub use replica::{ShownContent, ShownReplica};
 pub use writing::{write, write_entry, write_head, write_quiet, write_replica};

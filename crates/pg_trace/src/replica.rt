@@ -10,7 +10,7 @@ use std::fmt;
 
 /// What a replica shows.
 #[derive(Debug, Drop)]
-pub enum Contents {
+pub enum ShownContent {
     /// Of a file: the stamps of its heads in their order, how many bytes are shown, or the greatest `u64` where they are
     /// more, and the first of them, at most 16.
     File {
@@ -32,25 +32,25 @@ pub struct ShownReplica {
     /// Whether it has all that it asked for.
     pub full: bool,
     pub place: Place,
-    pub contents: Contents,
+    pub contents: ShownContent,
 }
 
-impl Contents {
+impl ShownContent {
     /// The same again. Bytes are shared.
-    pub fn copy(&self) -> Result<Contents, AllocError>
+    pub fn copy(&self) -> Result<ShownContent, AllocError>
         ensures { IfOk result (λ c. c ≡ self.now) }
     {
         Ok(match self {
-            Contents::File {
+            ShownContent::File {
                 heads,
                 length,
                 first,
-            } => Contents::File {
+            } => ShownContent::File {
                 heads: heads.copy()?,
                 length: *length,
                 first: first.copy()?,
             },
-            Contents::Dir(count) => Contents::Dir(*count),
+            ShownContent::Dir(count) => ShownContent::Dir(*count),
         })
     }
 }
@@ -71,16 +71,16 @@ impl ShownReplica {
     }
 }
 
-impl fmt::Display for Contents {
+impl fmt::Display for ShownContent {
     ghost use Rattle.std.specs.Prelude.{Some};
     ghost use Rattle.std.specs.List.{join_with_byte};
-    ghost use Rattle.pg_trace.specs.Printed.{contents_words};
+    ghost use Rattle.pg_trace.specs.JournalLine.{contents_words};
 
     ghost output = { λ c. Some (join_with_byte 32 (contents_words c)) };
 
     fn fmt<W: fmt::Write>(&self, f: &mut fmt::Formatter<W>) -> fmt::Result {
         match self {
-            Contents::File {
+            ShownContent::File {
                 heads,
                 length,
                 first,
@@ -89,7 +89,7 @@ impl fmt::Display for Contents {
                 let first = HexWord(first.as_slice());
                 write!(f, "heads {heads} shown {length} {first}")
             }
-            Contents::Dir(count) => write!(f, "lists {count}"),
+            ShownContent::Dir(count) => write!(f, "lists {count}"),
         }
     }
 }
@@ -97,7 +97,7 @@ impl fmt::Display for Contents {
 impl fmt::Display for ShownReplica {
     ghost use Rattle.std.specs.Prelude.{Some};
     ghost use Rattle.std.specs.List.{join_with_byte};
-    ghost use Rattle.pg_trace.specs.Printed.{replica_words};
+    ghost use Rattle.pg_trace.specs.JournalLine.{replica_words};
 
     ghost output = { λ h. Some (join_with_byte 32 (replica_words h)) };
 

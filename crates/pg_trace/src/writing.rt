@@ -6,13 +6,13 @@ ghost use Rattle.pg_msg.specs.Sent.{summary};
 ghost use Rattle.pg_msg.specs.Text.{IsSummary};
 ghost use Rattle.pg_msg.specs.UpdateText.{IsUpdate};
 ghost use Rattle.pg_sched.specs.Line.{IsLine};
-ghost use Rattle.pg_trace.specs.declared.printed.Printed.TheVariants as printed;
-ghost use Rattle.pg_trace.specs.Printed.{printed_text, journal_spelling, ArePrinted, IsPrinted};
+ghost use Rattle.pg_trace.specs.declared.journal_line.JournalLine.TheVariants as printed;
+ghost use Rattle.pg_trace.specs.JournalLine.{printed_text, journal_spelling, ArePrinted, IsPrinted};
 ghost use Rattle.pg_trace.specs.Suited.{Answers, IsSuited, SuitsKind, SuitsQuiet, SuitsReplica, SuitsUpdate};
 ghost use Rattle.pg_trace.specs.Text.{told_lines, tick_lines, done_lines, entry_lines, entry_text, head_lines, head_text, quiet_text};
 
 use crate::fitting::{quiet_fits, replica_fits, reply_fits, summary_fits, update_fits};
-use crate::printed::{Printed, Word};
+use crate::journal_line::{AskedAt, JournalLine};
 use crate::replica::ShownReplica;
 use pg_base::{Bytes, NodeId};
 use pg_call::Reply;
@@ -21,14 +21,14 @@ use pg_msg::{Sent, Update};
 use pg_sched::{Form, Line};
 use std::alloc::AllocError;
 
-fn write_line(line: &Printed, out: &mut Bytes) -> Result<(), AllocError>
+fn write_line(line: &JournalLine, out: &mut Bytes) -> Result<(), AllocError>
     ensures { OnOk result (out.new ≡ out.old ++ printed_text line.now) }
 {
     write!(out, "{line}\n")
 }
 
 /// Writes a whole journal at the end.
-pub fn write(journal: &[Printed], out: &mut Bytes) -> Result<(), AllocError>
+pub fn write(journal: &[JournalLine], out: &mut Bytes) -> Result<(), AllocError>
     ensures { OnOk result (out.new ≡ out.old ++ journal_spelling journal.now) }
 {
     for line in journal {
@@ -56,7 +56,7 @@ pub fn write_entry(line: u64, form: Form, entry: &Entry, out: &mut Bytes) -> Res
         → ArePrinted (entry_lines line form entry.now)) }
 {
     match entry.void {
-        Some(cause) => write_line(&Printed::Void { line, cause }, out),
+        Some(cause) => write_line(&JournalLine::Void { line, cause }, out),
         None => {
             write_told(form, &entry.event, &entry.reply, out)?;
             write_done(form, entry.made.as_slice(), entry.sent.as_slice(), out)?;
@@ -141,7 +141,7 @@ fn write_message(message: &Sent, out: &mut Bytes) -> Result<(), AllocError>
 {
     let summary = message.summary();
     summary_fits(summary);
-    write_line(&Printed::Sent(summary), out)
+    write_line(&JournalLine::Sent(summary), out)
 }
 
 fn write_sent(sent: &[Sent], out: &mut Bytes) -> Result<(), AllocError>
@@ -166,7 +166,7 @@ pub fn write_replica(replica: &ShownReplica, out: &mut Bytes) -> Result<(), Allo
 }
 
 /// Writes whether all is done, behind this word.
-pub fn write_quiet(word: Word, quiet: &Quiet, out: &mut Bytes) -> Result<(), AllocError>
+pub fn write_quiet(word: AskedAt, quiet: &Quiet, out: &mut Bytes) -> Result<(), AllocError>
     ensures text { OnOk result (out.new ≡ out.old ++ quiet_text word quiet.now) }
     ensures spelled { SuitsQuiet quiet.now → IsPrinted (printed.Asked word quiet.now) }
 {

@@ -2,8 +2,8 @@
 use Rattle.std.proofs.Common.{ℕ, ◌≡◌, ◌≤◌, ◌<◌, ◌+◌, ◌-◌, List, length, true, slice_index_or, slice_set, sym, ap, subst, ◌∙◌, inl, inr, arith}
 use Rattle.std.proofs.lemmas.Bool.Decides.{nat_tests}
 use Rattle.std.proofs.lemmas.List.{get_or-set_other, get_or-set_same, length-set}
-use Rattle.pg_flood.specs.World.{after}
-use Rattle.pg_flood.proofs.Flood.{here}
+use Rattle.pg_run.specs.theory_flood.World.{after}
+use Rattle.pg_run.proofs.theory_flood.Flood.{here}
 use Rattle.pg_server.specs.declared.input.Input.{Input}
 use Rattle.pg_server.specs.declared.server.Server.{Server}
 use Rattle.pg_server.specs.Local.{Effect, effect}

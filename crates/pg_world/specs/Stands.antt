@@ -6,7 +6,7 @@ use Rattle.pg_event.specs.declared.entry.Entry.{Entry}
 use Rattle.pg_event.specs.declared.entry.VoidCause.{VoidCause}
 use Rattle.pg_event.specs.declared.entry.VoidCause.TheVariants.{Last, Unremoved}
 use Rattle.pg_event.specs.declared.quiet.Cause.{Cause}
-use Rattle.pg_flood.specs.World.{after}
+use Rattle.pg_run.specs.theory_flood.World.{after}
 use Rattle.pg_msg.specs.declared.message.Sent.{Sent}
 use Rattle.pg_register.specs.Flag.{is_removed}
 use Rattle.pg_server.specs.declared.input.Input.{Input}

@@ -1,5 +1,5 @@
 use Rattle.std.proofs.Common.{◌≡◌, ◌++◌, ◌+◌, drop, false}
-use Rattle.pg_trace.specs.Printed.{ArePrinted, journal_spelling}
+use Rattle.pg_trace.specs.JournalLine.{ArePrinted, journal_spelling}
 use Rattle.pg_world.specs.Played.{final}
 use Rattle.pangaea.specs.Text.{journal_lines, journal_of, text_of}
 use Rattle.pangaea.proofs.journal.journal_of.Given as goal

@@ -1,7 +1,7 @@
 use Rattle.std.proofs.Common.{◌+◌, drop}
 use Rattle.std.proofs.lemmas.List.{drop_more}
 use Rattle.pg_calls.specs.Forgetting.{mark, marked_each}
-use Rattle.pg_graph.proofs.Each.{one_each}
+use Rattle.pg_cells.proofs.pg_pieces.Each.{one_each}
 use Rattle.pg_calls.proofs.forgetting.mark_each.Goals as goal
 
 pub loop-dir-preserved : goal.loop-dir-preserved

@@ -1,6 +1,6 @@
 use Rattle.std.proofs.Common.{drop}
 use Rattle.pg_calls.specs.Forgetting.{mark, marked_each}
-use Rattle.pg_graph.proofs.Each.{Comes}
+use Rattle.pg_cells.proofs.pg_pieces.Each.{Comes}
 use Rattle.pg_calls.proofs.forgetting.mark_each.Given as goal
 
 abbrev pub invariant-loop-dir : goal.invariant-loop-dir

@@ -1,5 +1,5 @@
 use Rattle.std.proofs.Common.{rules, ◌≡◌, ◌+◌, min, subst, Result}
-use Rattle.pg_walk.specs.declared.paths.Stop.{Stop}
+use Rattle.pg_lookup.specs.declared.paths.LookupError.{LookupError}
 use Rattle.pg_checks.specs.declared.checks.NewName.{NewName}
 use Rattle.pg_checks.specs.Answer.{Tells}
 use Rattle.pg_calls.specs.Naming.{next_id}
@@ -9,7 +9,7 @@ use Rattle.pg_calls.proofs.naming.name_for_new.Goals as goal
 pub returns : goal.returns
 returns c =
     let most : c.saturating_add.result ≡ min (c.args.store.now.files + 1) 18446744073709551615 = search rules in
-    let P : Result NewName Stop → Type 0 = λ r. Tells c.new_name.result r in
+    let P : Result NewName LookupError → Type 0 = λ r. Tells c.new_name.result r in
     subst P
     (same_name c.args.store.now _ (next_id c.args.store.now c.args.kind) c.args.text.now
     (is_next c.args.store.now c.args.kind c.server.result c.saturating_add.result c.server.ensures most))

@@ -1,6 +1,6 @@
 use Rattle.std.proofs.Common.{take, List}
 use Rattle.pg_msg.specs.declared.work.Touched.{Touched}
-use Rattle.pg_cells.specs.Choice.{ListsLinked, ListsTouched}
+use Rattle.pg_cells.specs.KeyFilter.{ListsLinked, ListsTouched}
 use Rattle.pg_cells.proofs.finishing.add_linked.Given as goal
 
 abbrev pub invariant-loop-edge : goal.invariant-loop-edge

@@ -1,5 +1,5 @@
 use Rattle.std.proofs.Common.{rules}
-use Rattle.pg_cells.specs.Choice.{ListsLinked, ListsTouched}
+use Rattle.pg_cells.specs.KeyFilter.{ListsLinked, ListsTouched}
 use Rattle.pg_cells.proofs.Listed.{all_changed}
 use Rattle.pg_cells.proofs.finishing.finish.Goals as goal
 

@@ -1,5 +1,5 @@
 use Rattle.std.proofs.Common.{take}
-use Rattle.pg_cells.specs.Choice.{ListsTouched}
+use Rattle.pg_cells.specs.KeyFilter.{ListsTouched}
 use Rattle.pg_cells.proofs.finishing.touched_files.Given as goal
 
 abbrev pub invariant-loop-t : goal.invariant-loop-t

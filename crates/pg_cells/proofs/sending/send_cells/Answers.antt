@@ -7,7 +7,7 @@ use Rattle.pg_base.specs.declared.id.FileId.{FileId}
 use Rattle.pg_base.proofs.Orders.{file_order_is}
 use Rattle.pg_msg.specs.declared.message.Sent.{Sent}
 use Rattle.pg_store.specs.Store.{replica_at}
-use Rattle.pg_cells.specs.Choice.{file_cells, wanted_by}
+use Rattle.pg_cells.specs.KeyFilter.{file_cells, passes}
 use Rattle.pg_cells.proofs.Listed.{all_chosen}
 use Rattle.pg_cells.proofs.sending.send_cells.Goals as goal
 
@@ -18,5 +18,5 @@ loop-file-init c =
     let us = c.args.files.now.entries in
     let S : (FileId → FileId → Ordering) → Type 0 = (λ r. IsStrictlySortedBy r (keys_of us)) in
     ap (λ (l : List Sent). c.args.sent.now ++ l)
-    (ap (flat_map (λ k. file_cells s (wanted_by w) k (replica_at s k))) (c.into_iter-file-iterator.ensures.into_iter_gives ∙ c.keys-file-items.ensures.rest)
+    (ap (flat_map (λ k. file_cells s (passes w) k (replica_at s k))) (c.into_iter-file-iterator.ensures.into_iter_gives ∙ c.keys-file-items.ensures.rest)
     ∙ all_chosen s w us (subst S file_order_is c.keys-file-items.ensures.ordered) c.unacknowledged-index.ensures.by_file c.requires)

@@ -1,4 +1,4 @@
-use Rattle.pg_cells.proofs.Flagged.{one_gold}
+use Rattle.pg_cells.proofs.Raising.{one_gold}
 use Rattle.pg_cells.proofs.settling.raise_golds.Goals as goal
 
 pub loop-file-preserved : goal.loop-file-preserved

@@ -1,5 +1,5 @@
 use Rattle.std.proofs.Common.{◌≡◌, drop}
-use Rattle.pg_cells.specs.Done.{idle}
+use Rattle.pg_pieces.specs.Done.{idle}
 use Rattle.pg_cells.specs.Settling.{raise_golds}
 use Rattle.pg_cells.proofs.settling.raise_golds.Given as goal
 

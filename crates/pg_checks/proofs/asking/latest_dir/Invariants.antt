@@ -1,5 +1,5 @@
 use Rattle.std.proofs.Common.{◌≡◌}
-use Rattle.pg_walk.specs.declared.paths.Way.TheVariants.{Id}
+use Rattle.pg_lookup.specs.declared.paths.Way.TheVariants.{Id}
 use Rattle.pg_checks.specs.Asking.{dir_by, latest}
 use Rattle.pg_checks.proofs.asking.latest_dir.Given as goal
 

@@ -1,6 +1,6 @@
 use Rattle.std.proofs.Common.{Err, ap, arith, subst, sym}
 use Rattle.pg_path.specs.Path.{HasBadName}
-use Rattle.pg_checks.specs.declared.denied.Denied.{Denied}
+use Rattle.pg_checks.specs.declared.call_error.CallError.{CallError}
 use Rattle.pg_checks.specs.Answer.{Tells}
 use Rattle.pg_checks.specs.Paths.{path_of}
 use Rattle.pg_checks.proofs.Components.{bad_component, bad_number, whole_path}
@@ -19,5 +19,5 @@ returns-in-Ok c =
 pub returns-in-Err-BadName : goal.returns-in-Err-BadName
 returns-in-Err-BadName c =
     let bad : HasBadName c.args.text.now c.in-Err-BadName.component = (c.in-Err-BadName.ensures.bad c.in-Err-BadName.component).0 (ap Err c.in-Err-BadName.field-0-is) in
-    subst (λ (why : Denied). Tells (Err why) (path_of c.args.text.now)) (sym c.refused-in-Err-BadName.ensures)
+    subst (λ (why : CallError). Tells (Err why) (path_of c.args.text.now)) (sym c.refused-in-Err-BadName.ensures)
     (bad_component c.args.text.now c.in-Err-BadName.component bad)

@@ -1,7 +1,7 @@
 use Rattle.std.proofs.Common.{◌+◌, ◌∷◌, drop, sym, ap, ◌∙◌}
 use Rattle.std.proofs.lemmas.List.{drop_more}
 use Rattle.pg_edges.specs.declared.edge.Edge.{Edge}
-use Rattle.pg_cells.specs.Done.{idle}
+use Rattle.pg_pieces.specs.Done.{idle}
 use Rattle.pg_graph.specs.Leaving.{begin_byes}
 use Rattle.pg_graph.proofs.Byes.{one_bye}
 use Rattle.pg_graph.proofs.leaving.begin_byes.Goals as goal

@@ -1,5 +1,5 @@
 use Rattle.std.proofs.Common.{drop}
-use Rattle.pg_cells.specs.Done.{idle}
+use Rattle.pg_pieces.specs.Done.{idle}
 use Rattle.pg_graph.specs.Leaving.{begin_byes}
 use Rattle.pg_graph.proofs.Byes.{ByesCome}
 use Rattle.pg_graph.proofs.leaving.begin_byes.Given as goal

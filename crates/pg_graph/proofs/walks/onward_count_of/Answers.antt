@@ -1,7 +1,6 @@
 use Rattle.std.proofs.Common.{rules, ◌≡◌, ◌∙◌, sym, count_by}
 use Rattle.std.proofs.lemmas.List.Sums.{length-filter}
-use Rattle.pg_graph.specs.Seeks.{edges_of}
-use Rattle.pg_graph.specs.Walks.{is_onward}
+use Rattle.pg_graph.specs.Walks.{edges_of, is_onward}
 use Rattle.pg_graph.proofs.walks.onward_count_of.Goals as goal
 
 pub returns-in-Some : goal.returns-in-Some

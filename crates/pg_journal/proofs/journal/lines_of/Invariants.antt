@@ -1,5 +1,5 @@
 use Rattle.std.proofs.Common.{◌≡◌, ◌++◌, length}
-use Rattle.pg_trace.specs.Printed.{journal_spelling, ArePrinted}
+use Rattle.pg_trace.specs.JournalLine.{journal_spelling, ArePrinted}
 use Rattle.pg_journal.proofs.journal.lines_of.Given as goal
 
 abbrev pub invariant-loop-rest : goal.invariant-loop-rest

@@ -1,6 +1,6 @@
 use Rattle.std.proofs.Common.{arith, []}
-use Rattle.pg_trace.specs.Printed.{contents_words}
-use Rattle.pg_trace.specs.declared.replica.Contents.TheVariants.{File}
+use Rattle.pg_trace.specs.JournalLine.{contents_words}
+use Rattle.pg_trace.specs.declared.replica.ShownContent.TheVariants.{File}
 use Rattle.pg_journal.proofs.Held.{file_shown, five}
 use Rattle.pg_journal.proofs.replica.file_contents_of.Goals as goal
 use Rattle.pg_words.proofs.ListWords.{texts}

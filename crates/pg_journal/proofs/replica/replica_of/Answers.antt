@@ -1,5 +1,5 @@
 use Rattle.std.proofs.Common.{ap, sym, ◌∙◌}
-use Rattle.pg_trace.specs.Printed.{contents_words}
+use Rattle.pg_trace.specs.JournalLine.{contents_words}
 use Rattle.pg_journal.proofs.Held.{replica_is}
 use Rattle.pg_journal.proofs.replica.replica_of.Goals as goal
 use Rattle.pg_words.proofs.ListWords.{texts}

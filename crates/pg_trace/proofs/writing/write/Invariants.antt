@@ -1,5 +1,5 @@
 use Rattle.std.proofs.Common.{◌≡◌, ◌++◌, take}
-use Rattle.pg_trace.specs.Printed.{journal_spelling}
+use Rattle.pg_trace.specs.JournalLine.{journal_spelling}
 use Rattle.pg_trace.proofs.writing.write.Given as goal
 
 abbrev pub invariant-loop-line : goal.invariant-loop-line

@@ -1,7 +1,7 @@
 use Rattle.std.proofs.Common.{rules}
 use Rattle.pg_msg.specs.UpdateText.{IsUpdate}
-use Rattle.pg_trace.specs.declared.printed.Printed.TheVariants as printed
-use Rattle.pg_trace.specs.Printed.{printed_text}
+use Rattle.pg_trace.specs.declared.journal_line.JournalLine.TheVariants as printed
+use Rattle.pg_trace.specs.JournalLine.{printed_text}
 use Rattle.pg_trace.specs.Suited.{SuitsUpdate}
 use Rattle.pg_trace.proofs.Suiting.{one_fits, one_more}
 use Rattle.pg_trace.proofs.writing.write_made.Goals as goal

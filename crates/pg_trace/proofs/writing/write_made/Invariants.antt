@@ -1,8 +1,8 @@
 use Rattle.std.proofs.Common.{◌≡◌, ◌++◌, map, take}
 use Rattle.std.specs.List.{AllByRecursion, flat_map}
 use Rattle.pg_msg.specs.UpdateText.{IsUpdate}
-use Rattle.pg_trace.specs.declared.printed.Printed.TheVariants as printed
-use Rattle.pg_trace.specs.Printed.{printed_text}
+use Rattle.pg_trace.specs.declared.journal_line.JournalLine.TheVariants as printed
+use Rattle.pg_trace.specs.JournalLine.{printed_text}
 use Rattle.pg_trace.specs.Suited.{SuitsUpdate}
 use Rattle.pg_trace.proofs.writing.write_made.Given as goal
 

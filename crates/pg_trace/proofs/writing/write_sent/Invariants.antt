@@ -2,8 +2,8 @@ use Rattle.std.proofs.Common.{◌≡◌, ◌++◌, map, take}
 use Rattle.std.specs.List.{AllByRecursion, flat_map}
 use Rattle.pg_msg.specs.Sent.{summary}
 use Rattle.pg_msg.specs.Text.{IsSummary}
-use Rattle.pg_trace.specs.declared.printed.Printed.TheVariants as printed
-use Rattle.pg_trace.specs.Printed.{printed_text}
+use Rattle.pg_trace.specs.declared.journal_line.JournalLine.TheVariants as printed
+use Rattle.pg_trace.specs.JournalLine.{printed_text}
 use Rattle.pg_trace.specs.Suited.{SuitsKind}
 use Rattle.pg_trace.proofs.writing.write_sent.Given as goal
 

@@ -1,11 +1,11 @@
 use Rattle.std.proofs.Common.{rules, ap, subst, sym, ◌∙◌}
 use Rattle.pg_event.specs.declared.entry.Entry.{Entry}
-use Rattle.pg_trace.specs.Printed.{ArePrinted}
+use Rattle.pg_trace.specs.JournalLine.{ArePrinted}
 use Rattle.pg_trace.specs.Suited.{IsSuited}
 use Rattle.pg_trace.specs.Text.{entry_lines}
 use Rattle.pg_world.specs.Played.{final}
-use Rattle.pg_run.specs.Run.{start}
-use Rattle.pg_run.proofs.Frame.{run_more}
+use Rattle.law_printable.specs.pg_run.Run.{start}
+use Rattle.law_printable.proofs.pg_run.Frame.{run_more}
 use Rattle.pangaea.proofs.journal.Replay.happen.Goals as goal
 
 pub returns-in_ok-write_entry-in-Ok : goal.returns-in_ok-write_entry-in-Ok

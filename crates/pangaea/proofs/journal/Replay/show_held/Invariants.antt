@@ -1,5 +1,5 @@
 use Rattle.std.proofs.Common.{◌≡◌, []}
-use Rattle.pg_run.specs.Quiet.{has_some}
+use Rattle.law_printable.specs.pg_run.Quiet.{has_some}
 use Rattle.pg_world.specs.Played.{final}
 use Rattle.pangaea.specs.Going.{Reaches}
 use Rattle.pangaea.specs.Text.{shows_lines}

@@ -1,7 +1,7 @@
 use Rattle.std.proofs.Common.{◌≡◌, ◌++◌, refl, subst, sym}
 use Rattle.std.proofs.lemmas.Option.{same_Some}
 use Rattle.pg_store.specs.declared.store.Store.{Store}
-use Rattle.pg_trace.specs.Printed.{ArePrinted, journal_spelling}
+use Rattle.pg_trace.specs.JournalLine.{ArePrinted, journal_spelling}
 use Rattle.pg_world.specs.Played.{held}
 use Rattle.pangaea.specs.Shown.{HoldsSuited, held_lines}
 use Rattle.pangaea.proofs.journal.Replay.show_live.Goals as goal

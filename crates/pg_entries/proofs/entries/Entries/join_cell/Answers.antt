@@ -8,7 +8,7 @@ use Rattle.pg_base.specs.declared.id.FileId.{FileId}
 use Rattle.pg_base.proofs.Orders.{file_order_is}
 use Rattle.pg_entries.specs.declared.entry.Entry.{Entry}
 use Rattle.pg_entries.specs.Entry.{entry_of, join_entry, brings}
-use Rattle.pg_entries.proofs.Joining.{joined_there, joined_new, own_set, own_insert, set_changes, new_changes, Own}
+use Rattle.pg_entries.proofs.Joining.{joined_there, joined_new, own_set, own_insert, set_changes, new_changes, Attributes}
 use Rattle.pg_entries.proofs.entries.Entries.join_cell.Goals as goal
 
 abbrev Order : Type 0
@@ -16,13 +16,13 @@ Order = FileId → FileId → Ordering
 
 pub invariant_of-self : goal.invariant_of-self
 invariant_of-self c =
-    let P : List (FileId × Entry) → Type 0 = All Own in
+    let P : List (FileId × Entry) → Type 0 = All Attributes in
     let w = c.join.new.self in
     subst P (sym (c.get_mut.follows.holds w).0) (own_set _ c.in-Some.held.now w c.self.inside.entries.entries (sym c.in-Some.ensures.value) c.join.ensures.child c.self.invariant)
 
 pub invariant_of-self-in-Some : goal.invariant_of-self-in-Some
 invariant_of-self-in-Some c =
-    let P : List (FileId × Entry) → Type 0 = All Own in
+    let P : List (FileId × Entry) → Type 0 = All Attributes in
     let w = c.join.new.self in
     subst P (sym (c.get_mut.follows.holds w).0) (own_set _ c.in-Some.held.now w c.self.inside.entries.entries (sym c.in-Some.ensures.value) c.join.ensures.child c.self.invariant)
 
@@ -52,7 +52,7 @@ invariant_of-self-in-None c =
     let e = c.args.entry in
     let es = c.self.inside.entries.entries in
     let R : Order → Type 0 = (λ r. c.insert.new.self.entries ≡ insert_entry r es e.child e) in
-    let P : List (FileId × Entry) → Type 0 = All Own in
+    let P : List (FileId × Entry) → Type 0 = All Attributes in
     subst P (sym (subst R file_order_is (put_new c.self.inside.entries _ c.insert.new.self _ e.child e c.get_mut.follows.holds-at-none c.in_ok-insert-in-None.ensures.entries))) (own_insert e es c.self.invariant)
 
 pub returns-in_ok-insert-in-None-clause-joined : goal.returns-in_ok-insert-in-None-clause-joined

@@ -1,4 +1,4 @@
-use Rattle.pg_names.specs.declared.own.Own.{Own}
+use Rattle.pg_names.specs.declared.attributes.Attributes.{Attributes}
 use Rattle.std.proofs.Common.{Option}
 use Rattle.std.proofs.Common.{sym, ap, ◌∙◌}
 use Rattle.pg_base.proofs.Orders.{file_order_is}
@@ -20,5 +20,5 @@ returns-clause-news c =
     let i = c.self.inside in
     let s = names_of i.server i.last i.removed i.held.entries in
     c.join_place.ensures.news
-    ∙ sym (ap (λ (o : Option Own). is_place_new o c.args.place) (own_found _ file_order_is s c.args.file.now c.in-Some.held.now (sym c.in-Some.ensures.value)))
+    ∙ sym (ap (λ (o : Option Attributes). is_place_new o c.args.place) (own_found _ file_order_is s c.args.file.now c.in-Some.held.now (sym c.in-Some.ensures.value)))
     ∙ ap (λ (x : NamesValue). is_place_new (own_at x c.args.file.now) c.args.place) c.self.view_is

@@ -2,7 +2,7 @@ use Rattle.std.specs.BTreeMap.{BTreeMap}
 use Rattle.pg_base.specs.declared.id.FileId.{FileId}
 use Rattle.std.proofs.Common.{sym, ap, ◌∙◌}
 use Rattle.pg_base.proofs.Orders.{file_order_is}
-use Rattle.pg_names.specs.Names.{HeldValue, NamesValue, set_entry, with_entry}
+use Rattle.pg_names.specs.Names.{InodeValue, NamesValue, set_entry, with_entry}
 use Rattle.pg_names.proofs.Writes.{held_put, names_of, update_there, update_absent}
 use Rattle.pg_names.proofs.names.Names.set_entry.Goals as goal
 
@@ -19,6 +19,6 @@ pub returns-in_default : goal.returns-in_default
 returns-in_default c =
     let i = c.self.inside in
     let s = names_of i.server i.last i.removed i.held.entries in
-    ap (λ (m : BTreeMap FileId HeldValue). names_of i.server i.last i.removed m.entries) c.get_mut.follows.holds-at-none
+    ap (λ (m : BTreeMap FileId InodeValue). names_of i.server i.last i.removed m.entries) c.get_mut.follows.holds-at-none
     ∙ update_absent _ file_order_is s c.args.dir.now (with_entry c.args.entry) (sym c.in_default.ensures.value)
     ∙ ap (λ (x : NamesValue). set_entry x c.args.dir.now c.args.entry) c.self.view_is

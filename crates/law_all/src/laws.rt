@@ -1,0 +1,104 @@
+//! The laws of all runs, joined.
+
+ghost use Rattle.std.specs.Prelude.{ℕ};
+ghost use Rattle.law_repair.specs.law_golds.Laws.{FlagsAreKnown};
+ghost use Rattle.law_intents.specs.law_order.Laws.{AllIsNamed};
+ghost use Rattle.law_repair.specs.law_places.Laws.{PlacesWereMade};
+ghost use Rattle.pg_run.specs.Intending.{IntentionsAreInOrder};
+ghost use Rattle.pg_run.specs.Known.{CarriedIsKnown};
+ghost use Rattle.law_all.specs.Joined.{AreCited};
+ghost use Rattle.law_all.specs.Laws.{LawsOfRuns};
+
+use law_acks::{runs_grow, runs_keep_edges};
+use law_intents::order::{all_is_named, house_is_in_order, servers_are_whole, what_begins_is_new};
+use law_intents::{intentions_are_in_order, nothing_is_left_to_do};
+use law_repair::births::{
+    births_are_alone, births_are_known, births_move_on, edges_follow_births, events_of_leaving,
+    gone_stays_gone,
+};
+use law_repair::contents::{
+    clocks_end_first, contents_are_states, runs_make_histories, states_are_heads,
+};
+use law_repair::golds::{flags_are_own, golds_are_named, golds_are_seen};
+use law_repair::leaving::{
+    drops_are_safe, drops_leave_all, heard_edges_are_known, what_went_is_over,
+};
+use law_repair::listings::listings_are_kept;
+use law_repair::places::{one_place_a_stamp, places_were_made};
+use law_repair::quiet::{quiet_names_form_a_tree, quiet_servers_agree, quiet_stores_agree};
+use law_repair::{
+    full_replicas_come, full_replicas_stay, golds_raise_none, kept_runs_are_repaired,
+    kept_things_are_connected,
+};
+use law_returns::full::full_replicas_have_places;
+use law_returns::names::names_are_what_was_taken;
+use law_returns::returns_are_justified;
+use law_ticks::{restarts_lose_wishes, ticks_send_what_is_owed};
+use law_views::{messages_are_of_views, views_are_prefixes};
+use pg_run::{quiet_is_told, takes_are_what_came};
+
+/// All that servers have and messages bring of places and flags was made, or was there at the start: of places and of
+/// flags together, where it holds of each.
+fn what_is_carried_is_known()
+    ensures { (servers : ℕ) → IntentionsAreInOrder servers → AllIsNamed servers
+        → PlacesWereMade servers → FlagsAreKnown servers → CarriedIsKnown servers }
+{}
+
+/// The laws of all runs, each with what it stands on.
+fn laws_are_cited()
+    ensures { (servers : ℕ) → AreCited servers }
+{
+    house_is_in_order();
+    servers_are_whole();
+    all_is_named();
+    what_begins_is_new();
+    views_are_prefixes();
+    messages_are_of_views();
+    intentions_are_in_order();
+    nothing_is_left_to_do();
+    contents_are_states();
+    states_are_heads();
+    runs_make_histories();
+    clocks_end_first();
+    runs_keep_edges();
+    runs_grow();
+    full_replicas_have_places();
+    births_are_alone();
+    births_are_known();
+    edges_follow_births();
+    gone_stays_gone();
+    births_move_on();
+    events_of_leaving();
+    what_went_is_over();
+    heard_edges_are_known();
+    drops_leave_all();
+    drops_are_safe();
+    flags_are_own();
+    golds_are_seen();
+    golds_are_named();
+    one_place_a_stamp();
+    places_were_made();
+    what_is_carried_is_known();
+    names_are_what_was_taken();
+    returns_are_justified();
+    ticks_send_what_is_owed();
+    restarts_lose_wishes();
+    listings_are_kept();
+    quiet_stores_agree();
+    quiet_servers_agree();
+    quiet_names_form_a_tree();
+    full_replicas_come();
+    full_replicas_stay();
+    golds_raise_none();
+    kept_things_are_connected();
+    kept_runs_are_repaired();
+}
+
+/// The laws of all runs: each stands on those before it.
+pub fn laws_of_runs()
+    ensures { (servers : ℕ) → LawsOfRuns servers }
+{
+    laws_are_cited();
+    takes_are_what_came();
+    quiet_is_told();
+}

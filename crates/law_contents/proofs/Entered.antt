@@ -1,0 +1,77 @@
+-- A server is given up: no content changes, no version is made, and what is sent carries none.
+use Rattle.std.proofs.Common.{ℕ, List, [], ◌∷◌, Option, None, Some, refl, arith}
+use Rattle.std.specs.Map.{keys_of}
+use Rattle.law_order.specs.pg_base.declared.id.FileId.{FileId}
+use Rattle.law_order.specs.pg_base.declared.policy.Policy.{Policy}
+use Rattle.law_order.specs.pg_edges.declared.edge.Edge.{Edge}
+use Rattle.law_order.specs.pg_intent.Intents.{keys_to, turned_each}
+use Rattle.law_order.specs.pg_msg.declared.message.Message.TheVariants as message
+use Rattle.law_order.specs.pg_msg.declared.work.Work.{Work}
+use Rattle.law_order.specs.pg_names.Names.{remove_server}
+use Rattle.law_order.proofs.theory_flood_pieces.Choices.{chosen}
+use Rattle.law_order.specs.pg_run.Journal.{Born}
+use Rattle.law_order.specs.pg_store.declared.store.Store.{Store}
+use Rattle.law_order.specs.pg_store.Beginning.{with_intents}
+use Rattle.law_order.specs.pg_store.Servers.{next_target}
+use Rattle.law_order.specs.pg_store.Views.{cut, cut_born, cut_each, enter, listed_birth, turn, with_removed}
+use Rattle.law_order.specs.pg_store.Wishes.{aim_each, wished_of}
+use Rattle.law_order.specs.pg_pieces.Accepting.{ends_to}
+use Rattle.law_order.specs.pg_pieces.Done.{idle}
+use Rattle.law_order.specs.pg_intentions.Inviting.{invite_along, invite_each, invite_of, invites, loose_edge}
+use Rattle.law_order.specs.pg_calls.GivingUp.{doubt_all, enter_view}
+use Rattle.law_contents.proofs.Changes.{Keeps, Keeps-refl, Keeps-trans}
+use Rattle.law_contents.proofs.Pieces.{intents_keep, names_keep, unlink_keeps, wishes_keep}
+use Rattle.law_contents.proofs.Quiet.{Quiet, quiet_idle, quiet_last, quiet_silent, quiet_store, quiet_then}
+
+-- ---- the view
+
+module _ (server : ℕ) where
+  born_keeps : (a : Store) (file : FileId) (o : Option ℕ) → Keeps a (cut_born server a file o)
+  born_keeps a file None = Keeps-refl a
+  born_keeps a file (Some birth) = unlink_keeps a file server birth
+
+  cuts_keep : (files : List FileId) (a : Store) → Keeps a (cut_each server a files)
+  cuts_keep [] a = Keeps-refl a
+  cuts_keep (file ∷ files) a =
+      Keeps-trans (born_keeps a file (listed_birth a file server)) (cuts_keep files (cut server a file))
+
+  turn_keeps : (to : ℕ) (a : Store) → Keeps a (turn server to a)
+  turn_keeps to a =
+      let b = with_intents a (turned_each a.intents (keys_to server a.intents) to) in
+      Keeps-trans (intents_keep a b.intents) (wishes_keep b (aim_each a.wishes (wished_of server a.wishes) to))
+
+  pub enter_keeps : (a : Store) → Keeps a (enter a server)
+  enter_keeps a =
+      let b = with_removed a server in
+      let c = cut_each server b (keys_of a.names.held) in
+      Keeps-trans (names_keep a (remove_server a.names server) refl (omega arith) (λ f h. h))
+      (Keeps-trans (cuts_keep (keys_of a.names.held) b) (turn_keeps (next_target c server) c))
+
+-- ---- invites go last
+
+module _ (us : List Born) (p : FileId → Policy) (N : FileId → Type 0) where
+  along_quiet : (b : Store) (file : FileId) (o : Option Edge) (w : Work)
+      → Quiet us p N b w (idle b (invite_along b file o w))
+  along_quiet b file None w = quiet_idle us p N b w
+  along_quiet b file (Some e) w =
+      quiet_last us p N b e.peer (message.Invite (ends_to b file e.birth)) w tt
+
+  invites_quiet : (files : List FileId) (b : Store) (w : Work)
+      → Quiet us p N b w (idle b (invite_each b files w))
+  invites_quiet [] b w = quiet_idle us p N b w
+  invites_quiet (file ∷ files) b w =
+      let one = invite_of b file w in
+      let first : Quiet us p N b w (idle b one) =
+      chosen (λ (v : Work). Quiet us p N b w (idle b v)) (invites b file)
+      (invite_along b file (loose_edge b file) w) w (along_quiet b file (loose_edge b file) w)
+      (quiet_idle us p N b w) in
+      quiet_then us p N first (invites_quiet files b one)
+
+  pub entered_quiet : (a : Store) (server : ℕ) (w : Work)
+      → Quiet us p N a w (enter_view a server w)
+  entered_quiet a server w =
+      let b = enter a server in
+      let doubted = doubt_all b w in
+      quiet_then us p N (quiet_store us p N a b w (enter_keeps server a))
+      (quiet_then us p N (quiet_silent us p N b b w doubted (Keeps-refl b) (refl, refl, refl))
+      (invites_quiet (keys_of b.names.held) b doubted))

@@ -1,0 +1,204 @@
+-- A version is made of what is held of a file, as a client writes it.
+use Rattle.std.proofs.Common.{ℕ, ◌≡◌, ◌<◌, ◌≤◌, ◌+◌, ◌^◌, true, cond, max, min, List, [], ◌∷◌, ◌++◌, map, Option, Some, Ok, option_map, refl, sym, ap, subst, ◌∙◌, inl, inr, ◌⊎◌, arith}
+use Rattle.std.proofs.lemmas.List.{append-nil}
+use Rattle.law_order.specs.pg_base.declared.id.FileId.{FileId}
+use Rattle.law_order.specs.pg_base.declared.policy.Policy.{Policy}
+use Rattle.law_order.specs.pg_base.declared.stamp.Stamp.{Stamp}
+use Rattle.law_order.specs.pg_base.Id.{is_same_file}
+use Rattle.law_order.specs.pg_base.Version.{VersionValue, stamp_of}
+use Rattle.law_order.specs.pg_patch.Ranges.{RangesValue}
+use Rattle.law_order.specs.pg_content.Content.{Among, ContentValue}
+use Rattle.law_order.specs.pg_content.History.{Made, maker}
+use Rattle.law_order.specs.pg_call.declared.reply.Reply.TheVariants as reply
+use Rattle.law_order.specs.pg_msg.declared.update.MadeVersion.{MadeVersion}
+use Rattle.law_order.specs.pg_msg.Work.{new_work}
+use Rattle.law_order.specs.pg_replica.declared.replica.Replica.{Replica}
+use Rattle.law_order.specs.pg_replica.Replicas.{or_nothing}
+use Rattle.law_order.specs.pg_run.Journal.{Born, made_for, made_of, versions_in}
+use Rattle.law_order.specs.pg_run.Took.{stamps_taken, take_of}
+use Rattle.law_order.specs.pg_names.Names.{is_dir}
+use Rattle.law_order.specs.pg_store.declared.store.Store.{Store}
+use Rattle.law_order.specs.pg_store.Store.{is_before_clock_end, replica_at, write}
+use Rattle.law_order.proofs.pg_store.InTime.{births_in_time, last_in_time}
+use Rattle.law_order.specs.pg_pieces.Done.{idle}
+use Rattle.law_order.specs.pg_checks.Answer.{Answer, answer}
+use Rattle.law_order.specs.pg_checks.Checks.{file_at}
+use Rattle.law_order.specs.pg_calls.Making.{drawn, make_version, version_of}
+use Rattle.law_order.proofs.pg_calls.InTime.{file_in_time}
+use Rattle.law_order.proofs.pg_calls.Walked.{file_found, full_held}
+use Rattle.law_contents.proofs.Changes.{Core, IsOrdered, by_altered, core_at, core_of, replica_of_core}
+use Rattle.law_contents.proofs.Files.{HoldsFile}
+use Rattle.law_contents.proofs.Histories.{AreMade, IsNextUpdate}
+use Rattle.law_contents.proofs.Sending.{AllCarry, none_carry}
+use Rattle.law_contents.proofs.Servers.{Came, IsNamedBy, IsServer, Stands, file_held, stands_wrote, with_came}
+use Rattle.law_contents.proofs.Versions.{WrittenCore, write_alters, write_last}
+use Rattle.law_contents.proofs.Writing.{IsWrite, next_file, next_update}
+
+-- an answer in which one version was made: with these policies then
+pub record Makes (s : ℕ) (a : Store) (us : List Born) (p q : FileId → Policy)
+    (N : FileId → Type 0) (came : Came) (r : Answer) : Type 0 where
+  pub version : Born
+  pub core : Core
+  pub time : is_before_clock_end a ≡ true
+  pub here : core_at r.store version.made.file ≡ Some core
+  pub born : core.birth ≡ version.birth
+  pub made : versions_in r.work.made ≡ version.made ∷ []
+  pub takes : (f : FileId) → stamps_taken f (map take_of r.work.made)
+      ≡ cond (is_same_file version.made.file f) (version.made.stamp ∷ []) []
+  pub next : IsNextUpdate us version
+  pub maker : version.made.stamp.server ≡ s
+  pub server : r.store.names.server ≡ a.names.server
+  pub last : a.names.last ≤ r.store.names.last
+  pub files : a.files ≤ r.store.files
+  pub order : IsOrdered a.replicas → IsOrdered r.store.replicas
+  pub dated : version.made.stamp.time ≤ r.store.names.last
+  pub held : (f : FileId) (k : Core) → core_at r.store f ≡ Some k → IsNamedBy s r.store N f
+  pub stands : Stands s r.store (version ∷ us) q
+      (with_came version.made.file version.made.stamp came)
+  pub sent : AllCarry (version ∷ us) q N r.work.sent
+  pub tail : AllCarry (version ∷ us) q N r.work.tail
+  pub same : (f : FileId) → N f → q f ≡ p f
+  pub rest : (f : FileId) → IsNamedBy s r.store N f ⊎ (q f ≡ p f)
+  pub dirs : (f : FileId) → is_dir f ≡ true → q f ≡ p f
+
+-- ---- a version is made of what is held of a file
+
+module _ {s : ℕ} {b : Store} {us : List Born} {q : FileId → Policy} {came : Came}
+    (k : Stands s b us q came) (made : AreMade us) (few : s < 2 ^ 32) (file : FileId)
+    (x : Replica) (is : replica_at b file ≡ Some x) (birth : x.birth < 2 ^ 64)
+    (room : (v : VersionValue) → Among v x.content.heads → b.names.last < 2 ^ 63)
+    (stamp : Stamp) (own : stamp.server ≡ s) (later : b.names.last < stamp.time)
+    (fresh : (v : Born) → Among v us → v.made.stamp ≡ stamp → ⊥) (ranges : RangesValue) where
+  abbrev pub New : Born
+  New = record { birth = x.birth; made = version_of b file stamp ranges }
+
+  -- the replica of this birth at a server has this of the file
+  abbrev HeldBy : ℕ → Policy → ContentValue → List Made → List Stamp → Type 0
+  HeldBy j policy c h set =
+      HoldsFile (λ m. maker m ≡ record { server = j; birth = x.birth }) policy c h set
+
+  held_there : HeldBy stamp.server (q file) x.content (made_for file us) (came file)
+  held_there =
+      subst (λ (j : ℕ). HeldBy j (q file) x.content (made_for file us) (came file)) (sym own)
+      (file_held k file (core_of x) (ap (option_map core_of) is))
+
+  is_write : IsWrite s b.names.last (q file) x.content us (came file) New
+  is_write = record {
+    made = made;
+    ready = held_there;
+    known = k.known file;
+    upto = k.upto file;
+    based = ap (λ (o : Option Replica). map stamp_of (or_nothing o).content.heads) is;
+    server = own;
+    later = later;
+    few = few;
+    birth = birth;
+    room = room;
+    fresh = fresh;
+  }
+
+  pub made_next : IsNextUpdate us New
+  made_next = next_update is_write
+
+  abbrev pub WroteStore : Store
+  WroteStore = write b file stamp ranges
+
+  pub made_stands : Stands s WroteStore (New ∷ us) q (with_came file stamp came)
+  made_stands =
+      stands_wrote New k WroteStore (WrittenCore b file x is stamp ranges)
+      (write_alters b file x is stamp ranges) (write_last b file x is stamp ranges)
+      (subst (λ (j : ℕ). HeldBy j (q file) (WrittenCore b file x is stamp ranges).content
+      (made_of New ∷ made_for file us) (stamp ∷ came file)) own (next_file is_write))
+
+-- the next stamp is later than the clock
+pub drawn_later : (now last : ℕ) → last < max (min now (2 ^ 62)) (last + 1)
+drawn_later now last = grind arith
+
+-- ---- a file is written
+
+-- one stamp more, where nothing was taken of others
+pub one_take : (f : FileId) (u : MadeVersion)
+    → cond (is_same_file u.file f) (u.stamp ∷ []) [] ++ []
+    ≡ cond (is_same_file u.file f) (u.stamp ∷ []) []
+one_take f u = append-nil (cond (is_same_file u.file f) (u.stamp ∷ []) [])
+
+module _ {s : ℕ} {a : Store} {us : List Born} {p : FileId → Policy} {N : FileId → Type 0}
+    {came : Came} (k : IsServer s a us p N came) where
+  -- a stamp that is later than the clock
+  pub stamp_fresh : (stamp : Stamp) → stamp.server ≡ s → a.names.last < stamp.time → (v : Born)
+      → Among v us → v.made.stamp ≡ stamp → ⊥
+  stamp_fresh stamp own later v l same =
+      let old = k.dated v l (ap (λ (t : Stamp). t.server) same ∙ own) in
+      let at = ap (λ (t : Stamp). t.time) same in
+      omega arith
+
+  module _ (moment : ℕ) (ranges : RangesValue) (text : List ℕ) (file : FileId)
+      (found : file_at a text ≡ Ok file) where
+    abbrev stamp : Stamp
+    stamp = drawn a moment
+
+    abbrev Wrote : Answer
+    Wrote = answer (make_version file stamp ranges (idle a (new_work moment 0)))
+        (reply.Wrote stamp)
+
+    core : (c : Core) × (core_at a file ≡ Some c)
+    core = k.paired.both file (full_held a.names file (file_found a text file found).0)
+
+    there : (x : Replica) × (replica_at a file ≡ Some x) × (core_of x ≡ core.0)
+    there = replica_of_core a file core.0 core.1
+
+    in_time : is_before_clock_end a ≡ true
+    in_time = file_in_time a text file found
+
+    given : there.0.birth < 2 ^ 64
+    given =
+        let most = births_in_time a in_time in
+        let at = k.paired.births file (core_of there.0) (ap (option_map core_of) there.1) in
+        omega arith
+
+    early : a.names.last < 2 ^ 63
+    early = let low = last_in_time a in_time in omega arith
+
+    later : a.names.last < stamp.time
+    later = drawn_later moment a.names.last
+
+    -- A CLIENT WRITES A FILE
+    pub written_makes : Makes s a us p p N came Wrote
+    written_makes =
+        let x = there.0 in
+        let is = there.1 in
+        let own = k.server in
+        let fresh = stamp_fresh stamp own later in
+        let room = λ (v : VersionValue) (l : Among v x.content.heads). early in
+        let alters = write_alters a file x is stamp ranges in
+        let u = version_of a file stamp ranges in
+        let version =
+        New k.stands k.made k.few file x is given room stamp own later fresh ranges in
+        record {
+          version = version;
+          core = WrittenCore a file x is stamp ranges;
+          time = in_time;
+          here = alters.here;
+          born = refl;
+          made = refl;
+          takes = λ f. one_take f u;
+          next =
+              made_next k.stands k.made k.few file x is given room stamp own later fresh ranges;
+          maker = own;
+          server = refl;
+          last = alters.last;
+          files = omega arith;
+          order = alters.order;
+          dated = write_last a file x is stamp ranges;
+          held = λ f c e. inl (by_altered (λ g o. (y : Core) → o ≡ Some y → N g) a
+              (write a file stamp ranges) file (Some (WrittenCore a file x is stamp ranges)) alters
+              (λ y same. k.held file (core_of x) (ap (option_map core_of) is))
+              (λ g apart y same. k.held g y same) f c e);
+          stands =
+              made_stands k.stands k.made k.few file x is given room stamp own later fresh ranges;
+          sent = none_carry (version ∷ us) p N;
+          tail = none_carry (version ∷ us) p N;
+          same = λ f h. refl;
+          rest = λ f. inr refl;
+          dirs = λ f h. refl;
+        }

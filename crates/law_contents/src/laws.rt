@@ -1,0 +1,39 @@
+//! What holds of the contents of files after any events, of servers at which names and replicas go together.
+
+ghost use Rattle.std.specs.Prelude.{ℕ, ◌<◌, ◌^◌};
+ghost use Rattle.law_contents.specs.Together.{StandOn};
+ghost use Rattle.law_order.specs.pg_run.Histories.{AncestryByVectors, CarriesHistory, ClockEndsFirst, HistoryIsWhatWasMade, MakesHistories, OneVersionAStamp, StateIsDetermined, StateIsItsHeads};
+ghost use Rattle.law_order.specs.pg_run.Laws.{HoldsWhatItTook};
+
+/// What a server holds of a file's content is the state of exactly the versions that it took,
+/// whatever was lost, repeated or late.
+pub fn contents_are_states()
+    ensures { (servers : ℕ) → servers < 2 ^ 32 → StandOn servers → HoldsWhatItTook servers }
+{}
+
+/// The state of what a server took is its heads, whole, and does not depend on the order in which
+/// they came.
+pub fn states_are_heads()
+    ensures heads { (servers : ℕ) → servers < 2 ^ 32 → StandOn servers → StateIsItsHeads servers }
+    ensures determined { (servers : ℕ) → servers < 2 ^ 32 → StandOn servers
+        → StateIsDetermined servers }
+{}
+
+/// The versions of a file are a history, no two of which have one stamp; it has just the versions that entries tell
+/// of. A version's vector tells its ancestors, and each message that was ever sent and carries a version carries one of
+/// the history, as it is there; a grant names the policy of its file.
+pub fn runs_make_histories()
+    ensures histories { (servers : ℕ) → servers < 2 ^ 32 → StandOn servers
+        → MakesHistories servers }
+    ensures one { (servers : ℕ) → servers < 2 ^ 32 → StandOn servers → OneVersionAStamp servers }
+    ensures told { (servers : ℕ) → HistoryIsWhatWasMade servers }
+    ensures ancestry { (servers : ℕ) → servers < 2 ^ 32 → StandOn servers
+        → AncestryByVectors servers }
+    ensures carried { (servers : ℕ) → servers < 2 ^ 32 → StandOn servers
+        → CarriesHistory servers }
+{}
+
+/// Numbers of versions never end before the clock does.
+pub fn clocks_end_first()
+    ensures { (servers : ℕ) → servers < 2 ^ 32 → StandOn servers → ClockEndsFirst servers }
+{}

@@ -1,0 +1,2 @@
+pub mod Laws
+pub use Rattle.law_order.specs as law_order

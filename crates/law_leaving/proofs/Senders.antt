@@ -1,0 +1,30 @@
+-- Whom a server hears: another live server in its view.
+use Rattle.std.proofs.Common.{ℕ, ◌≡◌, ◌==◌, ◌&&◌, true, false, not, sym, ◌∙◌, ap}
+use Rattle.std.specs.Prelude.{nat_le}
+use Rattle.std.proofs.lemmas.Bool.{and_parts, false≢true}
+use Rattle.law_births.specs.pg_msg.declared.message.Packet.{Packet}
+use Rattle.law_births.specs.pg_msg.Numbers.{is_in_range}
+use Rattle.law_births.specs.pg_register.Flag.{is_removed}
+use Rattle.law_births.specs.pg_server.declared.input.Input.TheVariants as input
+use Rattle.law_births.specs.pg_server.Local.{takes_effect}
+use Rattle.law_births.specs.pg_store.declared.store.Store.{Store}
+use Rattle.law_births.specs.pg_store.Servers.{is_live_other, view_of}
+use Rattle.law_births.specs.pg_store.Store.{is_before_clock_end}
+
+pub sender_live : (a : Store) (packet : Packet) → takes_effect a (input.Arrival packet) ≡ true
+    → is_live_other a packet.from ≡ true
+sender_live a packet heard =
+    let in_view = packet.view == view_of a in
+    let live = is_live_other a packet.from in
+    let range = is_in_range packet.message in
+    let behind = (and_parts (is_before_clock_end a) (in_view && (live && range)) heard).1 in
+    (and_parts live range (and_parts in_view (live && range) behind).1).0
+
+pub live_unremoved : (a : Store) (u : ℕ) → is_live_other a u ≡ true → is_removed a.names.removed u ≡ true → ⊥
+live_unremoved a u live gone =
+    let up = nat_le u a.servers in
+    let apart = not (u == a.names.server) in
+    let kept = not (is_removed a.names.removed u) in
+    let rest = (and_parts (nat_le 1 u) (up && (apart && kept)) live).1 in
+    let left = (and_parts apart kept (and_parts up (apart && kept) rest).1).1 in
+    false≢true (sym (ap not gone) ∙ left)

@@ -1,0 +1,25 @@
+-- What is said of replicas that go along every run.
+use Rattle.std.specs.Prelude.{ℕ, ◌≡◌, false, List, Some}
+use Rattle.law_births.specs.pg_base.declared.id.FileId.{FileId}
+use Rattle.law_births.specs.pg_edges.declared.key.Key.{Key}
+use Rattle.law_births.specs.pg_entries.declared.cell.Cell.{Cell}
+use Rattle.law_births.specs.pg_event.declared.event.Event.{Event}
+use Rattle.law_births.specs.pg_register.Flag.{is_removed}
+use Rattle.law_births.specs.pg_store.Cells.{cell_at}
+use Rattle.law_births.specs.pg_run.Leaving.{Goes, HasEachCell}
+use Rattle.law_births.specs.pg_run.Run.{World, run}
+use Rattle.law_leaving.specs.Taken.{IsTaken}
+
+-- server t holds the thing with this birth, is not removed in the view of server s, and has every cell
+-- that s has of it, or one that tells more, and took what it tells
+pub record HasAllOf (w : World) (s : ℕ) (file : FileId) (t birth : ℕ) : Type 0 where
+  pub there : is_removed (w.stores s).names.removed t ≡ false
+  pub cells : HasEachCell w s file t birth
+  pub took : (k : Key) (c : Cell) → cell_at (w.stores s) file k ≡ Some c → IsTaken (w.took t) file c
+
+-- WHOEVER GOES LEAVES ALL: whenever a replica goes, the one that gave it leave has every cell of it, and
+-- took what it tells
+abbrev pub DropsLeaveAll : ℕ → Type 0
+DropsLeaveAll servers = (events : List Event) (event : Event) (s from : ℕ) (file : FileId)
+    → Goes servers events event s file from
+    → (birth : ℕ) × HasAllOf (run servers events) s file from birth

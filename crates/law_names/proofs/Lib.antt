@@ -1,0 +1,22 @@
+pub mod Same
+pub mod Comes
+pub mod Entries
+pub mod Going
+pub mod Gone
+pub mod Beginning
+pub mod Patched
+pub mod Notes
+pub mod Making
+pub mod Held
+pub mod Leaving
+pub mod Messages
+pub mod Calls
+pub mod Forgetting
+pub mod GivingUp
+pub mod Called
+pub mod Sources
+pub mod Settling
+pub mod Effects
+pub mod Start
+pub mod Runs
+pub use Rattle.law_passing.proofs as law_passing

@@ -1,0 +1,147 @@
+-- An event at a server leaves it sound, and what is sent in it is said.
+use Rattle.std.proofs.Common.{ℕ, ◌≡◌, ◌≤◌, ◌==◌, Bool, true, false, not, cond, nat_le, Some, refl, sym, subst, ◌∙◌}
+use Rattle.std.proofs.lemmas.Bool.{and_parts, leb-true}
+use Rattle.std.proofs.lemmas.List.Elements.{All-nil}
+use Rattle.pg_run.proofs.pg_intent.Above.{not_equal}
+use Rattle.pg_run.specs.pg_msg.declared.message.Sent.{Sent}
+use Rattle.pg_run.specs.pg_msg.declared.work.Slot.{Slot}
+use Rattle.pg_run.specs.pg_msg.declared.work.Work.{Work}
+use Rattle.pg_run.specs.pg_msg.Numbers.{is_in_range}
+use Rattle.pg_run.specs.pg_msg.Work.{new_work}
+use Rattle.pg_run.specs.pg_call.declared.reply.Reply.{Reply}
+use Rattle.pg_run.specs.pg_store.declared.store.Store.{Store}
+use Rattle.pg_run.specs.pg_store.Servers.{is_live_other, view_of}
+use Rattle.pg_run.specs.pg_store.Store.{is_before_clock_end}
+use Rattle.pg_run.proofs.pg_store.Aiming.{unwished_as_before}
+use Rattle.pg_run.proofs.pg_store.Given.{births_as_before}
+use Rattle.pg_run.specs.pg_pieces.Done.{Done, idle}
+use Rattle.pg_run.specs.pg_cells.Ticks.{tick}
+use Rattle.pg_run.specs.pg_intentions.Requests.{ask_all}
+use Rattle.pg_run.specs.pg_calls.Calls.{do_call}
+use Rattle.pg_run.proofs.pg_calls.Late.{late_does_nothing}
+use Rattle.pg_run.specs.pg_server.declared.input.Input.{Input}
+use Rattle.pg_run.specs.pg_server.declared.input.Input.TheVariants as input
+use Rattle.pg_run.specs.pg_server.Local.{Effect, closed, done_of, effect, finished, first_effect, is_heard, receive, reply_to, sent_again, takes_effect, without_wishes}
+use Rattle.pg_run.specs.theory_flood_pieces.Whole.{IsOther}
+use Rattle.pg_run.proofs.theory_flood_pieces.Choices.{chosen, decided}
+use Rattle.law_order.specs.Saying.{IsClosed, IsSaidLeft, IsSaidOfMessage, Saying}
+use Rattle.law_order.proofs.Accepting.{so_tick}
+use Rattle.law_order.proofs.Called.{GivesNewIds, so_called}
+use Rattle.law_order.proofs.Ended.{IsAtRest, IsDone, closed_sound, finished_sound}
+use Rattle.law_order.proofs.Received.{so_received}
+use Rattle.law_order.proofs.Sent.{AreSaidOf, again_said}
+use Rattle.law_order.proofs.Sounding.{Sound, sound_alike}
+use Rattle.law_order.proofs.Taking.{IsMember, SoFar}
+
+-- what is asked of an input
+abbrev pub IsAskable : Saying → Store → Input → Type 0
+IsAskable p a (input.Call moment x) = GivesNewIds p a x (new_work moment 0)
+IsAskable p a (input.Tick moment word) = Unit {0}
+IsAskable p a (input.Arrival packet) = IsSaidOfMessage p packet.message
+IsAskable p a input.Restart = Unit {0}
+
+-- who is heard is another server
+heard_other : (n s t : ℕ) (a : Store) → a.servers ≡ n → a.names.server ≡ s → is_live_other a t ≡ true → IsOther n s t
+heard_other n s t a servers server h =
+    let one = and_parts (nat_le 1 t) _ h in
+    let two = and_parts (nat_le t a.servers) _ one.1 in
+    let three = and_parts (not (t == a.names.server)) _ two.1 in
+    record {
+      least = leb-true 1 t one.0;
+      most = subst (λ (m : ℕ). t ≤ m) servers (leb-true t a.servers two.0);
+      apart = λ same. not_equal t a.names.server three.0 (same ∙ sym server);
+    }
+
+module _ (p : Saying) (c : IsClosed p) (n s : ℕ) (mine : IsMember p n s) (a : Store) (k : IsAtRest p n s a) where
+  abbrev Far : Done → Type 0
+  Far d = SoFar p c n s d
+
+  abbrev Ends : Effect → Type 0
+  Ends e = IsDone p n s e
+
+  none_sent : (now from : ℕ) → AreSaidOf p (new_work now from).sent
+  none_sent now from = All-nil (λ (m : Sent). IsSaidOfMessage p m.packet.message)
+
+  begins : (now from : ℕ) → Far (idle a (new_work now from))
+  begins now from = record { store = k.sound; left = All-nil (λ (slot : Slot). IsSaidLeft p slot); sent = none_sent now from; tail = none_sent now from }
+
+  sound_wishless : Sound p n s (without_wishes a)
+  sound_wishless =
+      sound_alike p n s a k.sound (without_wishes a) (record { servers = refl; tags = refl; names = refl; replicas = refl })
+      (births_as_before a (without_wishes a) (unwished_as_before a) k.sound.births) k.sound.keys k.sound.named.intents
+
+  tick_far : (moment word : ℕ) → Far (idle a (sent_again a word (new_work moment 0)))
+  tick_far moment word =
+      let w = new_work moment 0 in
+      so_tick p c n s (idle a (ask_all a (tick a w))) word mine (record {
+        store = k.sound;
+        left = (begins moment 0).left;
+        sent = again_said p n s a k.sound w (none_sent moment 0);
+        tail = none_sent moment 0;
+      })
+
+  first_tick : (moment word : ℕ) → Far (first_effect a (input.Tick moment word))
+  first_tick moment word =
+      chosen (λ (w : Work). Far (idle a w)) (is_before_clock_end a) (sent_again a word (new_work moment 0)) (new_work moment 0) (tick_far moment word) (begins moment 0)
+
+  -- ---- what takes effect
+
+  pub first_sound : (asked : Input) → IsAskable p a asked → takes_effect a asked ≡ true → Far (first_effect a asked)
+  first_sound (input.Call moment x) ids going = so_called p c n s mine a k (new_work moment 0) (begins moment 0) x ids
+  first_sound (input.Tick moment word) asks going = first_tick moment word
+  first_sound (input.Arrival packet) said going =
+      decided Far (is_heard a packet) (receive a packet.message (new_work 0 packet.from)) (idle a (new_work 0 packet.from))
+      (λ heard.
+      let one = and_parts (is_before_clock_end a) _ heard in
+      let two = and_parts (packet.view == view_of a) _ one.1 in
+      let three = and_parts (is_live_other a packet.from) (is_in_range packet.message) two.1 in
+      let other = heard_other n s packet.from a k.sound.whole.servers k.sound.whole.server three.0 in
+      so_received p c n s mine (idle a (new_work 0 packet.from)) packet.message other said (begins 0 packet.from))
+      (λ no. begins 0 packet.from)
+  first_sound input.Restart asks going = record { store = sound_wishless; left = (begins 0 0).left; sent = none_sent 0 0; tail = none_sent 0 0 }
+
+  -- ---- what does not
+
+  late_call : (r : Reply) (d : Done) (w : Work) → d.store ≡ a → d.work ≡ w → AreSaidOf p w.sent → AreSaidOf p w.tail → Ends (finished (Some r) d)
+  late_call r d w store work sent tail =
+      let P : Store → Type 0 = λ b. Ends (finished (Some r) (idle b d.work)) in
+      let Q : Work → Type 0 = λ v. Ends (finished (Some r) (idle a v)) in
+      subst P (sym store) (subst Q (sym work) (finished_sound p c n s (Some r) (idle a w) k sent tail))
+
+  late_sound : (asked : Input) → takes_effect a asked ≡ false → Ends (finished (reply_to a asked) (first_effect a asked))
+  late_sound (input.Call moment x) late =
+      let w = new_work moment 0 in
+      let none = late_does_nothing a x w late in
+      late_call (do_call a x w).reply (done_of (do_call a x w)) w none.0 none.1 (none_sent moment 0) (none_sent moment 0)
+  late_sound (input.Tick moment word) late =
+      let far = first_tick moment word in
+      finished_sound p c n s (reply_to a (input.Tick moment word)) (first_effect a (input.Tick moment word)) k far.sent far.tail
+  late_sound (input.Arrival packet) late =
+      let w = new_work 0 packet.from in
+      let P : Bool → Type 0 = λ t. Ends (finished (reply_to a (input.Arrival packet)) (cond t (receive a packet.message w) (idle a w))) in
+      subst P (sym late) (finished_sound p c n s (reply_to a (input.Arrival packet)) (idle a w) k (none_sent 0 packet.from) (none_sent 0 packet.from))
+  late_sound input.Restart late =
+      finished_sound p c n s (reply_to a input.Restart) (idle (without_wishes a) (new_work 0 0)) (record { sound = sound_wishless; fills = k.fills; settled = k.settled }) (none_sent 0 0) (none_sent 0 0)
+
+  -- behind the first effect of any input
+  late_first : (asked : Input) → takes_effect a asked ≡ false → Sound p n s (first_effect a asked).store
+  late_first (input.Call moment x) late = subst (Sound p n s) (sym (late_does_nothing a x (new_work moment 0) late).0) k.sound
+  late_first (input.Tick moment word) late = k.sound
+  late_first (input.Arrival packet) late =
+      let w = new_work 0 packet.from in
+      subst (λ t. Sound p n s (cond t (receive a packet.message w) (idle a w)).store) (sym late) k.sound
+  late_first input.Restart late = sound_wishless
+
+  first_by : (asked : Input) → IsAskable p a asked → (t : Bool) → takes_effect a asked ≡ t → Sound p n s (first_effect a asked).store
+  first_by asked asks true going = (first_sound asked asks going).store
+  first_by asked asks false late = late_first asked late
+
+  pub first_any : (asked : Input) → IsAskable p a asked → Sound p n s (first_effect a asked).store
+  first_any asked asks = first_by asked asks (takes_effect a asked) refl
+
+  -- AN EVENT AT A SERVER
+  pub effect_sound : (asked : Input) → IsAskable p a asked → Ends (effect a asked)
+  effect_sound asked asks =
+      decided Ends (takes_effect a asked) (closed (reply_to a asked) (first_effect a asked)) (finished (reply_to a asked) (first_effect a asked))
+      (λ going. closed_sound p c n s mine (reply_to a asked) (first_effect a asked) (first_sound asked asks going))
+      (late_sound asked)

@@ -1,0 +1,69 @@
+-- What making a place and a flag makes; and that a thing that begins has the place and flags with which it begins.
+use Rattle.std.proofs.Common.{ℕ, ◌≡◌, Bool, true, List, [], ◌∷◌, ◌++◌, Option, None, Some, refl, ap, ◌∙◌}
+use Rattle.pg_run.specs.pg_base.declared.id.FileId.{FileId}
+use Rattle.pg_run.specs.pg_base.declared.policy.Policy.{Policy}
+use Rattle.pg_run.specs.pg_edges.declared.key.Key.TheVariants as key
+use Rattle.pg_run.specs.pg_entries.declared.entry.Entry.{Entry}
+use Rattle.pg_run.specs.pg_intent.declared.intent.Intent.{Intent}
+use Rattle.pg_run.specs.pg_intent.declared.intent.Intent.TheVariants as intent
+use Rattle.pg_run.specs.pg_intent.declared.key.IntentKey.{IntentKey}
+use Rattle.pg_run.specs.pg_intent.Intents.{ended, intent_at}
+use Rattle.pg_run.specs.pg_msg.declared.update.Update.TheVariants as update
+use Rattle.pg_run.specs.pg_msg.Work.{with_made}
+use Rattle.pg_run.specs.pg_names.declared.attributes.Attributes.{Attributes}
+use Rattle.pg_run.specs.pg_names.Names.{own_at, own_of, own_or_blank}
+use Rattle.pg_run.proofs.pg_names.Holding.{begun_same}
+use Rattle.pg_run.proofs.pg_names.Lookups.{joined_own}
+use Rattle.pg_run.proofs.theory_flood_pieces.Choices.{chosen}
+use Rattle.pg_run.specs.pg_register.declared.flag.Flag.{Flag}
+use Rattle.pg_run.specs.pg_register.declared.place.Place.{Place}
+use Rattle.pg_run.specs.pg_store.declared.store.Store.{Store}
+use Rattle.pg_run.specs.pg_store.Beginning.{begin as begin_replica, patches_of, put_new, take_patch, take_patches, take_told, take_told_in, with_intents}
+use Rattle.pg_run.specs.pg_store.Store.{is_newer_entry, is_newer_flag, is_newer_place, put_entry, take_entry}
+use Rattle.pg_run.specs.pg_pieces.Done.{Done}
+use Rattle.pg_run.specs.pg_pieces.Making.{own_next}
+use Rattle.pg_run.specs.pg_pieces.Taking.{with_left_if}
+use Rattle.pg_run.specs.pg_calls.Making.{make_place}
+use Rattle.pg_run.specs.pg_calls.Naming.{raised}
+use Rattle.law_places.proofs.Fine.{left_made, news_made}
+
+-- ---- what is made
+
+pub place_made : (d : Done) (f : FileId) (place : Place) → (make_place f place d).work.made ≡ d.work.made ++ update.Place f place ∷ []
+place_made d f place =
+    let t = is_newer_place d.store f place in
+    let work = with_made d.work (update.Place f place) in
+    let old = (own_or_blank d.store.names f).place in
+    news_made t (with_left_if t work f old) f key.Place ∙ left_made t work f old
+
+pub flag_made : (f : FileId) (d : Done) → (raised f d).work.made ≡ d.work.made ++ update.Flag f (own_next d.store f true) ∷ []
+flag_made f d =
+    let flag = own_next d.store f true in
+    news_made (is_newer_flag d.store f flag) (with_made d.work (update.Flag f flag)) f (key.Flag flag.server)
+
+-- ---- what is held behind a beginning
+
+took_own : (a : Store) (d : FileId) (e : Entry) (q : FileId) → own_at (take_entry a d e).names q ≡ own_at a.names q
+took_own a d e q =
+    chosen (λ (b : Store). own_at b.names q ≡ own_at a.names q) (is_newer_entry a d e) (put_entry a d e) a (joined_own a.names d e q) refl
+
+told_own : (a : Store) (f : FileId) (i : Intent) (q : FileId) → own_at (take_told a f i).names q ≡ own_at a.names q
+told_own a f (intent.Patch to e target) q = took_own a f e q
+told_own a f (intent.Bye x b p c) q = refl
+told_own a f (intent.Seek x t) q = refl
+told_own a f (intent.Fill x b t) q = refl
+told_own a f (intent.Confirm x c t) q = refl
+told_own a f (intent.Leave x p b) q = refl
+
+told_in_own : (a : Store) (f : FileId) (o : Option Intent) (q : FileId) → own_at (take_told_in a f o).names q ≡ own_at a.names q
+told_in_own a f None q = refl
+told_in_own a f (Some i) q = told_own a f i q
+
+patches_own : (ks : List IntentKey) (a : Store) (f q : FileId) → own_at (take_patches a f ks).names q ≡ own_at a.names q
+patches_own [] a f q = refl
+patches_own (k ∷ ks) a f q =
+    patches_own ks (take_patch a f k) f q ∙ told_in_own (with_intents a (ended a.intents k)) f (intent_at a.intents k) q
+
+pub begun_own : (a : Store) (f : FileId) (birth : ℕ) (policy : Policy) (own : Attributes) (full : Bool) → own_at (begin_replica a f birth policy own full).names f ≡ Some own
+begun_own a f birth policy own full =
+    patches_own (patches_of f a.intents) (put_new a f birth policy own full) f f ∙ ap own_of (begun_same a.names f own full)

@@ -1,0 +1,17 @@
+pub mod Chains
+pub mod QuietEdges
+pub mod GoldsThere
+pub mod Joining
+pub mod Steps
+pub mod Keeping
+pub mod Starts
+pub mod Walking
+pub mod Said
+pub mod Filled
+pub mod Stays
+pub mod Made
+pub mod Settling
+pub mod Raising
+pub mod Repairs
+pub mod Creating
+pub mod Witness

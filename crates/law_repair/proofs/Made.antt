@@ -1,0 +1,368 @@
+-- Which flags of a full gold thing the first effect of an input makes: none, unless it is demoted.
+use Rattle.std.proofs.Common.{ℕ, ◌≡◌, ◌==◌, ◌&&◌, not, Bool, true, false, cond, List, [], ◌∷◌, ◌++◌, Option, None, Some, Result, Ok, Err, refl, sym, ap, subst, ◌∙◌, inl, inr, ◌⊎◌}
+use Rattle.std.specs.Prelude.{nat_lt}
+use Rattle.std.specs.List.{flat_map}
+use Rattle.std.proofs.lemmas.Bool.{and_parts, false≢true, not-true}
+use Rattle.std.proofs.lemmas.List.Elements.{All-append, All-nil}
+use Rattle.law_full.specs.pg_base.declared.id.FileId.{FileId}
+use Rattle.law_full.specs.pg_base.declared.id.Kind.{Kind}
+use Rattle.law_full.specs.pg_base.declared.id.Kind.TheVariants.{Dir, File}
+use Rattle.law_full.specs.pg_base.declared.policy.Policy.{Policy}
+use Rattle.law_full.specs.pg_base.declared.policy.Policy.TheVariants.{Last}
+use Rattle.law_full.specs.pg_base.declared.stamp.Stamp.{Stamp}
+use Rattle.law_full.specs.pg_base.Id.{is_same_file}
+use Rattle.law_full.proofs.pg_base.Orders.{is_same_file-refl, is_same_file-true}
+use Rattle.law_full.specs.pg_call.declared.call.Call.{Call}
+use Rattle.law_full.specs.pg_call.declared.call.Call.TheVariants as call
+use Rattle.law_full.specs.pg_call.declared.call.Target.{Target}
+use Rattle.law_full.specs.pg_call.declared.refusal.Refusal.TheVariants.{Held}
+use Rattle.law_full.specs.pg_call.declared.reply.Reply.{Reply}
+use Rattle.law_full.specs.pg_content.Content.{Among}
+use Rattle.law_full.specs.pg_intent.declared.key.IntentKey.TheVariants as intent_key
+use Rattle.law_full.specs.pg_msg.declared.message.Ends.{Ends}
+use Rattle.law_full.specs.pg_msg.declared.message.Message.{Message}
+use Rattle.law_full.specs.pg_msg.declared.message.Message.TheVariants as message
+use Rattle.law_full.specs.pg_msg.declared.update.MadeVersion.{MadeVersion}
+use Rattle.law_full.specs.pg_msg.declared.update.Update.{Update}
+use Rattle.law_full.specs.pg_msg.declared.update.Update.TheVariants as update
+use Rattle.law_full.specs.pg_msg.declared.work.Work.{Work}
+use Rattle.law_full.specs.pg_msg.Work.{new_work, with_made}
+use Rattle.law_full.specs.pg_names.Names.{blank_own, fill as fill_names, is_dir}
+use Rattle.law_full.specs.pg_patch.Ranges.{RangesValue, cut_to, written}
+use Rattle.law_full.specs.pg_register.declared.flag.Flag.{Flag}
+use Rattle.law_full.specs.pg_register.declared.place.Place.{Place}
+use Rattle.law_full.specs.pg_calls.Bodies.{change, change_file, when_fit}
+use Rattle.law_full.specs.pg_calls.Calls.{do_call}
+use Rattle.law_full.specs.pg_calls.Demoting.{demoted_at, lowered}
+use Rattle.law_full.specs.pg_calls.Dropping.{clean_gold, dropped_at, leave_of, leaving}
+use Rattle.law_full.specs.pg_calls.Forgetting.{bare_entry, begin_lost, begun_at, begun_with, dead_at, dirs_of, fill_lost, forget_lost, has_blank_place, is_wanted, last_listing, last_place, lost_at, mark, marked_each, placed_in_root, placed_lost, root_place, strike_out, struck_out, unless_full, unwished}
+use Rattle.law_full.specs.pg_calls.GivingUp.{enter_view, removal_at}
+use Rattle.law_full.specs.pg_calls.Making.{drawn, first_ranges, make_place, make_version, version_of}
+use Rattle.law_full.specs.pg_calls.Naming.{begun, dead_place, next_id, place_in, raised, with_id, with_thing}
+use Rattle.law_full.proofs.pg_calls.Checked.{behind, unless_ok}
+use Rattle.law_full.specs.pg_checks.declared.checks.NewName.{NewName}
+use Rattle.law_full.specs.pg_checks.Answer.{Answer, answered, replied, told}
+use Rattle.law_full.specs.pg_checks.Asking.{ask_by, ask_first, fetch, fresh_wish, holder, standing}
+use Rattle.law_full.specs.pg_checks.Checks.{dir_at, empty_dir_at, file_at, in_time, move_of, new_name, target_at}
+use Rattle.law_full.specs.pg_lookup.declared.paths.Found.{Found}
+use Rattle.law_full.specs.pg_lookup.declared.paths.LookupError.{LookupError}
+use Rattle.law_full.specs.pg_lookup.declared.paths.LookupError.TheVariants as stop
+use Rattle.law_full.specs.pg_pieces.declared.accepting.EdgeUse.TheVariants as manner
+use Rattle.law_full.specs.pg_pieces.Accepting.{accept, is_accepted, with_gone}
+use Rattle.law_full.specs.pg_pieces.Done.{Done, idle}
+use Rattle.law_full.specs.pg_pieces.Golds.{is_gold}
+use Rattle.law_full.specs.pg_pieces.Intending.{begin_intent}
+use Rattle.law_full.specs.pg_pieces.Making.{lower_flag, make_flag, own_next, raise_flag}
+use Rattle.law_full.specs.pg_pieces.Posting.{post}
+use Rattle.law_full.specs.pg_cells.Sending.{cells_where, is_any}
+use Rattle.law_full.specs.pg_cells.Ticks.{tick}
+use Rattle.law_full.specs.pg_repair.Filling.{few_golds, fill, full, invite, invited, is_bronze, live_golds, raise_if_few}
+use Rattle.law_full.specs.pg_intentions.Requests.{ask_all, asks}
+use Rattle.law_full.specs.pg_server.declared.input.Input.{Input}
+use Rattle.law_full.specs.pg_server.declared.input.Input.TheVariants as input
+use Rattle.law_full.specs.pg_server.Local.{first_effect, is_heard, receive, sent_again}
+use Rattle.law_full.specs.pg_store.declared.store.Store.{Store}
+use Rattle.law_full.specs.pg_store.declared.wishes.Wish.{Wish}
+use Rattle.law_full.specs.pg_store.Births.{has_birth, with_birth, with_wish}
+use Rattle.law_full.specs.pg_store.Links.{knows_later}
+use Rattle.law_full.specs.pg_store.Store.{is_full, is_held, is_before_clock_end, with_names}
+use Rattle.law_full.proofs.theory_flood_pieces.Choices.{chosen, decided}
+use Rattle.law_golds.specs.law_births.Flags.{AnyBye, SaysMessage, SaysStore}
+use Rattle.law_golds.proofs.Effects.{SaysPacket}
+use Rattle.law_golds.proofs.Losing.{entered_says}
+use Rattle.law_golds.proofs.Received.{said_ack, said_begun_intent, said_bye, said_cell, said_confirm, said_ended, said_fetch, said_gone, said_grant, said_leave, said_leave_ok, said_no_grant, said_none_here, said_place_is, said_seek, said_tell, said_tell_ok, said_walk, said_walk_of_tick}
+use Rattle.law_golds.proofs.Says.{Says, SaysSent, said_accept, said_asked}
+use Rattle.law_golds.proofs.Sending.{asks_all, cells_say}
+use Rattle.law_full.proofs.pg_run.Event.{Comes}
+use Rattle.law_full.proofs.pg_run.Lists.{among_parts}
+use Rattle.law_full.proofs.pg_run.Still.{entry_still, flag_still, place_still}
+use Rattle.law_full.proofs.pg_calls.Walked.{full_held}
+
+-- ---- lists
+
+-- no flag of the thing is among these
+abbrev pub NoneOf : FileId → List Update → Type 0
+NoneOf file us = (g : Flag) → Among (update.Flag file g) us → ⊥
+
+none_nil : (file : FileId) → NoneOf file []
+none_nil file g there = absurd there
+
+none_place : (file f : FileId) (p : Place) → NoneOf file (update.Place f p ∷ [])
+none_place file f p g (inl same) = absurd (let z : update.Flag file g ≡ update.Place f p = same in cc)
+none_place file f p g (inr rest) = absurd rest
+
+none_version : (file : FileId) (u : MadeVersion) → NoneOf file (update.Version u ∷ [])
+none_version file u g (inl same) = absurd (let z : update.Flag file g ≡ update.Version u = same in cc)
+none_version file u g (inr rest) = absurd rest
+
+thing_is : (f q : FileId) (g h : Flag) → update.Flag f g ≡ update.Flag q h → f ≡ q
+thing_is f q g h e = cc
+
+pub none_flag : (file f : FileId) (h : Flag) → is_same_file f file ≡ false → NoneOf file (update.Flag f h ∷ [])
+none_flag file f h apart g (inl same) =
+    absurd (false≢true (sym apart ∙ ap (λ (q : FileId). is_same_file q file) (sym (thing_is file f g h same)) ∙ is_same_file-refl file))
+none_flag file f h apart g (inr rest) = absurd rest
+
+pub none_both : (file : FileId) (us vs : List Update) → NoneOf file us → NoneOf file vs → NoneOf file (us ++ vs)
+none_both file us vs a b g there = elim (among_parts (update.Flag file g) us vs there) [ inl x ↦ a g x | inr y ↦ b g y ]
+
+pub none_same : (file : FileId) (us vs : List Update) → vs ≡ us → NoneOf file us → NoneOf file vs
+none_same file us vs same k g there = k g (subst (Among (update.Flag file g)) same there)
+
+-- ---- pieces
+
+module _ (file : FileId) where
+  abbrev Of : Done → Type 0
+  Of d = NoneOf file d.work.made
+
+  flag_none : (b : Store) (f : FileId) (g : Flag) (w : Work) → is_same_file f file ≡ false → NoneOf file w.made → Of (make_flag b f g w)
+  flag_none b f g w apart k =
+      none_same file (w.made ++ update.Flag f g ∷ []) _ (flag_still b f g (with_made w (update.Flag f g))).made
+      (none_both file w.made (update.Flag f g ∷ []) k (none_flag file f g apart))
+
+  pub raise_none : (b : Store) (f : FileId) (w : Work) → is_same_file f file ≡ false → NoneOf file w.made → Of (raise_flag b f w)
+  raise_none b f w apart k = flag_none b f (own_next b f true) w apart k
+
+  few_none : (b : Store) (f : FileId) (w : Work) → is_same_file f file ≡ false → NoneOf file w.made → Of (raise_if_few b f w)
+  few_none b f w apart k = chosen Of (nat_lt (live_golds b f) few_golds) (raise_flag b f w) (idle b w) (raise_none b f w apart k) k
+
+  place_none : (b : Store) (f : FileId) (p : Place) (w : Work) → NoneOf file w.made → Of (make_place f p (idle b w))
+  place_none b f p w k =
+      none_same file (w.made ++ update.Place f p ∷ []) _ (place_still b f p (with_made w (update.Place f p))).made
+      (none_both file w.made (update.Place f p ∷ []) k (none_place file f p))
+
+  version_none : (d : Done) (f : FileId) (stamp : Stamp) (ranges : RangesValue) → Of d → Of (make_version f stamp ranges d)
+  version_none d f stamp ranges k =
+      none_both file d.work.made (update.Version (version_of d.store f stamp ranges) ∷ []) k (none_version file (version_of d.store f stamp ranges))
+
+  marks_none : (dirs : List FileId) (b : Store) (id : FileId) (place : Place) (w : Work) → NoneOf file w.made → Of (marked_each b id place dirs w)
+  marks_none [] b id place w k = k
+  marks_none (dir ∷ dirs) b id place w k =
+      let one = mark id place b dir w in
+      marks_none dirs one.store id place one.work (none_same file w.made one.work.made (entry_still b dir (bare_entry id place) w).made k)
+
+-- ---- a full gold thing at a server
+
+module _ (s : ℕ) (a : Store) (file : FileId) (all : is_full a file ≡ true) (gold : is_gold a file ≡ true) where
+  -- what is not full is another thing, and so is what is not gold
+  apart_by : (f : FileId) (t : Bool) → is_same_file f file ≡ t → (f ≡ file → ⊥) → t ≡ false
+  apart_by f true e never = absurd (never (is_same_file-true f file e))
+  apart_by f false e never = refl
+
+  apart : (f : FileId) → (f ≡ file → ⊥) → is_same_file f file ≡ false
+  apart f never = apart_by f (is_same_file f file) refl never
+
+  not_full : (f : FileId) → is_full a f ≡ false → is_same_file f file ≡ false
+  not_full f h = apart f (λ e. false≢true (sym h ∙ ap (is_full a) e ∙ all))
+
+  -- ---- messages
+
+  module _ (Q : FileId → Flag → Type 0) (k : SaysStore Q AnyBye s a) where
+    start_says : (moment from : ℕ) → Says Q s [] (idle a (new_work moment from))
+    start_says moment from = record { store = k; sent = All-nil (SaysSent Q); tail = All-nil (SaysSent Q); made = refl }
+
+    said : (d : Done) → Says Q s [] d → Of file d
+    said d h = none_same file [] d.work.made h.made (none_nil file)
+
+    full_none : (ends : Ends) (w : Work) → NoneOf file w.made → Of file (full a ends w)
+    full_none ends w h =
+        let f = ends.file in
+        let accepted = is_accepted a w.from manner.Answers ends in
+        decided (Of file) (accepted && not (is_full a f)) (fill a f w) (idle a w)
+        (λ t. few_none file (with_names a (fill_names a.names f)) f w (not_full f (not-true (is_full a f) (and_parts accepted (not (is_full a f)) t).1)) h)
+        (λ e. h)
+
+    invite_none : (ends : Ends) (from : ℕ) → Of file (invite a ends (new_work 0 from))
+    invite_none ends from =
+        let f = ends.file in
+        let w = new_work 0 from in
+        let met = accept a ends manner.Needs w in
+        let first : Of file met = said met (said_asked Q s [] a ends w (start_says 0 from)) in
+        let P : Store → Type 0 = λ b. is_gold b file ≡ true in
+        let later = knows_later a ends.file w.from ends.sender in
+        let gold_met : P met.store =
+        chosen (λ (d : Done). P d.store) (has_birth a ends.file ends.receiver) (cond later (idle a w) (idle a w)) (idle a (with_gone a ends manner.Needs w))
+        (chosen (λ (d : Done). P d.store) later (idle a w) (idle a w) gold gold) gold in
+        chosen (Of file) (is_accepted a w.from manner.Needs ends) (invited ends met) met
+        (decided (Of file) (is_bronze met.store f) (raise_if_few met.store f met.work) met
+        (λ bronze.
+        let plain = not-true (is_gold met.store f) (and_parts (is_full met.store f) (not (is_gold met.store f)) bronze).1 in
+        few_none file met.store f met.work (apart f (λ e. false≢true (sym plain ∙ ap (is_gold met.store) e ∙ gold_met))) first)
+        (λ no. first))
+        first
+
+    received : (from : ℕ) (m : Message) → SaysMessage Q m → Of file (receive a m (new_work 0 from))
+    received from (message.Cell ends tag c) says = said _ (said_cell Q s [] a ends tag c (new_work 0 from) says (start_says 0 from))
+    received from (message.Ack ends q tag) says = said _ (said_ack Q s [] a ends q tag (new_work 0 from) (start_says 0 from))
+    received from (message.Fetch f birth) says = said _ (said_fetch Q s [] a f birth (new_work 0 from) (start_says 0 from))
+    received from (message.Grant ends granted) says = said _ (said_grant Q s [] a ends granted (new_work 0 from) says (start_says 0 from))
+    received from (message.NoGrant f birth) says = said _ (said_no_grant Q s [] a f birth (new_work 0 from) (start_says 0 from))
+    received from (message.Full ends) says = full_none ends (new_work 0 from) (none_nil file)
+    received from (message.Invite ends) says = invite_none ends from
+    received from (message.Seek f birth) says = said _ (said_seek Q s [] a f birth (new_work 0 from) (start_says 0 from))
+    received from (message.Here ends) says = said _ (said_accept Q s [] a ends (new_work 0 from) (start_says 0 from))
+    received from (message.NoneHere what f child) says = said _ (said_none_here Q s [] a what f child (new_work 0 from) (start_says 0 from))
+    received from (message.Gone f birth) says = said _ (said_gone Q s [] a f birth (new_work 0 from) (start_says 0 from))
+    received from (message.Bye ends) says = said _ (said_bye Q s [] a ends (new_work 0 from) (start_says 0 from))
+    received from (message.ByeOk f birth) says = said _ (said_ended Q s [] a (intent_key.Bye f birth from) (new_work 0 from) (start_says 0 from))
+    received from (message.Leave ends stamp) says = said _ (said_leave Q s [] a ends stamp (new_work 0 from) (start_says 0 from))
+    received from (message.LeaveOk ends stamp) says = said _ (said_leave_ok Q s [] a ends stamp (new_work 0 from) (start_says 0 from))
+    received from (message.Confirm dir e) says = said _ (said_confirm Q s [] a dir e (new_work 0 from) says (start_says 0 from))
+    received from (message.PlaceIs dir e) says = said _ (said_place_is Q s [] a dir e (new_work 0 from) says (start_says 0 from))
+    received from (message.Tell dir e) says = said _ (said_tell Q s [] a dir e (new_work 0 from) says (start_says 0 from))
+    received from (message.TellOk dir child stamp) says = said _ (said_tell_ok Q s [] a dir child stamp (new_work 0 from) (start_says 0 from))
+    received from (message.Walk ends origin birth hops word) says = said _ (said_walk Q s [] a ends origin birth hops word (new_work 0 from) (start_says 0 from))
+    received from (message.Meet ends) says = said _ (said_accept Q s [] a ends (new_work 0 from) (start_says 0 from))
+    received from m says = said (idle a (new_work 0 from)) (start_says 0 from)
+
+    ticked : (moment word : ℕ) → Says Q s [] (idle a (sent_again a word (new_work moment 0)))
+    ticked moment word =
+        said_walk_of_tick Q s [] a word (ask_all a (tick a (new_work moment 0)))
+        (record {
+          store = k;
+          sent = All-append (SaysSent Q) ([] ++ cells_where a is_any) (flat_map (asks a) a.intents)
+              (All-append (SaysSent Q) [] (cells_where a is_any) (All-nil (SaysSent Q)) (cells_say Q s a k is_any)) (asks_all Q s a k);
+          tail = All-nil (SaysSent Q);
+          made = refl;
+        })
+
+    -- ---- calls
+
+    -- it is demoted
+    pub record IsDemoted (asked : Input) : Type 0 where
+      pub moment : ℕ
+      pub target : Target
+      pub is : asked ≡ input.Call moment (call.Demote target)
+      pub found : demoted_at a target ≡ Ok file
+
+    module _ (asked : Input) (away : (kind : Kind) → is_held a (next_id a kind) ≡ false) where
+      abbrev Result_of : Done → Type 0
+      Result_of d = Of file d ⊎ IsDemoted asked
+
+      abbrev OfAnswer : Answer → Type 0
+      OfAnswer b = NoneOf file b.work.made ⊎ IsDemoted asked
+
+      module _ (moment : ℕ) where
+        abbrev W : Work
+        W = new_work moment 0
+
+        nothing : NoneOf file W.made
+        nothing = none_nil file
+
+        fetch_none : (b : Store) (f : FileId) (wish : Wish) → NoneOf file (fetch b f wish W).made
+        fetch_none b f wish = chosen (λ (w : Work). NoneOf file w.made) (wish.target == 0) W (post b wish.target (message.Fetch f wish.birth) W) nothing nothing
+
+        first_asks : (f : FileId) (target : ℕ) → Of file (ask_first a f target W)
+        first_asks f target =
+            let wish = fresh_wish a target in
+            chosen (Of file) (target == 0) (idle a W) (idle (with_wish (with_birth a) f wish) (fetch a f wish W)) nothing (fetch_none a f wish)
+
+        asked_by : (found : Found) (o : Option Wish) → Of file (ask_by a found o W)
+        asked_by found None = first_asks found.file (holder a found)
+        asked_by found (Some wish) = fetch_none a found.file wish
+
+        answers : {A : Type 0} (check : Result A LookupError) (next : A → Answer) → ((x : A) → check ≡ Ok x → OfAnswer (next x)) → OfAnswer (answered a W check next)
+        answers (Err (stop.Refused why)) next each = inl nothing
+        answers (Err (stop.NotYet found)) next each = inl (asked_by found (standing a found.file))
+        answers (Ok x) next each = each x refl
+
+        looks : {A : Type 0} (check : Result A LookupError) (tell : A → Reply) → OfAnswer (replied a W check tell)
+        looks check tell = answers check (λ x. told a W (tell x)) (λ x is. inl nothing)
+
+        changes : (text : List ℕ) (ranges : RangesValue) → OfAnswer (change a text ranges W)
+        changes text ranges =
+            answers (file_at a text) (change_file a ranges W)
+            (λ f is. answers (when_fit a ranges f) _ (λ fit so. inl (version_none file (idle a W) fit (drawn a W.now) ranges nothing)))
+
+        -- a new thing is another one
+        new_apart : (kind : Kind) → is_same_file (next_id a kind) file ≡ false
+        new_apart kind = apart (next_id a kind) (λ e. false≢true (sym (away kind) ∙ ap (is_held a) e ∙ full_held a.names file all))
+
+        thing_none : (kind : Kind) (policy : Policy) (new : NewName) → Of file (with_thing (with_id a) W (next_id a kind) policy new)
+        thing_none kind policy new =
+            let id = next_id a kind in
+            let place = place_in (with_id a) W.now new in
+            let d = make_place id place (idle (begun (with_id a) id policy) W) in
+            raise_none file d.store id d.work (new_apart kind) (place_none file (begun (with_id a) id policy) id place W nothing)
+
+        leaves : (f : FileId) (o : Option Flag) → OfAnswer (leaving a f W o)
+        leaves f None = inl nothing
+        leaves f (Some flag) = inl (said (begin_intent a (leave_of f flag) W) (said_begun_intent Q s [] (idle a W) (leave_of f flag) tt (start_says moment 0)))
+
+        -- what is forgotten is another one
+        lost_apart : (id found : FileId) → lost_at a id ≡ Ok found → is_same_file found file ≡ false
+        lost_apart id found is =
+            let one = behind _ (unless_full a) found is in
+            let last = unless_ok (is_full a one.0) Held one.0 found one.2 in
+            not_full found (ap (is_full a) (sym last.1) ∙ last.0)
+
+        struck_none : (id : FileId) (o : Option FileId) → Of file (struck_out a id W o)
+        struck_none id None = nothing
+        struck_none id (Some dir) =
+            let dead = dead_at a W.now id dir in
+            marks_none file (dirs_of a.names id) (unwished a id) id dead (with_made W (update.Place id dead))
+            (none_both file W.made (update.Place id dead ∷ []) nothing (none_place file id dead))
+
+        at_none : (id : FileId) (o : Option Place) → is_same_file id file ≡ false → Of file (raised id (begun_at a id W o))
+        at_none id (Some p) other = raise_none file (begun_with a id (record { place = p; flags = [] })) id W other nothing
+        at_none id None other =
+            let b = begun_with a id (blank_own id) in
+            let d = placed_in_root id b W in
+            raise_none file d.store id d.work other (place_none file b id (root_place b W.now id) W nothing)
+
+        lost_none : (id : FileId) → is_same_file id file ≡ false → Of file (forget_lost a id W)
+        lost_none id other =
+            let placed = placed_lost a id W in
+            let first : Of file placed = chosen (Of file) (has_blank_place a id) (placed_in_root id a W) (idle a W) (place_none file a id (root_place a W.now id) W nothing) nothing in
+            chosen (Of file) (is_held a id) (fill_lost a id W) (cond (is_dir id) (begin_lost a id W) (strike_out a id W))
+            (few_none file (with_names placed.store (fill_names placed.store.names id)) id placed.work other first)
+            (chosen (Of file) (is_dir id) (begin_lost a id W) (strike_out a id W)
+            (chosen (Of file) (is_wanted a id) (raised id (begun_at a id W (last_place a.names id))) (idle a W) (at_none id (last_place a.names id) other) nothing)
+            (struck_none id (last_listing a.names id (dirs_of a.names id))))
+
+        demoted_by : (target : Target) → asked ≡ input.Call moment (call.Demote target) → (f : FileId) → demoted_at a target ≡ Ok f
+            → (t : Bool) → is_same_file f file ≡ t → Result_of (lowered a f W)
+        demoted_by target is f found true same =
+            inr (record { moment = moment; target = target; is = is; found = found ∙ ap Ok (is_same_file-true f file same) })
+        demoted_by target is f found false other =
+            inl (chosen (Of file) (is_gold a f) (lower_flag a f W) (idle a W) (flag_none file a f (own_next a f false) W other nothing) nothing)
+
+        called : (c : Call) → asked ≡ input.Call moment c → OfAnswer (do_call a c W)
+        called (call.Mkdir text) is = answers (new_name a (next_id a Dir) text) _ (λ new at. inl (thing_none Dir Last new))
+        called (call.Create text policy) is =
+            answers (new_name a (next_id a File) text) _
+            (λ new at.
+            let d = with_thing (with_id a) W (next_id a File) policy new in
+            inl (version_none file d (next_id a File) (drawn d.store d.work.now) first_ranges (thing_none File policy new)))
+        called (call.Write text offset bytes) is = changes text (written offset bytes)
+        called (call.Cut text length) is = changes text (cut_to length)
+        called (call.Read text offset count) is = looks (file_at a text) _
+        called (call.Fresh text) is = looks (file_at a text) _
+        called (call.Ls text from) is = looks (dir_at a text) _
+        called (call.Stat target) is = looks (target_at a target) _
+        called (call.Rename from to) is = answers (move_of a from to) _ (λ move at. inl (place_none file a move.thing (place_in a W.now move.to) W nothing))
+        called (call.Unlink text) is = answers (file_at a text) _ (λ f at. inl (place_none file a f (dead_place a W.now f) W nothing))
+        called (call.Rmdir text) is = answers (empty_dir_at a text) _ (λ f at. inl (place_none file a f (dead_place a W.now f) W nothing))
+        called (call.Forget id) is = answers (lost_at a id) _ (λ found at. inl (lost_none found (lost_apart id found at)))
+        called (call.Demote target) is = answers (demoted_at a target) _ (λ f at. demoted_by target is f at (is_same_file f file) refl)
+        called (call.Drop target) is = answers (dropped_at a target) _ (λ f at. leaves f (clean_gold a f))
+        called (call.Giveup view server) is =
+            answers (removal_at a view server) _ (λ found at. inl (said (enter_view a server W) (entered_says Q s a W (start_says moment 0) server)))
+        called call.Status is = looks (in_time a (tt {0})) _
+        called call.Stop is = looks (in_time a (tt {0})) _
+
+      -- ---- any input
+
+      first_by : (x : Input) → asked ≡ x → Comes (SaysPacket Q) x → Result_of (first_effect a x)
+      first_by (input.Call moment c) is came = called moment c is
+      first_by (input.Tick moment word) is came =
+          inl (chosen (λ (w : Work). NoneOf file w.made) (is_before_clock_end a) (sent_again a word (new_work moment 0)) (new_work moment 0)
+          (said (idle a (sent_again a word (new_work moment 0))) (ticked moment word)) (none_nil file))
+      first_by (input.Arrival packet) is came =
+          inl (chosen (Of file) (is_heard a packet) (receive a packet.message (new_work 0 packet.from)) (idle a (new_work 0 packet.from))
+          (received packet.from packet.message came) (none_nil file))
+      first_by input.Restart is came = inl (none_nil file)
+
+      -- WHAT THE FIRST EFFECT MAKES
+      pub first_made : Comes (SaysPacket Q) asked → Result_of (first_effect a asked)
+      first_made came = first_by asked refl came

@@ -1,8 +1,0 @@
-use Rattle.std.proofs.Common.{◌≡◌, drop}
-use Rattle.pg_cells.specs.Taking.{take_flags_noted}
-use Rattle.pg_cells.proofs.taking.take_flags.Given as goal
-
-abbrev pub invariant-loop-flag : goal.invariant-loop-flag
-invariant-loop-flag l =
-    take_flags_noted l.store l.file (drop l.flag-index l.flag-items) l.work
-    ≡ take_flags_noted l.initial.store l.file l.flags l.initial.work

@@ -1,5 +1,0 @@
-use Rattle.pg_datagram.proofs.Spelled.{apart, short, spelled, written}
-use Rattle.pg_datagram.proofs.laws.packets_read_back.Goals as goal
-
-pub returns : goal.returns
-returns c = record { written = written 40000; spelled = spelled 40000; short = short 40000; apart = apart }

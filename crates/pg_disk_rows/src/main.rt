@@ -1,0 +1,47 @@
+//! Rows: each line of the input is calls of things in memory that stand for the outside (bytes that are read and written,
+//! disks, logs and checkpoints on them, nets, clocks and programs), and each line of the output is what they answer. The
+//! things in memory are told which of their calls are to fail: the first call has number 0.
+//!
+//! A row is a verb and pieces, with a bar between two of them, that are done one after another. The answers are those of
+//! docs/FORMATS.md and of what a file may hold after a crash, and never this program's own. The real things behind the
+//! same traits are tried in `pg_fault_tests`.
+#![tactic(auto)]
+
+mod disk;
+mod log;
+mod nets;
+mod slots;
+mod streams;
+
+use pg_base::{Bytes, cut_at};
+use pg_rows::{play, unread};
+use std::alloc::{AllocError, Global};
+use std::io;
+use std::io::Write;
+
+/// What the call of the row answers.
+fn answer(alloc: Global, row: &[u8], out: &mut Bytes) -> Result<(), AllocError> {
+    let (verb, rest) = cut_at(row, b' ').unwrap_or((row, b""));
+    match verb {
+        b"source" => streams::source(alloc, rest, out),
+        b"sink" => streams::sink(alloc, rest, out),
+        b"disk" => play(alloc, &mut disk::Files::new(alloc), rest, out),
+        b"log" => play(alloc, &mut log::Opened::new(alloc), rest, out),
+        b"slots" => play(alloc, &mut slots::Slots::new(alloc), rest, out),
+        b"net" => play(alloc, &mut nets::Packets::new(alloc), rest, out),
+        b"clock" => nets::clock(alloc, rest, out),
+        b"programs" => play(alloc, &mut nets::Started::new(alloc), rest, out),
+        _ => unread(out),
+    }
+}
+
+fn main(rt: HostRuntime) -> io::Result<()> {
+    for line in rt.lines(rt.alloc()) {
+        let line = line?;
+        let mut out = Bytes::new(rt.alloc());
+        answer(rt.alloc(), line.as_bytes(), &mut out)?;
+        out.push(b'\n')?;
+        rt.stdout().write_all(out.as_slice())?;
+    }
+    Ok(())
+}

@@ -1,5 +1,0 @@
-use Rattle.pg_drops.proofs.Safe.{drops_are_safe}
-use Rattle.pg_drops.proofs.laws.drops_are_safe.Goals as goal
-
-pub returns : goal.returns
-returns c n on given = drops_are_safe n on given

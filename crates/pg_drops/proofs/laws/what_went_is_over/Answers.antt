@@ -1,9 +1,0 @@
-use Rattle.pg_drops.proofs.Behind.{what_went_is_over}
-use Rattle.pg_drops.proofs.Heard.{byes_are_over}
-use Rattle.pg_drops.proofs.laws.what_went_is_over.Goals as goal
-
-pub returns-clause-went : goal.returns-clause-went
-returns-clause-went c n on = what_went_is_over n on
-
-pub returns-clause-byes : goal.returns-clause-byes
-returns-clause-byes c n on = byes_are_over n on

@@ -1,4 +1,0 @@
-pub mod Flags
-pub mod Named
-pub mod Seen
-pub mod Runs

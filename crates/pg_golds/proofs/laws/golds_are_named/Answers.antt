@@ -1,5 +1,0 @@
-use Rattle.pg_golds.proofs.Named.{replicas_name_golds}
-use Rattle.pg_golds.proofs.laws.golds_are_named.Goals as goal
-
-pub returns : goal.returns
-returns c = replicas_name_golds

@@ -1,5 +1,0 @@
-use Rattle.pg_golds.proofs.Runs.{full_replicas_see_gold}
-use Rattle.pg_golds.proofs.laws.golds_are_seen.Goals as goal
-
-pub returns : goal.returns
-returns c = full_replicas_see_gold

@@ -1,0 +1,103 @@
+//! Entries of a directory, and what it lists.
+
+use pg_base::{Bytes, Shared, SharedBytes};
+use pg_entries::{Cell, Entries, Entry, Listing};
+use pg_register::{GoldFlags, Place};
+use pg_rows::{ROOT, Stage, id, narrow, play, stamp, tell, tell_id, unread, word};
+use std::alloc::{AllocError, Global};
+
+/// The words `CHILD STAMP NAME` from this index on: the child is in the root by that name.
+pub fn entry(alloc: Global, words: &[&[u8]], index: usize) -> Result<Entry, AllocError> {
+    let index = index.min(9);
+    Ok(Entry {
+        child: id(words, index),
+        place: Place {
+            stamp: stamp(words, index + 1),
+            parent: ROOT,
+            name: SharedBytes::from_slice(alloc, word(words, index + 2))?,
+            live: true,
+        },
+        flags: GoldFlags::new(alloc),
+    })
+}
+
+/// The names that are shown.
+fn show(rows: &Listing, out: &mut Bytes) -> Result<(), AllocError> {
+    for row in rows.as_slice() {
+        out.extend(row.name.as_slice())?;
+        out.push(b' ')?;
+    }
+    Ok(())
+}
+
+/// Whether a copy of the cell has its sender's word that it is so.
+fn copied(entry: Entry, is_sure: bool, alloc: Global) -> Result<Option<bool>, AllocError> {
+    let cell = Cell::Entry(Shared::new(alloc, entry)?, is_sure);
+    match cell.copy()? {
+        Cell::Entry(_, sure) => Ok(Some(sure)),
+        _ => Ok(None),
+    }
+}
+
+#[derive(Drop)]
+struct Listed {
+    alloc: Global,
+    entries: Entries,
+}
+
+impl Listed {
+    /// `count DIR`: how many entries there are, how many are listed, and whether any is.
+    fn count(&self, words: &[&[u8]], out: &mut Bytes) -> Result<(), AllocError> {
+        let dir = id(words, 1);
+        write!(
+            out,
+            "{} of {} listed, {} in all, ",
+            self.entries.count_listed(dir),
+            self.entries.count(),
+            self.entries.as_map().len()
+        )?;
+        tell(self.entries.lists_any(dir), out)
+    }
+
+    /// `page DIR FROM MOST`
+    fn page(&self, words: &[&[u8]], out: &mut Bytes) -> Result<(), AllocError> {
+        let from = narrow(words, 2) as usize;
+        let most = narrow(words, 3) as usize;
+        show(&self.entries.page(id(words, 1), from, most)?, out)
+    }
+
+    /// `sure CHILD STAMP NAME` or `unsure CHILD STAMP NAME`
+    fn cell(&self, words: &[&[u8]], out: &mut Bytes) -> Result<(), AllocError> {
+        let entry = entry(self.alloc, words, 1)?;
+        let is_sure = word(words, 0) == b"sure".as_slice();
+        match copied(entry, is_sure, self.alloc)? {
+            Some(is_sure) => tell(is_sure, out),
+            None => unread(out),
+        }
+    }
+}
+
+impl Stage for Listed {
+    fn step(&mut self, words: &[&[u8]], out: &mut Bytes) -> Result<(), AllocError> {
+        match word(words, 0) {
+            b"join" => tell(self.entries.join_cell(entry(self.alloc, words, 1)?)?, out),
+            b"put" => self.entries.put(entry(self.alloc, words, 1)?),
+            b"covers" => tell(self.entries.covers(&entry(self.alloc, words, 1)?), out),
+            b"find" => tell_id(self.entries.find(id(words, 1), word(words, 2)), out),
+            b"list" => show(&self.entries.copy()?.listing(id(words, 1))?, out),
+            b"page" => self.page(words, out),
+            b"count" => self.count(words, out),
+            b"sure" | b"unsure" => self.cell(words, out),
+            _ => unread(out),
+        }
+    }
+}
+
+/// `entries join CHILD STAMP NAME|..`: entries that are joined, and what is listed of them.
+pub fn entries(alloc: Global, row: &[u8], out: &mut Bytes) -> Result<(), AllocError> {
+    let mut listed = Listed {
+        alloc,
+        entries: Entries::new(alloc),
+    };
+    play(alloc, &mut listed, row, out)
+}

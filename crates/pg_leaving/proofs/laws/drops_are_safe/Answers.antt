@@ -1,5 +1,0 @@
-use Rattle.pg_leaving.proofs.Golds.{drop_law}
-use Rattle.pg_leaving.proofs.laws.drops_are_safe.Goals as goal
-
-pub returns : goal.returns
-returns g c = drop_law g.L.Leaving.protocol

@@ -1,5 +1,0 @@
-use Rattle.pg_listing.proofs.Quiet.{quiet_lists}
-use Rattle.pg_listing.proofs.laws.quiet_lists.Goals as goal
-
-pub returns : goal.returns
-returns g c = quiet_lists g.F.Listing.protocol

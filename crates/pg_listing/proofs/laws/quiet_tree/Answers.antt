@@ -1,5 +1,0 @@
-use Rattle.pg_listing.proofs.Quiet.{quiet_tree}
-use Rattle.pg_listing.proofs.laws.quiet_tree.Goals as goal
-
-pub returns : goal.returns
-returns g c = quiet_tree g.F.Listing.protocol

@@ -1,5 +1,0 @@
-use Rattle.pg_listing.proofs.Worlds.{runs_list}
-use Rattle.pg_listing.proofs.laws.runs_list.Goals as goal
-
-pub returns : goal.returns
-returns g c = runs_list g.F.Listing.protocol

@@ -1,5 +1,0 @@
-use Rattle.pg_order.proofs.Told.{house_in_order}
-use Rattle.pg_order.proofs.laws.house_is_in_order.Goals as goal
-
-pub returns : goal.returns
-returns c = house_in_order

@@ -1,4 +1,0 @@
-pub mod Sound
-pub mod Saying
-pub mod Named
-pub mod Laws

@@ -1,0 +1,12 @@
+pub mod MessageParts
+pub mod EachMessage
+pub mod WritableMessages
+pub mod Items
+pub mod Named
+pub mod AskedKinds
+pub mod ReasonKinds
+pub mod ReplyParts
+pub mod ToldKinds
+pub mod WritableCalls
+pub mod Contents
+pub mod Spelled

@@ -1,5 +1,0 @@
-//! Tests of packets.
-#![tactic(auto)]
-
-#[cfg(test)]
-mod datagram;

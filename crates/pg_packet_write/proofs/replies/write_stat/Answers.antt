@@ -1,0 +1,5 @@
+use Rattle.pg_packet_write.proofs.Lengths.{name_short}
+use Rattle.pg_packet_write.proofs.replies.write_stat.Goals as goal
+
+pub write_name-requires : goal.write_name-requires
+write_name-requires c = rw c.as_slice.ensures (name_short _ c.requires.name)

@@ -1,4 +1,0 @@
-pub mod Newest
-pub mod Tells
-pub mod Gets
-pub mod Passing

@@ -1,0 +1,4 @@
+pub mod News
+mod Flagged
+pub mod SeenGolds
+pub mod Each

@@ -1,8 +1,0 @@
-pub mod Across
-pub mod Alike
-pub mod Agreement
-pub mod Facts
-pub mod Standing
-pub mod Trees
-pub mod Listings
-pub mod Servers

@@ -1,6 +1,0 @@
-use Rattle.std.proofs.Common.{◌≡◌, drop, []}
-use Rattle.pg_repair.specs.Intending.{add_slots}
-use Rattle.pg_repair.proofs.intending.slots_of.Given as goal
-
-abbrev pub invariant-loop-slot : goal.invariant-loop-slot
-invariant-loop-slot l = add_slots l.slots.entries (drop l.slot-index l.slot-items) ≡ add_slots [] l.some

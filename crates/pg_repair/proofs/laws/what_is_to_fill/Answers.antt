@@ -1,5 +1,0 @@
-use Rattle.pg_repair.proofs.Needs.{what_is_needed}
-use Rattle.pg_repair.proofs.laws.what_is_to_fill.Goals as goal
-
-pub returns : goal.returns
-returns c = what_is_needed

@@ -1,8 +1,0 @@
-use Rattle.std.proofs.Common.{◌≡◌, ◌++◌, drop}
-use Rattle.std.specs.List.{flat_map}
-use Rattle.pg_repair.specs.Requests.{asks}
-use Rattle.pg_repair.proofs.requests.ask_every.Given as goal
-
-abbrev pub invariant-loop-k : goal.invariant-loop-k
-invariant-loop-k l =
-    l.sent ++ flat_map (asks l.store) (drop l.k l.store.intents) ≡ l.initial.sent ++ flat_map (asks l.store) l.store.intents

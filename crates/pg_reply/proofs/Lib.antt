@@ -1,4 +1,0 @@
-pub mod RefusalSpelling
-pub mod ReplyLacks
-pub mod ReplySpelling
-pub mod ReplyWords

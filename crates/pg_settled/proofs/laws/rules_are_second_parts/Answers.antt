@@ -1,5 +1,0 @@
-use Rattle.pg_settled.proofs.Second.{rules_are_second_parts}
-use Rattle.pg_settled.proofs.laws.rules_are_second_parts.Goals as goal
-
-pub returns : goal.returns
-returns g c = rules_are_second_parts g.K.Keeping.see g.K.Keeping.beside

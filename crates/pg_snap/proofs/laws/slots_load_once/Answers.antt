@@ -1,9 +1,0 @@
-use Rattle.pg_snap.proofs.Slots.{one_slot}
-use Rattle.pg_snap.proofs.Counts.{loads_once}
-use Rattle.pg_snap.proofs.laws.slots_load_once.Goals as goal
-
-pub returns-clause-slot : goal.returns-clause-slot
-returns-clause-slot c = one_slot
-
-pub returns-clause-loaded : goal.returns-clause-loaded
-returns-clause-loaded c = loads_once

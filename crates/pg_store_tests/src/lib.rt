@@ -1,5 +1,0 @@
-//! Tests of what a server holds.
-#![tactic(auto)]
-
-#[cfg(test)]
-mod taking;

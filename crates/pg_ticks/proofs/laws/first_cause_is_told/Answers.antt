@@ -1,5 +1,0 @@
-use Rattle.pg_ticks.proofs.FirstCause.{first_cause_is_told}
-use Rattle.pg_ticks.proofs.laws.first_cause_is_told.Goals as goal
-
-pub returns : goal.returns
-returns c = first_cause_is_told

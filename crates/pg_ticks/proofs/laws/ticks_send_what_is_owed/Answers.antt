@@ -1,5 +1,0 @@
-use Rattle.pg_ticks.proofs.Ticks.{ticks_send_what_is_owed}
-use Rattle.pg_ticks.proofs.laws.ticks_send_what_is_owed.Goals as goal
-
-pub returns : goal.returns
-returns c = ticks_send_what_is_owed

@@ -1,5 +1,0 @@
-//! Tests of the lines of journals as they are written.
-#![tactic(auto)]
-
-#[cfg(test)]
-mod trace;

@@ -1,8 +1,0 @@
-use Rattle.std.proofs.Common.{◌≡◌, ◌-◌, []}
-use Rattle.pg_unpack.specs.Lists.{many}
-use Rattle.pg_unpack.specs.Places.{gold_at, to_server}
-use Rattle.pg_unpack.proofs.Golds.{UpTo}
-use Rattle.pg_unpack.proofs.places.read_each_gold.Given as goal
-
-abbrev pub invariant-loop : goal.invariant-loop
-invariant-loop l = (many gold_at to_server (l.count - l.counter) l.last l.flags l.reader ≡ many gold_at to_server l.count 0 [] l.fn.reader) × UpTo l.last l.flags

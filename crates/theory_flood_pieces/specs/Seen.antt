@@ -1,0 +1,94 @@
+-- What the edges see of a server that holds names and replicas, and of its messages.
+use Rattle.std.specs.Prelude.{ℕ, ◌≡◌, Bool, true, false}
+use Rattle.std.specs.Option.{option_map}
+use Rattle.pg_base.specs.declared.id.FileId.{FileId}
+use Rattle.theory_flood.specs.Promises.{Saying}
+use Rattle.theory_flood.specs.Promises.Saying.{CellFor, AckTo, Other}
+use Rattle.theory_flood.specs.Protocol.{Protocol}
+use Rattle.theory_flood.specs.Server.{Replica as Seen, Server, Slot, slot}
+use Rattle.pg_entries.specs.declared.cell.Cell.{Cell}
+use Rattle.pg_entries.specs.declared.cell.Cell.TheVariants as cell
+use Rattle.pg_msg.specs.declared.message.Message.{Message}
+use Rattle.pg_msg.specs.declared.message.Message.TheVariants as message
+use Rattle.pg_msg.specs.declared.message.Sent.{Sent}
+use Rattle.pg_msg.specs.Sent.{cell_key}
+use Rattle.pg_replica.specs.declared.replica.Replica.{Replica}
+use Rattle.pg_store.specs.declared.store.Store.{Store}
+use Rattle.pg_store.specs.Births.{is_over}
+use Rattle.pg_store.specs.Cells.{cell_at}
+use Rattle.pg_store.specs.Store.{replica_at}
+use Rattle.theory_flood_pieces.specs.UpTo.{IsUpTo}
+
+-- a cell, whether or not the server that tells it is sure of it: a server may come to be sure of an
+-- entry without another word on its edges
+abbrev pub plain : Cell → Cell
+plain (cell.Place place) = cell.Place place
+plain (cell.Flag flag) = cell.Flag flag
+plain (cell.Entry entry sure) = cell.Entry entry true
+plain (cell.Version version) = cell.Version version
+
+-- the birth and the edges of a thing's replica, and the cells of all its keys
+abbrev pub seen : Store → FileId → Replica → Seen Cell
+seen store file x = record {
+  birth = x.birth;
+  edges = x.edges;
+  cells = λ k. option_map plain (cell_at store file k);
+}
+
+-- a thing that is not held is not seen
+abbrev pub see : Store → Server Cell
+see store = record {
+  tags = store.tags;
+  replicas = λ file. option_map (seen store file) (replica_at store file);
+}
+
+-- what a message from one server to another says to the edges: the grant of a new replica, and what
+-- is asked and told of children, they do not read
+abbrev pub saying : ℕ → ℕ → Message → Saying Slot Cell
+saying from to (message.Cell ends tag c) =
+    CellFor from (slot ends.file ends.sender to ends.receiver (cell_key c)) tag (plain c)
+saying from to (message.Ack ends k tag) =
+    AckTo to (slot ends.file ends.receiver from ends.sender k) tag
+saying from to _ = Other
+
+abbrev pub says : Sent → Saying Slot Cell
+says m = saying m.packet.from m.to m.packet.message
+
+-- which births count as over, of one server
+abbrev pub Overs : Type 0
+Overs = FileId → ℕ → Bool
+
+-- For one event: these births count as over all along. Each cell is answered at once
+abbrev pub cells_in : Overs → Protocol Store Sent Cell
+cells_in over = record {
+  see = see;
+  IsUpTo = IsUpTo;
+  IsOver = λ a file birth c. over file birth ≡ true;
+  Took = λ a file birth c. Unit {0};
+  says = says;
+  Noted = λ a x. ⊥;
+}
+
+-- where none does, as in what a server does without letting a replica go
+abbrev pub standing : Protocol Store Sent Cell
+standing = cells_in (λ file birth. false)
+
+-- Between events: which births are over is read off the store, whatever cells the replica had. What a
+-- replica took, beside what it covers, is told by the run, and not by a store
+abbrev pub cells : Protocol Store Sent Cell
+cells = record {
+  see = see;
+  IsUpTo = IsUpTo;
+  IsOver = λ a file birth c. is_over a file birth ≡ true;
+  Took = λ a file birth c. Unit {0};
+  says = says;
+  Noted = λ a x. ⊥;
+}
+
+-- what a server hears in an event, and which births count as over all along
+pub record Hearing : Type 0 where
+  pub said : Saying Slot Cell
+  pub over : Overs
+
+abbrev pub hears : Overs → Saying Slot Cell → Hearing
+hears over said = record { said = said; over = over }
