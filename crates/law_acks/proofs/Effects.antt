@@ -43,7 +43,7 @@ use Rattle.pg_run.specs.pg_graph.Walks.{walk}
 use Rattle.pg_run.specs.pg_calls.Calls.{do_call}
 use Rattle.pg_run.specs.pg_server.declared.input.Input.{Input}
 use Rattle.pg_run.specs.pg_server.declared.input.Input.TheVariants as input
-use Rattle.pg_run.specs.pg_server.Local.{Effect, done_of, effect, first_effect, is_heard, receive, sent_again, takes_effect, without_wishes}
+use Rattle.pg_run.specs.pg_server.Local.{Effect, done_of, effect, first_effect, is_heard, receive, sent_again, takes_effect, without_volatile}
 use Rattle.pg_run.specs.theory_flood_pieces.Seen.{Hearing, Overs, cells_in, hears, saying, says}
 use Rattle.pg_run.specs.theory_flood_pieces.Whole.{IsOther, IsWhole, PatchesAreForDirs}
 use Rattle.pg_run.proofs.theory_flood_pieces.Acks.{acknowledged, none_noted}
@@ -276,7 +276,7 @@ module _ (over : Overs) (n s : ℕ) (a : Store) (k : IsWhole n s a) (of : AreOfH
       (λ t. received_first packet.from (other_heard packet t) packet.message suits (counts t))
       (λ f. nothing_first heard 0 packet.from)
   first_done input.Restart least most suits counts sound =
-      let lost = without_wishes a in
+      let lost = without_volatile a in
       let w = new_work 0 0 in
       first_here (Now Other) (idle lost w)
       (beside_done n s a (Now Other) a w (nothing_done n s a (Now Other) 0 0 k) lost

@@ -1,4 +1,20 @@
 //! That every event of a run keeps what edges and messages promise.
+//!
+//! Of it comes the clause `acked_is_had` of `run`: where a key is acknowledged, the peer has its
+//! cell, or its birth is over. That servers hold on what they hold (`RunsGrow`, `EventsGrow`), and
+//! that each event keeps the rule of the edges (`EventsKeepTheRule`), is for most laws above.
+//!
+//! - `theory_flood` has the promise and the rule, `theory_flood_pieces` that each piece of an event
+//!   keeps it, whatever the kind of a cell. Here each handler is put together of these pieces.
+//! - `Goes` (`proofs/Pieces`) is what has happened so far in an event, `IsFirst` and `Begins`
+//!   (`proofs/Ends`) what its first effect left; `Keeps` (`proofs/Runs`) is the invariant of a
+//!   world: servers are whole, tags are sound, edges and all that was ever sent keep their promise.
+//! - A birth that goes counts as over all along its event (`Counts`, `proofs/Gone`).
+//! - Premises: `StandOn` (`specs/Laws`), of contents (`HaveHistories`, `specs/Histories`), of what
+//!   begins, and of births. No crate of laws is cited: `law_all` joins them.
+//! - A new kind of message gets its line in `received_first` (`proofs/Effects`), with a lemma
+//!   `.._done` for its handler (`proofs/Handlers`, `Walks`, `Leaving`), and its case of `saying`
+//!   (`theory_flood_pieces/specs/Seen`): what it promises.
 #![tactic(auto)]
 
 mod laws;

@@ -12,7 +12,7 @@ use Rattle.law_repair.specs.law_golds.Premises.{NextIdsAreAway}
 use Rattle.law_returns.specs.Gate.{EdgesAreKept}
 use Rattle.law_acks.specs.Histories.{HaveHistories}
 use Rattle.law_acks.specs.Laws.{StandOn}
-use Rattle.law_repair.specs.law_listings.Laws.{FirstEffectsAreSound, ListingsAreKept, ListingsStandOn, RootIsUnlisted}
+use Rattle.law_repair.specs.law_listings.Laws.{FirstEffectsAreSound, ListingsAreKept, RootIsUnlisted}
 use Rattle.pg_run.specs.pg_names.Names.{cell_at}
 use Rattle.law_returns.specs.law_names.Merged.{NamesStandOn, NewIdsAreNew}
 use Rattle.law_intents.specs.law_order.Named.{IsOfServer}
@@ -20,18 +20,17 @@ use Rattle.law_repair.specs.law_places.Laws.{OnePlaceAStamp}
 use Rattle.law_repair.specs.law_quiet.Given.{AgreementIsGiven, NamesAreWell, TreeIsGiven}
 use Rattle.pg_run.specs.pg_register.Place.{root}
 use Rattle.law_repair.specs.Given as repairs
-use Rattle.law_repair.specs.Kept.{KeptDirectoriesAreBroughtBack, KeptNamesFormATree, KeptServersAgree, KeptThingsAreConnected, KeptThingsAreListedOnlyWhereTheyStand}
 use Rattle.pg_run.specs.Acknowledged.{AcknowledgedKeysAreHad}
-use Rattle.pg_run.specs.Births.{BirthsAreAlone, BirthsAreKnown, BirthsAreOfOneThing, BirthsMoveInEvents, BirthsMoveOn, GreaterBirthsReplaceEdges, LinksNameTheSender, ReplicasStayOrGo}
+use Rattle.pg_run.specs.Births.{BirthsAreAlone, BirthsAreKnown, BirthsMoveInEvents, BirthsMoveOn, LinksNameTheSender, ReplicasStayOrGo}
 use Rattle.pg_run.specs.Golds.{FullReplicasSeeGold, ReplicasNameGolds}
 use Rattle.pg_run.specs.Grown.{EventsGrow}
-use Rattle.pg_run.specs.Histories.{AncestryByVectors, CarriesHistory, ClockEndsFirst, MakesHistories, OneVersionAStamp, StateIsDetermined, StateIsItsHeads}
+use Rattle.pg_run.specs.Histories.{CarriesHistory, MakesHistories, StateIsItsHeads}
 use Rattle.pg_run.specs.Intending.{IntentionsAreInOrder}
 use Rattle.pg_run.specs.Known.{CarriedIsKnown, FlagsAreOwn, FlagsHaveOwnNumbers, PlacesHaveOwnStamps}
-use Rattle.pg_run.specs.Laws.{HoldsWhatItTook, NamesMerge, QuietDirectoriesAreBroughtBack, QuietJoinedServersAgree, QuietNamesFormATree, QuietServersAgree, QuietThingsAreListedOnlyWhereTheyStand, ReturnsAreJustified, names_after}
-use Rattle.pg_run.specs.Leaving.{ByesAreOver, DropsAreSafe, GiversHaveEachCell, HeardEdgesAreKnown, WhatWentIsOver}
+use Rattle.pg_run.specs.Laws.{HoldsWhatItTook, NamesMerge, QuietDirectoriesAreBroughtBack, QuietNamesFormATree, QuietServersAgree, QuietThingsAreListedOnlyWhereTheyStand, names_after}
+use Rattle.pg_run.specs.Leaving.{HeardEdgesAreKnown}
 use Rattle.pg_run.specs.Run.{Taking}
-use Rattle.pg_run.specs.Ticks.{RestartsLoseWishes, TicksSendWhatIsOwed}
+use Rattle.pg_run.specs.Ticks.{TicksSendWhatIsOwed}
 use Rattle.pg_run.specs.Views.{MessagesAreOfViews, ViewsArePrefixes}
 use Rattle.law_ticks.specs.Given.{IntentionsAreStill, TidinessIsGiven}
 use Rattle.law_views.specs.Premises as views
@@ -95,12 +94,6 @@ module _ (n : ℕ) (c : AreCited n) where
   pub alone : BirthsAreAlone n
   alone = c.edges.alone order
 
-  pub of_one : BirthsAreOfOneThing n
-  of_one = c.edges.of_one order
-
-  pub greater : GreaterBirthsReplaceEdges n
-  greater = c.edges.greater order
-
   pub linked : LinksNameTheSender n
   linked = c.edges.linked order
 
@@ -113,7 +106,7 @@ module _ (n : ℕ) (c : AreCited n) where
   stay : ReplicasStayOrGo n
   stay = c.edges.stay order
 
-  contents_stand : contents.StandOn n
+  pub contents_stand : contents.StandOn n
   contents_stand = record { both = both; moves = moves_on; named = c.order.named; intends = order }
 
   pub births : BirthsAreKnown n
@@ -138,7 +131,7 @@ module _ (n : ℕ) (c : AreCited n) where
     asked = c.intents.asked fronts;
   }
 
-  tidy : TidinessIsGiven n
+  pub tidy : TidinessIsGiven n
   tidy = record {
     order = c.order.order;
     ordered = λ events s least most. (c.order.by_id events s least most).entries;
@@ -151,9 +144,6 @@ module _ (n : ℕ) (c : AreCited n) where
   pub owed : TicksSendWhatIsOwed n
   owed = c.names.owed tidy
 
-  pub lost : RestartsLoseWishes n
-  lost = c.names.lost tidy
-
   -- ---- of so many that stamps and ids can have their numbers
 
   module _ (few : n < 2 ^ 32) where
@@ -163,17 +153,8 @@ module _ (n : ℕ) (c : AreCited n) where
     pub heads : StateIsItsHeads n
     heads = c.contents.heads few contents_stand
 
-    pub determined : StateIsDetermined n
-    determined = c.contents.determined few contents_stand
-
     pub histories : MakesHistories n
     histories = c.contents.made few contents_stand
-
-    pub one_version : OneVersionAStamp n
-    one_version = c.contents.one few contents_stand
-
-    pub ancestry : AncestryByVectors n
-    ancestry = c.contents.ancestry few contents_stand
 
     pub carried : CarriesHistory n
     carried = c.contents.carried few contents_stand
@@ -182,13 +163,7 @@ module _ (n : ℕ) (c : AreCited n) where
     had_histories = record { made = histories; carried = carried; heads = heads; held = held }
 
     stand : StandOn n
-    stand = record {
-      contents = had_histories;
-      away = c.order.away;
-      directories = c.order.told;
-      alone = alone;
-      moves = moves;
-    }
+    stand = record { contents = had_histories; away = c.order.away; directories = c.order.told; alone = alone; moves = moves }
 
     pub had : AcknowledgedKeysAreHad n
     had = c.edges.had stand
@@ -204,9 +179,6 @@ module _ (n : ℕ) (c : AreCited n) where
 
     flags_known : FlagsAreKnown n
     flags_known = c.flags.known both grow moves c.order.first away
-
-    pub clock : ClockEndsFirst n
-    clock = c.contents.clock few contents_stand
 
     named : NamesAreWell n
     named events s least most =
@@ -227,19 +199,13 @@ module _ (n : ℕ) (c : AreCited n) where
     placed : FullPlaced n
     placed = c.edges.placed had grow moves carried_known own_stamps
 
-    on : NamesStandOn n
-    on = record {
-      known = carried_known;
-      stamps = own_stamps;
-      flags = numbers;
-      intends = order;
-      ids = new_ids;
-    }
+    pub on : NamesStandOn n
+    on = record { known = carried_known; stamps = own_stamps; flags = numbers; intends = order; ids = new_ids }
 
     pub merge : NamesMerge n
     merge = c.names.merge on
 
-    kept : EdgesAreKept n
+    pub kept : EdgesAreKept n
     kept = record {
       acknowledged = had;
       grow = grow;
@@ -253,7 +219,7 @@ module _ (n : ℕ) (c : AreCited n) where
 
     -- ---- replicas that go
 
-    leaving : drops.StandOn n
+    pub leaving : drops.StandOn n
     leaving = record {
       whole = c.edges.whole stand;
       intents = order;
@@ -281,20 +247,11 @@ module _ (n : ℕ) (c : AreCited n) where
       };
     }
 
-    states : StatesAreCited n
+    pub states : StatesAreCited n
     states = record { merge = merge; held = held; heads = heads }
-
-    pub went : WhatWentIsOver n
-    went = c.drops.went leaving
-
-    pub byes : ByesAreOver n
-    byes = c.drops.byes leaving
 
     pub heard : HeardEdgesAreKnown n
     heard = c.drops.heard leaving
-
-    pub safe : DropsAreSafe n
-    safe = c.drops.safe leaving states
 
     listings : ListingsAreKept n
     listings = c.names.listed (record {
@@ -316,12 +273,9 @@ module _ (n : ℕ) (c : AreCited n) where
       sent = c.views.sent views_stand;
     })
 
-    -- ---- returns, and quiet
+    -- ---- quiet
 
-    pub justified : ReturnsAreJustified n
-    justified = c.names.justified on kept
-
-    agreement : AgreementIsGiven n
+    pub agreement : AgreementIsGiven n
     agreement = record {
       acknowledged = had;
       known = carried_known;
@@ -344,9 +298,6 @@ module _ (n : ℕ) (c : AreCited n) where
       listed = listings;
     }
 
-    pub joined : QuietJoinedServersAgree n
-    joined = c.quiet.joined agreement merge
-
     pub agree : QuietServersAgree n
     agree = c.quiet.agree agreement merge
 
@@ -364,7 +315,7 @@ module _ (n : ℕ) (c : AreCited n) where
     full_says : FullSays n
     full_says = c.edges.said had grow moves carried_known own_stamps
 
-    repairing : repairs.StandOn n
+    pub repairing : repairs.StandOn n
     repairing = record {
       events = record {
         grow = grow;
@@ -394,18 +345,3 @@ module _ (n : ℕ) (c : AreCited n) where
         agree = c.quiet.stores agreement;
       };
     }
-
-    pub kept_connected : KeptThingsAreConnected n
-    kept_connected = c.repairs.kept repairing
-
-    pub kept_agree : KeptServersAgree n
-    kept_agree = c.repairs.agree repairing agree
-
-    pub kept_tree : KeptNamesFormATree n
-    kept_tree = c.repairs.tree repairing tree
-
-    pub kept_listed : KeptThingsAreListedOnlyWhereTheyStand n
-    kept_listed = c.repairs.listed repairing only
-
-    pub kept_back : KeptDirectoriesAreBroughtBack n
-    kept_back = c.repairs.back repairing back

@@ -32,7 +32,7 @@ use Rattle.law_order.specs.pg_repair.Granting.{begin_granted, grant}
 use Rattle.law_order.proofs.pg_intentions.Steady.{begin_end_stays}
 use Rattle.law_order.specs.pg_server.declared.input.Input.{Input}
 use Rattle.law_order.specs.pg_server.declared.input.Input.TheVariants as input
-use Rattle.law_order.specs.pg_server.Local.{Effect, closed, effect, finished, first_effect, intended, is_heard, receive, reply_to, settled, takes_effect, without_wishes}
+use Rattle.law_order.specs.pg_server.Local.{Effect, closed, effect, finished, first_effect, intended, is_heard, receive, reply_to, settled, takes_effect, without_volatile}
 use Rattle.law_order.proofs.theory_flood_pieces.Choices.{chosen, decided}
 use Rattle.law_order.specs.pg_run.Births.{linking}
 use Rattle.law_order.specs.pg_run.Intending.{FillsStand}
@@ -78,7 +78,7 @@ module _ (V : Why) (a : Store) (fills : FillsStand a) (free : (kind : Kind) → 
       let w = new_work 0 packet.from in
       decided (λ (d : Done). Moves V a d.store) (is_heard a packet) (receive a packet.message w) (idle a w)
       (λ heard. received_moves V a packet.message w (lets.says packet refl heard)) (λ no. moves_itself a)
-  first_moves input.Restart lets = goes_moves (before_goes a (without_wishes a) (unwished_as_before a)) (λ q. refl)
+  first_moves input.Restart lets = goes_moves (before_goes a (without_volatile a) (unwished_as_before a)) (λ q. refl)
 
   -- ANY INPUT
   pub effect_moves : (asked : Input) → LetsIn V a asked → Moves V a (effect a asked).store

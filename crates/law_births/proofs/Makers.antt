@@ -60,7 +60,7 @@ use Rattle.law_order.proofs.pg_calls.New.{thing_new}
 use Rattle.law_order.proofs.pg_calls.Walked.{file_found, full_held}
 use Rattle.law_order.specs.pg_server.declared.input.Input.{Input}
 use Rattle.law_order.specs.pg_server.declared.input.Input.TheVariants as input
-use Rattle.law_order.specs.pg_server.Local.{Effect, done_of, effect, intended, receive, sent_again, settled, without_wishes}
+use Rattle.law_order.specs.pg_server.Local.{Effect, done_of, effect, intended, receive, sent_again, settled, without_volatile}
 use Rattle.law_order.proofs.theory_flood_pieces.Choices.{chosen}
 use Rattle.law_order.proofs.theory_flood_pieces.Together.{replica_of_held}
 use Rattle.law_order.specs.pg_run.Journal.{versions_in}
@@ -279,7 +279,7 @@ module _ (s : ℕ) (a : Store) (server : a.names.server ≡ s) (both : AreTogeth
     arrivals = λ packet heard known.
         none_made s (receive a packet.message (new_work 0 packet.from))
         (received_none a packet.message (new_work 0 packet.from));
-    restarts = none_made s (idle (without_wishes a) (new_work 0 0)) refl;
+    restarts = none_made s (idle (without_volatile a) (new_work 0 0)) refl;
     nothing = λ moment from. none_made s (idle a (new_work moment from)) refl;
   }
 

@@ -7,7 +7,6 @@ use Rattle.law_order.specs.pg_edges.declared.edge.Edge.{Edge}
 use Rattle.law_order.specs.pg_intent.Intents.{keys_to, turned_each}
 use Rattle.law_order.specs.pg_msg.declared.message.Message.TheVariants as message
 use Rattle.law_order.specs.pg_msg.declared.work.Work.{Work}
-use Rattle.law_order.specs.pg_names.Names.{remove_server}
 use Rattle.law_order.proofs.theory_flood_pieces.Choices.{chosen}
 use Rattle.law_order.specs.pg_run.Journal.{Born}
 use Rattle.law_order.specs.pg_store.declared.store.Store.{Store}
@@ -20,7 +19,7 @@ use Rattle.law_order.specs.pg_pieces.Done.{idle}
 use Rattle.law_order.specs.pg_intentions.Inviting.{invite_along, invite_each, invite_of, invites, loose_edge}
 use Rattle.law_order.specs.pg_calls.GivingUp.{doubt_all, enter_view}
 use Rattle.law_contents.proofs.Changes.{Keeps, Keeps-refl, Keeps-trans}
-use Rattle.law_contents.proofs.Pieces.{intents_keep, names_keep, unlink_keeps, wishes_keep}
+use Rattle.law_contents.proofs.Pieces.{intents_keep, unlink_keeps, wishes_keep}
 use Rattle.law_contents.proofs.Quiet.{Quiet, quiet_idle, quiet_last, quiet_silent, quiet_store, quiet_then}
 
 -- ---- the view
@@ -40,11 +39,22 @@ module _ (server : ℕ) where
       let b = with_intents a (turned_each a.intents (keys_to server a.intents) to) in
       Keeps-trans (intents_keep a b.intents) (wishes_keep b (aim_each a.wishes (wished_of server a.wishes) to))
 
+  removed_keeps : (a : Store) → Keeps a (with_removed a server)
+  removed_keeps a =
+      record {
+        server = refl;
+        last = omega arith;
+        files = omega arith;
+        order = λ h. h;
+        full = λ f h. h;
+        each = λ f. refl;
+      }
+
   pub enter_keeps : (a : Store) → Keeps a (enter a server)
   enter_keeps a =
       let b = with_removed a server in
       let c = cut_each server b (keys_of a.names.held) in
-      Keeps-trans (names_keep a (remove_server a.names server) refl (omega arith) (λ f h. h))
+      Keeps-trans (removed_keeps a)
       (Keeps-trans (cuts_keep (keys_of a.names.held) b) (turn_keeps (next_target c server) c))
 
 -- ---- invites go last

@@ -1,5 +1,5 @@
 -- Ticks, messages and restarts make no version.
-use Rattle.std.proofs.Common.{ℕ, Bool, true, false, cond, List, [], ◌++◌, map, Option, None, Some, refl, sym, subst}
+use Rattle.std.proofs.Common.{ℕ, Bool, true, false, cond, List, [], ◌++◌, map, Option, None, Some, refl, sym, subst, arith}
 use mathlib.Core.Path.{fun_ext}
 use Rattle.law_order.specs.pg_base.declared.id.FileId.{FileId}
 use Rattle.law_order.specs.pg_base.declared.policy.Policy.{Policy}
@@ -19,12 +19,11 @@ use Rattle.law_order.specs.pg_cells.Sending.{is_any}
 use Rattle.law_order.specs.pg_cells.Ticks.{tick}
 use Rattle.law_order.specs.pg_intentions.Requests.{ask_all}
 use Rattle.law_order.specs.pg_server.declared.input.Input.TheVariants as input
-use Rattle.law_order.specs.pg_server.Local.{effect, is_heard, receive, sent_again, without_wishes}
+use Rattle.law_order.specs.pg_server.Local.{effect, is_heard, receive, sent_again, without_volatile}
 use Rattle.law_contents.proofs.Asking.{all_asked_carry}
 use Rattle.law_contents.proofs.Carrying.{Carries}
 use Rattle.law_contents.proofs.Changes.{Keeps-refl}
 use Rattle.law_contents.proofs.Effects.{IsPassive, passive_by, quiet_both}
-use Rattle.law_contents.proofs.Pieces.{wishes_keep}
 use Rattle.law_contents.proofs.Arrivals.{Arrives}
 use Rattle.law_contents.proofs.Going.{came_left}
 use Rattle.law_contents.proofs.Handlers.{walk_of_quiet}
@@ -105,10 +104,19 @@ module _ {s : ℕ} {a : Store} {us : List Born} {p : FileId → Policy} {N : Fil
   -- ---- a restart
 
   abbrev restarted : Done
-  restarted = idle (without_wishes a) (new_work 0 0)
+  restarted = idle (without_volatile a) (new_work 0 0)
 
   restarted_quiet : Quiet us p N a (new_work 0 0) restarted
-  restarted_quiet = quiet_store us p N a (without_wishes a) (new_work 0 0) (wishes_keep a [])
+  restarted_quiet =
+      quiet_store us p N a (without_volatile a) (new_work 0 0)
+      (record {
+        server = refl;
+        last = omega arith;
+        files = omega arith;
+        order = λ h. h;
+        full = λ f h. h;
+        each = λ f. refl;
+      })
 
   -- A RESTART
   pub restart_passive : IsPassive s a us p N (effect a input.Restart)

@@ -10,19 +10,19 @@ use Rattle.law_order.specs.pg_replica.declared.replica.Replica.{Replica}
 use Rattle.law_order.specs.pg_replica.Replica.{covers, own_actor, with_head, with_write}
 use Rattle.law_order.specs.pg_replica.Replicas.{ByFile, edge_count, put_replica, replicas_taking, replicas_writing, takes_version}
 use Rattle.law_order.specs.pg_store.declared.store.Store.{Store}
-use Rattle.law_order.specs.pg_store.Store.{replica_at, take_version, with_drawn, with_names, write}
+use Rattle.law_order.specs.pg_store.Store.{end_covered, replica_at, take_version, with_drawn, with_names, write}
 use Rattle.law_order.proofs.theory_flood_pieces.Choices.{decided}
 use Rattle.law_contents.proofs.Changes.{Alters, Core, core_of}
 use Rattle.law_contents.proofs.Cores.{put_elsewhere, put_here, put_order, raised_time, raised_up}
 
 -- a version of this stamp came, or was made, where this was the replica
-abbrev with_news_of : Store → Stamp → Option Replica → ByFile → Store
-with_news_of a stamp o rs =
-    with_names (with_drawn a (edge_count o) rs) (raise a.names stamp.time)
+abbrev with_news_of : Store → FileId → Stamp → Option Replica → ByFile → Store
+with_news_of a file stamp o rs =
+    end_covered (with_names (with_drawn a (edge_count o) rs) (raise a.names stamp.time)) file
 
 module _ (a : Store) (file : FileId) (x : Replica) (is : replica_at a file ≡ Some x) where
   news_alters : (stamp : Stamp) (o : Option Replica) (y : Replica)
-      → Alters a (with_news_of a stamp o (put_replica a.replicas file y)) file (Some (core_of y))
+      → Alters a (with_news_of a file stamp o (put_replica a.replicas file y)) file (Some (core_of y))
   news_alters stamp o y = record {
     server = refl;
     last = raised_up a.names.last a.names.last stamp.time refl;
@@ -36,7 +36,7 @@ module _ (a : Store) (file : FileId) (x : Replica) (is : replica_at a file ≡ S
   module _ (v : VersionValue) where
     abbrev took : Option Replica → Store
     took o = cond (takes_version o v)
-        (with_news_of a v.head.stamp o (replicas_taking a.replicas file v a.tags o)) a
+        (with_news_of a file v.head.stamp o (replicas_taking a.replicas file v a.tags o)) a
 
     abbrev JoinedCore : Core
     JoinedCore = record { birth = x.birth; content = joined_content x.content v }
@@ -70,7 +70,7 @@ module _ (a : Store) (file : FileId) (x : Replica) (is : replica_at a file ≡ S
     took_alters : Alters a (took (Some x)) file (Some JoinedCore)
     took_alters =
         decided (λ b. Alters a b file (Some JoinedCore)) (not (covers x v))
-        (with_news_of a v.head.stamp (Some x) (put_replica a.replicas file (with_head x v a.tags)))
+        (with_news_of a file v.head.stamp (Some x) (put_replica a.replicas file (with_head x v a.tags)))
         a
         (λ new. news_alters v.head.stamp (Some x) (with_head x v a.tags))
         (λ old. let P : Core → Type 0 = (λ k. Alters a a file (Some k)) in
@@ -86,7 +86,7 @@ module _ (a : Store) (file : FileId) (x : Replica) (is : replica_at a file ≡ S
         → v.head.stamp.time ≤ (took (Some x)).names.last
     took_last covered =
         decided (λ (b : Store). v.head.stamp.time ≤ b.names.last) (not (covers x v))
-        (with_news_of a v.head.stamp (Some x) (put_replica a.replicas file (with_head x v a.tags)))
+        (with_news_of a file v.head.stamp (Some x) (put_replica a.replicas file (with_head x v a.tags)))
         a
         (λ new. raised_time a.names.last v.head.stamp.time)
         (λ old. covered (covered_by (covers x v) old))
@@ -101,7 +101,7 @@ module _ (a : Store) (file : FileId) (x : Replica) (is : replica_at a file ≡ S
 
   module _ (stamp : Stamp) (ranges : RangesValue) where
     abbrev wrote : Option Replica → Store
-    wrote o = with_news_of a stamp o (replicas_writing a.replicas file stamp ranges a.tags o)
+    wrote o = with_news_of a file stamp o (replicas_writing a.replicas file stamp ranges a.tags o)
 
     abbrev pub WrittenCore : Core
     WrittenCore = record {

@@ -1,5 +1,21 @@
-//! What holds of contents in any run: what servers hold is the state of the versions that they took,
-//! whatever was lost, repeated or late.
+//! What holds of contents in any run: what servers hold is the state of the versions that they
+//! took, whatever was lost, repeated or late.
+//!
+//! Of the laws come the clauses `merge`, `heads`, `determined`, `histories`, `one_version_a_stamp`,
+//! `ancestry`, `carried` and `clock` of `run`, all of fewer than 2 ^ 32 servers. The statements
+//! stand in `pg_run/specs/Histories` and `Laws`.
+//!
+//! - The proof goes up in layers, each a record over the one below: a file alone (`HoldsFile`,
+//!   `proofs/Files`), a server alone (`Stands`, `proofs/Servers`), an input (`Arrives`,
+//!   `proofs/Arrivals`), a world (`Sound`, `proofs/Worlds`), a run (`proofs/Runs`).
+//! - Of a replica only its `Core` is seen (birth and content, `proofs/Changes`): a piece `Keeps`
+//!   all cores, or `Alters` the one of one file. A field more of a replica changes little here.
+//! - What a server took is a set of versions, told by its members (`proofs/Sets`). A fact on all
+//!   files is shown of the file of the last version (`proofs/Histories`).
+//! - Premises: `StandOn` (`specs/Together`), of `law_order` and the laws on births and intentions.
+//! - A new kind of message gets its line in `receive_arrives` (`proofs/Receiving`): where it brings
+//!   no version and nothing begins, by a lemma `.._quiet` of `proofs/Handlers`; and its case of
+//!   what a message carries, in `proofs/Carrying`.
 #![tactic(auto)]
 
 mod laws;

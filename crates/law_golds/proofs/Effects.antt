@@ -37,7 +37,7 @@ use Rattle.law_contents.proofs.theory_flood_pieces.Front.{house_sent, house_tail
 use Rattle.law_contents.proofs.theory_flood_pieces.Grown.{grown_by_steps}
 use Rattle.law_contents.proofs.theory_flood_pieces.Settling.{goldless_own, rules_steps, whole_raised, whole_rules}
 use Rattle.law_contents.specs.pg_server.declared.input.Input.{Input}
-use Rattle.law_contents.specs.pg_server.Local.{effect, first_effect, intended, receive, sent_again, settled, takes_effect, without_wishes}
+use Rattle.law_contents.specs.pg_server.Local.{effect, first_effect, intended, receive, sent_again, settled, takes_effect, without_volatile}
 use Rattle.law_contents.proofs.pg_run.Event.{Comes, all_sent, end_of, end_sent, end_tail, first_has}
 use Rattle.law_births.specs.Flags.{AnyBye, SaysMessage, SaysStore}
 use Rattle.law_births.proofs.Here.{birth_of_held}
@@ -177,7 +177,7 @@ module _ (n s : ℕ) (a : Store) (asked : Input) (Q : FileId → Flag → Type 0
         ticks = λ moment word going.
             stays moment 0 (idle a (sent_again a word (new_work moment 0))) (ticked moment word);
         arrivals = λ packet heard says. received packet.from packet.message says;
-        restarts = stays 0 0 (idle (without_wishes a) (new_work 0 0)) (record {
+        restarts = stays 0 0 (idle (without_volatile a) (new_work 0 0)) (record {
           store = record { names = k.names; intents = k.intents };
           sent = All-nil (SaysSent Q);
           tail = All-nil (SaysSent Q);

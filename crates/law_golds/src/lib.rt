@@ -1,5 +1,22 @@
-//! Flags and gold replicas along every run: each flag is its server's own, or an earlier one, and nothing else is known;
-//! each full replica sees a live gold, and edges or Seeks lead to those that are seen.
+//! Flags and gold replicas along every run: each flag is its server's own, or an earlier one, and
+//! nothing else is known; each full replica sees a live gold, and edges or Seeks lead to those that
+//! are seen.
+//!
+//! Of the laws come the clauses `golds` and `golds_are_linked` of `run`. That flags have numbers of
+//! their own is for `law_names` and `law_quiet`, that they are made where the thing is held for
+//! `law_leaving` and `law_repair`. The statements stand in `specs/Laws`, and in
+//! `pg_run/specs/Golds`, `Known` and `Going`.
+//!
+//! - `AreOwn` (`proofs/Worlds`) is the invariant of a world: each flag that is known is up to its
+//!   server's own (`IsOwn`, `proofs/Own`), or its birth is past. `Says` (`proofs/Says`) is any
+//!   property of flags in the midst of an event; `Fine` (`proofs/Fine`): what is known then was
+//!   known before, or was made.
+//! - `proofs/Seen` has what sees no live gold and why none of it is full; `SeenAfter` has it of
+//!   runs. `proofs/Named` reads edges and Seeks off the intentions that are in order.
+//! - Premises: that names and replicas go together (`HoldBoth` of `law_contents`), what
+//!   `specs/Premises` names, and laws on births, views and intentions.
+//! - A new kind of message gets a lemma `said_..` (`proofs/Received`) if it raises no flag, else
+//!   one in `proofs/Filling`; and its line in `proofs/Effects`.
 #![tactic(auto)]
 
 mod laws;

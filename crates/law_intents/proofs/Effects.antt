@@ -22,7 +22,7 @@ use Rattle.law_order.specs.pg_calls.Naming.{next_id}
 use Rattle.law_order.proofs.pg_calls.Late.{late_does_nothing}
 use Rattle.law_order.specs.pg_server.declared.input.Input.{Input}
 use Rattle.law_order.specs.pg_server.declared.input.Input.TheVariants as input
-use Rattle.law_order.specs.pg_server.Local.{Effect, closed, effect, finished, first_effect, is_heard, receive, reply_to, sent_again, takes_effect, without_wishes}
+use Rattle.law_order.specs.pg_server.Local.{Effect, closed, effect, finished, first_effect, is_heard, receive, reply_to, sent_again, takes_effect, without_volatile}
 use Rattle.law_order.specs.theory_flood_pieces.Whole.{IsWhole}
 use Rattle.law_order.proofs.theory_flood_pieces.Choices.{chosen, decided}
 use Rattle.law_intents.proofs.Aimed.{heard_live}
@@ -147,7 +147,7 @@ module _ (n s : ℕ) (a : Store) (k : IsResting n s a) where
     confirms = k.confirms;
     seeks = k.seeks;
     patches = k.patches;
-    leaves = all_moved a (without_wishes a) refl refl a.intents k.leaves;
+    leaves = all_moved a (without_volatile a) refl refl a.intents k.leaves;
   }
 
   -- AN EVENT AT A SERVER

@@ -8,7 +8,7 @@ use Rattle.law_order.specs.pg_store.declared.store.Store.{Store}
 use Rattle.law_order.specs.pg_pieces.Done.{idle}
 use Rattle.law_order.specs.pg_intentions.Beginning.{begin_end}
 use Rattle.law_order.specs.pg_intentions.Requests.{request}
-use Rattle.law_order.specs.pg_server.Local.{without_wishes}
+use Rattle.law_order.specs.pg_server.Local.{without_volatile}
 use Rattle.law_order.specs.pg_run.Laws.{AtEach, store_after}
 
 -- no intention ends or begins, where no place was replaced, no doubtful cell came and no edge was made
@@ -18,7 +18,7 @@ StaysIntended a = (work : Work) → work.left ≡ [] → work.unsure ≡ [] → 
 
 -- also without the wishes, as a restart leaves it
 abbrev pub IsStill : Store → Type 0
-IsStill a = StaysIntended a × StaysIntended (without_wishes a)
+IsStill a = StaysIntended a × StaysIntended (without_volatile a)
 
 abbrev pub NothingIsLeftToDo : ℕ → Type 0
 NothingIsLeftToDo servers = (events : List Event)

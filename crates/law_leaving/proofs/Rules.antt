@@ -8,10 +8,13 @@ use Rattle.law_births.specs.pg_pieces.Done.{idle}
 use Rattle.law_births.specs.pg_edges.Edges.{is_listed}
 use Rattle.law_births.specs.pg_entries.declared.cell.Cell.{Cell}
 use Rattle.law_births.specs.pg_event.declared.event.Event.{Event}
+use Rattle.law_births.specs.theory_flood.Noting.{SaidIn, noting}
 use Rattle.law_births.specs.theory_flood.Promises.{Saying}
+use Rattle.law_births.specs.theory_flood.Protocol.{Protocol}
 use Rattle.law_births.specs.theory_flood.Server.{Replica as Seen, Slot}
 use Rattle.law_births.specs.theory_flood.World.{after}
 use Rattle.law_births.proofs.theory_flood.Flood.{after_itself}
+use Rattle.law_births.proofs.theory_flood.Late.{early}
 use Rattle.law_births.proofs.theory_flood.Steps as steps
 use Rattle.law_births.specs.pg_intent.declared.intent.Intent.TheVariants as intent
 use Rattle.theory_leaving.specs.Moment.{IsKept, IsPast}
@@ -30,6 +33,7 @@ use Rattle.law_births.specs.pg_store.declared.store.Store.{Store}
 use Rattle.law_births.specs.pg_store.Store.{replica_at}
 use Rattle.law_births.specs.pg_store.Together.{birth_at}
 use Rattle.law_births.specs.pg_run.Carried.{gone_in}
+use Rattle.law_births.specs.pg_run.Journal.{mail}
 use Rattle.law_births.specs.pg_run.Going.{AnswersAreToAccepted, ByesAreAnswered, ByesAreOwed, Hears, SaysItWent}
 use Rattle.law_births.specs.pg_run.Laws.{TakesIn, store_after}
 use Rattle.law_births.specs.pg_run.Leaving.{Goes}
@@ -104,10 +108,15 @@ module _ (n : ℕ) (on : StandOn n) (sends : Sends n) (file : FileId) (events : 
   heard_same (input.Arrival packet) = refl
   heard_same input.Restart = refl
 
-  pub edges : steps.Rule taking S (site_after n events S) Next (heard_as (leaving n file) (message_in S t.asked)) (effect A t.asked).out.sent
+  abbrev late : Protocol Site Sent Cell
+  late = noting taking (SaidIn taking (mail W.journal))
+
+  pub edges : steps.Rule late S (site_after n events S) Next (heard_as (leaving n file) (message_in S t.asked)) (effect A t.asked).out.sent
   edges =
-      let P : Saying Slot Cell → Type 0 = (λ z. steps.Rule taking S (site_after n events S) Next z (effect A t.asked).out.sent) in
-      subst P (sym (heard_same t.asked)) (rule n on sends.answers events event S t.asked is)
+      let now = site_after n events S in
+      let sent = (effect A t.asked).out.sent in
+      let P : Saying Slot Cell → Type 0 = (λ z. steps.Rule late S now Next z sent) in
+      subst P (sym (heard_same t.asked)) (early taking S now Next (heard_in S t.asked) sent (mail W.journal) (λ a x h. h) (rule n on sends.answers events event S t.asked is))
 
   -- ---- why an edge goes
 

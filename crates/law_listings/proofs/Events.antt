@@ -22,7 +22,7 @@ use Rattle.law_places.proofs.theory_flood_pieces.Choices.{chosen}
 use Rattle.law_places.specs.pg_run.Intending.{IntendsInOrder}
 use Rattle.law_places.specs.pg_server.declared.input.Input.{Input}
 use Rattle.law_places.specs.pg_server.declared.input.Input.TheVariants as input
-use Rattle.law_places.specs.pg_server.Local.{Effect, closed, done_of, effect, finished, first_effect, is_heard, receive, reply_to, sent_again, settled as settled_by, without_wishes}
+use Rattle.law_places.specs.pg_server.Local.{Effect, closed, done_of, effect, finished, first_effect, is_heard, receive, reply_to, sent_again, settled as settled_by, without_volatile}
 use Rattle.law_places.specs.pg_server.Local.{intended}
 use Rattle.law_places.proofs.pg_run.Event.{nothing_last, nothing_sent as nothing_sent_behind}
 use Rattle.law_places.specs.pg_store.declared.store.Store.{Store}
@@ -208,12 +208,12 @@ module _ (last : ℕ) (sent : List Letter) (s : ℕ) (a : Store) (behind : IsBeh
 
   -- ---- a restart
 
-  restart_by : (r : Option Reply) (t : Bool) → IsGood (idle (without_wishes a) (new_work 0 0)) (cond t (closed r (idle (without_wishes a) (new_work 0 0))) (finished r (idle (without_wishes a) (new_work 0 0))))
-      → Stepped input.Restart (cond t (closed r (idle (without_wishes a) (new_work 0 0))) (finished r (idle (without_wishes a) (new_work 0 0))))
+  restart_by : (r : Option Reply) (t : Bool) → IsGood (idle (without_volatile a) (new_work 0 0)) (cond t (closed r (idle (without_volatile a) (new_work 0 0))) (finished r (idle (without_volatile a) (new_work 0 0))))
+      → Stepped input.Restart (cond t (closed r (idle (without_volatile a) (new_work 0 0))) (finished r (idle (without_volatile a) (new_work 0 0))))
   restart_by r true good =
-      let d = idle (without_wishes a) (new_work 0 0) in
-      done_step input.Restart (quiet a) (inl refl) r d (alike_is a behind (quiet a) refl d (alike_by a (without_wishes a) refl refl)) (others_say a d.store d.work none) good
-  restart_by r false good = finished_step input.Restart r (idle (without_wishes a) (new_work 0 0)) good refl refl (nothing_sent (without_wishes a)) (nothing_sent (without_wishes a))
+      let d = idle (without_volatile a) (new_work 0 0) in
+      done_step input.Restart (quiet a) (inl refl) r d (alike_is a behind (quiet a) refl d (alike_by a (without_volatile a) refl refl)) (others_say a d.store d.work none) good
+  restart_by r false good = finished_step input.Restart r (idle (without_volatile a) (new_work 0 0)) good refl refl (nothing_sent (without_volatile a)) (nothing_sent (without_volatile a))
 
   -- what is asked of an input
   abbrev pub IsAsked : Input → Type 0

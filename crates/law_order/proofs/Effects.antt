@@ -21,7 +21,7 @@ use Rattle.pg_run.specs.pg_calls.Calls.{do_call}
 use Rattle.pg_run.proofs.pg_calls.Late.{late_does_nothing}
 use Rattle.pg_run.specs.pg_server.declared.input.Input.{Input}
 use Rattle.pg_run.specs.pg_server.declared.input.Input.TheVariants as input
-use Rattle.pg_run.specs.pg_server.Local.{Effect, closed, done_of, effect, finished, first_effect, is_heard, receive, reply_to, sent_again, takes_effect, without_wishes}
+use Rattle.pg_run.specs.pg_server.Local.{Effect, closed, done_of, effect, finished, first_effect, is_heard, receive, reply_to, sent_again, takes_effect, without_volatile}
 use Rattle.pg_run.specs.theory_flood_pieces.Whole.{IsOther}
 use Rattle.pg_run.proofs.theory_flood_pieces.Choices.{chosen, decided}
 use Rattle.law_order.specs.Saying.{IsClosed, IsSaidLeft, IsSaidOfMessage, Saying}
@@ -65,10 +65,10 @@ module _ (p : Saying) (c : IsClosed p) (n s : ℕ) (mine : IsMember p n s) (a : 
   begins : (now from : ℕ) → Far (idle a (new_work now from))
   begins now from = record { store = k.sound; left = All-nil (λ (slot : Slot). IsSaidLeft p slot); sent = none_sent now from; tail = none_sent now from }
 
-  sound_wishless : Sound p n s (without_wishes a)
+  sound_wishless : Sound p n s (without_volatile a)
   sound_wishless =
-      sound_alike p n s a k.sound (without_wishes a) (record { servers = refl; tags = refl; names = refl; replicas = refl })
-      (births_as_before a (without_wishes a) (unwished_as_before a) k.sound.births) k.sound.keys k.sound.named.intents
+      sound_alike p n s a k.sound (without_volatile a) (record { servers = refl; tags = refl; names = refl; replicas = refl })
+      (births_as_before a (without_volatile a) (unwished_as_before a) k.sound.births) k.sound.keys k.sound.named.intents
 
   tick_far : (moment word : ℕ) → Far (idle a (sent_again a word (new_work moment 0)))
   tick_far moment word =
@@ -121,7 +121,7 @@ module _ (p : Saying) (c : IsClosed p) (n s : ℕ) (mine : IsMember p n s) (a : 
       let P : Bool → Type 0 = λ t. Ends (finished (reply_to a (input.Arrival packet)) (cond t (receive a packet.message w) (idle a w))) in
       subst P (sym late) (finished_sound p c n s (reply_to a (input.Arrival packet)) (idle a w) k (none_sent 0 packet.from) (none_sent 0 packet.from))
   late_sound input.Restart late =
-      finished_sound p c n s (reply_to a input.Restart) (idle (without_wishes a) (new_work 0 0)) (record { sound = sound_wishless; fills = k.fills; settled = k.settled }) (none_sent 0 0) (none_sent 0 0)
+      finished_sound p c n s (reply_to a input.Restart) (idle (without_volatile a) (new_work 0 0)) (record { sound = sound_wishless; fills = k.fills; settled = k.settled }) (none_sent 0 0) (none_sent 0 0)
 
   -- behind the first effect of any input
   late_first : (asked : Input) → takes_effect a asked ≡ false → Sound p n s (first_effect a asked).store

@@ -15,7 +15,7 @@ use Rattle.pg_run.specs.pg_register.Place.{blank_place, root}
 use Rattle.pg_run.proofs.pg_intentions.Steady.{begin_end_stays}
 use Rattle.pg_run.specs.pg_server.declared.input.Input.{Input}
 use Rattle.pg_run.specs.pg_server.declared.input.Input.TheVariants as input
-use Rattle.pg_run.specs.pg_server.Local.{Effect, closed, effect, finished, first_effect, intended, is_heard, receive, reply_to, sent_again, settled, takes_effect, without_wishes}
+use Rattle.pg_run.specs.pg_server.Local.{Effect, closed, effect, finished, first_effect, intended, is_heard, receive, reply_to, sent_again, settled, takes_effect, without_volatile}
 use Rattle.pg_run.specs.pg_store.declared.store.Store.{Store}
 use Rattle.pg_run.specs.pg_store.Store.{is_before_clock_end}
 use Rattle.pg_run.specs.pg_pieces.Done.{Done, idle}
@@ -105,7 +105,7 @@ module _ (P : FileId → Place → Type 0) (blanks : (f : FileId) → is_same_fi
         chosen Fine (is_heard a packet) (receive a packet.message work) (idle a work)
         (receive_fine P blanks s a.names.last packet.message (idle a work) stays asks (begins 0 packet.from)) (begins 0 packet.from)
     first_fine input.Restart asks may =
-        as_before P s a.names.last (idle a (new_work 0 0)) (idle (without_wishes a) (new_work 0 0)) refl refl refl refl (begins 0 0)
+        as_before P s a.names.last (idle a (new_work 0 0)) (idle (without_volatile a) (new_work 0 0)) refl refl refl refl (begins 0 0)
 
     -- AN EVENT
     pub effect_leaves : (asked : Input) → OfInput P asked → May (effect a asked) → Leaves (effect a asked)

@@ -28,7 +28,7 @@ use Rattle.pg_run.specs.pg_intentions.Requests.{ask_all, asks}
 use Rattle.pg_run.specs.pg_calls.Calls.{do_call}
 use Rattle.pg_run.specs.pg_server.declared.input.Input.{Input}
 use Rattle.pg_run.specs.pg_server.declared.input.Input.TheVariants as input
-use Rattle.pg_run.specs.pg_server.Local.{Effect, closed, done_of, effect, finished, first_effect, intended, is_heard, receive, sent_again, sent_at_end, settled, without_wishes}
+use Rattle.pg_run.specs.pg_server.Local.{Effect, closed, done_of, effect, finished, first_effect, intended, is_heard, receive, sent_again, sent_at_end, settled, without_volatile}
 use Rattle.pg_run.specs.Journal.{bag, mail, message_at, removals}
 use Rattle.pg_run.specs.Run.{Step, Taking, World, effect_step, idle_step, is_due, is_live, next, taking_in, taking_message, world_after}
 use Rattle.pg_run.proofs.Event.{nothing_last}
@@ -147,7 +147,7 @@ module _ (s : Store) (h : StoreSuits s) (number : ℕ) (p : Packet) (k : SuitsMe
 restarted_suits : (s : Store) (server : ℕ) → StoreSuits s → EffectSuits (Restart server) (effect s input.Restart)
 restarted_suits s server h =
     let e = Restart server in
-    let done = idle (without_wishes s) (new_work 0 0) in
+    let done = idle (without_volatile s) (new_work 0 0) in
     let k : DoneSuits done = record { store = record { names = h.names; intents = h.intents }; work = new_suits 0 0 } in
     chosen (EffectSuits e) (is_before_clock_end s) (closed None done) (finished None done)
     (closed_suits e None done (λ x. tt) (All-nil Suits) k) (finished_suits e None done (λ x. tt) (All-nil Suits) k)

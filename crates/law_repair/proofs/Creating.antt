@@ -1,6 +1,6 @@
 -- A thing is created where a client is told that it was made: no server held it before.
 use Rattle.std.proofs.Common.{ℕ, ◌≡◌, ◌≤◌, ◌+◌, zero, suc, Bool, true, false, cond, List, [], ◌∷◌, ◌++◌, Option, None, Some, Result, Ok, Err, is_some, refl, sym, ap, subst, ◌∙◌, inl, inr, ◌⊎◌, arith}
-use Rattle.std.proofs.lemmas.Bool.{cases_lt, false≢true, false_from_ne_true, or_from, or_left, or_right}
+use Rattle.std.proofs.lemmas.Bool.{false≢true, false_from_ne_true, or_from, or_left, or_right}
 use Rattle.std.proofs.lemmas.List.{append-nil}
 use Rattle.std.proofs.lemmas.Option.{none-some, same_Some}
 use Rattle.law_full.specs.pg_base.declared.id.FileId.{FileId}
@@ -40,6 +40,7 @@ use Rattle.law_golds.specs.law_order.Named.{IsMade}
 use Rattle.law_golds.proofs.law_order.Files.{effect_files}
 use Rattle.law_quiet.specs.Given.{ServersAreWhole}
 use Rattle.law_full.proofs.pg_calls.Walked.{full_held}
+use Rattle.law_full.proofs.pg_run.QuietAnswers.{at_or_below}
 use Rattle.law_full.specs.pg_register.declared.flag.Flag.{Flag}
 use Rattle.law_full.specs.pg_pieces.Making.{own_next}
 use Rattle.law_full.specs.pg_patch.Ranges.{RangesValue, cut_to, written}
@@ -153,13 +154,10 @@ makes_by a file input.Restart h = absurd (none-some (reply.Made file) h)
 
 some_holds : (w : World) (file : FileId) (m t : ℕ) → 1 ≤ t → t ≤ m → is_held (w.stores t) file ≡ true → is_held_by w file m ≡ true
 some_holds w file zero t least most h = absurd (omega arith)
-some_holds w file (suc k) t least most h = elim (last_or t k most) [
+some_holds w file (suc k) t least most h = elim (at_or_below k t most) [
   | inl last ↦ or_left (is_held (w.stores (suc k)) file) (is_held_by w file k) (ap (λ (i : ℕ). is_held (w.stores i) file) (sym last) ∙ h)
   | inr less ↦ or_right (is_held (w.stores (suc k)) file) (is_held_by w file k) (some_holds w file k t least less h)
 ]
-  where
-    last_or : (t k : ℕ) → t ≤ suc k → (t ≡ suc k) ⊎ (t ≤ k)
-    last_or t k le = elim (cases_lt k t) [ inl more ↦ inl (omega arith) | inr less ↦ inr less ]
 
 all_hold_none : (w : World) (file : FileId) (m : ℕ) → ((t : ℕ) → 1 ≤ t → t ≤ m → is_held (w.stores t) file ≡ false) → is_held_by w file m ≡ false
 all_hold_none w file zero none = refl

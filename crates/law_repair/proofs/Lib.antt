@@ -14,4 +14,5 @@ pub mod Settling
 pub mod Raising
 pub mod Repairs
 pub mod Creating
+pub mod Unkept
 pub mod Witness

@@ -1,7 +1,7 @@
 -- The first moment of a thing: only its maker holds it, or it is the root, of which all servers know the same at the start.
 use Rattle.std.proofs.Common.{ℕ, ◌≡◌, ◌≤◌, ◌<◌, ◌==◌, ◌||◌, zero, suc, Bool, true, false, cond, List, [], ◌∷◌, ◌++◌, Option, None, Some, is_some, option_map, refl, sym, ap, subst, ◌∙◌, inl, inr, ◌⊎◌, arith}
 use Rattle.std.specs.Prelude.{Contains}
-use Rattle.std.proofs.lemmas.Bool.{cases_lt, eqb-true, false≢true, or_parts}
+use Rattle.std.proofs.lemmas.Bool.{eqb-true, false≢true, or_parts}
 use Rattle.std.proofs.lemmas.Bool.Decides.{nat_tests}
 use Rattle.std.proofs.lemmas.List.Elements.{All-contains}
 use Rattle.law_full.specs.pg_base.declared.id.FileId.{FileId}
@@ -39,6 +39,7 @@ use Rattle.law_full.specs.pg_run.Quiet.{IsQuiet}
 use Rattle.law_full.specs.pg_run.Run.{World, is_live, run, start}
 use Rattle.law_full.proofs.pg_run.Frame.{live_is}
 use Rattle.law_full.proofs.pg_run.Lists.{among_contained, among_parts, contained_among}
+use Rattle.law_full.proofs.pg_run.QuietAnswers.{at_or_below}
 use Rattle.law_repair.specs.Given.{StandOn}
 use Rattle.law_repair.specs.Kept.{IsGoldAt, is_held_by}
 use Rattle.law_repair.proofs.GoldsThere.{held_not_over}
@@ -52,15 +53,12 @@ either : (x y : Bool) → (x || y) ≡ true → (x ≡ true) ⊎ (y ≡ true)
 either true y h = inl refl
 either false y h = inr h
 
-last_or : (t k : ℕ) → t ≤ suc k → (t ≡ suc k) ⊎ (t ≤ k)
-last_or t k le = elim (cases_lt k t) [ inl more ↦ inl (omega arith) | inr less ↦ inr less ]
-
 -- where no server holds it, none does
 pub none_holds : (w : World) (file : FileId) (m t : ℕ) → is_held_by w file m ≡ false → 1 ≤ t → t ≤ m → is_held (w.stores t) file ≡ false
 none_holds w file zero t h least most = absurd (omega arith)
 none_holds w file (suc k) t h least most =
     let parts = or_parts (is_held (w.stores (suc k)) file) (is_held_by w file k) h in
-    elim (last_or t k most) [
+    elim (at_or_below k t most) [
       | inl last ↦ ap (λ (i : ℕ). is_held (w.stores i) file) last ∙ parts.0
       | inr less ↦ none_holds w file k t parts.1 least less
     ]

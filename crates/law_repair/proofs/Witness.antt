@@ -1,20 +1,16 @@
 -- The definitions of what is kept, tried on two runs by computation.
-use Rattle.std.proofs.Common.{ℕ, ◌≡◌, ◌≤◌, ◌<◌, ◌||◌, zero, suc, Bool, true, false, List, [], ◌∷◌, ◌++◌, append_assoc, Option, None, Some, refl, sym, ap, subst, ◌∙◌, inl, inr, ◌⊎◌, arith}
+use Rattle.std.proofs.Common.{◌≡◌, Bool, true, false, List, [], ◌∷◌, ◌++◌, append_assoc, drop, refl, sym, ap, subst, ◌∙◌}
 use Rattle.std.specs.List.{list_any}
-use Rattle.std.proofs.lemmas.Bool.{cases_lt, false≢true, or_parts}
+use Rattle.std.proofs.lemmas.Bool.{false≢true, or_parts}
 use Rattle.law_full.specs.pg_call.declared.call.Call.TheVariants as call
 use Rattle.law_full.specs.pg_event.declared.event.Event.{Event}
-use Rattle.law_full.specs.pg_event.declared.event.Event.TheVariants.{Call, Remove}
-use Rattle.law_full.specs.pg_event.declared.quiet.Quiet.{Quiet}
-use Rattle.law_full.specs.pg_event.declared.quiet.Quiet.TheVariants as quiet
+use Rattle.law_full.specs.pg_event.declared.event.Event.TheVariants.{Call, Deliver, Remove}
 use Rattle.law_full.specs.pg_register.Place.{root}
-use Rattle.law_full.specs.pg_store.Together.{birth_at}
-use Rattle.law_full.specs.pg_run.Quiet.{IsQuiet, quiet_of}
-use Rattle.law_full.specs.pg_run.Run.{World, is_live, run}
-use Rattle.law_full.proofs.pg_run.Frame.{live_is}
+use Rattle.law_full.specs.pg_run.Run.{run}
 use Rattle.law_full.proofs.pg_run.QuietAnswers.{quiet_is_told}
-use Rattle.law_repair.specs.Kept.{AreNeighbours, Forgets, IsCreated, IsGoldAt, IsKept, IsMoment, IsQuietBehind, StaysGold, is_held_by}
-use Rattle.law_repair.specs.Witness.{LossIsNotKept, RemovalKeepsTheRoot, begun_anew, heard, lost_dir, made, removal}
+use Rattle.law_repair.specs.Kept.{IsGoldAt, IsKept}
+use Rattle.law_repair.specs.Witness.{LossIsNotKept, RemovalKeepsTheRoot, forgotten, heard, looked_at, loss, lost_dir, lost_file, made, removal}
+use Rattle.law_repair.proofs.Unkept.{not_kept}
 
 -- ---- what begins a list
 
@@ -89,90 +85,11 @@ removal_keeps_the_root = record {
   kept = root_kept;
 }
 
--- ---- a directory whose one gold replica goes with its server
-
-abbrev is_told_quiet : Quiet → Bool
-is_told_quiet quiet.Quiet = true
-is_told_quiet (quiet.Waits cause) = false
-
-abbrev First : List Event
-First = made ++ heard
-
-abbrev Rest : List Event
-Rest = Remove 1 ∷ begun_anew
-
-abbrev All : List Event
-All = First ++ Rest
-
--- no moment where the run is not quiet: it was made before
-no_moment : (rest : List Event) → is_told_quiet (quiet_of 2 (run 2 (First ++ rest))) ≡ false → IsMoment 2 lost_dir (First ++ rest) → ⊥
-no_moment rest waits (inl created) =
-    let held : is_held_by (run 2 made) lost_dir 2 ≡ false = created.new made _ _ refl in
-    let is : is_held_by (run 2 made) lost_dir 2 ≡ true = refl in
-    false≢true (sym held ∙ is)
-no_moment rest waits (inr behind) =
-    let told : quiet_of 2 (run 2 (First ++ rest)) ≡ quiet.Quiet = (quiet_is_told 2 (run 2 (First ++ rest))).1 behind.quiet in
-    false≢true (sym waits ∙ ap is_told_quiet told)
-
-between : (e f : Event) (before behind : List Event) → Rest ≡ (e ∷ before) ++ f ∷ behind → IsMoment 2 lost_dir (First ++ e ∷ before) → ⊥
-between e f [] behind is moment =
-    let same : e ≡ Remove 1 = cc in
-    no_moment (Remove 1 ∷ []) refl (subst (λ v. IsMoment 2 lost_dir (First ++ v ∷ [])) same moment)
-between e f (x ∷ []) behind is moment =
-    let same : e ∷ x ∷ [] ≡ Remove 1 ∷ Call 2 20 (call.Giveup 1 1) ∷ [] = cc in
-    no_moment (Remove 1 ∷ Call 2 20 (call.Giveup 1 1) ∷ []) refl (subst (λ v. IsMoment 2 lost_dir (First ++ v)) same moment)
-between e f (x ∷ y ∷ []) behind is moment = cc
-between e f (x ∷ y ∷ z ∷ zs) behind is moment = cc
-
-last_or : (t k : ℕ) → t ≤ suc k → (t ≡ suc k) ⊎ (t ≤ k)
-last_or t k le = elim (cases_lt k t) [ inl more ↦ inl (omega arith) | inr less ↦ inr less ]
-
--- the other server alone is live at the end
-only_the_other : (s : ℕ) → is_live 2 (run 2 All) s ≡ true → s ≡ 2
-only_the_other s live =
-    let i = live_is 2 (run 2 All) s live in
-    elim (last_or s 1 i.most) [
-      | inl last ↦ last
-      | inr less ↦
-          let least = i.least in
-          let one : s ≡ 1 = omega arith in
-          let dead : is_live 2 (run 2 All) 1 ≡ false = refl in
-          absurd (false≢true (sym dead ∙ ap (is_live 2 (run 2 All)) (sym one) ∙ live))
-    ]
-
-not_kept : IsKept 2 lost_dir All → ⊥
-not_kept kept =
-    let near : AreNeighbours 2 lost_dir First Rest = record {
-      begin = inr (record {
-        quiet = (quiet_is_told 2 (run 2 First)).0 refl;
-        before = made;
-        behind = heard;
-        split = refl;
-        held = refl;
-      });
-      end = inr (record {
-        quiet = (quiet_is_told 2 (run 2 All)).0 refl;
-        before = made;
-        behind = heard ++ Rest;
-        split = refl;
-        held = refl;
-      });
-      between = between;
-    } in
-    let stays : StaysGold 2 lost_dir First Rest = kept First (Remove 1) begun_anew [] refl near in
-    let last : IsGoldAt 2 (run 2 All) lost_dir stays.server stays.birth = stays.gold Rest [] refl in
-    let first : IsGoldAt 2 (run 2 First) lost_dir stays.server stays.birth = stays.gold [] Rest refl in
-    let other : stays.server ≡ 2 = only_the_other stays.server last.live in
-    let none : birth_at ((run 2 First).stores 2) lost_dir ≡ None = refl in
-    let there : birth_at ((run 2 First).stores 2) lost_dir ≡ Some stays.birth
-    = ap (λ s. birth_at ((run 2 First).stores s) lost_dir) (sym other) ∙ first.born in
-    nothing (sym none ∙ there)
-  where
-    nothing : {A : Type 0} {x : A} → None ≡ Some x → ⊥
-    nothing e = cc
+-- ---- a file and a directory whose one gold replica goes with its server
 
 pub loss_is_not_kept : LossIsNotKept
 loss_is_not_kept = record {
-  quiet = (quiet_is_told 2 (run 2 All)).0 refl;
-  lost = not_kept;
+  quiet = (quiet_is_told 2 (run 2 loss)).0 refl;
+  file = not_kept 2 lost_file made (Deliver 1) (drop 1 heard) (Remove 1) (drop 1 forgotten) refl refl refl refl refl looked_at;
+  directory = not_kept 2 lost_dir made (Deliver 1) (drop 1 heard) (Remove 1) (drop 1 forgotten) refl refl refl refl refl looked_at;
 }

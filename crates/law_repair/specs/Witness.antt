@@ -1,11 +1,12 @@
--- Runs by which the definitions are tried: one in which a thing is kept though a server is removed, and one in which all
--- gold replicas of a thing went between two moments.
+-- Runs by which the definitions are tried: one in which a thing is kept though a server is removed, and one in which the
+-- one gold replica of each of two things goes between two moments.
 use Rattle.std.specs.Prelude.{ℕ, List, [], ◌∷◌, ◌++◌}
 use Rattle.law_full.specs.pg_base.declared.id.FileId.{FileId}
-use Rattle.law_full.specs.pg_base.declared.id.Kind.TheVariants.{Dir}
-use Rattle.law_full.specs.pg_call.declared.call.Call.TheVariants.{Forget, Giveup, Mkdir}
+use Rattle.law_full.specs.pg_base.declared.id.Kind.TheVariants.{Dir, File}
+use Rattle.law_full.specs.pg_base.declared.policy.Policy.TheVariants.{Last}
+use Rattle.law_full.specs.pg_call.declared.call.Call.TheVariants.{Create, Forget, Giveup, Ls, Mkdir, Read, Rmdir}
 use Rattle.law_full.specs.pg_event.declared.event.Event.{Event}
-use Rattle.law_full.specs.pg_event.declared.event.Event.TheVariants.{Call, Deliver, Remove}
+use Rattle.law_full.specs.pg_event.declared.event.Event.TheVariants.{Call, Deliver, Remove, Tick}
 use Rattle.law_full.specs.pg_register.Place.{root}
 use Rattle.law_full.specs.pg_run.Graphs.{AreConnected}
 use Rattle.law_full.specs.pg_run.Quiet.{IsQuiet}
@@ -22,26 +23,42 @@ pub record RemovalKeepsTheRoot : Type 0 where
   pub quiet : IsQuiet 3 (run 3 removal)
   pub kept : IsKept 3 root removal
 
--- ---- a directory whose one gold replica goes with its server
+-- ---- a file and a directory that were on one server alone
+
+abbrev pub lost_file : FileId
+lost_file = record { kind = File; server = 1; number = 1 }
 
 abbrev pub lost_dir : FileId
-lost_dir = record { kind = Dir; server = 1; number = 1 }
+lost_dir = record { kind = Dir; server = 1; number = 2 }
 
--- it is made, and the other server hears of it
+-- they are made, as `/y` and `/d`, and the other server hears of both by their entries
 abbrev pub made : List Event
-made = Call 1 10 (Mkdir (47 ∷ 100 ∷ [])) ∷ []
+made = Call 1 10 (Create (47 ∷ 121 ∷ []) Last) ∷ Call 1 12 (Mkdir (47 ∷ 100 ∷ [])) ∷ []
 
 abbrev pub heard : List Event
-heard = Deliver 1 ∷ Deliver 1 ∷ Deliver 1 ∷ Deliver 1 ∷ []
+heard = Deliver 1 ∷ Deliver 1 ∷ Deliver 1 ∷ Deliver 1 ∷ Deliver 1 ∷ Deliver 1 ∷ Deliver 1 ∷ Deliver 1
+    ∷ []
 
--- its server goes, the other gives that up, and begins the directory anew
-abbrev pub begun_anew : List Event
-begun_anew = Call 2 20 (Giveup 1 1) ∷ Call 2 30 (Forget lost_dir) ∷ []
+-- their server goes, the other gives it up and asks in vain, until it is told to forget them
+abbrev pub forgotten : List Event
+forgotten = Remove 1 ∷ Call 2 21 (Giveup 1 1) ∷ Tick 2 30 0 ∷ Tick 2 30 0
+    ∷ Call 2 31 (Read (47 ∷ 121 ∷ []) 0 1) ∷ Call 2 32 (Forget lost_file)
+    ∷ Call 2 33 (Forget lost_dir) ∷ []
 
--- two servers: all is quiet behind it, and the directory was not kept
+-- the file's name is gone, and the directory, which began anew, is removed
+abbrev pub looked_at : List Event
+looked_at = Call 2 34 (Ls (47 ∷ []) 0) ∷ Call 2 35 (Rmdir (47 ∷ 100 ∷ []))
+    ∷ Call 2 36 (Giveup 1 1) ∷ Deliver 1 ∷ []
+
+-- the events of `what-was-lost-is-forgotten` among the examples
+abbrev pub loss : List Event
+loss = ((made ++ heard) ++ forgotten) ++ looked_at
+
+-- two servers: all is quiet behind it, and neither the file nor the directory was kept
 pub record LossIsNotKept : Type 0 where
-  pub quiet : IsQuiet 2 (run 2 ((made ++ heard) ++ Remove 1 ∷ begun_anew))
-  pub lost : IsKept 2 lost_dir ((made ++ heard) ++ Remove 1 ∷ begun_anew) → ⊥
+  pub quiet : IsQuiet 2 (run 2 loss)
+  pub file : IsKept 2 lost_file loss → ⊥
+  pub directory : IsKept 2 lost_dir loss → ⊥
 
 -- ---- the start
 

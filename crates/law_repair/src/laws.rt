@@ -64,8 +64,9 @@ pub fn kept_runs_are_repaired()
         → KeptDirectoriesAreBroughtBack servers }
 {}
 
-/// The definitions, tried on two runs: where a server is removed and the others give it up, the root was kept; where the one
-/// gold replica of a directory went with its server, the directory was not.
+/// The definitions, tried on runs: where a server is removed and the others give it up, the root was
+/// kept; where the one gold replica of a file, and that of a directory, went with their server,
+/// neither was.
 pub fn some_things_are_kept()
     ensures kept { RemovalKeepsTheRoot }
     ensures lost { LossIsNotKept }

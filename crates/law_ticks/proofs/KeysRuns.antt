@@ -10,10 +10,11 @@ use Rattle.pg_run.specs.pg_msg.Work.{new_work}
 use Rattle.pg_run.specs.pg_replica.declared.replica.Replica.{Replica}
 use Rattle.pg_run.specs.pg_replica.Root.{first_root}
 use Rattle.pg_run.specs.pg_store.declared.store.Store.{Store}
-use Rattle.pg_run.specs.pg_store.Store.{new_store, replica_at}
+use Rattle.pg_run.specs.pg_store.Store.{new_store, replica_at, with_names}
+use Rattle.pg_run.specs.pg_store.Views.{with_removed}
 use Rattle.pg_run.specs.pg_server.declared.input.Input.{Input}
 use Rattle.pg_run.specs.pg_server.declared.input.Input.TheVariants as input
-use Rattle.pg_run.specs.pg_server.Local.{effect, without_wishes}
+use Rattle.pg_run.specs.pg_server.Local.{effect, without_volatile}
 use Rattle.pg_run.proofs.theory_flood_pieces.Graphs.{new_clean}
 use Rattle.pg_run.specs.Run.{World, run}
 use Rattle.pg_run.proofs.Event.{Comes, IsKeptByParts, store_kept}
@@ -43,7 +44,9 @@ pieces = record {
   fill = λ a f h. fill_have a f h;
   goes = λ a f h. goes_have a f h;
   beside = λ a b names replicas h. unseen_have a b names replicas h;
-  removed = λ a server h. named_have a (remove_server a.names server) (removed_up a.names server) h;
+  removed = λ a server h.
+      unseen_have (with_names a (remove_server a.names server)) (with_removed a server) refl refl
+      (named_have a (remove_server a.names server) (removed_up a.names server) h);
   rules = λ a work h. ruled_have a work h;
 }
   where
@@ -66,7 +69,7 @@ parts : IsKeptByParts Any AllHaveCells
 parts = record {
   calls = λ a moment c h. called AllHaveCells pieces a c (new_work moment 0) h;
   arrivals = λ a packet heard came h. received AllHaveCells pieces a packet.message (new_work 0 packet.from) h;
-  restarts = λ a h. pieces.beside a (without_wishes a) refl refl h;
+  restarts = λ a h. pieces.beside a (without_volatile a) refl refl h;
   rules = λ d h. settled_left AllHaveCells pieces d.store d.work h;
   intentions = λ d h. intended_left AllHaveCells pieces d.store d.work h;
 }

@@ -42,7 +42,7 @@ use Rattle.pg_run.proofs.pg_replica.Heads.{head_cell, left_tag}
 use Rattle.pg_run.specs.pg_store.declared.store.Store.{Store}
 use Rattle.pg_run.specs.pg_store.Beginning.{begin, let_go, patches_of, put_new, take_patch, take_patches, take_told, take_told_in, with_intents}
 use Rattle.pg_run.specs.pg_store.Cells.{version_cell}
-use Rattle.pg_run.specs.pg_store.Store.{content_of, is_new_version, put_version, replica_at, take_version, with_drawn, with_names, write}
+use Rattle.pg_run.specs.pg_store.Store.{content_of, end_covered, is_new_version, put_version, replica_at, take_version, with_drawn, with_names, write}
 use Rattle.pg_run.specs.pg_cells.Settling.{rules}
 use Rattle.pg_run.proofs.theory_flood_pieces.Choices.{decided}
 use Rattle.pg_run.proofs.theory_flood_pieces.Stores.{Changes, by_file, replica_elsewhere, replica_here}
@@ -135,7 +135,7 @@ put_here x v t new =
 
 -- as `with_news` of this replica, or of none
 abbrev took : Store → FileId → VersionValue → Option Replica → Store
-took a f v o = with_names (with_drawn a (edge_count o) (replicas_taking a.replicas f v a.tags o)) (raise a.names v.head.stamp.time)
+took a f v o = end_covered (with_names (with_drawn a (edge_count o) (replicas_taking a.replicas f v a.tags o)) (raise a.names v.head.stamp.time)) f
 
 put_by : (a : Store) (f : FileId) (v : VersionValue) (o : Option Replica) → replica_at a f ≡ o → takes_version o v ≡ true → AllHaveCells a → AllHaveCells (took a f v o)
 put_by a f v None e new k = absurd (false≢true new)
@@ -152,7 +152,7 @@ version_have a f v k =
 
 -- a version that is made
 abbrev wrote : Store → FileId → Stamp → RangesValue → Option Replica → Store
-wrote a f stamp ranges o = with_names (with_drawn a (edge_count o) (replicas_writing a.replicas f stamp ranges a.tags o)) (raise a.names stamp.time)
+wrote a f stamp ranges o = end_covered (with_names (with_drawn a (edge_count o) (replicas_writing a.replicas f stamp ranges a.tags o)) (raise a.names stamp.time)) f
 
 write_by : (a : Store) (f : FileId) (stamp : Stamp) (ranges : RangesValue) (o : Option Replica) → replica_at a f ≡ o → AllHaveCells a → AllHaveCells (wrote a f stamp ranges o)
 write_by a f stamp ranges None e k = beside_have a (wrote a f stamp ranges None) refl (raised_up a.names stamp.time) k

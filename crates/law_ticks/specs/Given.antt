@@ -12,7 +12,7 @@ use Rattle.pg_run.specs.pg_pieces.Done.{idle}
 use Rattle.pg_run.specs.theory_flood_pieces.Whole.{IsWhole}
 use Rattle.pg_run.specs.pg_intentions.Beginning.{begin_end}
 use Rattle.pg_run.specs.pg_intentions.Requests.{request}
-use Rattle.pg_run.specs.pg_server.Local.{without_wishes}
+use Rattle.pg_run.specs.pg_server.Local.{without_volatile}
 use Rattle.pg_run.specs.Golds.{FullReplicasSeeGold}
 use Rattle.pg_run.specs.Laws.{AtEach, HouseIsInOrder, names_after, store_after}
 
@@ -40,7 +40,7 @@ pub record IntentionsAreStill (servers : ℕ) : Type 0 where
   pub still : (events : List Event)
       → AtEach servers (λ s. StaysIntended (store_after servers events s))
   pub still_without : (events : List Event)
-      → AtEach servers (λ s. StaysIntended (without_wishes (store_after servers events s)))
+      → AtEach servers (λ s. StaysIntended (without_volatile (store_after servers events s)))
   pub asked : (events : List Event)
       → AtEach servers (λ s. HaveRequests (store_after servers events s))
 

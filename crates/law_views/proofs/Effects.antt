@@ -60,7 +60,7 @@ use Rattle.law_views.proofs.Ends.{intended_seen, settled_seen}
 use Rattle.law_views.proofs.Entering.{enter_seen}
 use Rattle.law_views.proofs.Fine.{IsFine, IsOfLive, IsSent, sent_is}
 use Rattle.law_views.proofs.Handled.{receive_fine}
-use Rattle.law_views.proofs.Seen.{IsSeen, seen_fewer}
+use Rattle.law_views.proofs.Seen.{IsSeen}
 use Rattle.law_views.proofs.Targets.{live_parts}
 use Rattle.law_views.specs.Premises.{FlagsAreOf}
 
@@ -288,7 +288,13 @@ module _ (n s : ℕ) (a : Store) (k : IsSeen n s a.names.removed a) (together : 
   restart_goes : Goes n s a input.Restart (first_effect a input.Restart)
   restart_goes =
       stays input.Restart (first_effect a input.Restart) (record {
-        seen = seen_fewer n s Now a [] (λ q w there. absurd (none-some w there)) k;
+        seen = record {
+          removed = k.removed;
+          server = k.server;
+          servers = k.servers;
+          edges = k.edges;
+          wishes = λ q w there. absurd (none-some w there);
+        };
         sent = All-nil (IsSent n s Now);
       }) (All-nil (IsSent n s Now))
 

@@ -16,7 +16,8 @@ fn words(rt: &HostRuntime) -> io::Result<Vec<String>> {
     Ok(words)
 }
 
-/// How the program ends where its words could not be had. Which word is no text is not known, so it is told as word 1.
+/// How the program ends where its words could not be had. Which word is no text is not known, so it
+/// is told as word 1.
 fn wordless(error: &io::Error) -> Ending {
     match error.kind() {
         ErrorKind::InvalidData => Ending::Usage(1),

@@ -19,7 +19,8 @@ pub enum Target {
     Id(FileId),
 }
 
-/// What a client asks of a server. The text of a path is as the client wrote it: whether it is one, the server tells.
+/// What a client asks of a server. The text of a path is as the client wrote it: whether it is one,
+/// the server tells.
 #[derive(Debug, Drop)]
 pub enum Call {
     /// A new directory.

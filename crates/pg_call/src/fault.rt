@@ -9,7 +9,8 @@ pub enum Fault {
     Byte,
     /// It has more than 70,000 bytes, its line feed not counted.
     Long,
-    /// The text ends where its line feed should stand. A text of no byte has no line that could be ended.
+    /// The text ends where its line feed should stand. A text of no byte has no line that could be
+    /// ended.
     End,
     /// It is the first line, and does not name the format and from 1 to 64 servers.
     Header,
@@ -21,7 +22,8 @@ pub enum Fault {
     Number,
     /// The leftmost bad word is to be an id, or a path or an id.
     Id,
-    /// The leftmost bad word is to be bytes: no dash, no pairs of digits in lower case, or more than one write has.
+    /// The leftmost bad word is to be bytes: no dash, no pairs of digits in lower case, or more
+    /// than one write has.
     Hex,
     /// The leftmost bad word is to be `last` or `join`.
     Policy,

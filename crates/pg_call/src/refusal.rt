@@ -34,11 +34,12 @@ pub enum Unsettled {
 /// Why a server refuses what a client asks for, in the order in which the reasons are tried.
 #[derive(Clone, Copy, Debug, PartialEq, Eq)]
 pub enum Refusal {
-    /// The component with this number breaks the grammar of paths, or is to be a new name and is no client name. 0: no
-    /// slash in front, and where an id may stand no id; 65: over 64 components; 66: over 4,096 bytes.
+    /// The component with this number breaks the grammar of paths, or is to be a new name and is no
+    /// client name. 0: no slash in front, and where an id may stand no id; 65: over 64 components;
+    /// 66: over 4,096 bytes.
     BadPath(u8),
-    /// The server's clock is at its end: its greatest time, a counter, or a number of its own in the file, is 2^62 or
-    /// more.
+    /// The server's clock is at its end: its greatest time, a counter, or a number of its own in
+    /// the file, is 2^62 or more.
     ClockEnd,
     /// This is not held here, or is held and not full.
     NotYet(FileId),
@@ -76,7 +77,8 @@ pub enum Refusal {
     },
     /// It is held here, and full.
     Held,
-    /// The server is in this view, and the one asked for is not the next, or not of another live server.
+    /// The server is in this view, and the one asked for is not the next, or not of another live
+    /// server.
     WrongView(u64),
     /// The new version's vector would have more than 256 actors.
     ManyActors,

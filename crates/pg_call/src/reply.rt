@@ -42,7 +42,8 @@ pub struct Counts {
     pub held: u64,
 }
 
-/// What a client is told. What is large is shared, since each event moves a reply, or the room for one.
+/// What a client is told. What is large is shared, since each event moves a reply, or the room for
+/// one.
 #[derive(Debug, Drop)]
 pub enum Reply {
     /// It was done.

@@ -14,7 +14,7 @@ abbrev empty : Policy → ContentValue
 empty policy = record { policy = policy; heads = [] }
 
 abbrev with_content : Replica → ContentValue → Replica
-with_content x content = record { birth = x.birth; content = content; edges = x.edges }
+with_content x content = record x { content = content }
 
 content_is : (x : Replica) → x.content.heads ≡ [] → x ≡ with_content x (empty x.content.policy)
 content_is x none = ap (λ h. with_content x (record { policy = x.content.policy; heads = h })) none

@@ -3,9 +3,8 @@
 ghost use Rattle.std.specs.Prelude.{◌≤◌};
 
 use crate::streams::{numbers, tell_done};
-use pg_base::Bytes;
 use pg_disk::{Disk, MemoryDisk, cut_synced, write_synced};
-use pg_rows::{Stage, narrow, put, unread, wide, word};
+use pg_rows::{Answer, Stage, narrow, wide, word};
 use std::alloc::{AllocError, Global};
 
 /// The number of a file at this index.
@@ -32,8 +31,9 @@ impl Files {
         }
     }
 
-    /// `write FILE AT TEXT`, `cut FILE LENGTH`, and the same with `-synced`; `sync FILE`; `choose NAME`, the name `n` or none.
-    fn change(&mut self, words: &[&[u8]], out: &mut Bytes) -> Result<(), AllocError> {
+    /// `write FILE AT TEXT`, `cut FILE LENGTH`, and the same with `-synced`; `sync FILE`; `choose
+    /// NAME`, the name `n` or none.
+    fn change(&mut self, words: &[&[u8]], out: &mut Answer) {
         let file = file(words, 1);
         let at = wide(words, 2);
         let disk = &mut self.disk;
@@ -45,25 +45,25 @@ impl Files {
             b"sync" => disk.sync(file),
             _ => disk.choose(if word(words, 1).is_empty() { "" } else { "n" }),
         };
-        tell_done(answer, out)
+        tell_done(answer, out);
     }
 
     /// `read FILE AT`: how many bytes come, and what is in the room then.
-    fn read(&mut self, words: &[&[u8]], out: &mut Bytes) -> Result<(), AllocError> {
+    fn read(&mut self, words: &[&[u8]], out: &mut Answer) {
         match self
             .disk
             .read(file(words, 1), wide(words, 2), &mut self.room)
         {
             Ok(count) => {
-                write!(out, "{} ", count)?;
-                out.extend(self.room.as_slice())
+                write!(out, "{} ", count);
+                out.put(self.room.as_slice());
             }
             Err(failed) => tell_done(Err(failed), out),
         }
     }
 
     /// `length FILE`
-    fn length(&mut self, words: &[&[u8]], out: &mut Bytes) -> Result<(), AllocError> {
+    fn length(&mut self, words: &[&[u8]], out: &mut Answer) {
         match self.disk.length(file(words, 1)) {
             Ok(length) => write!(out, "{}", length),
             Err(failed) => tell_done(Err(failed), out),
@@ -72,20 +72,20 @@ impl Files {
 }
 
 impl Stage for Files {
-    fn step(&mut self, words: &[&[u8]], out: &mut Bytes) -> Result<(), AllocError> {
+    fn step(&mut self, words: &[&[u8]], out: &mut Answer) -> Result<(), AllocError> {
         match word(words, 0) {
             b"fails" => {
                 self.disk = MemoryDisk::new(self.alloc, numbers(self.alloc, words, 1)?);
-                Ok(())
             }
             b"read" => self.read(words, out),
             b"length" => self.length(words, out),
-            b"bytes" => put(&self.disk.bytes(file(words, 1))?, out),
+            b"bytes" => out.show(&self.disk.bytes(file(words, 1))?),
             b"faults" => write!(out, "{}", self.disk.faults()),
             b"write" | b"write-synced" | b"cut" | b"cut-synced" | b"sync" | b"choose" => {
                 self.change(words, out)
             }
-            _ => unread(out),
+            _ => out.unread(),
         }
+        Ok(())
     }
 }

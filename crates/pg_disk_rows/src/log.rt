@@ -1,10 +1,10 @@
 //! A log on a disk in memory.
 
 use crate::streams::{numbers, tell_done};
-use pg_base::{Bytes, SharedBytes};
+use pg_base::SharedBytes;
 use pg_disk::{MemoryDisk, write_synced};
 use pg_log::{Log, LogError};
-use pg_rows::{Stage, unread, word};
+use pg_rows::{Answer, Stage, word};
 use pg_words::{HexWord, read_hex_word};
 use std::alloc::{AllocError, Global};
 
@@ -37,15 +37,14 @@ impl Opened {
     }
 
     /// `open`: the entries, or why it does not open.
-    fn open(&mut self, out: &mut Bytes) -> Result<(), AllocError> {
+    fn open(&mut self, out: &mut Answer) {
         match Log::open(self.alloc, &mut self.disk) {
             Ok((log, records)) => {
                 self.log = Some(log);
-                write!(out, "{} entries", records.len())?;
+                write!(out, "{} entries", records.len());
                 for entry in records.as_slice() {
-                    write!(out, " {}", HexWord(entry.as_slice()))?;
+                    write!(out, " {}", HexWord(entry.as_slice()));
                 }
-                Ok(())
             }
             Err(error) => write!(out, "{}", error),
         }
@@ -63,52 +62,55 @@ impl Opened {
     }
 
     /// `append DIGITS`
-    fn append(&mut self, words: &[&[u8]], out: &mut Bytes) -> Result<(), AllocError> {
+    fn append(&mut self, words: &[&[u8]], out: &mut Answer) -> Result<(), AllocError> {
         let entry = hex(self.alloc, words, 1)?;
         match self.appended(entry.as_slice()) {
             Some(Ok(())) => {
                 self.appended = self.appended.saturating_add(1);
-                out.extend(b"ok")
+                out.put(b"ok");
             }
             Some(Err(error)) => write!(out, "{}", error),
-            None => out.extend(b"not open"),
+            None => out.put(b"not open"),
         }
+        Ok(())
     }
 
-    /// `left`: whether what is on the disk opens to the entries whose appends answered Ok, and at most one more.
-    fn left(&self, out: &mut Bytes) -> Result<(), AllocError> {
+    /// `left`: whether what is on the disk opens to the entries whose appends answered Ok, and at
+    /// most one more.
+    fn left(&self, out: &mut Answer) -> Result<(), AllocError> {
         let mut disk = MemoryDisk::new(self.alloc, Vec::new(self.alloc));
         let _ = write_synced(&mut disk, 0, 0, &self.disk.bytes(0)?);
         match Log::open(self.alloc, &mut disk) {
             Ok((_log, records)) => {
                 let more = records.len().checked_sub(self.appended);
                 match more {
-                    Some(0) | Some(1) => out.extend(b"what was appended"),
+                    Some(0) | Some(1) => out.put(b"what was appended"),
                     _ => write!(out, "{} entries", records.len()),
                 }
             }
             Err(error) => write!(out, "{}", error),
         }
+        Ok(())
     }
 }
 
 impl Stage for Opened {
-    fn step(&mut self, words: &[&[u8]], out: &mut Bytes) -> Result<(), AllocError> {
+    fn step(&mut self, words: &[&[u8]], out: &mut Answer) -> Result<(), AllocError> {
         match word(words, 0) {
             b"fails" => {
                 self.disk = MemoryDisk::new(self.alloc, numbers(self.alloc, words, 1)?);
-                Ok(())
             }
             b"file" => {
                 let file = hex(self.alloc, words, 1)?;
-                tell_done(write_synced(&mut self.disk, 0, 0, file.as_slice()), out)
+                tell_done(write_synced(&mut self.disk, 0, 0, file.as_slice()), out);
             }
             b"open" => self.open(out),
-            b"append" => self.append(words, out),
+            b"append" => self.append(words, out)?,
             b"bytes" => write!(out, "{}", HexWord(&self.disk.bytes(0)?)),
             b"size" => write!(out, "{}", self.disk.bytes(0)?.len()),
-            b"left" => self.left(out),
-            _ => unread(out),
+            b"left" => self.left(out)?,
+            _ => out.unread(),
         }
+        Ok(())
     }
 }

@@ -1,10 +1,11 @@
-//! Rows: each line of the input is calls of things in memory that stand for the outside (bytes that are read and written,
-//! disks, logs and checkpoints on them, nets, clocks and programs), and each line of the output is what they answer. The
-//! things in memory are told which of their calls are to fail: the first call has number 0.
+//! Rows: each line of the input is calls of things in memory that stand for the outside (bytes that
+//! are read and written, disks, logs and checkpoints on them, nets, clocks and programs), and each
+//! line of the output is what they answer. The things in memory are told which of their calls are
+//! to fail: the first call has number 0.
 //!
-//! A row is a verb and pieces, with a bar between two of them, that are done one after another. The answers are those of
-//! docs/FORMATS.md and of what a file may hold after a crash, and never this program's own. The real things behind the
-//! same traits are tried in `pg_fault_tests`.
+//! A row is a verb and pieces, with a bar between two of them, that are done one after another. The
+//! answers are those of docs/FORMATS.md and of what a file may hold after a crash, and never this
+//! program's own. The real things behind the same traits are tried in `pg_fault_tests`.
 #![tactic(auto)]
 
 mod disk;
@@ -13,14 +14,14 @@ mod nets;
 mod slots;
 mod streams;
 
-use pg_base::{Bytes, cut_at};
-use pg_rows::{play, unread};
+use pg_base::cut_at;
+use pg_rows::{Answer, play};
 use std::alloc::{AllocError, Global};
 use std::io;
 use std::io::Write;
 
 /// What the call of the row answers.
-fn answer(alloc: Global, row: &[u8], out: &mut Bytes) -> Result<(), AllocError> {
+fn answer(alloc: Global, row: &[u8], out: &mut Answer) -> Result<(), AllocError> {
     let (verb, rest) = cut_at(row, b' ').unwrap_or((row, b""));
     match verb {
         b"source" => streams::source(alloc, rest, out),
@@ -31,17 +32,20 @@ fn answer(alloc: Global, row: &[u8], out: &mut Bytes) -> Result<(), AllocError> 
         b"net" => play(alloc, &mut nets::Packets::new(alloc), rest, out),
         b"clock" => nets::clock(alloc, rest, out),
         b"programs" => play(alloc, &mut nets::Started::new(alloc), rest, out),
-        _ => unread(out),
+        _ => {
+            out.unread();
+            Ok(())
+        }
     }
 }
 
 fn main(rt: HostRuntime) -> io::Result<()> {
     for line in rt.lines(rt.alloc()) {
         let line = line?;
-        let mut out = Bytes::new(rt.alloc());
+        let mut out = Answer::new(rt.alloc());
         answer(rt.alloc(), line.as_bytes(), &mut out)?;
-        out.push(b'\n')?;
-        rt.stdout().write_all(out.as_slice())?;
+        out.push(b'\n');
+        rt.stdout().write_all(out.end()?.as_slice())?;
     }
     Ok(())
 }

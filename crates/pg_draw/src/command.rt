@@ -85,14 +85,15 @@ fn text_of(alloc: Global, input: &[u8]) -> Result<Bytes, NoText>
     }
 }
 
-/// Reads a journal and writes its picture. Nothing is written, and no line is found bad, before the whole input was read.
+/// Reads a journal and writes its picture. Nothing is written, and no line is found bad, before the
+/// whole input was read.
 pub fn picture<S: Source, K: Sink>(alloc: Global, source: &mut S, sink: &mut K) -> Ending
     // What is written: the picture of the journal, whole.
     ensures done { result ≡ Ending.Done
         → WritesAll (S.remaining source.old) (K.contents sink.old) (K.contents sink.new) }
     ensures whole { result ≡ Ending.Done → IsAtEnd (S.remaining source.new) }
     ensures whole_first { result ≡ Ending.WriteFault → IsAtEnd (S.remaining source.new) }
-    ensures front { result ≡ Ending.WriteFault
+    ensures prefix { result ≡ Ending.WriteFault
         → WritesPrefix (S.remaining source.old) (K.contents sink.old) (K.contents sink.new) }
     ensures untouched { result ≢ Ending.Done → result ≢ Ending.WriteFault → sink.new ≡ sink.old }
 
@@ -156,7 +157,7 @@ pub fn run<S: Source, K: Sink>(
         → WritesAll (S.remaining source.old) (K.contents sink.old) (K.contents sink.new) }
     ensures whole { result ≡ Ending.Done → IsAtEnd (S.remaining source.new) }
     ensures whole_first { result ≡ Ending.WriteFault → IsAtEnd (S.remaining source.new) }
-    ensures front { result ≡ Ending.WriteFault
+    ensures prefix { result ≡ Ending.WriteFault
         → WritesPrefix (S.remaining source.old) (K.contents sink.old) (K.contents sink.new) }
     ensures untouched { result ≢ Ending.Done → result ≢ Ending.WriteFault → sink.new ≡ sink.old }
 
@@ -190,8 +191,8 @@ pub fn run<S: Source, K: Sink>(
         → ¬ (Rose (K.faults sink.old) (K.faults sink.new))
         → EndsOnly result Ending.Done }
 
-    // What is drawn is what the journal says: a mark for each event, and one arrow, cross, fork or open
-    // end for each message. What a text holds cannot break the picture.
+    // What is drawn is what the journal says: a mark for each event, and one arrow, cross, fork or
+    // open end for each message. What a text holds cannot break the picture.
     ensures counted { (journal : List JournalLine) (s : Sketch) → draw journal ≡ Drawn s
         → IsWholePicture journal s }
     ensures escaped { (text : List ℕ) → IsXmlText (escaped text) }

@@ -20,7 +20,8 @@ pub enum Ending {
     WriteFault,
     /// The input has more than 2^26 bytes.
     InputLong,
-    /// The line with this number is the first that is none of a journal, for this cause. The first line has number 1.
+    /// The line with this number is the first that is none of a journal, for this cause. The first
+    /// line has number 1.
     BadLine(u64, Fault),
     /// The line with this number is the first that lacks something.
     Lacks(u64, Lack),

@@ -1,4 +1,23 @@
 //! What a directory knows of its children, and the names that it shows.
+//!
+//! An `entry` is a child's id with the place and the flags that this directory knows; `entries`
+//! has one for each child, by id, and joins what comes. `claim` and `tilde` say which child shows
+//! the plain name and which its name with a tilde and its id; `listing` gives the rows, whole or
+//! a page. A `cell` is what an edge carries: a version, a place, flags or an entry.
+//!
+//! It touches no replica and no message: which entries there are is for the house rules.
+//!
+//! Kept by the type: entries stand at their own child, by id. Of two listed children of one name
+//! the one with the earlier stamp shows it plain, and of equal stamps the one of lesser id. Where
+//! names outside the rule make two children show one name, a look-up gives the one of lesser id,
+//! and a listing has both rows. A look-up reads the id behind a tilde with the id's own reader,
+//! and takes no memory; a listing keeps the first claim on each name in a map, and sorts once. A
+//! page is cut from the whole listing, whose rows share the bytes of names.
+//!
+//! Definitions: `specs/Entry`, `Names`, `Shown`, `Firsts`, and `EntriesInside` for the map behind
+//! the type. The laws: shown names differ, and each row is found by its name. docs/RULES.md:
+//! "Entries of a directory", "Shown names", "Cells". A further kind of cell is a case of `Cell`,
+//! with its key in `pg_edges`, and `key_of` in `pg_msg` joins the two.
 #![tactic(auto)]
 
 mod cell;

@@ -66,8 +66,8 @@ pub fn one_void_spelling()
     ensures { (a b : VoidCause) → void_word a ≡ void_word b → a ≡ b }
 {}
 
-/// One event of a run: what it was, why it was void if it was, what the client was told, what was made and which messages
-/// were sent.
+/// One event of a run: what it was, why it was void if it was, what the client was told, what was
+/// made and which messages were sent.
 #[derive(Debug, Drop)]
 pub struct Entry {
     pub event: Event,

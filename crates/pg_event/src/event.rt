@@ -22,7 +22,8 @@ pub enum Event {
         moment: u64,
         word: u64,
     },
-    /// The message with this number in the bag arrives. Messages are counted from 1, in order of sending.
+    /// The message with this number in the bag arrives. Messages are counted from 1, in order of
+    /// sending.
     Deliver(u64),
     /// It is lost.
     Lose(u64),

@@ -19,7 +19,8 @@ pub enum Status {
     WriteFault,
     /// The input has more than 2^26 bytes.
     InputLong,
-    /// The line with this number is the first outside the grammar, for this cause. The first line has number 1.
+    /// The line with this number is the first outside the grammar, for this cause. The first line
+    /// has number 1.
     BadLine(u64, Fault),
     OutOfMemory,
 }

@@ -1,5 +1,5 @@
-//! Worked pictures, and each way in which the program that draws them ends. Further pictures stand in docs/pictures, and
-//! `examples/pictures` compares them.
+//! Worked pictures, and each way in which the program that draws them ends. Further pictures stand
+//! in docs/pictures, and `examples/pictures` compares them.
 
 use pg_call::Fault;
 use pg_draw::{Ending, run};
@@ -59,7 +59,8 @@ const PIECES: [&[u8]; 7] = [
     b">call 9 5 mkdir /a&lt;b&amp;c -&gt; void no-server</text>\n",
 ];
 
-/// A message is under way to a server when it is removed, one from it stays, and one is sent to it later.
+/// A message is under way to a server when it is removed, one from it stays, and one is sent to it
+/// later.
 const REMOVAL: &[u8] = b"event 3 call 1 10 write /x 0 61\n\
               call 1 write -> wrote 10@1\n\
               sent 1 2 cell f1.1 version:10@1\n\

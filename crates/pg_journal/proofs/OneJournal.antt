@@ -4,8 +4,8 @@ use Rattle.pg_call.specs.declared.fault.Fault.{Fault}
 use Rattle.pg_trace.specs.declared.journal_line.JournalLine.{JournalLine}
 use Rattle.pg_trace.specs.JournalLine.{printed_body, journal_spelling, ArePrinted, IsPrinted}
 use Rattle.pg_journal.specs.Journal.{LacksPrinted, IsOtherFault, IsFirstOther}
-use Rattle.pg_journal.proofs.OnePrinted.{one_printed}
-use Rattle.pg_journal.proofs.PrintedWords.{printed_body-lacks}
+use Rattle.pg_journal_lines.proofs.OnePrinted.{one_printed}
+use Rattle.pg_journal_lines.proofs.PrintedWords.{printed_body-lacks}
 use Rattle.pg_words.proofs.Readings as lines
 use Rattle.pg_words.proofs.Readings.{same_lines, stops_nowhere, stops_once}
 

@@ -1,4 +1,1 @@
-pub mod Reason
-pub mod Told
-pub mod Reading
 pub mod Journal

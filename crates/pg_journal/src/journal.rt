@@ -9,9 +9,9 @@ ghost use Rattle.pg_trace.specs.JournalLine.{IsPrinted, ArePrinted, printed_text
 ghost use Rattle.pg_journal.specs.declared.journal.Stop.TheVariants as stop;
 ghost use Rattle.pg_trace.specs.declared.journal_line.JournalLine.{JournalLine};
 
-use crate::reading::read_printed;
 use pg_base::{Items, cut_at};
 use pg_call::Fault;
+use pg_journal_lines::read_printed;
 use pg_sched::ReadError;
 use pg_trace::JournalLine;
 use std::alloc::{AllocError, Global};
@@ -72,7 +72,8 @@ fn lines_of(alloc: Global, text: &[u8]) -> Result<Vec<JournalLine>, ReadError>
 
 /// The journal that the text spells. The text of no byte is the journal of no line.
 ///
-/// The error names the first line that is none of a journal: `End` where no line feed ends it, and else `Verb`.
+/// The error names the first line that is none of a journal: `End` where no line feed ends it, and
+/// else `Verb`.
 pub fn read_journal(alloc: Global, text: &[u8]) -> Result<Items<JournalLine>, ReadError>
     ensures found { IfOk result (λ j. AllByRecursion IsPrinted j
         × (text.now ≡ journal_spelling j)) }

@@ -1,34 +1,19 @@
-//! Journals, and the replies and refusals that stand in them, read again: the mirror of `pg_trace`.
+//! Journals, read again.
 //!
-//! A journal is a list of lines, of which some begin an event and the others tell what it did (docs/FORMATS.md, "The
-//! journal"). `journal` splits the text and finds the first line that is none; `reading` reads one line, by the verb
-//! that `verb` finds in front of it; `told` reads what is answered to a call or a tick, and `replica` what is shown of a
-//! replica. `reply` and `refusal` read what a client is told, from the words of a line or of a server's answer, and
-//! `only` words of which there is one alone.
+//! A journal is a list of lines, of which some begin an event and the others tell what it did
+//! (docs/FORMATS.md, "The journal"). `journal` splits a text into lines, each read by
+//! `pg_journal_lines`, and finds the first that is none.
 //!
-//! It touches texts alone: it runs nothing, and asks no server whether a line is true. Nothing is repaired: a line is
-//! read exactly where it is the one spelling of what it tells, so whoever prints what was read has the same text again,
-//! and no two journals have one text (`one_journal`, `one_reply_spelling`, `one_refusal_spelling`). The fault of a text
-//! is that of its first line that is none, with its number.
+//! It touches texts alone: it runs nothing, and asks no server whether a line is true. Nothing is
+//! repaired, so whoever prints what was read has the same text again, and no two journals have one
+//! text (`one_journal`). The fault of a text is that of its first line that is none, with its
+//! number.
 //!
-//! The spellings are those of `pg_trace` and `pg_call`; `specs/Journal` and `specs/Reading` say when a text is a
-//! journal, and `specs/Told` and `specs/Reason` which words stand behind the first of a reply and of a refusal.
-//!
-//! A new reply: its kind in `pg_call`, one line of each table in `specs/Told`, one arm of `reply_of`; a new refusal: the
-//! same in `specs/Reason` and `refusal_of`. A new line of a journal: its spelling in `pg_trace`, its verb in `verb`, and
-//! one arm in `reading`.
+//! `specs/Journal` says when a text is a journal, and which is its first line that is none. What a
+//! line says is read below, so a new line changes nothing here: this crate has the edits that the
+//! prover must refuse of readers of journals, and these cost what stands in it alone.
 #![tactic(auto)]
 
 mod journal;
-mod only;
-mod reading;
-mod refusal;
-mod replica;
-mod reply;
-mod told;
-mod verb;
 
 pub use journal::{one_journal, read_journal};
-pub use only::only_id;
-pub use refusal::{one_intent_spelling, one_refusal_spelling, read_refusal};
-pub use reply::{one_reply_spelling, read_reply};

@@ -1,9 +1,9 @@
 //! Edges of a replica, and the keys that are not acknowledged on them.
 
-use pg_base::{Bytes, cut_at, number};
+use pg_base::{cut_at, number};
 use pg_edges::{Edge, Edges, Key, Keys};
 use pg_msg::{KeyWord, read_key};
-use pg_rows::{Stage, narrow, play, tell, tell_number, unread, wide, word, words_from, words_of};
+use pg_rows::{Answer, Stage, narrow, play, wide, word, words_from};
 use std::alloc::{AllocError, Global};
 use std::mem::swap;
 
@@ -18,13 +18,12 @@ fn key(words: &[&[u8]], index: usize) -> Key {
 }
 
 /// The keys and their tags.
-fn show(keys: &Keys, out: &mut Bytes) -> Result<(), AllocError> {
-    write!(out, "{}", keys.len())?;
-    out.extend(if keys.is_empty() { b" (empty)" } else { b"" })?;
+fn show(keys: &Keys, out: &mut Answer) {
+    write!(out, "{}", keys.len());
+    out.put(if keys.is_empty() { b" (empty)" } else { b"" });
     for (key, tag) in keys.as_slice() {
-        write!(out, " {}={}", KeyWord(*key), tag)?;
+        write!(out, " {}={}", KeyWord(*key), tag);
     }
-    Ok(())
 }
 
 #[derive(Drop)]
@@ -34,31 +33,23 @@ struct Marks {
 }
 
 impl Stage for Marks {
-    fn step(&mut self, words: &[&[u8]], out: &mut Bytes) -> Result<(), AllocError> {
+    fn step(&mut self, words: &[&[u8]], out: &mut Answer) -> Result<(), AllocError> {
         match word(words, 0) {
-            b"set" => self.keys.set(key(words, 1), wide(words, 2)),
-            b"remove" => {
-                self.keys.remove(&key(words, 1));
-                Ok(())
-            }
-            b"get" => tell_number(self.keys.get(&key(words, 1)), out),
-            b"entry" => tell(self.keys.has_entry(), out),
+            b"set" => self.keys.set(key(words, 1), wide(words, 2))?,
+            b"remove" => self.keys.remove(&key(words, 1)),
+            b"get" => out.tell_number(self.keys.get(&key(words, 1))),
+            b"entry" => out.tell(self.keys.has_entry()),
             b"show" => show(&self.keys, out),
-            b"copy" => {
-                self.other = self.keys.copy()?;
-                Ok(())
-            }
-            b"swap" => {
-                swap(&mut self.keys, &mut self.other);
-                Ok(())
-            }
-            _ => unread(out),
+            b"copy" => self.other = self.keys.copy()?,
+            b"swap" => swap(&mut self.keys, &mut self.other),
+            _ => out.unread(),
         }
+        Ok(())
     }
 }
 
 /// `keys set KEY TAG|..`: keys with their tags. `copy` keeps a copy, and `swap` goes on with that.
-pub fn keys(alloc: Global, row: &[u8], out: &mut Bytes) -> Result<(), AllocError> {
+pub fn keys(alloc: Global, row: &[u8], out: &mut Answer) -> Result<(), AllocError> {
     let mut marks = Marks {
         keys: Keys::new(alloc),
         other: Keys::new(alloc),
@@ -67,14 +58,12 @@ pub fn keys(alloc: Global, row: &[u8], out: &mut Bytes) -> Result<(), AllocError
 }
 
 /// `order KEY..`: of each but the first whether it stands behind the one before.
-pub fn order(alloc: Global, row: &[u8], out: &mut Bytes) -> Result<(), AllocError> {
-    let words = words_of(alloc, row)?;
+pub fn order(words: &[&[u8]], out: &mut Answer) {
     for index in 1..words.len() {
-        let (before, now) = (key(&words, index - 1), key(&words, index));
-        tell(before < now && before.compare(&now).is_lt(), out)?;
-        out.push(b' ')?;
+        let (before, now) = (key(words, index - 1), key(words, index));
+        out.tell(before < now && before.compare(&now).is_lt());
+        out.push(b' ');
     }
-    Ok(())
 }
 
 /// The keys `KEY=TAG` from this index on.
@@ -98,22 +87,25 @@ struct Linked {
 
 impl Linked {
     /// `link PEER BIRTH KEY..`: whether that made an edge.
-    fn link(&mut self, words: &[&[u8]], out: &mut Bytes) -> Result<(), AllocError> {
+    fn link(&mut self, words: &[&[u8]], out: &mut Answer) -> Result<(), AllocError> {
         let mut keys = Vec::new(self.alloc);
         for word in words_from(words, 3) {
             keys.push(key_of(word))?;
         }
         if self.tags >= 1 << 62 || keys.len() >= 1 << 62 {
-            return unread(out);
+            out.unread();
+            return Ok(());
         }
         let (peer, birth) = (narrow(words, 1), wide(words, 2));
-        tell(self.edges.link(peer, birth, &keys, &mut self.tags)?, out)
+        out.tell(self.edges.link(peer, birth, &keys, &mut self.tags)?);
+        Ok(())
     }
 
     /// `touch KEY`
-    fn touch(&mut self, words: &[&[u8]], out: &mut Bytes) -> Result<(), AllocError> {
+    fn touch(&mut self, words: &[&[u8]], out: &mut Answer) -> Result<(), AllocError> {
         if self.tags >= 1 << 62 || self.edges.len() >= 1 << 62 {
-            return unread(out);
+            out.unread();
+            return Ok(());
         }
         self.edges.touch(key(words, 1), &mut self.tags)
     }
@@ -129,34 +121,34 @@ impl Linked {
     }
 
     /// The peers and their births, by index, and the next tag.
-    fn show(&self, out: &mut Bytes) -> Result<(), AllocError> {
-        write!(out, "{}:", self.edges.len())?;
+    fn show(&self, out: &mut Answer) {
+        write!(out, "{}:", self.edges.len());
         for index in 0..self.edges.len() {
             if let Some(edge) = self.edges.at(index) {
-                write!(out, " {}.{}", edge.peer, edge.birth)?;
+                write!(out, " {}.{}", edge.peer, edge.birth);
             }
         }
-        write!(out, ", tag {}", self.tags)
+        write!(out, ", tag {}", self.tags);
     }
 
-    fn ask(&mut self, words: &[&[u8]], out: &mut Bytes) -> Result<(), AllocError> {
+    fn ask(&mut self, words: &[&[u8]], out: &mut Answer) {
         let (peer, birth) = (narrow(words, 1), wide(words, 2));
         match word(words, 0) {
             b"ack" => {
                 let tag = wide(words, 4);
-                tell(self.edges.ack(peer, birth, key(words, 3), tag), out)
+                out.tell(self.edges.ack(peer, birth, key(words, 3), tag));
             }
-            b"clean" => tell(self.edges.is_clean(peer, birth), out),
-            b"makes" => tell(self.edges.makes_edge(peer, birth), out),
-            b"tag" => tell_number(self.edges.tag(peer, birth, key(words, 3)), out),
+            b"clean" => out.tell(self.edges.is_clean(peer, birth)),
+            b"makes" => out.tell(self.edges.makes_edge(peer, birth)),
+            b"tag" => out.tell_number(self.edges.tag(peer, birth, key(words, 3))),
             b"show" => self.show(out),
-            _ => unread(out),
+            _ => out.unread(),
         }
     }
 }
 
 impl Stage for Linked {
-    fn step(&mut self, words: &[&[u8]], out: &mut Bytes) -> Result<(), AllocError> {
+    fn step(&mut self, words: &[&[u8]], out: &mut Answer) -> Result<(), AllocError> {
         match word(words, 0) {
             b"link" => self.link(words, out)?,
             b"touch" => self.touch(words, out)?,
@@ -166,15 +158,15 @@ impl Stage for Linked {
             b"take" => self.edges.take_out(narrow(words, 1)),
             b"copy" => self.other = self.edges.copy()?,
             b"swap" => swap(&mut self.edges, &mut self.other),
-            _ => self.ask(words, out)?,
+            _ => self.ask(words, out),
         }
         Ok(())
     }
 }
 
-/// `edges link PEER BIRTH KEY..|..`: edges, of which the first key gets tag 1. `copy` keeps a copy, and `swap` goes on with
-/// that.
-pub fn edges(alloc: Global, row: &[u8], out: &mut Bytes) -> Result<(), AllocError> {
+/// `edges link PEER BIRTH KEY..|..`: edges, of which the first key gets tag 1. `copy` keeps a copy,
+/// and `swap` goes on with that.
+pub fn edges(alloc: Global, row: &[u8], out: &mut Answer) -> Result<(), AllocError> {
     let mut linked = Linked {
         alloc,
         edges: Edges::with_capacity(alloc, 2)?,

@@ -1,9 +1,9 @@
 //! Entries of a directory, and what it lists.
 
-use pg_base::{Bytes, Shared, SharedBytes};
+use pg_base::{Shared, SharedBytes};
 use pg_entries::{Cell, Entries, Entry, Listing};
 use pg_register::{GoldFlags, Place};
-use pg_rows::{ROOT, Stage, id, narrow, play, stamp, tell, tell_id, unread, word};
+use pg_rows::{Answer, ROOT, Stage, id, narrow, play, stamp, word};
 use std::alloc::{AllocError, Global};
 
 /// The words `CHILD STAMP NAME` from this index on: the child is in the root by that name.
@@ -22,12 +22,11 @@ pub fn entry(alloc: Global, words: &[&[u8]], index: usize) -> Result<Entry, Allo
 }
 
 /// The names that are shown.
-fn show(rows: &Listing, out: &mut Bytes) -> Result<(), AllocError> {
+fn show(rows: &Listing, out: &mut Answer) {
     for row in rows.as_slice() {
-        out.extend(row.name.as_slice())?;
-        out.push(b' ')?;
+        out.put(row.name.as_slice());
+        out.push(b' ');
     }
-    Ok(())
 }
 
 /// Whether a copy of the cell has its sender's word that it is so.
@@ -47,7 +46,7 @@ struct Listed {
 
 impl Listed {
     /// `count DIR`: how many entries there are, how many are listed, and whether any is.
-    fn count(&self, words: &[&[u8]], out: &mut Bytes) -> Result<(), AllocError> {
+    fn count(&self, words: &[&[u8]], out: &mut Answer) {
         let dir = id(words, 1);
         write!(
             out,
@@ -55,46 +54,49 @@ impl Listed {
             self.entries.count_listed(dir),
             self.entries.count(),
             self.entries.as_map().len()
-        )?;
-        tell(self.entries.lists_any(dir), out)
+        );
+        out.tell(self.entries.lists_any(dir));
     }
 
     /// `page DIR FROM MOST`
-    fn page(&self, words: &[&[u8]], out: &mut Bytes) -> Result<(), AllocError> {
+    fn page(&self, words: &[&[u8]], out: &mut Answer) -> Result<(), AllocError> {
         let from = narrow(words, 2) as usize;
         let most = narrow(words, 3) as usize;
-        show(&self.entries.page(id(words, 1), from, most)?, out)
+        show(&self.entries.page(id(words, 1), from, most)?, out);
+        Ok(())
     }
 
     /// `sure CHILD STAMP NAME` or `unsure CHILD STAMP NAME`
-    fn cell(&self, words: &[&[u8]], out: &mut Bytes) -> Result<(), AllocError> {
+    fn cell(&self, words: &[&[u8]], out: &mut Answer) -> Result<(), AllocError> {
         let entry = entry(self.alloc, words, 1)?;
         let is_sure = word(words, 0) == b"sure".as_slice();
         match copied(entry, is_sure, self.alloc)? {
-            Some(is_sure) => tell(is_sure, out),
-            None => unread(out),
+            Some(is_sure) => out.tell(is_sure),
+            None => out.unread(),
         }
+        Ok(())
     }
 }
 
 impl Stage for Listed {
-    fn step(&mut self, words: &[&[u8]], out: &mut Bytes) -> Result<(), AllocError> {
+    fn step(&mut self, words: &[&[u8]], out: &mut Answer) -> Result<(), AllocError> {
         match word(words, 0) {
-            b"join" => tell(self.entries.join_cell(entry(self.alloc, words, 1)?)?, out),
-            b"put" => self.entries.put(entry(self.alloc, words, 1)?),
-            b"covers" => tell(self.entries.covers(&entry(self.alloc, words, 1)?), out),
-            b"find" => tell_id(self.entries.find(id(words, 1), word(words, 2)), out),
+            b"join" => out.tell(self.entries.join_cell(entry(self.alloc, words, 1)?)?),
+            b"put" => self.entries.put(entry(self.alloc, words, 1)?)?,
+            b"covers" => out.tell(self.entries.covers(&entry(self.alloc, words, 1)?)),
+            b"find" => out.tell_id(self.entries.find(id(words, 1), word(words, 2))),
             b"list" => show(&self.entries.copy()?.listing(id(words, 1))?, out),
-            b"page" => self.page(words, out),
+            b"page" => self.page(words, out)?,
             b"count" => self.count(words, out),
-            b"sure" | b"unsure" => self.cell(words, out),
-            _ => unread(out),
+            b"sure" | b"unsure" => self.cell(words, out)?,
+            _ => out.unread(),
         }
+        Ok(())
     }
 }
 
 /// `entries join CHILD STAMP NAME|..`: entries that are joined, and what is listed of them.
-pub fn entries(alloc: Global, row: &[u8], out: &mut Bytes) -> Result<(), AllocError> {
+pub fn entries(alloc: Global, row: &[u8], out: &mut Answer) -> Result<(), AllocError> {
     let mut listed = Listed {
         alloc,
         entries: Entries::new(alloc),

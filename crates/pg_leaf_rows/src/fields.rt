@@ -5,7 +5,7 @@ use pg_codec::{
     ReadError, Reader, write_bytes, write_file, write_flag, write_stamp, write_u8, write_u16,
     write_u32, write_u64,
 };
-use pg_rows::{Stage, id, narrow, play, stamp, unread, wide, word};
+use pg_rows::{Answer, Stage, id, narrow, play, stamp, wide, word};
 use pg_words::{HexWord, read_hex_word};
 use std::alloc::{AllocError, Global};
 use std::fmt;
@@ -30,18 +30,16 @@ struct Writing {
 }
 
 impl Stage for Writing {
-    fn step(&mut self, words: &[&[u8]], out: &mut Bytes) -> Result<(), AllocError> {
+    fn step(&mut self, words: &[&[u8]], out: &mut Answer) -> Result<(), AllocError> {
         let mut field = Bytes::new(self.alloc);
         write_field(words, &mut field)?;
-        write!(out, "{}", HexWord(field.as_slice()))
+        write!(out, "{}", HexWord(field.as_slice()));
+        Ok(())
     }
 }
 
 /// The value, or why there is none.
-fn show<T: fmt::Display + Drop>(
-    answer: Result<T, ReadError>,
-    out: &mut Bytes,
-) -> Result<(), AllocError> {
+fn show<T: fmt::Display + Drop>(answer: Result<T, ReadError>, out: &mut Answer) {
     match answer {
         Ok(value) => write!(out, "{}", value),
         Err(error) => write!(out, "{}", error),
@@ -54,7 +52,7 @@ struct Reading<'a> {
 }
 
 impl Stage for Reading<'_> {
-    fn step(&mut self, words: &[&[u8]], out: &mut Bytes) -> Result<(), AllocError> {
+    fn step(&mut self, words: &[&[u8]], out: &mut Answer) -> Result<(), AllocError> {
         match word(words, 0) {
             b"u8" => show(self.reader.u8(), out),
             b"u16" => show(self.reader.u16(), out),
@@ -68,26 +66,26 @@ impl Stage for Reading<'_> {
                 Err(error) => write!(out, "{}", error),
             },
             _ => {
-                write!(out, "at {}", self.reader.place())?;
-                out.extend(if self.reader.is_at_end() {
-                    b", the end"
-                } else {
-                    b""
-                })
+                write!(out, "at {}", self.reader.place());
+                if self.reader.is_at_end() {
+                    out.put(b", the end");
+                }
             }
         }
+        Ok(())
     }
 }
 
-/// `fields write|KIND VALUE|..`: each field in hexadecimal digits. `fields DIGITS|KIND|..`: the fields that are read, one
-/// after another.
-pub fn fields(alloc: Global, row: &[u8], out: &mut Bytes) -> Result<(), AllocError> {
+/// `fields write|KIND VALUE|..`: each field in hexadecimal digits. `fields DIGITS|KIND|..`: the
+/// fields that are read, one after another.
+pub fn fields(alloc: Global, row: &[u8], out: &mut Answer) -> Result<(), AllocError> {
     let (digits, pieces) = cut_at(row, b'|').unwrap_or((row, b""));
     if digits == b"write".as_slice() {
         return play(alloc, &mut Writing { alloc }, pieces, out);
     }
     let Some(bytes) = read_hex_word(alloc, digits, 1000)? else {
-        return unread(out);
+        out.unread();
+        return Ok(());
     };
     let mut reading = Reading {
         reader: Reader::new(bytes.as_slice()),

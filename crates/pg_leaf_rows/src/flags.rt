@@ -1,8 +1,8 @@
 //! Gold flags.
 
-use pg_base::{Bytes, cut_at, number, number_u32};
+use pg_base::{cut_at, number, number_u32};
 use pg_register::{Flag, GoldFlags, is_removed};
-use pg_rows::{Stage, narrow, play, servers, tell, tell_number, unread, wide, word, words_from};
+use pg_rows::{Answer, Stage, narrow, play, servers, wide, word, words_from};
 use std::alloc::{AllocError, Global};
 
 /// `SERVER.BIRTH.NUMBER+`, or with `-` a flag that was taken down.
@@ -21,20 +21,19 @@ fn flag(word: &[u8]) -> Option<Flag> {
     })
 }
 
-fn show_flag(flag: &Flag, out: &mut Bytes) -> Result<(), AllocError> {
-    write!(out, " {}.{}.{}", flag.server, flag.birth, flag.number)?;
-    out.push(if flag.raised { b'+' } else { b'-' })
+fn show_flag(flag: &Flag, out: &mut Answer) {
+    write!(out, " {}.{}.{}", flag.server, flag.birth, flag.number);
+    out.push(if flag.raised { b'+' } else { b'-' });
 }
 
 /// All of them, by index.
-fn show(flags: &GoldFlags, out: &mut Bytes) -> Result<(), AllocError> {
-    write!(out, "{}:", flags.len())?;
+fn show(flags: &GoldFlags, out: &mut Answer) {
+    write!(out, "{}:", flags.len());
     for index in 0..flags.len() {
         if let Some(flag) = flags.at(index) {
-            show_flag(flag, out)?;
+            show_flag(flag, out);
         }
     }
-    Ok(())
 }
 
 #[derive(Drop)]
@@ -45,80 +44,87 @@ struct Joined {
 
 impl Joined {
     /// `join FLAG..`: of each whether it was known or is news.
-    fn join(&mut self, words: &[&[u8]], out: &mut Bytes) -> Result<(), AllocError> {
+    fn join(&mut self, words: &[&[u8]], out: &mut Answer) -> Result<(), AllocError> {
         for word in words_from(words, 1) {
             if let Some(flag) = flag(word) {
                 let is_known = self.flags.covers(&flag);
                 let is_news = self.flags.join(flag)?;
-                out.extend(if is_known { b"known" } else { b"" })?;
-                out.extend(if is_news { b"news" } else { b"" })?;
-                out.push(b' ')?;
+                out.put(if is_known { b"known" } else { b"" });
+                out.put(if is_news { b"news" } else { b"" });
+                out.push(b' ');
             }
         }
-        show(&self.flags, out)
+        show(&self.flags, out);
+        Ok(())
     }
 
-    /// `with FLAG..`: whether these cover a copy with these flags too, whether that covers these, and whether it is news.
-    fn with(&mut self, words: &[&[u8]], out: &mut Bytes) -> Result<(), AllocError> {
+    /// `with FLAG..`: whether these cover a copy with these flags too, whether that covers these,
+    /// and whether it is news.
+    fn with(&mut self, words: &[&[u8]], out: &mut Answer) -> Result<(), AllocError> {
         let mut more = self.flags.copy()?;
         for word in words_from(words, 1) {
             if let Some(flag) = flag(word) {
                 more.join(flag)?;
             }
         }
-        tell(self.flags.covers_all(&more), out)?;
-        out.push(b' ')?;
-        tell(more.covers_all(&self.flags), out)?;
-        out.push(b' ')?;
-        tell(self.flags.join_all(&more)?, out)
+        out.tell(self.flags.covers_all(&more));
+        out.push(b' ');
+        out.tell(more.covers_all(&self.flags));
+        out.push(b' ');
+        out.tell(self.flags.join_all(&more)?);
+        Ok(())
     }
 
     /// `but SERVER..`: what is said of the golds but those on removed servers.
-    fn but(&self, words: &[&[u8]], out: &mut Bytes) -> Result<(), AllocError> {
+    fn but(&self, words: &[&[u8]], out: &mut Answer) -> Result<(), AllocError> {
         let removed = servers(self.alloc, words, 1)?;
-        write!(out, "{} live, least ", self.flags.live_golds(&removed))?;
-        tell_number(self.flags.least_gold(&removed).map(u64::from), out)
+        write!(out, "{} live, least ", self.flags.live_golds(&removed));
+        out.tell_number(self.flags.least_gold(&removed).map(u64::from));
+        Ok(())
     }
 
     /// `other SERVER REMOVED..`: the least other gold.
-    fn other(&self, words: &[&[u8]], out: &mut Bytes) -> Result<(), AllocError> {
+    fn other(&self, words: &[&[u8]], out: &mut Answer) -> Result<(), AllocError> {
         let removed = servers(self.alloc, words, 2)?;
         let other = self.flags.least_other_gold(narrow(words, 1), &removed);
-        tell_number(other.map(u64::from), out)
+        out.tell_number(other.map(u64::from));
+        Ok(())
     }
 
     /// `next SERVER BIRTH`: the server's number, and the next flag, taken down.
-    fn next(&self, words: &[&[u8]], out: &mut Bytes) -> Result<(), AllocError> {
+    fn next(&self, words: &[&[u8]], out: &mut Answer) {
         let server = narrow(words, 1);
         let last = self.flags.number(server);
         if last >= 1 << 63 {
-            return unread(out);
+            out.unread();
+            return;
         }
-        write!(out, "{} then", last)?;
-        show_flag(&self.flags.next(server, wide(words, 2), false), out)
+        write!(out, "{} then", last);
+        show_flag(&self.flags.next(server, wide(words, 2), false), out);
     }
 }
 
 impl Stage for Joined {
-    fn step(&mut self, words: &[&[u8]], out: &mut Bytes) -> Result<(), AllocError> {
+    fn step(&mut self, words: &[&[u8]], out: &mut Answer) -> Result<(), AllocError> {
         match word(words, 0) {
-            b"join" => self.join(words, out),
-            b"with" => self.with(words, out),
-            b"but" => self.but(words, out),
-            b"other" => self.other(words, out),
+            b"join" => self.join(words, out)?,
+            b"with" => self.with(words, out)?,
+            b"but" => self.but(words, out)?,
+            b"other" => self.other(words, out)?,
             b"next" => self.next(words, out),
-            b"raised" => tell(self.flags.is_raised(narrow(words, 1), wide(words, 2)), out),
+            b"raised" => out.tell(self.flags.is_raised(narrow(words, 1), wide(words, 2))),
             b"removed" => {
                 let removed = servers(self.alloc, words, 2)?;
-                tell(is_removed(&removed, narrow(words, 1)), out)
+                out.tell(is_removed(&removed, narrow(words, 1)));
             }
-            _ => unread(out),
+            _ => out.unread(),
         }
+        Ok(())
     }
 }
 
 /// `flags join FLAG..|..`: gold flags that are joined, and what is asked of them.
-pub fn flags(alloc: Global, row: &[u8], out: &mut Bytes) -> Result<(), AllocError> {
+pub fn flags(alloc: Global, row: &[u8], out: &mut Answer) -> Result<(), AllocError> {
     let mut flags = Joined {
         alloc,
         flags: GoldFlags::new(alloc),

@@ -1,13 +1,12 @@
 //! What a server intends.
 
 use crate::entries::entry;
-use pg_base::Bytes;
 use pg_intent::{Intent, IntentKey, Intents, next_target};
-use pg_rows::{Stage, id, narrow, play, servers, tell, unread, wide, word, words_from, words_of};
+use pg_rows::{Answer, Stage, id, narrow, play, servers, wide, word, words_from};
 use std::alloc::{AllocError, Global};
 
-/// `bye FILE BIRTH PEER BIRTH`, `seek FILE TARGET`, `fill FILE BIRTH TARGET`, `confirm DIR CHILD TARGET`,
-/// `leave FILE PEER BIRTH` or `patch DIR CHILD STAMP NAME TARGET`.
+/// `bye FILE BIRTH PEER BIRTH`, `seek FILE TARGET`, `fill FILE BIRTH TARGET`, `confirm DIR CHILD
+/// TARGET`, `leave FILE PEER BIRTH` or `patch DIR CHILD STAMP NAME TARGET`.
 fn intent(alloc: Global, words: &[&[u8]]) -> Result<Intent, AllocError> {
     let file = id(words, 1);
     Ok(match word(words, 0) {
@@ -45,9 +44,10 @@ fn intent(alloc: Global, words: &[&[u8]]) -> Result<Intent, AllocError> {
 }
 
 /// The kind and the target, and of a Patch when the place was made.
-fn show(intent: Option<&Intent>, out: &mut Bytes) -> Result<(), AllocError> {
+fn show(intent: Option<&Intent>, out: &mut Answer) {
     let Some(intent) = intent else {
-        return out.extend(b"none");
+        out.put(b"none");
+        return;
     };
     write!(
         out,
@@ -55,11 +55,10 @@ fn show(intent: Option<&Intent>, out: &mut Bytes) -> Result<(), AllocError> {
         intent.kind(),
         intent.file(),
         intent.target()
-    )?;
+    );
     if let Intent::Patch { entry, .. } = intent {
-        write!(out, " of {}", entry.place.stamp)?;
+        write!(out, " of {}", entry.place.stamp);
     }
-    Ok(())
 }
 
 #[derive(Drop)]
@@ -85,53 +84,48 @@ impl Intended {
     }
 
     /// All of them, by index.
-    fn show(&self, out: &mut Bytes) -> Result<(), AllocError> {
-        write!(out, "{}", self.intents.len())?;
-        out.extend(if self.intents.is_empty() {
-            b" (empty)"
-        } else {
-            b""
-        })?;
+    fn show(&self, out: &mut Answer) {
+        write!(out, "{}", self.intents.len());
+        if self.intents.is_empty() {
+            out.put(b" (empty)");
+        }
         for index in 0..self.intents.len() {
-            out.extend(b", ")?;
-            show(self.intents.at(index), out)?;
+            out.put(b", ");
+            show(self.intents.at(index), out);
+        }
+    }
+}
+
+impl Stage for Intended {
+    fn step(&mut self, words: &[&[u8]], out: &mut Answer) -> Result<(), AllocError> {
+        match word(words, 0) {
+            b"end" => {
+                let key = self.key(words)?;
+                out.tell(self.intents.end(&key));
+            }
+            b"get" => {
+                let key = self.key(words)?;
+                show(self.intents.get(&key), out);
+            }
+            b"take" => {
+                let key = self.key(words)?;
+                let taken = self.intents.take(&key);
+                show(taken.as_ref(), out);
+            }
+            b"about" => show(self.intents.first_about(id(words, 1)), out),
+            b"aim" => self.aim(words),
+            b"show" => self.show(out),
+            _ => {
+                let intent = intent(self.alloc, words)?;
+                out.tell(self.intents.begin(intent.copy()?)?);
+            }
         }
         Ok(())
     }
 }
 
-impl Stage for Intended {
-    fn step(&mut self, words: &[&[u8]], out: &mut Bytes) -> Result<(), AllocError> {
-        match word(words, 0) {
-            b"end" => {
-                let key = self.key(words)?;
-                tell(self.intents.end(&key), out)
-            }
-            b"get" => {
-                let key = self.key(words)?;
-                show(self.intents.get(&key), out)
-            }
-            b"take" => {
-                let key = self.key(words)?;
-                let taken = self.intents.take(&key);
-                show(taken.as_ref(), out)
-            }
-            b"about" => show(self.intents.first_about(id(words, 1)), out),
-            b"aim" => {
-                self.aim(words);
-                Ok(())
-            }
-            b"show" => self.show(out),
-            _ => {
-                let intent = intent(self.alloc, words)?;
-                tell(self.intents.begin(intent.copy()?)?, out)
-            }
-        }
-    }
-}
-
 /// `intents INTENTION|..`: whether each intention is new, and what is asked of them.
-pub fn intents(alloc: Global, row: &[u8], out: &mut Bytes) -> Result<(), AllocError> {
+pub fn intents(alloc: Global, row: &[u8], out: &mut Answer) -> Result<(), AllocError> {
     let mut intended = Intended {
         alloc,
         intents: Intents::new(alloc),
@@ -146,15 +140,13 @@ struct Ordered {
 }
 
 impl Stage for Ordered {
-    fn step(&mut self, words: &[&[u8]], out: &mut Bytes) -> Result<(), AllocError> {
+    fn step(&mut self, words: &[&[u8]], out: &mut Answer) -> Result<(), AllocError> {
         let key = intent(self.alloc, words)?.key();
         if let Some(last) = self.last {
-            tell(last.compare(&key).is_lt(), out)?;
-            out.extend(if key.is_same(&last) {
-                b" the same"
-            } else {
-                b""
-            })?;
+            out.tell(last.compare(&key).is_lt());
+            if key.is_same(&last) {
+                out.put(b" the same");
+            }
         }
         self.last = Some(key);
         Ok(())
@@ -162,20 +154,20 @@ impl Stage for Ordered {
 }
 
 /// `kinds INTENTION|..`: of each but the first whether it begins behind the one before.
-pub fn kinds(alloc: Global, row: &[u8], out: &mut Bytes) -> Result<(), AllocError> {
+pub fn kinds(alloc: Global, row: &[u8], out: &mut Answer) -> Result<(), AllocError> {
     let mut ordered = Ordered { alloc, last: None };
     play(alloc, &mut ordered, row, out)
 }
 
 /// `target SERVERS SERVER TARGET REMOVED..`: whom the server asks next.
-pub fn target(alloc: Global, row: &[u8], out: &mut Bytes) -> Result<(), AllocError> {
-    let words = words_of(alloc, row)?;
-    let removed = servers(alloc, &words, 3)?;
+pub fn target(alloc: Global, words: &[&[u8]], out: &mut Answer) -> Result<(), AllocError> {
+    let removed = servers(alloc, words, 3)?;
     let next = next_target(
-        narrow(&words, 0),
-        narrow(&words, 1),
+        narrow(words, 0),
+        narrow(words, 1),
         &removed,
-        narrow(&words, 2),
+        narrow(words, 2),
     );
-    write!(out, "{}", next)
+    write!(out, "{}", next);
+    Ok(())
 }

@@ -1,7 +1,8 @@
-//! Walks over a small tree: directories `a`, which is d1.1, and `a/b`, which is d1.3, files `f`, which is f1.2, and `a/x`,
-//! which is f1.4. What stands in the root is held and full; `a/x` is not held.
+//! Walks over a small tree: directories `a`, which is d1.1, and `a/b`, which is d1.3, files `f`,
+//! which is f1.2, and `a/x`, which is f1.4. What stands in the root is held and full; `a/x` is not
+//! held.
 
-use pg_base::{Bytes, FileId, Kind, SharedBytes, Stamp};
+use pg_base::{FileId, Kind, SharedBytes, Stamp};
 use pg_entries::Entry;
 use pg_lookup::{
     Found, LookupError, Way, is_above, is_dir_full, reach, reach_parent, shown_by, walk,
@@ -9,16 +10,8 @@ use pg_lookup::{
 use pg_names::{Attributes, Names};
 use pg_path::Path;
 use pg_register::{GoldFlags, Place};
-use pg_rows::{ROOT, id, narrow, tell, tell_id, unread, word, words_of};
+use pg_rows::{Answer, ROOT, id, narrow, word};
 use std::alloc::{AllocError, Global};
-
-fn made(kind: Kind, number: u64) -> FileId {
-    FileId {
-        kind,
-        server: 1,
-        number,
-    }
-}
 
 fn place(alloc: Global, time: u64, parent: FileId, name: &[u8]) -> Result<Place, AllocError> {
     Ok(Place {
@@ -45,35 +38,70 @@ fn list(
     names.set_entry(&parent, entry)
 }
 
+/// `a`, which stands in the root.
+const A: FileId = FileId {
+    kind: Kind::Dir,
+    server: 1,
+    number: 1,
+};
+
+/// `a/b`
+const B: FileId = FileId {
+    kind: Kind::Dir,
+    server: 1,
+    number: 3,
+};
+
+/// `f`
+const F: FileId = FileId {
+    kind: Kind::File,
+    server: 1,
+    number: 2,
+};
+
+/// `a/x`
+const X: FileId = FileId {
+    kind: Kind::File,
+    server: 1,
+    number: 4,
+};
+
+/// Holds the thing, of which nothing is known yet.
+fn hold(names: &mut Names, alloc: Global, file: FileId, is_full: bool) -> Result<(), AllocError> {
+    names.begin(file, Attributes::blank(alloc, file)?, is_full)
+}
+
+/// What stands in the root, and what `a` lists.
+fn begin(names: &mut Names, alloc: Global) -> Result<(), AllocError> {
+    hold(names, alloc, ROOT, true)?;
+    hold(names, alloc, A, true)?;
+    hold(names, alloc, F, true)?;
+    list(names, alloc, ROOT, A, b"a")?;
+    list(names, alloc, ROOT, F, b"f")?;
+    list(names, alloc, A, B, b"b")?;
+    list(names, alloc, A, X, b"x")
+}
+
 /// The tree, where `a/b` is `absent`, `filling` or `full`.
 fn small_tree(alloc: Global, held: &[u8]) -> Result<Names, AllocError> {
     let mut names = Names::new(alloc, 1);
-    let a = made(Kind::Dir, 1);
-    let b = made(Kind::Dir, 3);
-    let f = made(Kind::File, 2);
-    for file in [ROOT, a, f] {
-        names.begin(file, Attributes::blank(alloc, file)?, true)?;
-    }
-    list(&mut names, alloc, ROOT, a, b"a")?;
-    list(&mut names, alloc, ROOT, f, b"f")?;
-    list(&mut names, alloc, a, b, b"b")?;
-    list(&mut names, alloc, a, made(Kind::File, 4), b"x")?;
+    begin(&mut names, alloc)?;
     let own = Attributes {
         place: place(alloc, 1, ROOT, b"a")?,
         flags: GoldFlags::new(alloc),
     };
-    names.set_own(&a, own);
+    names.set_own(&A, own);
     if held != b"absent".as_slice() {
-        names.begin(b, Attributes::blank(alloc, b)?, false)?;
+        hold(&mut names, alloc, B, false)?;
     }
     if held == b"full".as_slice() {
-        names.fill(&b);
+        names.fill(&B);
     }
     Ok(names)
 }
 
 /// The thing, and how a call came to it.
-fn show(found: Found, out: &mut Bytes) -> Result<(), AllocError> {
+fn show(found: Found, out: &mut Answer) {
     match found.way {
         Way::Start => write!(out, "{} at the start", found.file),
         Way::Entry(dir) => write!(out, "{} in {}", found.file, dir),
@@ -81,30 +109,25 @@ fn show(found: Found, out: &mut Bytes) -> Result<(), AllocError> {
     }
 }
 
-fn show_stop(stop: LookupError, out: &mut Bytes) -> Result<(), AllocError> {
+fn show_stop(stop: LookupError, out: &mut Answer) {
     match stop {
         LookupError::Refused(refusal) => write!(out, "{}", refusal),
         LookupError::NotYet(found) => {
-            out.extend(b"not yet ")?;
-            show(found, out)
+            out.put(b"not yet ");
+            show(found, out);
         }
     }
 }
 
-fn show_reached(reached: Result<FileId, LookupError>, out: &mut Bytes) -> Result<(), AllocError> {
+fn show_reached(reached: Result<FileId, LookupError>, out: &mut Answer) {
     match reached {
-        Ok(file) => file.write(out),
+        Ok(file) => write!(out, "{}", file),
         Err(stop) => show_stop(stop, out),
     }
 }
 
 /// What is asked with a path: `reach PATH`, `reach PATH dir`, `parent PATH` or `walk PATH COUNT`.
-fn ask_path(
-    names: &Names,
-    path: &Path,
-    words: &[&[u8]],
-    out: &mut Bytes,
-) -> Result<(), AllocError> {
+fn ask_path(names: &Names, path: &Path, words: &[&[u8]], out: &mut Answer) {
     let needs_dir = word(words, 3) == b"dir".as_slice();
     match word(words, 1) {
         b"reach" => show_reached(reach(names, path, needs_dir), out),
@@ -116,18 +139,19 @@ fn ask_path(
     }
 }
 
-/// `tree HELD ASKED ..`: what is asked of the tree. `shown DIR NAME`: the child that the directory shows by the name;
-/// `room DIR CHILD`: whether there is none for the child; `above THING DIR`: whether it stands above the directory.
-pub fn tree(alloc: Global, row: &[u8], out: &mut Bytes) -> Result<(), AllocError> {
-    let words = words_of(alloc, row)?;
-    let names = small_tree(alloc, word(&words, 0))?;
-    match word(&words, 1) {
-        b"shown" => tell_id(shown_by(&names, id(&words, 2), word(&words, 3)), out),
-        b"room" => tell(!is_dir_full(&names, id(&words, 2), id(&words, 3)), out),
-        b"above" => tell(is_above(&names, id(&words, 2), id(&words, 3)), out),
-        _ => match Path::read(alloc, word(&words, 2)) {
-            Ok(path) => ask_path(&names, &path, &words, out),
-            Err(_) => unread(out),
+/// `tree HELD ASKED ..`: what is asked of the tree. `shown DIR NAME`: the child that the directory
+/// shows by the name; `room DIR CHILD`: whether there is none for the child; `above THING DIR`:
+/// whether it stands above the directory.
+pub fn tree(alloc: Global, words: &[&[u8]], out: &mut Answer) -> Result<(), AllocError> {
+    let names = small_tree(alloc, word(words, 0))?;
+    match word(words, 1) {
+        b"shown" => out.tell_id(shown_by(&names, id(words, 2), word(words, 3))),
+        b"room" => out.tell(!is_dir_full(&names, id(words, 2), id(words, 3))),
+        b"above" => out.tell(is_above(&names, id(words, 2), id(words, 3))),
+        _ => match Path::read(alloc, word(words, 2)) {
+            Ok(path) => ask_path(&names, &path, words, out),
+            Err(_) => out.unread(),
         },
     }
+    Ok(())
 }

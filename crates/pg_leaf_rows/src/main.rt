@@ -1,96 +1,81 @@
-//! Rows: each line of the input is a call of a small library, or some, and the same line of the output is what it answers.
+//! Rows: each line of the input is a call of a small library, or some, and the same line of the
+//! output is what it answers.
 //!
-//! A row is a verb, as `stamp`, `range` or `edges`, and words behind it. Most have pieces, with a bar between two of them,
-//! that are done one after another on one thing, and an answer for each piece: so a row tells a short story of a list of
-//! flags, of a content or of what a server intends. The module of each subject says which words a verb wants.
+//! A row is a verb, as `flags`, `entries` or `edges`, and words behind it. Most have pieces, with a
+//! bar between two of them, that are done one after another on one thing, and an answer for each
+//! piece: so a row tells a short story of a list of flags or of what a server intends. The module
+//! of each subject says which words a verb wants.
 //!
-//! The lines are pairs, `stdin` and `stdout`: a line that is added to the one has its answer, from docs/RULES.md,
-//! docs/FORMATS.md or a computation outside and never from this program, on the same line of the other. Only `make` answers
-//! with more than one line, a whole schedule and an empty line.
+//! The lines are pairs, `stdin` and `stdout`: a line that is added to the one has its answer, from
+//! docs/RULES.md, docs/FORMATS.md or a computation outside and never from this program, on the same
+//! line of the other. Only `make` answers with more than one line, a whole schedule and an empty
+//! line.
 //!
-//! This crate stands above what pieces of replicas are made of, and has no rules of its own. What reads and prints texts
-//! has `pg_text_rows`, what stands for the outside `pg_disk_rows`; what no line can say is a test of `pg_fault_tests`.
+//! This crate stands above what pieces of replicas are made of, and has no rules of its own. What
+//! contents are made of has `pg_content_rows`, what reads and prints texts `pg_text_rows`, what
+//! stands for the outside `pg_disk_rows`; what no line can say is a test of `pg_fault_tests`.
 //!
 //! A new verb: a function of a row and an output in the module of its subject, and one line below.
 #![tactic(auto)]
 
-mod base;
-mod contents;
-mod deltas;
 mod edges;
 mod entries;
 mod fields;
 mod flags;
 mod intents;
 mod lookup;
-mod patch;
 mod path;
 mod runs;
 
-use pg_base::{Bytes, cut_at};
+use pg_base::cut_at;
+use pg_rows::{Answer, words_of};
 use std::alloc::{AllocError, Global};
 use std::io;
 use std::io::Write;
 
-/// Ids, stamps, vectors, names, paths and places.
-fn small(alloc: Global, verb: &[u8], rest: &[u8], out: &mut Bytes) -> Result<(), AllocError> {
+/// What is answered of names, places, keys, intentions and walks.
+fn small(alloc: Global, verb: &[u8], words: &[&[u8]], out: &mut Answer) -> Result<(), AllocError> {
     match verb {
-        b"id" => base::id(rest, out),
-        b"stamp" => base::stamp(alloc, rest, out),
-        b"vector" => base::vector(alloc, rest, out),
-        b"version" => base::version(alloc, rest, out),
-        b"bytes" => base::bytes(alloc, rest, out),
-        b"name" => path::name(alloc, rest, out),
-        b"path" => path::path(alloc, rest, out),
-        b"place" => path::place(rest, out),
-        b"blank" => path::blank(alloc, rest, out),
-        _ => lists(alloc, verb, rest, out),
+        b"blank" => return path::blank(alloc, words, out),
+        b"target" => return intents::target(alloc, words, out),
+        b"tree" => return lookup::tree(alloc, words, out),
+        b"make" => return runs::make(alloc, words, out),
+        b"order" => edges::order(words, out),
+        b"words" => runs::words(words, out),
+        _ => out.unread(),
     }
+    Ok(())
 }
 
-/// Lists of flags, entries, edges and intentions.
-fn lists(alloc: Global, verb: &[u8], rest: &[u8], out: &mut Bytes) -> Result<(), AllocError> {
+/// What the call of the row answers.
+fn answer(alloc: Global, verb: &[u8], rest: &[u8], out: &mut Answer) -> Result<(), AllocError> {
     match verb {
+        b"name" => path::name(alloc, rest, out),
+        b"path" => path::path(alloc, rest, out),
         b"flags" => flags::flags(alloc, rest, out),
         b"entries" => entries::entries(alloc, rest, out),
         b"keys" => edges::keys(alloc, rest, out),
         b"edges" => edges::edges(alloc, rest, out),
-        b"order" => edges::order(alloc, rest, out),
         b"intents" => intents::intents(alloc, rest, out),
         b"kinds" => intents::kinds(alloc, rest, out),
-        b"target" => intents::target(alloc, rest, out),
-        _ => bodies(alloc, verb, rest, out),
-    }
-}
-
-/// What changes bodies, what is looked up, and what is written of runs.
-fn bodies(alloc: Global, verb: &[u8], rest: &[u8], out: &mut Bytes) -> Result<(), AllocError> {
-    match verb {
-        b"range" => patch::range(alloc, rest, out),
-        b"content" => contents::content(alloc, rest, out),
-        b"deltas" => deltas::deltas(alloc, rest, out),
-        b"tree" => lookup::tree(alloc, rest, out),
         b"fields" => fields::fields(alloc, rest, out),
-        b"words" => runs::words(alloc, rest, out),
-        b"make" => runs::make(alloc, rest, out),
         b"meters" => runs::meters(alloc, rest, out),
-        _ => pg_rows::unread(out),
+        b"place" => {
+            path::place(rest, out);
+            Ok(())
+        }
+        _ => small(alloc, verb, &words_of(alloc, rest)?, out),
     }
-}
-
-/// What the call of the row answers.
-fn answer(alloc: Global, row: &[u8], out: &mut Bytes) -> Result<(), AllocError> {
-    let (verb, rest) = cut_at(row, b' ').unwrap_or((row, b""));
-    small(alloc, verb, rest, out)
 }
 
 fn main(rt: HostRuntime) -> io::Result<()> {
     for line in rt.lines(rt.alloc()) {
         let line = line?;
-        let mut out = Bytes::new(rt.alloc());
-        answer(rt.alloc(), line.as_bytes(), &mut out)?;
-        out.push(b'\n')?;
-        rt.stdout().write_all(out.as_slice())?;
+        let mut out = Answer::new(rt.alloc());
+        let (verb, rest) = cut_at(line.as_bytes(), b' ').unwrap_or((line.as_bytes(), b""));
+        answer(rt.alloc(), verb, rest, &mut out)?;
+        out.push(b'\n');
+        rt.stdout().write_all(out.end()?.as_slice())?;
     }
     Ok(())
 }

@@ -234,7 +234,7 @@ act_line action.Deliver server moment k m words ls lt lk lm =
     short_line (Happens (event.Deliver (1 + (below 4 words).0))) (omega arith)
     (omega arith, (number_short (1 + (below 4 words).0) (omega arith), tt)) (omega arith)
 
-event_line : (servers moment : ℕ) (words : Lcg) → IsCount servers → moment < 2 ^ 64
+pub event_line : (servers moment : ℕ) (words : Lcg) → IsCount servers → moment < 2 ^ 64
     → IsLine (Happens (next_event servers moment words).0)
 event_line servers moment words count lt =
     let act = next_action words in
@@ -248,12 +248,12 @@ event_line servers moment words count lt =
     act_line act.0 (1 + server.0) moment k.0 (below 8 k.1).0 (below 8 k.1).1 (omega arith) lt
     (omega arith) (omega arith)
 
-settle_line : (rounds moment : ℕ) → rounds < 2 ^ 32 → moment < 2 ^ 64 → IsLine (Settle rounds moment)
+pub settle_line : (rounds moment : ℕ) → rounds < 2 ^ 32 → moment < 2 ^ 64 → IsLine (Settle rounds moment)
 settle_line rounds moment lr lt =
     short_line (Settle rounds moment) (lr, lt)
     (omega arith, (number_short rounds (omega arith), (number_short moment lt, tt))) (omega arith)
 
-quiet_line : IsLine Quiet
+pub quiet_line : IsLine Quiet
 quiet_line = short_line Quiet tt (omega arith, tt) (omega arith)
 
 chosen_lines : (test : Bool) (line : Line) → IsLine line → AreLines (cond test (line ∷ []) [])

@@ -2,7 +2,9 @@
 
 ghost use Rattle.std.specs.Prelude.{◌≡◌, ◌≤◌, IfOk};
 ghost use Rattle.pg_make.specs.Event.{chosen, directory_path, file_path, next_bytes, next_rename, next_call, next_event};
+ghost use Rattle.pg_sched.specs.Line.{IsLine};
 ghost use Rattle.pg_sched.specs.Schedule.{IsCount};
+ghost use Rattle.pg_sched.specs.declared.line.Line.{Line};
 
 use crate::action::{Action, Request};
 use crate::draw::below;
@@ -121,8 +123,8 @@ fn next_call(
     }
 }
 
-/// The next event, in a run of so many servers, at this moment.
-pub(crate) fn next_event(
+/// The next event, as it is drawn.
+fn draw_event(
     alloc: Global,
     servers: u32,
     moment: u64,
@@ -162,4 +164,18 @@ pub(crate) fn next_event(
             Ok(Event::Deliver(number))
         }
     }
+}
+
+/// The next event, in a run of so many servers, at this moment.
+pub fn next_event(
+    alloc: Global,
+    servers: u32,
+    moment: u64,
+    words: &mut Pcg32,
+) -> Result<Event, AllocError>
+    requires { IsCount servers }
+    ensures event { IfOk result (λ e. (e, words.new) ≡ next_event servers moment words.old) }
+    ensures line { IfOk result (λ e. IsLine (Line.Happens e)) }
+{
+    Ok(draw_event(alloc, servers, moment, words)?)
 }

@@ -1,7 +1,9 @@
 //! A whole made schedule.
 
-ghost use Rattle.std.specs.Prelude.{◌≡◌, ◌++◌, ◌≤◌, OnOk};
-ghost use Rattle.pg_make.specs.Made.{settling_after, numbered_lines, made_lines, made_text};
+ghost use Rattle.std.specs.Prelude.{◌≡◌, ◌++◌, ◌≤◌, ◌+◌, ◌*◌, OnOk, IfSome, option_to_list};
+ghost use Rattle.pg_make.specs.Made.{first_words, settling_after, numbered_lines, made_lines, made_text};
+ghost use Rattle.pg_sched.specs.Line.{IsLine};
+ghost use Rattle.pg_sched.specs.declared.line.Line.{Line};
 ghost use Rattle.pg_sched.specs.Schedule.{IsCount, AreLines, line_text, lines_text};
 
 use crate::event::next_event;
@@ -16,16 +18,45 @@ fn write_line(line: Line, out: &mut Bytes) -> Result<(), AllocError>
     write!(out, "{line}\n")
 }
 
-/// A settling behind each sixteenth event.
+/// The words from which the schedule of this seed is drawn.
+pub fn first_words(seed: u64) -> Pcg32
+    ensures { result ≡ first_words seed }
+{
+    Pcg32::new(seed, 1)
+}
+
+/// The settling behind the event with this number, counted from 1: one stands behind each
+/// sixteenth.
+pub fn settling_after(number: u64) -> Option<Line>
+    requires { number ≤ 1000000 }
+    ensures settling { option_to_list result ≡ settling_after number }
+    ensures line { IfSome result IsLine }
+{
+    if number % 16 != 0 {
+        return None;
+    }
+    let moment = 10 * number;
+    Some(Line::Settle { rounds: 1, moment })
+}
+
+/// The settling behind all events.
+pub fn last_settling(events: u64) -> Line
+    requires { events ≤ 1000000 }
+    ensures settling { result ≡ Line.Settle 64 (10 * (events + 1)) }
+    ensures line { IsLine result }
+{
+    let moment = 10 * (events + 1);
+    Line::Settle { rounds: 64, moment }
+}
+
 fn write_settling(number: u64, out: &mut Bytes) -> Result<(), AllocError>
     requires { number ≤ 1000000 }
     ensures { OnOk result (out.new ≡ out.old ++ lines_text (settling_after number)) }
 {
-    if number % 16 != 0 {
-        return Ok(());
+    match settling_after(number) {
+        Some(line) => write_line(line, out),
+        None => Ok(()),
     }
-    let moment = 10 * number;
-    write_line(Line::Settle { rounds: 1, moment }, out)
 }
 
 /// The event with this number, counted from 1, and the settling behind it.
@@ -64,12 +95,11 @@ pub fn schedule(
     ensures made { OnOk result (out.new ≡ out.old ++ made_text seed servers events) }
     ensures lines { AreLines (made_lines seed servers events) }
 {
-    let mut words = Pcg32::new(seed, 1);
+    let mut words = first_words(seed);
     write!(out, "pangaea 1 {servers}\n")?;
     for event in 0..events {
         write_numbered(alloc, servers, event + 1, &mut words, out)?;
     }
-    let moment = 10 * (events + 1);
-    write_line(Line::Settle { rounds: 64, moment }, out)?;
+    write_line(last_settling(events), out)?;
     write_line(Line::Quiet, out)
 }

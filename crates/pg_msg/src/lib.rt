@@ -1,4 +1,22 @@
 //! What servers make and send.
+//!
+//! `message` has the messages, with the ends of the edge that each goes along; `update` what a
+//! server makes: a version, a place or a flag; `summary` what a journal tells of a message; `work`
+//! what an event has done so far: what was made and sent, touched, linked and vacated. `key_word`
+//! and `ranges_word` are the words of keys and of changes, `numbers` the bounds that every number
+//! of a message keeps.
+//!
+//! It touches no store: handlers (`pg_pieces` and above) make messages, and read a `Work`.
+//!
+//! What is large in a message is shared, so that a message of any kind takes no more room than an
+//! acknowledgement. What is sent is the whole version, with vector and body; what is told is how
+//! it was made, its bases and its ranges: a receiver may lack the bases, and a history needs no
+//! more. `Work` stands here and not below the house rules, since it has what is sent.
+//!
+//! Definitions: `specs/Ends`, `Sent`, `Work`, `Numbers`, and `Text`, `UpdateText`, `VersionWords`
+//! for what is printed. docs/RULES.md: "Cells, answers and ticks" and what follows it, by kind;
+//! docs/FORMATS.md, section 2. A further kind of message is a case of `Message` and `MessageKind`,
+//! what it tells in `summary` and its numbers in `specs/Numbers`; and a handler above.
 #![tactic(auto)]
 
 mod key_word;

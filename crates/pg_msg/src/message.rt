@@ -92,8 +92,8 @@ pub enum Message {
         key: Key,
         tag: u64,
     },
-    /// A version whose body is sent to who asks for it, under the tag that its key has on the edge; under the tag 0 by
-    /// one that heard of it.
+    /// A version whose body is sent to who asks for it, under the tag that its key has on the edge;
+    /// under the tag 0 by one that heard of it.
     Harbinger {
         ends: Ends,
         tag: u64,
@@ -202,7 +202,8 @@ pub enum Message {
     Invite {
         ends: Ends,
     },
-    /// A replica with few edges looks for one more: its server, its birth, how many hops are left, and a random word.
+    /// A replica with few edges looks for one more: its server, its birth, how many hops are left,
+    /// and a random word.
     Walk {
         ends: Ends,
         origin: NodeId,

@@ -9,12 +9,14 @@ use pg_edges::Key;
 use pg_entries::{Cell, Entry};
 use pg_register::Flag;
 
-/// Numbers of a run stay far below. So each sum with one of a message fits its type, whatever a message holds.
+/// Numbers of a run stay far below. So each sum with one of a message fits its type, whatever a
+/// message holds.
 const LIMIT: u64 = Stamp::CLOCK_END + (1 << 40);
 
 impl Message {
-    /// Whether each time of a stamp, and each number of a flag or of a vector, is below 2^62 + 2^40. A message that has
-    /// a greater one is ignored. Births, tags, offsets and lengths may be any.
+    /// Whether each time of a stamp, and each number of a flag or of a vector, is below 2^62 +
+    /// 2^40. A message that has a greater one is ignored. Births, tags, offsets and lengths may be
+    /// any.
     pub fn is_in_range(&self) -> bool
         ensures { result ≡ is_in_range self.now }
     {

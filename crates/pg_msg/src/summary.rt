@@ -57,8 +57,8 @@ pub enum Detail {
     Nothing,
 }
 
-/// What a journal says of a message: from whom it comes, to whom it goes, its kind, the file that it is about, and a
-/// detail.
+/// What a journal says of a message: from whom it comes, to whom it goes, its kind, the file that
+/// it is about, and a detail.
 #[derive(Clone, Copy, Debug, PartialEq, Eq)]
 pub struct Summary {
     pub from: NodeId,

@@ -24,7 +24,8 @@ use pg_words::{
 use std::alloc::{AllocError, Global};
 use std::fmt;
 
-/// A version of a file that was made: on which versions it is based, and what it makes of what they show.
+/// A version of a file that was made: on which versions it is based, and what it makes of what they
+/// show.
 #[derive(Debug, Drop)]
 pub struct MadeVersion {
     pub file: FileId,

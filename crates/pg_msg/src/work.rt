@@ -24,14 +24,16 @@ pub struct Linked {
     pub peer: NodeId,
 }
 
-/// A directory and a child, which it may have a cell for or not. Slots go by directory and then by child.
+/// A directory and a child, which it may have a cell for or not. Slots go by directory and then by
+/// child.
 #[derive(Clone, Copy, Debug, PartialEq, Eq, PartialOrd, Ord)]
 pub struct Slot {
     pub dir: FileId,
     pub child: FileId,
 }
 
-/// What comes of an event at a server. Each handler adds to it, and what is touched is sent at the end.
+/// What comes of an event at a server. Each handler adds to it, and what is touched is sent at the
+/// end.
 #[derive(Debug, Drop)]
 pub struct Work {
     /// The moment of the server's clock: 0 where a message came.
@@ -44,9 +46,11 @@ pub struct Work {
     pub sent: Items<Sent>,
     /// The keys that were touched on every edge of their replicas.
     pub touched: Items<Touched>,
-    /// The edges that were made or replaced: of each tag that the event drew there is an item here or in `touched`.
+    /// The edges that were made or replaced: of each tag that the event drew there is an item here
+    /// or in `touched`.
     pub linked: Items<Linked>,
-    /// Of each live place of a held thing that was replaced by a newer one: its directory, and the thing.
+    /// Of each live place of a held thing that was replaced by a newer one: its directory, and the
+    /// thing.
     pub left: Items<Slot>,
     /// The cells whose places came from a server that is not sure of them.
     pub unsure: Items<Slot>,

@@ -59,8 +59,8 @@ impl Model for MemoryClock {
 }
 
 impl MemoryClock {
-    /// It gives these moments and these words, in order. Behind the end of a list its last number is
-    /// given again, or 0 if there is none.
+    /// It gives these moments and these words, in order. Behind the end of a list its last number
+    /// is given again, or 0 if there is none.
     pub fn new(moments: Vec<u64>, words: Vec<u64>) -> Self
         ensures { result ≡ fresh moments.items words.items }
     {

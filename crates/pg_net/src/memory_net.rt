@@ -44,8 +44,8 @@ impl Model for MemoryNet {
 }
 
 impl MemoryNet {
-    /// The takes give these packets, and Idle behind the last of them. The calls whose numbers are in
-    /// `fails` fail; the first call has number 0. A send that finds no memory fails too.
+    /// The takes give these packets, and Idle behind the last of them. The calls whose numbers are
+    /// in `fails` fail; the first call has number 0. A send that finds no memory fails too.
     pub fn new(alloc: Global, packets: Vec<Datagram>, fails: Vec<u64>) -> Self
         ensures { result ≡ fresh packets.items fails.items }
     {

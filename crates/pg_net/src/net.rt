@@ -36,7 +36,8 @@ pub trait Net {
         ensures cause { HasCause (faults self.old) (faults self.new) result };
 
     /// Takes the next packet, whose bytes go to the start of the buffer. A packet of more than
-    /// 40,001 bytes is given as its first 40,001 bytes: so it is seen that it is longer than 40,000.
+    /// 40,001 bytes is given as its first 40,001 bytes: so it is seen that it is longer than
+    /// 40,000.
     fn take(&mut self, buf: &mut [u8]) -> Result<Taken, Failed>
         requires { 40_001 ≤ length buf.old }
         ensures bound { IfOk result (λ answer. IsWithin 40_001 answer) }

@@ -10,9 +10,9 @@ use std::io;
 use std::io::ErrorKind;
 use std::process::{Child, Command, Processes, Stdio};
 
-/// Child programs, which read no input and write where this program writes. Each error of the system
-/// is a failure; so is a start with no words, one that finds no memory, and a wait for a child that
-/// was not started.
+/// Child programs, which read no input and write where this program writes. Each error of the
+/// system is a failure; so is a start with no words, one that finds no memory, and a wait for a
+/// child that was not started.
 #[derive(Drop)]
 pub struct Programs<R: Processes> {
     alloc: Global,

@@ -6,8 +6,8 @@ use crate::clock::Clock;
 use std::random::RandomSource;
 use std::time::{SystemTime, UNIX_EPOCH};
 
-/// The milliseconds since 1970 by the system's clock, and words of its random bytes. Where the system
-/// gives none, and at moments before 1970, it is 0.
+/// The milliseconds since 1970 by the system's clock, and words of its random bytes. Where the
+/// system gives none, and at moments before 1970, it is 0.
 #[derive(Drop)]
 pub struct SystemClock<R> {
     system: R,

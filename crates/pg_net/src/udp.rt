@@ -1,4 +1,5 @@
-//! The system's packets, on this machine alone. Their content and their order are known to no clause.
+//! The system's packets, on this machine alone. Their content and their order are known to no
+//! clause.
 
 ghost use Rattle.std.specs.Prelude.{◌≡◌, ◌≤◌, ◌+◌, ◌-◌, ◌^◌, ℕ, min, length, IfOk, OnOk, OnErr};
 ghost use Rattle.pg_net.specs.Net.{IsWithin, untold};
@@ -14,8 +15,8 @@ use std::time::Duration;
 /// How long a take waits for a packet.
 const PATIENCE_SECONDS: u64 = 1;
 
-/// UDP on 127.0.0.1. A take is Idle after one second without a packet. Each error of the system is a
-/// failure, an interrupted call too, and so is a take or a send before a port was bound.
+/// UDP on 127.0.0.1. A take is Idle after one second without a packet. Each error of the system is
+/// a failure, an interrupted call too, and so is a take or a send before a port was bound.
 #[derive(Drop)]
 pub struct UdpNet<R> {
     system: R,

@@ -103,7 +103,8 @@ pub fn read_vector(alloc: Global, reader: &mut Reader<'_>) -> Result<Vector, Pac
     read_each_known(alloc, count, reader)
 }
 
-/// The head of a version that is told without its body. Its number is not 0: a number is counted from 1.
+/// The head of a version that is told without its body. Its number is not 0: a number is counted
+/// from 1.
 #[tactic(auto, unfolding(crate::specs::Heads::head_at))]
 pub fn read_head(alloc: Global, reader: &mut Reader<'_>) -> Result<Head, PacketError>
     ensures { Gives (λ h. (h, reader.new)) result (head_at reader.old) }

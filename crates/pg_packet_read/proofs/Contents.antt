@@ -5,7 +5,7 @@ use Rattle.pg_codec.specs.Laws.{Any, HasWidth, IsField}
 use Rattle.pg_codec.specs.Reading.{number_at}
 use Rattle.pg_codec.specs.Spelling.{number_bytes}
 use Rattle.pg_codec.proofs.Binding.{both_are, checked_is, ok_is}
-use Rattle.pg_packet_read.specs.Whole.{IsWholeContent, IsWholeDatagram, byte_at, byte_of, content_at, datagram_at, mark_at, packet_kinds, told_at}
+use Rattle.pg_packet_read.specs.Whole.{IsWholeContent, IsWholeDatagram, byte_at, byte_of, content_at, datagram_at, mark_at, packet_kinds, behind_kind_at}
 use Rattle.pg_packet_read.specs.declared.kinds.PacketKind.{PacketKind}
 use Rattle.pg_packet_read.specs.declared.kinds.PacketKind.TheVariants as packet
 use Rattle.pg_msg.specs.Sent as sent
@@ -178,8 +178,8 @@ IsTold k x = HasWidth 4 x.0 × (HasWidth 8 x.1.0 × IsOf k x.1.1)
 abbrev told_bytes : PacketKind → ℕ × (ℕ × Content) → List ℕ
 told_bytes k x = number_bytes 4 x.0 ++ (number_bytes 8 x.1.0 ++ content_bytes x.1.1)
 
-told_is : (k : PacketKind) → IsField (IsTold k) (told_bytes k) (told_at k)
-unfolding told_at
+told_is : (k : PacketKind) → IsField (IsTold k) (told_bytes k) (behind_kind_at k)
+unfolding behind_kind_at
 told_is k = then_is narrow_is (then_is wide_is (content_is k))
 
 abbrev datagram_view : ℕ × (PacketKind × (ℕ × (ℕ × Content))) → Datagram
@@ -196,7 +196,7 @@ pub datagram_field : IsField IsWholeDatagram packet_bytes datagram_at
 unfolding datagram_at
 datagram_field = view_is
     (then_is mark_field
-    (both_are Any (λ k. number_bytes 1 (packet_number k)) (item_at packet_kinds) IsTold told_bytes (λ k. told_at k) kind_field
+    (both_are Any (λ k. number_bytes 1 (packet_number k)) (item_at packet_kinds) IsTold told_bytes (λ k. behind_kind_at k) kind_field
     (λ k _. told_is k))) datagram_view IsWholeDatagram packet_bytes
     (λ x fits. (record { from = fits.1.1.0; view = fits.1.1.1.0; content = fits.1.1.1.1.0 }, datagram_spelled x.1.0 x.1.1.0 x.1.1.1.0 x.1.1.1.1 fits.1.1.1.1.1))
     (λ d fits. ((1, (content_kind d.content, (d.from, (d.view, d.content)))), (refl, (tt, (fits.from, (fits.view, (fits.content, refl))))), refl))

@@ -30,9 +30,9 @@ use Rattle.pg_packet_fields.proofs.HeadFields.{head_field}
 use Rattle.pg_packet_fields.proofs.Joining.{then_is}
 use Rattle.pg_packet_fields.proofs.EachKind.{of_kinds}
 use Rattle.pg_packet_fields.proofs.Plain.{ask_field, dir_field, ends_field, file_is, key_field, server_field, stamp_is, wide_is}
-use Rattle.pg_packet_read.specs.MessageFields.{about_at, delta_at, granted_at, hops_at, piece_at, replica_at, told_at, wanted_at}
+use Rattle.pg_packet_read.specs.MessageFields.{about_at, delta_at, granted_at, hops_at, piece_at, replica_at, listed_at, wanted_at}
 use Rattle.pg_packet_read.specs.Messages.{IsWholeMessage, message_at}
-use Rattle.pg_packet_read.proofs.MessageParts.{about_field, delta_field, granted_field, hops_field, piece_field, replica_field, told_field, wanted_field}
+use Rattle.pg_packet_read.proofs.MessageParts.{about_field, delta_field, granted_field, hops_field, piece_field, replica_field, listed_field, wanted_field}
 
 -- the fields of each kind
 abbrev Parts : MessageKind → Type 0
@@ -109,9 +109,9 @@ parts_at kind.NoneHere = followed_by ask_at (λ ask. followed_by (of_packet file
 parts_at kind.Gone = replica_at
 parts_at kind.Bye = ends_at
 parts_at kind.ByeOk = replica_at
-parts_at kind.Confirm = told_at
-parts_at kind.PlaceIs = told_at
-parts_at kind.Tell = told_at
+parts_at kind.Confirm = listed_at
+parts_at kind.PlaceIs = listed_at
+parts_at kind.Tell = listed_at
 parts_at kind.TellOk = followed_by dir_at (λ dir. followed_by (of_packet file_at) (λ child. of_packet stamp_at))
 parts_at kind.Leave = about_at
 parts_at kind.LeaveOk = about_at
@@ -170,9 +170,9 @@ fields kind.NoneHere = then_is ask_field (then_is file_is file_is)
 fields kind.Gone = replica_field
 fields kind.Bye = ends_field
 fields kind.ByeOk = replica_field
-fields kind.Confirm = told_field
-fields kind.PlaceIs = told_field
-fields kind.Tell = told_field
+fields kind.Confirm = listed_field
+fields kind.PlaceIs = listed_field
+fields kind.Tell = listed_field
 fields kind.TellOk = then_is dir_field (then_is file_is stamp_is)
 fields kind.Leave = about_field
 fields kind.LeaveOk = about_field

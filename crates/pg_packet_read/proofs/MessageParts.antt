@@ -33,7 +33,7 @@ use Rattle.pg_packet_fields.proofs.Many.{stamps_field}
 use Rattle.pg_packet_fields.proofs.PatchFields.{block_field, ranges_field}
 use Rattle.pg_packet_fields.proofs.PlaceFields.{entry_field, golds_field, place_field}
 use Rattle.pg_packet_fields.proofs.Plain.{byte_is, dir_field, ends_field, file_is, narrow_is, policy_field, stamp_is, wide_is}
-use Rattle.pg_packet_read.specs.MessageFields.{IsDelta, IsGranted, IsHops, IsPiece, IsWanted, about_at, delta_at, granted_at, hops_at, hops_of, piece_at, replica_at, told_at, wanted_at}
+use Rattle.pg_packet_read.specs.MessageFields.{IsDelta, IsGranted, IsHops, IsPiece, IsWanted, about_at, delta_at, granted_at, hops_at, hops_of, piece_at, replica_at, listed_at, wanted_at}
 use Rattle.pg_words.specs.FileWord.{IsDirectory}
 
 abbrev wanted_view : Stamp × (ℕ × List Stamp) → Wanted
@@ -76,9 +76,9 @@ pub replica_field : IsField (λ (x : FileId × ℕ). Fits x.0 × HasWidth 8 x.1)
 unfolding replica_at replica_bytes
 replica_field = then_is file_is wide_is
 
-pub told_field : IsField (λ (x : FileId × Entry). IsDirectory x.0 × IsWholeEntry x.1) (λ (x : FileId × Entry). told_bytes x.0 x.1) told_at
-unfolding told_at told_bytes
-told_field = then_is dir_field entry_field
+pub listed_field : IsField (λ (x : FileId × Entry). IsDirectory x.0 × IsWholeEntry x.1) (λ (x : FileId × Entry). told_bytes x.0 x.1) listed_at
+unfolding listed_at told_bytes
+listed_field = then_is dir_field entry_field
 
 pub about_field : IsField (λ (x : Ends × Stamp). AreEnds x.0 × HasStampWidth x.1) (λ (x : Ends × Stamp). ends_bytes x.0 ++ stamp_bytes x.1) about_at
 unfolding about_at

@@ -23,7 +23,7 @@ use Rattle.pg_packet_fields.proofs.PatchFields.{block_field}
 use Rattle.pg_packet_fields.proofs.Plain.{file_is, narrow_is, stamp_is}
 use Rattle.pg_packet_read.specs.Numbered.{item_at, numbered}
 use Rattle.pg_packet_read.specs.Refusals.{refusal_at}
-use Rattle.pg_packet_read.specs.Replies.{IsWholeReply, counts_at, reply_at, reply_kinds, rows_at, stat_at, told_at}
+use Rattle.pg_packet_read.specs.Replies.{IsWholeReply, counts_at, reply_at, reply_kinds, rows_at, stat_at, reply_fields_at}
 use Rattle.pg_call.specs.declared.reply.ReplyKind.{ReplyKind}
 use Rattle.pg_call.specs.declared.reply.ReplyKind.TheVariants as kind
 use Rattle.pg_packet_read.proofs.Items.{alone_is, item_is}
@@ -149,12 +149,12 @@ IsOf k r = IsWholeReply r × (kind_of r ≡ k)
 each : (k : ReplyKind) → IsField (IsOf k) behind (seen_as (made k) (parts_at k))
 each k = of_kinds kind_of IsWholeReply behind Parts made parts_at kind_made parts_of fields k
 
-told_is : (k : ReplyKind) → IsField (IsOf k) behind (told_at k)
-unfolding told_at
+told_is : (k : ReplyKind) → IsField (IsOf k) behind (reply_fields_at k)
+unfolding reply_fields_at
 told_is kind.Done = each kind.Done
 told_is k = each k
 
 pub reply_field : IsField IsWholeReply reply_bytes reply_at
 unfolding reply_at
-reply_field = chosen_is kind_of Any (λ k. number_bytes 1 (reply_number k)) (item_at reply_kinds) IsWholeReply reply_bytes behind (λ place. told_at) kind_field
+reply_field = chosen_is kind_of Any (λ k. number_bytes 1 (reply_number k)) (item_at reply_kinds) IsWholeReply reply_bytes behind (λ place. reply_fields_at) kind_field
     (λ r fits. tt) spelled (λ place. told_is)

@@ -45,8 +45,8 @@ unfoldable pub replica_at : Field PacketError (FileId × ℕ)
 replica_at from = followed_by (of_packet file_at) (λ file. of_packet (number_at 8)) from
 
 -- a directory and an entry of it
-unfoldable pub told_at : Field PacketError (FileId × Entry)
-told_at from = followed_by dir_at (λ dir. entry_at) from
+unfoldable pub listed_at : Field PacketError (FileId × Entry)
+listed_at from = followed_by dir_at (λ dir. entry_at) from
 
 -- an edge and a stamp
 unfoldable pub about_at : Field PacketError (Ends × Stamp)

@@ -14,7 +14,7 @@ use Rattle.pg_packet_fields.specs.Places.{IsWholeEntry}
 use Rattle.pg_packet_fields.specs.Reading.{ask_at, dir_at, ends_at, key_at, server_at}
 use Rattle.pg_packet_fields.specs.Values.{AreEnds, IsKey}
 use Rattle.pg_packet_fields.specs.declared.error.PacketError.{PacketError}
-use Rattle.pg_packet_read.specs.MessageFields.{IsDelta, IsGranted, IsHops, IsPiece, IsWanted, about_at, delta_at, granted_at, hops_at, piece_at, replica_at, told_at, wanted_at}
+use Rattle.pg_packet_read.specs.MessageFields.{IsDelta, IsGranted, IsHops, IsPiece, IsWanted, about_at, delta_at, granted_at, hops_at, piece_at, replica_at, listed_at, wanted_at}
 use Rattle.pg_words.specs.FileWord.{IsDirectory}
 
 -- the fields of the kind, in their order
@@ -44,9 +44,9 @@ message_at kind.NoneHere from = seen_as (λ x. message.NoneHere x.0 x.1.0 x.1.1)
 message_at kind.Gone from = seen_as (λ x. message.Gone x.0 x.1) replica_at from
 message_at kind.Bye from = seen_as (λ x. message.Bye x) ends_at from
 message_at kind.ByeOk from = seen_as (λ x. message.ByeOk x.0 x.1) replica_at from
-message_at kind.Confirm from = seen_as (λ x. message.Confirm x.0 x.1) told_at from
-message_at kind.PlaceIs from = seen_as (λ x. message.PlaceIs x.0 x.1) told_at from
-message_at kind.Tell from = seen_as (λ x. message.Tell x.0 x.1) told_at from
+message_at kind.Confirm from = seen_as (λ x. message.Confirm x.0 x.1) listed_at from
+message_at kind.PlaceIs from = seen_as (λ x. message.PlaceIs x.0 x.1) listed_at from
+message_at kind.Tell from = seen_as (λ x. message.Tell x.0 x.1) listed_at from
 message_at kind.TellOk from = seen_as (λ x. message.TellOk x.0 x.1.0 x.1.1) (followed_by dir_at
     (λ dir. followed_by (of_packet file_at) (λ child. of_packet stamp_at))) from
 message_at kind.Leave from = seen_as (λ x. message.Leave x.0 x.1) about_at from

@@ -80,21 +80,21 @@ counts_at from = seen_as (λ x. record {
     (λ cells. of_packet (number_at 8))))))) from
 
 -- the fields of the reply in their order
-unfoldable pub told_at : ReplyKind → Field PacketError Reply
-told_at kind.Done from = Ok (reply.Done, from)
-told_at kind.Made from = seen_as (λ x. reply.Made x) (of_packet file_at) from
-told_at kind.Wrote from = seen_as (λ x. reply.Wrote x) (of_packet stamp_at) from
-told_at kind.Bytes from = seen_as (λ x. reply.Bytes x) block_at from
-told_at kind.Names from = seen_as (λ x. reply.Names x.0 x.1)
+unfoldable pub reply_fields_at : ReplyKind → Field PacketError Reply
+reply_fields_at kind.Done from = Ok (reply.Done, from)
+reply_fields_at kind.Made from = seen_as (λ x. reply.Made x) (of_packet file_at) from
+reply_fields_at kind.Wrote from = seen_as (λ x. reply.Wrote x) (of_packet stamp_at) from
+reply_fields_at kind.Bytes from = seen_as (λ x. reply.Bytes x) block_at from
+reply_fields_at kind.Names from = seen_as (λ x. reply.Names x.0 x.1)
     (followed_by (of_packet (number_at 4)) (λ total. rows_at)) from
-told_at kind.Stat from = seen_as (λ x. reply.Stat x) stat_at from
-told_at kind.Leaving from = seen_as (λ x. reply.Leaving x) (of_packet (number_at 4)) from
-told_at kind.Status from = seen_as (λ x. reply.Status x) counts_at from
-told_at kind.Refused from = seen_as (λ x. reply.Refused x) refusal_at from
+reply_fields_at kind.Stat from = seen_as (λ x. reply.Stat x) stat_at from
+reply_fields_at kind.Leaving from = seen_as (λ x. reply.Leaving x) (of_packet (number_at 4)) from
+reply_fields_at kind.Status from = seen_as (λ x. reply.Status x) counts_at from
+reply_fields_at kind.Refused from = seen_as (λ x. reply.Refused x) refusal_at from
 
 -- the number of the reply, and its fields
 unfoldable pub reply_at : Field PacketError Reply
-reply_at from = item_at reply_kinds from >>= λ kind. told_at kind.0 kind.1
+reply_at from = item_at reply_kinds from >>= λ kind. reply_fields_at kind.0 kind.1
 
 -- ---- what can be read
 

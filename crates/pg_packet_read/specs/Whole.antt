@@ -50,15 +50,15 @@ content_at packet.Reply from = seen_as (λ x. content.Reply x.0 x.1)
     (followed_by (of_packet (number_at 8)) (λ number. reply_at)) from
 
 -- the sender, the view, and what the kind says
-unfoldable pub told_at : PacketKind → Field PacketError (ℕ × (ℕ × Content))
-told_at kind from = followed_by (of_packet (number_at 4))
+unfoldable pub behind_kind_at : PacketKind → Field PacketError (ℕ × (ℕ × Content))
+behind_kind_at kind from = followed_by (of_packet (number_at 4))
     (λ sender. followed_by (of_packet (number_at 8)) (λ view. content_at kind)) from
 
 -- the mark, the kind, and what stands behind the kind
 unfoldable pub datagram_at : Field PacketError Datagram
 datagram_at from = seen_as
     (λ x. record { from = x.1.1.0; view = x.1.1.1.0; content = x.1.1.1.1 })
-    (followed_by mark_at (λ mark. followed_by (item_at packet_kinds) (λ kind. told_at kind))) from
+    (followed_by mark_at (λ mark. followed_by (item_at packet_kinds) (λ kind. behind_kind_at kind))) from
 
 -- nothing stands behind it
 abbrev pub ended : Datagram × Unread → Result Datagram PacketError

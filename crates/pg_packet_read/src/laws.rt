@@ -17,17 +17,19 @@ ghost use Rattle.pg_packet_read.specs.Messages.{IsWholeMessage, message_at};
 /// Of each kind, a message is read exactly where its spelling stands, and has one spelling.
 pub fn messages_read_back()
     ensures { (k : MessageKind)
-        → IsField (λ (m : Message). IsWholeMessage m × (kind_of m ≡ k)) message_bytes (message_at k) }
+        → IsField (λ (m : Message). IsWholeMessage m × (kind_of m ≡ k))
+        message_bytes (message_at k) }
 {}
 
-/// What is asked and what is answered is read exactly where its spelling stands, and has one spelling.
+/// What is asked and what is answered is read exactly where its spelling stands, and has one
+/// spelling.
 pub fn calls_read_back()
     ensures request { IsField IsWholeRequest request_bytes request_at }
     ensures reply { IsField IsWholeReply reply_bytes reply_at }
 {}
 
-/// Bytes are read exactly where they are a packet's spelling of at most 40,000 bytes, and then to this packet. No
-/// packet's spelling begins another's.
+/// Bytes are read exactly where they are a packet's spelling of at most 40,000 bytes, and then to
+/// this packet. No packet's spelling begins another's.
 pub fn packets_read_back()
     ensures written { (d : Datagram) → IsWholeDatagram d → length (packet_bytes d) ≤ 40000
         → packet_of (packet_bytes d) ≡ Ok d }

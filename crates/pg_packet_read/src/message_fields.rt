@@ -1,7 +1,7 @@
 //! The fields that only messages have, read.
 
 ghost use Rattle.pg_packet_fields.specs.Faults.{Gives};
-ghost use Rattle.pg_packet_read.specs.MessageFields.{about_at, delta_at, granted_at, hops_at, piece_at, replica_at, told_at, wanted_at};
+ghost use Rattle.pg_packet_read.specs.MessageFields.{about_at, delta_at, granted_at, hops_at, piece_at, replica_at, listed_at, wanted_at};
 
 use pg_base::{FileId, Shared, Stamp};
 use pg_codec::Reader;
@@ -83,12 +83,12 @@ pub fn read_replica(reader: &mut Reader<'_>) -> Result<(FileId, u64), PacketErro
 }
 
 /// A directory and what is told of a child.
-#[tactic(auto, unfolding(crate::specs::MessageFields::told_at))]
-pub fn read_told(
+#[tactic(auto, unfolding(crate::specs::MessageFields::listed_at))]
+pub fn read_listed(
     alloc: Global,
     reader: &mut Reader<'_>,
 ) -> Result<(FileId, Shared<Entry>), PacketError>
-    ensures { Gives (λ t. (t, reader.new)) result (told_at reader.old) }
+    ensures { Gives (λ t. (t, reader.new)) result (listed_at reader.old) }
 {
     let dir = read_dir(reader)?;
     let entry = read_entry(alloc, reader)?;

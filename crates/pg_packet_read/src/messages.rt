@@ -4,7 +4,7 @@ ghost use Rattle.pg_packet_fields.specs.Faults.{Gives};
 ghost use Rattle.pg_packet_read.specs.Messages.{message_at};
 
 use crate::message_fields::{
-    read_about, read_delta, read_granted, read_hops, read_piece, read_replica, read_told,
+    read_about, read_delta, read_granted, read_hops, read_listed, read_piece, read_replica,
     read_wanted,
 };
 use pg_base::Shared;
@@ -107,15 +107,15 @@ pub fn read_message(
             Ok(Message::ByeOk { file, birth })
         }
         MessageKind::Confirm => {
-            let (dir, entry) = read_told(alloc, reader)?;
+            let (dir, entry) = read_listed(alloc, reader)?;
             Ok(Message::Confirm { dir, entry })
         }
         MessageKind::PlaceIs => {
-            let (dir, entry) = read_told(alloc, reader)?;
+            let (dir, entry) = read_listed(alloc, reader)?;
             Ok(Message::PlaceIs { dir, entry })
         }
         MessageKind::Tell => {
-            let (dir, entry) = read_told(alloc, reader)?;
+            let (dir, entry) = read_listed(alloc, reader)?;
             Ok(Message::Tell { dir, entry })
         }
         MessageKind::TellOk => {

@@ -1,7 +1,7 @@
 //! Packets, read.
 
 ghost use Rattle.std.specs.Prelude.{◌≡◌, IfOk};
-ghost use Rattle.pg_packet_read.specs.Whole.{byte_at, content_at, cut_fault, cut_off, datagram_at, mark_at, packet_of, packet_within, told_at, whole};
+ghost use Rattle.pg_packet_read.specs.Whole.{byte_at, content_at, cut_fault, cut_off, datagram_at, mark_at, packet_of, packet_within, behind_kind_at, whole};
 ghost use Rattle.pg_packet_write.specs.Datagrams.{FitsContent};
 ghost use Rattle.pg_packet_fields.specs.Faults.{Gives};
 
@@ -18,8 +18,8 @@ use std::alloc::Global;
 /// The most bytes that a packet has.
 const MOST: usize = 40_000;
 
-/// The packet that the bytes are. Where they are none, the place is that of the first field that is not read, or where
-/// the packet should have ended.
+/// The packet that the bytes are. Where they are none, the place is that of the first field that is
+/// not read, or where the packet should have ended.
 pub fn read_packet(alloc: Global, bytes: &[u8]) -> Result<Datagram, PacketError>
     ensures read { Gives (λ d. d) result (packet_of bytes.now) }
     ensures fits { IfOk result (λ d. FitsContent d.content) }
@@ -83,7 +83,7 @@ fn read_datagram(alloc: Global, reader: &mut Reader<'_>) -> Result<Datagram, Pac
 {
     read_mark(reader)?;
     let kind = read_item(&PACKET_KINDS, reader)?;
-    let (from, (view, content)) = read_told(alloc, kind, reader)?;
+    let (from, (view, content)) = read_behind_kind(alloc, kind, reader)?;
     Ok(Datagram {
         from,
         view,
@@ -92,13 +92,13 @@ fn read_datagram(alloc: Global, reader: &mut Reader<'_>) -> Result<Datagram, Pac
 }
 
 /// The sender, its view, and what a packet of the kind says.
-#[tactic(auto, unfolding(crate::specs::Whole::told_at))]
-fn read_told(
+#[tactic(auto, unfolding(crate::specs::Whole::behind_kind_at))]
+fn read_behind_kind(
     alloc: Global,
     kind: PacketKind,
     reader: &mut Reader<'_>,
 ) -> Result<(u32, (u64, Content)), PacketError>
-    ensures { Gives (λ t. (t, reader.new)) result (told_at kind reader.old) }
+    ensures { Gives (λ t. (t, reader.new)) result (behind_kind_at kind reader.old) }
 {
     let from = reader.u32()?;
     let view = reader.u64()?;

@@ -4,7 +4,7 @@ ghost use Rattle.std.specs.Prelude.{[]};
 ghost use Rattle.pg_codec.specs.Reading.{checked, number_at};
 ghost use Rattle.pg_packet_fields.specs.Faults.{Gives, of_packet};
 ghost use Rattle.pg_packet_fields.specs.Lists.{count_of, many};
-ghost use Rattle.pg_packet_read.specs.Replies.{any_row, counts_at, reply_at, row_at, rows_at, stat_at, told_at, unchanged};
+ghost use Rattle.pg_packet_read.specs.Replies.{any_row, counts_at, reply_at, row_at, rows_at, stat_at, reply_fields_at, unchanged};
 
 use crate::numbered::read_item;
 use crate::refusals::read_refusal;
@@ -135,9 +135,13 @@ fn read_counts(alloc: Global, reader: &mut Reader<'_>) -> Result<Shared<Counts>,
 }
 
 /// The fields of a reply of the kind.
-#[tactic(auto, unfolding(crate::specs::Replies::told_at))]
-fn read_told(alloc: Global, kind: ReplyKind, reader: &mut Reader<'_>) -> Result<Reply, PacketError>
-    ensures { Gives (λ r. (r, reader.new)) result (told_at kind reader.old) }
+#[tactic(auto, unfolding(crate::specs::Replies::reply_fields_at))]
+fn read_reply_fields(
+    alloc: Global,
+    kind: ReplyKind,
+    reader: &mut Reader<'_>,
+) -> Result<Reply, PacketError>
+    ensures { Gives (λ r. (r, reader.new)) result (reply_fields_at kind reader.old) }
 {
     match kind {
         ReplyKind::Done => Ok(Reply::Done),
@@ -183,5 +187,5 @@ pub fn read_reply(alloc: Global, reader: &mut Reader<'_>) -> Result<Reply, Packe
     ensures { Gives (λ r. (r, reader.new)) result (reply_at reader.old) }
 {
     let kind = read_item(&REPLY_KINDS, reader)?;
-    read_told(alloc, kind, reader)
+    read_reply_fields(alloc, kind, reader)
 }

@@ -1,4 +1,21 @@
 //! Packets: messages, calls and replies as bytes.
+//!
+//! `datagram` has the packets and writes a whole one: `PG`, the number of the format, the number of
+//! its kind, its sender, the sender's view, and what it says. `messages`, `calls` and `replies`
+//! write what it says, by its kind, and `fields` what several of them have.
+//!
+//! It touches bytes alone, and sends nothing. A packet is a type of its own (`Datagram`), since
+//! calls, ticks and replies are packets and no messages; a tick is asked for like a call. Sender
+//! and view may be any numbers: whoever takes a packet looks.
+//!
+//! `write_packet` asks that what is written has a spelling (`FitsContent`), and not that the whole
+//! is short: that no message has over 40,000 bytes is for whoever makes it. The text of a call's
+//! target is an id where it spells one, and else a path, so a path that spells an id has no
+//! spelling.
+//!
+//! Definitions: `specs/Datagrams`, `Messages`, `Calls`, `Fields` (how each is spelled), `Fits`
+//! (what has a spelling; numbers have their widths by their types). docs/FORMATS.md, "Packets". A
+//! further kind: its spelling in `specs`, its arm here, and its reader in `pg_packet_read`.
 #![tactic(auto)]
 
 mod calls;

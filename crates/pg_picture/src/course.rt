@@ -146,7 +146,8 @@ fn is_settled(word: AskedAt) -> bool
 impl Course {
     ghost use Rattle.pg_picture.specs.Course.{after, goes_on, is_due, lack_of, left_after, line_after, other_lack, settles_after, word_is_due};
 
-    /// Before the first line of a full journal, which is of the schedule's third line: its second asks for the form.
+    /// Before the first line of a full journal, which is of the schedule's third line: its second
+    /// asks for the form.
     pub(crate) const START: Course = Course {
         line: 2,
         settles: false,
@@ -154,7 +155,8 @@ impl Course {
         left: MOST_EVENTS,
     };
 
-    /// Whether the event's line of the schedule is the next one, or in a settling that of the settling.
+    /// Whether the event's line of the schedule is the next one, or in a settling that of the
+    /// settling.
     fn goes_on(self, line: u64) -> bool
         ensures { result ≡ goes_on self line }
     {

@@ -9,7 +9,8 @@ use std::fmt;
 /// What a journal lacks.
 #[derive(Clone, Copy, Debug, PartialEq, Eq)]
 pub enum Lack {
-    /// The line is not in full form: the event that it comes of is not told, or one before it is not.
+    /// The line is not in full form: the event that it comes of is not told, or one before it is
+    /// not.
     Full,
     /// No such message is under way.
     Message,
@@ -41,7 +42,8 @@ impl fmt::Display for Lack {
 /// Why a journal has no picture.
 #[derive(Clone, Copy, Debug, PartialEq, Eq)]
 pub enum NoPicture {
-    /// The line of the journal with this number is the first that lacks something. The first line has number 1.
+    /// The line of the journal with this number is the first that lacks something. The first line
+    /// has number 1.
     Lacks(u64, Lack),
     OutOfMemory,
 }

@@ -17,7 +17,8 @@ pub enum LegEnd {
     UnderWay,
 }
 
-/// A piece of a message's way: it ends at the receiver's line where the message is delivered, and else in front of it.
+/// A piece of a message's way: it ends at the receiver's line where the message is delivered, and
+/// else in front of it.
 #[derive(Clone, Copy, Debug, PartialEq, Eq)]
 pub struct Leg {
     pub message: Message,
@@ -44,7 +45,8 @@ pub enum MarkKind {
     Asked,
 }
 
-/// The mark of an event: the number of its line in the schedule, and the server at which it happens, or 0.
+/// The mark of an event: the number of its line in the schedule, and the server at which it
+/// happens, or 0.
 #[derive(Clone, Copy, Debug, PartialEq, Eq)]
 pub struct Mark {
     pub height: u32,

@@ -8,8 +8,8 @@ use pg_msg::Summary;
 use std::alloc::{AllocError, Global};
 use std::marker::Model;
 
-/// A message under way: what it is, at which height the piece of its way begins that is not drawn yet, and whether it begins
-/// in front of the receiver's line, where the message was copied.
+/// A message under way: what it is, at which height the piece of its way begins that is not drawn
+/// yet, and whether it begins in front of the receiver's line, where the message was copied.
 #[derive(Clone, Copy, Debug, PartialEq, Eq)]
 pub struct Message {
     pub summary: Summary,
@@ -101,7 +101,8 @@ impl Messages {
         self.values.retain(|m| !is_for(server, m));
     }
 
-    /// Copies the message with this number, if there is one, to the end. Both go on from this height.
+    /// Copies the message with this number, if there is one, to the end. Both go on from this
+    /// height.
     pub fn copy(&mut self, number: u64, height: u32) -> Result<Option<Message>, AllocError>
         ensures found { IfOk result (λ o. o ≡ message_at self.old number) }
         ensures bag { OnOk result (self.new

@@ -112,7 +112,8 @@ fn answer(alloc: Global, next: Option<&JournalLine>) -> Result<Bytes, AllocError
     Ok(text)
 }
 
-/// What is written beside the event with this line of the schedule, whose line of the journal has this one behind it.
+/// What is written beside the event with this line of the schedule, whose line of the journal has
+/// this one behind it.
 pub(crate) fn event_text(
     alloc: Global,
     what: &Line,

@@ -21,7 +21,8 @@ use pg_base::Items;
 use pg_trace::JournalLine;
 use std::alloc::{AllocError, Global};
 
-/// Draws the ways of what is still under way, each a line lower than the one before, from this height on.
+/// Draws the ways of what is still under way, each a line lower than the one before, from this
+/// height on.
 fn hang_each(bag: &[Message], height: u32, legs: &mut Items<Leg>) -> Result<(), AllocError>
     requires { height + length bag.now < 2 ^ 32 }
     ensures { OnOk result (legs.new ≡ legs.old ++ hanging UnderWay height bag.now) }
@@ -77,9 +78,9 @@ pub fn draw(alloc: Global, journal: &[JournalLine]) -> Result<Sketch, NoPicture>
     Ok(sketch)
 }
 
-/// Whatever journal is drawn, there is one mark for each event, one arrow for each message that was delivered, one cross for
-/// each that was lost and for each whose receiver is removed, one fork for each that was repeated, and one open end for each
-/// that is still under way.
+/// Whatever journal is drawn, there is one mark for each event, one arrow for each message that was
+/// delivered, one cross for each that was lost and for each whose receiver is removed, one fork for
+/// each that was repeated, and one open end for each that is still under way.
 pub fn pictures_are_whole()
     ensures { (journal : List JournalLine) (s : Sketch) → draw journal ≡ Drawn s
         → IsWholePicture journal s }

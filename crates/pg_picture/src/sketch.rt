@@ -138,8 +138,8 @@ fn is_gone(removed: &[NodeId], server: NodeId) -> bool
     removed.contains(&server)
 }
 
-/// Draws the ways of what is under way to a server that is removed, each a line lower than the one before, from this height on.
-/// The answer is the height of the last one.
+/// Draws the ways of what is under way to a server that is removed, each a line lower than the one
+/// before, from this height on. The answer is the height of the last one.
 fn fall_each(
     bag: &[Message],
     server: NodeId,
@@ -258,7 +258,8 @@ impl Sketch {
         next: Option<&JournalLine>,
     ) -> Result<(), AllocError>
         requires { self.old.height + length self.old.bag + 2 < 2 ^ 32 }
-        ensures { OnOk result (self.new ≡ with_event self.old number what.now (option_copied next.entry)) }
+        ensures { OnOk result (self.new
+            ≡ with_event self.old number what.now (option_copied next.entry)) }
     {
         let outcome = outcome_of(next);
         self.height += 2;

@@ -77,7 +77,7 @@ clean_along x link key tag h =
     (clean_acked x.edges link.peer link.birth key tag h)
   where
     along_by : (t : Bool) (es : List Edge) → are_clean es ≡ true
-        → are_clean (cond t (record { birth = x.birth; content = x.content; edges = es }) x).edges ≡ true
+        → are_clean (cond t (record x { edges = es }) x).edges ≡ true
     along_by true es k = k
     along_by false es k = h
 

@@ -96,11 +96,11 @@ none_in same file gap =
 pub old_link : (x : Replica) (peer birth : ℕ) (ks : List Key) (tags : ℕ) → makes_edge x.edges peer birth ≡ false
     → with_link x peer birth ks tags ≡ x
 old_link x peer birth ks tags old =
-    ap (λ b. record { birth = x.birth; content = x.content; edges = cond b (put_edge x.edges (new_edge peer birth ks tags)) x.edges }) old
+    ap (λ b. record x { edges = cond b (put_edge x.edges (new_edge peer birth ks tags)) x.edges }) old
 
 pub old_unlink : (x : Replica) (peer birth : ℕ) → is_listed x.edges peer birth ≡ false → with_unlink x peer birth ≡ x
 old_unlink x peer birth other =
-    ap (λ b. record { birth = x.birth; content = x.content; edges = cond b (without_edge x.edges peer) x.edges }) other
+    ap (λ b. record x { edges = cond b (without_edge x.edges peer) x.edges }) other
 
 -- ---- choices
 

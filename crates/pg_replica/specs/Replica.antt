@@ -1,7 +1,8 @@
--- A replica with its heads and edges: which keys and cells it has, and what a version, a write and
--- an answer make of it.
+-- A replica with its heads, kept deltas and edges: which keys and cells it has, and what a version, a
+-- write and an answer make of it.
 use Rattle.std.specs.Prelude.{ℕ, ◌+◌, ◌==◌, ◌&&◌, Bool, false, if◌then◌else◌, List, [], ◌∷◌, filter, length, map, nat_le, nat_lt, not, Option, None, Some}
 use Rattle.std.specs.List.{list_any}
+use Rattle.pg_base.specs.declared.head.Head.{Head}
 use Rattle.pg_base.specs.declared.stamp.Stamp.{Stamp}
 use Rattle.pg_base.specs.declared.vector.Actor.{Actor}
 use Rattle.pg_base.specs.declared.policy.Policy.{Policy}
@@ -15,6 +16,9 @@ use Rattle.pg_edges.specs.Key.{is_same_key}
 use Rattle.pg_edges.specs.Edges.{acked, edge_to, is_listed, is_none, keys_at, linked, retired, touched, unlinked}
 use Rattle.pg_base.specs.Version.{VersionValue, actor_of}
 use Rattle.pg_content.specs.Content.{is_covered, covers_version, actor_limit, body_limit, joined_content, next_vector, shown_bytes, with_heads, written}
+use Rattle.pg_delta.specs.Kept.{with_delta}
+use Rattle.pg_delta.specs.Taking.{delta_to, patched_version, stamps_of}
+use Rattle.pg_delta.specs.declared.delta.KeptDelta.{KeptDelta}
 use Rattle.pg_content.specs.declared.error.WriteError.{WriteError}
 use Rattle.pg_content.specs.declared.error.WriteError.TheVariants.{TooLong, ManyActors}
 use Rattle.pg_replica.specs.declared.link.Link.{Link}
@@ -53,11 +57,18 @@ without_keys es (k ∷ ks) = without_keys (retired es k) ks
 -- the keys of the heads that go leave every edge, and the version's own key is touched on every
 -- edge, from this tag on
 abbrev pub with_head : Replica → VersionValue → ℕ → Replica
-with_head x v tags = record {
-  birth = x.birth;
+with_head x v tags = record x {
   content = joined_content x.content v;
   edges = touched (without_keys x.edges (keys (covered_heads x.content.heads v))) (key_of v) tags;
 }
+
+-- what the ranges make of what is shown comes as the version of that head, from the heads of these
+-- stamps, and is kept as a delta
+abbrev pub with_patched : Replica → Head → List Stamp → RangesValue → ℕ → Replica
+with_patched x head from ranges tags =
+    record (with_head x (patched_version x.content head ranges) tags) {
+      kept = with_delta x.kept (delta_to from head.stamp ranges);
+    }
 
 -- a version that is covered changes nothing; any other is a head from then on
 abbrev pub with_version : Replica → VersionValue → ℕ → Replica
@@ -74,31 +85,31 @@ abbrev pub new_replica : ℕ → Policy → Replica
 new_replica birth policy = record {
   birth = birth;
   content = record { policy = policy; heads = [] };
+  kept = [];
   edges = [];
 }
 
 -- a fresh tag at the key on every edge, from this tag on
 abbrev pub with_touch : Replica → Key → ℕ → Replica
-with_touch x k tags =
-    record { birth = x.birth; content = x.content; edges = touched x.edges k tags }
+with_touch x k tags = record x { edges = touched x.edges k tags }
 
 -- ---- a write
 
--- the version is the only head: the keys of all heads leave every edge, and its own key is touched
--- on every edge, from this tag on
-abbrev pub with_only : Replica → VersionValue → ℕ → Replica
-with_only x v tags = record {
-  birth = x.birth;
+-- the version is the only head, and the delta that made it is kept: the keys of all heads leave every
+-- edge, and its own key is touched on every edge, from this tag on
+abbrev pub with_only : Replica → VersionValue → KeptDelta → ℕ → Replica
+with_only x v delta tags = record x {
   content = with_heads x.content (v ∷ []);
+  kept = with_delta x.kept delta;
   edges = touched (without_keys x.edges (keys x.content.heads)) (key_of v) tags;
 }
 
--- what the actor writes is the only head: the keys of all heads leave every edge, and the key of
--- its stamp is touched on every edge, from this tag on
+-- what the actor writes is the only head, and is kept as a delta from the heads that were: their
+-- keys leave every edge, and the key of its stamp is touched on every edge, from this tag on
 abbrev pub with_write : Replica → Actor → Stamp → RangesValue → ℕ → Replica
-with_write x actor stamp ranges tags = record {
-  birth = x.birth;
+with_write x actor stamp ranges tags = record x {
   content = written x.content actor stamp ranges;
+  kept = with_delta x.kept (delta_to (stamps_of x.content) stamp ranges);
   edges = touched (without_keys x.edges (keys x.content.heads)) (key.Version stamp) tags;
 }
 
@@ -165,26 +176,17 @@ is_clean_to x peer birth = are_none (keys_at x.edges peer birth)
 -- a link to this birth of a peer: where it makes an edge, each of these keys has a fresh tag there,
 -- from this tag on
 abbrev pub with_link : Replica → ℕ → ℕ → List Key → ℕ → Replica
-with_link x peer birth ks tags = record {
-  birth = x.birth;
-  content = x.content;
-  edges = linked x.edges peer birth ks tags;
-}
+with_link x peer birth ks tags = record x { edges = linked x.edges peer birth ks tags }
 
 -- the edge to a peer goes, where it names this birth
 abbrev pub with_unlink : Replica → ℕ → ℕ → Replica
-with_unlink x peer birth =
-    record { birth = x.birth; content = x.content; edges = unlinked x.edges peer birth }
+with_unlink x peer birth = record x { edges = unlinked x.edges peer birth }
 
 -- ---- an answer
 
 -- the key goes off the edge to this birth of the peer where the tag is the present one there
 abbrev pub with_ack : Replica → ℕ → ℕ → Key → ℕ → Replica
-with_ack x peer birth k tag = record {
-  birth = x.birth;
-  content = x.content;
-  edges = acked x.edges peer birth k tag;
-}
+with_ack x peer birth k tag = record x { edges = acked x.edges peer birth k tag }
 
 -- the same, where there is the edge
 abbrev pub with_ack_along : Replica → Link → Key → ℕ → Replica

@@ -4,6 +4,7 @@ use Rattle.pg_base.specs.declared.policy.Policy.TheVariants.{Last}
 use Rattle.pg_edges.specs.declared.edge.Edge.{Edge}
 use Rattle.pg_edges.specs.Edges.{put_edge}
 use Rattle.pg_replica.specs.declared.replica.Replica.{Replica}
+use Rattle.pg_replica.specs.Replica.{new_replica}
 
 -- to the first birth of a peer
 abbrev pub clean_edge : ℕ → Edge
@@ -20,8 +21,4 @@ clean_edges server (suc k) = with_clean server (suc k) (clean_edges server k)
 
 -- the first replica of the root: it has a clean edge to that of each other server
 abbrev pub first_root : ℕ → ℕ → Replica
-first_root server servers = record {
-  birth = 1;
-  content = record { policy = Last; heads = [] };
-  edges = clean_edges server servers;
-}
+first_root server servers = record (new_replica 1 Last) { edges = clean_edges server servers }

@@ -11,6 +11,7 @@ use crate::numbers::has_end;
 use crate::replica::Replica;
 use pg_base::{FileId, Items, NodeId, Stamp, Version};
 use pg_content::WriteError;
+use pg_delta::KeptDelta;
 use pg_edges::Key;
 use pg_patch::Ranges;
 use std::alloc::{AllocError, Global};
@@ -121,11 +122,12 @@ pub(crate) fn write_listed(
 {
     let version = replica.next_version(stamp, ranges)?;
     let bases = replica.bases(alloc)?;
+    let delta = KeptDelta::new(alloc, bases.as_slice(), stamp, ranges)?;
     // These are fewer than 2^63, so the tags stay in range.
     let _count = replica.edges.as_slice().len();
     list_keys(&mut lists.unacknowledged, file, replica)?;
     list_end(&mut lists.ended, file, &version)?;
-    replica.put_alone(version, tags)?;
+    replica.put_alone(version, delta, tags)?;
     Ok(bases)
 }
 

@@ -12,6 +12,7 @@ use crate::link::Link;
 use crate::retiring::{key_of, retire_all, retire_replaced};
 use pg_base::{Actor, Items, NodeId, Policy, Stamp, Version};
 use pg_content::{Content, WriteError};
+use pg_delta::{KeptDelta, KeptDeltas};
 use pg_edges::{Edges, Key};
 use pg_patch::Ranges;
 use std::alloc::{AllocError, Global};
@@ -23,6 +24,8 @@ pub struct Replica {
     pub birth: u64,
     /// The versions that stand side by side. Each is a cell, and its key is its stamp.
     pub content: Content,
+    /// The latest of the deltas that it made or took.
+    pub kept: KeptDeltas,
     /// The peers' replicas that it floods to, and the keys that they have not acknowledged.
     pub edges: Edges,
 }
@@ -35,6 +38,7 @@ impl Replica {
         Replica {
             birth,
             content: Content::new(alloc, policy),
+            kept: KeptDeltas::new(alloc),
             edges: Edges::new(alloc),
         }
     }
@@ -168,17 +172,23 @@ impl Replica {
         self.content.next_version(actor, stamp, ranges)
     }
 
-    /// The version is the only head, and its key is touched on every edge. `tags` is the next tag to give. After a refusal
-    /// the content is as before, but edges and tags may be changed in part.
-    pub(crate) fn put_alone(&mut self, version: Version, tags: &mut u64) -> Result<(), AllocError>
+    /// The version is the only head, the delta that made it is kept, and its key is touched on every edge. `tags` is the
+    /// next tag to give. After a refusal the content is as before, but all else may be changed in part.
+    pub(crate) fn put_alone(
+        &mut self,
+        version: Version,
+        delta: KeptDelta,
+        tags: &mut u64,
+    ) -> Result<(), AllocError>
         requires { tags.old + length self.old.edges < 2 ^ 64 }
-        ensures replica { OnOk result (self.new ≡ with_only self.old version tags.old) }
+        ensures replica { OnOk result (self.new ≡ with_only self.old version delta tags.old) }
         ensures tags { OnOk result (tags.new ≡ tags.old + length self.old.edges) }
         ensures err { OnErr result (self.new.content ≡ self.old.content) }
         ensures no_edge { length self.old.edges ≡ 0 → length self.new.edges ≡ 0 }
     {
         retire_all(&mut self.edges, self.content.heads());
         touch_edges(&mut self.edges, key_of(&version), tags)?;
+        self.kept.keep(delta)?;
         self.content.put_alone(version)?;
         Ok(())
     }
@@ -201,17 +211,6 @@ impl Replica {
         ensures same { result ≡ false → self.new ≡ self.old }
     {
         link.own == self.birth && self.edges.ack(link.peer, link.birth, key, tag)
-    }
-
-    /// The same replica again. The bodies are shared.
-    pub fn copy(&self) -> Result<Replica, AllocError>
-        ensures { IfOk result (λ x. x ≡ self.now) }
-    {
-        Ok(Replica {
-            birth: self.birth,
-            content: self.content.copy()?,
-            edges: self.edges.copy()?,
-        })
     }
 
     fn own_actor(&self, server: NodeId) -> Actor

@@ -1,16 +1,19 @@
-//! What a program of rows reads and writes: a row is a line with a call of a library, and the program writes what the call
-//! answers. Many rows have pieces, with a bar between two of them, that are done one after another on one thing.
+//! What a program of rows reads and writes: a row is a line with a call of a library, and the
+//! program writes what the call answers. Many rows have pieces, with a bar between two of them,
+//! that are done one after another on one thing.
 //!
-//! Words are read with good will: where one lacks, or is none of its kind, a number is 0, a text is empty and an id is the
-//! root. So a row stays a line that can be read at sight, and the functions here have no case to refuse.
+//! Words are read with good will: where one lacks, or is none of its kind, a number is 0, a text is
+//! empty and an id is the root. So a row stays a line that can be read at sight, and the functions
+//! here have no case to refuse.
 #![tactic(auto)]
 
 mod answer;
 mod pieces;
 mod words;
 
-pub use answer::{put, tell, tell_id, tell_number, unread};
+pub use answer::Answer;
 pub use pieces::{Stage, play};
 pub use words::{
-    ROOT, actor, id, narrow, numbered, servers, stamp, text, wide, word, words_from, words_of,
+    ROOT, actor, id, narrow, numbered, repeat, servers, stamp, text, wide, word, words_from,
+    words_of,
 };

@@ -74,12 +74,18 @@ pub fn numbered(word: &[u8]) -> (Actor, u64) {
     (actor(server), number(known).unwrap_or(0))
 }
 
+/// The text as often at the end as the word for a number says, or not at all.
+pub fn repeat(count: &[u8], text: &[u8], out: &mut Bytes) -> Result<(), AllocError> {
+    for _ in 0..number_u32(count).unwrap_or(0) {
+        out.extend(text)?;
+    }
+    Ok(())
+}
+
 /// A text, or `TEXT*COUNT`: the text so many times.
 pub fn text(alloc: Global, word: &[u8]) -> Result<Bytes, AllocError> {
     let (piece, count) = cut_at(word, b'*').unwrap_or((word, b"1"));
     let mut text = Bytes::new(alloc);
-    for _ in 0..number_u32(count).unwrap_or(0) {
-        text.extend(piece)?;
-    }
+    repeat(count, piece, &mut text)?;
     Ok(text)
 }

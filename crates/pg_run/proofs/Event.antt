@@ -30,7 +30,7 @@ use Rattle.pg_server.proofs.pg_intentions.Steady.{begin_end_stays}
 use Rattle.pg_server.specs.pg_calls.Calls.{do_call}
 use Rattle.pg_server.specs.declared.input.Input.{Input}
 use Rattle.pg_server.specs.declared.input.Input.TheVariants as input
-use Rattle.pg_server.specs.Local.{Effect, done_of, effect, finished, first_effect, intended, is_heard, receive, reply_to, sent_again, settled, takes_effect, without_wishes}
+use Rattle.pg_server.specs.Local.{Effect, done_of, effect, finished, first_effect, intended, is_heard, receive, reply_to, sent_again, settled, takes_effect, without_volatile}
 use Rattle.theory_flood_pieces.proofs.Choices.{All-flat_map, chosen, decided}
 use Rattle.theory_flood_pieces.proofs.Settling.{settle_sent, settle_tail}
 
@@ -127,7 +127,7 @@ pub record FirstHas (H : Packet → Type 0) (a : Store) (P : Done → Type 0) : 
       → P (idle a (sent_again a word (new_work moment 0)))
   pub arrivals : (packet : Packet) → is_heard a packet ≡ true → H packet
       → P (receive a packet.message (new_work 0 packet.from))
-  pub restarts : P (idle (without_wishes a) (new_work 0 0))
+  pub restarts : P (idle (without_volatile a) (new_work 0 0))
   pub nothing : (moment from : ℕ) → P (idle a (new_work moment from))
 
 module _ (H : Packet → Type 0) (a : Store) (P : Done → Type 0) (k : FirstHas H a P) where
@@ -163,7 +163,7 @@ pub record IsKeptByParts (H : Packet → Type 0) (P : Store → Type 0) : Type 0
       → P (do_call a call (new_work moment 0)).store
   pub arrivals : (a : Store) (packet : Packet) → is_heard a packet ≡ true → H packet → P a
       → P (receive a packet.message (new_work 0 packet.from)).store
-  pub restarts : (a : Store) → P a → P (without_wishes a)
+  pub restarts : (a : Store) → P a → P (without_volatile a)
   pub rules : (d : Done) → P d.store → P (settled d).store
   pub intentions : (d : Done) → P d.store → P (intended d).store
 

@@ -36,7 +36,7 @@ use Rattle.theory_flood_pieces.specs.Whole.{IsWhole}
 use Rattle.pg_server.specs.pg_intentions.Beginning.{begin_end}
 use Rattle.pg_server.specs.pg_intentions.Requests.{ask_all, asks}
 use Rattle.pg_server.specs.declared.input.Input.TheVariants as input
-use Rattle.pg_server.specs.Local.{Effect, closed, effect, finished, intended, sent_again, settled, without_wishes}
+use Rattle.pg_server.specs.Local.{Effect, closed, effect, finished, intended, sent_again, settled, without_volatile}
 use Rattle.pg_call.specs.declared.refusal.Refusal.TheVariants.{ClockEnd}
 use Rattle.pg_call.specs.declared.reply.Reply.{Reply}
 use Rattle.pg_call.specs.declared.reply.Reply.TheVariants as reply
@@ -67,7 +67,7 @@ pub record IsTidy (n s : ℕ) (a : Store) : Type 0 where
   pub ordered : AreOrdered a.names
   pub golds : FullSeeGold a
   pub still : StaysIntended a
-  pub still_without : StaysIntended (without_wishes a)
+  pub still_without : StaysIntended (without_volatile a)
   pub asked : All (HasRequest a) a.intents
   pub by_id : IsStrictlySortedBy file_cmp (keys_of a.names.held)
   pub whole : IsWhole n s a
@@ -257,7 +257,7 @@ ticks_send_what_is_owed n tidy events s moment word live =
 
 module _ (n s : ℕ) (a : Store) (k : IsTidy n s a) where
   abbrev Lost : Store
-  Lost = without_wishes a
+  Lost = without_volatile a
 
   abbrev Bare : Effect
   Bare = finished None (idle Lost (new_work 0 0))

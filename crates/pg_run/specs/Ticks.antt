@@ -40,7 +40,7 @@ use Rattle.pg_server.specs.pg_cells.Sending.{waits}
 use Rattle.pg_house.specs.Facts.{is_among}
 use Rattle.pg_register.specs.Place.{root}
 use Rattle.pg_server.specs.pg_graph.Walks.{edges_of}
-use Rattle.pg_server.specs.Local.{without_wishes}
+use Rattle.pg_server.specs.Local.{without_volatile}
 use Rattle.pg_server.specs.Owing.{owed_keys}
 use Rattle.pg_run.specs.Run.{Step, is_live, next, run}
 
@@ -202,13 +202,14 @@ TicksSendWhatIsOwed servers = (events : List Event) (server moment word : ℕ)
 
 -- ---- a restart
 
--- a restart loses the wishes and changes nothing else; nothing is made, told or sent
+-- a restart loses the wishes and what is noted of versions, and changes nothing else; nothing is
+-- made, told or sent
 pub record RestartLoses (stores : ℕ → Store) (server : ℕ) (step : Step) : Type 0 where
   pub void : step.entry.void ≡ None
   pub reply : step.entry.reply ≡ None
   pub made : step.entry.made ≡ []
   pub sent : step.entry.sent ≡ []
-  pub here : step.stores server ≡ without_wishes (stores server)
+  pub here : step.stores server ≡ without_volatile (stores server)
   pub still : (s : ℕ) → s ≢ server → step.stores s ≡ stores s
 
 abbrev pub RestartsLoseWishes : ℕ → Type 0

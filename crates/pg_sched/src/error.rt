@@ -14,7 +14,8 @@ use thiserror::Error;
 pub enum ReadError {
     #[error("out of memory")]
     OutOfMemory,
-    /// The first line outside the grammar, by its number, and why it is. The first line has number 1.
+    /// The first line outside the grammar, by its number, and why it is. The first line has number
+    /// 1.
     #[error("line {0}: {1}")]
     BadLine(u64, Fault),
 }

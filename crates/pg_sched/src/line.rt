@@ -12,8 +12,8 @@ pub(crate) const MOST_IN_LINE: usize = 70_000;
 pub enum Form {
     /// Each event, what it made and what it sent.
     Full,
-    /// Only what clients are told, which ticks were refused, which events were void, what lines ask for, and how the run
-    /// ends.
+    /// Only what clients are told, which ticks were refused, which events were void, what lines ask
+    /// for, and how the run ends.
     Short,
 }
 
@@ -36,7 +36,8 @@ impl fmt::Display for Form {
 pub enum Line {
     /// Something happens.
     Happens(Event),
-    /// Messages are delivered and servers tick until all is done, for at most so many rounds, each tick at this moment.
+    /// Messages are delivered and servers tick until all is done, for at most so many rounds, each
+    /// tick at this moment.
     Settle { rounds: u32, moment: u64 },
     /// Whether all is done is to be told.
     Quiet,
@@ -44,7 +45,8 @@ pub enum Line {
     Trace(Form),
     /// Each server's replica of a file or directory is to be shown.
     Show(FileId),
-    /// The meter with this number, counted from 1, is to tell what it has counted, and counts no more.
+    /// The meter with this number, counted from 1, is to tell what it has counted, and counts no
+    /// more.
     MeterOff(u64),
 }
 

@@ -110,7 +110,8 @@ fn rest_of(verb: Verb, words: &[&[u8]]) -> Result<Line, WordsError>
     }
 }
 
-/// The line of a call of this kind: the server, the moment, and the words behind the one that names the call.
+/// The line of a call of this kind: the server, the moment, and the words behind the one that names
+/// the call.
 fn call_of(
     alloc: Global,
     kind: CallKind,
@@ -144,7 +145,8 @@ fn have_all_bytes(server: &[u8], moment: &[u8], arguments: &[&[u8]]) -> bool
     !server.is_empty() && !moment.is_empty() && have_bytes(arguments)
 }
 
-/// Whether the words behind the one that names a call are as many as it wants, and no word is empty.
+/// Whether the words behind the one that names a call are as many as it wants, and no word is
+/// empty.
 fn are_called(kind: CallKind, server: &[u8], moment: &[u8], arguments: &[&[u8]]) -> bool
     ensures { IsTrue result ↔ AreCounted (called_fields kind) (server.now ∷ moment.now
         ∷ map (λ w. w.now) arguments.now) }
@@ -152,7 +154,8 @@ fn are_called(kind: CallKind, server: &[u8], moment: &[u8], arguments: &[&[u8]])
     arguments.len() == kind.count() && have_all_bytes(server, moment, arguments)
 }
 
-/// The line of a call of this kind, however many words there are behind the one that names the call.
+/// The line of a call of this kind, however many words there are behind the one that names the
+/// call.
 fn named_of(
     alloc: Global,
     kind: CallKind,

@@ -125,8 +125,9 @@ fn lines_of(alloc: Global, text: &[u8]) -> Result<Vec<Line>, ReadError>
     Ok(lines)
 }
 
-/// The schedule that the text spells, or its first bad line and why that is bad. `OutOfMemory` can come in place of
-/// either; only good lines, and the bytes that a bad one's words spell, take memory.
+/// The schedule that the text spells, or its first bad line and why that is bad. `OutOfMemory` can
+/// come in place of either; only good lines, and the bytes that a bad one's words spell, take
+/// memory.
 pub fn read(alloc: Global, text: &[u8]) -> Result<Schedule, ReadError>
     ensures found { IfOk result (λ s. IsCount s.servers × AreLines s.lines
         × (text.now ≡ spelling s.servers s.lines)) }

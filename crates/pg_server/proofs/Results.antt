@@ -9,7 +9,6 @@ use Rattle.pg_msg.specs.declared.work.Work.{Work}
 use Rattle.pg_msg.specs.Work.{new_work}
 use Rattle.pg_store.specs.declared.store.Store.{Store}
 use Rattle.pg_store.specs.Store.{is_before_clock_end}
-use Rattle.pg_store.specs.Wishes.{WishesValue}
 use Rattle.pg_calls.specs.pg_pieces.Done.{idle}
 use Rattle.pg_calls.specs.pg_cells.Ticks.{tick}
 use Rattle.pg_calls.specs.pg_graph.Walks.{walk_of_tick}
@@ -17,7 +16,7 @@ use Rattle.pg_calls.specs.pg_intentions.Requests.{ask_all}
 use Rattle.pg_calls.specs.Calls.{do_call}
 use Rattle.pg_server.specs.declared.input.Input.{Input}
 use Rattle.pg_server.specs.declared.input.Input.TheVariants as input
-use Rattle.pg_server.specs.Local.{Effect, closed, done_of, effect, effect_of, finished, is_heard, receive, sent_again, without_wishes}
+use Rattle.pg_server.specs.Local.{Effect, closed, done_of, effect, effect_of, finished, is_heard, receive, sent_again, without_volatile}
 
 pub of_kind : (s : Store) (i k : Input) → i ≡ k → effect s k ≡ effect_of s i
 unfolding effect_of
@@ -72,11 +71,11 @@ ticked a m word v u x w goes new is true_is us xs ws =
     (sym is ∙ true_is))
 
 -- and behind a restart
-pub restarted : (a : Store) (v : Work) (goes : Bool) (wishes : WishesValue)
-    → v ≡ new_work 0 0 → goes ≡ is_before_clock_end a → goes ≡ true → wishes ≡ []
-    → closed None (idle (record a { wishes = wishes }) v) ≡ effect a input.Restart
-restarted a v goes wishes new is true_is none =
-    ap (λ (x : WishesValue). closed None (idle (record a { wishes = x }) v)) none
-    ∙ ap (λ (x : Work). closed None (idle (without_wishes a) x)) new
-    ∙ sym (ap (λ (t : Bool). if t then closed None (idle (without_wishes a) (new_work 0 0))
-    else finished None (idle (without_wishes a) (new_work 0 0))) (sym is ∙ true_is))
+pub restarted : (a lost : Store) (v : Work) (goes : Bool)
+    → v ≡ new_work 0 0 → goes ≡ is_before_clock_end a → goes ≡ true → lost ≡ without_volatile a
+    → closed None (idle lost v) ≡ effect a input.Restart
+restarted a lost v goes new is true_is gone =
+    ap (λ (x : Store). closed None (idle x v)) gone
+    ∙ ap (λ (x : Work). closed None (idle (without_volatile a) x)) new
+    ∙ sym (ap (λ (t : Bool). if t then closed None (idle (without_volatile a) (new_work 0 0))
+    else finished None (idle (without_volatile a) (new_work 0 0))) (sym is ∙ true_is))

@@ -115,9 +115,9 @@ done_of a = record { store = a.store; work = a.work }
 abbrev pub sent_again : Store → ℕ → Work → Work
 sent_again store word work = walk_of_tick store word (ask_all store (tick store work))
 
--- a restart loses the wishes, and nothing else
-abbrev pub without_wishes : Store → Store
-without_wishes store = record store { wishes = [] }
+-- a restart loses the wishes and what is noted of versions, and nothing else
+abbrev pub without_volatile : Store → Store
+without_volatile store = record store { announced = []; wishes = [] }
 
 -- at the end of the clock a call is refused by its own checks, and a tick sends nothing. A message
 -- that is not heard is ignored
@@ -129,7 +129,7 @@ first_effect store (input.Tick moment word) = idle store
 first_effect store (input.Arrival packet) =
     if is_heard store packet then receive store packet.message (new_work 0 packet.from)
     else idle store (new_work 0 packet.from)
-first_effect store input.Restart = idle (without_wishes store) (new_work 0 0)
+first_effect store input.Restart = idle (without_volatile store) (new_work 0 0)
 
 -- what the client is told, if one is
 abbrev pub reply_to : Store → Input → Option Reply

@@ -2,7 +2,7 @@
 
 ghost use Rattle.std.specs.Prelude.{◌≡◌, ◌≤◌, ◌^◌, ◌++◌, OnOk, IfOk};
 ghost use Rattle.pg_calls.specs.pg_pieces.Done.{idle};
-ghost use Rattle.pg_server.specs.Local.{closed, effect, effect_of, finished, is_heard, out_of, receive};
+ghost use Rattle.pg_server.specs.Local.{closed, effect, effect_of, finished, is_heard, out_of, receive, without_volatile};
 
 use crate::input::{Input, Out};
 use pg_base::Items;
@@ -110,20 +110,28 @@ fn tick_effect(store: &mut Store, moment: u64, word: u64) -> Result<Out, AllocEr
     }
 }
 
-/// It has lost its wishes, and nothing else: there is no reply, nothing is made, and nothing begins. At the end of the clock
-/// no house rule runs.
+/// It has lost its wishes and what it noted of versions, and nothing else: there is no reply, nothing is made, and nothing
+/// begins. At the end of the clock no house rule runs.
 fn restart_effect(store: &mut Store) -> Result<Out, AllocError>
     ensures store { OnOk result (store.new ≡ (effect store.old Input.Restart).store) }
     ensures out { IfOk result (λ out. out ≡ (effect store.old Input.Restart).out) }
 {
     let work = Work::new(store.allocator(), 0, 0);
     let goes = store.is_before_clock_end();
-    store.wishes.clear();
+    lose_volatile(store);
     if goes {
         Ok(closed(None, store, work)?)
     } else {
         Ok(finished(None, store, work)?)
     }
+}
+
+/// The wishes and what is noted of versions go.
+fn lose_volatile(store: &mut Store)
+    ensures { store.new ≡ without_volatile store.old }
+{
+    store.announced.clear();
+    store.wishes.clear();
 }
 
 /// Whether a message is heard: it comes from another live server in the same view, has no number out of range, and the

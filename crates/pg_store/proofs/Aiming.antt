@@ -161,7 +161,12 @@ gone_as_before a file =
     wishes_as_before a (without_wish a.wishes file) (λ q w there.
     gone_by (is_same_file file q) (wish_at a q) w (sym (wish_behind a.wishes file q) ∙ there))
 
--- all of them
-pub unwished_as_before : (a : Store) → HoldsAsBefore a (with_wishes a [])
-unwished_as_before a =
-    wishes_as_before a [] (λ q w there. absurd (let z : ◌≡◌ {A = Option Wish} None (Some w) = there in cc))
+-- all of them, and what is noted of versions
+pub unwished_as_before : (a : Store) → HoldsAsBefore a (record a { announced = []; wishes = [] })
+unwished_as_before a = record {
+  held = λ q. refl;
+  births = λ q. refl;
+  given = (let h : a.births ≤ a.births = omega arith in h);
+  wishes = λ q w there. absurd (let z : ◌≡◌ {A = Option Wish} None (Some w) = there in cc);
+  fills = λ q i there. there;
+}

@@ -41,7 +41,9 @@ module _ (server : ℕ) where
       (cuts_as_before files (cut server a file))
 
   pub removed_as_before : (a : Store) → HoldsAsBefore a (with_removed a server)
-  removed_as_before a = names_as_before a (remove_server a.names server) (λ q. refl)
+  removed_as_before a =
+      let was = names_as_before a (remove_server a.names server) (λ q. refl) in
+      record { held = was.held; births = was.births; given = was.given; wishes = was.wishes; fills = was.fills }
 
   -- what a server holds before others are asked
   abbrev pub Cut : Store → Store

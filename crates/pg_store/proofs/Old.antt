@@ -52,6 +52,11 @@ raised_if a n tags rs new names true h drew changed =
     ap (λ z. raised_to a z new names) drew ∙ ap (λ zs. raised_to a (a.tags + n) zs names) changed
 raised_if a n tags rs new names false h drew changed = cc
 
+-- what is done behind a test that held
+pub chosen_then : (f : Store → Store) (b a : Store) (t : Bool) → t ≡ true → f (cond t b a) ≡ cond t (f b) a
+chosen_then f b a true h = refl
+chosen_then f b a false h = cc
+
 pub left_if : (a : Store) (n tags : ℕ) (rs new : ByFile) (b : Store) (t : Bool) → t ≡ false
     → tags ≡ cond t (a.tags + n) a.tags → new ≡ cond t rs a.replicas → drawn_to a tags new ≡ cond t b a
 left_if a n tags rs new b true h drew changed = cc

@@ -4,6 +4,7 @@ use Rattle.std.specs.List.{flat_map}
 use Rattle.pg_base.specs.declared.id.FileId.{FileId}
 use Rattle.pg_base.specs.declared.policy.Policy.{Policy}
 use Rattle.pg_base.specs.Id.{is_same_file}
+use Rattle.pg_announced.specs.Announced.{without_file}
 use Rattle.pg_intent.specs.declared.intent.Intent.{Intent}
 use Rattle.pg_intent.specs.declared.intent.Intent.TheVariants as intent
 use Rattle.pg_intent.specs.declared.key.IntentKey.{IntentKey}
@@ -55,11 +56,12 @@ take_patches store dir (k ∷ ks) = take_patches (take_patch store dir k) dir ks
 
 -- ---- the end
 
--- a replica goes, with all that it has
+-- a replica goes, with all that it has and what is noted of its file
 abbrev pub let_go : Store → FileId → Store
 let_go store file = record store {
   names = let_go_names store.names file;
   replicas = without_replica store.replicas file;
+  announced = without_file store.announced file;
 }
 
 -- ---- the beginning

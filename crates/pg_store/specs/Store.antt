@@ -1,5 +1,5 @@
 -- What one server holds: what it knows of names, and beside that of each thing that it holds a
--- replica with its edges, and the content of a file.
+-- replica with its edges, and the content of a file; and the versions that it heard of and lacks.
 use Rattle.std.specs.Prelude.{ℕ, ◌+◌, ◌&&◌, Bool, true, false, nat_lt, nat_le, not, if◌then◌else◌, [], Option, None, Some, is_some}
 use Rattle.std.specs.List.{list_any}
 use Rattle.std.specs.Map.{values_of}
@@ -9,6 +9,7 @@ use Rattle.pg_base.specs.Stamp.{clock_end, is_before}
 use Rattle.pg_base.specs.Version.{VersionValue}
 use Rattle.pg_patch.specs.Ranges.{RangesValue}
 use Rattle.pg_content.specs.Content.{ContentValue}
+use Rattle.pg_announced.specs.Announced.{NotesValue, without_covered}
 use Rattle.pg_edges.specs.declared.key.Key.{Key}
 use Rattle.pg_edges.specs.declared.key.Key.TheVariants as key
 use Rattle.pg_register.specs.declared.flag.Flag.{Flag}
@@ -35,6 +36,7 @@ new_store servers server = record {
   births = 1;
   names = first_names servers server;
   replicas = first_replicas servers server;
+  announced = [];
   intents = [];
   wishes = [];
 }
@@ -178,9 +180,18 @@ with_news store file stamp replicas =
     with_names (with_drawn store (edge_count (replica_at store file)) replicas)
     (raise store.names stamp.time)
 
+-- what the replica of a file covers is not noted any more
+abbrev pub notes_behind : NotesValue → FileId → Option Replica → NotesValue
+notes_behind notes file None = notes
+notes_behind notes file (Some x) = without_covered notes file x.content.heads
+
+abbrev pub end_covered : Store → FileId → Store
+end_covered store file =
+    record store { announced = notes_behind store.announced file (replica_at store file) }
+
 abbrev pub put_version : Store → FileId → VersionValue → Store
-put_version store file v = with_news store file v.head.stamp
-    (replicas_taking store.replicas file v store.tags (replica_at store file))
+put_version store file v = end_covered (with_news store file v.head.stamp
+    (replicas_taking store.replicas file v store.tags (replica_at store file))) file
 
 abbrev pub take_version : Store → FileId → VersionValue → Store
 take_version store file v =
@@ -188,8 +199,8 @@ take_version store file v =
 
 -- the server makes a version of a held file, on all heads
 abbrev pub write : Store → FileId → Stamp → RangesValue → Store
-write store file stamp ranges = with_news store file stamp
-    (replicas_writing store.replicas file stamp ranges store.tags (replica_at store file))
+write store file stamp ranges = end_covered (with_news store file stamp
+    (replicas_writing store.replicas file stamp ranges store.tags (replica_at store file))) file
 
 -- ---- an answer
 

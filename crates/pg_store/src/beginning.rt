@@ -77,12 +77,13 @@ impl Store {
         Ok(())
     }
 
-    /// A replica goes, with all that it has, and is handed out.
+    /// A replica goes, with all that it has and what is noted of its file, and is handed out.
     pub fn let_go(&mut self, file: &FileId) -> Option<Replica>
         ensures replica { result ≡ replica_at self.old file.now }
         ensures store { self.new ≡ let_go self.old file.now }
     {
         self.names.let_go(file);
+        self.announced.end_file(file);
         self.replicas.remove(file)
     }
 

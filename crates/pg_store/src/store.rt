@@ -8,6 +8,7 @@ ghost use Rattle.pg_store.specs.Store.{acknowledge, has_time, have_own_flag_at_e
 
 use crate::start::{first_names, first_replicas};
 use crate::wishes::Wishes;
+use pg_announced::Announcements;
 use pg_base::{FileId, NodeId, Stamp};
 use pg_edges::Key;
 use pg_intent::Intents;
@@ -30,6 +31,8 @@ pub struct Store {
     pub names: Names,
     /// The replicas of all that it holds, with their edges and contents.
     pub replicas: Replicas,
+    /// The versions that it heard of and does not cover. A restart loses them.
+    pub announced: Announcements,
     /// What it intends until others have answered.
     pub intents: Intents,
     /// What its clients asked for that it does not hold. A restart loses them.
@@ -55,6 +58,7 @@ impl Store {
             births: FIRST_BIRTH,
             names: first_names(alloc, server, servers)?,
             replicas: first_replicas(alloc, server, servers)?,
+            announced: Announcements::new(alloc),
             intents: Intents::new(alloc),
             wishes: Wishes::new(alloc),
         })

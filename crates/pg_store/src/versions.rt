@@ -3,7 +3,7 @@
 ghost use Rattle.std.specs.Prelude.{◌≡◌, ◌≢◌, ◌≤◌, ◌^◌, IfErr, IfOk, None, OnOk, Some, map, true};
 ghost use Rattle.pg_base.specs.Version.{stamp_of};
 ghost use Rattle.pg_replica.specs.Replica.{has_room, refusal_of};
-ghost use Rattle.pg_store.specs.Store.{content_of, has_replica, is_new_version, replica_of, take_version, write};
+ghost use Rattle.pg_store.specs.Store.{content_of, end_covered, has_replica, is_new_version, replica_of, take_version, write};
 
 use crate::store::{COUNTER_LIMIT, Store};
 use pg_base::{FileId, Items, Stamp, Version};
@@ -12,7 +12,8 @@ use pg_patch::Ranges;
 use std::alloc::AllocError;
 
 impl Store {
-    /// A held file takes a version: it is a head from then on, if it is not covered. Tells whether it is. After out of
+    /// A held file takes a version: it is a head from then on, if it is not covered, and of what is covered then nothing is
+    /// noted any more. Tells whether it is. After out of
     /// memory a part may be done.
     pub fn take_version(&mut self, file: FileId, version: Version) -> Result<bool, AllocError>
         ensures store { OnOk result (self.new ≡ take_version self.old file version) }
@@ -25,12 +26,13 @@ impl Store {
         let news = self.replicas.take_version(file, version, &mut self.tags)?;
         if news {
             self.names.raise(time);
+            self.end_covered(&file);
         }
         Ok(news)
     }
 
     /// Makes a version of what the ranges make of what is shown of a held file, and answers the stamps of the heads that
-    /// it is based on. It is the only head then. Where that is refused nothing changes. Where memory ran out a part may be
+    /// it is based on. It is the only head then, and of what it covers nothing is noted any more. Where that is refused nothing changes. Where memory ran out a part may be
     /// done.
     pub fn write(
         &mut self,
@@ -51,6 +53,16 @@ impl Store {
     {
         let bases = self.replicas.write(file, stamp, ranges, &mut self.tags)?;
         self.names.raise(stamp.time);
+        self.end_covered(&file);
         Ok(bases)
+    }
+
+    /// What the replica of the file covers is not noted any more.
+    fn end_covered(&mut self, file: &FileId)
+        ensures { self.new ≡ end_covered self.old file.now }
+    {
+        if let Some(replica) = self.replicas.get(file) {
+            self.announced.end_covered(file, &replica.content);
+        }
     }
 }

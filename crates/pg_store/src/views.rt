@@ -10,13 +10,14 @@ use pg_base::{FileId, Items, NodeId};
 use std::alloc::AllocError;
 
 impl Store {
-    /// This server is removed in the next view: no edge leads to it from then on, each Bye and Leave that is for it ends,
+    /// This server is removed in the next view: no version is noted any more, no edge leads to it from then on, each Bye and Leave that is for it ends,
     /// and what else asked it asks the next server. After out of memory a part may be done.
     pub fn enter(&mut self, server: NodeId) -> Result<(), AllocError>
         ensures { OnOk result (self.new ≡ enter self.old server) }
     {
         let files = self.held_ids()?;
         self.names.remove_server(server)?;
+        self.announced.clear();
         self.cut_each(server, files.as_slice());
         self.turn(server)
     }

@@ -4,10 +4,11 @@ use crate::packet::sent;
 use crate::row::{put, text, unread};
 use pg_base::{Bytes, Items, cut_at, number};
 use pg_event::{Entry, Event, read_void};
-use pg_journal::read_reply;
+use pg_journal_lines::read_reply;
 use pg_msg::read_update;
 use pg_packet_read::read_packet;
 use pg_packet_write::Content;
+use pg_rows::Answer;
 use pg_sched::{Form, Line, read_line};
 use pg_trace::{write_entry, write_head};
 use pg_words::first_words;
@@ -54,6 +55,14 @@ fn add(alloc: Global, part: &[u8], entry: &mut Entry) -> Result<(), AllocError> 
     Ok(())
 }
 
+/// The parts, with a bar between two of them.
+fn add_all(alloc: Global, parts: &[u8], entry: &mut Entry) -> Result<(), AllocError> {
+    for part in parts.split(|byte| *byte == b'|') {
+        add(alloc, part, entry)?;
+    }
+    Ok(())
+}
+
 /// The number and the form.
 fn head_of(row: &[u8]) -> Option<(u64, Form, &[u8])> {
     let (line, rest) = cut_at(row, b' ')?;
@@ -66,22 +75,61 @@ fn head_of(row: &[u8]) -> Option<(u64, Form, &[u8])> {
     Some((number(line)?, form, rest))
 }
 
-/// `entry NUMBER FORM LINE|PART|..`: what a journal in this form tells of the line with this number, and of what came of
-/// it.
-pub fn entry(alloc: Global, row: &[u8], out: &mut Bytes) -> Result<(), AllocError> {
+/// What a journal in this form tells of the line with this number, and of what came of it.
+fn write_told(
+    number: u64,
+    form: Form,
+    line: &Line,
+    entry: &Entry,
+    text: &mut Bytes,
+) -> Result<(), AllocError> {
+    write_head(number, form, line, text)?;
+    write_entry(number, form, entry, text)
+}
+
+/// The event of a schedule's line; nothing where the text spells no such line.
+fn event_in(alloc: Global, text: &[u8]) -> Result<Option<Event>, AllocError> {
+    match read_line(alloc, text)? {
+        Some(Line::Happens(event)) => Ok(Some(event)),
+        _ => Ok(None),
+    }
+}
+
+/// An entry of the event, with these parts.
+fn entry_with(alloc: Global, event: Event, parts: &[u8]) -> Result<Entry, AllocError> {
+    let mut entry = entry_of(alloc, event);
+    add_all(alloc, parts, &mut entry)?;
+    Ok(entry)
+}
+
+/// What a journal in this form tells of the event with this number, and of these parts.
+fn told(
+    alloc: Global,
+    number: u64,
+    form: Form,
+    event: Event,
+    parts: &[u8],
+) -> Result<Bytes, AllocError> {
+    let entry = entry_with(alloc, event.copy()?, parts)?;
+    let line = Line::Happens(event);
+    let mut text = Bytes::new(alloc);
+    write_told(number, form, &line, &entry, &mut text)?;
+    Ok(text)
+}
+
+/// `entry NUMBER FORM LINE|PART|..`: what a journal in this form tells of the line with this
+/// number, and of what came of it.
+pub fn entry(alloc: Global, row: &[u8], out: &mut Answer) -> Result<(), AllocError> {
     let Some((number, form, rest)) = head_of(row) else {
-        return unread(out);
+        unread(out);
+        return Ok(());
     };
     let (first, parts) = cut_at(rest, b'|').unwrap_or((rest, b""));
-    let Some(Line::Happens(event)) = read_line(alloc, first)? else {
-        return unread(out);
+    let Some(event) = event_in(alloc, first)? else {
+        unread(out);
+        return Ok(());
     };
-    let mut entry = entry_of(alloc, event.copy()?);
-    for part in parts.split(|byte| *byte == b'|') {
-        add(alloc, part, &mut entry)?;
-    }
-    let mut text = Bytes::new(alloc);
-    write_head(number, form, &Line::Happens(event), &mut text)?;
-    write_entry(number, form, &entry, &mut text)?;
-    put(text.as_slice(), out)
+    let text = told(alloc, number, form, event, parts)?;
+    put(text.as_slice(), out);
+    Ok(())
 }

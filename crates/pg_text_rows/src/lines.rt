@@ -1,64 +1,73 @@
 //! Schedules, single lines of them, and journals.
 
-use crate::row::{put, put_again, text};
-use pg_base::Bytes;
+use crate::row::Spelled;
+use pg_base::{Bytes, Items};
 use pg_journal::read_journal;
-use pg_sched::{read, read_line, write};
+use pg_rows::Answer;
+use pg_sched::{Line, Schedule, read, read_line, write};
 use pg_trace::JournalLine;
 use std::alloc::{AllocError, Global};
 
-/// `schedule TEXT`: the schedule, written, or its first bad line and why that is bad.
-pub fn schedule(alloc: Global, row: &[u8], out: &mut Bytes) -> Result<(), AllocError> {
-    let text = text(alloc, row)?;
-    match read(alloc, text.as_slice()) {
-        Ok(schedule) => {
-            let mut written = Bytes::new(alloc);
-            write(&schedule, &mut written)?;
-            put_again(text.as_slice(), written.as_slice(), out)
+/// Of a text that is none, its first bad line and why that is bad.
+impl Spelled for Schedule {
+    fn read(alloc: Global, text: &[u8], out: &mut Answer) -> Result<Option<Schedule>, AllocError> {
+        match read(alloc, text) {
+            Ok(schedule) => Ok(Some(schedule)),
+            Err(error) => {
+                write!(out, "{error}");
+                Ok(None)
+            }
         }
-        Err(error) => write!(out, "{error}"),
+    }
+
+    fn print(&self, _alloc: Global, out: &mut Bytes) -> Result<(), AllocError> {
+        write(self, out)
     }
 }
 
-/// `line TEXT`: the line, printed.
-pub fn line(alloc: Global, row: &[u8], out: &mut Bytes) -> Result<(), AllocError> {
-    let text = text(alloc, row)?;
-    match read_line(alloc, text.as_slice())? {
-        Some(line) => {
-            let mut printed = Bytes::new(alloc);
-            write!(printed, "{line}")?;
-            put_again(text.as_slice(), printed.as_slice(), out)
+impl Spelled for Line {
+    fn read(alloc: Global, text: &[u8], out: &mut Answer) -> Result<Option<Line>, AllocError> {
+        let line = read_line(alloc, text)?;
+        if line.is_none() {
+            out.put(b"no line");
         }
-        None => out.extend(b"no line"),
+        Ok(line)
+    }
+
+    fn print(&self, _alloc: Global, out: &mut Bytes) -> Result<(), AllocError> {
+        write!(out, "{self}")
     }
 }
 
-/// Copies of the lines, written, and the lines as they are printed, where that differs.
-fn put_lines(
-    alloc: Global,
-    text: &[u8],
-    lines: &[JournalLine],
-    out: &mut Bytes,
-) -> Result<(), AllocError> {
-    let mut written = Bytes::new(alloc);
-    let mut printed = Bytes::new(alloc);
-    for line in lines {
-        pg_trace::write(&[line.copy(alloc)?], &mut written)?;
-        write!(printed, "{line}\n")?;
-    }
-    put_again(text, written.as_slice(), out)?;
-    if written.as_slice() != printed.as_slice() {
-        out.extend(b", printed as ")?;
-        put(printed.as_slice(), out)?;
-    }
-    Ok(())
+/// The lines of a journal.
+#[derive(Drop)]
+pub struct Journal {
+    lines: Items<JournalLine>,
 }
 
-/// `journal TEXT`: copies of its lines, written, or the first line that is none.
-pub fn journal(alloc: Global, row: &[u8], out: &mut Bytes) -> Result<(), AllocError> {
-    let text = text(alloc, row)?;
-    match read_journal(alloc, text.as_slice()) {
-        Ok(journal) => put_lines(alloc, text.as_slice(), journal.as_slice(), out),
-        Err(error) => write!(out, "{error}"),
+/// Of a text that is none, its first line that is none of a journal.
+impl Spelled for Journal {
+    fn read(alloc: Global, text: &[u8], out: &mut Answer) -> Result<Option<Journal>, AllocError> {
+        match read_journal(alloc, text) {
+            Ok(lines) => Ok(Some(Journal { lines })),
+            Err(error) => {
+                write!(out, "{error}");
+                Ok(None)
+            }
+        }
+    }
+
+    /// Copies of the lines, written, and the lines as they are printed, where that differs.
+    fn print(&self, alloc: Global, out: &mut Bytes) -> Result<(), AllocError> {
+        let mut printed = Bytes::new(alloc);
+        for line in self.lines.as_slice() {
+            pg_trace::write(&[line.copy(alloc)?], out)?;
+            write!(printed, "{line}\n")?;
+        }
+        if out.as_slice() != printed.as_slice() {
+            out.extend(b", printed as ")?;
+            out.extend(printed.as_slice())?;
+        }
+        Ok(())
     }
 }

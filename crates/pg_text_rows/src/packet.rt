@@ -8,6 +8,7 @@ use pg_msg::{Message, Packet, Sent};
 use pg_packet_fields::PacketError;
 use pg_packet_read::read_packet;
 use pg_packet_write::{Content, Datagram, Request, write_packet};
+use pg_rows::Answer;
 use std::alloc::{AllocError, Global};
 
 /// The most bytes of a packet all of whose beginnings are read.
@@ -24,12 +25,12 @@ pub fn sent(from: u32, view: u64, message: &Message) -> Result<Sent, AllocError>
 }
 
 /// Whom the packet is from, its view, and what it says.
-fn show(packet: &Datagram, out: &mut Bytes) -> Result<(), AllocError> {
-    write!(out, "{} in view {}: ", packet.from, packet.view)?;
+fn show(packet: &Datagram, out: &mut Answer) -> Result<(), AllocError> {
+    write!(out, "{} in view {}: ", packet.from, packet.view);
     match &packet.content {
         Content::Message(message) => {
-            let sent = sent(packet.from, packet.view, message)?;
-            write!(out, "{}", sent.copy()?.summary())
+            let sent = sent(packet.from, packet.view, message)?.copy()?;
+            write!(out, "{}", sent.summary());
         }
         Content::Call { number, asked } => match asked {
             Request::Call(call) => write!(out, "call {number}: {call}"),
@@ -37,6 +38,7 @@ fn show(packet: &Datagram, out: &mut Bytes) -> Result<(), AllocError> {
         },
         Content::Reply { number, reply } => write!(out, "reply {number}: {reply}"),
     }
+    Ok(())
 }
 
 /// The first beginning of the bytes that does not just end too early.
@@ -54,47 +56,52 @@ fn show_again(
     alloc: Global,
     bytes: &[u8],
     packet: &Datagram,
-    out: &mut Bytes,
+    out: &mut Answer,
 ) -> Result<(), AllocError>
     requires { FitsContent packet.now.content }
 {
     let mut written = Bytes::new(alloc);
     write_packet(packet, &mut written)?;
     if written.as_slice() == bytes {
-        write!(out, "the same {} bytes", bytes.len())
+        write!(out, "the same {} bytes", bytes.len());
     } else {
-        out.extend(b"other bytes ")?;
-        put(written.as_slice(), out)
+        out.put(b"other bytes ");
+        put(written.as_slice(), out);
     }
+    Ok(())
 }
 
-/// What a packet that is not long says, and which of its beginnings is read otherwise than as one that ends too early.
+/// What a packet that is not long says, and which of its beginnings is read otherwise than as one
+/// that ends too early.
 fn show_short(
     alloc: Global,
     bytes: &[u8],
     packet: &Datagram,
-    out: &mut Bytes,
+    out: &mut Answer,
 ) -> Result<(), AllocError> {
     if bytes.len() > SHORT {
         return Ok(());
     }
     show(packet, out)?;
-    out.extend(b", ")?;
-    match whole_beginning(alloc, bytes) {
-        Some(count) => write!(out, "with a beginning of {count}, "),
-        None => Ok(()),
+    out.put(b", ");
+    if let Some(count) = whole_beginning(alloc, bytes) {
+        write!(out, "with a beginning of {count}, ");
     }
+    Ok(())
 }
 
-/// `packet TEXT`: what the packet says and whether it is written as these bytes again, or the place of the first fault. Of
-/// a packet that is not long each beginning is read too.
-pub fn packet(alloc: Global, row: &[u8], out: &mut Bytes) -> Result<(), AllocError> {
+/// `packet TEXT`: what the packet says and whether it is written as these bytes again, or the place
+/// of the first fault. Of a packet that is not long each beginning is read too.
+pub fn packet(alloc: Global, row: &[u8], out: &mut Answer) -> Result<(), AllocError> {
     let bytes = text(alloc, row)?;
     match read_packet(alloc, bytes.as_slice()) {
         Ok(packet) => {
             show_short(alloc, bytes.as_slice(), &packet, out)?;
             show_again(alloc, bytes.as_slice(), &packet, out)
         }
-        Err(fault) => write!(out, "{fault}"),
+        Err(fault) => {
+            write!(out, "{fault}");
+            Ok(())
+        }
     }
 }

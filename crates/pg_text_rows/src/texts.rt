@@ -1,66 +1,77 @@
-//! Calls, refusals, replies, and what a run waits for.
+//! Calls, refusals, replies, and what a run waits for: each is read from its words, of which there
+//! is room for one more than the longest has.
 
-use crate::row::{put, put_again, text};
+use crate::row::Spelled;
 use pg_base::Bytes;
-use pg_call::read_call;
-use pg_event::read_quiet;
-use pg_journal::{read_refusal, read_reply};
+use pg_call::{Call, Refusal, Reply, read_call};
+use pg_event::{Quiet, read_quiet};
+use pg_journal_lines::{read_refusal, read_reply};
+use pg_rows::Answer;
 use pg_trace::{AskedAt, write_quiet};
 use pg_words::first_words;
 use std::alloc::{AllocError, Global};
 
-/// `call TEXT`: a copy of the call, printed.
-pub fn call(alloc: Global, row: &[u8], out: &mut Bytes) -> Result<(), AllocError> {
-    let text = text(alloc, row)?;
-    let mut room = [b"".as_slice(); 5];
-    let count = first_words(text.as_slice(), &mut room);
-    match read_call(alloc, &room[..count])? {
-        Some(call) => {
-            let mut printed = Bytes::new(alloc);
-            write!(printed, "{}", call.copy()?)?;
-            put_again(text.as_slice(), printed.as_slice(), out)
+impl Spelled for Call {
+    fn read(alloc: Global, text: &[u8], out: &mut Answer) -> Result<Option<Call>, AllocError> {
+        let mut room = [b"".as_slice(); 5];
+        let count = first_words(text, &mut room);
+        let call = read_call(alloc, &room[..count])?;
+        if call.is_none() {
+            out.put(b"no call");
         }
-        None => out.extend(b"no call"),
+        Ok(call)
+    }
+
+    fn print(&self, _alloc: Global, out: &mut Bytes) -> Result<(), AllocError> {
+        write!(out, "{}", self.copy()?)
     }
 }
 
-/// `refusal TEXT`: the refusal, printed.
-pub fn refusal(alloc: Global, row: &[u8], out: &mut Bytes) -> Result<(), AllocError> {
-    let text = text(alloc, row)?;
-    let mut room = [b"".as_slice(); 7];
-    let count = first_words(text.as_slice(), &mut room);
-    match read_refusal(&room[..count]) {
-        Some(refusal) => write!(out, "{refusal}"),
-        None => out.extend(b"no refusal"),
+impl Spelled for Refusal {
+    fn read(_alloc: Global, text: &[u8], out: &mut Answer) -> Result<Option<Refusal>, AllocError> {
+        let mut room = [b"".as_slice(); 7];
+        let count = first_words(text, &mut room);
+        let refusal = read_refusal(&room[..count]);
+        if refusal.is_none() {
+            out.put(b"no refusal");
+        }
+        Ok(refusal)
+    }
+
+    fn print(&self, _alloc: Global, out: &mut Bytes) -> Result<(), AllocError> {
+        write!(out, "{self}")
     }
 }
 
-/// `reply TEXT`: a copy of the reply, printed.
-pub fn reply(alloc: Global, row: &[u8], out: &mut Bytes) -> Result<(), AllocError> {
-    let text = text(alloc, row)?;
-    let mut room = [b"".as_slice(); 103];
-    let count = first_words(text.as_slice(), &mut room);
-    match read_reply(alloc, &room[..count])? {
-        Some(reply) => {
-            let mut printed = Bytes::new(alloc);
-            write!(printed, "{}", reply.copy(alloc)?)?;
-            put_again(text.as_slice(), printed.as_slice(), out)
+impl Spelled for Reply {
+    fn read(alloc: Global, text: &[u8], out: &mut Answer) -> Result<Option<Reply>, AllocError> {
+        let mut room = [b"".as_slice(); 103];
+        let count = first_words(text, &mut room);
+        let reply = read_reply(alloc, &room[..count])?;
+        if reply.is_none() {
+            out.put(b"no reply");
         }
-        None => out.extend(b"no reply"),
+        Ok(reply)
+    }
+
+    fn print(&self, alloc: Global, out: &mut Bytes) -> Result<(), AllocError> {
+        write!(out, "{}", self.copy(alloc)?)
     }
 }
 
-/// `end TEXT`: what a run waits for, as a journal tells it at the end.
-pub fn end(alloc: Global, row: &[u8], out: &mut Bytes) -> Result<(), AllocError> {
-    let text = text(alloc, row)?;
-    let mut room = [b"".as_slice(); 8];
-    let count = first_words(text.as_slice(), &mut room);
-    match read_quiet(&room[..count]) {
-        Some(quiet) => {
-            let mut printed = Bytes::new(alloc);
-            write_quiet(AskedAt::End, &quiet, &mut printed)?;
-            put(printed.as_slice(), out)
+impl Spelled for Quiet {
+    fn read(_alloc: Global, text: &[u8], out: &mut Answer) -> Result<Option<Quiet>, AllocError> {
+        let mut room = [b"".as_slice(); 8];
+        let count = first_words(text, &mut room);
+        let quiet = read_quiet(&room[..count]);
+        if quiet.is_none() {
+            out.put(b"neither quiet nor waiting");
         }
-        None => out.extend(b"neither quiet nor waiting"),
+        Ok(quiet)
+    }
+
+    /// As a journal tells it at the end.
+    fn print(&self, _alloc: Global, out: &mut Bytes) -> Result<(), AllocError> {
+        write_quiet(AskedAt::End, self, out)
     }
 }

@@ -1,5 +1,6 @@
-//! That values of these types have a spelling, where they suit each other. Numbers, stamps, ids and bytes are in their
-//! ranges by their types. Nothing is done here: what is read is read so that its range is known.
+//! That values of these types have a spelling, where they suit each other. Numbers, stamps, ids and
+//! bytes are in their ranges by their types. Nothing is done here: what is read is read so that its
+//! range is known.
 
 ghost use Rattle.std.specs.Prelude.{◌≡◌, ◌<◌, ◌^◌, Some};
 ghost use Rattle.std.specs.List.{AllByRecursion};

@@ -9,7 +9,8 @@ ghost use Rattle.pg_trace.specs.JournalLine.{ArePrinted};
 ghost use Rattle.pg_trace.specs.Spelled.{IsEntry};
 ghost use Rattle.pg_trace.specs.Text.{entry_lines, head_lines};
 
-/// In both forms each line that is written has a spelling, wherever numbers and bodies are in their ranges.
+/// In both forms each line that is written has a spelling, wherever numbers and bodies are in their
+/// ranges.
 pub fn what_is_written_is_spelled()
     ensures head { (line : ℕ) (form : Form) (what : Line) → line < 2 ^ 64 → IsLine what
         → ArePrinted (head_lines line form what) }

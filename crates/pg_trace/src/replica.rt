@@ -11,8 +11,8 @@ use std::fmt;
 /// What a replica shows.
 #[derive(Debug, Drop)]
 pub enum ShownContent {
-    /// Of a file: the stamps of its heads in their order, how many bytes are shown, or the greatest `u64` where they are
-    /// more, and the first of them, at most 16.
+    /// Of a file: the stamps of its heads in their order, how many bytes are shown, or the greatest
+    /// `u64` where they are more, and the first of them, at most 16.
     File {
         heads: Items<Stamp>,
         length: u64,

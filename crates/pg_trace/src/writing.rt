@@ -37,7 +37,8 @@ pub fn write(journal: &[JournalLine], out: &mut Bytes) -> Result<(), AllocError>
     Ok(())
 }
 
-/// Writes what stands in front of the output of the line with this number: in full form the line, in short form nothing.
+/// Writes what stands in front of the output of the line with this number: in full form the line,
+/// in short form nothing.
 pub fn write_head(line: u64, form: Form, what: &Line, out: &mut Bytes) -> Result<(), AllocError>
     ensures text { OnOk result (out.new ≡ out.old ++ head_text line form what.now) }
     ensures spelled { IsLine what.now → ArePrinted (head_lines line form what.now) }
@@ -48,8 +49,9 @@ pub fn write_head(line: u64, form: Form, what: &Line, out: &mut Bytes) -> Result
     }
 }
 
-/// Writes what comes of an event on the line with this number. Where its parts suit each other this is lines of a
-/// journal, that is, it is read again: the numbers and bytes of an entry are in their ranges by its type.
+/// Writes what comes of an event on the line with this number. Where its parts suit each other this
+/// is lines of a journal, that is, it is read again: the numbers and bytes of an entry are in their
+/// ranges by its type.
 pub fn write_entry(line: u64, form: Form, entry: &Entry, out: &mut Bytes) -> Result<(), AllocError>
     ensures text { OnOk result (out.new ≡ out.old ++ entry_text line form entry.now) }
     ensures spelled { OnOk result (IsSuited entry.now

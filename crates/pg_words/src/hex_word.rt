@@ -93,8 +93,8 @@ fn decoded(alloc: Global, word: &[u8]) -> Result<Option<Vec<u8>>, AllocError>
     }
 }
 
-/// The bytes, one at least and no more than `most`, that the word spells by pairs of digits in lower case. A word that is
-/// too long takes no memory.
+/// The bytes, one at least and no more than `most`, that the word spells by pairs of digits in
+/// lower case. A word that is too long takes no memory.
 pub fn read_hex(alloc: Global, word: &[u8], most: usize) -> Result<Option<SharedBytes>, AllocError>
     ensures found { IfOk result (λ o. IfSome o (λ b. AreBytes most b
         × (word.now ≡ encode_lower b))) }
@@ -110,8 +110,8 @@ pub fn read_hex(alloc: Global, word: &[u8], most: usize) -> Result<Option<Shared
     }
 }
 
-/// The bytes, no more than `most`, that the word spells by pairs of digits in lower case, or by a dash where there are
-/// none. A word that is too long takes no memory.
+/// The bytes, no more than `most`, that the word spells by pairs of digits in lower case, or by a
+/// dash where there are none. A word that is too long takes no memory.
 pub fn read_hex_word(
     alloc: Global,
     word: &[u8],

@@ -5,7 +5,8 @@ ghost use Rattle.pg_words.specs.TextWord.{IsText, IsVisible};
 
 use std::{fmt, str};
 
-/// A text as it stands. One that is not ASCII throughout is not written: the formatter then answers an error.
+/// A text as it stands. One that is not ASCII throughout is not written: the formatter then answers
+/// an error.
 #[derive(Clone, Copy, Debug)]
 pub struct TextWord<'a>(pub &'a [u8]);
 

@@ -5,7 +5,8 @@ ghost use Rattle.pg_words.specs.Words.{words_in};
 
 use pg_base::cut_at;
 
-/// Puts the first words of a line into the room, as many as there is room for, and answers how many they are.
+/// Puts the first words of a line into the room, as many as there is room for, and answers how many
+/// they are.
 pub fn first_words<'a>(line: &'a [u8], room: &mut [&'a [u8]]) -> usize
     ensures few { result ≤ length room.new }
     ensures first { map (λ w. w.now) (take result room.new)

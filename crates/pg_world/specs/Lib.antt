@@ -3,3 +3,4 @@ pub mod PlayedInside
 pub mod Stands
 pub mod EventList
 pub mod EventListInside
+pub mod Repeats

@@ -435,7 +435,7 @@ impl Machine {
     }
 
     /// The server of this number.
-    fn server_at(&self, server: NodeId) -> &Server
+    pub fn server_at(&self, server: NodeId) -> &Server
         requires { is_server (length self.now.servers.items) server ≡ true }
         ensures { (w : World) → Stands self.now w → result.now.store ≡ w.stores server }
     {

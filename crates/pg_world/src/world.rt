@@ -6,6 +6,7 @@ ghost use Rattle.pg_run.specs.Journal.{bag};
 ghost use Rattle.pg_run.specs.Quiet.{has_some, IsQuiet, quiet_of};
 ghost use Rattle.pg_run.specs.Run.{is_live};
 ghost use Rattle.pg_world.specs.Played.{next_entry, held, final};
+ghost use Rattle.pg_world.specs.Repeats.{repeats};
 
 use crate::event_list::EventList;
 use crate::machine::Machine;
@@ -17,7 +18,8 @@ use pg_store::Store;
 use std::alloc::{AllocError, Global};
 use std::marker::Model;
 
-/// A run of servers 1 to n: all events so far. What the servers hold, and what is under way, is the run of these events.
+/// A run of servers 1 to n: all events so far. What the servers hold, and what is under way, is the
+/// run of these events.
 #[derive(Drop)]
 pub struct World {
     servers: u32,
@@ -106,6 +108,16 @@ impl World {
         self.machine.is_live(server)
     }
 
+    /// How many versions an event would bring that were covered before: one where it delivers a
+    /// message that would be accepted, and that is a cell, a delta or a last piece of a version
+    /// that the receiver's replica covers; else none. It takes no memory.
+    pub fn repeats(&self, event: &Event) -> u64
+        requires { self.now.failed ≡ false }
+        ensures { result ≡ repeats self.now.servers (final self.now) event.now }
+    {
+        self.machine.repeats(event)
+    }
+
     /// Whether a message is under way.
     pub fn has_message(&self) -> bool
         requires { self.now.failed ≡ false }
@@ -114,11 +126,12 @@ impl World {
         self.machine.has_message()
     }
 
-    /// Whether the run is quiet: no message is under way, each live server has entered the last removal, and none owes
-    /// anything. Else what it waits for first: the oldest message; then the least live server whose view is another, and
-    /// its view; then, by live server, the first intention, in the order in which they began; behind a server's intentions
-    /// its first unacknowledged key, by file, peer and key; and behind its keys the first place that it holds back, by id.
-    /// It takes no memory.
+    /// Whether the run is quiet: no message is under way, each live server has entered the last
+    /// removal, and none owes anything. Else what it waits for first: the oldest message; then the
+    /// least live server whose view is another, and its view; then, by live server, the first
+    /// intention, in the order in which they began; behind a server's intentions its first
+    /// unacknowledged key, by file, peer and key; and behind its keys the first place that it holds
+    /// back, by id. It takes no memory.
     pub fn is_quiet(&self) -> Quiet
         requires { self.now.failed ≡ false }
         ensures answer { result ≡ quiet_of self.now.servers (final self.now) }

@@ -2,9 +2,10 @@
 use Rattle.std.proofs.Common.{ℕ, ◌≡◌, ◌<◌, ◌≤◌, List, [], Some, ◌⊎◌, All, arith}
 use Rattle.pg_base.specs.declared.id.FileId.{FileId}
 use Rattle.theory_flood.specs.Promises.{Saying}
+use Rattle.theory_flood.specs.Rule as rule
 use Rattle.theory_flood.specs.Server.{Slot, peer_of}
 use Rattle.theory_flood.specs.Protocol.{Protocol, tags_of, tag, Has, Covers}
-use Rattle.theory_flood.proofs.Flood.{Local, MaySend, Moves, Moves-refl, Moves-trans, by_moves, goes_on}
+use Rattle.theory_flood.proofs.Flood.{MaySend, Moves, Moves-refl, Moves-trans, by_moves, goes_on}
 
 -- the same key of the same edge, whatever the own birth
 abbrev pub IsSamePlace : Slot → Slot → Type 0
@@ -30,7 +31,7 @@ module _ {N M C : Type 0} (p : Protocol N M C) where
 
   -- the rule for one server, and what it may send
   abbrev pub Rule : ℕ → N → N → Saying Slot C → List M → Type 0
-  Rule s a b heard sent = Local p.says (tags_of p) (tag p) (Has p) (Covers p) peer_of p.Noted s a b heard sent
+  Rule s a b heard sent = rule.Rule p s a b heard sent
 
   abbrev pub May : ℕ → N → N → Saying Slot C → Saying Slot C → Type 0
   May s a b heard x = MaySend p.says (tags_of p) (tag p) (Has p) (Covers p) peer_of p.Noted s a b heard x

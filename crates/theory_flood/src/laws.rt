@@ -1,6 +1,8 @@
-//! What holds wherever nothing is owed.
+//! What holds wherever nothing is owed, and what may be answered late. Each law is a clause of a
+//! function that does nothing.
 
-ghost use Rattle.theory_flood.specs.Laws.{LinkedAgree, ConnectedAgree};
+ghost use Rattle.theory_flood.specs.Laws.{ConnectedAgree, LinkedAgree};
+ghost use Rattle.theory_flood.specs.Noting.{EarlyIsLate, LateAnswersKeep};
 
 /// What servers hold and send, as the edges see it.
 pub trait Flooding {
@@ -24,4 +26,15 @@ pub fn linked_agree<F: Flooding>()
 /// The same of two replicas that a chain of such pairs joins.
 pub fn connected_agree<F: Flooding>()
     ensures { ConnectedAgree F.protocol }
+{}
+
+/// Where all messages that were ever sent keep their promises, an event may answer what any of them
+/// said, and edges and messages keep what they promise.
+pub fn late_answers_keep<F: Flooding>()
+    ensures { LateAnswersKeep F.protocol }
+{}
+
+/// Who answers what it heard at once keeps the rule of late answers too.
+pub fn early_is_late<F: Flooding>()
+    ensures { EarlyIsLate F.protocol }
 {}

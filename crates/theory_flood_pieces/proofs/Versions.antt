@@ -37,7 +37,7 @@ use Rattle.pg_store.specs.declared.store.Store.{Store}
 use Rattle.pg_names.specs.Names.{raise}
 use Rattle.pg_replica.specs.Replicas.{ByFile, edge_count, or_nothing, put_replica, replicas_taking, replicas_writing, takes_version}
 use Rattle.pg_store.specs.Cells.{cell_at, flag_cell, version_cell}
-use Rattle.pg_store.specs.Store.{content_of, replica_at, take_version, with_drawn, with_names, write}
+use Rattle.pg_store.specs.Store.{content_of, end_covered, replica_at, take_version, with_drawn, with_names, write}
 use Rattle.theory_flood_pieces.specs.Histories.{IsOfHistory}
 use Rattle.theory_flood_pieces.specs.Seen.{plain, seen, standing}
 use Rattle.theory_flood_pieces.specs.UpTo.{IsUpTo}
@@ -112,7 +112,7 @@ pub record IsNews (t : ℕ) (x y : Replica) (gone : List VersionValue) (v : Vers
 
 -- the server then
 abbrev pub with_new : Store → FileId → Replica → Replica → Stamp → Store
-with_new a file x y stamp = with_names (with_drawn a (length x.edges) (put_replica a.replicas file y)) (raise a.names stamp.time)
+with_new a file x y stamp = end_covered (with_names (with_drawn a (length x.edges) (put_replica a.replicas file y)) (raise a.names stamp.time)) file
 
 module _ (a : Store) (file : FileId) (x y : Replica) (held : replica_at a file ≡ Some x) (gone : List VersionValue) (v : VersionValue) (k : IsNews a.tags x y gone v) where
   abbrev Now : Store
@@ -184,7 +184,7 @@ module _ (a : Store) (file : FileId) (x y : Replica) (held : replica_at a file �
 
 -- the same, by what there is of the file
 abbrev with_news_of : Store → FileId → Stamp → Option Replica → ByFile → Store
-with_news_of a file stamp o rs = with_names (with_drawn a (edge_count o) rs) (raise a.names stamp.time)
+with_news_of a file stamp o rs = end_covered (with_names (with_drawn a (edge_count o) rs) (raise a.names stamp.time)) file
 
 module _ (a : Store) (file : FileId) (w : Replica) (held : replica_at a file ≡ Some w) (h : List Made) (k : IsOfHistory h w.content) where
   abbrev Written : Stamp → RangesValue → VersionValue

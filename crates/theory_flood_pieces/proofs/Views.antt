@@ -12,6 +12,7 @@ use Rattle.pg_store.specs.declared.store.Store.{Store}
 use Rattle.pg_store.specs.Beginning.{with_intents}
 use Rattle.pg_store.specs.Links.{unlink}
 use Rattle.pg_store.specs.Servers.{next_target}
+use Rattle.pg_store.specs.Store.{with_names}
 use Rattle.pg_store.specs.Views.{cut, cut_born, cut_each, enter, listed_birth, turn, with_removed}
 use Rattle.theory_flood_pieces.specs.Laws.{AreAlike}
 use Rattle.theory_flood_pieces.specs.Seen.{standing}
@@ -101,7 +102,10 @@ module _ (n s server : ℕ) where
         last = record { own = k.names.last.own; cells = k.names.last.cells };
         children = k.names.children;
       } in
-      whole_names n s a k (remove_server a.names server) refl names (λ f. refl)
+      let b = with_names a (remove_server a.names server) in
+      let whole : IsWhole n s b = whole_names n s a k (remove_server a.names server) refl names (λ f. refl) in
+      whole_alike n s b whole (with_removed a server)
+      (record { servers = refl; tags = refl; names = refl; replicas = refl }) whole.patches
 
   cut_whole_by : (a : Store) (file : FileId) → IsWhole n s a → (o : Option ℕ) → IsWhole n s (cut_born server a file o)
   cut_whole_by a file k None = k

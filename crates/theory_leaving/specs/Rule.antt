@@ -5,8 +5,9 @@ use Rattle.pg_edges.specs.Edges.{is_listed, tag_at}
 use Rattle.pg_register.specs.declared.flag.Flag.{Flag}
 use Rattle.theory_flood.specs.Promises.{Saying}
 use Rattle.theory_flood.specs.Promises.Saying.{AckTo, Other}
+use Rattle.theory_flood.specs.Noting.{SaidIn, noting}
+use Rattle.theory_flood.specs.Rule as flooding
 use Rattle.theory_flood.specs.Server.{Replica, Slot, HoldsAll}
-use Rattle.theory_flood.proofs.Steps as steps
 use Rattle.theory_leaving.specs.Protocol.{Protocol, Word, Has, Holds}
 use Rattle.theory_leaving.specs.Moment.{at, IsPast}
 
@@ -72,7 +73,7 @@ module _ {W N M C : Type 0} (p : Protocol W N M C) where
       pub byes : (t n : ℕ) → is_listed x.edges t n ≡ true → p.Owes turn.next own t n
 
     -- THE RULE FOR ONE SERVER
-    -- edges: it keeps that of the edges
+    -- edges: it keeps that of the edges, and may answer what any message said
     -- goes, drops: why edges and replicas go
     -- owes, ends: a Bye is owed of what went, until it is answered, or its peer is removed
     -- acks: who answers a cell lists its sender
@@ -80,7 +81,8 @@ module _ {W N M C : Type 0} (p : Protocol W N M C) where
     -- bye_oks: and answered where the edge is not there any more
     pub record Rule : Type 0 where
       pub edges :
-          steps.Rule p.edges turn.server (p.nodes w turn.server) turn.next (heard_as turn.heard) turn.sent
+          flooding.Rule (noting p.edges (SaidIn p.edges (p.mail w))) turn.server
+          (p.nodes w turn.server) turn.next (heard_as turn.heard) turn.sent
       pub goes :
           (own : ℕ) (x y : Replica C) (t n : ℕ) → Holds p (p.nodes w turn.server) own x
           → Holds p turn.next own y → is_listed x.edges t n ≡ true

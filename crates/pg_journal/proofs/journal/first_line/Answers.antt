@@ -1,6 +1,6 @@
 use Rattle.std.proofs.Common.{ap, length, arith, inl}
 use Rattle.pg_base.proofs.Parts.{not_cut}
-use Rattle.pg_journal.proofs.Behinds.{printed_cut}
+use Rattle.pg_journal_lines.proofs.Behinds.{printed_cut}
 use Rattle.pg_journal.proofs.journal.first_line.Goals as goal
 
 pub returns-in_default-clause-fault : goal.returns-in_default-clause-fault

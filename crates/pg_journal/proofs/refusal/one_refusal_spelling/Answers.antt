@@ -1,5 +1,0 @@
-use Rattle.pg_journal.proofs.RefusalSpelling.{one_refusal}
-use Rattle.pg_journal.proofs.refusal.one_refusal_spelling.Goals as goal
-
-pub returns : goal.returns
-returns c = one_refusal

@@ -1,5 +1,0 @@
-use Rattle.pg_journal.proofs.ReplySpelling.{one_reply}
-use Rattle.pg_journal.proofs.reply.one_reply_spelling.Goals as goal
-
-pub returns : goal.returns
-returns c = one_reply

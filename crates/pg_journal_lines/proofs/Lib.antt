@@ -1,0 +1,9 @@
+pub mod RefusalSpelling
+pub mod ReplyLacks
+pub mod ReplySpelling
+pub mod ReplyWords
+pub mod Behinds
+pub mod Held
+pub mod Lacking
+pub mod OnePrinted
+pub mod PrintedWords
