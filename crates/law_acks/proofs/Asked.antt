@@ -1,24 +1,31 @@
 -- What intentions ask the edges do not read, it grants nothing, and is no walk; nor are cells.
 use Rattle.std.proofs.Common.{ℕ, ◌≡◌, Option, None, Some, refl, sym, ap, subst, ◌∙◌, All}
+use Rattle.std.specs.Prelude.{nat_lt}
 use Rattle.std.proofs.lemmas.Option.{same_Some}
 use Rattle.pg_run.specs.pg_base.declared.id.FileId.{FileId}
+use Rattle.pg_run.specs.pg_edges.declared.edge.Edge.{Edge}
+use Rattle.pg_run.specs.pg_entries.declared.cell.Cell.{Cell}
+use Rattle.pg_run.specs.pg_entries.declared.cell.Cell.TheVariants as cell
 use Rattle.pg_run.specs.pg_entries.declared.entry.Entry.{Entry}
 use Rattle.pg_run.specs.theory_flood.Promises.Saying.{Other}
 use Rattle.pg_run.specs.pg_intent.declared.intent.Intent.{Intent}
 use Rattle.pg_run.specs.pg_intent.declared.intent.Intent.TheVariants as intent
 use Rattle.pg_run.specs.pg_intent.Intent.{target_of}
+use Rattle.pg_run.specs.pg_msg.declared.message.Ends.{Ends}
 use Rattle.pg_run.specs.pg_msg.declared.message.Message.{Message}
 use Rattle.pg_run.specs.pg_msg.declared.message.Message.TheVariants as message
 use Rattle.pg_run.specs.pg_msg.declared.message.Sent.{Sent}
 use Rattle.pg_run.specs.pg_names.declared.attributes.Attributes.{Attributes}
 use Rattle.pg_run.specs.pg_names.Names.{cell_at, own_at}
+use Rattle.pg_run.specs.pg_replica.declared.replica.Replica.{Replica}
 use Rattle.pg_run.specs.pg_store.declared.store.Store.{Store}
 use Rattle.pg_run.specs.pg_store.Births.{birth_of}
-use Rattle.pg_run.specs.pg_cells.Sending.{Wanted, cells_where}
+use Rattle.pg_run.specs.pg_cells.Sending.{Wanted, cells_where, told_as}
 use Rattle.pg_run.specs.pg_intentions.Requests.{bye_message, confirm_message, leave_message, request}
 use Rattle.pg_run.specs.theory_flood_pieces.Seen.{says, saying}
+use Rattle.pg_run.proofs.theory_flood_pieces.Choices.{chosen}
 use Rattle.pg_run.proofs.Bags.{All-every}
-use Rattle.pg_run.proofs.Event.{AskHas, cells_have}
+use Rattle.pg_run.proofs.Event.{AskHas, CellHas, cells_have}
 use Rattle.law_acks.proofs.Pieces.{IsWellSaid}
 
 -- ---- what intentions ask the edges do not read
@@ -95,6 +102,17 @@ request_well n b (intent.Leave file peer peer_birth) m is =
 pub all_well : (n : ℕ) (b : Store) → All (AskHas (IsWell n) b) b.intents
 all_well n b = All-every (AskHas (IsWell n) b) b.intents (λ i m is asked. request_well n b i m is)
 
+told_well : (n : ℕ) (ends : Ends) (tag : ℕ) (c : Cell) → IsWellSaid n (told_as ends tag c)
+told_well n ends tag (cell.Place place) = tt
+told_well n ends tag (cell.Flag flag) = tt
+told_well n ends tag (cell.Entry e sure) = tt
+told_well n ends tag (cell.Version v) =
+    chosen (IsWellSaid n) (nat_lt 1024 v.head.length) (message.Harbinger ends tag v.head) (message.Cell ends tag (cell.Version v)) tt tt
+
 pub cells_well : (n : ℕ) (b : Store) (wanted : Wanted) → All (IsWell n) (cells_where b wanted)
 cells_well n b wanted =
-    cells_have (IsWell n) b wanted (λ i r lt j e less k q under c is goes. tt)
+    cells_have (IsWell n) b wanted
+    (All-every (λ (r : FileId × Replica). All (λ (e : Edge). All (CellHas (IsWell n) b r.0 r.1 e) e.keys) r.1.edges) b.replicas
+    (λ r. All-every (λ (e : Edge). All (CellHas (IsWell n) b r.0 r.1 e) e.keys) r.1.edges
+    (λ e. All-every (CellHas (IsWell n) b r.0 r.1 e) e.keys
+    (λ q c is goes. told_well n (record { file = r.0; sender = r.1.birth; receiver = e.birth }) q.1 c))))

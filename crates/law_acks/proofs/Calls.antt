@@ -124,7 +124,7 @@ module _ (n s : ℕ) (a : Store) (k : IsWhole n s a) (heard : Hearing) (of : Are
       → Is (make_version f stamp ranges d)
   made_version d u f x here h of_h stamp ranges =
       over_done n s a heard d.store d.work u (write d.store f stamp ranges)
-      (write_of_held d.store f (x, here) h stamp ranges of_h heard.over) (whole_write n s d.store u.way.whole f stamp ranges)
+      (write_of_held d.store f (x, here) h stamp ranges of_h heard.along) (whole_write n s d.store u.way.whole f stamp ranges)
 
   -- ---- new things
 

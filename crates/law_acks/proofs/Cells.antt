@@ -30,7 +30,7 @@ use Rattle.pg_run.specs.pg_pieces.Done.{Done, idle}
 use Rattle.pg_run.specs.pg_pieces.Posting.{sent_to}
 use Rattle.pg_run.specs.theory_flood_pieces.Histories.{IsOfHistory}
 use Rattle.pg_run.specs.theory_flood_pieces.Laws.{IsTaken, coming}
-use Rattle.pg_run.specs.theory_flood_pieces.Seen.{Hearing, Overs, hears, saying}
+use Rattle.pg_run.specs.theory_flood_pieces.Seen.{Along, Hearing, hears, saying}
 use Rattle.pg_run.specs.theory_flood_pieces.UpTo.{IsUpTo}
 use Rattle.pg_run.specs.theory_flood_pieces.Whole.{IsOther}
 use Rattle.pg_run.proofs.theory_flood_pieces.Choices.{decided}
@@ -62,7 +62,7 @@ replica_with b file birth h = replica_by b file birth (replica_at b file) refl h
 
 -- ---- what is accepted is linked
 
-accepts_link : (a : Store) (ends : Ends) (work : Work) (t u : Bool) → t ≡ true → u ≡ false
+pub accepts_link : (a : Store) (ends : Ends) (work : Work) (t u : Bool) → t ≡ true → u ≡ false
     → cond t (cond u (idle a work) (link_peer a ends.file work.from ends.sender work))
     (idle a (with_gone a ends manner.Makes work))
     ≡ link_peer a ends.file work.from ends.sender work
@@ -138,10 +138,10 @@ comes_linked a file peer birth x y old here v k =
 
 -- ---- A CELL
 
-module _ (over : Overs) (n s : ℕ) (a : Store) (ends : Ends) (tag : ℕ) (c : Cell) (work : Work)
+module _ (along : Along) (n s : ℕ) (a : Store) (ends : Ends) (tag : ℕ) (c : Cell) (work : Work)
     (other : IsOther n s work.from) where
   abbrev Heard : Hearing
-  Heard = hears over (saying work.from s (message.Cell ends tag c))
+  Heard = hears along (saying work.from s (message.Cell ends tag c))
 
   abbrev Linked : Done
   Linked = link_peer a ends.file work.from ends.sender work
@@ -172,8 +172,8 @@ module _ (over : Overs) (n s : ℕ) (a : Store) (ends : Ends) (tag : ℕ) (c : C
         (λ v is. comes_linked a ends.file work.from ends.sender old.0 new.0 old.1 new.1 v
         (suits_version c suits v is))
 
-    along : IsDone n s a Heard (taken_along ends tag c Linked)
-    along =
+    answered_done : IsDone n s a Heard (taken_along ends tag c Linked)
+    answered_done =
         let t = takes in
         let mine = replica_with Taken.store ends.file ends.receiver (t.births.births ends.file ∙ linked_birth) in
         let answer = message.Ack (back ends) (cell_key c) tag in
@@ -182,7 +182,7 @@ module _ (over : Overs) (n s : ℕ) (a : Store) (ends : Ends) (tag : ℕ) (c : C
         subst (λ (to : ℕ). Stands n s a Heard Taken.store (with_sent Taken.work (sent_to Taken.store to answer)))
         (sym from)
         (sent_done n s a Heard Taken.store Taken.work t.goes (sent_to Taken.store work.from answer)
-        (answer_sent over s a Taken.store work.from ends tag c t.goes.way.whole.server mine.0 mine.1 mine.2 t.holds) tt)
+        (answer_sent along s a Taken.store work.from ends tag c t.goes.way.whole.server mine.0 mine.1 mine.2 t.holds) tt)
 
   accepted_done : Stands n s a Heard a work → Suits a ends.file c → fits ends.file c ≡ true
       → is_accepted a work.from manner.Makes ends ≡ true
@@ -194,7 +194,7 @@ module _ (over : Overs) (n s : ℕ) (a : Store) (ends : Ends) (tag : ℕ) (c : C
       accepts_link a ends work (has_birth a ends.file ends.receiver) (knows_later a ends.file work.from ends.sender)
       parts.0 (not-true (knows_later a ends.file work.from ends.sender) parts.1) in
       subst (λ (d : Done). IsDone n s a Heard (taken_along ends tag c d)) (sym is)
-      (along u suits fit (birth_by (replica_at a ends.file) ends.receiver parts.0))
+      (answered_done u suits fit (birth_by (replica_at a ends.file) ends.receiver parts.0))
 
   pub cell_is_done : Stands n s a Heard a work → Suits a ends.file c
       → IsDone n s a Heard (cell_done a ends tag c work)

@@ -11,7 +11,7 @@ use Rattle.pg_run.specs.theory_flood.Promises.Saying.{Other}
 use Rattle.pg_run.specs.theory_flood.Server.{Slot}
 use Rattle.pg_run.proofs.theory_flood.Later.{all_may_later}
 use Rattle.pg_run.proofs.theory_flood.Sends.{none_sent}
-use Rattle.pg_run.proofs.theory_flood.Steps.{HasSoundTags, May, Steps-refl, then_steps}
+use Rattle.pg_run.proofs.theory_flood.Steps.{HasSoundTags, May, then_steps}
 use Rattle.pg_run.specs.pg_msg.declared.message.Ends.{Ends}
 use Rattle.pg_run.specs.pg_msg.declared.message.Message.{Message}
 use Rattle.pg_run.specs.pg_msg.declared.message.Message.TheVariants as message
@@ -43,8 +43,13 @@ use Rattle.pg_run.specs.pg_graph.Walks.{walk}
 use Rattle.pg_run.specs.pg_calls.Calls.{do_call}
 use Rattle.pg_run.specs.pg_server.declared.input.Input.{Input}
 use Rattle.pg_run.specs.pg_server.declared.input.Input.TheVariants as input
-use Rattle.pg_run.specs.pg_server.Local.{Effect, done_of, effect, first_effect, is_heard, receive, sent_again, takes_effect, without_volatile}
-use Rattle.pg_run.specs.theory_flood_pieces.Seen.{Hearing, Overs, cells_in, hears, saying, says}
+use Rattle.pg_run.specs.pg_server.pg_transfer.Delta.{delta}
+use Rattle.pg_run.specs.pg_server.pg_transfer.Harbinger.{harbinger}
+use Rattle.pg_run.specs.pg_server.pg_transfer.Later.{later}
+use Rattle.pg_run.specs.pg_server.pg_transfer.Piece.{piece}
+use Rattle.pg_run.specs.pg_server.pg_transfer.Want.{want}
+use Rattle.pg_run.specs.pg_server.Local.{Effect, done_of, effect, first_effect, is_heard, receive, sent_again, takes_effect, ticked, without_sources, without_volatile}
+use Rattle.pg_run.specs.theory_flood_pieces.Seen.{Along, Hearing, cells_in, hears, saying, says}
 use Rattle.pg_run.specs.theory_flood_pieces.Whole.{IsOther, IsWhole, PatchesAreForDirs}
 use Rattle.pg_run.proofs.theory_flood_pieces.Acks.{acknowledged, none_noted}
 use Rattle.pg_run.proofs.theory_flood_pieces.Choices.{decided}
@@ -54,9 +59,12 @@ use Rattle.pg_run.specs.Away.{BeginsWhatIsAway}
 use Rattle.pg_run.specs.Ruled.{heard_in}
 use Rattle.pg_run.proofs.Event.{asks_have, effect_is, end_of, store_is}
 use Rattle.law_acks.proofs.Calls.{call_on}
+use Rattle.law_acks.proofs.Came.{SourceSuits, delta_done, piece_done}
 use Rattle.law_acks.proofs.Cells.{Suits, cell_is_done}
 use Rattle.law_acks.proofs.Contents.{AreOfHistory}
 use Rattle.law_acks.proofs.Gone.{Counts, CountsIn}
+use Rattle.law_acks.proofs.Told.{harbinger_done, later_done, want_done}
+use Rattle.law_acks.proofs.Heads.{IsHeadComing}
 use Rattle.law_acks.proofs.Handlers.{accept_done, confirm_done, fetch_done, full_done, gone_done, grant_done, no_grant_done, none_here_done, place_is_done, tell_done, tell_ok_done}
 use Rattle.law_acks.proofs.Losing.{invite_done}
 use Rattle.law_acks.proofs.Leaving.{bye_done, bye_ok_done, leave_done, leave_ok_done}
@@ -67,26 +75,29 @@ use Rattle.law_acks.proofs.Ends.{IsFirst, IsKind, begins_here, end_first, ended_
 
 -- ---- the first effect
 
--- what is asked of a message
-abbrev pub SuitsMessage : ℕ → Store → Message → Type 0
-SuitsMessage n a (message.Cell ends tag c) = Suits a ends.file c
-SuitsMessage n a (message.Grant ends granted) = IsByServer granted.flags
-SuitsMessage n a (message.PlaceIs dir e) = is_dir dir ≡ true
-SuitsMessage n a (message.Tell dir e) = is_dir dir ≡ true
-SuitsMessage n a (message.Walk ends origin birth hops word) = (1 ≤ origin) × (origin ≤ n)
-SuitsMessage n a _ = Unit {0}
+-- what is asked of a message that comes from a server
+abbrev pub SuitsMessage : Along → ℕ → ℕ → Store → ℕ → Message → Type 0
+SuitsMessage along n s a from (message.Cell ends tag c) = Suits a ends.file c
+SuitsMessage along n s a from (message.Harbinger ends tag head) = IsHeadComing a ends.file head
+SuitsMessage along n s a from (message.Delta ends d) = SourceSuits along s a from ends.file d.head.stamp
+SuitsMessage along n s a from (message.Piece ends p) = SourceSuits along s a from ends.file p.head.stamp
+SuitsMessage along n s a from (message.Grant ends granted) = IsByServer granted.flags
+SuitsMessage along n s a from (message.PlaceIs dir e) = is_dir dir ≡ true
+SuitsMessage along n s a from (message.Tell dir e) = is_dir dir ≡ true
+SuitsMessage along n s a from (message.Walk ends origin birth hops word) = (1 ≤ origin) × (origin ≤ n)
+SuitsMessage along n s a from _ = Unit {0}
 
-abbrev pub SuitsInput : ℕ → Store → Input → Type 0
-SuitsInput n a (input.Call moment call) = Unit {0}
-SuitsInput n a (input.Tick moment word) = Unit {0}
-SuitsInput n a (input.Arrival packet) = SuitsMessage n a packet.message
-SuitsInput n a input.Restart = Unit {0}
+abbrev pub SuitsInput : Along → ℕ → ℕ → Store → Input → Type 0
+SuitsInput along n s a (input.Call moment call) = Unit {0}
+SuitsInput along n s a (input.Tick moment word) = Unit {0}
+SuitsInput along n s a (input.Arrival packet) = SuitsMessage along n s a packet.from packet.message
+SuitsInput along n s a input.Restart = Unit {0}
 
-module _ (over : Overs) (n s : ℕ) (a : Store) (k : IsWhole n s a) (of : AreOfHistory a)
+module _ (along : Along) (n s : ℕ) (a : Store) (k : IsWhole n s a) (of : AreOfHistory a)
     (away : BeginsWhatIsAway a) where
   -- what is heard
   abbrev Now : Saying Slot Cell → Hearing
-  Now said = hears over said
+  Now said = hears along said
 
   -- a chain that begins where the server was
   first_here : (heard : Hearing) (d : Done) → IsDone n s a heard d
@@ -103,13 +114,13 @@ module _ (over : Overs) (n s : ℕ) (a : Store) (k : IsWhole n s a) (of : AreOfH
   acked_first from ends q tag =
       let said = saying from s (message.Ack ends q tag) in
       let b = acknowledge a ends.file (link_of from ends) q tag in
-      let acked = acknowledged over s a from ends q tag in
+      let acked = acknowledged along s a from ends q tag in
       let whole = whole_acknowledge n s a k ends.file (link_of from ends) q tag in
       record {
         start = b;
         begins = record {
           rule = λ c sent f may.
-              then_steps (cells_in over) s a b c said sent acked.rule f (none_noted over a c said) may;
+              then_steps (cells_in along) s a b c said sent acked.rule f (none_noted along a c said) may;
           on = acked.rule.onward.covers;
           tags = acked.tags;
           whole = whole;
@@ -130,17 +141,14 @@ module _ (over : Overs) (n s : ℕ) (a : Store) (k : IsWhole n s a) (of : AreOfH
     here : (m : Message) (d : Done) → IsDone n s a (Said m) d → First m d
     here m d u = first_here (Said m) d u
 
-    none : (m : Message) → First m (idle a W)
-    none m = nothing_first (Said m) 0 from
-
     start : (m : Message) → Stands n s a (Said m) a W
     start m = nothing_done n s a (Said m) 0 from k
 
     -- EVERY MESSAGE
-    received_first : (m : Message) → SuitsMessage n a m → CountsIn over a m W → First m (receive a m W)
+    received_first : (m : Message) → SuitsMessage along n s a from m → CountsIn along.over a m W → First m (receive a m W)
     received_first (message.Cell ends tag c) suits counts =
         let m = message.Cell ends tag c in
-        here m (cell a ends tag c W) (cell_is_done over n s a ends tag c W other (start m) suits)
+        here m (cell a ends tag c W) (cell_is_done along n s a ends tag c W other (start m) suits)
     received_first (message.Ack ends q tag) suits counts = acked_first from ends q tag
     received_first (message.Fetch file birth) suits counts =
         let m = message.Fetch file birth in
@@ -190,11 +198,21 @@ module _ (over : Overs) (n s : ℕ) (a : Store) (k : IsWhole n s a) (of : AreOfH
         let m = message.Meet ends in
         here m (accept a ends manner.Makes W)
         (accept_done n s a (Said m) a W (start m) ends manner.Makes other)
-    received_first (message.Harbinger ends tag head) suits counts = none (message.Harbinger ends tag head)
-    received_first (message.Want ends wanted) suits counts = none (message.Want ends wanted)
-    received_first (message.Delta ends delta) suits counts = none (message.Delta ends delta)
-    received_first (message.Piece ends piece) suits counts = none (message.Piece ends piece)
-    received_first (message.Later ends stamp) suits counts = none (message.Later ends stamp)
+    received_first (message.Harbinger ends tag head) suits counts =
+        let m = message.Harbinger ends tag head in
+        here m (harbinger a ends tag head W) (harbinger_done along n s a ends tag head W other (start m) suits)
+    received_first (message.Want ends wanted) suits counts =
+        let m = message.Want ends wanted in
+        here m (want a ends wanted W) (want_done n s a (Said m) W (start m) ends wanted other)
+    received_first (message.Delta ends d) suits counts =
+        let m = message.Delta ends d in
+        here m (delta a ends d W) (delta_done along n s a (saying from s m) ends d W suits other (start m))
+    received_first (message.Piece ends p) suits counts =
+        let m = message.Piece ends p in
+        here m (piece a ends p W) (piece_done along n s a (saying from s m) ends p W suits other (start m))
+    received_first (message.Later ends stamp) suits counts =
+        let m = message.Later ends stamp in
+        here m (later a ends stamp W) (later_done n s a (Said m) W (start m) ends stamp other)
     received_first (message.Bye ends) suits counts =
         let m = message.Bye ends in
         here m (bye a ends W) (bye_done n s a (Said m) a W (start m) ends)
@@ -236,39 +254,44 @@ module _ (over : Overs) (n s : ℕ) (a : Store) (k : IsWhole n s a) (of : AreOfH
 
   -- ---- ticks
 
-  tick_first : (moment word : ℕ) → 1 ≤ s → s ≤ n → HasSoundTags (cells_in over) a
-      → IsFirst n s a (Now Other) (idle a (sent_again a word (new_work moment 0)))
+  tick_first : (moment word : ℕ) → 1 ≤ s → s ≤ n → HasSoundTags (cells_in along) a
+      → IsFirst n s a (Now Other) (ticked a word (new_work moment 0))
   tick_first moment word least most sound =
       let w = new_work moment 0 in
-      let asked = ask_all a (tick a w) in
+      let b = without_sources a in
+      let begun =
+      beside_done n s a (Now Other) a w (nothing_done n s a (Now Other) moment 0 k) b
+      (record { servers = refl; tags = refl; names = refl; replicas = refl }) k.patches in
+      let asked = ask_all b (tick b w) in
       let own = sym k.server in
-      let cells_may = tick_may over n s a a Other sound k w (none_sent (cells_in over) s a a Other) in
-      let asks_may = others_may over s a a Other (flat_map (asks a) a.intents) (asks_have IsUnread a a.intents (all_unread a)) in
-      let may = All-append (λ m. May (cells_in over) s a a Other (says m)) (tick a w).sent (flat_map (asks a) a.intents) cells_may asks_may in
-      first_here (Now Other) (idle a (sent_again a word w))
-      (tick_walk_done n s a (Now Other) a asked (record {
+      let cells_may =
+      tick_may along n s a b Other (begun.way.steps.tags sound) begun.way.whole w (none_sent (cells_in along) s a b Other) in
+      let asks_may = others_may along s a b Other (flat_map (asks b) b.intents) (asks_have IsUnread b b.intents (all_unread b)) in
+      let may = All-append (λ m. May (cells_in along) s a b Other (says m)) (tick b w).sent (flat_map (asks b) b.intents) cells_may asks_may in
+      first_here (Now Other) (idle b (sent_again b word w))
+      (tick_walk_done n s a (Now Other) b asked (record {
         way = record {
-          steps = Steps-refl (cells_in over) a;
-          whole = k;
-          sends = λ c f. all_may_later (cells_in over) s a a c Other asked.sent f may;
+          steps = begun.way.steps;
+          whole = begun.way.whole;
+          sends = λ c f. all_may_later (cells_in along) s a b c Other asked.sent f may;
         };
-        said = All-append (IsWell n) (tick a w).sent (flat_map (asks a) a.intents) (cells_well n a is_any)
-            (asks_have (IsWell n) a a.intents (all_well n a));
+        said = All-append (IsWell n) (tick b w).sent (flat_map (asks b) b.intents) (cells_well n b is_any)
+            (asks_have (IsWell n) b b.intents (all_well n b));
         last = All-nil (MayGoLast n);
       }) (subst (λ (i : ℕ). 1 ≤ i) own least) (subst (λ (i : ℕ). i ≤ n) own most) word)
 
-  ticked : (moment word : ℕ) (t : Bool) → 1 ≤ s → s ≤ n → HasSoundTags (cells_in over) a
-      → IsFirst n s a (Now Other) (idle a (cond t (sent_again a word (new_work moment 0)) (new_work moment 0)))
-  ticked moment word true least most sound = tick_first moment word least most sound
-  ticked moment word false least most sound = nothing_first (Now Other) moment 0
+  ticked_first : (moment word : ℕ) (t : Bool) → 1 ≤ s → s ≤ n → HasSoundTags (cells_in along) a
+      → IsFirst n s a (Now Other) (cond t (ticked a word (new_work moment 0)) (idle a (new_work moment 0)))
+  ticked_first moment word true least most sound = tick_first moment word least most sound
+  ticked_first moment word false least most sound = nothing_first (Now Other) moment 0
 
   -- EVERY INPUT
-  pub first_done : (asked : Input) → 1 ≤ s → s ≤ n → SuitsInput n a asked → Counts over a asked
-      → HasSoundTags (cells_in over) a → IsFirst n s a (Now (heard_in s asked)) (first_effect a asked)
+  pub first_done : (asked : Input) → 1 ≤ s → s ≤ n → SuitsInput along n s a asked → Counts along.over a asked
+      → HasSoundTags (cells_in along) a → IsFirst n s a (Now (heard_in s asked)) (first_effect a asked)
   first_done (input.Call moment c) least most suits counts sound =
       first_here (Now Other) (done_of (do_call a c (new_work moment 0)))
       (call_on n s a k (Now Other) of away moment c)
-  first_done (input.Tick moment word) least most suits counts sound = ticked moment word (is_before_clock_end a) least most sound
+  first_done (input.Tick moment word) least most suits counts sound = ticked_first moment word (is_before_clock_end a) least most sound
   first_done (input.Arrival packet) least most suits counts sound =
       let heard = Now (saying packet.from s packet.message) in
       decided (IsFirst n s a heard) (is_heard a packet) (receive a packet.message (new_work 0 packet.from))
@@ -283,8 +306,8 @@ module _ (over : Overs) (n s : ℕ) (a : Store) (k : IsWhole n s a) (of : AreOfH
       (record { servers = refl; tags = refl; names = refl; replicas = refl }) k.patches)
 
   -- AN EFFECT
-  pub effect_good : (asked : Input) → 1 ≤ s → s ≤ n → SuitsInput n a asked → Counts over a asked
-      → HasSoundTags (cells_in over) a → PatchesAreForDirs (effect a asked).store
+  pub effect_good : (asked : Input) → 1 ≤ s → s ≤ n → SuitsInput along n s a asked → Counts along.over a asked
+      → HasSoundTags (cells_in along) a → PatchesAreForDirs (effect a asked).store
       → IsKind n s a (Now (heard_in s asked)) (effect a asked).store (effect a asked).out.sent
   effect_good asked least most suits counts sound patches =
       let heard = Now (heard_in s asked) in

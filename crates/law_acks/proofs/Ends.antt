@@ -28,17 +28,17 @@ use Rattle.law_acks.proofs.Asked.{IsUnread, IsWell, all_unread, all_well, cells_
 -- ---- how an event begins: where the server was, or behind an answer that it heard
 
 pub record Begins (n s : ℕ) (a : Store) (heard : Hearing) (b : Store) : Type 0 where
-  pub rule : (c : Store) (sent : List Sent) → Steps (cells_in heard.over) b c
-      → AllMay (cells_in heard.over) s a c heard.said sent → Rule (cells_in heard.over) s a c heard.said sent
-  pub on : GoesOn (cells_in heard.over) a b
-  pub tags : HasSoundTags (cells_in heard.over) a → HasSoundTags (cells_in heard.over) b
+  pub rule : (c : Store) (sent : List Sent) → Steps (cells_in heard.along) b c
+      → AllMay (cells_in heard.along) s a c heard.said sent → Rule (cells_in heard.along) s a c heard.said sent
+  pub on : GoesOn (cells_in heard.along) a b
+  pub tags : HasSoundTags (cells_in heard.along) a → HasSoundTags (cells_in heard.along) b
   pub whole : IsWhole n s b
 
 pub begins_here : (n s : ℕ) (a : Store) (heard : Hearing) → IsWhole n s a → Begins n s a heard a
 begins_here n s a heard k = record {
   rule = λ c sent f may.
-      by_steps (cells_in heard.over) s a c heard.said sent f (none_noted heard.over a c heard.said) may;
-  on = goes_on_itself (cells_in heard.over) a;
+      by_steps (cells_in heard.along) s a c heard.said sent f (none_noted heard.along a c heard.said) may;
+  on = goes_on_itself (cells_in heard.along) a;
   tags = λ tags. tags;
   whole = k;
 }
@@ -56,23 +56,23 @@ pub record IsFirst (n s : ℕ) (a : Store) (heard : Hearing) (d : Done) : Type 0
 
 -- what it covered it goes on to cover
 pub first_on : (n s : ℕ) (a : Store) (heard : Hearing) (d : Done) → IsFirst n s a heard d
-    → GoesOn (cells_in heard.over) a d.store
+    → GoesOn (cells_in heard.along) a d.store
 first_on n s a heard d f =
-    goes_on_further (cells_in heard.over) a f.start d.store f.begins.on f.goes.way.steps.moves.covers
+    goes_on_further (cells_in heard.along) a f.start d.store f.begins.on f.goes.way.steps.moves.covers
 
 module _ (n s : ℕ) (a : Store) (heard : Hearing) where
-  -- nothing was noted before, so it may be sent whichever store there was
-  may_from : (b c : Store) (x : Saying Slot Cell) → May (cells_in heard.over) s b c heard.said x
-      → May (cells_in heard.over) s a c heard.said x
+  -- what may be answered late is so whichever store there was, and so is what may be sent
+  may_from : (b c : Store) (x : Saying Slot Cell) → May (cells_in heard.along) s b c heard.said x
+      → May (cells_in heard.along) s a c heard.said x
   may_from b c (CellFor owner at tag held) h = h
   may_from b c (AckTo owner at tag) h = h
   may_from b c Other h = tt
 
-  all_from : (b c : Store) (ms : List Sent) → AllMay (cells_in heard.over) s b c heard.said ms
-      → AllMay (cells_in heard.over) s a c heard.said ms
+  all_from : (b c : Store) (ms : List Sent) → AllMay (cells_in heard.along) s b c heard.said ms
+      → AllMay (cells_in heard.along) s a c heard.said ms
   all_from b c ms h =
-      All-weaker (λ m. May (cells_in heard.over) s b c heard.said (says m))
-      (λ m. May (cells_in heard.over) s a c heard.said (says m))
+      All-weaker (λ m. May (cells_in heard.along) s b c heard.said (says m))
+      (λ m. May (cells_in heard.along) s a c heard.said (says m))
       (λ m may. may_from b c (says m) may) ms h
 
   -- ---- the house rules and the intentions
@@ -111,7 +111,7 @@ module _ (n s : ℕ) (a : Store) (heard : Hearing) where
 
   -- ---- what is sent in the end
 
-  pub ended_good : (d : Done) → IsFirst n s a heard d → HasSoundTags (cells_in heard.over) a
+  pub ended_good : (d : Done) → IsFirst n s a heard d → HasSoundTags (cells_in heard.along) a
       → IsKind n s a heard d.store (((d.work.sent ++ cells_sent d) ++ asks_sent d) ++ d.work.tail)
   ended_good d f tags =
       let b = d.store in
@@ -120,12 +120,12 @@ module _ (n s : ℕ) (a : Store) (heard : Hearing) where
       let front = all ++ asks_sent d in
       let unread = All-weaker (MayGoLast n) IsUnread (λ m last. last.0) d.work.tail f.goes.last in
       let sound = way.steps.tags (f.begins.tags tags) in
-      let sent = all_from f.start b d.work.sent (way.sends b (Steps-refl (cells_in heard.over) b)) in
-      let may = All-append (λ m. May (cells_in heard.over) s a b heard.said (says m)) front d.work.tail
-      (All-append (λ m. May (cells_in heard.over) s a b heard.said (says m)) all (asks_sent d)
-      (finish_may heard.over n s a b heard.said sound way.whole d.work sent)
-      (others_may heard.over s a b heard.said (asks_sent d) (asks_by_have IsUnread b d.work.begun (all_unread b))))
-      (others_may heard.over s a b heard.said d.work.tail unread) in
+      let sent = all_from f.start b d.work.sent (way.sends b (Steps-refl (cells_in heard.along) b)) in
+      let may = All-append (λ m. May (cells_in heard.along) s a b heard.said (says m)) front d.work.tail
+      (All-append (λ m. May (cells_in heard.along) s a b heard.said (says m)) all (asks_sent d)
+      (finish_may heard.along n s a b heard.said sound way.whole d.work sent)
+      (others_may heard.along s a b heard.said (asks_sent d) (asks_by_have IsUnread b d.work.begun (all_unread b))))
+      (others_may heard.along s a b heard.said d.work.tail unread) in
       record {
         good = record {
           rule = f.begins.rule b (front ++ d.work.tail) way.steps may;

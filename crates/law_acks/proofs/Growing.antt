@@ -4,7 +4,6 @@ use Rattle.std.proofs.lemmas.List.{append-nil, append_assoc}
 use Rattle.pg_run.specs.pg_event.declared.event.Event.{Event}
 use Rattle.pg_run.proofs.theory_flood.Flood.{here}
 use Rattle.pg_run.specs.pg_store.declared.store.Store.{Store}
-use Rattle.pg_run.specs.pg_store.Births.{is_over}
 use Rattle.pg_run.specs.pg_server.Local.{effect, first_effect}
 use Rattle.pg_run.specs.theory_flood_pieces.Seen.{cells, hears}
 use Rattle.pg_run.proofs.theory_flood_pieces.Grown.{GoesOn, goes_on_further, goes_on_itself, grown, grown_in}
@@ -14,7 +13,7 @@ use Rattle.pg_run.specs.Run.{Step, Taking, World, next, run, start, taking_in}
 use Rattle.pg_run.proofs.Frame.{IsFramed, acts_is, framed, run_more}
 use Rattle.law_acks.specs.Laws.{StandOn}
 use Rattle.law_acks.proofs.Ends.{first_on}
-use Rattle.law_acks.proofs.Runs.{first_is, good, rule, run_keeps}
+use Rattle.law_acks.proofs.Runs.{AtFirst, first_is, good, rule, run_keeps}
 
 module _ (n : ℕ) (on : StandOn n) where
   abbrev At : List Event → ℕ → Store
@@ -74,7 +73,7 @@ module _ (n : ℕ) (on : StandOn n) where
       let first = first_is n on events event t is acts k in
       let b = effect a asked in (
         grown_in n s a (first_effect a asked).store (k.whole s) first.goes.way.whole
-            (first_on n s a (hears (is_over (first_effect a asked).store) (heard_in s asked)) (first_effect a asked) first),
+            (first_on n s a (hears (AtFirst n on events event t is acts k) (heard_in s asked)) (first_effect a asked) first),
         grown n s a b.store (k.whole s) (good n on events event t is acts k).good.whole
             (rule n on events event t is acts k).onward.covers,
       )

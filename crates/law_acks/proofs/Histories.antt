@@ -1,6 +1,8 @@
 -- Contents are of the histories of their files, so what comes to a server suits it.
 use Rattle.std.proofs.Common.{ℕ, ◌≡◌, ◌≤◌, List, Some, sym, ap, subst}
+use Rattle.pg_run.specs.pg_base.declared.head.Head.{Head}
 use Rattle.pg_run.specs.pg_base.declared.id.FileId.{FileId}
+use Rattle.pg_run.specs.pg_base.declared.stamp.Stamp.{Stamp}
 use Rattle.pg_run.specs.pg_content.Content.{ContentValue}
 use Rattle.pg_run.specs.pg_content.StandsFor.{StandsFor}
 use Rattle.pg_run.proofs.pg_content.Covering.{stands_versions}
@@ -12,15 +14,18 @@ use Rattle.pg_run.specs.pg_msg.declared.message.Message.TheVariants as message
 use Rattle.pg_run.specs.pg_replica.declared.replica.Replica.{Replica}
 use Rattle.pg_run.specs.pg_store.Store.{replica_at}
 use Rattle.pg_run.specs.theory_flood_pieces.Histories.{IsOfHistory}
+use Rattle.pg_run.specs.theory_flood_pieces.Seen.{Along}
 use Rattle.pg_run.specs.Away.{NamesDirectory}
-use Rattle.pg_run.specs.Histories.{BringsVersion, TellsOfHistory, content_after, taken_after, versions_after}
+use Rattle.pg_run.specs.Histories.{BringsVersion, TellsHead, TellsOfHistory, content_after, taken_after, versions_after}
 use Rattle.pg_run.specs.Journal.{versions}
 use Rattle.pg_run.specs.Run.{World, run}
 use Rattle.pg_run.specs.State.{policy_made}
 use Rattle.law_acks.specs.Histories.{HaveHistories, HoldHistories, IsContentOf}
+use Rattle.law_acks.proofs.Came.{SourceSuits}
 use Rattle.law_acks.proofs.Cells.{Suits}
 use Rattle.law_acks.proofs.Contents.{AreOfHistory}
 use Rattle.law_acks.proofs.Effects.{SuitsMessage}
+use Rattle.law_acks.proofs.Heads.{IsHeadComing}
 use Rattle.law_acks.proofs.Pieces.{IsWellSaid}
 
 -- CONTENTS ARE OF THE HISTORIES
@@ -65,12 +70,27 @@ module _ (n : ℕ) (k : HaveHistories n) (events : List Event) (s : ℕ) (least 
     held = λ x here. (let is = content_is file x here in (is.history, is.policy));
   }
 
-  -- WHAT COMES TO IT
-  pub message_suits : (m : Message) → TellsOfHistory W m → IsWellSaid n m → NamesDirectory m
-      → SuitsMessage n (W.stores s) m
-  message_suits (message.Cell ends tag c) of well dir = cell_suits ends.file c of
-  message_suits (message.Grant ends granted) of well dir = well
-  message_suits (message.PlaceIs directory e) of well dir = dir
-  message_suits (message.Tell directory e) of well dir = dir
-  message_suits (message.Walk ends origin birth hops word) of well dir = well
-  message_suits m of well dir = tt
+  -- what is told of a version by its head
+  pub head_suits : (file : FileId) (head : Head) → TellsHead W file head → IsHeadComing (W.stores s) file head
+  head_suits file head of = record {
+    policy = policy_made file W.journal;
+    history = versions file W.history;
+    made = of.made;
+    among = of.among;
+    whole = of.whole;
+    held = λ x here. (let is = content_is file x here in (is.history, is.policy));
+  }
+
+  -- WHAT COMES TO IT, where what it noted suits
+  module _ (along : Along) (from : ℕ) (sources : (file : FileId) (stamp : Stamp) → SourceSuits along s (W.stores s) from file stamp) where
+    pub message_suits : (m : Message) → TellsOfHistory W m → IsWellSaid n m → NamesDirectory m
+        → SuitsMessage along n s (W.stores s) from m
+    message_suits (message.Cell ends tag c) of well dir = cell_suits ends.file c of
+    message_suits (message.Harbinger ends tag head) of well dir = head_suits ends.file head of
+    message_suits (message.Delta ends d) of well dir = sources ends.file d.head.stamp
+    message_suits (message.Piece ends p) of well dir = sources ends.file p.head.stamp
+    message_suits (message.Grant ends granted) of well dir = well
+    message_suits (message.PlaceIs directory e) of well dir = dir
+    message_suits (message.Tell directory e) of well dir = dir
+    message_suits (message.Walk ends origin birth hops word) of well dir = well
+    message_suits m of well dir = tt

@@ -93,13 +93,13 @@ module _ (n s : ℕ) (a : Store) (heard : Hearing) where
       (intent_done d.store d.work u (bye_to file birth e) tt)
 
   goes_done : (b : Store) (work : Work) → At b work → (file : FileId) (birth : ℕ)
-      → birth_at b file ≡ Some birth → heard.over file birth ≡ true → Is (goes b file work)
+      → birth_at b file ≡ Some birth → heard.along.over file birth ≡ true → Is (goes b file work)
   goes_done b work u file birth is counts =
       byes_done file (birth_of b file) (replica_of b file).edges (idle (let_go b file) work)
       (left_done n s a heard b work u file birth is counts)
 
   pub leave_ok_done : (b : Store) (work : Work) → At b work → (ends : Ends) (stamp : Stamp)
-      → (goes_now b ends stamp work ≡ true → heard.over ends.file ends.receiver ≡ true)
+      → (goes_now b ends stamp work ≡ true → heard.along.over ends.file ends.receiver ≡ true)
       → Is (leave_ok b ends stamp work)
   leave_ok_done b work u ends stamp counts =
       let file = ends.file in

@@ -3,6 +3,9 @@ pub mod Contents
 pub mod Handlers
 pub mod Walks
 pub mod Cells
+pub mod Heads
+pub mod Told
+pub mod Came
 pub mod Leaving
 pub mod Losing
 pub mod Calls
@@ -11,6 +14,7 @@ pub mod Ends
 pub mod Gone
 pub mod Effects
 pub mod Histories
+pub mod Sources
 pub mod Runs
 pub mod Acknowledged
 pub mod Growing

@@ -124,19 +124,19 @@ module _ (n s : ℕ) (a : Store) (heard : Hearing) where
 
   -- it goes on by steps, with what counts as over
   pub over_done : (b : Store) (work : Work) → Stands b work → (c : Store)
-      → Steps (cells_in heard.over) b c → IsWhole n s c → Stands c work
+      → Steps (cells_in heard.along) b c → IsWhole n s c → Stands c work
   over_done b work u c steps whole =
       record { way = goes_on n s a heard b work.sent u.way c steps whole; said = u.said; last = u.last }
 
   -- and by steps in which no replica goes
   pub on_done : (b : Store) (work : Work) → Stands b work → (c : Store) → Steps standing b c
       → IsWhole n s c → Stands c work
-  on_done b work u c steps whole = over_done b work u c (steps_on b c steps heard.over) whole
+  on_done b work u c steps whole = over_done b work u c (steps_on b c steps heard.along) whole
 
   -- one message more is sent
   pub sent_done : (b : Store) (work : Work) → Stands b work → (m : Sent)
-      → ((c : Store) → Steps (cells_in heard.over) b c
-      → AllMay (cells_in heard.over) s a c heard.said (m ∷ [])) → IsWellSaid n m.packet.message
+      → ((c : Store) → Steps (cells_in heard.along) b c
+      → AllMay (cells_in heard.along) s a c heard.said (m ∷ [])) → IsWellSaid n m.packet.message
       → Stands b (with_sent work m)
   sent_done b work u m may well = record {
     way = sends_on n s a heard b work.sent u.way (m ∷ []) may;
@@ -184,7 +184,7 @@ module _ (n s : ℕ) (a : Store) (heard : Hearing) where
     version_done f v steps =
         same_done (take_version b f v) work (take_version_noted b f v work).work
         (version_still b f v work).mail
-        (over_done b work u (take_version b f v) (steps heard.over) (whole_version n s b u.way.whole f v))
+        (over_done b work u (take_version b f v) (steps heard.along) (whole_version n s b u.way.whole f v))
 
     -- A LINK
     pub link_done : (f : FileId) (peer birth : ℕ) → IsOther n s peer
@@ -204,10 +204,10 @@ module _ (n s : ℕ) (a : Store) (heard : Hearing) where
         (whole_begun n s b f birth policy own full away sorted u.way.whole)
 
     -- A REPLICA GOES, whose birth counts as over
-    pub left_done : (f : FileId) (birth : ℕ) → birth_at b f ≡ Some birth → heard.over f birth ≡ true
+    pub left_done : (f : FileId) (birth : ℕ) → birth_at b f ≡ Some birth → heard.along.over f birth ≡ true
         → Stands (let_go b f) work
     left_done f birth is counts =
-        over_done b work u (let_go b f) (go_steps n s b f birth heard.over u.way.whole is counts)
+        over_done b work u (let_go b f) (go_steps n s b f birth heard.along u.way.whole is counts)
         (whole_gone n s b f u.way.whole)
 
     -- IT IS FULL
@@ -228,7 +228,7 @@ module _ (n s : ℕ) (a : Store) (heard : Hearing) where
     posted to m other well =
         let sent = sent_to b to m in
         sent_done b work u sent
-        (λ c f. others_may heard.over s a c heard.said (sent ∷ [])
+        (λ c f. others_may heard.along s a c heard.said (sent ∷ [])
         (All-cons (λ z. says z ≡ Other) sent [] (other b.names.server) (All-nil (λ z. says z ≡ Other))))
         well
 

@@ -5,19 +5,24 @@ use Rattle.pg_run.specs.theory_flood.Protocol.{KeepsEdges}
 use Rattle.pg_run.specs.theory_flood_pieces.Seen.{cells}
 use Rattle.pg_run.specs.theory_flood_pieces.Whole.{IsWhole}
 use Rattle.pg_run.specs.Away.{DirectoriesAreTold, WhatBeginsIsAway}
-use Rattle.pg_run.specs.Births.{BirthsAreAlone, BirthsMoveInEvents}
+use Rattle.pg_run.specs.Births.{BirthsAreAlone, BirthsAreKnown, BirthsMoveInEvents}
 use Rattle.pg_run.specs.Journal.{mail}
+use Rattle.pg_run.specs.Noted.{SourcesAnnounced}
 use Rattle.pg_run.specs.Run.{run}
 use Rattle.law_acks.specs.Histories.{HaveHistories}
 
 -- contents: what servers hold of contents, and messages bring of them, is of histories
 -- away: what begins at a server was not held there
 -- directories: what is told of children is told of directories
--- alone, moves: of each thing a server has one birth, and births move one way
+-- announced: who is asked for a version announced it
+-- known, alone, moves: births that are named were given out, of each thing a server has one, and
+--   births move one way
 pub record StandOn (servers : ℕ) : Type 0 where
   pub contents : HaveHistories servers
   pub away : WhatBeginsIsAway servers
   pub directories : DirectoriesAreTold servers
+  pub announced : SourcesAnnounced servers
+  pub known : BirthsAreKnown servers
   pub alone : BirthsAreAlone servers
   pub moves : BirthsMoveInEvents servers
 

@@ -9,6 +9,7 @@ use Rattle.pg_run.specs.pg_entries.declared.entry.Entry.{Entry}
 use Rattle.law_returns.specs.law_full.Filled.{FullPlaced, FullSays}
 use Rattle.law_repair.specs.law_golds.Laws.{FlagsAreKnown}
 use Rattle.law_repair.specs.law_golds.Premises.{NextIdsAreAway}
+use Rattle.law_rests.specs.Rests.{RemovedServersRest}
 use Rattle.law_returns.specs.Gate.{EdgesAreKept}
 use Rattle.law_acks.specs.Histories.{HaveHistories}
 use Rattle.law_acks.specs.Laws.{StandOn}
@@ -64,6 +65,9 @@ module _ (n : ℕ) (c : AreCited n) where
 
   pub mailed : MessagesAreOfViews n
   mailed = c.views.mailed views_stand
+
+  pub rests : RemovedServersRest n
+  rests = c.views.rests (c.views.sent views_stand)
 
   pub order : IntentionsAreInOrder n
   order = c.intents.order fronts
@@ -127,7 +131,8 @@ module _ (n : ℕ) (c : AreCited n) where
   stills : IntentionsAreStill n
   stills = record {
     still = λ events s least most. (c.intents.still fronts events s least most).0;
-    still_without = λ events s least most. (c.intents.still fronts events s least most).1;
+    still_released = λ events s least most. (c.intents.still fronts events s least most).1.1;
+    still_without = λ events s least most. (c.intents.still fronts events s least most).1.0;
     asked = c.intents.asked fronts;
   }
 
@@ -163,7 +168,15 @@ module _ (n : ℕ) (c : AreCited n) where
     had_histories = record { made = histories; carried = carried; heads = heads; held = held }
 
     stand : StandOn n
-    stand = record { contents = had_histories; away = c.order.away; directories = c.order.told; alone = alone; moves = moves }
+    stand = record {
+      contents = had_histories;
+      away = c.order.away;
+      directories = c.order.told;
+      announced = c.contents.announced few contents_stand;
+      known = births;
+      alone = alone;
+      moves = moves;
+    }
 
     pub had : AcknowledgedKeysAreHad n
     had = c.edges.had stand
@@ -248,7 +261,7 @@ module _ (n : ℕ) (c : AreCited n) where
     }
 
     pub states : StatesAreCited n
-    states = record { merge = merge; held = held; heads = heads }
+    states = record { merge = merge; held = held; heads = heads; made = histories }
 
     pub heard : HeardEdgesAreKnown n
     heard = c.drops.heard leaving

@@ -1,5 +1,6 @@
 -- The laws of runs, as they are cited, each with what it stands on.
 use Rattle.std.specs.Prelude.{ℕ, ◌<◌, ◌^◌}
+use Rattle.law_refused.specs.Refusals.{RefusalsChangeNothing}
 use Rattle.law_repair.specs.law_contents.Together as contents
 use Rattle.law_repair.specs.law_contents.Together.{HoldBoth}
 use Rattle.law_repair.specs.law_leaving.Premises as drops
@@ -8,7 +9,12 @@ use Rattle.law_returns.specs.law_full.Filled.{FullPlaced, FullSays}
 use Rattle.law_repair.specs.law_golds.Laws.{FlagsAreKnown}
 use Rattle.law_repair.specs.law_golds.Premises as flagging
 use Rattle.law_repair.specs.law_golds.Premises.{NextIdsAreAway}
+use Rattle.law_lists.specs.Laws.{RemovalsStay, ReturnsList}
+use Rattle.law_rests.specs.Rests.{NoneIsUnderWayToRemoved, RemovedServersRest}
+use Rattle.law_stamps.specs.Stamps.{OneStampEach}
 use Rattle.law_returns.specs.Gate.{EdgesAreKept}
+use Rattle.law_bodies.specs.Premises as bodies
+use Rattle.law_determined.specs.Determined.{NamesAreDetermined}
 use Rattle.law_intents.specs.Laws.{IntentionsHaveRequests, NothingIsLeftToDo}
 use Rattle.law_acks.specs.Laws.{RunsStayWhole, StandOn}
 use Rattle.law_repair.specs.law_listings.Laws.{ListingsAreKept, ListingsStandOn}
@@ -22,7 +28,9 @@ use Rattle.law_repair.specs.Given as repairs
 use Rattle.law_repair.specs.Kept.{KeptDirectoriesAreBroughtBack, KeptNamesFormATree, KeptServersAgree, KeptThingsAreConnected, KeptThingsAreListedOnlyWhereTheyStand}
 use Rattle.pg_run.specs.Acknowledged.{AcknowledgedKeysAreHad}
 use Rattle.pg_run.specs.Away.{DirectoriesAreTold, WhatBeginsIsAway}
+use Rattle.pg_run.specs.Bodies.{BodiesAnswerWants, FirstHarbingersAsk, OneIsAskedAtATime}
 use Rattle.pg_run.specs.Births.{BirthsAreAlone, BirthsAreKnown, BirthsAreOfOneThing, BirthsMoveInEvents, BirthsMoveOn, GoneSays, GreaterBirthsReplaceEdges, LinksNameTheSender, ReplicasStayOrGo}
+use Rattle.pg_run.specs.Deltas.{KeepsWhatItMadeOrTook, WantsGetTheShortestChange}
 use Rattle.pg_run.specs.Going.{BirthsEndByLeave, ByesBeginWhereOneGoes, ByesEndByAnswers, EachPeerIsTold, EdgesGoByWord, FlagsAreMadeWhereHeld}
 use Rattle.pg_run.specs.Golds.{FullReplicasSeeGold, ReplicasNameGolds}
 use Rattle.pg_run.specs.Grown.{EventsGrow, RunsGrow}
@@ -31,6 +39,7 @@ use Rattle.pg_run.specs.Intending.{IntentionsAreInOrder}
 use Rattle.pg_run.specs.Known.{CarriedIsKnown, FlagsAreOwn, FlagsHaveOwnNumbers, PlacesHaveOwnStamps, PlacesMadeArePast}
 use Rattle.pg_run.specs.Laws.{HoldsWhatItTook, HouseIsInOrder, NamesMerge, QuietDirectoriesAreBroughtBack, QuietJoinedServersAgree, QuietNamesFormATree, QuietServersAgree, QuietThingsAreListedOnlyWhereTheyStand, ReturnsAreJustified}
 use Rattle.pg_run.specs.Leaving.{ByesAreOver, DropsAreSafe, GiversHaveEachCell, HeardEdgesAreKnown, WhatWentIsOver}
+use Rattle.pg_run.specs.Noted.{SourcesAnnounced}
 use Rattle.pg_run.specs.Ruled.{EventsKeepTheRule, WhatGoesIsOver}
 use Rattle.pg_run.specs.Ticks.{RestartsLoseWishes, TicksSendWhatIsOwed}
 use Rattle.pg_run.specs.Views.{MessagesAreOfViews, MessagesAreSentInView, ViewsArePrefixes, ViewsGrow}
@@ -58,6 +67,8 @@ pub record ViewsAreCited (servers : ℕ) : Type 0 where
   pub grow : views.StandOn servers → ViewsGrow servers
   pub sent : views.StandOn servers → MessagesAreSentInView servers
   pub mailed : views.StandOn servers → MessagesAreOfViews servers
+  pub rests : MessagesAreSentInView servers → RemovedServersRest servers
+  pub none_to_removed : NoneIsUnderWayToRemoved servers
 
 -- of what servers intend
 pub record IntentsAreCited (servers : ℕ) : Type 0 where
@@ -72,9 +83,20 @@ pub record ContentsAreCited (servers : ℕ) : Type 0 where
   pub determined : servers < 2 ^ 32 → contents.StandOn servers → StateIsDetermined servers
   pub made : servers < 2 ^ 32 → contents.StandOn servers → MakesHistories servers
   pub one : servers < 2 ^ 32 → contents.StandOn servers → OneVersionAStamp servers
+  pub stamps : servers < 2 ^ 32 → contents.StandOn servers → OneStampEach servers
   pub ancestry : servers < 2 ^ 32 → contents.StandOn servers → AncestryByVectors servers
   pub carried : servers < 2 ^ 32 → contents.StandOn servers → CarriesHistory servers
   pub clock : servers < 2 ^ 32 → contents.StandOn servers → ClockEndsFirst servers
+  pub announced : servers < 2 ^ 32 → contents.StandOn servers → SourcesAnnounced servers
+  pub asked : servers < 2 ^ 32 → contents.StandOn servers → OneIsAskedAtATime servers
+  pub kept : servers < 2 ^ 32 → contents.StandOn servers → KeepsWhatItMadeOrTook servers
+
+-- of bodies
+pub record BodiesAreCited (servers : ℕ) : Type 0 where
+  pub answers : bodies.StandOn servers → BodiesAnswerWants servers
+  pub shortest : servers < 2 ^ 32 → contents.StandOn servers → TidinessIsGiven servers
+      → WantsGetTheShortestChange servers
+  pub first : TidinessIsGiven servers → FirstHarbingersAsk servers
 
 -- of what edges keep, and of births
 pub record EdgesAreCited (servers : ℕ) : Type 0 where
@@ -135,9 +157,14 @@ pub record NamesAreCited (servers : ℕ) : Type 0 where
   pub known : IntentionsAreInOrder servers → AllIsNamed servers → PlacesWereMade servers
       → FlagsAreKnown servers → CarriedIsKnown servers
   pub merge : NamesStandOn servers → NamesMerge servers
+  pub determined : NamesStandOn servers → NamesAreDetermined servers
   pub justified : NamesStandOn servers → EdgesAreKept servers → ReturnsAreJustified servers
+  pub returns_list : NamesStandOn servers → FirstEffectsAreOrdered servers → ReturnsList servers
+  pub removals_stay : HouseIsInOrder servers → ServersAreWhole servers → FirstEffectsAreWhole servers
+      → FirstEffectsAreOrdered servers → RemovalsStay servers
   pub owed : TidinessIsGiven servers → TicksSendWhatIsOwed servers
   pub lost : TidinessIsGiven servers → RestartsLoseWishes servers
+  pub refused : TidinessIsGiven servers → RefusalsChangeNothing servers
   pub listed : ListingsStandOn servers → ListingsAreKept servers
 
 -- wherever a run is quiet
@@ -172,6 +199,7 @@ pub record AreCited (servers : ℕ) : Type 0 where
   pub views : ViewsAreCited servers
   pub intents : IntentsAreCited servers
   pub contents : ContentsAreCited servers
+  pub bodies : BodiesAreCited servers
   pub edges : EdgesAreCited servers
   pub drops : DropsAreCited servers
   pub flags : FlagsAreCited servers

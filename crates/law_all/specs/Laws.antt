@@ -1,10 +1,17 @@
 -- The laws of all runs, each in one field. Where stamps and ids need their numbers, servers are fewer than 2 ^ 32.
 use Rattle.std.specs.Prelude.{◌<◌, ◌^◌, ℕ}
+use Rattle.law_determined.specs.Determined.{NamesAreDetermined}
+use Rattle.law_refused.specs.Refusals.{RefusalsChangeNothing}
+use Rattle.law_lists.specs.Laws.{RemovalsStay, ReturnsList}
 use Rattle.law_repair.specs.law_places.Laws.{OnePlaceAStamp}
+use Rattle.law_rests.specs.Rests.{NoneIsUnderWayToRemoved, RemovedServersRest}
+use Rattle.law_stamps.specs.Stamps.{OneStampEach}
 use Rattle.law_repair.specs.Kept.{KeptDirectoriesAreBroughtBack, KeptNamesFormATree, KeptServersAgree, KeptThingsAreConnected, KeptThingsAreListedOnlyWhereTheyStand}
 use Rattle.pg_run.specs.Acknowledged.{AcknowledgedKeysAreHad}
+use Rattle.pg_run.specs.Bodies.{BodiesAnswerWants, FirstHarbingersAsk, OneIsAskedAtATime}
 use Rattle.pg_run.specs.Births.{BirthsAreAlone, BirthsAreKnown, BirthsAreOfOneThing, GreaterBirthsReplaceEdges, LinksNameTheSender}
 use Rattle.pg_run.specs.Came.{TakesWhatCame}
+use Rattle.pg_run.specs.Deltas.{KeepsWhatItMadeOrTook, WantsGetTheShortestChange}
 use Rattle.pg_run.specs.Going.{EachPeerIsTold}
 use Rattle.pg_run.specs.Golds.{FullReplicasSeeGold, ReplicasNameGolds}
 use Rattle.pg_run.specs.Histories.{AncestryByVectors, CarriesHistory, ClockEndsFirst, MakesHistories, OneVersionAStamp, StateIsDetermined, StateIsItsHeads}
@@ -22,23 +29,42 @@ pub record LawsOfRuns (servers : ℕ) : Type 0 where
   pub names : servers < 2 ^ 32 → NamesMerge servers
   pub heads : servers < 2 ^ 32 → StateIsItsHeads servers
   pub determined : servers < 2 ^ 32 → StateIsDetermined servers
+  pub determined_names : servers < 2 ^ 32 → NamesAreDetermined servers
   -- The versions of a file are a history, whose ancestors vectors tell, and which messages carry. Of
-  -- one stamp there is one version, and one place of a thing. Clocks end before other numbers do.
+  -- one stamp there is one version, and one place of a thing; and no two versions or places that were
+  -- made have one. Clocks end before other numbers do.
   pub histories : servers < 2 ^ 32 → MakesHistories servers
   pub one_version_a_stamp : servers < 2 ^ 32 → OneVersionAStamp servers
   pub one_place : OnePlaceAStamp servers
+  pub one_stamp : servers < 2 ^ 32 → OneStampEach servers
   pub ancestry : servers < 2 ^ 32 → AncestryByVectors servers
   pub carried : servers < 2 ^ 32 → CarriesHistory servers
   pub clock : servers < 2 ^ 32 → ClockEndsFirst servers
+  -- More than 1,024 bytes of a body go only to who asked for them; one server is asked at a time.
+  -- Who hears of a version first asks its sender for all of the body, and tells the peers of all
+  -- other edges. A replica keeps the latest of the deltas that it made or took, and a Want is given
+  -- the change that these lead to, where one does and is worth it.
+  pub bodies : servers < 2 ^ 32 → BodiesAnswerWants servers
+  pub one_asked : servers < 2 ^ 32 → OneIsAskedAtATime servers
+  pub first_harbingers : FirstHarbingersAsk servers
+  pub kept_deltas : servers < 2 ^ 32 → KeepsWhatItMadeOrTook servers
+  pub given : servers < 2 ^ 32 → WantsGetTheShortestChange servers
   -- Behind every event names are as the house rules ask, and each server intends what it is to. A tick
   -- sends what is owed and the walk that its word chooses, and is refused exactly at the clock's end.
   pub order : HouseIsInOrder servers
   pub intends : IntentionsAreInOrder servers
   pub owed : TicksSendWhatIsOwed servers
+  -- A refused call changes nothing, but that what is not here yet is asked for: a wish may be kept, and
+  -- its Fetch be sent.
+  pub refused : RefusalsChangeNothing servers
   -- What a server knows of removals is the first of them, in their order, and never its own; it has no
   -- edge to who is removed so. A message is of a view that its sender had, and in which it was live.
   pub views : ViewsArePrefixes servers
   pub messages_of_views : MessagesAreOfViews servers
+  -- A server that is not live takes nothing more, whatever follows: it stays as it was, and no entry tells
+  -- of an effect of it. No message to a removed one is under way.
+  pub rests : RemovedServersRest servers
+  pub none_to_removed : NoneIsUnderWayToRemoved servers
   -- After every event each full replica sees a live gold. A gold replica names with an edge each other
   -- live gold that it sees, or seeks one; any other replica names one, or seeks one.
   pub golds : FullReplicasSeeGold servers
@@ -78,8 +104,11 @@ pub record LawsOfRuns (servers : ℕ) : Type 0 where
   pub kept_listed : servers < 2 ^ 32 → KeptThingsAreListedOnlyWhereTheyStand servers
   pub kept_back : servers < 2 ^ 32 → KeptDirectoriesAreBroughtBack servers
   -- Where a directory comes back, whoever removed it in an earlier event had not heard of the places
-  -- that it lists, unless it is removed in the view of who brings the directory back.
+  -- that it lists, unless it is removed in the view of who brings the directory back. It lists a child
+  -- then; and in the event of an rmdir no rule brings back what was removed.
   pub justified : servers < 2 ^ 32 → ReturnsAreJustified servers
+  pub returns_list : servers < 2 ^ 32 → ReturnsList servers
+  pub removal_stays : RemovalsStay servers
   -- A restart loses wishes alone, and whoever lets a replica go tells each peer of it.
   pub lost : RestartsLoseWishes servers
   pub told : EachPeerIsTold servers

@@ -1,4 +1,9 @@
 pub mod Joined
 pub mod Laws
 pub use Rattle.law_repair.specs.law_places as law_places
+pub use Rattle.law_determined.specs as law_determined
+pub use Rattle.law_refused.specs as law_refused
 pub use Rattle.law_repair.specs as law_repair
+pub use Rattle.law_lists.specs as law_lists
+pub use Rattle.law_rests.specs as law_rests
+pub use Rattle.law_stamps.specs as law_stamps

@@ -10,14 +10,20 @@ ghost use Rattle.law_all.specs.Joined.{AreCited};
 ghost use Rattle.law_all.specs.Laws.{LawsOfRuns};
 
 use law_acks::{runs_grow, runs_keep_edges};
+use law_bodies::{bodies_answer_wants, first_harbingers_ask};
+use law_deltas::wants_get_the_shortest_change;
+use law_determined::names_are_determined;
 use law_intents::order::{all_is_named, house_is_in_order, servers_are_whole, what_begins_is_new};
 use law_intents::{intentions_are_in_order, nothing_is_left_to_do};
+use law_lists::{removals_stay, returns_list_a_child};
+use law_refused::refusals_change_nothing;
 use law_repair::births::{
     births_are_alone, births_are_known, births_move_on, edges_follow_births, events_of_leaving,
     gone_stays_gone,
 };
 use law_repair::contents::{
-    clocks_end_first, contents_are_states, runs_make_histories, states_are_heads,
+    clocks_end_first, contents_are_states, kept_deltas_are_latest, one_is_asked,
+    runs_make_histories, sources_announced, states_are_heads,
 };
 use law_repair::golds::{flags_are_own, golds_are_named, golds_are_seen};
 use law_repair::leaving::{
@@ -30,9 +36,11 @@ use law_repair::{
     full_replicas_come, full_replicas_stay, golds_raise_none, kept_runs_are_repaired,
     kept_things_are_connected,
 };
+use law_rests::removed_servers_rest;
 use law_returns::full::full_replicas_have_places;
 use law_returns::names::names_are_what_was_taken;
 use law_returns::returns_are_justified;
+use law_stamps::stamps_are_drawn_once;
 use law_ticks::{restarts_lose_wishes, ticks_send_what_is_owed};
 use law_views::{messages_are_of_views, views_are_prefixes};
 use pg_run::{quiet_is_told, takes_are_what_came};
@@ -54,12 +62,20 @@ fn laws_are_cited()
     what_begins_is_new();
     views_are_prefixes();
     messages_are_of_views();
+    removed_servers_rest();
     intentions_are_in_order();
     nothing_is_left_to_do();
     contents_are_states();
     states_are_heads();
     runs_make_histories();
+    stamps_are_drawn_once();
     clocks_end_first();
+    sources_announced();
+    one_is_asked();
+    kept_deltas_are_latest();
+    bodies_answer_wants();
+    wants_get_the_shortest_change();
+    first_harbingers_ask();
     runs_keep_edges();
     runs_grow();
     full_replicas_have_places();
@@ -80,9 +96,13 @@ fn laws_are_cited()
     places_were_made();
     what_is_carried_is_known();
     names_are_what_was_taken();
+    names_are_determined();
     returns_are_justified();
+    returns_list_a_child();
+    removals_stay();
     ticks_send_what_is_owed();
     restarts_lose_wishes();
+    refusals_change_nothing();
     listings_are_kept();
     quiet_stores_agree();
     quiet_servers_agree();

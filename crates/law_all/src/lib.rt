@@ -18,7 +18,7 @@
 //!   lists under each other reads another's proofs.
 //! - A new law costs a call in `laws_are_cited`, a field of `specs/Joined`, its line in
 //!   `proofs/Joined`, and, if it is promised, one of `specs/Laws`. A new kind of message costs
-//!   nothing here.
+//!   a line in `proofs/Carried`.
 #![tactic(auto)]
 
 mod laws;

@@ -121,7 +121,7 @@ module _ (file : FileId) (birth peer : ℕ) (a : Store) (work : Work) where
       (λ f is m. changed_same (cut_to length) f m))
   call_same (call.Read path offset count) =
       inl (looks (file_at a path) (λ (f : FileId). reply.Bytes (shown_part a f offset count)) (may_refuse (call.Read path offset count)))
-  call_same (call.Fresh path) = inl (looks (file_at a path) (λ (f : FileId). reply.Done) (may_refuse (call.Fresh path)))
+  call_same (call.Fresh path) = inl (looks (file_at a path) _ (may_refuse (call.Fresh path)))
   call_same (call.Ls path from) = inl (looks (dir_at a path) (λ (dir : FileId). page (listing dir (known a.names dir)) from) (may_refuse (call.Ls path from)))
   call_same (call.Stat target) = inl (looks (target_at a target) (λ (f : FileId). reply.Stat (stat_of a f)) (may_refuse (call.Stat target)))
   call_same (call.Rename from to) =

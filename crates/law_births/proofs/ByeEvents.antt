@@ -25,14 +25,16 @@ use Rattle.law_order.specs.pg_msg.declared.message.Packet.{Packet}
 use Rattle.law_order.specs.pg_msg.declared.work.Work.{Work}
 use Rattle.law_order.specs.pg_msg.Work.{new_work}
 use Rattle.law_order.specs.pg_store.declared.store.Store.{Store}
+use Rattle.law_order.specs.pg_store.Store.{is_before_clock_end}
 use Rattle.law_order.specs.pg_pieces.Done.{Done, idle}
 use Rattle.law_order.specs.pg_pieces.Intending.{begin_intent}
 use Rattle.law_order.specs.pg_pieces.Parting.{stays_for}
 use Rattle.law_order.specs.pg_graph.Leaving.{begin_byes, bye_ok, bye_to, goes, goes_now, goes_or_stays, leave_ok, may_leave, without_leave}
 use Rattle.law_order.specs.pg_server.declared.input.Input.{Input}
 use Rattle.law_order.specs.pg_server.declared.input.Input.TheVariants as input
-use Rattle.law_order.specs.pg_server.Local.{Effect, closed, effect, finished, first_effect, is_heard, receive, reply_to, settled, takes_effect}
+use Rattle.law_order.specs.pg_server.Local.{Effect, closed, effect, finished, first_effect, is_heard, receive, reply_to, settled, takes_effect, ticked}
 use Rattle.law_order.proofs.theory_flood_pieces.Choices.{chosen, decided}
+use Rattle.law_births.proofs.ByeBodies.{delta_same, harbinger_same, later_same, piece_same, want_same}
 use Rattle.law_births.proofs.ByeCalls.{call_same}
 use Rattle.law_births.proofs.ByeLosses.{enter_bye}
 use Rattle.law_births.proofs.ByeKeys.{ByeKey, Same, accept_same, bye_in, cell_same, confirm_same, end_same, ended_same, fetch_same, full_same, grant_same, invite_same, leave_same, no_grant_same, none_here_same, place_is_same, seek_same, settle_same, tell_ok_same, tell_same, unlink_same, walk_same}
@@ -55,6 +57,11 @@ module _ (file : FileId) (birth peer : ℕ) (P : Option Intent → Type 0) where
   -- ANY MESSAGE
   pub received_bye : (a : Store) (m : Message) (w : Work) → Changes a m w → P (At a) → P (At (receive a m w).store)
   received_bye a (message.Cell x tag c) w changes k = on (cell_same file birth peer a w x tag c) k
+  received_bye a (message.Harbinger x tag head) w changes k = on (harbinger_same file birth peer a w x tag head) k
+  received_bye a (message.Want x wanted) w changes k = on (want_same file birth peer a w x wanted) k
+  received_bye a (message.Delta x d) w changes k = on (delta_same file birth peer a w x d) k
+  received_bye a (message.Piece x p) w changes k = on (piece_same file birth peer a w x p) k
+  received_bye a (message.Later x stamp) w changes k = on (later_same file birth peer a w x stamp) k
   received_bye a (message.Fetch f n) w changes k = on (fetch_same file birth peer a w f n) k
   received_bye a (message.Grant x g) w changes k = on (grant_same file birth peer a w x g) k
   received_bye a (message.NoGrant f n) w changes k = on (no_grant_same file birth peer a w f n) k
@@ -99,7 +106,9 @@ module _ (file : FileId) (birth peer : ℕ) (P : Option Intent → Type 0) where
 
   pub first_bye : (a : Store) (asked : Input) → ChangesIn a asked → P (At a) → P (At (first_effect a asked).store)
   first_bye a (input.Call moment c) changes k = called_bye a moment c changes k
-  first_bye a (input.Tick moment word) changes k = k
+  first_bye a (input.Tick moment word) changes k =
+      let w = new_work moment 0 in
+      chosen (λ (d : Done). P (At d.store)) (is_before_clock_end a) (ticked a word w) (idle a w) k k
   first_bye a (input.Arrival packet) changes k =
       let w = new_work 0 packet.from in
       decided (λ (d : Done). P (At d.store)) (is_heard a packet) (receive a packet.message w) (idle a w)

@@ -126,7 +126,7 @@ module _ (file : FileId) (birth peer : ℕ) where
     pub entry_same : (d : FileId) (e : Entry) → Same (take_entry a d e)
     entry_same d e = either_same (is_newer_entry a d e) (put_entry a d e) refl
 
-    version_same : (f : FileId) (v : VersionValue) → Same (take_version a f v)
+    pub version_same : (f : FileId) (v : VersionValue) → Same (take_version a f v)
     version_same f v = either_same (is_new_version a f v) (put_version a f v) refl
 
     pub aimed_same : (q : IntentKey) (to : ℕ) → is_same_key ByeKey q ≡ false → Same (with_intents a (aimed a.intents q to))
@@ -205,7 +205,7 @@ module _ (file : FileId) (birth peer : ℕ) where
         chosen Rests (has_birth a x.file x.receiver) (cond later (idle a w) linked) (idle a (with_gone a x manner.Makes w))
         (chosen Rests later (idle a w) linked refl (link_same a x.file w.from x.sender)) refl
 
-    asked_same : (x : Ends) → Rests (accept a x manner.Needs w)
+    pub asked_same : (x : Ends) → Rests (accept a x manner.Needs w)
     asked_same x =
         let later = knows_later a x.file w.from x.sender in
         chosen Rests (has_birth a x.file x.receiver) (cond later (idle a w) (idle a w)) (idle a (with_gone a x manner.Needs w))

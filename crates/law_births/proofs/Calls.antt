@@ -194,7 +194,7 @@ module _ (V : Why) (a : Store) (fills : FillsStand a) (free : (kind : Kind) → 
       (λ file is m. changed_moves (cut_to length) file m)
   call_moves (call.Read path offset count) may =
       looks (file_at a path) (λ (file : FileId). reply.Bytes (shown_part a file offset count)) (may_refuse (call.Read path offset count))
-  call_moves (call.Fresh path) may = looks (file_at a path) (λ (file : FileId). reply.Done) (may_refuse (call.Fresh path))
+  call_moves (call.Fresh path) may = looks (file_at a path) _ (may_refuse (call.Fresh path))
   call_moves (call.Ls path from) may = looks (dir_at a path) (λ (dir : FileId). page (listing dir (known a.names dir)) from) (may_refuse (call.Ls path from))
   call_moves (call.Stat target) may =
       looks (target_at a target) (λ (file : FileId). reply.Stat (stat_of a file)) (may_refuse (call.Stat target))

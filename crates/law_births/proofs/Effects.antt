@@ -2,6 +2,7 @@
 use Rattle.std.proofs.Common.{ℕ, ◌≡◌, Bool, true, false, cond, List, Option, None, Some, is_some, refl, sym, ap, subst, ◌∙◌}
 use Rattle.std.specs.Option.{option_map}
 use Rattle.std.proofs.lemmas.Bool.{and_parts, false≢true, not-true}
+use Rattle.law_order.specs.pg_base.declared.head.Head.{Head}
 use Rattle.law_order.specs.pg_base.declared.id.FileId.{FileId}
 use Rattle.law_order.specs.pg_base.declared.id.Kind.{Kind}
 use Rattle.law_order.specs.pg_base.declared.stamp.Stamp.{Stamp}
@@ -15,12 +16,13 @@ use Rattle.law_order.specs.pg_msg.declared.message.Message.TheVariants as messag
 use Rattle.law_order.specs.pg_msg.declared.message.Packet.{Packet}
 use Rattle.law_order.specs.pg_msg.declared.work.Work.{Work}
 use Rattle.law_order.specs.pg_msg.Work.{new_work}
+use Rattle.law_order.specs.pg_names.Names.{is_dir}
 use Rattle.law_order.specs.pg_replica.declared.replica.Replica.{Replica}
 use Rattle.law_order.specs.pg_replica.Replicas.{ByFile, is_of_birth, replica_in}
 use Rattle.law_order.specs.pg_store.declared.store.Store.{Store}
 use Rattle.law_order.specs.pg_store.Births.{has_birth, is_pending}
 use Rattle.law_order.specs.pg_store.Links.{knows_later, link}
-use Rattle.law_order.specs.pg_store.Store.{is_held, replica_at}
+use Rattle.law_order.specs.pg_store.Store.{is_before_clock_end, is_held, replica_at}
 use Rattle.law_order.proofs.pg_store.Aiming.{unwished_as_before}
 use Rattle.law_order.proofs.pg_store.Given.{pending_may}
 use Rattle.law_order.specs.pg_pieces.declared.accepting.EdgeUse.TheVariants as manner
@@ -32,9 +34,13 @@ use Rattle.law_order.specs.pg_repair.Granting.{begin_granted, grant}
 use Rattle.law_order.proofs.pg_intentions.Steady.{begin_end_stays}
 use Rattle.law_order.specs.pg_server.declared.input.Input.{Input}
 use Rattle.law_order.specs.pg_server.declared.input.Input.TheVariants as input
-use Rattle.law_order.specs.pg_server.Local.{Effect, closed, effect, finished, first_effect, intended, is_heard, receive, reply_to, settled, takes_effect, without_volatile}
+use Rattle.law_order.specs.pg_server.Local.{Effect, closed, effect, finished, first_effect, intended, is_heard, receive, reply_to, settled, takes_effect, ticked, without_volatile}
+use Rattle.law_order.specs.pg_announced.Announced.{released}
+use Rattle.law_order.specs.pg_server.pg_transfer.Asking.{noted}
+use Rattle.law_order.specs.pg_server.pg_transfer.Harbinger.{harbinger, heard}
 use Rattle.law_order.proofs.theory_flood_pieces.Choices.{chosen, decided}
 use Rattle.law_order.specs.pg_run.Births.{linking}
+use Rattle.law_order.proofs.pg_run.TransferWays.{beside_goes, heard_goes}
 use Rattle.law_order.specs.pg_run.Intending.{FillsStand}
 use Rattle.law_order.specs.pg_calls.Naming.{next_id}
 use Rattle.law_births.specs.Premises.{IsFree}
@@ -44,8 +50,8 @@ use Rattle.law_births.proofs.Handlers.{received_moves, taken_stays}
 use Rattle.law_births.proofs.Has.{IsAlone, before_goes}
 use Rattle.law_births.proofs.Intends.{begin_end_goes}
 use Rattle.law_births.proofs.Leaves.{Lets, lets_any}
-use Rattle.law_births.proofs.Moving.{AnyWhy, Moves, Why, goes_moves, linked_there, moves_goes, moves_itself, moves_stay}
-use Rattle.law_births.proofs.Pieces.{settle_stays, shape, shape_at}
+use Rattle.law_births.proofs.Moving.{AnyWhy, Moves, Why, goes_moves, linked_there, moves_goes, moves_itself, moves_stay, stays_moves}
+use Rattle.law_births.proofs.Pieces.{notes_stay, settle_stays, shape, shape_at}
 
 -- ---- the end of an event
 
@@ -73,7 +79,10 @@ lets_in_any a asked = record {
 module _ (V : Why) (a : Store) (fills : FillsStand a) (free : (kind : Kind) → IsFree a (next_id a kind)) where
   pub first_moves : (asked : Input) → LetsIn V a asked → Moves V a (first_effect a asked).store
   first_moves (input.Call moment c) lets = call_moves V a fills free (new_work moment 0) c (lets.enters moment c refl)
-  first_moves (input.Tick moment word) lets = moves_itself a
+  first_moves (input.Tick moment word) lets =
+      let w = new_work moment 0 in
+      chosen (λ (d : Done). Moves V a d.store) (is_before_clock_end a) (ticked a word w) (idle a w)
+      (stays_moves (notes_stay a (released a.announced))) (moves_itself a)
   first_moves (input.Arrival packet) lets =
       let w = new_work 0 packet.from in
       decided (λ (d : Done). Moves V a d.store) (is_heard a packet) (receive a packet.message w) (idle a w)
@@ -153,14 +162,27 @@ module _ (a : Store) (ends : Ends) (work : Work) (current : is_current a work.fr
       ((taken_stays AnyWhy a met.store ends.file c met.work).shapes ends.file) accept_listed)
       accept_listed)
 
+  granting : (t : Bool) (d e : Done) → t ≡ false → Named e.store → Named (cond t d e).store
+  granting true d e is k = absurd (false≢true (sym is))
+  granting false d e is k = k
+
+  -- a harbinger of a file
+  pub harbinger_listed : (tag : ℕ) (head : Head) → is_dir ends.file ≡ false → Named (harbinger a ends tag head work).store
+  harbinger_listed tag head file =
+      let met = accept a ends manner.Makes work in
+      let t = is_accepted a work.from manner.Makes ends in
+      let done = heard met.store ends tag head met.work in
+      let P : Done → Type 0 = λ d. Named d.store in
+      granting (is_dir ends.file) (idle a work) (cond t done met) file
+      (chosen P t done met
+      (heard_goes P met.store ends met.work tag head (λ is. accept_listed) (λ no is. accept_listed)
+      (λ no free. beside_goes P met.store ends met.work tag head (noted met.store ends.file head.stamp) (λ none. accept_listed)
+      (λ n is. accept_listed))) accept_listed)
+
   held_here : IsAlone a → is_held a ends.file ≡ true
   held_here k =
       let x = of_birth (replica_at a ends.file) ends.receiver born_here in
       sym (k.together ends.file) ∙ ap (λ (o : Option Replica). is_some o) x.1
-
-  granting : (t : Bool) (d e : Done) → t ≡ false → Named e.store → Named (cond t d e).store
-  granting true d e is k = absurd (false≢true (sym is))
-  granting false d e is k = k
 
   unpending : IsAlone a → (t : Bool) → is_pending a ends.file ends.receiver ≡ t → t ≡ false
   unpending k true is = absurd (false≢true (sym (pending_may a ends.file ends.receiver k.births is).away ∙ held_here k))
@@ -203,8 +225,16 @@ module _ (a : Store) (k : IsAlone a) (work : Work) (ends : Ends) (current : is_c
       let P : Ends → Type 0 = λ z. is_current a work.from z ≡ true → After (leave a x stamp work).store z in
       subst P (same_ends x ends e) (λ cur. leave_listed a x work cur stamp) current
 
+  harbinger_by : (x : Ends) (tag : ℕ) (head : Head) (t : Bool) → is_dir x.file ≡ t → cond t None (Some x) ≡ Some ends
+      → After (harbinger a x tag head work).store ends
+  harbinger_by x tag head true dir e = no_ends e (harbinger a x tag head work).store
+  harbinger_by x tag head false dir e =
+      let P : Ends → Type 0 = λ z. is_current a work.from z ≡ true → After (harbinger a x tag head work).store z in
+      subst P (same_ends x ends e) (λ cur. harbinger_listed a x work cur tag head dir) current
+
   pub received_lists : (m : Message) → linking m ≡ Some ends → After (receive a m work).store ends
   received_lists (message.Cell x tag c) e = cell_by x tag c (fits x.file c) refl e
+  received_lists (message.Harbinger x tag head) e = harbinger_by x tag head (is_dir x.file) refl e
   received_lists (message.Grant x g) e = grant_by x g e
   received_lists (message.Here x) e = here_by x e
   received_lists (message.Meet x) e = here_by x e

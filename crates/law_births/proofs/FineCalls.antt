@@ -230,7 +230,7 @@ module _ (P : FileId → ℕ → ℕ → Type 0) (G : FileId → ℕ → Type 0)
         goes_on (file_at a path) (change_file a (cut_to length) w) (file_missing a path) m (λ file is h. change_fine (cut_to length) file h)
     fine_call (call.Read path offset count) m =
         looks (file_at a path) (λ (file : FileId). reply.Bytes (shown_part a file offset count)) (file_missing a path) m
-    fine_call (call.Fresh path) m = looks (file_at a path) (λ (file : FileId). reply.Done) (file_missing a path) m
+    fine_call (call.Fresh path) m = looks (file_at a path) _ (file_missing a path) m
     fine_call (call.Ls path at) m =
         looks (dir_at a path) (λ (dir : FileId). page (listing dir (known a.names dir)) at) (dir_missing a path) m
     fine_call (call.Stat target) m = looks (target_at a target) (λ (file : FileId). reply.Stat (stat_of a file)) (target_missing a target) m

@@ -1,5 +1,6 @@
 -- What each message does to births and edges.
 use Rattle.std.proofs.Common.{ℕ, ◌≡◌, ◌==◌, ◌&&◌, Bool, true, false, cond, not, List, [], ◌∷◌, refl, ◌∙◌}
+use Rattle.law_order.specs.pg_base.declared.head.Head.{Head}
 use Rattle.law_order.specs.pg_base.declared.id.FileId.{FileId}
 use Rattle.law_order.specs.pg_base.declared.stamp.Stamp.{Stamp}
 use Rattle.law_order.specs.pg_edges.declared.edge.Edge.{Edge}
@@ -11,10 +12,13 @@ use Rattle.law_order.specs.pg_intent.declared.key.IntentKey.TheVariants as inten
 use Rattle.law_order.specs.pg_intent.Intents.{aimed, ended, intent_at}
 use Rattle.law_order.specs.pg_msg.declared.message.Ask.{Ask}
 use Rattle.law_order.specs.pg_msg.declared.message.Ask.TheVariants as ask
+use Rattle.law_order.specs.pg_msg.declared.message.Delta.{Delta}
 use Rattle.law_order.specs.pg_msg.declared.message.Ends.{Ends}
 use Rattle.law_order.specs.pg_msg.declared.message.Granted.{Granted}
 use Rattle.law_order.specs.pg_msg.declared.message.Message.{Message}
 use Rattle.law_order.specs.pg_msg.declared.message.Message.TheVariants as message
+use Rattle.law_order.specs.pg_msg.declared.message.Piece.{Piece}
+use Rattle.law_order.specs.pg_msg.declared.message.Wanted.{Wanted}
 use Rattle.law_order.specs.pg_msg.declared.work.Work.{Work}
 use Rattle.law_order.specs.pg_store.declared.store.Store.{Store}
 use Rattle.law_order.specs.pg_store.Beginning.{with_intents}
@@ -43,13 +47,19 @@ use Rattle.law_order.specs.pg_graph.Seeking.{answered_seek, seek}
 use Rattle.law_order.specs.pg_repair.Telling.{is_told, tell, tell_ok, told}
 use Rattle.law_order.specs.pg_graph.Walks.{goes_on, meet_origin, onward, walk, walk_on, walked}
 use Rattle.law_order.specs.pg_server.Local.{receive}
+use Rattle.law_order.specs.pg_server.pg_transfer.Delta.{delta}
+use Rattle.law_order.specs.pg_server.pg_transfer.Harbinger.{harbinger}
+use Rattle.law_order.specs.pg_server.pg_transfer.Later.{later}
+use Rattle.law_order.specs.pg_server.pg_transfer.Piece.{piece}
+use Rattle.law_order.specs.pg_server.pg_transfer.Want.{want}
 use Rattle.law_order.proofs.theory_flood_pieces.Choices.{chosen, decided}
+use Rattle.law_order.proofs.pg_run.Transfers.{KeepsTransfers, delta_keeps, harbinger_keeps, later_keeps, piece_keeps, want_keeps}
 use Rattle.law_births.proofs.Has.{Goes, before_goes, goes_itself, goes_then}
 use Rattle.law_births.proofs.Begins.{aim_goes, granted_goes, turn_goes}
 use Rattle.law_births.proofs.Leaves.{Lets, leave_ok_moves}
 use Rattle.law_births.proofs.Losing.{few_stays, filled_stays}
 use Rattle.law_births.proofs.Moving.{Moves, Why, begin_shapes, edges_then, goes_moves, link_moves, link_ups, moves_goes, moves_itself, moves_stay, stays_moves, unheld, unlink_moves}
-use Rattle.law_births.proofs.Pieces.{Stays, acknowledge_stays, ended_stays, entry_stays, flag_stays, place_stays, shapes_by, stays_itself, stays_then, version_stays}
+use Rattle.law_births.proofs.Pieces.{Stays, acknowledge_stays, ended_stays, entry_stays, flag_stays, place_stays, shapes_by, stays_itself, stays_then, staying_steps, version_stays}
 
 module _ (V : Why) (a : Store) where
   abbrev To : Done → Type 0
@@ -119,6 +129,32 @@ module _ (V : Why) (a : Store) where
       (chosen To (is_accepted a work.from manner.Makes ends) (taken_along ends tag c met) met
       (moves_stay met_to (taken_stays met.store ends.file c met.work)) met_to)
       (moves_itself a)
+
+  -- ---- bodies
+
+  body_moves : (ends : Ends) → KeepsTransfers ends To
+  body_moves ends = staying_steps ends (λ (b : Store). Moves V a b) (λ b c s m. moves_stay m s)
+
+  answer_moves : (ends : Ends) (work : Work) → To (accept a ends manner.Answers work)
+  answer_moves ends work =
+      let late = knows_later a ends.file work.from ends.sender in
+      chosen To (has_birth a ends.file ends.receiver) (cond late (idle a work) (idle a work)) (idle a (with_gone a ends manner.Answers work))
+      (chosen To late (idle a work) (idle a work) (moves_itself a) (moves_itself a)) (moves_itself a)
+
+  harbinger_moves : (ends : Ends) (tag : ℕ) (head : Head) (work : Work) → To (harbinger a ends tag head work)
+  harbinger_moves ends tag head work = harbinger_keeps ends To (body_moves ends) a work (moves_itself a) tag head (accept_moves ends work)
+
+  want_moves : (ends : Ends) (wanted : Wanted) (work : Work) → To (want a ends wanted work)
+  want_moves ends wanted work = want_keeps ends To (body_moves ends) a work (moves_itself a) wanted (asked_moves ends work)
+
+  delta_moves : (ends : Ends) (d : Delta) (work : Work) → To (delta a ends d work)
+  delta_moves ends d work = delta_keeps ends To (body_moves ends) a work (moves_itself a) d (answer_moves ends work)
+
+  piece_moves : (ends : Ends) (p : Piece) (work : Work) → To (piece a ends p work)
+  piece_moves ends p work = piece_keeps ends To (body_moves ends) a work (moves_itself a) p (answer_moves ends work)
+
+  later_moves : (ends : Ends) (stamp : Stamp) (work : Work) → To (later a ends stamp work)
+  later_moves ends stamp work = later_keeps ends To (body_moves ends) a work (moves_itself a) stamp (answer_moves ends work)
 
   -- ---- asked for, granted and not
 
@@ -245,11 +281,11 @@ module _ (V : Why) (a : Store) where
   pub received_moves : (m : Message) (work : Work) → Lets V a m work → To (receive a m work)
   received_moves (message.Cell ends tag c) work lets = cell_moves ends tag c work
   received_moves (message.Ack ends k tag) work lets = stays_moves (acknowledge_stays a ends.file (link_of work.from ends) k tag)
-  received_moves (message.Harbinger ends tag head) work lets = moves_itself a
-  received_moves (message.Want ends wanted) work lets = moves_itself a
-  received_moves (message.Delta ends delta) work lets = moves_itself a
-  received_moves (message.Piece ends piece) work lets = moves_itself a
-  received_moves (message.Later ends stamp) work lets = moves_itself a
+  received_moves (message.Harbinger ends tag head) work lets = harbinger_moves ends tag head work
+  received_moves (message.Want ends wanted) work lets = want_moves ends wanted work
+  received_moves (message.Delta ends d) work lets = delta_moves ends d work
+  received_moves (message.Piece ends p) work lets = piece_moves ends p work
+  received_moves (message.Later ends stamp) work lets = later_moves ends stamp work
   received_moves (message.Fetch file birth) work lets = fetch_moves file birth work
   received_moves (message.Grant ends g) work lets = grant_moves ends g work
   received_moves (message.NoGrant file birth) work lets = no_grant_moves file birth work

@@ -1,6 +1,6 @@
 mod Going
 pub mod Here
-mod Ends
+pub mod Ends
 pub mod Pieces
 pub mod Has
 pub mod Begins
@@ -14,7 +14,7 @@ mod Calls
 mod Unmade
 mod HouseUnmade
 mod Makers
-mod Effects
+pub mod Effects
 pub mod Joined
 pub mod NamesSay
 pub mod StoreSays
@@ -24,6 +24,7 @@ mod Mails
 mod Saying
 mod Walking
 mod Parting
+mod Bodies
 mod Received
 mod FineLosses
 mod FineCalls
@@ -35,6 +36,7 @@ pub mod Alone
 mod Given
 mod Gone
 mod ByeKeys
+mod ByeBodies
 mod ByeLosses
 mod ByeCalls
 pub mod ByeEvents

@@ -30,6 +30,8 @@ SaysSent P Q G s m = AllNamed P s m.to m.packet.message × (SaysAll Q G m.packet
 -- a message along an edge, that may be answered that a replica is gone
 abbrev pub linking_to : Message → Option Ends
 linking_to (message.Cell ends tag c) = Some ends
+linking_to (message.Harbinger ends tag head) = Some ends
+linking_to (message.Want ends wanted) = Some ends
 linking_to (message.Grant ends granted) = Some ends
 linking_to (message.Here ends) = Some ends
 linking_to (message.Walk ends origin birth hops word) = Some ends
@@ -72,8 +74,10 @@ pub named_by : (P : FileId → ℕ → ℕ → Type 0) (m : Message) (from to : 
     → P ends.file to ends.receiver
 named_by P (message.Cell x tag c) from to named ends links = subst (λ (z : Ends). P z.file to z.receiver) (let same : x ≡ ends = cc in same) named.1
 named_by P (message.Ack x q tag) from to named ends links = cc
-named_by P (message.Harbinger x tag head) from to named ends links = cc
-named_by P (message.Want x wanted) from to named ends links = cc
+named_by P (message.Harbinger x tag head) from to named ends links =
+    subst (λ (z : Ends). P z.file to z.receiver) (let same : x ≡ ends = cc in same) named.1
+named_by P (message.Want x wanted) from to named ends links =
+    subst (λ (z : Ends). P z.file to z.receiver) (let same : x ≡ ends = cc in same) named.1
 named_by P (message.Delta x delta) from to named ends links = cc
 named_by P (message.Piece x piece) from to named ends links = cc
 named_by P (message.Later x stamp) from to named ends links = cc

@@ -60,7 +60,7 @@ use Rattle.law_order.proofs.pg_calls.New.{thing_new}
 use Rattle.law_order.proofs.pg_calls.Walked.{file_found, full_held}
 use Rattle.law_order.specs.pg_server.declared.input.Input.{Input}
 use Rattle.law_order.specs.pg_server.declared.input.Input.TheVariants as input
-use Rattle.law_order.specs.pg_server.Local.{Effect, done_of, effect, intended, receive, sent_again, settled, without_volatile}
+use Rattle.law_order.specs.pg_server.Local.{Effect, done_of, effect, intended, receive, settled, ticked, without_sources, without_volatile}
 use Rattle.law_order.proofs.theory_flood_pieces.Choices.{chosen}
 use Rattle.law_order.proofs.theory_flood_pieces.Together.{replica_of_held}
 use Rattle.law_order.specs.pg_run.Journal.{versions_in}
@@ -275,7 +275,8 @@ module _ (s : ℕ) (a : Store) (server : a.names.server ≡ s) (both : AreTogeth
   first_is = record {
     calls = λ moment c. call_made s a server both moment c;
     ticks = λ moment word going.
-        none_made s (idle a (sent_again a word (new_work moment 0))) (walk_of_none a word (ask_all a (tick a (new_work moment 0))));
+        let behind = without_sources a in
+        none_made s (ticked a word (new_work moment 0)) (walk_of_none behind word (ask_all behind (tick behind (new_work moment 0))));
     arrivals = λ packet heard known.
         none_made s (receive a packet.message (new_work 0 packet.from))
         (received_none a packet.message (new_work 0 packet.from));

@@ -14,10 +14,13 @@ use Rattle.law_order.specs.pg_edges.declared.key.Key.TheVariants as key
 use Rattle.law_order.specs.pg_entries.declared.entry.Entry.{Entry}
 use Rattle.law_order.specs.pg_register.declared.flag.Flag.{Flag}
 use Rattle.law_order.specs.pg_register.declared.place.Place.{Place}
+use Rattle.law_order.specs.pg_announced.Announced.{NotesValue}
+use Rattle.law_order.specs.pg_delta.declared.delta.KeptDelta.{KeptDelta}
 use Rattle.law_order.specs.pg_intent.declared.intent.Intent.{Intent}
 use Rattle.law_order.specs.pg_intent.declared.intent.Intent.TheVariants as intent
 use Rattle.law_order.specs.pg_intent.declared.key.IntentKey.{IntentKey}
 use Rattle.law_order.specs.pg_intent.Intents.{ended, intent_at}
+use Rattle.law_order.specs.pg_msg.declared.message.Ends.{Ends}
 use Rattle.law_order.specs.pg_msg.declared.work.Touched.{Touched}
 use Rattle.law_order.specs.pg_msg.declared.work.Work.{Work}
 use Rattle.law_order.specs.pg_names.Names.{NamesValue, fill, filled, is_held, join_entry, join_flag, join_place, raise}
@@ -26,19 +29,22 @@ use Rattle.law_order.specs.pg_house.Work.{state_of}
 use Rattle.law_order.proofs.pg_house.Keys.{rules_keys}
 use Rattle.law_order.specs.pg_replica.declared.link.Link.{Link}
 use Rattle.law_order.specs.pg_replica.declared.replica.Replica.{Replica}
-use Rattle.law_order.specs.pg_replica.Replica.{covered_heads, key_of, keys, own_actor, with_head, with_touch, with_write, without_keys}
-use Rattle.law_order.specs.pg_replica.Replicas.{replicas_taking, replicas_touched, replicas_writing}
+use Rattle.law_order.specs.pg_replica.Replica.{covered_heads, key_of, keys, own_actor, with_head, with_kept, with_touch, with_write, without_keys}
+use Rattle.law_order.specs.pg_replica.Replicas.{ByFile, replicas_keeping, replicas_taking, replicas_touched, replicas_writing}
 use Rattle.law_order.specs.pg_store.declared.store.Store.{Store}
 use Rattle.law_order.specs.pg_store.Beginning.{take_patch, take_patches, take_told, take_told_in, with_intents}
 use Rattle.law_order.specs.pg_store.Births.{with_birth}
-use Rattle.law_order.specs.pg_store.Store.{acknowledge, is_new_version, is_newer_entry, is_newer_flag, is_newer_place, put_entry, put_flag, put_place, put_version, replica_at, take_entry, take_flag, take_place, take_version, touch, with_names, write}
+use Rattle.law_order.specs.pg_store.Store.{acknowledge, is_new_version, is_newer_entry, is_newer_flag, is_newer_place, keep_delta, put_entry, put_flag, put_place, put_version, replica_at, take_entry, take_flag, take_place, take_version, touch, with_names, write}
 use Rattle.law_order.specs.pg_store.Together.{HoldsAsBefore}
 use Rattle.law_order.proofs.pg_store.Pairs.{acked_seen, acknowledge_as_before, as_before, birth_as_before, ended_as_before, entry_as_before, flag_as_before, made_seen, names_as_before, place_as_before, replicas_only, then_as_before, touch_as_before, update_held, version_as_before, write_as_before}
+use Rattle.law_order.specs.pg_pieces.Done.{Done}
 use Rattle.law_order.specs.pg_pieces.Making.{own_next}
 use Rattle.law_order.specs.pg_cells.Settling.{rules, settle, touch_all}
 use Rattle.law_order.proofs.pg_cells.Settled.{settle_keeps}
 use Rattle.law_order.specs.pg_calls.Naming.{with_id}
+use Rattle.law_order.specs.pg_server.pg_transfer.Asking.{with_notes}
 use Rattle.law_births.proofs.Ends.{ends, ends-acked, ends-touched, ends-without}
+use Rattle.law_order.proofs.pg_run.Transfers.{KeepsTransfers}
 
 -- the birth of a replica, and the ends of its edges
 abbrev pub Shape : Type 0
@@ -152,6 +158,34 @@ pub id_stays : (a : Store) → Stays a (with_id a)
 id_stays a = record {
   before = replicas_only a (with_id a) (λ q. refl) (λ q. refl) refl refl refl;
   shapes = λ q. refl;
+}
+
+-- what is noted of versions
+pub notes_stay : (a : Store) (n : NotesValue) → Stays a (with_notes a n)
+notes_stay a n = record {
+  before = replicas_only a (with_notes a n) (λ q. refl) (λ q. refl) refl refl refl;
+  shapes = λ q. refl;
+}
+
+-- a replica keeps a delta
+pub keep_stays : (a : Store) (file : FileId) (delta : KeptDelta) → Stays a (keep_delta a file delta)
+keep_stays a file delta =
+    let kept : Option Replica → ByFile = λ o. replicas_keeping a.replicas file delta o in
+    let change : Replica → Replica = λ x. with_kept x delta in record {
+      before = replicas_only a (keep_delta a file delta) (λ q. refl)
+          (made_seen (λ (x : Replica). x.birth) a.replicas file kept change (replica_at a file) refl refl (λ x. refl) (λ x. refl))
+          refl refl refl;
+      shapes = made_seen shape a.replicas file kept change (replica_at a file) refl refl (λ x. refl) (λ x. refl);
+    }
+
+-- so each step of bodies on demand
+pub staying_steps : (ends : Ends) (P : Store → Type 0) → ((b c : Store) → Stays b c → P b → P c) → KeepsTransfers ends (λ (d : Done). P d.store)
+staying_steps ends P on = record {
+  notes = λ d n h. on d.store (with_notes d.store n) (notes_stay d.store n) h;
+  keeps = λ d x h. on d.store (keep_delta d.store ends.file x) (keep_stays d.store ends.file x) h;
+  takes = λ d v h. on d.store (take_version d.store ends.file v) (version_stays d.store ends.file v) h;
+  answers = λ d m is h. h;
+  tells = λ d head e is h. h;
 }
 
 -- ---- the house rules

@@ -28,6 +28,7 @@ use Rattle.law_order.specs.pg_server.Local.{receive}
 use Rattle.law_order.proofs.theory_flood_pieces.Choices.{chosen, decided}
 use Rattle.law_order.specs.pg_run.Births.{AllNamed}
 use Rattle.law_births.specs.Flags.{SaysMessage}
+use Rattle.law_births.proofs.Bodies.{fine_delta, fine_harbinger, fine_later, fine_piece, fine_want}
 use Rattle.law_births.proofs.EndsSay.{ends_stay}
 use Rattle.law_births.proofs.Here.{birth_is, of_birth}
 use Rattle.law_births.proofs.Pieces.{fill_stays}
@@ -110,11 +111,13 @@ module _ (P : FileId → ℕ → ℕ → Type 0) (G : FileId → ℕ → Type 0)
       → Fine (receive a m w)
   fine_received a (message.Cell ends tag c) w named says fresh going born both k = said_cell P Q G s from a ends tag c w named says (fresh ends refl) k
   fine_received a (message.Ack ends q tag) w named says fresh going born both k = said_ack P Q G s from a ends q tag w k
-  fine_received a (message.Harbinger ends tag head) w named says fresh going born both k = k
-  fine_received a (message.Want ends wanted) w named says fresh going born both k = k
-  fine_received a (message.Delta ends delta) w named says fresh going born both k = k
-  fine_received a (message.Piece ends piece) w named says fresh going born both k = k
-  fine_received a (message.Later ends stamp) w named says fresh going born both k = k
+  fine_received a (message.Harbinger ends tag head) w named says fresh going born both k =
+      fine_harbinger P G s from ends named.0 named.1 a w k born (fresh ends refl) tag head
+  fine_received a (message.Want ends wanted) w named says fresh going born both k =
+      fine_want P G s from ends named.0 named.1 a w k born (fresh ends refl) wanted
+  fine_received a (message.Delta ends d) w named says fresh going born both k = fine_delta P G s from ends named.0 named.1 a w k born d
+  fine_received a (message.Piece ends p) w named says fresh going born both k = fine_piece P G s from ends named.0 named.1 a w k born p
+  fine_received a (message.Later ends stamp) w named says fresh going born both k = fine_later P G s from ends named.0 named.1 a w k born stamp
   fine_received a (message.Fetch file birth) w named says fresh going born both k = said_fetch P Q G s from a file birth w named born k
   fine_received a (message.Grant ends g) w named says fresh going born both k = said_grant P Q G s from a ends g w named says (fresh ends refl) k
   fine_received a (message.NoGrant file birth) w named says fresh going born both k = said_no_grant P Q G s from a file birth w k

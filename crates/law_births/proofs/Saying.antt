@@ -114,7 +114,7 @@ module _ (P : FileId → ℕ → ℕ → Type 0) (Q : FileId → Flag → Type 0
       (ends_stay P (entry_stays a dir e) k.edges)
       (doubted_still a dir e sure w).mail
 
-  said_version : (a : Store) (f : FileId) (v : VersionValue) (w : Work) → Said (idle a w) → Said (take_version_noted a f v w)
+  pub said_version : (a : Store) (f : FileId) (v : VersionValue) (w : Work) → Said (idle a w) → Said (take_version_noted a f v w)
   said_version a f v w k =
       said_on (idle a w) (take_version_noted a f v w) k (say_version Q (Owed P G s) s a f v k.store) (ends_stay P (version_stays a f v) k.edges)
       (version_still a f v w).mail

@@ -1,5 +1,6 @@
 -- What is said of births and flags is said of the cells and the requests that a server sends.
 use Rattle.std.proofs.Common.{ℕ, ◌≡◌, ◌==◌, Bool, true, false, cond, List, [], ◌∷◌, Option, None, Some, is_some, All, get_or, inl, inr, refl, sym, ap, subst, ◌∙◌}
+use Rattle.std.specs.Prelude.{nat_lt}
 use Rattle.std.specs.Option.{option_map}
 use Rattle.std.specs.List.{flat_map}
 use Rattle.std.specs.List.Sorted.{IsStrictlySortedBy}
@@ -40,11 +41,13 @@ use Rattle.law_order.specs.pg_store.Links.{is_linked}
 use Rattle.law_order.specs.pg_store.Cells.{cell_at, entry_cell, flag_cell, is_sure, version_cell}
 use Rattle.law_order.specs.pg_store.Store.{is_held, replica_at}
 use Rattle.law_order.specs.pg_store.Together.{AreTogether, birth_at}
-use Rattle.law_order.specs.pg_cells.Sending.{Wanted, cells_where}
+use Rattle.law_order.specs.pg_cells.Sending.{Wanted, cells_where, told_as}
 use Rattle.law_order.specs.pg_graph.Leaving.{may_still_leave}
 use Rattle.law_order.specs.pg_intentions.Requests.{asks, asks_by, bye_message, confirm_message, leave_message}
 use Rattle.law_order.specs.pg_pieces.Posting.{sent_to}
+use Rattle.law_order.proofs.theory_flood_pieces.Choices.{chosen}
 use Rattle.law_order.proofs.theory_flood_pieces.Found.{entries_known}
+use Rattle.law_order.specs.pg_run.Births.{ends_named}
 use Rattle.law_order.proofs.pg_run.Bags.{All-every}
 use Rattle.law_order.proofs.pg_run.Event.{AskHas, CellHas, asks_by_have, asks_have, cells_have}
 use Rattle.law_births.specs.Flags.{SaysCell, SaysEntry, SaysIntent, SaysStore}
@@ -123,9 +126,20 @@ module _ (P : FileId → ℕ → ℕ → Type 0) (G : FileId → ℕ → Type 0)
       entry_says f c (entry_at b.names f child) (is_sure b f child) (λ e is. own_child child e (k.names.cells f child e is)) there
   cell_says b f (key.Version stamp) c k there = version_says f c _ there
 
+  -- what tells of a cell
+  told_says : (b : Store) (to : ℕ) (x : Ends) (tag : ℕ) (c : Cell) → b.names.server ≡ s → ends_named P s to x → SaysCell Of x.file c
+      → Sends (sent_to b to (told_as x tag c))
+  told_says b to x tag (cells.Place place) server named says = (named, (says, server))
+  told_says b to x tag (cells.Flag flag) server named says = (named, (says, server))
+  told_says b to x tag (cells.Entry e sure) server named says = (named, (says, server))
+  told_says b to x tag (cells.Version v) server named says =
+      chosen (λ (m : Message). Sends (sent_to b to m)) (nat_lt 1024 v.head.length) (message.Harbinger x tag v.head)
+      (message.Cell x tag (cells.Version v)) (named, (tt, server)) (named, (says, server))
+
   module _ (b : Store) (k : SaysStore Of (Owed P G s) s b) (edges : SaysEnds P b) (born : (f : FileId) (n : ℕ) → Has b f n → P f s n) (whole : Sorted b) where
     cell_has : (f : FileId) (x : Replica) (e : Edge) → P f s x.birth → P f e.peer e.birth → (q : Key × ℕ) → CellHas Sends b f x e q
-    cell_has f x e here there q c is passes = ((here, there), (cell_says b f q.0 c k is, k.names.server))
+    cell_has f x e here there q c is passes =
+        told_says b e.peer (record { file = f; sender = x.birth; receiver = e.birth }) q.1 c k.names.server (here, there) (cell_says b f q.0 c k is)
 
     edge_has : (f : FileId) (x : Replica) → P f s x.birth → (e : Edge) → P f e.peer e.birth → All (CellHas Sends b f x e) e.keys
     edge_has f x here e there = All-every (CellHas Sends b f x e) e.keys (cell_has f x e here there)

@@ -19,7 +19,7 @@ use Rattle.law_order.specs.pg_register.declared.flag.Flag.{Flag}
 use Rattle.law_order.specs.pg_replica.declared.replica.Replica.{Replica}
 use Rattle.law_order.specs.pg_server.declared.input.Input.{Input}
 use Rattle.law_order.specs.pg_server.declared.input.Input.TheVariants as input
-use Rattle.law_order.specs.pg_server.Local.{Effect, closed, effect, finished, first_effect, is_heard, receive, reply_to, sent_again, settled, takes_effect}
+use Rattle.law_order.specs.pg_server.Local.{Effect, closed, effect, finished, first_effect, is_heard, receive, reply_to, sent_again, settled, takes_effect, ticked, without_sources}
 use Rattle.law_order.specs.pg_store.declared.store.Store.{Store}
 use Rattle.law_order.specs.pg_store.declared.wishes.Wish.{Wish}
 use Rattle.law_order.specs.pg_store.Births.{birth_of, draw_birth, fill_at, has_birth, is_pending, wish_at, with_birth, with_wish}
@@ -139,6 +139,30 @@ module _ (P : FileId → ℕ → ℕ → Type 0) (G : FileId → ℕ → Type 0)
   abbrev Knows : Store → Type 0
   Knows a = (f : FileId) (n : ℕ) → Has a f n → P f s n
 
+  abbrev Said0 : Done → Type 0
+  Said0 d = IsSaid P Of G s d.work.from d
+
+  said_from : (from : ℕ) (d : Done) → IsSaid P Of G s from d → Said0 d
+  said_from from d h = record { store = h.store; edges = h.edges; sent = h.sent; tail = h.tail; asker = refl }
+
+  -- what a tick sends, of what the server holds then
+  module _ (a : Store) (k : IsKnownAt P G s a) (before : Knows a) (sorted : Sorted a) where
+    asked_again : (moment : ℕ) → Said0 (idle a (ask_all a (tick a (new_work moment 0))))
+    asked_again moment = record {
+      store = k.store;
+      edges = k.edges;
+      sent = All-append (SaysSent P Of G s) ([] ++ cells_where a is_any) (flat_map (asks a) a.intents)
+          (All-append (SaysSent P Of G s) [] (cells_where a is_any) (All-nil (SaysSent P Of G s)) (cells_say P G s a k.store k.edges before sorted is_any))
+          (asks_all P G s a k.store k.edges before sorted);
+      tail = All-nil (SaysSent P Of G s);
+      asker = refl;
+    }
+
+    again_said : (moment word : ℕ) → Said0 (idle a (sent_again a word (new_work moment 0)))
+    again_said moment word =
+        said_from 0 (idle a (sent_again a word (new_work moment 0)))
+        (said_walk_of_tick P Of G s 0 a word (ask_all a (tick a (new_work moment 0))) (λ f n there. before f n (inl there)) (asked_again moment))
+
   module _ (a : Store) (k : IsKnownAt P G s a) (before : Knows a) (sorted : Sorted a) where
     start_said : (moment from : ℕ) → IsSaid P Of G s from (idle a (new_work moment from))
     start_said moment from = record { store = k.store; edges = k.edges; sent = All-nil (SaysSent P Of G s); tail = All-nil (SaysSent P Of G s); asker = refl }
@@ -170,27 +194,22 @@ module _ (P : FileId → ℕ → ℕ → Type 0) (G : FileId → ℕ → Type 0)
 
     -- ---- the first effect
 
-    abbrev Said0 : Done → Type 0
-    Said0 d = IsSaid P Of G s d.work.from d
-
-    said_from : (from : ℕ) (d : Done) → IsSaid P Of G s from d → Said0 d
-    said_from from d h = record { store = h.store; edges = h.edges; sent = h.sent; tail = h.tail; asker = refl }
-
-    asked_again : (moment : ℕ) → Said0 (idle a (ask_all a (tick a (new_work moment 0))))
-    asked_again moment = record {
-      store = k.store;
+    -- what is noted of versions says nothing of births
+    released_known : IsKnownAt P G s (without_sources a)
+    released_known = record {
+      store = record { names = k.store.names; intents = k.store.intents };
       edges = k.edges;
-      sent = All-append (SaysSent P Of G s) ([] ++ cells_where a is_any) (flat_map (asks a) a.intents)
-          (All-append (SaysSent P Of G s) [] (cells_where a is_any) (All-nil (SaysSent P Of G s)) (cells_say P G s a k.store k.edges before sorted is_any))
-          (asks_all P G s a k.store k.edges before sorted);
-      tail = All-nil (SaysSent P Of G s);
-      asker = refl;
     }
 
-    ticked : (moment word : ℕ) → Said0 (idle a (sent_again a word (new_work moment 0)))
-    ticked moment word =
-        said_from 0 (idle a (sent_again a word (new_work moment 0)))
-        (said_walk_of_tick P Of G s 0 a word (ask_all a (tick a (new_work moment 0))) (λ f n there. before f n (inl there)) (asked_again moment))
+    released_sorted : Sorted (without_sources a)
+    released_sorted = record {
+      order = sorted.order;
+      together = sorted.together;
+      keys = sorted.keys;
+      own = sorted.own;
+      sought = sorted.sought;
+      left = sorted.left;
+    }
 
     first_said : (asked : Input) → Knows (effect a asked).store → Known P s asked → Freshly G a asked → Said0 (first_effect a asked)
     first_said (input.Call moment c) behind came new =
@@ -200,8 +219,9 @@ module _ (P : FileId → ℕ → ℕ → Type 0) (G : FileId → ℕ → Type 0)
           fresh = λ f t same none full. behind f (draw_birth a) (wish_on a asked f (draw_birth a) (wished_now f t _ same));
         }))
     first_said (input.Tick moment word) behind came new =
-        chosen (λ (w : Work). Said0 (idle a w)) (is_before_clock_end a) (sent_again a word (new_work moment 0)) (new_work moment 0)
-        (ticked moment word) (said_from 0 (idle a (new_work moment 0)) (start_said moment 0))
+        chosen Said0 (is_before_clock_end a) (ticked a word (new_work moment 0)) (idle a (new_work moment 0))
+        (again_said (without_sources a) released_known (λ f n there. before f n there) released_sorted moment word)
+        (said_from 0 (idle a (new_work moment 0)) (start_said moment 0))
     first_said (input.Arrival packet) behind came new =
         let w = new_work 0 packet.from in
         decided Said0 (is_heard a packet) (receive a packet.message w) (idle a w)

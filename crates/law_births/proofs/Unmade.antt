@@ -27,7 +27,6 @@ use Rattle.law_order.specs.pg_register.declared.flag.Flag.{Flag}
 use Rattle.law_order.specs.pg_register.declared.place.Place.{Place}
 use Rattle.law_order.specs.pg_names.Names.{fill as fill_names, own_or_blank}
 use Rattle.law_order.specs.pg_house.Work.{is_root, note_left}
-use Rattle.law_order.specs.pg_house.House.{house}
 use Rattle.law_order.specs.pg_house.Placing.{placed}
 use Rattle.law_order.specs.pg_replica.declared.replica.Replica.{Replica}
 use Rattle.law_order.specs.pg_store.declared.store.Store.{Store}
@@ -59,6 +58,7 @@ use Rattle.law_order.specs.pg_server.Local.{receive}
 use Rattle.law_order.proofs.theory_flood_pieces.Choices.{chosen}
 use Rattle.law_order.specs.pg_run.Journal.{versions_in}
 use Rattle.law_order.proofs.pg_run.Bags.{All-every}
+use Rattle.law_order.proofs.pg_run.Transfers.{KeepsTransfers, delta_keeps, harbinger_keeps, later_keeps, piece_keeps, want_keeps}
 
 -- ---- versions of lists
 
@@ -163,6 +163,15 @@ accept_none b ends m w =
     (cond later (idle b w) (met b ends m w)) (idle b (with_gone b ends m w))
     (chosen (λ (d : Done). MakesNone w d.work) later (idle b w) (met b ends m w) refl (met_none b ends m w))
     (gone_none b ends m w)
+
+body_none : (w : Work) (ends : Ends) → KeepsTransfers ends (λ (d : Done). MakesNone w d.work)
+body_none w ends = record {
+  notes = λ d n k. k;
+  keeps = λ d delta k. k;
+  takes = λ d v k. news_none (is_new_version d.store ends.file v) d.work ends.file (key.Version v.head.stamp) ∙ k;
+  answers = λ d m is k. k;
+  tells = λ d head e is k. k;
+}
 
 cell_none : (b : Store) (ends : Ends) (tag : ℕ) (c : Cell) (w : Work) → MakesNone w (cell b ends tag c w).work
 cell_none b ends tag c w =
@@ -295,6 +304,16 @@ leave_ok_none b ends stamp w =
 -- NO MESSAGE makes a version
 pub received_none : (b : Store) (m : Message) (w : Work) → MakesNone w (receive b m w).work
 received_none b (message.Cell ends tag c) w = cell_none b ends tag c w
+received_none b (message.Harbinger ends tag head) w =
+    harbinger_keeps ends (λ (d : Done). MakesNone w d.work) (body_none w ends) b w refl tag head (accept_none b ends manner.Makes w)
+received_none b (message.Want ends wanted) w =
+    want_keeps ends (λ (d : Done). MakesNone w d.work) (body_none w ends) b w refl wanted (accept_none b ends manner.Needs w)
+received_none b (message.Delta ends x) w =
+    delta_keeps ends (λ (d : Done). MakesNone w d.work) (body_none w ends) b w refl x (accept_none b ends manner.Answers w)
+received_none b (message.Piece ends p) w =
+    piece_keeps ends (λ (d : Done). MakesNone w d.work) (body_none w ends) b w refl p (accept_none b ends manner.Answers w)
+received_none b (message.Later ends stamp) w =
+    later_keeps ends (λ (d : Done). MakesNone w d.work) (body_none w ends) b w refl stamp (accept_none b ends manner.Answers w)
 received_none b (message.Fetch file birth) w = fetch_none b file birth w
 received_none b (message.Grant ends g) w = grant_none b ends g w
 received_none b (message.Full ends) w = full_none b ends w

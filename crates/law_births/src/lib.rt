@@ -18,7 +18,8 @@
 //! - Premises: `IntentionsAreInOrder`; what `law_order` gives is cited in `proofs/Given`.
 //! - A new kind of message gets four lines: `received_moves` (`proofs/Handlers`), `fine_received`
 //!   (`proofs/Received`), `received_none` (`proofs/Unmade`) and `received_bye`
-//!   (`proofs/ByeEvents`).
+//!   (`proofs/ByeEvents`). Those of bodies on demand get them step by step: `proofs/Bodies` and
+//!   `ByeBodies`.
 #![tactic(auto)]
 
 mod laws;

@@ -18,7 +18,7 @@ use Rattle.law_order.specs.pg_msg.Work.{new_work}
 use Rattle.law_order.specs.pg_register.declared.place.Place.{Place}
 use Rattle.law_order.specs.pg_replica.declared.replica.Replica.{Replica}
 use Rattle.law_order.specs.pg_run.Carried.{granted_takes, patch_taken, patches_taken}
-use Rattle.law_order.specs.pg_run.Histories.{IsVersionOf}
+use Rattle.law_order.specs.theory_bodies.Book.{IsVersionOf}
 use Rattle.law_order.specs.pg_run.Journal.{Born, made_for, versions_in}
 use Rattle.law_order.specs.pg_run.Took.{Take, entry_takes, flags_of, places_of, stamps_taken, take_of}
 use Rattle.law_order.specs.pg_run.Took.Take.{TookPlace}
@@ -29,9 +29,10 @@ use Rattle.law_order.specs.pg_pieces.Done.{Done}
 use Rattle.law_order.proofs.theory_flood_pieces.Choices.{chosen}
 use Rattle.law_contents.proofs.Changes.{Core, IsOrdered, Keeps, by_altered, core_at, core_of}
 use Rattle.law_contents.proofs.Files.{HoldsFile, covered_upto, file_came}
+use Rattle.law_contents.proofs.Joining.{stands_came}
 use Rattle.law_contents.proofs.Quiet.{Quiet}
 use Rattle.law_contents.proofs.Sending.{AllCarry, none_carry}
-use Rattle.law_contents.proofs.Servers.{Came, IsBy, IsNamedBy, IsServer, Stands, file_held, stands_came, stands_kept, stands_same, with_came}
+use Rattle.law_contents.proofs.Servers.{Came, IsBy, IsNamedBy, IsServer, Stands, file_held, stands_kept, stands_same, with_came}
 use Rattle.law_contents.proofs.Times.{head_upto}
 use Rattle.law_contents.proofs.Takes.{HasNone, both_none, each_none, flags_none}
 use Rattle.law_contents.proofs.Versions.{version_alters, version_last}
@@ -141,7 +142,8 @@ module _ {s : ℕ} {a : Store} {us : List Born} {p : FileId → Policy} {N : Fil
     end = take_version b file v
 
     abbrev JoinedCore : Core
-    JoinedCore = record { birth = x.birth; content = joined_content x.content v }
+    JoinedCore =
+        record { birth = x.birth; content = joined_content x.content v; kept = x.kept }
 
     came_time : v.head.stamp.time ≤ end.names.last
     came_time = version_last b file x is v (λ covered.
@@ -161,7 +163,8 @@ module _ {s : ℕ} {a : Store} {us : List Born} {p : FileId → Policy} {N : Fil
         came_time
         (file_came held_there (then_stands.known file) (k.made.histories file) h.made h.among v
         h.whole)
-        came_member
+        came_member (then_stands.kept file (core_of x) (ap (option_map core_of) is))
+        (then_stands.ranges file (core_of x) (ap (option_map core_of) is))
 
     pub version_named : (f : FileId) (c : Core) → core_at end f ≡ Some c → N f
     version_named =

@@ -1,6 +1,6 @@
 -- A client makes a thing: its id was not given out before, a replica begins, and a file begins with a
 -- version.
-use Rattle.std.proofs.Common.{ℕ, ◌≡◌, ◌<◌, ◌≤◌, ◌+◌, ◌^◌, Bool, true, false, cond, List, [], ◌∷◌, ◌++◌, map, Option, None, Some, refl, sym, ap, subst, ◌∙◌, inl, inr, ◌⊎◌, arith}
+use Rattle.std.proofs.Common.{ℕ, ◌≡◌, ◌<◌, ◌≤◌, ◌+◌, ◌^◌, Bool, true, false, cond, length, List, [], ◌∷◌, ◌++◌, map, Option, None, Some, refl, sym, ap, subst, ◌∙◌, inl, inr, ◌⊎◌, arith}
 use Rattle.std.proofs.lemmas.List.{map-append}
 use Rattle.law_order.specs.pg_base.declared.id.FileId.{FileId}
 use Rattle.law_order.specs.pg_base.declared.id.Kind.{Kind}
@@ -9,7 +9,8 @@ use Rattle.law_order.specs.pg_base.declared.stamp.Stamp.{Stamp}
 use Rattle.law_order.specs.pg_base.Id.{is_same_file}
 use Rattle.law_order.specs.pg_base.Version.{VersionValue}
 use Rattle.law_order.proofs.pg_base.Orders.{is_same_file-refl, is_same_file-true}
-use Rattle.law_order.specs.pg_content.Content.{Among}
+use Rattle.law_order.specs.pg_content.Content.{Among, body_limit}
+use Rattle.law_order.specs.pg_content.History.{body_of}
 use Rattle.law_order.specs.pg_call.declared.reply.Reply.TheVariants as reply
 use Rattle.law_order.specs.pg_msg.declared.update.MadeVersion.{MadeVersion}
 use Rattle.law_order.specs.pg_msg.declared.update.Update.{Update}
@@ -18,7 +19,7 @@ use Rattle.law_order.specs.pg_msg.declared.work.Work.{Work}
 use Rattle.law_order.specs.pg_msg.Work.{new_work}
 use Rattle.law_order.specs.pg_names.Names.{blank_own, is_dir, is_dir_kind}
 use Rattle.law_order.specs.pg_replica.declared.replica.Replica.{Replica}
-use Rattle.law_order.specs.pg_run.Journal.{Born, versions_in}
+use Rattle.law_order.specs.pg_run.Journal.{Born, made_for, versions_in}
 use Rattle.law_order.specs.pg_run.Took.{stamps_taken, take_of}
 use Rattle.law_order.specs.pg_run.Took.Take.{Began}
 use Rattle.law_order.specs.pg_store.declared.store.Store.{Store}
@@ -31,12 +32,14 @@ use Rattle.law_order.specs.pg_checks.Answer.{Answer, answer}
 use Rattle.law_order.specs.pg_calls.Making.{drawn, first_ranges, make_place, version_of}
 use Rattle.law_order.specs.pg_calls.Naming.{begun, next_id, place_in, with_first_version, with_id, with_thing}
 use Rattle.law_contents.proofs.Arrivals.{Arrives, more_came}
-use Rattle.law_contents.proofs.Changes.{Alters, Core, alters_keeps, by_altered, core_at, core_of, keeps_alters, replica_of_core}
-use Rattle.law_contents.proofs.Making.{Makes, New, drawn_later, made_next, made_stands, one_take, stamp_fresh}
+use Rattle.law_contents.proofs.Changes.{Alters, Core, alters_keeps, by_altered, core_at, core_of, keeps_alters, new_core, replica_of_core}
+use Rattle.law_contents.proofs.Histories.{update_of}
+use Rattle.law_contents.proofs.Making.{Makes, New, drawn_later, made_next, made_short, made_stands, one_take, stamp_fresh}
 use Rattle.law_contents.proofs.Pieces.{begin_alters, birth_keeps, id_keeps}
 use Rattle.law_contents.proofs.Quiet.{Quiet, make_place_quiet, quiet_then, raise_quiet}
+use Rattle.law_contents.proofs.Ranges.{first_are, first_short}
 use Rattle.law_contents.proofs.Sending.{none_carry}
-use Rattle.law_contents.proofs.Servers.{Came, IsNamedBy, IsServer, Stands, none_full, stands_begun, stands_policy, stands_same}
+use Rattle.law_contents.proofs.Servers.{AreShort, Came, IsNamedBy, IsServer, Stands, none_full, stands_begun, stands_policy, stands_same}
 use Rattle.law_contents.proofs.Unmade.{unnamed_unmade}
 use Rattle.law_contents.proofs.Takes.{HasNone, both_none, stamps_joined}
 use Rattle.law_contents.proofs.Versions.{WrittenCore, write_alters, write_last}
@@ -45,7 +48,7 @@ one_more : (n f g : ℕ) → f ≤ n → f ≡ g → g ≡ n + 1 → ⊥
 one_more n f g low same e = absurd (omega arith)
 
 -- a version behind what was made
-versions_more : (us : List Update) (u : MadeVersion)
+pub versions_more : (us : List Update) (u : MadeVersion)
     → versions_in (us ++ update.Version u ∷ []) ≡ versions_in us ++ u ∷ []
 versions_more [] u = refl
 versions_more (update.Version v ∷ us) u =
@@ -73,10 +76,7 @@ module _ {s : ℕ} {a : Store} {us : List Born} {p : FileId → Policy} {N : Fil
   Thing = with_thing (with_id a) work id policy new
 
   abbrev FreshCore : Core
-  FreshCore = record {
-    birth = a.births + 1;
-    content = record { policy = policy; heads = [] };
-  }
+  FreshCore = new_core (a.births + 1) policy
 
   -- it was not given out before
   pub unnamed : N id → ⊥
@@ -86,7 +86,7 @@ module _ {s : ℕ} {a : Store} {us : List Born} {p : FileId → Policy} {N : Fil
   none_by None e = refl
   none_by (Some c) e = absurd (unnamed (k.held id c e))
 
-  not_held : core_at a id ≡ None
+  pub not_held : core_at a id ≡ None
   not_held = none_by (core_at a id) refl
 
   abbrev begun_store : Store
@@ -179,10 +179,20 @@ module _ {s : ℕ} {a : Store} {us : List Born} {p : FileId → Policy} {N : Fil
 
     thing_stands : Stands s Thing.store us policies_with came
     thing_stands =
-        stands_begun (stands_policy k.stands policies_with (λ f c e. same_named f (k.held f c e)))
+        stands_begun
+        (stands_policy k.stands policies_with (λ f c e. same_named f (k.held f c e))
+        (λ f m l. let r = update_of f m us l in
+        same_named f (subst N (sym r.2) (k.named r.0 r.1))))
         Thing.store id (a.births + 1) policy all_alters not_held
         (λ m l by. unnamed_unmade k id unnamed m l)
         (sym (ap (λ t. cond t policy (p id)) (is_same_file-refl id)))
+
+    short_with : AreShort us policies_with
+    short_with f m l =
+        let r = update_of f m us l in
+        let same = same_named f (subst N (sym r.2) (k.named r.0 r.1)) in
+        let P : Policy → Type 0 = (λ x. length (body_of x (made_for f us) m.stamp) ≤ body_limit) in
+        subst P (sym same) (k.short f m l)
 
     there : (x : Replica) × (replica_at Thing.store id ≡ Some x) × (core_of x ≡ FreshCore)
     there = replica_of_core Thing.store id FreshCore all_alters.here
@@ -246,7 +256,7 @@ module _ {s : ℕ} {a : Store} {us : List Born} {p : FileId → Policy} {N : Fil
         let many = alters.files in
         let version =
         New thing_stands k.made k.few id x is few_births no_head stamp own later fresh first_ranges
-        in
+        first_are in
         let made : versions_in (Thing.work.made ++ update.Version u ∷ []) ≡ u ∷ [] =
         versions_more Thing.work.made u ∙ ap (λ (vs : List MadeVersion). vs ++ u ∷ []) q.none in
         record {
@@ -260,16 +270,19 @@ module _ {s : ℕ} {a : Store} {us : List Born} {p : FileId → Policy} {N : Fil
               ∙ ap (λ (ts : List Stamp). ts ++ stamps_taken f (map take_of (update.Version u ∷ [])))
               (q.takes f) ∙ one_take f u;
           next = made_next thing_stands k.made k.few id x is few_births no_head stamp own later
-              fresh first_ranges;
+              fresh first_ranges first_are;
           maker = own;
           server = all_alters.server;
           last = omega arith;
           files = omega arith;
           order = λ z. alters.order (all_alters.order z);
           dated = write_last Thing.store id x is stamp first_ranges;
+          short = made_short thing_stands k.made k.few id x is few_births no_head stamp own later
+              fresh first_ranges first_are short_with (first_short x.content
+              (ap (λ (c : Core). c.content.heads) there.2));
           held = wrote_held;
           stands = made_stands thing_stands k.made k.few id x is few_births no_head stamp own later
-              fresh first_ranges;
+              fresh first_ranges first_are;
           sent = (thing_quiet (version ∷ us) policies_with N).sent
               (none_carry (version ∷ us) policies_with N);
           tail = (thing_quiet (version ∷ us) policies_with N).tail

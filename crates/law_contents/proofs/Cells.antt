@@ -7,12 +7,11 @@ use Rattle.law_order.specs.pg_edges.declared.edge.Edge.{Edge}
 use Rattle.law_order.specs.pg_edges.declared.key.Key.{Key}
 use Rattle.law_order.specs.pg_entries.declared.cell.Cell.{Cell}
 use Rattle.law_order.specs.pg_msg.declared.message.Message.{Message}
-use Rattle.law_order.specs.pg_msg.declared.message.Message.TheVariants as message
 use Rattle.law_order.specs.pg_msg.declared.message.Sent.{Sent}
 use Rattle.law_order.specs.pg_replica.declared.replica.Replica.{Replica}
 use Rattle.law_order.specs.pg_store.declared.store.Store.{Store}
 use Rattle.law_order.specs.pg_store.Cells.{cell_at}
-use Rattle.law_order.specs.pg_cells.Sending.{Wanted, cell_to, cell_under, cells_where, edge_cells, key_cell, replica_cells, waits}
+use Rattle.law_order.specs.pg_cells.Sending.{Wanted, cell_to, cell_under, cells_where, edge_cells, key_cell, replica_cells, told_as, waits}
 use Rattle.law_order.proofs.theory_flood_pieces.Choices.{All-flat_map, chosen}
 use Rattle.law_contents.proofs.Carrying.{OfAny}
 
@@ -23,7 +22,7 @@ module _ (M : Message → Type 0) (b : Store) where
   -- of each key of a thing: whatever its cell is sent along
   abbrev pub IsCellSent : FileId → Cell → Type 0
   IsCellSent file c = (sender receiver tag : ℕ)
-      → M (message.Cell (record { file = file; sender = sender; receiver = receiver }) tag c)
+      → M (told_as (record { file = file; sender = sender; receiver = receiver }) tag c)
 
   module _ (each : (file : FileId) (q : Key) → OfAny IsCellSent file (cell_at b file q)) where
     under_all : (file : FileId) (birth : ℕ) (e : Edge) (tag : ℕ) (o : Option Cell)

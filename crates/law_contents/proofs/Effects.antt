@@ -7,6 +7,7 @@ use Rattle.law_order.specs.pg_call.declared.call.Call.{Call}
 use Rattle.law_order.specs.pg_call.declared.reply.Reply.{Reply}
 use Rattle.law_order.specs.pg_msg.declared.update.MadeVersion.{MadeVersion}
 use Rattle.law_order.specs.pg_msg.Work.{new_work}
+use Rattle.law_order.specs.pg_run.Asking.{Asked}
 use Rattle.law_order.specs.pg_run.Journal.{Born, born_at, born_in, versions_in}
 use Rattle.law_order.specs.pg_run.Passed.{passed, passed_with}
 use Rattle.law_order.specs.pg_run.Run.{brought, removed_then, took_after}
@@ -29,7 +30,7 @@ use Rattle.law_contents.proofs.Outcomes.{call_comes, policies_then}
 use Rattle.law_contents.proofs.Quiet.{Quiet}
 use Rattle.law_contents.proofs.Rules.{AreNames}
 use Rattle.law_contents.proofs.Sending.{AllCarry}
-use Rattle.law_contents.proofs.Servers.{IsNamedBy, IsServer, Stands, came_of, stands_kept, stands_same}
+use Rattle.law_contents.proofs.Servers.{AreShort, IsNamedBy, IsServer, Stands, came_of, stands_kept, stands_same}
 use Rattle.law_contents.proofs.Takes.{HasNone, both_none, stamps_after}
 
 -- ---- an event at which a server makes no version, or one
@@ -59,6 +60,7 @@ pub record IsMaking (s : ℕ) (a : Store) (us : List Born) (p q : FileId → Pol
   pub files : a.files ≤ done.store.files
   pub order : IsOrdered a.replicas → IsOrdered done.store.replicas
   pub dated : version.made.stamp.time ≤ done.store.names.last
+  pub short : AreShort (version ∷ us) q
   pub named : IsNamedBy s done.store N version.made.file
   pub held : (f : FileId) (k : Core) → core_at done.store f ≡ Some k → IsNamedBy s done.store N f
   pub stands : Stands s done.store (version ∷ us) q (came_of takes)
@@ -133,13 +135,13 @@ module _ {s : ℕ} {a : Store} {us : List Born} {p : FileId → Policy} {N : Fil
         cond t (passed_with gone (passed gone (more t ++ left))
         (drop (length (first t).work.made) (done_by t).out.made)) before
 
-    pub passive_by : (t : Bool) → ComesBehind left (first true) (more true)
+    pub passive_by : (t : Bool) → (t ≡ true → ComesBehind left (first true) (more true))
         → Comes (first false) []
         → IsPassive s a us p N (done_by t) (takes_by t)
     passive_by true comes none =
         let d = first true in
         let e = closed_ends d.store d.work reply in
-        ends_passive left d (more true) comes (closed reply d) e (takes_by true)
+        ends_passive left d (more true) (comes refl) (closed reply d) e (takes_by true)
         (came_then gone left reply d (more true) e.behind)
     passive_by false comes none =
         let d = first false in
@@ -173,7 +175,7 @@ module _ {s : ℕ} {a : Store} {us : List Born} {p : FileId → Policy} {N : Fil
 
   -- ---- a call
 
-  module _ (moment : ℕ) (asked : Call) where
+  module _ (wants : Asked) (moment : ℕ) (asked : Call) where
     abbrev r : Answer
     r = do_call a asked (new_work moment 0)
 
@@ -182,7 +184,7 @@ module _ {s : ℕ} {a : Store} {us : List Born} {p : FileId → Policy} {N : Fil
     Gone = removed_then a (input.Call moment asked)
 
     abbrev Brought : List Take
-    Brought = brought a (input.Call moment asked)
+    Brought = brought a wants (input.Call moment asked)
 
     abbrev CallDone : Bool → Effect
     CallDone t = done_by Gone before (Some r.reply) (λ b. done_of r) (λ b. Brought) t
@@ -229,6 +231,7 @@ module _ {s : ℕ} {a : Store} {us : List Born} {p : FileId → Policy} {N : Fil
           files = omega arith;
           order = λ z. e.keeps.order (m.order z);
           dated = omega arith;
+          short = m.short;
           named = named_later s d.store done.store N u.made.file many
               (m.held u.made.file m.core m.here);
           held = λ f c is. named_later s d.store done.store N f many
@@ -247,16 +250,16 @@ module _ {s : ℕ} {a : Store} {us : List Born} {p : FileId → Policy} {N : Fil
     abbrev pub CallOutcome : Type 0
     CallOutcome =
         (IsPassive s a us p N (effect a (input.Call moment asked))
-        (took_after a before (input.Call moment asked))
+        (took_after a wants before (input.Call moment asked))
         × ((f : FileId) → policies_then p asked r.reply f ≡ p f))
         ⊎ IsMaking s a us p (policies_then p asked r.reply) N
-        (effect a (input.Call moment asked)) (took_after a before (input.Call moment asked))
+        (effect a (input.Call moment asked)) (took_after a wants before (input.Call moment asked))
 
     pub call_ended : CallOutcome
-    call_ended = elim (call_comes k moment asked) [
+    call_ended = elim (call_comes k moment wants asked) [
       | inl still ↦ inl (
         passive_by Gone before (Some r.reply) (λ b. done_of r) (λ b. Brought) (is_before_clock_end a)
-            still.0.0 (comes_none (done_of r) Brought still.0.0 still.0.1),
+            (λ e. still.0.0) (comes_none (done_of r) Brought still.0.0 still.0.1),
         still.1,
       )
       | inr makes ↦ inr (subst (MakesBy (policies_then p asked r.reply)) (sym makes.0.time)

@@ -67,6 +67,8 @@ steady_keeps a v d k =
       order = subst IsOrdered (sym k.replicas);
       full = λ f h. ap (λ (names : NamesValue). is_full names f) k.names ∙ h;
       each = λ f. ap (λ (rs : ByFile). option_map core_of (replica_in rs f)) k.replicas;
+      view = ap (λ (names : NamesValue). names.removed) k.names;
+      notes = k.announced;
     }
 
 -- ---- the rules run, and golds are raised
@@ -92,7 +94,7 @@ module _ (b : Store) (work : Work) where
       let k = house_makes w.now st in
       record {
         keeps = Keeps-trans h.keeps
-            (Keeps-trans (names_keep c behind_names k.server_is k.up (λ f g. rules_full w.now st f ∙ g))
+            (Keeps-trans (names_keep c behind_names k.server_is k.removed_is k.up (λ f g. rules_full w.now st f ∙ g))
             (touches_keep (with_names c behind_names) behind_keys));
         names = h.names ++ k.places;
         are = both_names h.names k.places h.are (places_names k.places k.are);

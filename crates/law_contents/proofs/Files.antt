@@ -86,6 +86,28 @@ module _ {Who : Made → Type 0} {c : ContentValue} {h : List Made} {set : List 
       own = λ n l by. (taken_with h k set are m is n.stamp).1 (inl (f.own n l by));
     }
 
+    -- one that was taken already comes again: all is as before
+    module _ (taken : Among m.stamp (with_ancestors h set)) where
+      again_same : (t : Stamp) → Among t (with_ancestors h set)
+          ↔ Among t (with_ancestors h (m.stamp ∷ set))
+      again_same t = (
+        λ l. (taken_with h k set are m is t).1 (inl l),
+        λ l. elim ((taken_with h k set are m is t).0 l) [
+          | inl old ↦ old
+          | inr new ↦ elim new [
+            | inl itself ↦ subst (λ (x : Stamp). Among x (with_ancestors h set)) (sym itself) taken
+            | inr further ↦ f.stands.closed.ancestors m.stamp t taken further
+          ]
+        ],
+      )
+
+      pub stood_again : Stood Who c h (m.stamp ∷ set)
+      stood_again = record {
+        stands = stands_same c h (with_ancestors h set) (with_ancestors h (m.stamp ∷ set))
+            again_same f.stands;
+        own = λ n l by. (again_same n.stamp).0 (f.own n l by);
+      }
+
 -- a version of a history, with the vector and the body that it has there under this policy
 abbrev pub IsMadeOf : Policy → List Made → VersionValue → Type 0
 IsMadeOf p h v = (m : Made) × Among m h × (v ≡ version_of p h m)

@@ -1,6 +1,11 @@
 -- A replica goes: nothing that came to it is left, and all others are as before.
 use Rattle.std.proofs.Common.{ℕ, ◌≡◌, ◌≤◌, Bool, true, false, cond, not, List, [], ◌∷◌, Option, None, Some, option_map, refl, sym, ap, subst, ◌∙◌}
 use Rattle.std.specs.BTreeMap.{is_at}
+use Rattle.law_order.specs.pg_announced.declared.announced.Announced.{Announced}
+use Rattle.law_order.specs.pg_announced.declared.announced.NoteKey.{NoteKey}
+use Rattle.law_order.specs.pg_announced.Announced.{key_at}
+use Rattle.law_order.proofs.pg_announced.Found.{kept_found}
+use Rattle.law_order.proofs.pg_announced.Sorted.{sorted_kept}
 use Rattle.law_order.specs.pg_base.declared.id.FileId.{FileId}
 use Rattle.law_order.specs.pg_base.declared.policy.Policy.{Policy}
 use Rattle.law_order.specs.pg_base.declared.stamp.Stamp.{Stamp}
@@ -86,6 +91,10 @@ module _ (a : Store) (file : FileId) where
 
   module _ {s : ℕ} {us : List Born} {p : FileId → Policy} {came : Came}
       (k : Stands s a us p came) where
+    -- what is noted of other files
+    abbrev stays : NoteKey × Announced → Bool
+    stays e = not (is_same_file e.0.file file)
+
     -- A REPLICA GOES
     pub stands_gone : Stands s (let_go a file) us p (came_without (Some file) came)
     stands_gone = record {
@@ -97,6 +106,11 @@ module _ (a : Store) (file : FileId) where
           (λ q other. k.known q);
       upto = by_gone (λ q o set. (t : Stamp) → Among t set → t.time ≤ a.names.last) came
           (λ t l. absurd l) (λ q other. k.upto q);
+      kept = λ q c e. k.kept q c (held_before q c e);
+      ranges = λ q c e. k.ranges q c (held_before q c e);
+      sorted = sorted_kept stays a.announced k.sorted;
+      notes = λ q stamp n e. k.notes q stamp n
+          (kept_found stays a.announced (key_at q stamp) n k.sorted e);
     }
 
 -- ---- its peers are told

@@ -1,15 +1,20 @@
 -- The versions that were made, file by file, and what one more changes.
 use Rattle.std.proofs.Common.{[], ◌≡◌, ◌≤◌, Bool, true, false, cond, List, ◌∷◌, refl, sym, ap, subst, ◌∙◌, inl, inr, arith}
 use Rattle.std.proofs.lemmas.Bool.{cond_both}
+use Rattle.law_order.specs.pg_base.declared.head.Head.{Head}
 use Rattle.law_order.specs.pg_base.declared.id.FileId.{FileId}
+use Rattle.law_order.specs.pg_base.declared.policy.Policy.{Policy}
 use Rattle.law_order.specs.pg_base.declared.stamp.Stamp.{Stamp}
 use Rattle.law_order.specs.pg_base.declared.vector.Actor.{Actor}
 use Rattle.law_order.specs.pg_base.Id.{is_same_file}
 use Rattle.law_order.specs.pg_base.Vector.{number_at}
+use Rattle.law_order.specs.pg_base.Version.{VersionValue}
 use Rattle.law_order.proofs.pg_base.Orders.{is_same_file-true, is_same_file-refl}
 use Rattle.law_order.specs.pg_content.Content.{Among}
-use Rattle.law_order.specs.pg_content.History.{IsAncestor, IsHistory, IsNext, Made, vector_of}
+use Rattle.law_order.specs.pg_content.History.{IsAncestor, IsHistory, IsNext, Made, body_of, vector_of, version_of}
 use Rattle.law_order.proofs.pg_content.Numbers.{earlier_vector, member_of}
+use Rattle.law_order.proofs.pg_content.StandsWritten.{earlier_version}
+use Rattle.law_order.specs.theory_bodies.Book.{IsHeadOf}
 use Rattle.law_order.specs.pg_run.Journal.{Born, made_for, made_of}
 
 -- ---- the versions of a file, where one more was made
@@ -122,3 +127,23 @@ none_made = record {
   numbers = λ file m l. absurd l;
   one = λ u v l. absurd l;
 }
+
+-- ---- what is known of versions, where one more was made
+
+module _ (p : Policy) (m : Made) (h : List Made) (k : IsHistory (m ∷ h)) (head : Head)
+    (is : IsHeadOf p h head) where
+  same_version : version_of p (m ∷ h) is.made ≡ version_of p h is.made
+  same_version = sym (earlier_version m h k p is.made is.among)
+
+  pub later_head : IsHeadOf p (m ∷ h) head
+  later_head = record {
+    made = is.made;
+    among = inr is.among;
+    whole = is.whole ∙ ap (λ (v : VersionValue). v.head) (sym same_version);
+  }
+
+  -- the body is as it was
+  pub later_body : body_of p (m ∷ h) head.stamp ≡ body_of p h head.stamp
+  later_body =
+      let P : Head → Type 0 = (λ x. body_of p (m ∷ h) x.stamp ≡ body_of p h x.stamp) in
+      subst P (sym is.whole) (ap (λ (v : VersionValue). v.body) same_version)

@@ -27,7 +27,7 @@ use Rattle.law_order.specs.pg_calls.Forgetting.{bare_entry, begin_lost, begun_at
 use Rattle.law_order.specs.pg_calls.Naming.{raised}
 use Rattle.law_order.proofs.theory_flood_pieces.Choices.{chosen}
 use Rattle.law_contents.proofs.Arrivals.{Arrives, more_came, patch_none, quiet_arrives}
-use Rattle.law_contents.proofs.Changes.{Alters, Core, Keeps-trans, alters_keeps, by_altered, core_at, keeps_alters}
+use Rattle.law_contents.proofs.Changes.{Alters, Core, Keeps-trans, alters_keeps, by_altered, core_at, keeps_alters, new_core}
 use Rattle.law_contents.proofs.Handlers.{fill_quiet}
 use Rattle.law_contents.proofs.Pieces.{begin_alters, birth_keeps, intents_keep, wishes_keep}
 use Rattle.law_contents.proofs.Quiet.{Quiet, entry_quiet, make_place_quiet, quiet_idle, quiet_made, quiet_store, quiet_then, raise_quiet}
@@ -65,7 +65,7 @@ module _ {s : ℕ} {a : Store} {us : List Born} {p : FileId → Policy} {N : Fil
       chosen Q (has_blank_place a id) (placed_in_root id a work) (idle a work)
       (make_place_quiet us p N a id (root_place a moment id) work) (quiet_idle us p N a work)
 
-  filled_quiet : Q (fill_lost a id work)
+  pub filled_quiet : Q (fill_lost a id work)
   filled_quiet =
       let d = placed_lost a id work in
       quiet_then us p N placed_quiet (fill_quiet us p N d.store d.work id)
@@ -87,7 +87,7 @@ module _ {s : ℕ} {a : Store} {us : List Born} {p : FileId → Policy} {N : Fil
       quiet_then us p N (entry_quiet us p N b d (bare_entry id place) w)
       (marks_quiet place dirs one.store one.work)
 
-  struck_quiet : (o : Option FileId) → Q (struck_out a id work o)
+  pub struck_quiet : (o : Option FileId) → Q (struck_out a id work o)
   struck_quiet None = quiet_idle us p N a work
   struck_quiet (Some dir) =
       let b = unwished a id in
@@ -129,12 +129,12 @@ module _ {s : ℕ} {a : Store} {us : List Born} {p : FileId → Policy} {N : Fil
 
   module _ (away : is_held a id ≡ false) (dir : is_dir id ≡ true) where
     abbrev FreshCore : Core
-    FreshCore = record { birth = a.births + 1; content = record { policy = Last; heads = [] } }
+    FreshCore = new_core (a.births + 1) Last
 
-    none : core_at a id ≡ None
+    pub none : core_at a id ≡ None
     none = k.paired.away id away
 
-    begins : (own : Attributes) → Alters a (begun_with a id own) id (Some FreshCore)
+    pub begins : (own : Attributes) → Alters a (begun_with a id own) id (Some FreshCore)
     begins own =
         keeps_alters
         (Keeps-trans (birth_keeps a) (intents_keep (with_birth a) (ended a.intents (intent_key.Fill id))))
@@ -173,11 +173,11 @@ module _ {s : ℕ} {a : Store} {us : List Born} {p : FileId → Policy} {N : Fil
             nothing,
           )
 
-    abbrev Own_of : Option Place → Attributes
+    abbrev pub Own_of : Option Place → Attributes
     Own_of None = blank_own id
     Own_of (Some place) = record { place = place; flags = [] }
 
-    at_quiet : (o : Option Place) → Quiet us p N (begun_with a id (Own_of o)) work (begun_at a id work o)
+    pub at_quiet : (o : Option Place) → Quiet us p N (begun_with a id (Own_of o)) work (begun_at a id work o)
     at_quiet None =
         let b = begun_with a id (blank_own id) in
         make_place_quiet us p N b id (root_place b moment id) work

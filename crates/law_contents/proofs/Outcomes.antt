@@ -1,11 +1,10 @@
 -- What each call comes to: no version is made, be it that a directory begins, or one is.
-use Rattle.std.proofs.Common.{ℕ, ◌≡◌, ◌==◌, cond, List, [], ◌++◌, map, ap, ◌∙◌, Option, None, Some, Result, Ok, Err, refl, sym, subst, inl, inr, ◌⊎◌}
-use Rattle.std.proofs.lemmas.List.{append-nil}
+use Rattle.std.proofs.Common.{ℕ, ◌≡◌, ◌≤◌, ◌==◌, cond, List, [], ◌++◌, map, ◌∙◌, Option, None, Some, Result, Ok, Err, refl, sym, subst, inl, inr, ◌⊎◌}
 use Rattle.law_order.specs.pg_base.declared.id.FileId.{FileId}
 use Rattle.law_order.specs.pg_base.declared.id.Kind.TheVariants.{Dir, File}
 use Rattle.law_order.specs.pg_base.declared.policy.Policy.{Policy}
 use Rattle.law_order.specs.pg_base.declared.policy.Policy.TheVariants.{Last}
-use Rattle.law_order.specs.pg_patch.Ranges.{RangesValue, cut_to, written}
+use Rattle.law_order.specs.pg_patch.Ranges.{IsRanges, RangesValue, body_limit, cut_to, written}
 use Rattle.law_order.specs.pg_call.declared.call.Call.{Call}
 use Rattle.law_order.specs.pg_call.declared.call.Call.TheVariants as call
 use Rattle.law_order.specs.pg_call.declared.call.Target.{Target}
@@ -19,8 +18,7 @@ use Rattle.law_order.specs.pg_msg.Work.{new_work}
 use Rattle.law_order.specs.pg_register.declared.flag.Flag.{Flag}
 use Rattle.law_order.specs.pg_register.declared.place.Place.{Place}
 use Rattle.law_order.specs.pg_names.Names.{is_dir}
-use Rattle.law_order.specs.pg_base.declared.stamp.Stamp.{Stamp}
-use Rattle.law_order.specs.pg_msg.declared.update.Update.{Update}
+use Rattle.law_order.specs.pg_run.Asking.{Asked}
 use Rattle.law_order.specs.pg_run.Carried.{begun_by, forgotten_takes, strikes_out}
 use Rattle.law_order.specs.pg_run.Journal.{Born}
 use Rattle.law_order.specs.pg_run.State.{is_made, policy_by, policy_named}
@@ -48,7 +46,7 @@ use Rattle.law_order.specs.pg_pieces.Golds.{is_gold}
 use Rattle.law_order.specs.pg_calls.Demoting.{demoted_at, lowered}
 use Rattle.law_order.specs.pg_calls.Dropping.{clean_gold, dropped_at, leave_of, leaving}
 use Rattle.law_order.specs.pg_calls.Forgetting.{forget_lost, lost_at}
-use Rattle.law_order.specs.pg_calls.GivingUp.{enter_view, removal_at}
+use Rattle.law_order.specs.pg_calls.GivingUp.{removal_at}
 use Rattle.law_order.specs.pg_calls.Making.{make_place}
 use Rattle.law_order.specs.pg_calls.Naming.{dead_place, next_id, place_in}
 use Rattle.law_order.proofs.pg_calls.Checked.{fit_found}
@@ -56,13 +54,14 @@ use Rattle.law_order.proofs.pg_calls.InTime.{name_in_time}
 use Rattle.law_order.proofs.theory_flood_pieces.Choices.{chosen}
 use Rattle.law_contents.proofs.Arrivals.{Arrives, quiet_arrives}
 use Rattle.law_contents.proofs.Beginning.{dir_arrives, dir_none, first_makes, unnamed}
-use Rattle.law_contents.proofs.Entered.{entered_quiet}
+use Rattle.law_contents.proofs.Entered.{entered_arrives, entered_none}
 use Rattle.law_contents.proofs.Lost.{lost_comes}
 use Rattle.law_contents.proofs.Making.{Makes, written_makes}
 use Rattle.law_contents.proofs.Pieces.{wish_keeps}
 use Rattle.law_contents.proofs.Quiet.{Quiet, begin_quiet, lower_quiet, make_place_quiet, quiet_idle, quiet_posted, quiet_store, quiet_then}
+use Rattle.law_contents.proofs.Ranges.{cut_are, fit_long, fit_short, written_are}
 use Rattle.law_contents.proofs.Servers.{Came, IsServer}
-use Rattle.law_contents.proofs.Takes.{HasNone, both_none, stamps_joined}
+use Rattle.law_contents.proofs.Takes.{HasNone, begun_none, both_none, brought_made}
 
 -- a call goes on with what a check found, or does not
 pub answered_by : {A : Type 0} (P : Answer → Type 0) (store : Store) (work : Work)
@@ -74,27 +73,6 @@ answered_by P store work (Ok found) next denied goes_on = goes_on found refl
 -- the policies of the files after a call with this reply
 abbrev pub policies_then : (FileId → Policy) → Call → Reply → FileId → Policy
 policies_then p asked told_then f = policy_by (is_made f (Some told_then)) (policy_named asked) (p f)
-
--- no version is among what begins
-pub begun_none : (q : FileId) (o : Option Reply) → HasNone q (begun_by o)
-begun_none q None = refl
-begun_none q (Some reply.Done) = refl
-begun_none q (Some (reply.Made id)) = refl
-begun_none q (Some (reply.Wrote stamp)) = refl
-begun_none q (Some (reply.Bytes bytes)) = refl
-begun_none q (Some (reply.Names total rows)) = refl
-begun_none q (Some (reply.Stat stat)) = refl
-begun_none q (Some (reply.Leaving server)) = refl
-begun_none q (Some (reply.Status counts)) = refl
-begun_none q (Some (reply.Refused why)) = refl
-
--- so it brings the versions that were made
-brought_made : (f : FileId) (us : List Update) (o : Option Reply)
-    → stamps_taken f (map take_of us ++ begun_by o) ≡ stamps_taken f (map take_of us)
-brought_made f us o =
-    stamps_joined f (map take_of us) (begun_by o)
-    ∙ ap (λ (ts : List Stamp). stamps_taken f (map take_of us) ++ ts) (begun_none f o)
-    ∙ append-nil (stamps_taken f (map take_of us))
 
 -- ---- what is not here is asked for
 
@@ -234,15 +212,17 @@ module _ {s : ℕ} {a : Store} {us : List Born} {p : FileId → Policy} {N : Fil
   change_comes : (asked : Call) → ((r : Reply) (f : FileId) → policies_then p asked r f ≡ p f)
       → ((r : Answer) → Makes s a us p p N came r
       → Makes s a us p (policies_then p asked r.reply) N came r)
-      → (text : List ℕ) (ranges : RangesValue)
+      → (text : List ℕ) (ranges : RangesValue) → (ranges.least ≤ body_limit → IsRanges ranges)
       → Outcome asked (change a text ranges work)
-  change_comes asked stays makes text ranges =
+  change_comes asked stays makes text ranges are =
       answered_by (Outcome asked) a work (file_at a text) (change_file a ranges work)
       (denied_so asked (λ why. stays (reply.Refused why)))
       (λ file found. answered_by (Outcome asked) a work (when_fit a ranges file) _
       (denied_so asked (λ why. stays (reply.Refused why)))
-      (λ fit fits. inr (makes _ (written_makes k moment ranges text fit
-      (subst (λ g. file_at a text ≡ Ok g) (fit_found a ranges file fit fits) found)))))
+      (λ fit fits. inr (makes _ (written_makes k moment ranges
+      (are (fit_short a ranges file fit fits)) text fit
+      (subst (λ g. file_at a text ≡ Ok g) (fit_found a ranges file fit fits) found)
+      (fit_long a ranges file fit fits)))))
 
   -- a gold replica is asked for leave, or none
   leaving_comes : (target : Target) (file : FileId) (o : Option Flag)
@@ -274,52 +254,53 @@ module _ {s : ℕ} {a : Store} {us : List Born} {p : FileId → Policy} {N : Fil
       inl (lost_comes k moment f (is_held a f) (is_dir f) refl refl, λ g. refl)
 
   -- WHATEVER A CLIENT CALLS
-  pub call_comes : (asked : Call)
-      → OutcomeBy (brought a (input.Call moment asked)) asked (do_call a asked work)
-  call_comes (call.Mkdir text) =
+  pub call_comes : (wants : Asked) (asked : Call)
+      → OutcomeBy (brought a wants (input.Call moment asked)) asked (do_call a asked work)
+  call_comes wants (call.Mkdir text) =
       plain (call.Mkdir text) (do_call a (call.Mkdir text) work)
       (mkdir_comes text)
-  call_comes (call.Create text policy) =
+  call_comes wants (call.Create text policy) =
       plain (call.Create text policy) (do_call a (call.Create text policy) work)
       (create_comes text policy)
-  call_comes (call.Write text offset bytes) =
+  call_comes wants (call.Write text offset bytes) =
       plain (call.Write text offset bytes) (do_call a (call.Write text offset bytes) work)
       (change_comes (call.Write text offset bytes) (λ r f. refl) (λ r m. m) text
-      (written offset bytes))
-  call_comes (call.Cut text length) =
+      (written offset bytes) (written_are offset bytes))
+  call_comes wants (call.Cut text length) =
       plain (call.Cut text length) (do_call a (call.Cut text length) work)
-      (change_comes (call.Cut text length) (λ r f. refl) (λ r m. m) text (cut_to length))
-  call_comes (call.Read text offset count) =
+      (change_comes (call.Cut text length) (λ r f. refl) (λ r m. m) text (cut_to length)
+      (cut_are length))
+  call_comes wants (call.Read text offset count) =
       plain (call.Read text offset count) (do_call a (call.Read text offset count) work)
       (looked (call.Read text offset count) (λ r f. refl) (file_at a text) _)
-  call_comes (call.Fresh text) =
+  call_comes wants (call.Fresh text) =
       plain (call.Fresh text) (do_call a (call.Fresh text) work)
       (looked (call.Fresh text) (λ r f. refl) (file_at a text) _)
-  call_comes (call.Ls text from) =
+  call_comes wants (call.Ls text from) =
       plain (call.Ls text from) (do_call a (call.Ls text from) work)
       (looked (call.Ls text from) (λ r f. refl) (dir_at a text) _)
-  call_comes (call.Stat target) =
+  call_comes wants (call.Stat target) =
       plain (call.Stat target) (do_call a (call.Stat target) work)
       (looked (call.Stat target) (λ r f. refl) (target_at a target) _)
-  call_comes (call.Rename from to) =
+  call_comes wants (call.Rename from to) =
       plain (call.Rename from to) (do_call a (call.Rename from to) work)
       (answered_by (Outcome (call.Rename from to)) a work (move_of a from to) _
       (denied_so (call.Rename from to) (λ why f. refl))
       (λ move found. moved_comes (call.Rename from to) (λ r f. refl) move.thing
       (place_in a moment move.to)))
-  call_comes (call.Unlink text) =
+  call_comes wants (call.Unlink text) =
       plain (call.Unlink text) (do_call a (call.Unlink text) work)
       (answered_by (Outcome (call.Unlink text)) a work (file_at a text) _
       (denied_so (call.Unlink text) (λ why f. refl))
       (λ file found. moved_comes (call.Unlink text) (λ r f. refl) file
       (dead_place a moment file)))
-  call_comes (call.Rmdir text) =
+  call_comes wants (call.Rmdir text) =
       plain (call.Rmdir text) (do_call a (call.Rmdir text) work)
       (answered_by (Outcome (call.Rmdir text)) a work (empty_dir_at a text) _
       (denied_so (call.Rmdir text) (λ why f. refl))
       (λ dir found. moved_comes (call.Rmdir text) (λ r f. refl) dir (dead_place a moment dir)))
-  call_comes (call.Forget id) = forgotten_by id (lost_at a id)
-  call_comes (call.Demote target) =
+  call_comes wants (call.Forget id) = forgotten_by id (lost_at a id)
+  call_comes wants (call.Demote target) =
       plain (call.Demote target) (do_call a (call.Demote target) work)
       (answered_by (Outcome (call.Demote target)) a work (demoted_at a target) _
       (denied_so (call.Demote target) (λ why f. refl))
@@ -327,22 +308,22 @@ module _ {s : ℕ} {a : Store} {us : List Born} {p : FileId → Policy} {N : Fil
         quiet_comes (lowered a file work) reply.Done (lowered_quiet file),
         λ f. refl,
       )))
-  call_comes (call.Drop target) =
+  call_comes wants (call.Drop target) =
       plain (call.Drop target) (do_call a (call.Drop target) work)
       (answered_by (Outcome (call.Drop target)) a work (dropped_at a target) _
       (denied_so (call.Drop target) (λ why f. refl))
       (λ file found. leaving_comes target file (clean_gold a file)))
-  call_comes (call.Giveup view server) =
+  call_comes wants (call.Giveup view server) =
       plain (call.Giveup view server) (do_call a (call.Giveup view server) work)
       (answered_by (Outcome (call.Giveup view server)) a work (removal_at a view server) _
       (denied_so (call.Giveup view server) (λ why f. refl))
       (λ found is. inl (
-        quiet_comes (enter_view a server work) reply.Done (entered_quiet us p N a server work),
+        (entered_arrives k moment 0 server, entered_none k moment 0 server),
         λ f. refl,
       )))
-  call_comes call.Status =
+  call_comes wants call.Status =
       plain call.Status (do_call a call.Status work)
       (looked call.Status (λ r f. refl) (in_time a (tt {0})) _)
-  call_comes call.Stop =
+  call_comes wants call.Stop =
       plain call.Stop (do_call a call.Stop work)
       (looked call.Stop (λ r f. refl) (in_time a (tt {0})) _)

@@ -32,75 +32,52 @@ use Rattle.law_order.specs.pg_store.Wishes.{WishesValue}
 use Rattle.law_order.specs.pg_cells.Settling.{touch_all}
 use Rattle.law_order.specs.pg_calls.Naming.{with_id}
 use Rattle.law_order.proofs.theory_flood_pieces.Choices.{chosen}
-use Rattle.law_contents.proofs.Changes.{Alters, Keeps, Keeps-refl, Keeps-trans, StaysFull, alters_keeps, core_of}
+use Rattle.law_contents.proofs.Changes.{Alters, IsOrdered, Keeps, Keeps-refl, Keeps-trans, StaysFull, alters_keeps, core_at, core_of, new_core, none_end}
 use Rattle.law_contents.proofs.Cores.{acked_order, acked_same, linked_order, linked_same, put_elsewhere, put_here, put_order, raised_up, touched_order, touched_same, unlinked_order, unlinked_same}
 
 module _ (a : Store) where
   -- ---- what stands beside
 
-  pub intents_keep : (is : List Intent) → Keeps a (with_intents a is)
-  intents_keep is =
+  -- names stay, and so do notes and what is seen of each replica
+  beside_keeps : (b : Store) → b.names ≡ a.names → b.announced ≡ a.announced → a.files ≤ b.files
+      → (IsOrdered a.replicas → IsOrdered b.replicas)
+      → ((file : FileId) → core_at b file ≡ core_at a file) → Keeps a b
+  beside_keeps b names announced files order each =
+      let last : b.names.last ≡ a.names.last = ap (λ (n : NamesValue). n.last) names in
       record {
-        server = refl;
-        last = omega arith;
-        files = omega arith;
-        order = λ h. h;
-        full = λ f h. h;
-        each = λ f. refl;
+        server = ap (λ (n : NamesValue). n.server) names;
+        last = omega (arith, last);
+        files = files;
+        order = order;
+        full = λ f h. ap (λ (n : NamesValue). is_full_of (known n f)) names ∙ h;
+        each = each;
+        view = ap (λ (n : NamesValue). n.removed) names;
+        notes = announced;
       }
+
+  pub intents_keep : (is : List Intent) → Keeps a (with_intents a is)
+  intents_keep is = beside_keeps (with_intents a is) refl refl (omega arith) (λ h. h) (λ f. refl)
 
   pub wishes_keep : (ws : WishesValue) → Keeps a (with_wishes a ws)
-  wishes_keep ws =
-      record {
-        server = refl;
-        last = omega arith;
-        files = omega arith;
-        order = λ h. h;
-        full = λ f h. h;
-        each = λ f. refl;
-      }
+  wishes_keep ws = beside_keeps (with_wishes a ws) refl refl (omega arith) (λ h. h) (λ f. refl)
 
   pub birth_keeps : Keeps a (with_birth a)
-  birth_keeps =
-      record {
-        server = refl;
-        last = omega arith;
-        files = omega arith;
-        order = λ h. h;
-        full = λ f h. h;
-        each = λ f. refl;
-      }
+  birth_keeps = beside_keeps (with_birth a) refl refl (omega arith) (λ h. h) (λ f. refl)
 
   pub wish_keeps : (file : FileId) (wish : Wish) → Keeps a (with_wish (with_birth a) file wish)
-  wish_keeps file wish =
-      record {
-        server = refl;
-        last = omega arith;
-        files = omega arith;
-        order = λ h. h;
-        full = λ f h. h;
-        each = λ f. refl;
-      }
+  wish_keeps file wish = beside_keeps (with_wish (with_birth a) file wish) refl refl (omega arith) (λ h. h) (λ f. refl)
 
   -- an id
   pub id_keeps : Keeps a (with_id a)
-  id_keeps =
-      record {
-        server = refl;
-        last = omega arith;
-        files = omega arith;
-        order = λ h. h;
-        full = λ f h. h;
-        each = λ f. refl;
-      }
+  id_keeps = beside_keeps (with_id a) refl refl (omega arith) (λ h. h) (λ f. refl)
 
   -- ---- names
 
-  -- other names of the same server
+  -- other names of the same server, in the same view
   pub names_keep : (names : NamesValue) → names.server ≡ a.names.server
-      → a.names.last ≤ names.last → StaysFull a (with_names a names)
-      → Keeps a (with_names a names)
-  names_keep names server last full =
+      → names.removed ≡ a.names.removed → a.names.last ≤ names.last
+      → StaysFull a (with_names a names) → Keeps a (with_names a names)
+  names_keep names server removed last full =
       record {
         server = server;
         last = last;
@@ -108,6 +85,8 @@ module _ (a : Store) where
         order = λ h. h;
         full = full;
         each = λ f. refl;
+        view = removed;
+        notes = refl;
       }
 
   full_there : (file : FileId) (o : Option InodeValue) → known a.names file ≡ o
@@ -133,19 +112,15 @@ module _ (a : Store) where
   fill_keeps file =
       let frame = update_frame a.names file filled in
       let same = frame.last in
-      names_keep (fill a.names file) frame.server (omega arith)
+      names_keep (fill a.names file) frame.server frame.removed (omega arith)
       (λ f h. filled_full file f (is_same_file file f) refl h)
 
   -- keys are touched
   pub touch_keeps : (file : FileId) (k : Key) → Keeps a (touch a file k)
-  touch_keeps file k = record {
-    server = refl;
-    last = omega arith;
-    files = omega arith;
-    order = λ h. touched_order a.replicas file h k a.tags (replica_at a file);
-    full = λ f h. h;
-    each = touched_same a.replicas file k a.tags (replica_at a file) refl;
-  }
+  touch_keeps file k =
+      beside_keeps (touch a file k) refl refl (omega arith)
+      (λ h. touched_order a.replicas file h k a.tags (replica_at a file))
+      (touched_same a.replicas file k a.tags (replica_at a file) refl)
 
 pub touches_keep : (a : Store) (ts : List Touched) → Keeps a (touch_all a ts)
 touches_keep a [] = Keeps-refl a
@@ -160,7 +135,7 @@ module _ (a : Store) where
       let frame = update_frame a.names file (with_place place) in
       let names = raise joined place.stamp.time in
       chosen (Keeps a) (is_newer_place a file place) (put_place a file place) a
-      (Keeps-trans (names_keep a names frame.server
+      (Keeps-trans (names_keep a names frame.server frame.removed
       (raised_up a.names.last joined.last place.stamp.time frame.last)
       (changed_full a file (with_place place) (λ x. refl)))
       (touch_keeps (with_names a names) file key.Place))
@@ -173,7 +148,7 @@ module _ (a : Store) where
       let frame = update_frame a.names file (with_flag flag) in
       let same = frame.last in
       chosen (Keeps a) (is_newer_flag a file flag) (put_flag a file flag) a
-      (Keeps-trans (names_keep a joined frame.server (omega arith)
+      (Keeps-trans (names_keep a joined frame.server frame.removed (omega arith)
       (changed_full a file (with_flag flag) (λ x. refl)))
       (touch_keeps (with_names a joined) file (key.Flag flag.server)))
       (Keeps-refl a)
@@ -185,7 +160,7 @@ module _ (a : Store) where
       let frame = update_frame a.names dir (with_joined e) in
       let names = raise joined e.place.stamp.time in
       chosen (Keeps a) (is_newer_entry a dir e) (put_entry a dir e) a
-      (Keeps-trans (names_keep a names frame.server
+      (Keeps-trans (names_keep a names frame.server frame.removed
       (raised_up a.names.last joined.last e.place.stamp.time frame.last)
       (changed_full a dir (with_joined e) (λ x. refl)))
       (touch_keeps (with_names a names) dir (key.Entry e.child)))
@@ -196,41 +171,26 @@ module _ (a : Store) where
   pub link_keeps : (file : FileId) (peer birth : ℕ) → Keeps a (link a file peer birth)
   link_keeps file peer birth =
       chosen (Keeps a) (is_new_link a file peer birth) (put_link a file peer birth) a
-      (record {
-        server = refl;
-        last = omega arith;
-        files = omega arith;
-        order = λ h. linked_order a.replicas file h peer birth (keys a file) a.tags
-            (replica_at a file);
-        full = λ f h. h;
-        each = linked_same a.replicas file peer birth (keys a file) a.tags (replica_at a file) refl;
-      })
+      (beside_keeps a (put_link a file peer birth) refl refl (omega arith)
+      (λ h. linked_order a.replicas file h peer birth (keys a file) a.tags (replica_at a file))
+      (linked_same a.replicas file peer birth (keys a file) a.tags (replica_at a file) refl))
       (Keeps-refl a)
 
   pub unlink_keeps : (file : FileId) (peer birth : ℕ) → Keeps a (unlink a file peer birth)
   unlink_keeps file peer birth =
-      chosen (Keeps a) (is_linked a file peer birth)
-      (record a { replicas = replicas_unlinked a.replicas file peer birth (replica_at a file) }) a
-      (record {
-        server = refl;
-        last = omega arith;
-        files = omega arith;
-        order = λ h. unlinked_order a.replicas file h peer birth (replica_at a file);
-        full = λ f h. h;
-        each = unlinked_same a.replicas file peer birth (replica_at a file) refl;
-      })
+      let gone : Store = record a { replicas = replicas_unlinked a.replicas file peer birth (replica_at a file) } in
+      chosen (Keeps a) (is_linked a file peer birth) gone a
+      (beside_keeps a gone refl refl (omega arith)
+      (λ h. unlinked_order a.replicas file h peer birth (replica_at a file))
+      (unlinked_same a.replicas file peer birth (replica_at a file) refl))
       (Keeps-refl a)
 
   pub acked_keeps : (file : FileId) (l : Link) (k : Key) (tag : ℕ)
       → Keeps a (acknowledge a file l k tag)
-  acked_keeps file l k tag = record {
-    server = refl;
-    last = omega arith;
-    files = omega arith;
-    order = λ h. acked_order a.replicas file h l k tag (replica_at a file);
-    full = λ f h. h;
-    each = acked_same a.replicas file l k tag (replica_at a file) refl;
-  }
+  acked_keeps file l k tag =
+      beside_keeps a (acknowledge a file l k tag) refl refl (omega arith)
+      (λ h. acked_order a.replicas file h l k tag (replica_at a file))
+      (acked_same a.replicas file l k tag (replica_at a file) refl)
 
 -- ---- a replica begins
 
@@ -268,7 +228,7 @@ module _ (a : Store) (file : FileId) where
   -- with no version, of what was not here
   pub begin_alters : (birth : ℕ) (policy : Policy) (own : Attributes) (full : Bool)
       → (is_full a file ≡ true → ⊥) → Alters a (begin a file birth policy own full) file
-      (Some (record { birth = birth; content = record { policy = policy; heads = [] } }))
+      (Some (new_core birth policy))
   begin_alters birth policy own full away =
       let x = new_replica birth policy in
       let fresh = put_new a file birth policy own full in
@@ -280,5 +240,9 @@ module _ (a : Store) (file : FileId) where
         full = λ f h. begun_full birth policy own full away f (is_same_file f file) refl h;
         here = put_here a.replicas file x;
         others = λ f apart. put_elsewhere a.replicas file f x apart;
+        view = refl;
+        notes = λ sorted. (sorted, λ f stamp n h. h);
+        ends = none_end a fresh refl file (Some (core_of x));
+        free = λ h stamp n there covers. absurd (let z : false ≡ true = covers in cc);
       } in
       alters_keeps first (patches_keep file fresh (patches_of file a.intents))

@@ -1,5 +1,5 @@
 -- A message comes: the server makes no version, and stands for what it carried.
-use Rattle.std.proofs.Common.{ℕ, ◌≡◌, ◌&&◌, Bool, true, false, cond, not, List, [], ◌∷◌, ◌++◌, map, Option, None, Some, option_map, refl, sym, ap, subst, ◌∙◌, inl, is_some, arith}
+use Rattle.std.proofs.Common.{ℕ, ◌≡◌, ◌≢◌, ◌&&◌, Bool, true, false, cond, not, List, [], ◌∷◌, ◌++◌, map, Option, None, Some, refl, sym, ap, subst, ◌∙◌, inl, is_some, arith}
 use Rattle.std.proofs.lemmas.Bool.{and_parts}
 use Rattle.std.proofs.lemmas.List.{append-nil}
 use Rattle.law_order.specs.pg_base.declared.id.FileId.{FileId}
@@ -21,8 +21,7 @@ use Rattle.law_order.specs.pg_msg.declared.work.Work.{Work}
 use Rattle.law_order.specs.pg_msg.Ends.{back}
 use Rattle.law_order.specs.pg_msg.Sent.{cell_key}
 use Rattle.law_order.specs.pg_msg.Work.{new_work}
-use Rattle.law_order.specs.pg_replica.declared.replica.Replica.{Replica}
-use Rattle.law_order.specs.pg_replica.Replicas.{is_of_birth}
+use Rattle.law_order.specs.pg_run.Asking.{Asked}
 use Rattle.law_order.specs.pg_run.Carried.{carried, gone_by, granted_takes}
 use Rattle.law_order.specs.pg_run.Journal.{Born, versions_in}
 use Rattle.law_order.specs.pg_run.Took.{Take, stamps_taken, take_of, takes_in}
@@ -41,32 +40,25 @@ use Rattle.law_order.proofs.pg_pieces.News.{news_made, news_sent}
 use Rattle.law_order.specs.pg_graph.Leaving.{goes, leave_ok, may_leave, without_leave}
 use Rattle.law_order.specs.pg_repair.Granting.{begin_granted, begun_by, fill_from, granted_own}
 use Rattle.law_order.specs.pg_server.Local.{receive}
+use Rattle.law_contents.proofs.Agreed.{Agrees}
 use Rattle.law_contents.proofs.Arrivals.{Arrives, confirmed_none, entry_none, granted_none, more_came, quiet_arrives, told_none, version_named, version_stands}
 use Rattle.law_contents.proofs.Asking.{post_carry}
 use Rattle.law_contents.proofs.Carrying.{Carries, CarriesCell}
-use Rattle.law_contents.proofs.Changes.{Core, Keeps, alters_keeps, by_altered, core_of}
+use Rattle.law_contents.proofs.Changes.{Core, Keeps, alters_keeps, by_altered, new_core}
 use Rattle.law_contents.proofs.Going.{byes_quiet, came_without, held_before, order_stays, stands_gone}
 use Rattle.law_contents.proofs.Handlers.{IsKnown, accept_quiet, ack_quiet, bye_ok_quiet, bye_quiet, confirm_quiet, fetch_quiet, full_quiet, gone_quiet, invite_quiet, leave_quiet, no_grant_quiet, none_here_quiet, place_is_quiet, seek_quiet, tell_ok_quiet, tell_quiet, walk_quiet}
+use Rattle.law_contents.proofs.Patched.{delta_arrives}
+use Rattle.law_contents.proofs.Pieced.{piece_arrives}
 use Rattle.law_contents.proofs.Pieces.{begin_alters, intents_keep}
 use Rattle.law_contents.proofs.Quiet.{Quiet, entry_cell_quiet, flag_quiet, link_quiet, news_tail, place_quiet, quiet_idle, quiet_post, quiet_store, quiet_then}
 use Rattle.law_contents.proofs.Sending.{AllCarry, none_carry}
 use Rattle.law_contents.proofs.Servers.{Came, IsServer, none_full, stands_begun, stands_kept, stands_same}
+use Rattle.law_contents.proofs.Taken.{born_there, some_behind}
+use Rattle.law_contents.proofs.Transfer.{harbinger_arrives, later_arrives}
 use Rattle.law_contents.proofs.Unmade.{pending_unmade}
 use Rattle.law_contents.proofs.Takes.{HasNone, both_none, none_joined}
 use Rattle.law_contents.proofs.Versions.{version_alters}
-
--- the replica of a birth
-born_there : (o : Option Replica) (birth : ℕ) → is_of_birth o birth ≡ true
-    → (x : Replica) × (o ≡ Some x)
-born_there None birth h = absurd (let z : false ≡ true = h in cc)
-born_there (Some x) birth h = (x, refl)
-
--- the same before and behind what keeps it
-some_behind : (o : Option Replica) (q : Option Replica) (x : Replica) → q ≡ Some x
-    → option_map core_of o ≡ option_map core_of q → (y : Replica) × (o ≡ Some y)
-some_behind None q x is same =
-    absurd (let z : None ≡ Some (core_of x) = same ∙ ap (option_map core_of) is in cc)
-some_behind (Some y) q x is same = (y, refl)
+use Rattle.law_contents.proofs.Wants.{want_quiet}
 
 module _ {s : ℕ} {a : Store} {us : List Born} {p : FileId → Policy} {N : FileId → Type 0}
     {came : Came} (k : IsServer s a us p N came) (from : ℕ) where
@@ -196,10 +188,7 @@ module _ {s : ℕ} {a : Store} {us : List Born} {p : FileId → Policy} {N : Fil
         let all = alters_keeps (begin_alters a file ends.receiver g.policy (granted_own g) false
         (none_full k.paired file none))
         rest.keeps in
-        let fresh : Core = record {
-          birth = ends.receiver;
-          content = record { policy = g.policy; heads = [] };
-        } in
+        let fresh : Core = new_core ends.receiver g.policy in
         let takes = granted_takes a file g in
         record {
           server = all.server;
@@ -244,26 +233,26 @@ module _ {s : ℕ} {a : Store} {us : List Born} {p : FileId → Policy} {N : Fil
       Arrives s a us p N (came_without o came) d (map take_of d.work.made ++ [])
 
   module _ (ends : Ends) (stamp : Stamp) where
-    abbrev Asked : Store
-    Asked = without_leave a ends.file
+    abbrev Unasking : Store
+    Unasking = without_leave a ends.file
 
-    asked_keeps : Keeps a Asked
+    asked_keeps : Keeps a Unasking
     asked_keeps = intents_keep a (ended a.intents (intent_key.Leave ends.file))
 
-    gone_comes : BringsLess (Some ends.file) (goes Asked ends.file work)
+    gone_comes : BringsLess (Some ends.file) (goes Unasking ends.file work)
     gone_comes =
-        let b = let_go Asked ends.file in
-        let d = goes Asked ends.file work in
+        let b = let_go Unasking ends.file in
+        let d = goes Unasking ends.file work in
         let rest : Quiet us p N b work d =
-        byes_quiet us p N ends.file (birth_of Asked ends.file) (replica_of Asked ends.file).edges (idle b work) in
-        let stands = stands_gone Asked ends.file (stands_kept k.stands Asked asked_keeps) in
+        byes_quiet us p N ends.file (birth_of Unasking ends.file) (replica_of Unasking ends.file).edges (idle b work) in
+        let stands = stands_gone Unasking ends.file (stands_kept k.stands Unasking asked_keeps) in
         record {
           server = rest.keeps.server;
           last = rest.keeps.last;
           files = rest.keeps.files;
-          order = λ z. rest.keeps.order (order_stays Asked ends.file z);
+          order = λ z. rest.keeps.order (order_stays Unasking ends.file z);
           held = λ f c e. inl (k.held f c
-              (held_before Asked ends.file f c (sym (rest.keeps.each f) ∙ e)));
+              (held_before Unasking ends.file f c (sym (rest.keeps.each f) ∙ e)));
           stands = stands_same (stands_kept stands d.store rest.keeps)
               (more_came (map take_of d.work.made ++ []) (came_without (Some ends.file) came))
               (λ q. ap (λ (ts : List Stamp). ts ++ came_without (Some ends.file) came q)
@@ -274,59 +263,68 @@ module _ {s : ℕ} {a : Store} {us : List Born} {p : FileId → Policy} {N : Fil
         }
 
     left_by : (t u : Bool) → BringsLess (cond (t && not u) (Some ends.file) None)
-        (cond t (cond u (idle Asked work) (goes Asked ends.file work)) (idle a work))
+        (cond t (cond u (idle Unasking work) (goes Unasking ends.file work)) (idle a work))
     left_by true true =
-        quiet (idle Asked work) (quiet_store us p N a Asked work asked_keeps) [] (λ q. refl)
+        quiet (idle Unasking work) (quiet_store us p N a Unasking work asked_keeps) [] (λ q. refl)
     left_by true false = gone_comes
     left_by false u = nothing
 
     leave_ok_comes : BringsLess (gone_by a from (message.LeaveOk ends stamp))
         (leave_ok a ends stamp work)
-    leave_ok_comes = left_by (may_leave a ends stamp work) (is_some (stays_for Asked ends.file))
+    leave_ok_comes = left_by (may_leave a ends stamp work) (is_some (stays_for Unasking ends.file))
 
   -- A MESSAGE COMES
-  pub receive_arrives : (m : Message) → Carries us p N m
+  pub receive_arrives : from ≢ 0 → (wants : Asked) → Agrees a us came wants → (m : Message) → Carries us p N m
       → Arrives s a us p N (came_without (gone_by a from m) came) (receive a m work)
-      (map take_of (receive a m work).work.made ++ carried a from m)
-  receive_arrives (message.Cell ends tag c) h =
+      (map take_of (receive a m work).work.made ++ carried a wants from m)
+  receive_arrives some wants agrees (message.Cell ends tag c) h =
       cell_by ends tag c (fits ends.file c) (is_current a from ends) refl h
-  receive_arrives (message.Ack ends q tag) h =
+  receive_arrives some wants agrees (message.Ack ends q tag) h =
       quiet _ (ack_quiet us p N a work ends q tag) [] (λ f. refl)
-  receive_arrives (message.Fetch file birth) h =
+  receive_arrives some wants agrees (message.Fetch file birth) h =
       quiet _ (fetch_quiet us p N a known work file birth) [] (λ f. refl)
-  receive_arrives (message.Grant ends granted) h =
+  receive_arrives some wants agrees (message.Grant ends granted) h =
       grant_by ends granted h (is_pending a ends.file ends.receiver) refl
-  receive_arrives (message.NoGrant file birth) h =
+  receive_arrives some wants agrees (message.NoGrant file birth) h =
       quiet _ (no_grant_quiet us p N a work file birth) [] (λ f. refl)
-  receive_arrives (message.Full ends) h =
+  receive_arrives some wants agrees (message.Full ends) h =
       quiet _ (full_quiet us p N a work ends) [] (λ f. refl)
-  receive_arrives (message.Seek file birth) h =
+  receive_arrives some wants agrees (message.Seek file birth) h =
       quiet _ (seek_quiet us p N a work file birth) [] (λ f. refl)
-  receive_arrives (message.Here ends) h =
+  receive_arrives some wants agrees (message.Here ends) h =
       quiet _ (accept_quiet us p N a work ends manner.Makes) [] (λ f. refl)
-  receive_arrives (message.Walk ends origin birth hops word) h =
+  receive_arrives some wants agrees (message.Walk ends origin birth hops word) h =
       quiet _ (walk_quiet us p N a work ends origin birth hops word) [] (λ f. refl)
-  receive_arrives (message.Meet ends) h =
+  receive_arrives some wants agrees (message.Meet ends) h =
       quiet _ (accept_quiet us p N a work ends manner.Makes) [] (λ f. refl)
-  receive_arrives (message.NoneHere ask file child) h =
+  receive_arrives some wants agrees (message.NoneHere ask file child) h =
       quiet _ (none_here_quiet us p N a work ask file child) [] (λ f. refl)
-  receive_arrives (message.Gone file birth) h =
+  receive_arrives some wants agrees (message.Gone file birth) h =
       quiet _ (gone_quiet us p N a work file birth) [] (λ f. refl)
-  receive_arrives (message.Bye ends) h =
+  receive_arrives some wants agrees (message.Bye ends) h =
       quiet _ (bye_quiet us p N a work ends) [] (λ f. refl)
-  receive_arrives (message.ByeOk file birth) h =
+  receive_arrives some wants agrees (message.ByeOk file birth) h =
       quiet _ (bye_ok_quiet us p N a work file birth) [] (λ f. refl)
-  receive_arrives (message.Leave ends stamp) h =
+  receive_arrives some wants agrees (message.Leave ends stamp) h =
       quiet _ (leave_quiet us p N a work ends stamp) [] (λ f. refl)
-  receive_arrives (message.LeaveOk ends stamp) h = leave_ok_comes ends stamp
-  receive_arrives (message.Confirm dir entry) h =
+  receive_arrives some wants agrees (message.LeaveOk ends stamp) h = leave_ok_comes ends stamp
+  receive_arrives some wants agrees (message.Confirm dir entry) h =
       quiet _ (confirm_quiet us p N a work dir entry) _ (λ f. confirmed_none f a entry)
-  receive_arrives (message.PlaceIs dir entry) h =
+  receive_arrives some wants agrees (message.PlaceIs dir entry) h =
       quiet _ (place_is_quiet us p N a work dir entry) _ (λ f. told_none f a dir entry)
-  receive_arrives (message.Tell dir entry) h =
+  receive_arrives some wants agrees (message.Tell dir entry) h =
       quiet _ (tell_quiet us p N a work dir entry) _ (λ f. told_none f a dir entry)
-  receive_arrives (message.TellOk dir child stamp) h =
+  receive_arrives some wants agrees (message.TellOk dir child stamp) h =
       quiet _ (tell_ok_quiet us p N a work dir child stamp) [] (λ f. refl)
-  receive_arrives (message.Invite ends) h =
+  receive_arrives some wants agrees (message.Invite ends) h =
       quiet _ (invite_quiet us p N a work ends) [] (λ f. refl)
-  receive_arrives m h = nothing
+  receive_arrives some wants agrees (message.Harbinger ends tag head) h =
+      harbinger_arrives k 0 from ends tag head h
+  receive_arrives some wants agrees (message.Want ends wanted) h =
+      quiet _ (want_quiet k from ends wanted) [] (λ f. refl)
+  receive_arrives some wants agrees (message.Delta ends d) h =
+      delta_arrives k from some wants agrees ends d h
+  receive_arrives some wants agrees (message.Piece ends q) h =
+      piece_arrives k from some wants agrees ends q h
+  receive_arrives some wants agrees (message.Later ends stamp) h =
+      later_arrives k 0 from ends stamp

@@ -59,19 +59,22 @@ one_place (update.Place g other ∷ us) f place are = one_place us f place are
 one_place (update.Version made ∷ us) f place are = absurd are
 one_place (update.Flag g flag ∷ us) f place are = absurd are
 
--- places were made behind these by the same server, and the clock is not below this time
-pub record MakesPlaces (first : List Update) (server low : ℕ) (st : State) : Type 0 where
+-- places were made behind these by the same server, in the same view, and the clock is not below this
+-- time
+pub record MakesPlaces (first : List Update) (server : ℕ) (removed : List ℕ) (low : ℕ) (st : State)
+    : Type 0 where
   pub places : List Update
   pub are : ArePlaces places
   pub made : st.work.made ≡ first ++ places
   pub server_is : st.names.server ≡ server
+  pub removed_is : st.names.removed ≡ removed
   pub up : low ≤ st.names.last
 
 later_time : (low last moment time : ℕ) → low ≤ last → time ≡ max (min moment (2 ^ 62)) (last + 1)
     → low ≤ time
 later_time low last moment time up e = grind arith
 
--- ---- passing leaves the server
+-- ---- passing leaves the server, and the view
 
 own_server : (st : State) (ds : List FileId) (f : FileId) (o : Option Attributes)
     → (pass_own st ds f o).names.server ≡ st.names.server
@@ -89,12 +92,28 @@ all_server : (st : State) (ds fs : List FileId)
 all_server st ds [] = refl
 all_server st ds (f ∷ fs) = all_server (pass st ds f) ds fs ∙ pass_server st ds f
 
+own_removed : (st : State) (ds : List FileId) (f : FileId) (o : Option Attributes)
+    → (pass_own st ds f o).names.removed ≡ st.names.removed
+own_removed st ds f None = refl
+own_removed st ds f (Some own) =
+    let top = greatest st.names f own ds in
+    (after_frame st ds f own top (is_held_back st.names.removed f own top)).removed
+
+pass_removed : (st : State) (ds : List FileId) (f : FileId)
+    → (pass st ds f).names.removed ≡ st.names.removed
+pass_removed st ds f = own_removed st ds f (own_at st.names f)
+
+all_removed : (st : State) (ds fs : List FileId)
+    → (pass_all st ds fs).names.removed ≡ st.names.removed
+all_removed st ds [] = refl
+all_removed st ds (f ∷ fs) = all_removed (pass st ds f) ds fs ∙ pass_removed st ds f
+
 -- ---- the rules
 
-module _ (first : List Update) (server low : ℕ) (moment : ℕ) (ds : List FileId) (st : State)
-    (k : MakesPlaces first server low st) where
+module _ (first : List Update) (server : ℕ) (removed : List ℕ) (low : ℕ) (moment : ℕ)
+    (ds : List FileId) (st : State) (k : MakesPlaces first server removed low st) where
   placed_makes : (f p : FileId) (name : List ℕ)
-      → MakesPlaces first server low (placed moment ds st f p name)
+      → MakesPlaces first server removed low (placed moment ds st f p name)
   placed_makes f p name =
       let place = live_place (drawn moment st.names) p name in
       let next = made_at st f place in
@@ -111,38 +130,43 @@ module _ (first : List Update) (server low : ℕ) (moment : ℕ) (ds : List File
         server_is = pass_server next ds f
             ∙ (update_frame (with_last st.names place.stamp.time) f (with_own own)).server
             ∙ k.server_is;
+        removed_is = pass_removed next ds f
+            ∙ (update_frame (with_last st.names place.stamp.time) f (with_own own)).removed
+            ∙ k.removed_is;
         up = later_time low st.names.last moment _ k.up (placed_last moment ds st f p name);
       }
 
-  returned_makes : (o : Option FileId) → MakesPlaces first server low (returned moment ds st o)
+  returned_makes : (o : Option FileId) → MakesPlaces first server removed low (returned moment ds st o)
   returned_makes None = k
   returned_makes (Some d) = placed_makes d (place_at st.names d).parent (place_at st.names d).name
 
-  moved_makes : (o : Option FileId) → MakesPlaces first server low (moved moment ds st o)
+  moved_makes : (o : Option FileId) → MakesPlaces first server removed low (moved moment ds st o)
   moved_makes None = k
   moved_makes (Some d) = placed_makes d root (tilde_name d)
 
 -- THE HOUSE RULES MAKE PLACES, and the clock does not fall
 pub house_makes : (moment : ℕ) (st : State)
-    → MakesPlaces st.work.made st.names.server st.names.last (house moment st)
+    → MakesPlaces st.work.made st.names.server st.names.removed st.names.last (house moment st)
 house_makes moment st =
     let first = st.work.made in
     let server = st.names.server in
+    let removed = st.names.removed in
     let low = st.names.last in
     let ds = directories st.names in
     let one = pass_all st ds (movable st.names) in
     let same : one.names.last ≡ st.names.last = pass_all_last st ds (movable st.names) in
-    let passes : MakesPlaces first server low one = record {
+    let passes : MakesPlaces first server removed low one = record {
       places = [];
       are = tt;
       made = all_made st ds (movable st.names) ∙ sym (append-nil first);
       server_is = all_server st ds (movable st.names);
+      removed_is = all_removed st ds (movable st.names);
       up = omega arith;
     } in
     let two = repeated (length ds) (return_first moment ds) one in
-    repeated_keeps (MakesPlaces first server low) (break_first moment ds)
-    (λ t l. moved_makes first server low moment ds t l (first_moving t.names (length ds) None ds))
+    repeated_keeps (MakesPlaces first server removed low) (break_first moment ds)
+    (λ t l. moved_makes first server removed low moment ds t l (first_moving t.names (length ds) None ds))
     (length ds) two
-    (repeated_keeps (MakesPlaces first server low) (return_first moment ds)
-    (λ t l. returned_makes first server low moment ds t l (first_returning t.names ds))
+    (repeated_keeps (MakesPlaces first server removed low) (return_first moment ds)
+    (λ t l. returned_makes first server removed low moment ds t l (first_returning t.names ds))
     (length ds) one passes)

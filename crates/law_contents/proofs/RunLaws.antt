@@ -39,6 +39,9 @@ cell_tells w file (cell.Version v) h = h
 message_tells : (w : World) (m : Message)
     → Carries w.history (policies w.journal) (IsNamed w.stores) m → TellsOfHistory w m
 message_tells w (message.Cell ends tag c) h = cell_tells w ends.file c h
+message_tells w (message.Harbinger ends tag head) h = h
+message_tells w (message.Delta ends d) h = (h.0, h.1)
+message_tells w (message.Piece ends q) h = h
 message_tells w (message.Grant ends granted) h = h.0
 message_tells w m h = tt
 

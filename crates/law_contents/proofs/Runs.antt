@@ -14,6 +14,8 @@ use Rattle.law_order.specs.pg_msg.declared.message.Sent.{Sent}
 use Rattle.law_order.specs.pg_msg.declared.update.MadeVersion.{MadeVersion}
 use Rattle.law_order.specs.pg_msg.Work.{new_work}
 use Rattle.law_order.specs.pg_calls.Calls.{do_call}
+use Rattle.law_order.specs.pg_run.Asked.{asked_behind}
+use Rattle.law_order.specs.pg_run.Asking.{Asked}
 use Rattle.law_order.specs.pg_run.Journal.{Born, bag, born_at, mail, message_at, removals}
 use Rattle.law_order.specs.pg_run.Laws.{AtEach}
 use Rattle.law_order.specs.pg_run.Run.{Step, Taking, World, effect_step, idle_step, is_due, is_live, run, start, taking_in, taking_message, took_after, world_after}
@@ -28,7 +30,9 @@ use Rattle.law_order.specs.pg_store.Together.{BirthsMove}
 use Rattle.law_order.specs.pg_store.Store.{is_before_clock_end}
 use Rattle.law_order.proofs.theory_flood_pieces.Choices.{chosen}
 use Rattle.law_contents.specs.Together.{GoTogether, StandOn}
-use Rattle.law_contents.proofs.Carrying.{policies}
+use Rattle.law_contents.proofs.Agreeing.{agrees_behind}
+use Rattle.law_contents.proofs.AsksInputs.{CarriesInput}
+use Rattle.law_contents.proofs.Carrying.{Carries, policies}
 use Rattle.law_contents.proofs.Effects.{IsMaking, IsPassive, call_ended}
 use Rattle.law_contents.proofs.Inputs.{arrived_passive, restart_passive, tick_passive}
 use Rattle.law_contents.proofs.Outcomes.{policies_then}
@@ -47,15 +51,16 @@ policy_input (input.Call moment asked) = policy_named asked
 policy_input _ = None
 
 abbrev pub IsSound : World → Type 0
-IsSound w = Sound w.stores w.history (policies w.journal) w.took (mail w.journal)
+IsSound w = Sound w.stores w.history (policies w.journal) w.took w.asked (mail w.journal)
 
 -- the same of equal parts
 sound_same : {stores : ℕ → Store} {us vs : List Born} {p q : FileId → Policy}
-    {took : ℕ → List Take} {ms : List Sent} → vs ≡ us → ((f : FileId) → q f ≡ p f)
-    → Sound stores us p took ms → Sound stores vs q took ms
-sound_same {stores} {us} {vs} {p} {q} {took} {ms} versions same k =
-    let P : List Born → Type 0 = (λ x. Sound stores x q took ms) in
-    let Q : (FileId → Policy) → Type 0 = (λ x. Sound stores us x took ms) in
+    {took : ℕ → List Take} {wants : ℕ → Asked} {ms : List Sent} → vs ≡ us
+    → ((f : FileId) → q f ≡ p f) → Sound stores us p took wants ms
+    → Sound stores vs q took wants ms
+sound_same {stores} {us} {vs} {p} {q} {took} {wants} {ms} versions same k =
+    let P : List Born → Type 0 = (λ x. Sound stores x q took wants ms) in
+    let Q : (FileId → Policy) → Type 0 = (λ x. Sound stores us x took wants ms) in
     subst P (sym versions) (subst Q (sym (fun_ext same)) k)
 
 -- where no reply says that a file was made, policies stay
@@ -95,7 +100,7 @@ module _ (n : ℕ) (small : n < 2 ^ 32) (w : World)
 
   module _ (e : Event) (s : ℕ) (asked : Input) (least : 1 ≤ s) (most : s ≤ n) where
     -- one server acts
-    server_now : IsServer s (w.stores s) us p N (came_of (w.took s))
+    pub server_now : IsServer s (w.stores s) us p N (came_of (w.took s))
     server_now =
         server_of k s (omega (arith, small, most)) (paired (w.stores s) (both s least most)) (wanted s least most)
 
@@ -103,7 +108,10 @@ module _ (n : ℕ) (small : n < 2 ^ 32) (w : World)
     done = effect (w.stores s) asked
 
     abbrev takes : List Take
-    takes = took_after (w.stores s) (w.took s) asked
+    takes = took_after (w.stores s) (w.asked s) (w.took s) asked
+
+    abbrev asks : Asked
+    asks = asked_behind (w.stores s) (w.asked s) asked
 
     abbrev then_policy : FileId → Policy
     then_policy f = policy_by (is_made f done.out.reply) (policy_asked e) (p f)
@@ -118,20 +126,25 @@ module _ (n : ℕ) (small : n < 2 ^ 32) (w : World)
         subst GoTogether (after_itself w.stores s done.store) (follows.go_together s least most)
 
     -- one server makes no version
-    passive_next : ((f : FileId) → then_policy f ≡ p f)
+    passive_next : CarriesInput us p N asked → ((f : FileId) → then_policy f ≡ p f)
         → IsPassive s (w.stores s) us p N done takes → SoundAfter (effect_step w e s asked)
-    passive_next same act follows =
+    passive_next h same act follows =
         sound_same (ap (λ (vs : List MadeVersion). map (born_at done.store) vs ++ us) act.none) same
-        (passive_sound k s done takes (moved_here follows) act)
+        (passive_sound k s done takes asks (moved_here follows) act
+        (agrees_behind (w.took s) server_now (w.asked s) (k.agreed s) asked h us p (inl refl)
+        act.stands))
 
     -- it makes one
-    making_next : (q : FileId → Policy) → ((f : FileId) → then_policy f ≡ q f)
+    making_next : CarriesInput us p N asked → (q : FileId → Policy)
+        → ((f : FileId) → then_policy f ≡ q f)
         → IsMaking s (w.stores s) us p q N done takes → SoundAfter (effect_step w e s asked)
-    making_next q same act follows =
+    making_next h q same act follows =
         sound_same (ap (λ (vs : List Born). vs ++ us) act.made) same
-        (making_sound k s done takes (moved_here follows) q act
+        (making_sound k s done takes asks (moved_here follows) q act
         (past_now done.store (paired done.store (together_here follows)) act.version act.core act.here
-        act.born))
+        act.born)
+        (agrees_behind (w.took s) server_now (w.asked s) (k.agreed s) asked h (act.version ∷ us) q
+        (inr (act.version, refl, act.next)) act.stands))
 
   -- ---- what is asked
 
@@ -144,16 +157,18 @@ module _ (n : ℕ) (small : n < 2 ^ 32) (w : World)
       (policy_asked e) (p f) ≡ policies_then p asked r.reply f =
       (λ f. ap (λ o. policy_by (is_made f o) (policy_asked e) (p f))
       (call_reply (w.stores s) moment asked) ∙ ap (λ o. policy_by (is_made f (Some r.reply)) o (p f)) same) in
-      elim (call_ended (w.took s) (server_now e s i least most) moment asked) [
-        | inl passive ↦ passive_next e s i least most (λ f. told f ∙ passive.1 f) passive.0
-        | inr making ↦ making_next e s i least most (policies_then p asked r.reply) told making
+      elim (call_ended (w.took s) (server_now e s i least most) (w.asked s) moment asked) [
+        | inl passive ↦ passive_next e s i least most tt (λ f. told f ∙ passive.1 f) passive.0
+        | inr making ↦ making_next e s i least most tt (policies_then p asked r.reply) told making
       ]
 
   quiet_sound : (e : Event) (s : ℕ) (asked : Input) (least : 1 ≤ s) (most : s ≤ n) → policy_asked e ≡ None
-      → IsPassive s (w.stores s) us p N (effect (w.stores s) asked) (took_after (w.stores s) (w.took s) asked)
+      → CarriesInput us p N asked
+      → IsPassive s (w.stores s) us p N (effect (w.stores s) asked)
+      (took_after (w.stores s) (w.asked s) (w.took s) asked)
       → SoundAfter (effect_step w e s asked)
-  quiet_sound e s asked least most none act =
-      passive_next e s asked least most
+  quiet_sound e s asked least most none h act =
+      passive_next e s asked least most h
       (λ f. ap (λ o. policy_by (is_made f (effect (w.stores s) asked).out.reply) o (p f)) none) act
 
   -- WHATEVER IS ASKED
@@ -161,15 +176,18 @@ module _ (n : ℕ) (small : n < 2 ^ 32) (w : World)
       → policy_asked e ≡ policy_input asked → SoundAfter (effect_step w e s asked)
   input_sound e s (input.Call moment asked) least most come same = call_sound e s moment asked least most same
   input_sound e s (input.Tick moment word) least most come same =
-      quiet_sound e s (input.Tick moment word) least most same
-      (tick_passive (w.took s) (server_now e s (input.Tick moment word) least most) moment word)
+      quiet_sound e s (input.Tick moment word) least most same tt
+      (tick_passive (w.took s) (server_now e s (input.Tick moment word) least most) (w.asked s)
+      (k.agreed s) moment word)
   input_sound e s (input.Arrival packet) least most come same =
-      quiet_sound e s (input.Arrival packet) least most same
-      (arrived_passive (w.took s) (server_now e s (input.Arrival packet) least most) packet
-      (All-contains (CarriesSent us p N) (mail w.journal) (record { to = s; packet = packet }) k.carried come))
+      let h : Carries us p N packet.message =
+      All-contains (CarriesSent us p N) (mail w.journal) (record { to = s; packet = packet }) k.carried come in
+      quiet_sound e s (input.Arrival packet) least most same h
+      (arrived_passive (w.took s) (server_now e s (input.Arrival packet) least most) (w.asked s)
+      (k.agreed s) packet h)
   input_sound e s input.Restart least most come same =
-      quiet_sound e s input.Restart least most same
-      (restart_passive (w.took s) (server_now e s input.Restart least most))
+      quiet_sound e s input.Restart least most same tt
+      (restart_passive (w.took s) (server_now e s input.Restart least most) (w.asked s) (k.agreed s))
 
 -- ---- which policy an event names
 

@@ -1,17 +1,23 @@
 -- What a server holds of the contents of all files. It changes at one file at a time.
-use Rattle.std.proofs.Common.{[], ℕ, ◌≡◌, ◌≢◌, ◌<◌, ◌≤◌, ◌^◌, Bool, true, false, cond, List, ◌∷◌, ◌++◌, Option, None, Some, refl, sym, ap, subst, ◌∙◌, inl, inr, ◌⊎◌, arith}
+use Rattle.std.proofs.Common.{[], ℕ, ◌≡◌, ◌≢◌, ◌<◌, ◌≤◌, ◌^◌, Bool, true, false, cond, List, ◌∷◌, ◌++◌, Option, None, Some, length, take, refl, sym, ap, subst, ◌∙◌, inl, inr, ◌⊎◌, arith}
 use Rattle.std.proofs.lemmas.Option.{same_Some}
 use mathlib.Core.Path.{fun_ext}
+use Rattle.law_order.specs.pg_announced.declared.announced.Announced.{Announced}
+use Rattle.law_order.specs.pg_announced.Announced.{AreSorted, NotesValue, key_at, note_at}
+use Rattle.law_order.proofs.pg_announced.Sorted.{sorted_none}
 use Rattle.law_order.specs.pg_base.declared.id.FileId.{FileId}
 use Rattle.law_order.specs.pg_base.declared.policy.Policy.{Policy}
 use Rattle.law_order.specs.pg_base.declared.policy.Policy.TheVariants.{Last}
 use Rattle.law_order.specs.pg_base.declared.stamp.Stamp.{Stamp}
 use Rattle.law_order.specs.pg_base.declared.vector.Actor.{Actor}
 use Rattle.law_order.specs.pg_base.Id.{is_same_file}
-use Rattle.law_order.proofs.pg_base.Orders.{is_same_file-true}
-use Rattle.law_order.specs.pg_content.Content.{Among}
-use Rattle.law_order.specs.pg_content.History.{IsHistory, IsMember, Made, maker}
-use Rattle.law_order.proofs.pg_names.Lookups.{apart_back}
+use Rattle.law_order.specs.pg_content.Content.{Among, body_limit}
+use Rattle.law_order.specs.pg_content.History.{IsHistory, Made, body_of, maker}
+use Rattle.law_order.specs.pg_delta.declared.delta.KeptDelta.{KeptDelta}
+use Rattle.law_order.specs.pg_delta.Leading.{AreTrueDeltas}
+use Rattle.law_order.proofs.pg_delta.Leads.{true_later}
+use Rattle.law_order.proofs.theory_bodies.Computing.{HaveRanges}
+use Rattle.law_order.specs.theory_bodies.Protocol.{IsNoteOf, Note}
 use Rattle.law_order.specs.pg_run.Journal.{Born, made_for, made_of}
 use Rattle.law_order.specs.pg_run.Took.{Take, stamps_taken}
 use Rattle.law_order.specs.pg_store.declared.store.Store.{Store}
@@ -21,9 +27,9 @@ use Rattle.law_order.specs.pg_store.Together.{BirthsMove}
 use Rattle.law_order.specs.pg_names.Names.{is_dir}
 use Rattle.law_order.specs.pg_calls.Forgetting.{is_wanted}
 use Rattle.law_order.proofs.pg_calls.Walked.{full_held}
-use Rattle.law_contents.proofs.Changes.{Alters, Core, Keeps, by_altered, content_in, core_at}
+use Rattle.law_contents.proofs.Changes.{Alters, Core, Keeps, NotesStay, by_altered, content_in, core_at, new_core, noted_at, same_notes}
 use Rattle.law_contents.proofs.Files.{HoldsFile, Stood, none_stood, stood_begun, stood_later}
-use Rattle.law_contents.proofs.Histories.{AreMade, by_file, own_file}
+use Rattle.law_contents.proofs.Histories.{AreMade, by_file, later_body, later_head}
 use Rattle.law_contents.proofs.Sets.{AreMembers}
 
 -- ---- what a server stands for
@@ -40,10 +46,10 @@ abbrev pub with_came : FileId → Stamp → Came → Came
 with_came file stamp came q = cond (is_same_file file q) (stamp ∷ []) [] ++ came q
 
 -- what is held of a thing has this policy
-abbrev Policied : (FileId → Policy) → FileId → Option Core → Type 0
+abbrev pub Policied : (FileId → Policy) → FileId → Option Core → Type 0
 Policied p file o = (k : Core) → o ≡ Some k → k.content.policy ≡ p file
 
-policied_here : (p : FileId → Policy) (file : FileId) (c : Core) → c.content.policy ≡ p file
+pub policied_here : (p : FileId → Policy) (file : FileId) (c : Core) → c.content.policy ≡ p file
     → Policied p file (Some c)
 policied_here p file c same d e =
     let P : Core → Type 0 = (λ x. x.content.policy ≡ p file) in subst P (same_Some c d e) same
@@ -62,9 +68,35 @@ not_by s (Some k) m other by = other (ap (λ (q : Actor). q.server) by)
 abbrev pub StandsAs : ℕ → Option Core → List Made → List Stamp → Type 0
 StandsAs s o h set = Stood (IsBy s o) (content_in o) h set
 
+-- the deltas that a replica keeps are true
+abbrev pub KeepsTrue : (FileId → Policy) → FileId → Option Core → List Made → Type 0
+KeepsTrue p file o h = (k : Core) → o ≡ Some k → AreTrueDeltas (p file) h k.kept
+
+-- and have ranges
+abbrev pub HaveRangesIn : Option Core → Type 0
+HaveRangesIn o = (k : Core) → o ≡ Some k → HaveRanges k.kept
+
+pub ranges_here : (c : Core) → HaveRanges c.kept → HaveRangesIn (Some c)
+ranges_here c ranges d e =
+    let P : Core → Type 0 = (λ x. HaveRanges x.kept) in subst P (same_Some c d e) ranges
+
+-- what is noted of the versions of a file is so of them
+abbrev pub note_of : Announced → Note
+note_of n = record { head = n.head; source = n.source; tag = n.tag; bytes = n.bytes }
+
+abbrev pub NotesTrue : (FileId → Policy) → Store → FileId → List Made → Type 0
+NotesTrue p a file h = (stamp : Stamp) (n : Announced) → noted_at a file stamp ≡ Some n
+    → IsNoteOf (p file) h stamp (note_of n)
+
+pub kept_here : (p : FileId → Policy) (file : FileId) (c : Core) (h : List Made)
+    → AreTrueDeltas (p file) h c.kept → KeepsTrue p file (Some c) h
+kept_here p file c h true_ d e =
+    let P : Core → Type 0 = (λ x. AreTrueDeltas (p file) h x.kept) in
+    subst P (same_Some c d e) true_
+
 -- server s has, of the versions that were made, what those come to that came to it: of what it does
--- not hold none came. What it holds has the policy of its file; and it has come to the times of
--- what came
+-- not hold none came. What it holds has the policy of its file; it has come to the times of what
+-- came; and the deltas that it keeps are true and have ranges, as is true what it notes of versions
 pub record Stands (s : ℕ) (a : Store) (us : List Born) (p : FileId → Policy) (came : Came)
     : Type 0 where
   pub files : (file : FileId) → StandsAs s (core_at a file) (made_for file us) (came file)
@@ -72,6 +104,10 @@ pub record Stands (s : ℕ) (a : Store) (us : List Born) (p : FileId → Policy)
       → k.content.policy ≡ p file
   pub known : (file : FileId) → AreMembers (made_for file us) (came file)
   pub upto : (file : FileId) (t : Stamp) → Among t (came file) → t.time ≤ a.names.last
+  pub kept : (file : FileId) → KeepsTrue p file (core_at a file) (made_for file us)
+  pub ranges : (file : FileId) → HaveRangesIn (core_at a file)
+  pub sorted : AreSorted a.announced
+  pub notes : (file : FileId) → NotesTrue p a file (made_for file us)
 
 module _ {s : ℕ} {a : Store} {us : List Born} {p : FileId → Policy} {came : Came}
     (k : Stands s a us p came) where
@@ -86,6 +122,9 @@ module _ {s : ℕ} {a : Store} {us : List Born} {p : FileId → Policy} {came : 
       → Among t (came file) → t.time ≤ b.names.last
   raised b last file t l = let upto = k.upto file t l in omega arith
 
+  pub notes_kept : (b : Store) → NotesStay a b → (file : FileId) → NotesTrue p b file (made_for file us)
+  notes_kept b stay file stamp n h = k.notes file stamp n ((stay k.sorted).1 file stamp n h)
+
   pub stands_kept : (b : Store) → Keeps a b → Stands s b us p came
   stands_kept b e = record {
     files = λ file. (let P : Option Core → Type 0 =
@@ -94,17 +133,44 @@ module _ {s : ℕ} {a : Store} {us : List Born} {p : FileId → Policy} {came : 
     policies = λ file c h. k.policies file c (sym (e.each file) ∙ h);
     known = k.known;
     upto = raised b e.last;
+    kept = λ file c h. k.kept file c (sym (e.each file) ∙ h);
+    ranges = λ file c h. k.ranges file c (sym (e.each file) ∙ h);
+    sorted = subst AreSorted (sym e.notes) k.sorted;
+    notes = notes_kept b (same_notes a b e.notes);
+  }
+
+  -- other notes, that are true
+  pub stands_noted : (ns : NotesValue) → AreSorted ns
+      → ((file : FileId) → NotesTrue p (record a { announced = ns }) file (made_for file us))
+      → Stands s (record a { announced = ns }) us p came
+  stands_noted ns sorted notes = record {
+    files = k.files;
+    policies = k.policies;
+    known = k.known;
+    upto = k.upto;
+    kept = k.kept;
+    ranges = k.ranges;
+    sorted = sorted;
+    notes = notes;
   }
 
   -- files that are not held get other policies
   pub stands_policy : (q : FileId → Policy)
       → ((file : FileId) (c : Core) → core_at a file ≡ Some c → q file ≡ p file)
+      → ((file : FileId) (m : Made) → Among m (made_for file us) → q file ≡ p file)
       → Stands s a us q came
-  stands_policy q same = record {
+  stands_policy q same made = record {
     files = k.files;
     policies = λ file c e. k.policies file c e ∙ sym (same file c e);
     known = k.known;
     upto = k.upto;
+    kept = λ file c e. subst (λ (x : Policy). AreTrueDeltas x (made_for file us) c.kept)
+        (sym (same file c e)) (k.kept file c e);
+    ranges = k.ranges;
+    sorted = k.sorted;
+    notes = λ file stamp n e. (let is = k.notes file stamp n e in
+        let P : Policy → Type 0 = (λ x. IsNoteOf x (made_for file us) stamp (note_of n)) in
+        subst P (sym (made file is.head.made is.head.among)) is);
   }
 
   -- the same came, in other words
@@ -112,6 +178,28 @@ module _ {s : ℕ} {a : Store} {us : List Born} {p : FileId → Policy} {came : 
   stands_same other same =
       let P : Came → Type 0 = (λ c. Stands s a us p c) in
       subst P (sym (fun_ext same)) k
+
+  -- what is true of versions stays so, where one more was made
+  module _ (u : Born) (history : IsHistory (made_of u ∷ made_for u.made.file us)) where
+    pub deltas_later : (ds : List KeptDelta)
+        → AreTrueDeltas (p u.made.file) (made_for u.made.file us) ds
+        → AreTrueDeltas (p u.made.file) (made_of u ∷ made_for u.made.file us) ds
+    deltas_later ds true_ d l =
+        true_later (p u.made.file) (made_of u) (made_for u.made.file us) history d (true_ d l)
+
+    kept_later : (o : Option Core) → KeepsTrue p u.made.file o (made_for u.made.file us)
+        → KeepsTrue p u.made.file o (made_of u ∷ made_for u.made.file us)
+    kept_later o true_ c e = deltas_later c.kept (true_ c e)
+
+    pub note_later : (stamp : Stamp) (n : Note)
+        → IsNoteOf (p u.made.file) (made_for u.made.file us) stamp n
+        → IsNoteOf (p u.made.file) (made_of u ∷ made_for u.made.file us) stamp n
+    note_later stamp n is = record {
+      head = later_head (p u.made.file) (made_of u) (made_for u.made.file us) history n.head is.head;
+      at = is.at;
+      bytes = is.bytes ∙ ap (take (length n.bytes)) (sym (later_body (p u.made.file) (made_of u)
+          (made_for u.made.file us) history n.head is.head));
+    }
 
   -- another server's write
   pub stands_later : (u : Born) → IsHistory (made_of u ∷ made_for u.made.file us)
@@ -124,15 +212,21 @@ module _ {s : ℕ} {a : Store} {us : List Born} {p : FileId → Policy} {came : 
     known = by_file (λ file h. AreMembers h (came file)) u us
         (λ t l. inr (k.known u.made.file t l)) k.known;
     upto = k.upto;
+    kept = by_file (λ file h. KeepsTrue p file (core_at a file) h) u us
+        (kept_later u history (core_at a u.made.file) (k.kept u.made.file)) k.kept;
+    ranges = k.ranges;
+    sorted = k.sorted;
+    notes = by_file (λ file h. NotesTrue p a file h) u us
+        (λ stamp n e. note_later u history stamp (note_of n) (k.notes u.made.file stamp n e)) k.notes;
   }
 
   -- a replica begins, of what is not held
   module _ (b : Store) (file : FileId) (birth : ℕ) (policy : Policy)
       (begins : Alters a b file
-      (Some (record { birth = birth; content = record { policy = policy; heads = [] } })))
+      (Some (new_core birth policy)))
       (none : core_at a file ≡ None) where
     abbrev NewCore : Core
-    NewCore = record { birth = birth; content = record { policy = policy; heads = [] } }
+    NewCore = new_core birth policy
 
     -- its birth made no version before
     abbrev pub IsUnmade : Type 0
@@ -154,124 +248,39 @@ module _ {s : ℕ} {a : Store} {us : List Born} {p : FileId → Policy} {came : 
               (policied_here p file NewCore same) (λ f apart. k.policies f);
           known = k.known;
           upto = λ f t l. let old = k.upto f t l in omega arith;
+          kept = by_altered (λ f o. KeepsTrue p f o (made_for f us)) a b file (Some NewCore) begins
+              (kept_here p file NewCore (made_for file us) (λ d l. absurd l)) (λ f apart. k.kept f);
+          ranges = by_altered (λ f o. HaveRangesIn o) a b file (Some NewCore) begins
+              (ranges_here NewCore (λ d l. absurd l)) (λ f apart. k.ranges f);
+          sorted = (begins.notes k.sorted).0;
+          notes = notes_kept b begins.notes;
         }
-
--- ---- a version at one file
-
--- a fact on files, by the one at which a version came
-by_came : (P : FileId → Option Core → List Stamp → Type 0) (a b : Store) (file : FileId)
-    (stamp : Stamp) (o : Option Core) (came : Came) → Alters a b file o
-    → P file o (stamp ∷ came file)
-    → ((q : FileId) → is_same_file q file ≡ false → P q (core_at a q) (came q))
-    → (q : FileId) → P q (core_at b q) (with_came file stamp came q)
-by_came P a b file stamp o came alters here there q = at (is_same_file file q) refl
-  where
-    at : (t : Bool) → is_same_file file q ≡ t
-        → P q (core_at b q) (cond t (stamp ∷ []) [] ++ came q)
-    at true e =
-        let Q : FileId → Type 0 = (λ f. P f (core_at b f) (stamp ∷ came f)) in
-        let R : Option Core → Type 0 = (λ d. P file d (stamp ∷ came file)) in
-        subst Q (is_same_file-true file q e) (subst R (sym alters.here) here)
-    at false e =
-        let apart = apart_back file q e in
-        let R : Option Core → Type 0 = (λ d. P q d (came q)) in
-        subst R (sym (alters.others q apart)) (there q apart)
-
--- the clock has come to the times of all that came
-abbrev HasComeTo : Store → Came → Type 0
-HasComeTo a came = (q : FileId) (t : Stamp) → Among t (came q) → t.time ≤ a.names.last
-
-upto_then : (a b : Store) (file : FileId) (o : Option Core) (came : Came) (stamp : Stamp)
-    → Alters a b file o → stamp.time ≤ b.names.last → HasComeTo a came
-    → HasComeTo b (with_came file stamp came)
-upto_then a b file o came stamp alters time old =
-    let up = alters.last in
-    by_came (λ q d set. (t : Stamp) → Among t set → t.time ≤ b.names.last) a b file stamp o came
-    alters
-    (λ t l. elim l [
-      | inl last ↦ (let P : Stamp → Type 0 = (λ x. x.time ≤ b.names.last) in
-          subst P (sym last) time)
-      | inr earlier ↦ (let upto = old file t earlier in omega arith)
-    ])
-    (λ q apart t l. let upto = old q t l in omega arith)
-
-module _ {s : ℕ} {a : Store} {us : List Born} {p : FileId → Policy} {came : Came}
-    (k : Stands s a us p came) (b : Store) (file : FileId) (c : Core)
-    (alters : Alters a b file (Some c)) (stamp : Stamp) (time : stamp.time ≤ b.names.last) where
-  policied : c.content.policy ≡ p file → (f : FileId) → Policied p f (core_at b f)
-  policied same =
-      by_altered (Policied p) a b file (Some c) alters (policied_here p file c same)
-      (λ f apart. k.policies f)
-
-  -- a version that comes
-  pub stands_came
-      : HoldsFile (IsBy s (Some c)) (p file) c.content (made_for file us) (stamp ∷ came file)
-      → IsMember (made_for file us) stamp → Stands s b us p (with_came file stamp came)
-  stands_came here is = record {
-    files = by_came (λ q o set. StandsAs s o (made_for q us) set) a b file stamp (Some c)
-        came alters here.stood (λ q apart. k.files q);
-    policies = policied here.policy;
-    known = by_came (λ q o set. AreMembers (made_for q us) set) a b file stamp (Some c) came alters
-        (λ t l. elim l [
-          | inl last ↦ subst (IsMember (made_for file us)) (sym last) is
-          | inr earlier ↦ k.known file t earlier
-        ])
-        (λ q apart. k.known q);
-    upto = upto_then a b file (Some c) came stamp alters time k.upto;
-  }
-
--- its own write
-module _ {s : ℕ} {a : Store} {us : List Born} {p : FileId → Policy} {came : Came} (u : Born)
-    (k : Stands s a us p came) (b : Store) (c : Core)
-    (alters : Alters a b u.made.file (Some c)) (time : u.made.stamp.time ≤ b.names.last) where
-  abbrev after_write : Came
-  after_write = with_came u.made.file u.made.stamp came
-
-  -- of another file there is no version more
-  same_made : (P : List Made → Type 0) (q : FileId) → is_same_file q u.made.file ≡ false
-      → P (made_for q us) → P (made_for q (u ∷ us))
-  same_made P q apart h =
-      subst (λ t. P (cond t (made_of u ∷ made_for q us) (made_for q us))) (sym apart) h
-
-  pub stands_wrote
-      : HoldsFile (IsBy s (Some c)) (p u.made.file) c.content
-      (made_of u ∷ made_for u.made.file us) (u.made.stamp ∷ came u.made.file)
-      → Stands s b (u ∷ us) p after_write
-  stands_wrote here = record {
-    files =
-        by_came (λ q o set. StandsAs s o (made_for q (u ∷ us)) set) a b u.made.file
-        u.made.stamp (Some c) came alters
-        (subst (λ h. StandsAs s (Some c) h (u.made.stamp ∷ came u.made.file))
-        (sym (own_file u us)) here.stood)
-        (λ q apart. same_made (λ h. StandsAs s (core_at a q) h (came q)) q apart
-        (k.files q));
-    policies = policied k b u.made.file c alters u.made.stamp time here.policy;
-    known =
-        by_came (λ q o set. AreMembers (made_for q (u ∷ us)) set) a b u.made.file u.made.stamp
-        (Some c) came alters
-        (subst (λ h. AreMembers h (u.made.stamp ∷ came u.made.file)) (sym (own_file u us))
-        (λ t l. elim l [
-          | inl last ↦ inl last
-          | inr earlier ↦ inr (k.known u.made.file t earlier)
-        ]))
-        (λ q apart. same_made (λ h. AreMembers h (came q)) q apart (k.known q));
-    upto = upto_then a b u.made.file (Some c) came u.made.stamp alters time k.upto;
-  }
 
 -- a server that has taken nothing: what it holds has no version
 pub new_stands : (s : ℕ) (a : Store) (p : FileId → Policy)
     → ((file : FileId) → (content_in (core_at a file)).heads ≡ [])
     → ((file : FileId) (k : Core) → core_at a file ≡ Some k → k.content.policy ≡ p file)
+    → ((file : FileId) (k : Core) → core_at a file ≡ Some k → k.kept ≡ []) → a.announced ≡ []
     → Stands s a [] p (λ file. [])
-new_stands s a p none policies = record {
+new_stands s a p none policies bare unnoted = record {
   files = λ file. none_stood (IsBy s (core_at a file)) (content_in (core_at a file)) (none file) []
       (λ m l by. l);
   policies = policies;
   known = λ file t l. absurd l;
   upto = λ file t l. absurd l;
+  kept = λ file k e. subst (AreTrueDeltas (p file) []) (sym (bare file k e)) (λ d l. absurd l);
+  ranges = λ file k e. subst HaveRanges (sym (bare file k e)) (λ d l. absurd l);
+  sorted = sorted_none a.announced unnoted;
+  notes = λ file stamp n e. absurd (let z : None ≡ Some n =
+      ap (λ (ns : NotesValue). note_at ns (key_at file stamp)) (sym unnoted) ∙ e in cc);
 }
 
 -- ---- a server of a run
+
+-- no version has a body that is too long
+abbrev pub AreShort : List Born → (FileId → Policy) → Type 0
+AreShort us p = (file : FileId) (m : Made) → Among m (made_for file us)
+    → length (body_of (p file) (made_for file us) m.stamp) ≤ body_limit
 
 -- what else holds of a server before an event: a birth that is to come is of what is not here; what
 -- is held has a replica, and its birth was given out
@@ -323,6 +332,7 @@ pub record IsServer (s : ℕ) (a : Store) (us : List Born) (p : FileId → Polic
   pub paired : IsPaired a
   pub stands : Stands s a us p came
   pub made : AreMade us
+  pub short : AreShort us p
   pub dated : (v : Born) → Among v us → v.made.stamp.server ≡ s
       → v.made.stamp.time ≤ a.names.last
   pub born : (v : Born) → Among v us → v.made.stamp.server ≡ s → IsPast a v

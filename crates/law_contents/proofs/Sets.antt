@@ -37,7 +37,7 @@ within_true h set s e =
       ],
     )
 
-within_by : (h : List Made) (set : List Stamp) (s : Stamp) → IsWithin h set s
+pub within_by : (h : List Made) (set : List Stamp) (s : Stamp) → IsWithin h set s
     → is_within h set s ≡ true
 within_by h set s w =
     any_by (is_up_to h s) set w.0 w.1 (elim w.2 [
@@ -46,7 +46,7 @@ within_by h set s w =
           (is_ancestor-by h s w.0 further)
     ])
 
-abbrev stamp_of_made : Made → Stamp
+abbrev pub stamp_of_made : Made → Stamp
 stamp_of_made m = m.stamp
 
 -- what is taken is one of these versions, or an ancestor of one

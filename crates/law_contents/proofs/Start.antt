@@ -7,9 +7,11 @@ use Rattle.law_order.specs.pg_base.Id.{is_same_file}
 use Rattle.law_order.proofs.pg_base.Orders.{is_same_file-true}
 use Rattle.law_order.specs.pg_register.Place.{root}
 use Rattle.law_order.specs.pg_replica.Root.{first_root}
+use Rattle.law_order.specs.pg_run.Asking.{nobody_asked}
 use Rattle.law_order.specs.pg_run.Took.{first_takes}
 use Rattle.law_order.specs.pg_store.Start.{first_flags}
 use Rattle.law_order.specs.pg_store.Store.{new_store}
+use Rattle.law_contents.proofs.Agreed.{agrees_start}
 use Rattle.law_contents.proofs.Carrying.{policies}
 use Rattle.law_contents.proofs.Changes.{Core, IsOrdered, content_in, core_at, core_of}
 use Rattle.law_contents.proofs.Cores.{put_elsewhere, put_here, put_order}
@@ -39,7 +41,7 @@ none_heads n s file = elim (holds n s file) [
   | inr held ↦ ap (λ (o : Option Core). (content_in o).heads) held.1
 ]
 
-only_root : (n s : ℕ) (file : FileId) (k : Core) → core_at (new_store n s) file ≡ Some k
+pub only_root : (n s : ℕ) (file : FileId) (k : Core) → core_at (new_store n s) file ≡ Some k
     → (file ≡ root) × (k ≡ core_of (first_root s n))
 only_root n s file k e = elim (holds n s file) [
   | inl none ↦ absurd (let z : None ≡ Some k = sym none ∙ e in cc)
@@ -51,7 +53,8 @@ first_stands : (n s : ℕ)
 first_stands n s =
     stands_same
     (new_stands s (new_store n s) (policies []) (none_heads n s)
-    (λ file k e. ap (λ (c : Core). c.content.policy) (only_root n s file k e).1))
+    (λ file k e. ap (λ (c : Core). c.content.policy) (only_root n s file k e).1)
+    (λ file k e. ap (λ (c : Core). c.kept) (only_root n s file k e).1) refl)
     (came_of (first_takes (first_flags n))) (λ q. first_none q (first_flags n))
 
 none_ordered : IsOrdered []
@@ -59,12 +62,15 @@ unfolding IsStrictlySortedBy
 none_ordered = tt
 
 pub sound_start : (n : ℕ)
-    → Sound (new_store n) [] (policies []) (λ s. first_takes (first_flags n)) []
+    → Sound (new_store n) [] (policies []) (λ s. first_takes (first_flags n)) (λ s. nobody_asked)
+    []
 sound_start n = record {
   server = λ s. refl;
   order = λ s. put_order [] root (first_root s n) none_ordered;
   made = none_made;
   stands = first_stands n;
+  short = λ f m l. absurd l;
+  agreed = λ s. agrees_start (new_store n s) [] (came_of (first_takes (first_flags n))) refl;
   dated = λ u l. absurd l;
   born = λ u l. absurd l;
   named = λ u l. absurd l;

@@ -1,9 +1,13 @@
 -- Which versions are among what replicas took: passing brings none, and so does no place or flag that
 -- is made behind the first effect.
-use Rattle.std.proofs.Common.{ℕ, ◌≡◌, List, [], ◌∷◌, ◌++◌, map, refl, ap, ◌∙◌}
+use Rattle.std.proofs.Common.{ℕ, ◌≡◌, List, [], ◌∷◌, ◌++◌, map, Option, None, Some, refl, ap, ◌∙◌}
 use Rattle.std.specs.List.{flat_map}
 use Rattle.std.proofs.lemmas.Grind.{flat_map-append}
+use Rattle.std.proofs.lemmas.List.{append-nil}
 use Rattle.law_order.specs.pg_base.declared.id.FileId.{FileId}
+use Rattle.law_order.specs.pg_base.declared.stamp.Stamp.{Stamp}
+use Rattle.law_order.specs.pg_call.declared.reply.Reply.{Reply}
+use Rattle.law_order.specs.pg_call.declared.reply.Reply.TheVariants as reply
 use Rattle.law_order.specs.pg_register.declared.flag.Flag.{Flag}
 use Rattle.law_order.specs.pg_register.declared.place.Place.{Place}
 use Rattle.law_order.specs.pg_register.Place.{root}
@@ -11,6 +15,7 @@ use Rattle.law_order.specs.pg_house.Returning.{is_root}
 use Rattle.law_order.specs.pg_msg.declared.update.MadeVersion.{MadeVersion}
 use Rattle.law_order.specs.pg_msg.declared.update.Update.{Update}
 use Rattle.law_order.specs.pg_msg.declared.update.Update.TheVariants as update
+use Rattle.law_order.specs.pg_run.Carried.{begun_by}
 use Rattle.law_order.specs.pg_run.Journal.{versions_in}
 use Rattle.law_order.specs.pg_run.Took.{Take, Taker, first_takes, held, stamp_taken_by, stamps_taken, take_of}
 use Rattle.law_order.specs.pg_run.Took.Take.{TookFlag, TookPlace}
@@ -117,3 +122,26 @@ same_versions (update.Version made ∷ us) ps are =
     ap (λ (vs : List MadeVersion). made ∷ vs) (same_versions us ps are)
 same_versions (update.Place file place ∷ us) ps are = same_versions us ps are
 same_versions (update.Flag file flag ∷ us) ps are = same_versions us ps are
+
+-- ---- a call
+
+-- no version is among what begins
+pub begun_none : (q : FileId) (o : Option Reply) → HasNone q (begun_by o)
+begun_none q None = refl
+begun_none q (Some reply.Done) = refl
+begun_none q (Some (reply.Made id)) = refl
+begun_none q (Some (reply.Wrote stamp)) = refl
+begun_none q (Some (reply.Bytes bytes)) = refl
+begun_none q (Some (reply.Names total rows)) = refl
+begun_none q (Some (reply.Stat stat)) = refl
+begun_none q (Some (reply.Leaving server)) = refl
+begun_none q (Some (reply.Status counts)) = refl
+begun_none q (Some (reply.Refused why)) = refl
+
+-- so it brings the versions that were made
+pub brought_made : (f : FileId) (us : List Update) (o : Option Reply)
+    → stamps_taken f (map take_of us ++ begun_by o) ≡ stamps_taken f (map take_of us)
+brought_made f us o =
+    stamps_joined f (map take_of us) (begun_by o)
+    ∙ ap (λ (ts : List Stamp). stamps_taken f (map take_of us) ++ ts) (begun_none f o)
+    ∙ append-nil (stamps_taken f (map take_of us))

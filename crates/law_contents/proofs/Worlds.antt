@@ -7,9 +7,10 @@ use Rattle.law_order.specs.pg_base.declared.id.FileId.{FileId}
 use Rattle.law_order.specs.pg_base.declared.policy.Policy.{Policy}
 use Rattle.law_order.specs.pg_base.declared.policy.Policy.TheVariants.{Last}
 use Rattle.law_order.specs.pg_content.Content.{Among}
-use Rattle.law_order.specs.pg_content.History.{IsHistory}
+use Rattle.law_order.specs.pg_content.History.{IsHistory, Made}
 use Rattle.law_order.specs.theory_flood.World.{after}
 use Rattle.law_order.specs.pg_msg.declared.message.Sent.{Sent}
+use Rattle.law_order.specs.pg_run.Asking.{Asked}
 use Rattle.law_order.specs.pg_run.Journal.{Born, made_for, made_of}
 use Rattle.law_order.specs.pg_run.Took.{Take}
 use Rattle.law_order.specs.pg_server.Local.{Effect}
@@ -19,11 +20,12 @@ use Rattle.law_order.specs.pg_store.Store.{is_held}
 use Rattle.law_order.specs.pg_store.Together.{BirthsMove}
 use Rattle.law_order.proofs.pg_store.Over.{moves_itself}
 use Rattle.law_order.specs.pg_calls.Forgetting.{is_wanted}
+use Rattle.law_contents.proofs.Agreed.{Agrees, agrees_later}
 use Rattle.law_contents.proofs.Changes.{Core, IsOrdered, core_at}
 use Rattle.law_contents.proofs.Effects.{IsMaking, IsPassive}
-use Rattle.law_contents.proofs.Histories.{AreMade, last_history, one_more_made}
+use Rattle.law_contents.proofs.Histories.{AreMade, last_history, one_more_made, update_of}
 use Rattle.law_contents.proofs.Sending.{AllCarry, CarriesSent, all_carry_more, all_carry_names, all_carry_other}
-use Rattle.law_contents.proofs.Servers.{IsNamedBy, IsPaired, IsPast, IsServer, Stands, came_of, past_later, stands_later, stands_policy}
+use Rattle.law_contents.proofs.Servers.{AreShort, IsNamedBy, IsPaired, IsPast, IsServer, Stands, came_of, past_later, stands_later, stands_policy}
 
 -- each version has a time that its server's clock has come to
 abbrev pub AreDated : (ℕ → Store) → List Born → Type 0
@@ -38,15 +40,18 @@ AreBorn stores us = (u : Born) → Among u us → IsPast (stores u.made.stamp.se
 abbrev pub IsNamed : (ℕ → Store) → FileId → Type 0
 IsNamed stores file = file.number ≤ (stores file.server).files
 
--- THE INVARIANT: the versions that were made are histories; each server stands for what came to it;
+-- THE INVARIANT: the versions that were made are histories; each server stands for what came to it,
+-- and what it notes of versions agrees with whom it asked for them;
 -- messages carry versions of the histories, whole, and policies; and whatever has a version, is held
 -- or is granted has an id that was given out. What has none has no policy yet
 pub record Sound (stores : ℕ → Store) (us : List Born) (p : FileId → Policy)
-    (took : ℕ → List Take) (mail : List Sent) : Type 0 where
+    (took : ℕ → List Take) (wants : ℕ → Asked) (mail : List Sent) : Type 0 where
   pub server : (s : ℕ) → (stores s).names.server ≡ s
   pub order : (s : ℕ) → IsOrdered (stores s).replicas
   pub made : AreMade us
   pub stands : (s : ℕ) → Stands s (stores s) us p (came_of (took s))
+  pub short : AreShort us p
+  pub agreed : (s : ℕ) → Agrees (stores s) us (came_of (took s)) (wants s)
   pub dated : AreDated stores us
   pub born : AreBorn stores us
   pub named : (u : Born) → Among u us → IsNamed stores u.made.file
@@ -73,18 +78,38 @@ by_server P stores took s b takes own others t = elim (eqb_tells t s) [
       subst Q (sym at.0) (others t at.1)
 ]
 
+-- the same, with whom it asked
+by_asking : (P : ℕ → Store → List Take → Asked → Type 0) (stores : ℕ → Store)
+    (took : ℕ → List Take) (wants : ℕ → Asked) (s : ℕ) (b : Store) (takes : List Take)
+    (asks : Asked) → P s b takes asks
+    → ((t : ℕ) → t ≢ s → P t (stores t) (took t) (wants t))
+    → (t : ℕ) → P t (after stores s b t) (after took s takes t) (after wants s asks t)
+by_asking P stores took wants s b takes asks own others t = elim (eqb_tells t s) [
+  | inl at ↦
+      let Q : Bool → Type 0 = (λ e. P t (cond e b (stores t)) (cond e takes (took t))
+      (cond e asks (wants t))) in
+      let R : ℕ → Type 0 = (λ j. P j b takes asks) in
+      subst Q (sym at.0) (subst R (sym at.1) own)
+  | inr at ↦
+      let Q : Bool → Type 0 = (λ e. P t (cond e b (stores t)) (cond e takes (took t))
+      (cond e asks (wants t))) in
+      subst Q (sym at.0) (others t at.1)
+]
+
 module _ {stores : ℕ → Store} {us : List Born} {p : FileId → Policy} {took : ℕ → List Take}
-    {mail : List Sent} (k : Sound stores us p took mail) where
+    {wants : ℕ → Asked} {mail : List Sent} (k : Sound stores us p took wants mail) where
   abbrev N : FileId → Type 0
   N file = IsNamed stores file
 
   -- another list of the same messages
-  pub still_sound : (rest : List Sent) → AllCarry us p N rest → Sound stores us p took rest
+  pub still_sound : (rest : List Sent) → AllCarry us p N rest → Sound stores us p took wants rest
   still_sound rest carried = record {
     server = k.server;
     order = k.order;
     made = k.made;
     stands = k.stands;
+    agreed = k.agreed;
+    short = k.short;
     dated = k.dated;
     born = k.born;
     named = k.named;
@@ -104,6 +129,7 @@ module _ {stores : ℕ → Store} {us : List Born} {p : FileId → Policy} {took
       paired = paired;
       stands = k.stands s;
       made = k.made;
+      short = k.short;
       dated = λ v l own. let P : ℕ → Type 0 = (λ j. v.made.stamp.time ≤ (stores j).names.last) in
           subst P own (k.dated v l);
       born = λ v l own. let P : ℕ → Type 0 = (λ j. IsPast (stores j) v) in
@@ -179,11 +205,14 @@ module _ {stores : ℕ → Store} {us : List Born} {p : FileId → Policy} {took
         by_server (λ t c ts. IsOrdered c.replicas) stores took s b takes order
         (λ t other. k.order t)
 
-    module _ (done : Effect) (takes : List Take) (moves : BirthsMove (stores s) done.store) where
+    module _ (done : Effect) (takes : List Take) (asks : Asked)
+        (moves : BirthsMove (stores s) done.store) where
       -- AN EVENT AT WHICH NO VERSION IS MADE
       pub passive_sound : IsPassive s (stores s) us p N done takes
-          → Sound (after stores s done.store) us p (after took s takes) (done.out.sent ++ mail)
-      passive_sound act =
+          → Agrees done.store us (came_of takes) asks
+          → Sound (after stores s done.store) us p (after took s takes) (after wants s asks)
+          (done.out.sent ++ mail)
+      passive_sound act agrees =
           let b = done.store in
           let M = IsNamed (after stores s b) in
           let more = later_named b takes act.server act.last act.files in
@@ -194,6 +223,10 @@ module _ {stores : ℕ → Store} {us : List Born} {p : FileId → Policy} {took
             stands =
                 by_server (λ t c ts. Stands t c us p (came_of ts)) stores took s b takes act.stands
                 (λ t other. k.stands t);
+            short = k.short;
+            agreed =
+                by_asking (λ t c ts ask. Agrees c us (came_of ts) ask) stores took wants s b takes
+                asks agrees (λ t other. k.agreed t);
             dated = later_dated b takes act.server act.last act.files;
             born = later_born b takes moves;
             named = λ u l. more u.made.file (k.named u l);
@@ -206,7 +239,8 @@ module _ {stores : ℕ → Store} {us : List Born} {p : FileId → Policy} {took
           }
 
       module _ (q : FileId → Policy) (act : IsMaking s (stores s) us p q N done takes)
-          (past : IsPast done.store act.version) where
+          (past : IsPast done.store act.version)
+          (agrees : Agrees done.store (act.version ∷ us) (came_of takes) asks) where
         abbrev u : Born
         u = act.version
 
@@ -219,9 +253,15 @@ module _ {stores : ℕ → Store} {us : List Born} {p : FileId → Policy} {took
         history : IsHistory (made_of u ∷ made_for u.made.file us)
         history = last_history u us k.made act.next
 
+        -- of a file that has a version the policy is as it was
+        made_same : (f : FileId) (m : Made) → Among m (made_for f us) → q f ≡ p f
+        made_same f m l =
+            let r = update_of f m us l in act.same f (subst N (sym r.2) (k.named r.0 r.1))
+
         other_stands : (t : ℕ) → t ≢ s → Stands t (stores t) more_made q (came_of (took t))
         other_stands t other =
-            stands_later (stands_policy (k.stands t) q (λ f c e. act.same f (k.held t f c e))) u
+            stands_later
+            (stands_policy (k.stands t) q (λ f c e. act.same f (k.held t f c e)) made_same) u
             history (λ e. other (sym e ∙ act.maker))
 
         abbrev b : Store
@@ -274,7 +314,8 @@ module _ {stores : ℕ → Store} {us : List Born} {p : FileId → Policy} {took
 
         -- AN EVENT AT WHICH ONE IS MADE
         pub making_sound
-            : Sound (after stores s b) more_made q (after took s takes) (done.out.sent ++ mail)
+            : Sound (after stores s b) more_made q (after took s takes) (after wants s asks)
+            (done.out.sent ++ mail)
         making_sound = record {
           server = later_server b takes act.server act.last act.files;
           order = later_order b takes (act.order (k.order s));
@@ -282,6 +323,11 @@ module _ {stores : ℕ → Store} {us : List Born} {p : FileId → Policy} {took
           stands =
               by_server (λ t c ts. Stands t c more_made q (came_of ts)) stores took s b takes
               act.stands other_stands;
+          short = act.short;
+          agreed =
+              by_asking (λ t c ts ask. Agrees c more_made (came_of ts) ask) stores took wants s b
+              takes asks agrees (λ t other. agrees_later (stores t) us (came_of (took t)) (wants t)
+              (k.agreed t) u);
           dated = dated_then;
           born = born_then;
           named = named_then;

@@ -7,6 +7,9 @@ pub use Rattle.law_order.specs.pg_edges as pg_edges
 pub use Rattle.law_order.specs.pg_intent as pg_intent
 pub use Rattle.law_order.specs.pg_names as pg_names
 pub use Rattle.law_order.specs.pg_content as pg_content
+pub use Rattle.law_order.specs.pg_delta as pg_delta
+pub use Rattle.law_order.specs.pg_announced as pg_announced
+pub use Rattle.law_order.specs.theory_bodies as theory_bodies
 pub use Rattle.law_order.specs.pg_replica as pg_replica
 pub use Rattle.law_order.specs.pg_msg as pg_msg
 pub use Rattle.law_order.specs.pg_call as pg_call

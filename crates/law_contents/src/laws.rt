@@ -2,8 +2,11 @@
 
 ghost use Rattle.std.specs.Prelude.{ℕ, ◌<◌, ◌^◌};
 ghost use Rattle.law_contents.specs.Together.{StandOn};
+ghost use Rattle.law_order.specs.pg_run.Bodies.{OneIsAskedAtATime};
+ghost use Rattle.law_order.specs.pg_run.Deltas.{KeepsWhatItMadeOrTook};
 ghost use Rattle.law_order.specs.pg_run.Histories.{AncestryByVectors, CarriesHistory, ClockEndsFirst, HistoryIsWhatWasMade, MakesHistories, OneVersionAStamp, StateIsDetermined, StateIsItsHeads};
 ghost use Rattle.law_order.specs.pg_run.Laws.{HoldsWhatItTook};
+ghost use Rattle.law_order.specs.pg_run.Noted.{SourcesAnnounced};
 
 /// What a server holds of a file's content is the state of exactly the versions that it took,
 /// whatever was lost, repeated or late.
@@ -36,4 +39,22 @@ pub fn runs_make_histories()
 /// Numbers of versions never end before the clock does.
 pub fn clocks_end_first()
     ensures { (servers : ℕ) → servers < 2 ^ 32 → StandOn servers → ClockEndsFirst servers }
+{}
+
+/// Who is asked for a version that a server notes announced it to that server: just that version,
+/// under just the tag that is noted.
+pub fn sources_announced()
+    ensures { (servers : ℕ) → servers < 2 ^ 32 → StandOn servers → SourcesAnnounced servers }
+{}
+
+/// The deltas that a replica keeps are the latest of those of the versions that it made, or took as
+/// a change of just its heads.
+pub fn kept_deltas_are_latest()
+    ensures { (servers : ℕ) → servers < 2 ^ 32 → StandOn servers
+        → KeepsWhatItMadeOrTook servers }
+{}
+
+/// While the last Want of a server for a version counts, it sends none for it to another server.
+pub fn one_is_asked()
+    ensures { (servers : ℕ) → servers < 2 ^ 32 → StandOn servers → OneIsAskedAtATime servers }
 {}

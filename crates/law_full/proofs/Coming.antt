@@ -46,8 +46,9 @@ use Rattle.pg_run.specs.pg_graph.Leaving.{leave, leave_given, leave_ok, without_
 use Rattle.pg_run.proofs.pg_graph.LeaveOk.{MayGo, byes_by, leave_ok_by}
 use Rattle.pg_run.proofs.theory_flood_pieces.Choices.{chosen, decided}
 use Rattle.pg_run.proofs.Bags.{All-every}
+use Rattle.pg_run.proofs.Transfers.{KeepsTransfers, delta_keeps, harbinger_keeps, later_keeps, piece_keeps, want_keeps}
 use Rattle.law_full.proofs.Losing.{few_kept, fill_kept}
-use Rattle.law_full.proofs.Pieces.{AreKept, begin_kept, entry_kept, flags_kept, link_kept, place_kept, taken_kept, unlink_kept}
+use Rattle.law_full.proofs.Pieces.{AreKept, begin_kept, entry_kept, flags_kept, link_kept, place_kept, taken_kept, unlink_kept, version_kept}
 
 -- what a message from a server may bring one that holds this, and that where its replica goes with leave names keep it
 pub record MayCome (P : NamesValue → Type 0) (Places : FileId → Place → Type 0) (Begins : FileId → Attributes → Bool → Type 0) (Fills : FileId → Type 0) (a : Store) (from : ℕ) (m : Message) : Type 0 where
@@ -180,15 +181,31 @@ module _ (P : NamesValue → Type 0) (Places : FileId → Place → Type 0) (Beg
       (λ may. byes_by OfDone (λ (e : Edge). Unit {0}) ends.file (birth_of b ends.file) (λ d e one so. so)
       (replica_of b ends.file).edges (All-every (λ (e : Edge). Unit {0}) (replica_of b ends.file).edges (λ e. tt)) (idle (let_go b ends.file) work) (gone may))
 
+  -- ---- bodies on demand: a version may be taken
+
+  bodies_kept : (ends : Ends) → KeepsTransfers ends OfDone
+  bodies_kept ends = record {
+    notes = λ d ns so. so;
+    keeps = λ d delta so. so;
+    takes = λ d v so. version_kept P Places Begins Fills k d.store ends.file v so;
+    answers = λ d m is so. so;
+    tells = λ d head e is so. so;
+  }
+
   -- A MESSAGE
   pub receive_kept : (m : Message) (work : Work) → MayCome P Places Begins Fills a work.from m → OfDone (receive a m work)
   receive_kept (message.Cell ends tag c) work may = cell_kept ends tag c work (λ p same. may.cell ends tag p (ap (message.Cell ends tag) same))
   receive_kept (message.Ack ends q tag) work may = h
-  receive_kept (message.Harbinger ends tag head) work may = h
-  receive_kept (message.Want ends wanted) work may = h
-  receive_kept (message.Delta ends delta) work may = h
-  receive_kept (message.Piece ends piece) work may = h
-  receive_kept (message.Later ends stamp) work may = h
+  receive_kept (message.Harbinger ends tag head) work may =
+      harbinger_keeps ends OfDone (bodies_kept ends) a work h tag head (accept_kept ends manner.Makes work)
+  receive_kept (message.Want ends wanted) work may =
+      want_keeps ends OfDone (bodies_kept ends) a work h wanted (accept_kept ends manner.Needs work)
+  receive_kept (message.Delta ends delta) work may =
+      delta_keeps ends OfDone (bodies_kept ends) a work h delta (accept_kept ends manner.Answers work)
+  receive_kept (message.Piece ends piece) work may =
+      piece_keeps ends OfDone (bodies_kept ends) a work h piece (accept_kept ends manner.Answers work)
+  receive_kept (message.Later ends stamp) work may =
+      later_keeps ends OfDone (bodies_kept ends) a work h stamp (accept_kept ends manner.Answers work)
   receive_kept (message.Fetch file birth) work may = fetch_kept file birth work
   receive_kept (message.Grant ends granted) work may = grant_kept ends granted work (may.grant ends granted refl)
   receive_kept (message.NoGrant file birth) work may = no_grant_kept file birth work

@@ -53,6 +53,7 @@ use Rattle.pg_run.specs.Known.{CarriedIsKnown, PlacesHaveOwnStamps}
 use Rattle.pg_run.specs.Laws.{AtEach, TakesIn}
 use Rattle.pg_run.specs.Run.{World, effect_step, next, run, start, world_after}
 use Rattle.pg_run.proofs.Frame.{HasCome}
+use Rattle.pg_run.proofs.Ticked.{tick_store}
 use Rattle.pg_run.specs.pg_server.declared.input.Input.{Input}
 use Rattle.pg_run.specs.pg_server.declared.input.Input.TheVariants as input
 use Rattle.pg_run.specs.pg_server.Local.{effect, first_effect}
@@ -200,7 +201,9 @@ module _ (n : ℕ) (w : World) (stands : Stands n w) (filled : AreFilled n w) (e
     first_full : (x : Input) → HasCome w s x → FullIf Here file (Told x) (first_effect Here x).store.names
     first_full (input.Call moment c) is =
         call_kept (FullIf Here file ⊥) Here (new_work moment 0) (calls_full Here file ⊥ (stands.lists s least most) (new_work moment 0)) (begins_full (input.Call moment c) is) c
-    first_full (input.Tick moment word) is = begins_full (input.Tick moment word) is
+    first_full (input.Tick moment word) is =
+        let now = begins_full (input.Tick moment word) is in
+        tick_store Here moment word (λ (b : Store). FullIf Here file ⊥ b.names) now now
     first_full (input.Arrival packet) is =
         let T = Fills packet.message in
         let now = begins_full (input.Arrival packet) is in
@@ -262,18 +265,21 @@ module _ (n : ℕ) (w : World) (stands : Stands n w) (filled : AreFilled n w) (e
         subst (λ (i : ℕ). IsSo (Later i) ends) (sym from) (later_so packet.from ends there));
   }
 
+  plain_says : (x : Sent) → is_plain x.packet.message ≡ true → Says x
+  plain_says x plain ends same = absurd (no_full x.packet.message ends plain same)
+
   sent_says : All Says (effect Here asked).out.sent
   sent_says = effect_sends Says Here asked (record {
-    plain = λ x plain ends same. absurd (no_full x.packet.message ends plain same);
+    plain = plain_says;
     replies = replies;
-    cells_before = λ wanted. all_cells Says Here (λ f birth e c tag ends same. absurd (cell_no_full _ ends tag c same)) wanted;
-    cells_behind = λ wanted. all_cells Says End (λ f birth e c tag ends same. absurd (cell_no_full _ ends tag c same)) wanted;
+    cells_before = λ wanted. all_cells Says plain_says Here (λ p e c tag ends same. absurd (cell_no_full p ends tag c same)) wanted;
+    cells_behind = λ wanted. all_cells Says plain_says End (λ p e c tag ends same. absurd (cell_no_full p ends tag c same)) wanted;
     asked_before = λ i d lt. asks_none Here (get_or Here.intents i d);
     asked_behind = λ q. asked_none q (intent_at End.intents q);
   })
     where
       asks_none : (b : Store) (i : Intent) → All Says (asks b i)
-      asks_none b i = asks_are Says (λ x plain ends same. absurd (no_full x.packet.message ends plain same)) b i (λ dir child target e is there to ends same. absurd (confirm_no_full dir e ends same))
+      asks_none b i = asks_are Says plain_says b i (λ dir child target e is there to ends same. absurd (confirm_no_full dir e ends same))
 
       asked_none : (q : IntentKey) (o : Option Intent) → All Says (pieces (asks End) o)
       asked_none q None = All-nil Says

@@ -5,6 +5,7 @@ use Rattle.std.specs.Prelude.{nat_lt}
 use Rattle.pg_run.specs.pg_base.declared.id.FileId.{FileId}
 use Rattle.pg_run.specs.pg_edges.declared.edge.Edge.{Edge}
 use Rattle.pg_run.specs.pg_entries.declared.cell.Cell.{Cell}
+use Rattle.pg_run.specs.pg_entries.declared.cell.Cell.TheVariants as cell
 use Rattle.pg_run.specs.pg_msg.declared.message.Ask.TheVariants as ask
 use Rattle.pg_run.specs.pg_msg.declared.message.Ends.{Ends}
 use Rattle.pg_run.specs.pg_msg.declared.message.Granted.{Granted}
@@ -34,8 +35,9 @@ use Rattle.pg_run.specs.pg_graph.Seeking.{answered_seek, seek}
 use Rattle.pg_run.specs.pg_graph.Walks.{edges_of, goes_on, meet_origin, most_hops, onward, walk, walk_along, walk_from, walk_of, walk_of_tick, walk_on, walked, with_few_edges}
 use Rattle.pg_run.specs.pg_server.Local.{receive}
 use Rattle.pg_run.proofs.theory_flood_pieces.Choices.{chosen, decided}
+use Rattle.pg_run.proofs.Transfers.{IsAnswer, KeepsTransfers, delta_keeps, harbinger_keeps, later_keeps, piece_keeps, want_keeps}
 use Rattle.law_full.proofs.Plain.{confirm_sends, leave_ok_sends, leave_sends, place_is_sends, plain_sends, tell_sends}
-use Rattle.law_full.proofs.Works.{IsClosed, link_sends, made_sends, taken_sends}
+use Rattle.law_full.proofs.Works.{IsClosed, is_plain, link_sends, made_sends, taken_sends}
 
 -- a property of what comes of an event that grants keep, and, where a server that holds this is asked for a replica, what
 -- it says is full once it has linked who asks
@@ -45,6 +47,15 @@ pub record MayAnswer (Q : Work → Type 0) (a : Store) (w : Work) (m : Message) 
   pub full : (file : FileId) (birth : ℕ) → m ≡ message.Fetch file birth → is_full a file ≡ true
       → let d = link_peer a file w.from birth w in is_clean d.store file d.work.from birth ≡ true
       → Q d.work → Q (with_sent d.work (sent_to d.store d.work.from (message.Full (ends_to d.store file birth))))
+
+-- what asks for bodies and what answers that is plain
+answer_plain : (ends : Ends) (m : Message) → IsAnswer ends m → is_plain m ≡ true
+answer_plain ends (message.Want e wanted) is = refl
+answer_plain ends (message.Delta e d) is = refl
+answer_plain ends (message.Piece e p) is = refl
+answer_plain ends (message.Later e stamp) is = refl
+answer_plain ends (message.Ack e q tag) is = refl
+answer_plain ends m is = absurd is
 
 module _ (Q : Work → Type 0) (k : IsClosed Q) where
   abbrev DoneSends : Done → Type 0
@@ -80,6 +91,16 @@ module _ (Q : Work → Type 0) (k : IsClosed Q) where
       chosen DoneSends (fits ends.file c) (cond accepted (taken_along ends tag c met_first) met_first) (idle a w)
       (chosen DoneSends accepted (taken_along ends tag c met_first) met_first
       (plain_sends Q k done.store done.work.from (message.Ack _ _ tag) done.work refl (taken_sends Q k met_first.store ends.file c met_first.work first)) first) h
+
+  -- bodies on demand
+  bodies_send : (ends : Ends) → KeepsTransfers ends DoneSends
+  bodies_send ends = record {
+    notes = λ d ns so. so;
+    keeps = λ d delta so. so;
+    takes = λ d v so. taken_sends Q k d.store ends.file (cell.Version v) d.work so;
+    answers = λ d m is so. plain_sends Q k d.store d.work.from m d.work (answer_plain ends m is) so;
+    tells = λ d head e is so. plain_sends Q k d.store e.peer _ d.work refl so;
+  }
 
   pub raise_sends : (a : Store) (f : FileId) (w : Work) → Q w → DoneSends (raise_flag a f w)
   raise_sends a f w h = made_sends Q k a f (own_next a f true) w h
@@ -179,11 +200,16 @@ module _ (Q : Work → Type 0) (k : IsClosed Q) (a : Store) (w : Work) (h : Q w)
   pub receive_sends : (m : Message) → MayAnswer Q a w m → Sent_by (receive a m w)
   receive_sends (message.Cell ends tag c) may = cell_sends Q k a ends tag c w h
   receive_sends (message.Ack ends q tag) may = h
-  receive_sends (message.Harbinger ends tag head) may = h
-  receive_sends (message.Want ends wanted) may = h
-  receive_sends (message.Delta ends delta) may = h
-  receive_sends (message.Piece ends piece) may = h
-  receive_sends (message.Later ends stamp) may = h
+  receive_sends (message.Harbinger ends tag head) may =
+      harbinger_keeps ends Sent_by (bodies_send Q k ends) a w h tag head (accept_sends Q k a ends manner.Makes w h)
+  receive_sends (message.Want ends wanted) may =
+      want_keeps ends Sent_by (bodies_send Q k ends) a w h wanted (accept_sends Q k a ends manner.Needs w h)
+  receive_sends (message.Delta ends delta) may =
+      delta_keeps ends Sent_by (bodies_send Q k ends) a w h delta (accept_sends Q k a ends manner.Answers w h)
+  receive_sends (message.Piece ends piece) may =
+      piece_keeps ends Sent_by (bodies_send Q k ends) a w h piece (accept_sends Q k a ends manner.Answers w h)
+  receive_sends (message.Later ends stamp) may =
+      later_keeps ends Sent_by (bodies_send Q k ends) a w h stamp (accept_sends Q k a ends manner.Answers w h)
   receive_sends (message.Fetch file birth) may = fetch_sends file birth may
   receive_sends (message.Grant ends granted) may = grant_sends Q k a ends granted w h
   receive_sends (message.NoGrant file birth) may = h

@@ -17,7 +17,7 @@ use Rattle.pg_run.specs.pg_store.declared.store.Store.{Store}
 use Rattle.pg_run.specs.pg_names.declared.attributes.Attributes.{Attributes}
 use Rattle.pg_run.specs.pg_replica.declared.replica.Replica.{Replica}
 use Rattle.pg_run.specs.pg_store.Links.{is_clean}
-use Rattle.pg_run.specs.pg_store.Store.{is_full, is_before_clock_end}
+use Rattle.pg_run.specs.pg_store.Store.{is_full}
 use Rattle.pg_run.specs.pg_pieces.Accepting.{link_peer}
 use Rattle.pg_run.specs.pg_pieces.Posting.{sent_to}
 use Rattle.pg_run.specs.pg_repair.Fetching.{ends_to, granted_from}
@@ -27,9 +27,10 @@ use Rattle.pg_run.specs.pg_cells.Ticks.{tick}
 use Rattle.pg_run.specs.pg_intentions.Requests.{ask_all, asks, asks_by}
 use Rattle.pg_run.specs.pg_server.declared.input.Input.{Input}
 use Rattle.pg_run.specs.pg_server.declared.input.Input.TheVariants as input
-use Rattle.pg_run.specs.pg_server.Local.{effect, first_effect, is_heard, receive, sent_again}
+use Rattle.pg_run.specs.pg_server.Local.{effect, first_effect, is_heard, receive}
 use Rattle.pg_run.proofs.theory_flood_pieces.Choices.{All-flat_map, chosen}
 use Rattle.pg_run.proofs.Event.{all_sent, end_of, store_is}
+use Rattle.pg_run.proofs.Ticked.{tick_work}
 use Rattle.law_full.proofs.Called.{call_sends}
 use Rattle.law_full.proofs.Replies.{MayAnswer, receive_sends, tick_sends}
 use Rattle.law_full.proofs.Works.{IsClosed, is_plain}
@@ -91,8 +92,8 @@ module _ (P : Sent → Type 0) (a : Store) where
       call_sends OfWork (sent_closed may.plain) a (new_work moment 0) (record { place = λ f p so h. h; version = λ v u h. h }) (none_sent moment 0) c
   first_sends e (input.Tick moment word) may =
       let w = new_work moment 0 in
-      chosen OfWork (is_before_clock_end a) (sent_again a word w) w
-      (tick_sends OfWork (sent_closed may.plain) a word (ask_all a (tick a w)) (again_sends e (input.Tick moment word) may moment, All-nil P)) (none_sent moment 0)
+      tick_work a moment word OfWork (none_sent moment 0)
+      (λ early. tick_sends OfWork (sent_closed may.plain) a word (ask_all a (tick a w)) (again_sends e (input.Tick moment word) may moment, All-nil P))
   first_sends e (input.Arrival packet) may =
       let w = new_work 0 packet.from in
       chosen OfDone (is_heard a packet) (receive a packet.message w) (idle a w)

@@ -1,13 +1,17 @@
 -- What cells and the messages of intentions are.
 use Rattle.std.proofs.Common.{ℕ, ◌≡◌, ◌==◌, true, [], get_or, Option, None, Some, All, refl}
+use Rattle.std.specs.Prelude.{nat_lt}
 use Rattle.std.proofs.lemmas.List.Elements.{All-cons, All-nil}
+use Rattle.pg_run.specs.pg_base.declared.head.Head.{Head}
 use Rattle.pg_run.specs.pg_base.declared.id.FileId.{FileId}
 use Rattle.pg_run.specs.pg_edges.declared.edge.Edge.{Edge}
 use Rattle.pg_run.specs.pg_entries.declared.cell.Cell.{Cell}
+use Rattle.pg_run.specs.pg_entries.declared.cell.Cell.TheVariants as cell
 use Rattle.pg_run.specs.pg_entries.declared.entry.Entry.{Entry}
 use Rattle.pg_run.specs.pg_intent.declared.intent.Intent.{Intent}
 use Rattle.pg_run.specs.pg_intent.declared.intent.Intent.TheVariants as intent
 use Rattle.pg_run.specs.pg_intent.Intent.{target_of}
+use Rattle.pg_run.specs.pg_msg.declared.message.Ends.{Ends}
 use Rattle.pg_run.specs.pg_msg.declared.message.Message.{Message}
 use Rattle.pg_run.specs.pg_msg.declared.message.Message.TheVariants as message
 use Rattle.pg_run.specs.pg_msg.declared.message.Sent.{Sent}
@@ -15,7 +19,7 @@ use Rattle.pg_run.specs.pg_names.declared.attributes.Attributes.{Attributes}
 use Rattle.pg_run.specs.pg_names.Names.{cell_at as entry_at, own_at}
 use Rattle.pg_run.specs.pg_store.declared.store.Store.{Store}
 use Rattle.pg_run.specs.pg_pieces.Posting.{sent_to}
-use Rattle.pg_run.specs.pg_cells.Sending.{Wanted, cell_to, cells_where}
+use Rattle.pg_run.specs.pg_cells.Sending.{Wanted, cells_where, told_as}
 use Rattle.pg_run.specs.pg_intentions.Requests.{asked_of, asks, confirm_message, leave_message, request}
 use Rattle.pg_run.proofs.theory_flood_pieces.Choices.{chosen}
 use Rattle.pg_run.proofs.Event.{cells_have}
@@ -23,8 +27,31 @@ use Rattle.law_full.proofs.Works.{is_plain}
 
 -- ---- cells
 
-module _ (P : Sent → Type 0) (a : Store) (each : (f : FileId) (birth : ℕ) (e : Edge) (c : Cell) (tag : ℕ) → P (cell_to a f birth e c tag)) where
-  -- what holds of each cell that may be sent holds of all that are
+no_harbinger : (p q : Ends) (tag time : ℕ) (head : Head) (c : Cell) → message.Harbinger p tag head ≡ message.Cell q time c → ⊥
+no_harbinger p q tag time head c h = cc
+
+-- what tells of a cell as a whole is that cell
+pub told_whole : (p q : Ends) (tag time : ℕ) (c d : Cell) → told_as p tag c ≡ message.Cell q time d → message.Cell p tag c ≡ message.Cell q time d
+told_whole p q tag time (cell.Place place) d h = h
+told_whole p q tag time (cell.Flag flag) d h = h
+told_whole p q tag time (cell.Entry entry sure) d h = h
+told_whole p q tag time (cell.Version v) d h =
+    chosen (λ (m : Message). m ≡ message.Cell q time d → message.Cell p tag (cell.Version v) ≡ message.Cell q time d) (nat_lt 1024 v.head.length)
+    (message.Harbinger p tag v.head) (message.Cell p tag (cell.Version v)) (λ e. absurd (no_harbinger p q tag time v.head d e)) (λ e. e) h
+
+module _ (P : Sent → Type 0) (plain : (x : Sent) → is_plain x.packet.message ≡ true → P x) (a : Store)
+    (each : (ends : Ends) (e : Edge) (c : Cell) (tag : ℕ) → P (sent_to a e.peer (message.Cell ends tag c))) where
+  -- what tells of a cell is the cell, or a harbinger
+  told_so : (ends : Ends) (e : Edge) (c : Cell) (tag : ℕ) → P (sent_to a e.peer (told_as ends tag c))
+  told_so ends e (cell.Place place) tag = each ends e (cell.Place place) tag
+  told_so ends e (cell.Flag flag) tag = each ends e (cell.Flag flag) tag
+  told_so ends e (cell.Entry entry sure) tag = each ends e (cell.Entry entry sure) tag
+  told_so ends e (cell.Version v) tag =
+      let m = message.Harbinger ends tag v.head in
+      chosen (λ (m : Message). P (sent_to a e.peer m)) (nat_lt 1024 v.head.length) m (message.Cell ends tag (cell.Version v))
+      (plain (sent_to a e.peer m) refl) (each ends e (cell.Version v) tag)
+
+  -- what holds of each cell that may be sent, and of what is plain, holds of all that is told of cells
   pub all_cells : (wanted : Wanted) → All P (cells_where a wanted)
   all_cells wanted =
       cells_have P a wanted
@@ -32,7 +59,7 @@ module _ (P : Sent → Type 0) (a : Store) (each : (f : FileId) (birth : ℕ) (e
       let r = get_or a.replicas i d in
       (λ j b l.
       let e = get_or r.1.edges j b in
-      (λ k q t. (λ c is free. each r.0 r.1.birth e c (get_or e.keys k q).1))))
+      (λ k q t. (λ c is free. told_so (record { file = r.0; sender = r.1.birth; receiver = e.birth }) e c (get_or e.keys k q).1))))
 
 -- ---- intentions
 

@@ -37,7 +37,7 @@ use Rattle.law_contents.proofs.theory_flood_pieces.Front.{house_sent, house_tail
 use Rattle.law_contents.proofs.theory_flood_pieces.Grown.{grown_by_steps}
 use Rattle.law_contents.proofs.theory_flood_pieces.Settling.{goldless_own, rules_steps, whole_raised, whole_rules}
 use Rattle.law_contents.specs.pg_server.declared.input.Input.{Input}
-use Rattle.law_contents.specs.pg_server.Local.{effect, first_effect, intended, receive, sent_again, settled, takes_effect, without_volatile}
+use Rattle.law_contents.specs.pg_server.Local.{effect, first_effect, intended, receive, settled, takes_effect, ticked, without_sources, without_volatile}
 use Rattle.law_contents.proofs.pg_run.Event.{Comes, all_sent, end_of, end_sent, end_tail, first_has}
 use Rattle.law_births.specs.Flags.{AnyBye, SaysMessage, SaysStore}
 use Rattle.law_births.proofs.Here.{birth_of_held}
@@ -45,6 +45,7 @@ use Rattle.law_births.proofs.Intends.{begin_end_goes}
 use Rattle.law_births.proofs.Pieces.{rules_stay}
 use Rattle.law_births.proofs.StoreSays.{say_begin_end, say_rules}
 use Rattle.law_contents.proofs.Rules.{ArePlaces, house_makes}
+use Rattle.law_golds.proofs.Bodies.{said_delta, said_harbinger, said_later, said_piece, said_want}
 use Rattle.law_golds.proofs.Calling.{call_fine}
 use Rattle.law_golds.proofs.Filling.{MayGo, full_fine, invite_fine, still}
 use Rattle.law_golds.proofs.Fine.{IsFine, Knows, NoFlags, SameMade, fine_flag, fine_silent, no_flags, no_more, same_made}
@@ -110,15 +111,20 @@ module _ (n s : ℕ) (a : Store) (asked : Input) (Q : FileId → Flag → Type 0
   stays moment from d h =
       still Q s a together (new_work moment from) (start_fine moment from) no_flags [] no_flags d h
 
-  ticked : (moment word : ℕ) → Says Q s [] (idle a (sent_again a word (new_work moment 0)))
-  ticked moment word =
-      said_walk_of_tick Q s [] a word (ask_all a (tick a (new_work moment 0)))
+  -- what is noted of versions says nothing of flags
+  released_says : SaysStore Q AnyBye s (without_sources a)
+  released_says = record { names = k.names; intents = k.intents }
+
+  ticks_say : (moment word : ℕ) → Says Q s [] (ticked a word (new_work moment 0))
+  ticks_say moment word =
+      let b = without_sources a in
+      said_walk_of_tick Q s [] b word (ask_all b (tick b (new_work moment 0)))
       (record {
-        store = k;
-        sent = All-append (SaysSent Q) ([] ++ cells_where a is_any) (flat_map (asks a) a.intents)
-            (All-append (SaysSent Q) [] (cells_where a is_any) (All-nil (SaysSent Q))
-            (cells_say Q s a k is_any))
-            (asks_all Q s a k);
+        store = released_says;
+        sent = All-append (SaysSent Q) ([] ++ cells_where b is_any) (flat_map (asks b) b.intents)
+            (All-append (SaysSent Q) [] (cells_where b is_any) (All-nil (SaysSent Q))
+            (cells_say Q s b released_says is_any))
+            (asks_all Q s b released_says);
         tail = All-nil (SaysSent Q);
         made = refl;
       })
@@ -128,6 +134,16 @@ module _ (n s : ℕ) (a : Store) (asked : Input) (Q : FileId → Flag → Type 0
       stays 0 from _ (said_cell Q s [] a ends tag c (new_work 0 from) says (start_says 0 from))
   received from (message.Ack ends q tag) says =
       stays 0 from _ (said_ack Q s [] a ends q tag (new_work 0 from) (start_says 0 from))
+  received from (message.Harbinger ends tag head) says =
+      stays 0 from _ (said_harbinger Q s [] a ends (new_work 0 from) (start_says 0 from) tag head)
+  received from (message.Want ends wanted) says =
+      stays 0 from _ (said_want Q s [] a ends (new_work 0 from) (start_says 0 from) wanted)
+  received from (message.Delta ends x) says =
+      stays 0 from _ (said_delta Q s [] a ends (new_work 0 from) (start_says 0 from) x)
+  received from (message.Piece ends p) says =
+      stays 0 from _ (said_piece Q s [] a ends (new_work 0 from) (start_says 0 from) p)
+  received from (message.Later ends stamp) says =
+      stays 0 from _ (said_later Q s [] a ends (new_work 0 from) (start_says 0 from) stamp)
   received from (message.Fetch file birth) says =
       stays 0 from _ (said_fetch Q s [] a file birth (new_work 0 from) (start_says 0 from))
   received from (message.Grant ends granted) says =
@@ -166,7 +182,6 @@ module _ (n s : ℕ) (a : Store) (asked : Input) (Q : FileId → Flag → Type 0
       stays 0 from _ (said_walk Q s [] a ends origin birth hops word (new_work 0 from) (start_says 0 from))
   received from (message.Meet ends) says =
       stays 0 from _ (said_accept Q s [] a ends (new_work 0 from) (start_says 0 from))
-  received from m says = stays 0 from (idle a (new_work 0 from)) (start_says 0 from)
 
   pub first_fine : Comes (SaysPacket Q) asked → May First
   first_fine came =
@@ -175,7 +190,7 @@ module _ (n s : ℕ) (a : Store) (asked : Input) (Q : FileId → Flag → Type 0
             call_fine Q s a together away (new_work moment 0) (start_fine moment 0) no_flags
             (start_says moment 0) c;
         ticks = λ moment word going.
-            stays moment 0 (idle a (sent_again a word (new_work moment 0))) (ticked moment word);
+            stays moment 0 (ticked a word (new_work moment 0)) (ticks_say moment word);
         arrivals = λ packet heard says. received packet.from packet.message says;
         restarts = stays 0 0 (idle (without_volatile a) (new_work 0 0)) (record {
           store = record { names = k.names; intents = k.intents };

@@ -1,5 +1,6 @@
 pub mod Says
 pub mod Received
+pub mod Bodies
 pub mod Known
 pub mod Kept
 pub mod Own

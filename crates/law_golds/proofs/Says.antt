@@ -4,7 +4,6 @@ use Rattle.std.proofs.lemmas.List.Elements.{All-head, All-push, All-tail}
 use Rattle.law_contents.specs.pg_base.declared.id.FileId.{FileId}
 use Rattle.law_contents.specs.pg_base.Version.{VersionValue}
 use Rattle.law_contents.specs.pg_entries.declared.entry.Entry.{Entry}
-use Rattle.law_contents.specs.pg_msg.declared.message.Ask.{Ask}
 use Rattle.law_contents.specs.pg_msg.declared.message.Ends.{Ends}
 use Rattle.law_contents.specs.pg_msg.declared.message.Message.{Message}
 use Rattle.law_contents.specs.pg_msg.declared.message.Message.TheVariants as message

@@ -22,18 +22,18 @@ use Rattle.law_contents.proofs.pg_calls.Late.{late_does_nothing}
 use Rattle.law_contents.proofs.pg_intentions.Steady.{begin_end_stays}
 use Rattle.law_contents.specs.pg_server.declared.input.Input.{Input}
 use Rattle.law_contents.specs.pg_server.declared.input.Input.TheVariants as input
-use Rattle.law_contents.specs.pg_server.Local.{effect, first_effect, intended, receive, settled, takes_effect}
+use Rattle.law_contents.specs.pg_server.Local.{effect, first_effect, intended, receive, settled, takes_effect, ticked}
 use Rattle.law_contents.specs.pg_store.declared.store.Store.{Store}
 use Rattle.law_contents.specs.pg_store.Births.{birth_of}
 use Rattle.law_contents.specs.pg_store.Start.{first_flag, first_flags, root_own}
-use Rattle.law_contents.specs.pg_store.Store.{new_store, with_names}
+use Rattle.law_contents.specs.pg_store.Store.{is_before_clock_end, new_store, with_names}
 use Rattle.law_contents.specs.pg_pieces.Done.{Done, idle}
 use Rattle.law_contents.specs.pg_pieces.Golds.{is_goldless_held, sees_gold}
 use Rattle.law_contents.proofs.pg_cells.Calmed.{none_goldless, settle_golds}
 use Rattle.law_contents.proofs.pg_cells.Ruled.{touched_names}
 use Rattle.law_contents.specs.theory_flood_pieces.UpTo.{IsFlagKnownBy}
 use Rattle.law_contents.specs.theory_flood_pieces.Whole.{IsWhole}
-use Rattle.law_contents.proofs.theory_flood_pieces.Choices.{decided}
+use Rattle.law_contents.proofs.theory_flood_pieces.Choices.{chosen, decided}
 use Rattle.law_contents.proofs.theory_flood_pieces.Flags.{flag_there}
 use Rattle.law_contents.specs.pg_run.Births.{BirthsAreAlone, BirthsAreKnown}
 use Rattle.law_contents.specs.pg_run.Golds.{FullReplicasSeeGold}
@@ -139,7 +139,8 @@ module _ (n s : ℕ) (a : Store) (none : NoneGoldless a) (asked : Input) (whole 
   -- without effect
   late : (x : Input) → takes_effect a x ≡ false → Sees (first_effect a x)
   late (input.Call moment x) is = subst NoneGoldless (sym (late_does_nothing a x (new_work moment 0) is).0) none
-  late (input.Tick moment word) is = none
+  late (input.Tick moment word) is =
+      let w = new_work moment 0 in chosen Sees (is_before_clock_end a) (ticked a word w) (idle a w) none none
   late (input.Arrival packet) is =
       let w = new_work 0 packet.from in
       subst (λ (t : Bool). Sees (cond t (receive a packet.message w) (idle a w))) (sym is) none

@@ -1,5 +1,6 @@
 -- What is said of flags is said of the cells and the requests that a server sends.
 use Rattle.std.proofs.Common.{ℕ, ◌≡◌, Bool, List, Option, None, Some, All, refl, sym, subst}
+use Rattle.std.specs.Prelude.{nat_lt}
 use Rattle.std.specs.List.{flat_map}
 use Rattle.std.proofs.lemmas.List.Elements.{All-weaker}
 use Rattle.law_contents.specs.pg_base.declared.id.FileId.{FileId}
@@ -22,8 +23,9 @@ use Rattle.law_contents.specs.pg_register.Flag.{flag_of}
 use Rattle.law_contents.specs.pg_store.declared.store.Store.{Store}
 use Rattle.law_contents.specs.pg_store.Births.{birth_of}
 use Rattle.law_contents.specs.pg_store.Cells.{cell_at, entry_cell, flag_cell, is_sure, version_cell}
-use Rattle.law_contents.specs.pg_cells.Sending.{Wanted, cells_where}
+use Rattle.law_contents.specs.pg_cells.Sending.{Wanted, cells_where, told_as}
 use Rattle.law_contents.specs.pg_intentions.Requests.{asks, asks_by, bye_message, confirm_message, leave_message}
+use Rattle.law_contents.proofs.theory_flood_pieces.Choices.{chosen}
 use Rattle.law_contents.proofs.pg_run.Bags.{All-every}
 use Rattle.law_contents.proofs.pg_run.Event.{AskHas, CellHas, asks_by_have, asks_have, cells_have}
 use Rattle.law_births.specs.Flags.{AnyBye, SaysCell, SaysEntry, SaysIntent, SaysMessage, SaysStore}
@@ -69,13 +71,22 @@ module _ (Q : FileId → Flag → Type 0) (s : ℕ) (b : Store) (k : SaysStore Q
       (λ e is. own_child child e (k.names.cells f child e is)) there
   cell_says f (key.Version stamp) c there = version_says f c _ there
 
+  -- what tells of a cell
+  told_says : (x : Ends) (tag : ℕ) (c : Cell) → SaysCell Q x.file c → SaysMessage Q (told_as x tag c)
+  told_says x tag (cells.Place place) says = says
+  told_says x tag (cells.Flag flag) says = says
+  told_says x tag (cells.Entry e sure) says = says
+  told_says x tag (cells.Version v) says =
+      chosen (SaysMessage Q) (nat_lt 1024 v.head.length) (message.Harbinger x tag v.head) (message.Cell x tag (cells.Version v)) tt says
+
   pub cells_say : (wanted : Wanted) → All (SaysSent Q) (cells_where b wanted)
   cells_say wanted =
       cells_have (SaysSent Q) b wanted
       (All-every _ b.replicas
       (λ r. All-every _ r.1.edges
       (λ e. All-every (CellHas (SaysSent Q) b r.0 r.1 e) e.keys
-      (λ q c is passes. cell_says r.0 q.0 c is))))
+      (λ q c is passes.
+      told_says (record { file = r.0; sender = r.1.birth; receiver = e.birth }) q.1 c (cell_says r.0 q.0 c is)))))
 
   -- ---- requests
 

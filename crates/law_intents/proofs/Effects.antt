@@ -4,7 +4,6 @@ use Rattle.std.proofs.lemmas.Bool.{and_parts, false≢true}
 use Rattle.law_order.specs.pg_base.declared.id.Kind.{Kind}
 use Rattle.law_order.specs.pg_intent.Intents.{HaveOwnKeys}
 use Rattle.law_order.specs.pg_msg.declared.message.Packet.{Packet}
-use Rattle.law_order.specs.pg_msg.declared.work.Work.{Work}
 use Rattle.law_order.specs.pg_msg.Numbers.{is_in_range}
 use Rattle.law_order.specs.pg_msg.Work.{new_work}
 use Rattle.law_order.specs.pg_names.Names.{NamesValue}
@@ -22,7 +21,7 @@ use Rattle.law_order.specs.pg_calls.Naming.{next_id}
 use Rattle.law_order.proofs.pg_calls.Late.{late_does_nothing}
 use Rattle.law_order.specs.pg_server.declared.input.Input.{Input}
 use Rattle.law_order.specs.pg_server.declared.input.Input.TheVariants as input
-use Rattle.law_order.specs.pg_server.Local.{Effect, closed, effect, finished, first_effect, is_heard, receive, reply_to, sent_again, takes_effect, without_volatile}
+use Rattle.law_order.specs.pg_server.Local.{Effect, closed, effect, finished, first_effect, is_heard, receive, reply_to, takes_effect, ticked, without_sources, without_volatile}
 use Rattle.law_order.specs.theory_flood_pieces.Whole.{IsWhole}
 use Rattle.law_order.proofs.theory_flood_pieces.Choices.{chosen, decided}
 use Rattle.law_intents.proofs.Aimed.{heard_live}
@@ -30,7 +29,8 @@ use Rattle.law_intents.proofs.Called.{far_called}
 use Rattle.law_intents.proofs.Asked.{FlagsAreOfServers}
 use Rattle.law_intents.proofs.Ends.{IsResting, resting_end}
 use Rattle.law_intents.proofs.Far.{Aims, Far, IsFarThen, far_then}
-use Rattle.law_intents.proofs.Heard.{far_received, far_tick}
+use Rattle.law_intents.proofs.Heard.{far_tick}
+use Rattle.law_intents.proofs.Received.{far_received}
 use Rattle.law_intents.proofs.Leaving.{EdgesAreLive}
 use Rattle.law_intents.proofs.Settled.{far_settle}
 
@@ -74,8 +74,10 @@ module _ (n s : ℕ) (a : Store) (k : IsResting n s a) where
 
   first_tick : (moment word : ℕ) → Fine (first_effect a (input.Tick moment word))
   first_tick moment word =
-      chosen (λ (w : Work). Fine (idle a w)) (is_before_clock_end a) (sent_again a word (new_work moment 0)) (new_work moment 0)
-      (far_tick n s Old (idle a (ask_all a (tick a (new_work moment 0)))) word (record {
+      let b = without_sources a in
+      let w = new_work moment 0 in
+      chosen Fine (is_before_clock_end a) (ticked a word w) (idle a w)
+      (far_tick n s Old (idle b (ask_all b (tick b w))) word (record {
         servers = k.servers;
         server = k.server;
         removed = refl;
@@ -136,7 +138,9 @@ module _ (n s : ℕ) (a : Store) (k : IsResting n s a) where
   late_rests : (asked : Input) → takes_effect a asked ≡ false → Rests (finished (reply_to a asked) (first_effect a asked))
   late_rests (input.Call moment x) late =
       subst (λ (b : Store). IsResting n s b) (sym (late_does_nothing a x (new_work moment 0) late).0) k
-  late_rests (input.Tick moment word) late = k
+  late_rests (input.Tick moment word) late =
+      let w = new_work moment 0 in
+      subst (λ (t : Bool). IsResting n s (cond t (ticked a word w) (idle a w)).store) (sym late) k
   late_rests (input.Arrival packet) late =
       let w = new_work 0 packet.from in
       subst (λ (t : Bool). IsResting n s (cond t (receive a packet.message w) (idle a w)).store) (sym late) k

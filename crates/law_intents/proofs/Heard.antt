@@ -48,13 +48,11 @@ use Rattle.law_order.specs.pg_graph.Leaving.{bye, gives_leave, leave, leave_give
 use Rattle.law_order.specs.pg_graph.Seeking.{answered_seek, seek}
 use Rattle.law_order.specs.pg_graph.Walks.{edges_of, goes_on, meet_origin, most_hops, onward, walk, walk_along, walk_from, walk_of, walk_of_tick, walk_on, walked, with_few_edges}
 use Rattle.law_order.specs.pg_repair.Telling.{is_told, tell, tell_ok, told}
-use Rattle.law_order.specs.pg_server.Local.{receive}
 use Rattle.law_order.proofs.theory_flood_pieces.Choices.{chosen, decided}
 use Rattle.law_intents.proofs.Aimed.{next_aims}
 use Rattle.law_intents.proofs.Begun.{far_begin}
 use Rattle.law_intents.proofs.Far.{Aims, Far, IsBeside, beside_either, beside_itself, far_aimed, far_ended, far_entry, far_flags, far_link, far_on, far_place, far_raised, far_taken, far_with, far_work, same_either, same_itself}
 use Rattle.law_intents.proofs.Goes.{goes_update}
-use Rattle.law_intents.proofs.Leaving.{IsOpening, far_leave_ok}
 
 module _ (n s : ℕ) (r : List ℕ) where
   abbrev Fine : Done → Type 0
@@ -64,7 +62,7 @@ module _ (n s : ℕ) (r : List ℕ) where
   pub far_sent : (d : Done) (to : ℕ) (m : Message) → Fine d → Fine (idle d.store (post d.store to m d.work))
   far_sent d to m k = far_work n s r d (post d.store to m d.work) k (record { left = refl; from = refl })
 
-  far_reply : (d : Done) (m : Message) → Fine d → Fine (idle d.store (reply d.store m d.work))
+  pub far_reply : (d : Done) (m : Message) → Fine d → Fine (idle d.store (reply d.store m d.work))
   far_reply d m k = far_sent d d.work.from m k
 
   next_here : (d : Done) → Fine d → (t : ℕ) → Aims n s r (next_target d.store t)
@@ -72,7 +70,7 @@ module _ (n s : ℕ) (r : List ℕ) where
 
   -- ---- messages along edges
 
-  far_accept : (d : Done) (ends : Ends) (m : EdgeUse) → Fine d → Fine (accept d.store ends m d.work)
+  pub far_accept : (d : Done) (ends : Ends) (m : EdgeUse) → Fine d → Fine (accept d.store ends m d.work)
   far_accept d ends m k =
       let a = d.store in
       let w = d.work in
@@ -86,7 +84,7 @@ module _ (n s : ℕ) (r : List ℕ) where
       met_by manner.Needs = far_work n s r d d.work k (beside_itself d.work)
       met_by manner.Answers = far_work n s r d d.work k (beside_itself d.work)
 
-  far_cell : (d : Done) (ends : Ends) (tag : ℕ) (x : Cell) → Fine d → Fine (cell d.store ends tag x d.work)
+  pub far_cell : (d : Done) (ends : Ends) (tag : ℕ) (x : Cell) → Fine d → Fine (cell d.store ends tag x d.work)
   far_cell d ends tag x k =
       let a = d.store in
       let w = d.work in
@@ -98,7 +96,7 @@ module _ (n s : ℕ) (r : List ℕ) where
       (far_reply t (message.Ack (back ends) (cell_key x) tag) (far_taken n s r e ends.file x linked)) linked)
       (far_work n s r d w k (beside_itself w))
 
-  far_ack : (d : Done) (ends : Ends) (q : Key) (tag : ℕ) → Fine d → Fine (ack d.store ends q tag d.work)
+  pub far_ack : (d : Done) (ends : Ends) (q : Key) (tag : ℕ) → Fine d → Fine (ack d.store ends q tag d.work)
   far_ack d ends q tag k =
       far_with n s r d (acknowledge d.store ends.file (link_of d.work.from ends) q tag) d.work k (record { servers = refl; names = refl; intents = refl }) (beside_itself d.work)
 
@@ -114,7 +112,7 @@ module _ (n s : ℕ) (r : List ℕ) where
       chosen (λ (w : Work). Fine (idle d.store w)) (is_clean d.store f d.work.from birth) (reply d.store (message.Full ends) d.work) (give d.store ends d.work)
       (far_reply d (message.Full ends) k) (far_given d ends (replica_at d.store f) k)
 
-  far_fetch : (d : Done) (f : FileId) (birth : ℕ) → Fine d → Fine (fetch d.store f birth d.work)
+  pub far_fetch : (d : Done) (f : FileId) (birth : ℕ) → Fine d → Fine (fetch d.store f birth d.work)
   far_fetch d f birth k =
       let a = d.store in
       let w = d.work in
@@ -126,7 +124,7 @@ module _ (n s : ℕ) (r : List ℕ) where
 
   -- ---- who seeks
 
-  far_seek : (d : Done) (f : FileId) (birth : ℕ) → Fine d → Fine (seek d.store f birth d.work)
+  pub far_seek : (d : Done) (f : FileId) (birth : ℕ) → Fine d → Fine (seek d.store f birth d.work)
   far_seek d f birth k =
       let a = d.store in
       let w = d.work in
@@ -163,7 +161,7 @@ module _ (n s : ℕ) (r : List ℕ) where
       (far_work n s r d on k (along_beside d.store ends.file origin birth (hops - 1) (word / length edges) d.work (slice_get edges (word % length edges))))
       (far_sent linked origin (message.Meet (ends_to linked.store ends.file birth)) (far_link n s r d ends.file origin birth k))
 
-  far_walk : (d : Done) (ends : Ends) (origin birth hops word : ℕ) → Fine d → Fine (walk d.store ends origin birth hops word d.work)
+  pub far_walk : (d : Done) (ends : Ends) (origin birth hops word : ℕ) → Fine d → Fine (walk d.store ends origin birth hops word d.work)
   far_walk d ends origin birth hops word k =
       let a = d.store in
       let w = d.work in
@@ -186,12 +184,12 @@ module _ (n s : ℕ) (r : List ℕ) where
       let there = far_link n s r (idle b d.work) ends.file d.work.from ends.sender begun in
       far_aimed n s r linked (intent_key.Fill ends.file) linked.work.from there.from there
 
-  far_grant : (d : Done) (ends : Ends) (g : Granted) → AreBirths d.store → Fine d → Fine (grant d.store ends g d.work)
+  pub far_grant : (d : Done) (ends : Ends) (g : Granted) → AreBirths d.store → Fine d → Fine (grant d.store ends g d.work)
   far_grant d ends g births k =
       decided Fine (is_pending d.store ends.file ends.receiver) (begin_granted d.store ends g d.work) (accept d.store ends manner.Makes d.work)
       (λ pending. far_granted d ends g births pending k) (λ no. far_accept d ends manner.Makes k)
 
-  far_no_grant : (d : Done) (f : FileId) (birth : ℕ) → Fine d → Fine (no_grant d.store f birth d.work)
+  pub far_no_grant : (d : Done) (f : FileId) (birth : ℕ) → Fine d → Fine (no_grant d.store f birth d.work)
   far_no_grant d f birth k =
       let a = d.store in
       let w = d.work in
@@ -204,7 +202,7 @@ module _ (n s : ℕ) (r : List ℕ) where
       chosen (λ (x : Store). Fine (idle x w)) (fill_asks (fill_at b f) birth w.from) (aim_fill b f next) b
       (far_aimed n s r (idle b w) (intent_key.Fill f) next (next_here d k w.from) one) one
 
-  far_gone : (d : Done) (f : FileId) (birth : ℕ) → Fine d → Fine (gone d.store f birth d.work)
+  pub far_gone : (d : Done) (f : FileId) (birth : ℕ) → Fine d → Fine (gone d.store f birth d.work)
   far_gone d f birth k =
       far_with n s r d (unlink d.store f d.work.from birth) d.work k
       (same_either d.store (is_linked d.store f d.work.from birth) _ d.store (record { servers = refl; names = refl; intents = refl }) (same_itself d.store)) (beside_itself d.work)
@@ -217,7 +215,7 @@ module _ (n s : ℕ) (r : List ℕ) where
       let here = far_on n s r d b d.work k refl refl refl (goes_update d.store.names f filled (λ x. refl) d.work.left) in
       chosen Fine (nat_lt (live_golds b f) few_golds) (raise_flag b f d.work) (idle b d.work) (far_raised n s r (idle b d.work) f here) here
 
-  far_full : (d : Done) (ends : Ends) → Fine d → Fine (full d.store ends d.work)
+  pub far_full : (d : Done) (ends : Ends) → Fine d → Fine (full d.store ends d.work)
   far_full d ends k =
       chosen Fine (is_accepted d.store d.work.from manner.Answers ends && not (is_full d.store ends.file)) (fill d.store ends.file d.work) (idle d.store d.work)
       (far_fill d ends.file k) (far_work n s r d d.work k (beside_itself d.work))
@@ -228,7 +226,7 @@ module _ (n s : ℕ) (r : List ℕ) where
       chosen Fine (nat_lt (live_golds d.store f) few_golds) (raise_flag d.store f d.work) (idle d.store d.work)
       (far_raised n s r d f k) (far_work n s r d d.work k (beside_itself d.work))
 
-  far_invite : (d : Done) (ends : Ends) → Fine d → Fine (invite d.store ends d.work)
+  pub far_invite : (d : Done) (ends : Ends) → Fine d → Fine (invite d.store ends d.work)
   far_invite d ends k =
       let e = accept d.store ends manner.Needs d.work in
       let far = far_accept d ends manner.Needs k in
@@ -243,7 +241,7 @@ module _ (n s : ℕ) (r : List ℕ) where
       chosen Fine (is_root e.child) (idle d.store d.work) (take_place_noted d.store e.child e.place d.work)
       (far_work n s r d d.work k (beside_itself d.work)) (far_place n s r d e.child e.place k)
 
-  far_confirm : (d : Done) (dir : FileId) (e : Entry) → Fine d → Fine (confirm d.store dir e d.work)
+  pub far_confirm : (d : Done) (dir : FileId) (e : Entry) → Fine d → Fine (confirm d.store dir e d.work)
   far_confirm d dir e k =
       let placed = take_told_place d.store e d.work in
       let t = take_told_flags e placed in
@@ -252,7 +250,7 @@ module _ (n s : ℕ) (r : List ℕ) where
       (far_reply t (message.PlaceIs dir (own_entry t.store e.child)) there)
       (far_reply d (message.NoneHere ask.Confirm dir e.child) k)
 
-  far_place_is : (d : Done) (dir : FileId) (e : Entry) → Fine d → Fine (place_is d.store dir e d.work)
+  pub far_place_is : (d : Done) (dir : FileId) (e : Entry) → Fine d → Fine (place_is d.store dir e d.work)
   far_place_is d dir e k =
       let t = take_entry_noted d.store dir e d.work in
       let there = far_entry n s r d dir e k in
@@ -261,20 +259,20 @@ module _ (n s : ℕ) (r : List ℕ) where
       (far_ended n s r t (intent_key.Confirm dir e.child) there) there)
       (far_work n s r d d.work k (beside_itself d.work))
 
-  far_tell : (d : Done) (dir : FileId) (e : Entry) → Fine d → Fine (tell d.store dir e d.work)
+  pub far_tell : (d : Done) (dir : FileId) (e : Entry) → Fine d → Fine (tell d.store dir e d.work)
   far_tell d dir e k =
       let t = take_entry_noted d.store dir e d.work in
       chosen Fine (is_held d.store dir) (told dir e t) (idle d.store (reply d.store (message.NoneHere ask.Patch dir e.child) d.work))
       (far_reply t (message.TellOk dir e.child e.place.stamp) (far_entry n s r d dir e k))
       (far_reply d (message.NoneHere ask.Patch dir e.child) k)
 
-  far_tell_ok : (d : Done) (dir child : FileId) (stamp : Stamp) → Fine d → Fine (tell_ok d.store dir child stamp d.work)
+  pub far_tell_ok : (d : Done) (dir child : FileId) (stamp : Stamp) → Fine d → Fine (tell_ok d.store dir child stamp d.work)
   far_tell_ok d dir child stamp k =
       let q = intent_key.Patch dir child in
       chosen (λ (x : Store). Fine (idle x d.work)) (is_told (intent_at d.store.intents q) stamp d.work.from) (with_intents d.store (ended d.store.intents q)) d.store
       (far_ended n s r d q k) (far_work n s r d d.work k (beside_itself d.work))
 
-  far_none_here : (d : Done) (what : Ask) (f child : FileId) → Fine d → Fine (none_here d.store what f child d.work)
+  pub far_none_here : (d : Done) (what : Ask) (f child : FileId) → Fine d → Fine (none_here d.store what f child d.work)
   far_none_here d what f child k =
       let q = asking_key what f child in
       let next = next_target d.store d.work.from in
@@ -283,14 +281,14 @@ module _ (n s : ℕ) (r : List ℕ) where
 
   -- ---- replicas that leave
 
-  far_bye : (d : Done) (ends : Ends) → Fine d → Fine (bye d.store ends d.work)
+  pub far_bye : (d : Done) (ends : Ends) → Fine d → Fine (bye d.store ends d.work)
   far_bye d ends k =
       let m = message.ByeOk ends.file ends.sender in
       let answered = idle d.store (reply d.store m d.work) in
       far_with n s r answered (unlink d.store ends.file d.work.from ends.sender) answered.work (far_reply d m k)
       (same_either d.store (is_linked d.store ends.file d.work.from ends.sender) _ d.store (record { servers = refl; names = refl; intents = refl }) (same_itself d.store)) (beside_itself answered.work)
 
-  far_leave : (d : Done) (ends : Ends) (stamp : Stamp) → Fine d → Fine (leave d.store ends stamp d.work)
+  pub far_leave : (d : Done) (ends : Ends) (stamp : Stamp) → Fine d → Fine (leave d.store ends stamp d.work)
   far_leave d ends stamp k =
       let e = accept d.store ends manner.Makes d.work in
       let m = message.LeaveOk (ends_to e.store ends.file ends.sender) stamp in
@@ -299,28 +297,3 @@ module _ (n s : ℕ) (r : List ℕ) where
       (chosen (λ (w : Work). Fine (idle e.store w)) (gives_leave e.store ends.file stamp) (reply e.store m e.work) e.work
       (far_reply e m far) (far_work n s r e e.work far (beside_itself e.work)))
       far
-
-  -- A MESSAGE
-  pub far_received : (d : Done) (m : Message) → IsOpening n s r d → Fine d → Fine (receive d.store m d.work)
-  far_received d (message.Cell ends tag x) first k = far_cell d ends tag x k
-  far_received d (message.Ack ends q tag) first k = far_ack d ends q tag k
-  far_received d (message.Fetch file birth) first k = far_fetch d file birth k
-  far_received d (message.Grant ends granted) first k = far_grant d ends granted first.births k
-  far_received d (message.NoGrant file birth) first k = far_no_grant d file birth k
-  far_received d (message.Full ends) first k = far_full d ends k
-  far_received d (message.Seek file birth) first k = far_seek d file birth k
-  far_received d (message.Here ends) first k = far_accept d ends manner.Makes k
-  far_received d (message.NoneHere what file child) first k = far_none_here d what file child k
-  far_received d (message.Gone file birth) first k = far_gone d file birth k
-  far_received d (message.Confirm dir entry) first k = far_confirm d dir entry k
-  far_received d (message.PlaceIs dir entry) first k = far_place_is d dir entry k
-  far_received d (message.Tell dir entry) first k = far_tell d dir entry k
-  far_received d (message.TellOk dir child stamp) first k = far_tell_ok d dir child stamp k
-  far_received d (message.Walk ends origin birth hops word) first k = far_walk d ends origin birth hops word k
-  far_received d (message.Meet ends) first k = far_accept d ends manner.Makes k
-  far_received d (message.Bye ends) first k = far_bye d ends k
-  far_received d (message.ByeOk file birth) first k = far_ended n s r d (intent_key.Bye file birth d.work.from) k
-  far_received d (message.Leave ends stamp) first k = far_leave d ends stamp k
-  far_received d (message.LeaveOk ends stamp) first k = far_leave_ok n s r d ends stamp first k
-  far_received d (message.Invite ends) first k = far_invite d ends k
-  far_received d m first k = far_work n s r d d.work k (beside_itself d.work)

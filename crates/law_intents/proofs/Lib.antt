@@ -5,6 +5,7 @@ pub mod Aimed
 pub mod Asked
 pub mod Leaving
 pub mod Heard
+pub mod Received
 pub mod Lost
 pub mod Entered
 pub mod Called

@@ -41,7 +41,7 @@ use Rattle.law_order.specs.pg_intentions.Requests.{bye_message, confirm_message,
 use Rattle.law_order.proofs.pg_intentions.Idle.{nothing_to_do}
 use Rattle.law_order.proofs.pg_intentions.Leaves.{AllPass, Passes, all_moved}
 use Rattle.law_order.proofs.pg_intentions.Needs.{what_is_needed}
-use Rattle.law_order.specs.pg_server.Local.{without_volatile}
+use Rattle.law_order.specs.pg_server.Local.{without_sources, without_volatile}
 use Rattle.law_order.proofs.theory_flood_pieces.Together.{held_of_replica, own_of_held}
 use Rattle.law_order.specs.pg_run.Intending.{IntendsInOrder, IntentionsAreInOrder, IsPatchOf, IsToFill, LeavesStand}
 use Rattle.law_order.specs.pg_run.Run.{run}
@@ -228,7 +228,10 @@ module _ (p : Saying) (other : (file : FileId) → p.IsChild file → is_same_fi
   pub still : IsStill a
   still = (
     λ work left unsure linked. nothing_to_do a k.fills (r.seeks least most) r.confirms r.leaves work left unsure linked,
-    λ work left unsure linked. nothing_to_do (without_volatile a) k.fills (r.seeks least most) r.confirms (all_moved a (without_volatile a) refl refl a.intents r.leaves) work left unsure linked,
+    (
+      λ work left unsure linked. nothing_to_do (without_volatile a) k.fills (r.seeks least most) r.confirms (all_moved a (without_volatile a) refl refl a.intents r.leaves) work left unsure linked,
+      λ work left unsure linked. nothing_to_do (without_sources a) k.fills (r.seeks least most) r.confirms (all_moved a (without_sources a) refl refl a.intents r.leaves) work left unsure linked,
+    ),
   )
 
   -- ---- requests

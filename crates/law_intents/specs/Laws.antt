@@ -8,7 +8,7 @@ use Rattle.law_order.specs.pg_store.declared.store.Store.{Store}
 use Rattle.law_order.specs.pg_pieces.Done.{idle}
 use Rattle.law_order.specs.pg_intentions.Beginning.{begin_end}
 use Rattle.law_order.specs.pg_intentions.Requests.{request}
-use Rattle.law_order.specs.pg_server.Local.{without_volatile}
+use Rattle.law_order.specs.pg_server.Local.{without_sources, without_volatile}
 use Rattle.law_order.specs.pg_run.Laws.{AtEach, store_after}
 
 -- no intention ends or begins, where no place was replaced, no doubtful cell came and no edge was made
@@ -16,9 +16,11 @@ abbrev pub StaysIntended : Store → Type 0
 StaysIntended a = (work : Work) → work.left ≡ [] → work.unsure ≡ [] → work.linked ≡ []
     → begin_end a work ≡ idle a work
 
--- also without the wishes, as a restart leaves it
+-- also without the wishes, as a restart leaves it, and where nobody is asked for any version, as a
+-- tick does
 abbrev pub IsStill : Store → Type 0
-IsStill a = StaysIntended a × StaysIntended (without_volatile a)
+IsStill a = StaysIntended a
+    × (StaysIntended (without_volatile a) × StaysIntended (without_sources a))
 
 abbrev pub NothingIsLeftToDo : ℕ → Type 0
 NothingIsLeftToDo servers = (events : List Event)

@@ -1,11 +1,10 @@
--- Who answers a cell lists its sender.
-use Rattle.std.proofs.Common.{ℕ, ◌≡◌, true, cond, not, List, None, Some, option_map, refl, sym, ap, subst, ◌∙◌, inl, inr}
+-- Who answers lists whom it answers.
+use Rattle.std.proofs.Common.{ℕ, ◌≡◌, ◌⊎◌, true, cond, not, List, None, Some, option_map, refl, sym, ap, subst, ◌∙◌, inl, inr}
 use Rattle.std.specs.Prelude.{Contains}
 use Rattle.std.proofs.lemmas.Bool.{and_parts}
 use Rattle.std.proofs.lemmas.Option.{none-some}
 use Rattle.law_births.specs.pg_base.declared.id.FileId.{FileId}
 use Rattle.law_births.specs.pg_pieces.Accepting.{is_current}
-use Rattle.law_births.specs.pg_cells.Cells.{fits}
 use Rattle.law_births.specs.pg_edges.declared.key.Key.{Key}
 use Rattle.law_births.specs.pg_edges.Edges.{is_listed}
 use Rattle.law_births.specs.pg_entries.declared.cell.Cell.{Cell}
@@ -20,6 +19,7 @@ use Rattle.law_births.specs.pg_msg.declared.message.Message.TheVariants as messa
 use Rattle.law_births.specs.pg_msg.declared.message.Packet.{Packet}
 use Rattle.law_births.specs.pg_msg.declared.message.Sent.{Sent}
 use Rattle.law_births.specs.theory_flood_pieces.Seen.{saying, says, seen}
+use Rattle.law_births.proofs.theory_flood_pieces.Sending.{no_answer}
 use Rattle.law_births.specs.pg_replica.declared.replica.Replica.{Replica}
 use Rattle.law_births.specs.pg_server.declared.input.Input.{Input}
 use Rattle.law_births.specs.pg_server.declared.input.Input.TheVariants as input
@@ -31,13 +31,15 @@ use Rattle.law_births.specs.pg_store.Store.{replica_at}
 use Rattle.law_births.specs.pg_store.Together.{birth_at}
 use Rattle.law_births.specs.pg_run.Births.{linking}
 use Rattle.law_births.specs.pg_run.Carried.{gone_by, gone_in}
-use Rattle.law_births.specs.pg_run.Going.{AnswersAreToAccepted}
 use Rattle.law_births.specs.pg_run.Laws.{TakesIn}
 use Rattle.law_births.specs.pg_run.Run.{Step, World, next, run}
 use Rattle.law_births.proofs.pg_run.Frame.{next_is}
+use Rattle.law_births.proofs.Effects.{Lists}
+use Rattle.law_leaving.specs.Answers.{AnswersAreToAccepted, IsBodyOf, IsCellOf, IsHarbingerOf}
 use Rattle.law_leaving.specs.Premises.{StandOn}
 use Rattle.law_leaving.proofs.Behind.{born_at}
 use Rattle.law_leaving.proofs.Leaves.{held_of}
+use Rattle.law_leaving.proofs.Listed.{body_lists, listed_so}
 use Rattle.law_leaving.proofs.Ordered.{IsSeen}
 
 -- what an answer says: to whom, of which edge, and who says it
@@ -77,6 +79,8 @@ ack_said from to (message.Ack ends q tag) file s own u n k g is =
       sender = ap (λ (z : Slot). z.birth) same;
       receiver = ap (λ (z : Slot). z.own) same;
     }
+ack_said from to (message.Harbinger ends tag head) file s own u n k g is =
+    absurd (no_answer from to ends tag head s (slot file own u n k) g is)
 ack_said from to _ file s own u n k g is = absurd (let x : ◌≡◌ {A = Saying Slot Cell} Other (AckTo s (slot file own u n k) g) = is in cc)
 
 module _ (n : ℕ) (on : StandOn n) (events : List Event) (event : Event) (s : ℕ) (asked : Input) (takes : TakesIn n (run n events) event s asked) where
@@ -89,34 +93,54 @@ module _ (n : ℕ) (on : StandOn n) (events : List Event) (event : Event) (s : �
   abbrev B : Store
   B = (effect A asked).store
 
-  -- who accepts a cell holds the thing on, and lists who sent it
-  module _ (packet : Packet) (is : asked ≡ input.Arrival packet) (heard : takes_effect A asked ≡ true) (there : Ends) (tag : ℕ) (c : Cell)
-      (says_it : packet.message ≡ message.Cell there tag c) (current : is_current A packet.from there ≡ true) (fitting : fits there.file c ≡ true) where
+  -- who accepts what it answers holds the thing on
+  module _ (packet : Packet) (is : asked ≡ input.Arrival packet) (heard : takes_effect A asked ≡ true) (there : Ends)
+      (current : is_current A packet.from there ≡ true) where
     born : birth_at A there.file ≡ Some there.receiver
     born =
         let here = (and_parts (has_birth A there.file there.receiver) (not (knows_later A there.file packet.from there.sender)) current).0 in
         let x = held_of (replica_at A there.file) there.receiver here in
         ap (option_map (λ (r : Replica). r.birth)) x.1 ∙ ap (λ b. Some b) x.2
 
-    none_goes : gone_in A asked ≡ None
-    none_goes = ap (gone_in A) is ∙ ap (gone_by A packet.from) says_it
-
-    on_it : birth_at B there.file ≡ Some there.receiver
-    on_it = elim (on.events.ends events event s asked takes there.file there.receiver born) [
+    on_it : gone_by A packet.from packet.message ≡ None → birth_at B there.file ≡ Some there.receiver
+    on_it none = elim (on.events.ends events event s asked takes there.file there.receiver born) [
       | inl stays ↦ stays
-      | inr gone ↦ absurd (none-some there.file (sym none_goes ∙ gone.1))
+      | inr gone ↦ absurd (none-some there.file (sym (ap (gone_in A) is ∙ none) ∙ gone.1))
     ]
 
-    links : linking packet.message ≡ Some there
-    links = ap linking says_it ∙ ap (λ t. cond t (Some there) None) fitting
+    abbrev ListsIt : Type 0
+    ListsIt = (y : Replica) → replica_at B there.file ≡ Some y → is_listed y.edges packet.from there.sender ≡ true
 
-    lists : (y : Replica) → replica_at B there.file ≡ Some y → is_listed y.edges packet.from there.sender ≡ true
-    lists y at =
+    -- and lists who sent it: a cell and a harbinger link their sender
+    linking_lists : linking packet.message ≡ Some there → ListsIt
+    linking_lists links y at =
         let it : TakesIn n W event s (input.Arrival packet) = subst (TakesIn n W event s) is takes in
         let same : (next n W event).stores s ≡ B =
         ap (λ (z : Step). z.stores s) (next_is n W event (record { server = s; asked = asked }) takes) ∙ after_itself W.stores s B in
         on.births.linked events event s packet there y it (subst (λ z. takes_effect A z ≡ true) is heard) links current
         (ap (λ (z : Store). replica_at z there.file) same ∙ at)
+
+    -- and a body comes along an edge that is there
+    bodies_list : IsBodyOf A packet there → ListsIt
+    bodies_list body y at =
+        let P : Input → Type 0 = λ x. Lists (effect A x).store there.file packet.from there.sender in
+        let l : P asked = subst P (sym is) (body_lists A packet there body (ap (takes_effect A) (sym is) ∙ heard)) in
+        listed_so B there.file packet.from there.sender y at l
+
+    holds_and_lists : IsCellOf packet there ⊎ (IsHarbingerOf packet there ⊎ IsBodyOf A packet there)
+        → (birth_at B there.file ≡ Some there.receiver) × ListsIt
+    holds_and_lists (inl k) = (
+      on_it (ap (gone_by A packet.from) k.2),
+      linking_lists (ap linking k.2 ∙ ap (λ t. cond t (Some there) None) k.3),
+    )
+    holds_and_lists (inr (inl k)) = (
+      on_it (ap (gone_by A packet.from) k.2),
+      linking_lists (ap linking k.2 ∙ ap (λ t. cond t None (Some there)) k.3),
+    )
+    holds_and_lists (inr (inr k)) = (
+      on_it (elim k.0 [ inl d ↦ ap (gone_by A packet.from) d.1 | inr p ↦ ap (gone_by A packet.from) p.1 ]),
+      bodies_list k,
+    )
 
   pub acks : AnswersAreToAccepted n → (file : FileId) (m : Sent) (o own u b : ℕ) (k : Key) (g : ℕ) → Contains (effect A asked).out.sent m
       → says m ≡ AckTo o (slot file own u b k) g
@@ -126,9 +150,9 @@ module _ (n : ℕ) (on : StandOn n) (events : List Event) (event : Event) (s : �
       let told = answers events event s asked takes m a.ends a.key a.tag among a.is in
       let c = told.1 in
       let there = c.there in
-      let birth = on_it c.packet c.hears.is c.hears.heard there a.tag c.cell c.is c.current c.fitting in
-      let y = born_at (replica_at B there.file) there.receiver birth in
-      let l = lists c.packet c.hears.is c.hears.heard there a.tag c.cell c.is c.current c.fitting y.0 y.1 in
+      let both = holds_and_lists c.packet c.hears.is c.hears.heard there c.current c.kind in
+      let y = born_at (replica_at B there.file) there.receiver both.0 in
+      let l = both.1 y.0 y.1 in
       let of : there.file ≡ file = c.file ∙ a.of in
       let P : FileId → Type 0 = (λ f. replica_at B f ≡ Some y.0) in
       let at : replica_at B file ≡ Some y.0 = subst P of y.1 in

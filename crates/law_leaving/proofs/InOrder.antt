@@ -3,7 +3,7 @@ use Rattle.std.proofs.Common.{ℕ, List}
 use Rattle.law_births.specs.pg_base.declared.id.FileId.{FileId}
 use Rattle.law_births.specs.pg_event.declared.event.Event.{Event}
 use Rattle.theory_leaving.specs.Moment.{IsInOrder}
-use Rattle.law_births.specs.pg_run.Going.{AnswersAreToAccepted}
+use Rattle.law_leaving.specs.Answers.{AnswersAreToAccepted}
 use Rattle.law_leaving.specs.Premises.{StandOn}
 use Rattle.law_leaving.specs.Seen.{leaving}
 use Rattle.law_leaving.proofs.LastFlags.{flags}

@@ -1,5 +1,5 @@
 -- The leave by which a replica goes, and what is known of the replica there.
-use Rattle.std.proofs.Common.{ℕ, ◌≡◌, true, false, not, Option, None, Some, is_some, refl, subst}
+use Rattle.std.proofs.Common.{ℕ, ◌≡◌, true, not, Option, None, Some, is_some, refl, subst}
 use Rattle.std.proofs.lemmas.Bool.{and_parts, eqb-true, false≢true, not-true}
 use Rattle.std.proofs.lemmas.Option.{none-some, same_Some}
 use Rattle.law_births.specs.pg_base.declared.id.FileId.{FileId}

@@ -16,6 +16,7 @@ pub mod Taking
 pub mod Promised
 pub mod InOrder
 pub mod Dropping
+pub mod Listed
 pub mod Acks
 pub mod PlainTicks
 pub mod Unlinked

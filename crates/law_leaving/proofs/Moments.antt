@@ -197,9 +197,9 @@ module _ (n : ℕ) (events : List Event) (event : Event) where
             (let whole = acts_so t is in
             ap (λ (v : World). site v k) whole
             ∙ site_of_parts (after W.stores t.server (effect A t.asked).store k) (W.stores k)
-            (after W.took t.server (took_after A (W.took t.server) t.asked) k) (W.took k)
+            (after W.took t.server (took_after A (W.asked t.server) (W.took t.server) t.asked) k) (W.took k)
             (other_after W.stores t.server (effect A t.asked).store k apart)
-            (other_after W.took t.server (took_after A (W.took t.server) t.asked) k apart));
+            (other_after W.took t.server (took_after A (W.asked t.server) (W.took t.server) t.asked) k apart));
         mail = ap (λ (v : World). mail v.journal) (acts_so t is);
         came = came_by t.server t.asked acts.came;
         stays = went_on;

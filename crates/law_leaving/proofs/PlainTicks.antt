@@ -1,15 +1,18 @@
 -- What ticks send: no answers; and Byes only where they are owed.
 use Rattle.std.proofs.Common.{Bool, ℕ, ◌≡◌, true, false, Option, None, Some, refl, sym, ap, subst, ◌∙◌, All}
-use Rattle.std.specs.Prelude.{Contains}
+use Rattle.std.specs.Prelude.{Contains, nat_lt}
 use Rattle.std.specs.List.{flat_map}
 use Rattle.std.proofs.lemmas.List.Elements.{All-append, All-contains_itself, All-nil, All-weaker}
 use Rattle.std.proofs.lemmas.Option.{none-some, same_Some}
 use Rattle.law_births.specs.pg_base.declared.id.FileId.{FileId}
 use Rattle.law_births.specs.pg_edges.declared.edge.Edge.{Edge}
+use Rattle.law_births.specs.pg_entries.declared.cell.Cell.{Cell}
+use Rattle.law_births.specs.pg_entries.declared.cell.Cell.TheVariants as cell
 use Rattle.law_births.specs.pg_entries.declared.entry.Entry.{Entry}
 use Rattle.law_births.specs.pg_intent.declared.intent.Intent.{Intent}
 use Rattle.law_births.specs.pg_intent.declared.intent.Intent.TheVariants as intent
 use Rattle.law_births.specs.pg_intent.Intent.{target_of}
+use Rattle.law_births.specs.pg_msg.declared.message.Ends.{Ends}
 use Rattle.law_births.specs.pg_msg.declared.message.Message.{Message}
 use Rattle.law_births.specs.pg_msg.declared.message.Message.TheVariants as message
 use Rattle.law_births.specs.pg_msg.declared.message.Sent.{Sent}
@@ -20,10 +23,11 @@ use Rattle.law_births.specs.pg_replica.declared.replica.Replica.{Replica}
 use Rattle.law_births.specs.pg_store.declared.store.Store.{Store}
 use Rattle.law_births.specs.pg_store.Births.{birth_of}
 use Rattle.law_births.specs.pg_pieces.Posting.{sent_to}
-use Rattle.law_births.specs.pg_cells.Sending.{Wanted, cell_to, cells_where, is_any}
+use Rattle.law_births.specs.pg_cells.Sending.{Wanted, cell_to, cells_where, is_any, told_as}
 use Rattle.law_births.specs.pg_cells.Ticks.{tick}
 use Rattle.law_births.specs.pg_intentions.Requests.{ask_all, asks, bye_message, confirm_message, leave_message, request}
 use Rattle.law_births.specs.pg_server.Local.{sent_again}
+use Rattle.law_births.proofs.theory_flood_pieces.Choices.{chosen}
 use Rattle.law_births.proofs.pg_run.Bags.{All-every}
 use Rattle.law_births.proofs.pg_run.Event.{AskHas, CellHas, asks_have, cells_have}
 use Rattle.law_births.proofs.pg_run.Sends as sends
@@ -43,6 +47,15 @@ no_answer (message.Bye ends) h = h
 no_answer (message.ByeOk file birth) h = h
 no_answer m h = refl
 
+-- nor what tells of a cell
+told_plain : (ends : Ends) (tag : ℕ) (c : Cell) → is_plain (told_as ends tag c) ≡ true
+told_plain ends tag (cell.Place place) = refl
+told_plain ends tag (cell.Flag flag) = refl
+told_plain ends tag (cell.Entry e sure) = refl
+told_plain ends tag (cell.Version v) =
+    chosen (λ (m : Message). is_plain m ≡ true) (nat_lt 1024 v.head.length) (message.Harbinger ends tag v.head)
+    (message.Cell ends tag (cell.Version v)) refl refl
+
 module _ (Q : Sent → Type 0) (plain : (m : Sent) → is_plain m.packet.message ≡ true → Q m) where
   pub plainer : (m : Sent) → sends.is_plain m.packet.message ≡ true → Q m
   plainer m h = plain m (no_answer m.packet.message h)
@@ -54,7 +67,8 @@ module _ (Q : Sent → Type 0) (plain : (m : Sent) → is_plain m.packet.message
       cells_have Q b wanted
       (All-every (λ (r : FileId × Replica). All (λ (e : Edge). All (CellHas Q b r.0 r.1 e) e.keys) r.1.edges) b.replicas
       (λ r. All-every (λ (e : Edge). All (CellHas Q b r.0 r.1 e) e.keys) r.1.edges
-      (λ e. All-every (CellHas Q b r.0 r.1 e) e.keys (λ q c is goes. plain (cell_to b r.0 r.1.birth e c q.1) refl))))
+      (λ e. All-every (CellHas Q b r.0 r.1 e) e.keys (λ q c is goes. plain (cell_to b r.0 r.1.birth e c q.1)
+      (told_plain (record { file = r.0; sender = r.1.birth; receiver = e.birth }) q.1 c)))))
 
   module _ (b : Store) where
     -- a Bye is of this

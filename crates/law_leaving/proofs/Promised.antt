@@ -5,23 +5,23 @@ use Rattle.std.proofs.lemmas.List.Elements.{All-append, All-contains}
 use Rattle.law_births.specs.pg_event.declared.event.Event.{Event}
 use Rattle.law_births.specs.theory_flood.Protocol.{KeepsEdges, Promised}
 use Rattle.law_births.specs.theory_flood.World.{after}
-use Rattle.law_births.proofs.theory_flood.Worlds.{event_keeps}
+use Rattle.law_births.proofs.theory_flood.Late.{late}
 use Rattle.law_births.specs.pg_msg.declared.message.Sent.{Sent}
 use Rattle.law_births.specs.theory_flood_pieces.Seen.{says}
 use Rattle.law_births.specs.pg_server.declared.input.Input.{Input}
 use Rattle.law_births.specs.pg_server.declared.input.Input.TheVariants as input
 use Rattle.law_births.specs.pg_server.Local.{effect}
 use Rattle.law_births.specs.pg_store.declared.store.Store.{Store}
-use Rattle.law_births.specs.pg_run.Going.{AnswersAreToAccepted}
 use Rattle.law_births.specs.pg_run.Journal.{mail}
 use Rattle.law_births.specs.pg_run.Ruled.{heard_in}
 use Rattle.law_births.specs.pg_run.Run.{Taking, World, effect_step, run, taking_in, took_after, world_after}
 use Rattle.law_births.specs.pg_run.Took.{Take}
 use Rattle.law_births.proofs.pg_run.Frame.{Acts, HasCome, all_parts, holds_in_runs}
+use Rattle.law_leaving.specs.Answers.{AnswersAreToAccepted}
 use Rattle.law_leaving.specs.Premises.{StandOn}
 use Rattle.law_leaving.specs.Taken.{Site, site, taking}
 use Rattle.law_leaving.proofs.Start.{start_taken}
-use Rattle.law_leaving.proofs.Taking.{rule}
+use Rattle.law_leaving.proofs.Taking.{late_rule}
 
 abbrev Keeps : World → Type 0
 Keeps w = KeepsEdges taking (site w) (mail w.journal)
@@ -52,7 +52,7 @@ module _ (n : ℕ) (on : StandOn n) (answers : AnswersAreToAccepted n) (events :
   B = (effect (W.stores S) t.asked).store
 
   abbrev U : List Take
-  U = took_after (W.stores S) (W.took S) t.asked
+  U = took_after (W.stores S) (W.asked S) (W.took S) t.asked
 
   abbrev Next : Site
   Next = record { store = B; took = U }
@@ -72,8 +72,8 @@ module _ (n : ℕ) (on : StandOn n) (answers : AnswersAreToAccepted n) (events :
   acted =
       let kept : KeepsEdges taking (after (site W) S Next) (Out ++ mail W.journal) =
       other_way (after (site W) S Next) (mail W.journal) Out
-      (event_keeps taking (site W) S Next (heard_in S t.asked) Out (mail W.journal) (mail W.journal) k
-      (rule n on answers events event S t.asked is) (heard_by t.asked acts.came) k.promises) in
+      (late taking (site W) S Next (heard_in S t.asked) Out (mail W.journal) (λ a x h. h) k (heard_by t.asked acts.came)
+      (late_rule n on answers events event S t.asked is)) in
       let P : (ℕ → Site) → Type 0 = (λ nodes. KeepsEdges taking nodes (Out ++ mail W.journal)) in
       subst P (fun_ext (λ (i : ℕ). both_after W S B U i (i == S))) kept
 

@@ -14,7 +14,6 @@ use Rattle.law_births.specs.theory_flood.Protocol.{Protocol}
 use Rattle.law_births.specs.theory_flood.Server.{Replica as Seen, Slot}
 use Rattle.law_births.specs.theory_flood.World.{after}
 use Rattle.law_births.proofs.theory_flood.Flood.{after_itself}
-use Rattle.law_births.proofs.theory_flood.Late.{early}
 use Rattle.law_births.proofs.theory_flood.Steps as steps
 use Rattle.law_births.specs.pg_intent.declared.intent.Intent.TheVariants as intent
 use Rattle.theory_leaving.specs.Moment.{IsKept, IsPast}
@@ -34,12 +33,13 @@ use Rattle.law_births.specs.pg_store.Store.{replica_at}
 use Rattle.law_births.specs.pg_store.Together.{birth_at}
 use Rattle.law_births.specs.pg_run.Carried.{gone_in}
 use Rattle.law_births.specs.pg_run.Journal.{mail}
-use Rattle.law_births.specs.pg_run.Going.{AnswersAreToAccepted, ByesAreAnswered, ByesAreOwed, Hears, SaysItWent}
+use Rattle.law_births.specs.pg_run.Going.{ByesAreAnswered, ByesAreOwed, Hears, SaysItWent}
 use Rattle.law_births.specs.pg_run.Laws.{TakesIn, store_after}
 use Rattle.law_births.specs.pg_run.Leaving.{Goes}
 use Rattle.law_births.specs.pg_run.Ruled.{heard_in}
 use Rattle.law_births.specs.pg_run.Run.{Taking, World, run, taking_in, took_after}
 use Rattle.law_leaving.specs.Gone.{WentAs}
+use Rattle.law_leaving.specs.Answers.{AnswersAreToAccepted}
 use Rattle.law_leaving.specs.Premises.{StandOn}
 use Rattle.law_leaving.specs.Seen.{leaving, message_in, site_after, word_of}
 use Rattle.law_leaving.specs.Taken.{Site, site, taking}
@@ -48,7 +48,7 @@ use Rattle.law_leaving.proofs.Dropping.{drops}
 use Rattle.law_leaving.proofs.Flags.{seen_of}
 use Rattle.law_leaving.proofs.Moments.{acts_so, site_of_parts, went_now, went_or}
 use Rattle.law_leaving.proofs.Ordered.{IsSeen, past}
-use Rattle.law_leaving.proofs.Taking.{rule}
+use Rattle.law_leaving.proofs.Taking.{late_rule}
 use Rattle.law_leaving.proofs.Words.{bye_ok_says, bye_says, gone_says, said}
 
 -- what is shown of messages that are sent
@@ -87,7 +87,7 @@ module _ (n : ℕ) (on : StandOn n) (sends : Sends n) (file : FileId) (events : 
   B = (effect A t.asked).store
 
   abbrev Next : Site
-  Next = record { store = B; took = took_after A (W.took S) t.asked }
+  Next = record { store = B; took = took_after A (W.asked S) (W.took S) t.asked }
 
   abbrev pub turn_to : Site → Turn Site Sent
   turn_to b = record { server = S; next = b; heard = message_in S t.asked; sent = (effect A t.asked).out.sent }
@@ -116,7 +116,7 @@ module _ (n : ℕ) (on : StandOn n) (sends : Sends n) (file : FileId) (events : 
       let now = site_after n events S in
       let sent = (effect A t.asked).out.sent in
       let P : Saying Slot Cell → Type 0 = (λ z. steps.Rule late S now Next z sent) in
-      subst P (sym (heard_same t.asked)) (early taking S now Next (heard_in S t.asked) sent (mail W.journal) (λ a x h. h) (rule n on sends.answers events event S t.asked is))
+      subst P (sym (heard_same t.asked)) (late_rule n on sends.answers events event S t.asked is)
 
   -- ---- why an edge goes
 

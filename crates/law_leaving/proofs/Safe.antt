@@ -1,15 +1,17 @@
 -- SAFE DROP: who gave a replica leave took all that the state of it comes to.
-use Rattle.std.proofs.Common.{ℕ, ◌≡◌, ◌≢◌, ◌≤◌, ◌<◌, ◌==◌, ◌&&◌, ◌||◌, true, false, cond, not, List, [], ◌∷◌, filter, Option, None, Some, refl, sym, ap, subst, ◌∙◌, inl, inr, arith}
+use Rattle.std.proofs.Common.{ℕ, ◌≡◌, ◌≢◌, ◌≤◌, ◌<◌, ◌==◌, ◌&&◌, Bool, true, false, cond, not, List, [], ◌∷◌, Option, None, Some, refl, sym, ap, subst, ◌∙◌, inl, inr, arith}
 use Rattle.std.specs.Prelude.{Contains, nat_le}
-use Rattle.std.proofs.lemmas.Bool.{and_parts, eq-eqb, false≢true, leb-true, or_left, false_from_ne_true}
+use Rattle.std.proofs.lemmas.Bool.{and_parts, eq-eqb, false≢true, leb-true, false_from_ne_true}
 use Rattle.std.proofs.lemmas.Bool.Decides.{nat_tests}
+use Rattle.std.proofs.lemmas.Option.{none-some, same_Some}
 use Rattle.law_births.specs.pg_base.declared.id.FileId.{FileId}
 use Rattle.law_births.specs.pg_base.declared.stamp.Stamp.{Stamp}
 use Rattle.law_births.specs.pg_base.Version.{VersionValue}
 use Rattle.law_births.specs.pg_content.Content.{Among, ContentValue}
-use Rattle.law_births.specs.pg_content.History.{Made, is_ancestor, is_same_stamp}
-use Rattle.law_births.proofs.pg_content.Stamps.{same_true}
-use Rattle.law_births.proofs.pg_content.Members.{any_by, filter_among, map_among}
+use Rattle.law_births.specs.pg_content.Covering.{AreCoveredBy, IsUpToHead}
+use Rattle.law_births.specs.pg_content.History.{Made}
+use Rattle.law_births.proofs.pg_content.Covering.{covered_sets}
+use Rattle.law_births.specs.pg_edges.declared.key.Key.{Key}
 use Rattle.law_births.specs.pg_edges.declared.key.Key.TheVariants as key
 use Rattle.law_births.specs.pg_entries.declared.cell.Cell.{Cell}
 use Rattle.law_births.specs.pg_entries.declared.cell.Cell.TheVariants as cell
@@ -21,25 +23,26 @@ use Rattle.law_births.specs.pg_msg.declared.message.Message.TheVariants as messa
 use Rattle.law_births.specs.pg_names.declared.attributes.Attributes.{Attributes}
 use Rattle.law_births.specs.pg_names.Names.{cell_at as entry_at, own_or_blank}
 use Rattle.law_births.specs.pg_register.declared.flag.Flag.{Flag}
+use Rattle.law_births.specs.pg_register.declared.place.Place.{Place}
 use Rattle.law_births.specs.pg_register.Flag.{IsByServer, flag_of, is_removed}
 use Rattle.law_births.proofs.pg_register.ByServer.{Above, IsByServer-head, IsByServer-join_flags, IsByServer-nil, IsByServer-tail, below, first}
 use Rattle.law_births.specs.pg_replica.declared.replica.Replica.{Replica}
 use Rattle.law_births.specs.pg_replica.Replica.{cell_at as version_at}
 use Rattle.law_births.specs.pg_replica.Replicas.{or_nothing}
-use Rattle.law_births.proofs.pg_replica.Growth.{head_at}
+use Rattle.law_births.proofs.pg_replica.Growth.{cell_head, head_at}
 use Rattle.law_births.specs.pg_server.declared.input.Input.TheVariants as input
 use Rattle.law_births.specs.pg_store.declared.store.Store.{Store}
+use Rattle.law_births.specs.theory_flood_pieces.UpTo.{IsUpTo}
 use Rattle.law_births.specs.pg_store.Cells.{cell_at, entry_cell, flag_cell, is_sure, version_cell}
 use Rattle.law_births.specs.pg_store.Servers.{is_live_other}
 use Rattle.law_births.specs.pg_store.Store.{content_of, replica_at}
-use Rattle.law_births.specs.pg_run.Histories.{content_after, versions_after}
-use Rattle.law_births.specs.pg_run.Journal.{is_within, with_ancestors}
+use Rattle.law_births.specs.pg_run.Histories.{content_after, taken_after, versions_after}
 use Rattle.law_births.specs.pg_run.Laws.{KnowsWhatItTook, store_after}
 use Rattle.law_births.specs.pg_run.Leaving.{DropsAreSafe, GiversHaveEachCell, Goes, HasEachCell, TookAllOf, TookTheState}
 use Rattle.law_births.specs.pg_run.Passed.{has_cell}
 use Rattle.law_births.specs.pg_run.Run.{World, run}
 use Rattle.law_births.specs.pg_run.State.{own_state, versions_taken}
-use Rattle.law_births.specs.pg_run.Took.{Take, flags_in, flags_taken, place_in, places_taken, stamps_taken}
+use Rattle.law_births.specs.pg_run.Took.{Take, flags_in, flags_taken, place_in, places_taken}
 use Rattle.law_births.specs.pg_run.Took.Taker.{InDir, Itself}
 use Rattle.law_births.proofs.pg_run.Frame.{acts_is}
 use Rattle.law_births.proofs.pg_run.Lists.{contained_among}
@@ -49,6 +52,22 @@ use Rattle.law_leaving.specs.Taken.{IsTaken}
 use Rattle.law_leaving.proofs.Drops.{IsLeft, left}
 use Rattle.law_leaving.proofs.Given.{stands}
 use Rattle.law_leaving.proofs.Senders.{live_unremoved, sender_live}
+
+-- ---- no other cell is a version's
+
+flag_no : (o : Option Flag) (w : VersionValue) → flag_cell o ≡ Some (cell.Version w) → ⊥
+flag_no None w is = none-some (cell.Version w) is
+flag_no (Some f) w is = let z : cell.Flag f ≡ cell.Version w = same_Some (cell.Flag f) (cell.Version w) is in cc
+
+entry_no : (o : Option Entry) (sure : Bool) (w : VersionValue) → entry_cell o sure ≡ Some (cell.Version w) → ⊥
+entry_no None sure w is = none-some (cell.Version w) is
+entry_no (Some e) sure w is = let z : cell.Entry e sure ≡ cell.Version w = same_Some (cell.Entry e sure) (cell.Version w) is in cc
+
+place_no : (p : Place) (w : VersionValue) → ◌≡◌ {A = Option Cell} (Some (cell.Place p)) (Some (cell.Version w)) → ⊥
+place_no p w is = let z : cell.Place p ≡ cell.Version w = same_Some (cell.Place p) (cell.Version w) is in cc
+
+version_same : (z w : VersionValue) → version_cell (Some z) ≡ Some (cell.Version w) → z ≡ w
+version_same z w is = let e : cell.Version z ≡ cell.Version w = same_Some (cell.Version z) (cell.Version w) is in cc
 
 -- ---- of flags by server
 
@@ -70,16 +89,6 @@ flag_in_order (g ∷ gs) f sorted k = elim k [
   | inl same ↦ subst (λ (x : Flag). flag_of (g ∷ gs) x.server ≡ Some x) (sym same) (first g gs)
   | inr later ↦ flag_later g f gs (above_at g.server gs f (IsByServer-head g gs sorted) later) (flag_in_order gs f (IsByServer-tail g gs sorted) later)
 ]
-
--- ---- of versions
-
-taken_itself : (h : List Made) (set : List Stamp) (m : Made) → Among m h → Among m.stamp set → Among m.stamp (with_ancestors h set)
-taken_itself h set m member k =
-    let within : is_within h set m.stamp ≡ true =
-    any_by (λ t. is_same_stamp m.stamp t || is_ancestor h m.stamp t) set m.stamp k
-    (or_left (is_same_stamp m.stamp m.stamp) (is_ancestor h m.stamp m.stamp) (same_true m.stamp m.stamp refl)) in
-    map_among (λ (x : Made). x.stamp) (filter (λ (x : Made). is_within h set x.stamp) h) m
-    (filter_among (λ (x : Made). is_within h set x.stamp) m h member within)
 
 module _ (n : ℕ) (given : StatesAreCited n) (events : List Event) (s t : ℕ) (least : 1 ≤ s) (most : s ≤ n) (file : FileId) where
   abbrev W : World
@@ -122,37 +131,59 @@ module _ (n : ℕ) (given : StatesAreCited n) (events : List Event) (s t : ℕ) 
         let is = took (key.Entry child) (cell.Entry e sure) (ap (λ o. entry_cell o sure) there) in
         record { place = is.0; flags = is.1 }
 
-    module _ (x : Replica) (here : replica_at A file ≡ Some x) where
+    -- of versions it has each head, or one that tells more
+    module _ (x : Replica) (here : replica_at A file ≡ Some x) (birth : ℕ) (cells : HasEachCell W s file t birth)
+        (there : (1 ≤ t) × (t ≤ n)) where
       abbrev H : List Made
       H = versions_after n events file
 
-      content_is : content_of A file ≡ content_after n events s file
+      abbrev Cs : ContentValue
+      Cs = content_after n events s file
+
+      abbrev Ct : ContentValue
+      Ct = content_after n events t file
+
+      content_is : content_of A file ≡ Cs
       content_is = ap (λ (o : Option Replica). (or_nothing o).content) here ∙ given.held events file s least most x here
 
-      -- a head of what the replica took was taken there
-      head_taken : (v : VersionValue) → Among v (content_after n events s file).heads → Among v.head.stamp (versions_taken file W.history Us)
-      head_taken v among =
+      content_there : content_of (W.stores t) file ≡ Ct
+      content_there =
+          ap (λ (o : Option Replica). (or_nothing o).content) cells.held
+          ∙ given.held events file t there.0 there.1 cells.replica cells.held
+
+      version_upto : (v w : VersionValue) (q : Key) (o : Option VersionValue) → version_at (content_of (W.stores t) file).heads q ≡ o
+          → version_cell o ≡ Some (cell.Version w) → IsUpTo (cell.Version v) (cell.Version w) → IsUpToHead v.head.vector Ct.heads
+      version_upto v w q None is same up = absurd (none-some (cell.Version w) same)
+      version_upto v w q (Some z) is same up =
+          let it : z ≡ w = version_same z w same in
+          let among : Among z (content_of (W.stores t) file).heads = (cell_head (content_of (W.stores t) file).heads q z is).0 in
+          (w, subst (λ (u : VersionValue). Among u Ct.heads) it (subst (λ (c : ContentValue). Among z c.heads) content_there among), up)
+
+      had_upto : (v : VersionValue) (q : Key) (c : Cell) → cell_at (W.stores t) file q ≡ Some c → IsUpTo (cell.Version v) c
+          → IsUpToHead v.head.vector Ct.heads
+      had_upto v key.Place (cell.Version w) is up = absurd (place_no (own_or_blank (W.stores t).names file).place w is)
+      had_upto v (key.Flag server) (cell.Version w) is up = absurd (flag_no (flag_of (own_or_blank (W.stores t).names file).flags server) w is)
+      had_upto v (key.Entry child) (cell.Version w) is up =
+          absurd (entry_no (entry_at (W.stores t).names file child) (is_sure (W.stores t) file child) w is)
+      had_upto v (key.Version stamp) (cell.Version w) is up =
+          version_upto v w (key.Version stamp) (version_at (content_of (W.stores t) file).heads (key.Version stamp)) refl is up
+      had_upto v q (cell.Place place) is up = absurd up
+      had_upto v q (cell.Flag flag) is up = absurd up
+      had_upto v q (cell.Entry e sure) is up = absurd up
+
+      heads_covered : AreCoveredBy Cs.heads Ct.heads
+      heads_covered v among =
           let stands_for = given.heads events s file in
-          let head = stands_for.heads v among in
           let at : version_at (content_of A file).heads (key.Version v.head.stamp) ≡ Some v =
           ap (λ (c : ContentValue). version_at c.heads (key.Version v.head.stamp)) content_is
-          ∙ head_at (content_after n events s file).heads v stands_for.order among in
-          let is = took (key.Version v.head.stamp) (cell.Version v) (ap version_cell at) in
-          let same : head.made.stamp ≡ v.head.stamp = sym (ap (λ (z : VersionValue). z.head.stamp) head.version) in
-          let P : Stamp → Type 0 = (λ z. Among z (versions_taken file W.history Us)) in
-          subst P same
-          (taken_itself H (stamps_taken file Us) head.made head.member
-          (subst (λ z. Among z (stamps_taken file Us)) (sym same) (contained_among (stamps_taken file Us) v.head.stamp is)))
+          ∙ head_at Cs.heads v stands_for.order among in
+          let has = cells.all (key.Version v.head.stamp) (cell.Version v) (ap version_cell at) in
+          had_upto v has.key has.cell has.is has.upto
 
       version_taken : (stamp : Stamp) → Among stamp (versions_taken file W.history Ts) → Among stamp (versions_taken file W.history Us)
-      version_taken stamp among =
-          let h = (given.heads events s file).all stamp among in
-          elim h.2 [
-            | inl itself ↦
-                let P : Stamp → Type 0 = (λ z. Among z (versions_taken file W.history Us)) in
-                subst P (sym itself) (head_taken h.0 h.1)
-            | inr further ↦ (given.heads events t file).closed.ancestors h.0.head.stamp stamp (head_taken h.0 h.1) further
-          ]
+      version_taken =
+          (covered_sets H (given.made events file) Cs Ct (taken_after n events s file) (taken_after n events t file)
+          (given.heads events s file) (given.heads events t file)).0 heads_covered
 
       pub state_taken : TookTheState W file s t
       state_taken = record { own = own_taken; entries = entry_taken; versions = version_taken }
@@ -218,5 +249,6 @@ drops_are_safe n on given events event s from file goes =
       (other n on events event s from file goes).0,
       unremoved n on events event s from file goes,
       record { replica = cells.replica; is = cells.held },
-      state_taken n given events s from acts.least acts.most file l.all.took l.leave.replica l.leave.held,
+      state_taken n given events s from acts.least acts.most file l.all.took l.leave.replica l.leave.held l.leave.ends.sender cells
+          ((other n on events event s from file goes).1, (other n on events event s from file goes).2),
     )

@@ -1,9 +1,11 @@
 -- Who sends an answer to a cell accepted it, who sends an answer to a Bye heard it, and a Bye is sent where it is owed.
-use Rattle.std.proofs.Common.{ℕ, ◌≡◌, ◌++◌, ◌∷◌, [], true, false, List, Option, Some, refl, sym, ap, subst, ◌∙◌, All}
+use Rattle.std.proofs.Common.{ℕ, ◌≡◌, ◌⊎◌, ◌++◌, ◌∷◌, [], true, false, List, Option, Some, refl, sym, ap, subst, ◌∙◌, inl, inr, All}
 use Rattle.std.specs.Prelude.{Contains}
 use Rattle.std.proofs.lemmas.Bool.{and_parts, false≢true}
 use Rattle.std.proofs.lemmas.List.Elements.{All-contains, All-nil}
 use Rattle.law_births.specs.pg_base.declared.id.FileId.{FileId}
+use Rattle.law_births.specs.pg_edges.declared.key.Key.{Key}
+use Rattle.law_births.specs.pg_edges.declared.key.Key.TheVariants as key
 use Rattle.law_births.specs.pg_edges.Edges.{is_listed}
 use Rattle.law_births.specs.pg_event.declared.event.Event.{Event}
 use Rattle.law_births.specs.pg_call.declared.call.Call.{Call}
@@ -17,28 +19,34 @@ use Rattle.law_births.specs.pg_msg.declared.message.Message.TheVariants as messa
 use Rattle.law_births.specs.pg_msg.declared.message.Packet.{Packet}
 use Rattle.law_births.specs.pg_msg.declared.message.Sent.{Sent}
 use Rattle.law_births.specs.pg_msg.declared.work.Work.{Work}
+use Rattle.law_births.specs.pg_msg.Ends.{back}
+use Rattle.law_births.specs.pg_msg.Sent.{cell_key}
 use Rattle.law_births.specs.pg_msg.Work.{new_work}
 use Rattle.law_births.proofs.theory_flood_pieces.Choices.{chosen, decided}
 use Rattle.law_births.specs.pg_replica.declared.replica.Replica.{Replica}
 use Rattle.law_births.specs.pg_replica.Replicas.{lists_peer}
 use Rattle.law_births.specs.pg_server.declared.input.Input.{Input}
 use Rattle.law_births.specs.pg_server.declared.input.Input.TheVariants as input
-use Rattle.law_births.specs.pg_server.Local.{first_effect, is_heard, receive, sent_again, takes_effect}
+use Rattle.law_births.specs.pg_server.Local.{first_effect, is_heard, receive, takes_effect, ticked, without_sources}
 use Rattle.law_births.specs.pg_store.declared.store.Store.{Store}
 use Rattle.law_births.specs.pg_store.Links.{is_linked}
 use Rattle.law_births.specs.pg_store.Store.{is_before_clock_end, replica_at}
+use Rattle.law_births.specs.pg_pieces.declared.accepting.EdgeUse.{EdgeUse}
 use Rattle.law_births.specs.pg_pieces.declared.accepting.EdgeUse.TheVariants as manner
-use Rattle.law_births.specs.pg_pieces.Accepting.{is_current, meets}
+use Rattle.law_births.specs.pg_pieces.Accepting.{is_accepted, is_current, meets}
 use Rattle.law_births.specs.pg_pieces.Done.{Done, idle}
+use Rattle.law_births.specs.pg_pieces.Posting.{sent_to}
 use Rattle.law_births.specs.pg_cells.Sending.{is_chosen}
-use Rattle.law_births.specs.pg_run.Going.{AnswersAreToAccepted, ByesAreAnswered, ByesAreOwed, Hears, IsAcceptedCell, Owes, behind, sent_in}
+use Rattle.law_births.specs.pg_run.Going.{ByesAreAnswered, ByesAreOwed, Hears, Owes, behind, sent_in}
 use Rattle.law_births.specs.pg_run.Laws.{TakesIn, store_after}
 use Rattle.law_births.specs.pg_run.Run.{run}
 use Rattle.law_births.proofs.pg_run.Event.{all_sent, asks_by_have, end_of, store_is}
 use Rattle.law_births.specs.pg_run.Intending.{IntentionsAreInOrder}
 use Rattle.law_births.proofs.pg_run.Frame.{acts_is}
+use Rattle.law_births.proofs.pg_run.Holders.{IsBy}
 use Rattle.law_births.proofs.ByeEvents.{effect_bye}
 use Rattle.law_births.proofs.Owing.{found_of, owed_of}
+use Rattle.law_leaving.specs.Answers.{AnswersAreToAccepted, IsAnswered, IsBodyOf, IsCellOf, IsHarbingerOf}
 use Rattle.law_leaving.specs.Premises.{RunsStayWhole}
 use Rattle.law_leaving.proofs.Behind.{behind_is}
 use Rattle.law_births.proofs.pg_run.Sends.{AnswersHave, received_fine}
@@ -60,7 +68,7 @@ pub record IsToBye (a : Store) (asked : Input) (m : Sent) (file : FileId) (birth
 module _ (s : ℕ) (a : Store) (asked : Input) where
   -- what is said of a message that it sends
   abbrev Says : Message → Sent → Type 0
-  Says (message.Ack ends k tag) m = (m.packet.from ≡ s) × IsAcceptedCell a asked m ends k tag
+  Says (message.Ack ends k tag) m = (m.packet.from ≡ s) × IsAnswered a asked m ends
   Says (message.ByeOk file birth) m = (m.packet.from ≡ s) × IsToBye a asked m file birth
   Says (message.Bye ends) m = (m.packet.from ≡ s) × Owes (behind a asked) ends.file ends.sender m.to ends.receiver
   Says _ m = Unit {0}
@@ -88,25 +96,50 @@ module _ (s : ℕ) (a : Store) (asked : Input) where
     nothing : (moment from : ℕ) → Sends (new_work moment from)
     nothing moment from = (All-nil Q, All-nil Q)
 
+    -- an answer along the ends of what came
+    module _ (packet : Packet) (is : asked ≡ input.Arrival packet) (heard : is_heard a packet ≡ true) (ends : Ends) where
+      answered : (way : EdgeUse) → is_accepted a packet.from way ends ≡ true
+          → IsCellOf packet ends ⊎ (IsHarbingerOf packet ends ⊎ IsBodyOf a packet ends) → (b : Store) → IsBy a b → (k : Key) (tag : ℕ)
+          → Q (sent_to b packet.from (message.Ack (back ends) k tag))
+      answered way met kind b same k tag = (
+        same ∙ server,
+        record {
+          packet = packet;
+          hears = record { is = is; heard = ap (takes_effect a) is ∙ heard };
+          from = refl;
+          there = ends;
+          file = refl;
+          sender = refl;
+          receiver = refl;
+          current = (and_parts (is_current a packet.from ends) (meets a packet.from way ends) met).0;
+          kind = kind;
+        },
+      )
+
     answers : (packet : Packet) → asked ≡ input.Arrival packet → is_heard a packet ≡ true
         → (m : Message) → packet.message ≡ m → AnswersHave Q (plainer Q plain) packet.from a packet.from m
-    answers packet is heard (message.Cell ends tag c) e = λ fit met b same. (
-      same ∙ server,
-      record {
-        packet = packet;
-        hears = record { is = is; heard = ap (takes_effect a) is ∙ heard };
-        from = refl;
-        there = ends;
-        cell = c;
-        is = e;
-        key = refl;
-        file = refl;
-        sender = refl;
-        receiver = refl;
-        current = (and_parts (is_current a packet.from ends) (meets a packet.from manner.Makes ends) met).0;
-        fitting = fit;
-      },
-    )
+    answers packet is heard (message.Cell ends tag c) e = λ fit met b same.
+        answered packet is heard ends manner.Makes met (inl (tag, c, e, fit)) b same (cell_key c) tag
+    answers packet is heard (message.Harbinger ends tag head) e = record {
+      asks = λ b offset heads same. tt;
+      acks = λ b under file met same.
+          answered packet is heard ends manner.Makes met (inr (inl (tag, head, e, file))) b same (key.Version head.stamp) under;
+      tells = λ b peer same. tt;
+    }
+    answers packet is heard (message.Want ends wanted) e = record {
+      gives = λ b v offset same there. tt;
+      changes = λ b v ranges same there. tt;
+    }
+    answers packet is heard (message.Delta ends d) e = record {
+      asks = λ b offset heads same. tt;
+      acks = λ b of under file met same.
+          answered packet is heard ends manner.Answers met (inr (inr (inl (d, e), met))) b same (key.Version of) under;
+    }
+    answers packet is heard (message.Piece ends p) e = record {
+      asks = λ b offset heads same. tt;
+      acks = λ b of under file met same.
+          answered packet is heard ends manner.Answers met (inr (inr (inr (p, e), met))) b same (key.Version of) under;
+    }
     answers packet is heard (message.Bye ends) e = (
       server,
       record {
@@ -127,10 +160,11 @@ module _ (s : ℕ) (a : Store) (asked : Input) where
     first_sends : (x : Input) → asked ≡ x → Sends (first_effect a x).work
     first_sends (input.Call moment call) is = let k = call_fine Q (plainer Q plain) a moment call in (k.0, k.1)
     first_sends (input.Tick moment word) is =
-        let w = new_work moment 0 in
-        let k = tick_fine Q plain a (λ file birth peer peer_birth owes.
+        let b = without_sources a in
+        let k = tick_fine Q plain b (λ file birth peer peer_birth owes.
         (server, ticks moment word is file birth peer peer_birth owes)) moment word in
-        chosen Sends (is_before_clock_end a) (sent_again a word w) w (k.0, k.1) (nothing moment 0)
+        let P : Done → Type 0 = λ d. Sends d.work in
+        chosen P (is_before_clock_end a) (ticked a word (new_work moment 0)) (idle a (new_work moment 0)) (k.0, k.1) (nothing moment 0)
     first_sends (input.Arrival packet) is =
         let w = new_work 0 packet.from in
         decided (λ (d : Done). Sends d.work) (is_heard a packet) (receive a packet.message w) (idle a w)

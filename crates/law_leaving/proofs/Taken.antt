@@ -4,7 +4,6 @@ use Rattle.std.specs.Prelude.{Contains}
 use Rattle.std.specs.List.{flat_map}
 use Rattle.std.proofs.lemmas.Bool.{and_from}
 use Rattle.law_births.specs.pg_base.declared.id.FileId.{FileId}
-use Rattle.law_births.specs.pg_base.declared.stamp.Stamp.{Stamp}
 use Rattle.law_births.specs.pg_base.Id.{is_same_file}
 use Rattle.law_births.proofs.pg_base.Orders.{is_same_file-refl, is_same_file-true}
 use Rattle.law_births.specs.pg_content.Content.{Among}
@@ -15,10 +14,10 @@ use Rattle.law_births.specs.pg_msg.declared.update.Update.{Update}
 use Rattle.law_births.specs.pg_register.declared.flag.Flag.{Flag}
 use Rattle.law_births.specs.pg_register.declared.place.Place.{Place}
 use Rattle.law_births.specs.pg_run.Passed.{passed, passed_with, passes}
-use Rattle.law_births.specs.pg_run.Took.{Take, Taker, flag_taken_by, flags_taken, held, is_same_taker, is_taker, place_taken_by, places_taken, stamp_taken_by, stamps_taken, take_of, takes_in, without}
-use Rattle.law_births.specs.pg_run.Took.Take.{TookFlag, TookPlace, TookVersion}
+use Rattle.law_births.specs.pg_run.Took.{Take, Taker, flag_taken_by, flags_taken, held, is_same_taker, is_taker, place_taken_by, places_taken, take_of, takes_in, without}
+use Rattle.law_births.specs.pg_run.Took.Take.{TookFlag, TookPlace}
 use Rattle.law_births.specs.pg_run.Took.Taker.{InDir, Itself}
-use Rattle.law_births.proofs.pg_run.Gone.{flags_stay, places_stay, stamps_stay}
+use Rattle.law_births.proofs.pg_run.Gone.{flags_stay, places_stay}
 use Rattle.law_births.proofs.pg_run.Lists.{among_back, among_contained, among_pieces, contained_among, pieces_among}
 use Rattle.law_leaving.specs.Taken.{IsTaken}
 
@@ -26,19 +25,17 @@ use Rattle.law_leaving.specs.Taken.{IsTaken}
 abbrev pub AllAmong : List Take → List Take → Type 0
 AllAmong takes more = (t : Take) → Among t takes → Among t more
 
--- the replica of a thing took as much, or more: places and flags by the takers that it is, and versions
+-- the replica of a thing took as much, or more: places and flags by the takers that it is
 pub record TakesOn (file : FileId) (takes more : List Take) : Type 0 where
   pub places : (by : Taker) (thing : FileId) (place : Place) → is_taker file by thing ≡ true
       → Contains (places_taken by thing takes) place → Contains (places_taken by thing more) place
   pub flags : (by : Taker) (thing : FileId) (flag : Flag) → is_taker file by thing ≡ true
       → Contains (flags_taken by thing takes) flag → Contains (flags_taken by thing more) flag
-  pub stamps : (stamp : Stamp) → Contains (stamps_taken file takes) stamp → Contains (stamps_taken file more) stamp
 
 pub on_then : (file : FileId) (a b c : List Take) → TakesOn file a b → TakesOn file b c → TakesOn file a c
 on_then file a b c f g = record {
   places = λ by thing place is h. g.places by thing place is (f.places by thing place is h);
   flags = λ by thing flag is h. g.flags by thing flag is (f.flags by thing flag is h);
-  stamps = λ stamp h. g.stamps stamp (f.stamps stamp h);
 }
 
 pieces_on : {A : Type 0} (f : Take → List A) (takes more : List Take) → AllAmong takes more → (y : A)
@@ -52,7 +49,6 @@ pub more_on : (file : FileId) (takes more : List Take) → AllAmong takes more �
 more_on file takes more all = record {
   places = λ by thing place is h. pieces_on (place_taken_by by thing) takes more all place h;
   flags = λ by thing flag is h. pieces_on (flag_taken_by by thing) takes more all flag h;
-  stamps = λ stamp h. pieces_on (stamp_taken_by file) takes more all stamp h;
 }
 
 -- where the replica of another thing went
@@ -65,7 +61,6 @@ pub other_on : (file g : FileId) (takes : List Take) → is_same_file file g ≡
 other_on file g takes apart = record {
   places = λ by thing place is h. subst (λ ps. Contains ps place) (sym (places_stay g by thing takes (other_taker file g by thing apart is))) h;
   flags = λ by thing flag is h. subst (λ fs. Contains fs flag) (sym (flags_stay g by thing takes (other_taker file g by thing apart is))) h;
-  stamps = λ stamp h. subst (λ ss. Contains ss stamp) (sym (stamps_stay g file takes apart)) h;
 }
 
 -- so what a cell tells stays taken
@@ -76,7 +71,7 @@ taken_on file takes more (cell.Entry e sure) on h = (
   λ is. on.places (InDir file) e.child e.place (is_same_file-refl file) (h.0 is),
   λ flag is. on.flags (InDir file) e.child flag (is_same_file-refl file) (h.1 flag is),
 )
-taken_on file takes more (cell.Version v) on h = on.stamps v.head.stamp h
+taken_on file takes more (cell.Version v) on h = tt
 
 -- ---- what passing and the house rules add
 
@@ -116,14 +111,6 @@ flag_among by thing flag takes k =
     (pieces_among (flag_taken_by by thing) flag (TookFlag by thing flag) takes k
     (subst (λ t. P (cond t (flag ∷ []) [])) (sym (taker_here by thing)) (inl refl)))
 
-stamp_among : (file : FileId) (stamp : Stamp) (takes : List Take) → Among (TookVersion file stamp) takes
-    → Contains (stamps_taken file takes) stamp
-stamp_among file stamp takes k =
-    let P : List Stamp → Type 0 = (λ ss. Among stamp ss) in
-    among_contained (stamps_taken file takes) stamp
-    (pieces_among (stamp_taken_by file) stamp (TookVersion file stamp) takes k
-    (subst (λ t. P (cond t (stamp ∷ []) [])) (sym (is_same_file-refl file)) (inl refl)))
-
 -- who took what a cell brings took what it tells
 pub brings : (file : FileId) (takes : List Take) (c : Cell) → AllAmong (takes_in file c) takes → IsTaken takes file c
 brings file takes (cell.Place place) all = λ is. place_among Itself file place takes (all (TookPlace Itself file place) (inl refl))
@@ -134,4 +121,4 @@ brings file takes (cell.Entry e sure) all = (
       (all (TookFlag (InDir file) e.child flag)
       (inr (map_among (TookFlag (InDir file) e.child) e.flags flag (contained_among e.flags flag is)))),
 )
-brings file takes (cell.Version v) all = stamp_among file v.head.stamp takes (all (TookVersion file v.head.stamp) (inl refl))
+brings file takes (cell.Version v) all = tt

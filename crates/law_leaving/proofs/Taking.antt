@@ -2,6 +2,7 @@
 use Rattle.std.proofs.Common.{ℕ, ◌≡◌, Bool, true, false, cond, List, [], ◌∷◌, Option, None, Some, refl, sym, ap, subst, ◌∙◌, inl, inr, ◌⊎◌}
 use Rattle.std.specs.Prelude.{Contains}
 use Rattle.std.proofs.lemmas.Bool.{and_from}
+use Rattle.law_births.specs.pg_base.declared.head.Head.{Head}
 use Rattle.law_births.specs.pg_base.declared.id.FileId.{FileId}
 use Rattle.law_births.specs.pg_base.Id.{is_same_file}
 use Rattle.law_births.proofs.pg_base.Orders.{is_same_file-true}
@@ -14,16 +15,20 @@ use Rattle.law_births.specs.pg_entries.declared.cell.Cell.TheVariants as cell
 use Rattle.law_births.specs.pg_event.declared.event.Event.{Event}
 use Rattle.law_births.specs.theory_flood.Promises.{Saying}
 use Rattle.law_births.specs.theory_flood.Promises.Saying.{AckTo, CellFor, Other}
+use Rattle.law_births.specs.theory_flood.Noting.{SaidIn, noting}
+use Rattle.law_births.specs.theory_flood.Rule.{Rule}
 use Rattle.law_births.specs.theory_flood.Server.{HoldsThere, Slot}
-use Rattle.law_births.proofs.theory_flood.Steps.{Rule}
+use Rattle.law_births.proofs.theory_flood.Late.{wider}
 use Rattle.law_births.proofs.theory_flood.Taken.{taking_rule}
 use Rattle.law_births.specs.pg_msg.declared.message.Ends.{Ends}
 use Rattle.law_births.specs.pg_msg.declared.message.Message.{Message}
 use Rattle.law_births.specs.pg_msg.declared.message.Message.TheVariants as message
+use Rattle.law_births.specs.pg_msg.declared.message.Packet.{Packet}
 use Rattle.law_births.specs.pg_msg.declared.message.Sent.{Sent}
-use Rattle.law_births.specs.theory_flood_pieces.Seen.{cells, plain, says, saying, see}
+use Rattle.law_births.specs.theory_flood_pieces.Seen.{answering, plain, says, saying, see}
 use Rattle.law_births.specs.theory_flood_pieces.UpTo.{IsUpTo}
 use Rattle.law_births.proofs.theory_flood_pieces.Choices.{decided}
+use Rattle.law_births.proofs.theory_flood_pieces.Sending.{harbinger_says, no_answer}
 use Rattle.law_births.specs.pg_server.declared.input.Input.{Input}
 use Rattle.law_births.specs.pg_server.Local.{effect, takes_effect}
 use Rattle.law_births.specs.pg_store.declared.store.Store.{Store}
@@ -31,14 +36,18 @@ use Rattle.law_births.specs.pg_store.Births.{is_over}
 use Rattle.law_births.specs.pg_store.Together.{BirthsMove}
 use Rattle.law_births.proofs.pg_store.Over.{over_stays, over_tested}
 use Rattle.law_births.specs.pg_run.Carried.{came, carried, gone_in}
-use Rattle.law_births.specs.pg_run.Going.{AnswersAreToAccepted, IsAcceptedCell, sent_in}
+use Rattle.law_births.specs.pg_run.Going.{Hears, sent_in}
 use Rattle.law_births.specs.pg_run.Laws.{TakesIn}
 use Rattle.law_births.specs.pg_run.Passed.{passed, passed_with}
-use Rattle.law_births.specs.pg_run.Ruled.{heard_in}
+use Rattle.law_births.specs.pg_run.Asking.{Asked}
+use Rattle.law_births.specs.pg_run.Journal.{mail}
+use Rattle.law_births.specs.pg_run.Ruled.{heard_in, late_in}
 use Rattle.law_births.specs.pg_run.Run.{World, brought, made_behind, made_takes, removed_then, run, took_after, took_first}
 use Rattle.law_births.specs.pg_run.Took.{Take, takes_in, without_gone}
 use Rattle.law_births.proofs.pg_run.Frame.{acts_is}
+use Rattle.law_births.proofs.pg_run.Late.{late_in_mail, late_told}
 use Rattle.law_births.proofs.pg_run.Lists.{among_back, among_front}
+use Rattle.law_leaving.specs.Answers.{AnswersAreToAccepted, IsBodyOf, IsCellOf, IsHarbingerOf}
 use Rattle.law_leaving.specs.Premises.{StandOn}
 use Rattle.law_leaving.specs.Taken.{IsTaken, Site, site, taking}
 use Rattle.law_leaving.proofs.Behind.{behind_is, over_not}
@@ -52,8 +61,10 @@ ack_said : (from to : ℕ) (m : Message) (o : ℕ) (q : Slot) (g : ℕ) → sayi
     → (ends : Ends) × (k : Key) × (tag : ℕ) × (m ≡ message.Ack ends k tag)
 ack_said from to (message.Cell ends tag c) o q g is = absurd (let x = is in cc)
 ack_said from to (message.Ack ends k tag) o q g is = (ends, k, tag, refl)
+ack_said from to (message.Harbinger ends tag head) o q g is = absurd (no_answer from to ends tag head o q g is)
 ack_said from to _ o q g is = absurd (let x : ◌≡◌ {A = Saying Slot Cell} Other (AckTo o q g) = is in cc)
 
+-- what a saying tells of
 abbrev file_said : FileId → Saying Slot Cell → FileId
 file_said other (CellFor o q g c) = q.file
 file_said other _ = other
@@ -61,6 +72,9 @@ file_said other _ = other
 abbrev cell_said : Cell → Saying Slot Cell → Cell
 cell_said other (CellFor o q g c) = c
 cell_said other _ = other
+
+none_said : {A : Type 0} (o : ℕ) (r : Slot) (g : ℕ) (c : Cell) → ◌≡◌ {A = Saying Slot Cell} Other (CellFor o r g c) → A
+none_said o r g c is = absurd (let x : ◌≡◌ {A = Saying Slot Cell} Other (CellFor o r g c) = is in cc)
 
 plain_taken : (takes : List Take) (file : FileId) (c : Cell) → IsTaken takes file c → IsTaken takes file (plain c)
 plain_taken takes file (cell.Place p) h = h
@@ -81,18 +95,25 @@ module _ (n : ℕ) (on : StandOn n) (answers : AnswersAreToAccepted n) (events :
   abbrev B : Store
   B = (effect A asked).store
 
+  abbrev V : Asked
+  V = W.asked s
+
   abbrev T : List Take
   T = W.took s
 
   abbrev U : List Take
-  U = took_after A T asked
+  U = took_after A V T asked
 
   -- what was taken where the input takes effect
   abbrev Passed : List Take
-  Passed = passed_with (removed_then A asked) (passed (removed_then A asked) (took_first A T asked)) (made_behind A asked)
+  Passed = passed_with (removed_then A asked) (passed (removed_then A asked) (took_first A V T asked)) (made_behind A asked)
 
   abbrev Next : Site
   Next = record { store = B; took = U }
+
+  -- what may be answered late
+  abbrev pub Late : List (Saying Slot Cell)
+  Late = late_in (mail W.journal)
 
   moves : BirthsMove A B
   moves =
@@ -118,9 +139,9 @@ module _ (n : ℕ) (on : StandOn n) (answers : AnswersAreToAccepted n) (events :
       decided (TakesOn file T) (takes_effect A asked) Passed T
       (λ going.
       let left = without_gone (gone_in A asked) T in
-      let first = took_first A T asked in
+      let first = took_first A V T asked in
       on_then file T left Passed (left_on file (gone_in A asked) (apart going))
-      (on_then file left first Passed (more_on file left first (λ t k. among_back t (brought A asked) left k))
+      (on_then file left first Passed (more_on file left first (λ t k. among_back t (brought A V asked) left k))
       (more_on file first Passed (all_on (removed_then A asked) first (made_behind A asked)))))
       (λ still. more_on file T T (λ t k. k))
 
@@ -135,50 +156,80 @@ module _ (n : ℕ) (on : StandOn n) (answers : AnswersAreToAccepted n) (events :
 
   -- ---- what is answered was taken
 
-  module _ (m : Sent) (ends : Ends) (k : Key) (tag : ℕ) (cell_is : IsAcceptedCell A asked m ends k tag) where
-    abbrev There : Ends
-    There = cell_is.there
+  module _ (packet : Packet) (hears : Hears A asked packet) (there : Ends) (current : is_current A packet.from there ≡ true) where
+    -- a cell
+    module _ (tag : ℕ) (held : Cell) (cell_is : packet.message ≡ message.Cell there tag held) (fit : fits there.file held ≡ true) where
+      came_is : came A V asked ≡ takes_in there.file held
+      came_is =
+          let t = is_current A packet.from there in
+          let u = fits there.file held in
+          ap (came A V) hears.is ∙ ap (carried A V packet.from) cell_is
+          ∙ ap (λ z. cond z (takes_in there.file held) []) (and_from t u current fit)
 
-    came_is : came A asked ≡ takes_in There.file cell_is.cell
-    came_is =
-        let t = is_current A cell_is.packet.from There in
-        let u = fits There.file cell_is.cell in
-        ap (came A) cell_is.hears.is ∙ ap (carried A cell_is.packet.from) cell_is.is
-        ∙ ap (λ z. cond z (takes_in There.file cell_is.cell) []) (and_from t u cell_is.current cell_is.fitting)
+      cell_among : AllAmong (takes_in there.file held) U
+      cell_among t h =
+          let first = took_first A V T asked in
+          let left = without_gone (gone_in A asked) T in
+          let made = made_takes A asked in
+          let come : Among t (came A V asked) = subst (λ ts. Among t ts) (sym came_is) h in
+          let first_among : Among t first = among_front t (brought A V asked) left (among_back t made (came A V asked) come) in
+          subst (λ z. Among t (cond z Passed T)) (sym hears.heard) (all_on (removed_then A asked) first (made_behind A asked) t first_among)
 
-    cell_among : AllAmong (takes_in There.file cell_is.cell) U
-    cell_among t h =
-        let first = took_first A T asked in
-        let left = without_gone (gone_in A asked) T in
-        let made = made_takes A asked in
-        let come : Among t (came A asked) = subst (λ ts. Among t ts) (sym came_is) h in
-        let there : Among t first = among_front t (brought A asked) left (among_back t made (came A asked) come) in
-        subst (λ z. Among t (cond z Passed T)) (sym cell_is.hears.heard) (all_on (removed_then A asked) first (made_behind A asked) t there)
+      cell_heard : heard_in s asked ≡ saying packet.from s (message.Cell there tag held)
+      cell_heard = ap (heard_in s) hears.is ∙ ap (saying packet.from s) cell_is
 
-    heard_is : heard_in s asked ≡ saying cell_is.packet.from s (message.Cell There tag cell_is.cell)
-    heard_is = ap (heard_in s) cell_is.hears.is ∙ ap (saying cell_is.packet.from s) cell_is.is
+      cell_taken : (o : ℕ) (r : Slot) (g : ℕ) (c : Cell) → heard_in s asked ≡ CellFor o r g c → IsTaken U r.file c
+      cell_taken o r g c heard =
+          let same = sym cell_heard ∙ heard in
+          let P : FileId → Type 0 = (λ f. IsTaken U f (plain held)) in
+          let Q : Cell → Type 0 = (λ d. IsTaken U r.file d) in
+          subst Q (ap (cell_said c) same)
+          (subst P (ap (file_said r.file) same) (plain_taken U there.file held (brings there.file U held cell_among)))
 
-    then_taken : (o : ℕ) (r : Slot) (g : ℕ) (c : Cell) → heard_in s asked ≡ CellFor o r g c → IsTaken U r.file c
-    then_taken o r g c heard =
-        let same = sym heard_is ∙ heard in
-        let P : FileId → Type 0 = (λ f. IsTaken U f (plain cell_is.cell)) in
-        let Q : Cell → Type 0 = (λ d. IsTaken U r.file d) in
-        subst Q (ap (cell_said c) same)
-        (subst P (ap (file_said r.file) same) (plain_taken U There.file cell_is.cell (brings There.file U cell_is.cell cell_among)))
+    -- what is said of a version asks for nothing
+    told_taken : (m : Message) → packet.message ≡ m
+        → ((o : ℕ) (r : Slot) (g : ℕ) (c : Cell) → saying packet.from s m ≡ CellFor o r g c → IsTaken U r.file c)
+        → (o : ℕ) (r : Slot) (g : ℕ) (c : Cell) → heard_in s asked ≡ CellFor o r g c → IsTaken U r.file c
+    told_taken m is each o r g c heard = each o r g c (sym (ap (heard_in s) hears.is ∙ ap (saying packet.from s) is) ∙ heard)
+
+    harbinger_taken : (tag : ℕ) (head : Head) (o : ℕ) (r : Slot) (g : ℕ) (c : Cell)
+        → saying packet.from s (message.Harbinger there tag head) ≡ CellFor o r g c → IsTaken U r.file c
+    harbinger_taken tag head o r g c is =
+        harbinger_says (λ z. z ≡ CellFor o r g c → IsTaken U r.file c) packet.from s there head tag
+        (λ same. subst (λ (d : Cell). IsTaken U r.file d) (ap (cell_said c) same) tt)
+        (λ same. none_said o r g c same) is
+
+    then_taken : IsCellOf packet there ⊎ (IsHarbingerOf packet there ⊎ IsBodyOf A packet there)
+        → (o : ℕ) (r : Slot) (g : ℕ) (c : Cell) → heard_in s asked ≡ CellFor o r g c → IsTaken U r.file c
+    then_taken (inl k) = cell_taken k.0 k.1 k.2 k.3
+    then_taken (inr (inl k)) = told_taken (message.Harbinger there k.0 k.1) k.2 (harbinger_taken k.0 k.1)
+    then_taken (inr (inr k)) = elim k.0 [
+      | inl d ↦ told_taken (message.Delta there d.0) d.1 (λ o r g c same. none_said o r g c same)
+      | inr p ↦ told_taken (message.Piece there p.0) p.1 (λ o r g c same. none_said o r g c same)
+    ]
 
   answered : (m : Sent) (o : ℕ) (named r : Slot) (g : ℕ) (c : Cell) → Contains (sent_in A asked) m → says m ≡ AckTo o named g
-      → (heard_in s asked ≡ CellFor o r g c) ⊎ ⊥ → IsTaken U r.file c
+      → (heard_in s asked ≡ CellFor o r g c) ⊎ Contains Late (CellFor o r g c) → IsTaken U r.file c
   answered m o named r g c among ack (inl heard) =
       let a = ack_said m.packet.from m.to m.packet.message o named g ack in
-      then_taken m a.0 a.1 a.2 (answers events event s asked is m a.0 a.1 a.2 among a.3).1 o r g c heard
-  answered m o named r g c among ack (inr noted) = absurd noted
+      let k = (answers events event s asked is m a.0 a.1 a.2 among a.3).1 in
+      then_taken k.packet k.hears k.there k.current k.kind o r g c heard
+  answered m o named r g c among ack (inr noted) =
+      let t = late_told (mail W.journal) o r g c noted in
+      subst (λ (d : Cell). IsTaken U r.file d) t.1 tt
 
-  pub rule : Rule taking s (site W s) Next (heard_in s asked) (sent_in A asked)
+  rule : Rule (noting taking (λ x. Contains Late x)) s (site W s) Next (heard_in s asked) (sent_in A asked)
   rule =
-      taking_rule cells (λ (a : Site). a.store) (λ (a : Site) file birth c. IsTaken a.took file c) (λ a file birth c. tt)
+      taking_rule (answering Late) (λ (a : Site). a.store) (λ (a : Site) file birth c. IsTaken a.took file c) (λ a file birth c. tt)
       s (site W s) Next (heard_in s asked) (sent_in A asked) (on.events.acts events event s asked is)
       (record {
         over = λ r c h. stays_over r.file r.birth h;
         stays = stays;
         answers = λ m o named r g c among ack heard there. answered m o named r g c among ack heard;
       })
+
+  -- by the rule that answers whatever was said
+  pub late_rule : Rule (noting taking (SaidIn taking (mail W.journal))) s (site W s) Next (heard_in s asked) (sent_in A asked)
+  late_rule =
+      wider taking (λ x. Contains Late x) (SaidIn taking (mail W.journal)) s (site W s) Next (heard_in s asked) (sent_in A asked)
+      (late_in_mail (mail W.journal)) rule

@@ -11,7 +11,7 @@ use Rattle.law_births.specs.pg_run.Run.{World, run}
 use Rattle.law_leaving.specs.Taken.{IsTaken}
 
 -- server t holds the thing with this birth, is not removed in the view of server s, and has every cell
--- that s has of it, or one that tells more, and took what it tells
+-- that s has of it, or one that tells more, and took what it tells of places, flags and entries
 pub record HasAllOf (w : World) (s : ℕ) (file : FileId) (t birth : ℕ) : Type 0 where
   pub there : is_removed (w.stores s).names.removed t ≡ false
   pub cells : HasEachCell w s file t birth

@@ -1,4 +1,5 @@
 pub mod Taken
+pub mod Answers
 pub mod Gone
 pub mod Seen
 pub mod Laws

@@ -5,7 +5,7 @@ use Rattle.law_births.specs.theory_flood_pieces.Whole.{IsWhole}
 use Rattle.law_births.specs.pg_run.Births.{BirthsAreAlone, BirthsAreKnown, BirthsMoveOn, GoneSays, LinksNameTheSender}
 use Rattle.law_births.specs.pg_run.Going.{BirthsEndByLeave, ByesBeginWhereOneGoes, ByesEndByAnswers, EachPeerIsTold, EdgesGoByWord, FlagsAreMadeWhereHeld}
 use Rattle.law_births.specs.pg_run.Grown.{EventsGrow}
-use Rattle.law_births.specs.pg_run.Histories.{StateIsItsHeads}
+use Rattle.law_births.specs.pg_run.Histories.{MakesHistories, StateIsItsHeads}
 use Rattle.law_births.specs.pg_run.Intending.{IntentionsAreInOrder}
 use Rattle.law_births.specs.pg_run.Known.{CarriedIsKnown, FlagsAreOwn}
 use Rattle.law_births.specs.pg_run.Laws.{HoldsWhatItTook, NamesMerge}
@@ -62,8 +62,9 @@ pub record StandOn (servers : ℕ) : Type 0 where
   pub births : BirthsAreCited servers
   pub events : EventsAreCited servers
 
--- what servers hold is the state of what their replicas took
+-- what servers hold is the state of what their replicas took, and versions are histories
 pub record StatesAreCited (servers : ℕ) : Type 0 where
   pub merge : NamesMerge servers
   pub held : HoldsWhatItTook servers
   pub heads : StateIsItsHeads servers
+  pub made : MakesHistories servers

@@ -12,7 +12,7 @@ use Rattle.law_births.specs.pg_register.declared.place.Place.{Place}
 use Rattle.law_births.specs.pg_store.declared.store.Store.{Store}
 use Rattle.law_births.specs.theory_flood_pieces.Seen.{cells}
 use Rattle.law_births.specs.pg_run.Run.{World}
-use Rattle.law_births.specs.pg_run.Took.{Take, Taker, flags_taken, places_taken, stamps_taken}
+use Rattle.law_births.specs.pg_run.Took.{Take, Taker, flags_taken, places_taken}
 use Rattle.law_births.specs.pg_run.Took.Taker.{InDir, Itself}
 
 -- a place was taken, if it is one: the blank place is no update
@@ -20,14 +20,14 @@ abbrev pub IsPlaceTaken : Taker → FileId → List Take → Place → Type 0
 IsPlaceTaken by thing takes place =
     is_update place ≡ true → Contains (places_taken by thing takes) place
 
--- what a cell tells was taken: of an entry the place and the flags of the child. A version is taken
--- with its ancestors
+-- what a cell tells was taken: of an entry the place and the flags of the child. Of versions nothing is
+-- asked here: who holds a cell that tells more than a version's, took that version with its ancestors
 abbrev pub IsTaken : List Take → FileId → Cell → Type 0
 IsTaken takes file (cell.Place place) = IsPlaceTaken Itself file takes place
 IsTaken takes file (cell.Flag flag) = Contains (flags_taken Itself file takes) flag
 IsTaken takes file (cell.Entry e sure) = IsPlaceTaken (InDir file) e.child takes e.place
     × ((flag : Flag) → Contains e.flags flag → Contains (flags_taken (InDir file) e.child takes) flag)
-IsTaken takes file (cell.Version v) = Contains (stamps_taken file takes) v.head.stamp
+IsTaken takes file (cell.Version v) = Unit {0}
 
 -- what a server holds, and what its replicas took
 pub record Site : Type 0 where

@@ -18,8 +18,8 @@ pub fn heard_edges_are_known()
 {}
 
 /// A replica goes by leave of another server, that is not removed in the view of the one at which it
-/// goes; and that server's replica, which the leave names, has every cell of the one that goes, and took
-/// what it tells.
+/// goes; and that server's replica, which the leave names, has every cell of the one that goes, or one
+/// that tells more, and took what it tells of places, flags and entries.
 pub fn drops_leave_all()
     ensures all { (servers : ℕ) → StandOn servers → DropsLeaveAll servers }
     ensures cells { (servers : ℕ) → StandOn servers → GiversHaveEachCell servers }

@@ -13,7 +13,7 @@
 //!   give of each, `proofs/Kept` the induction, and `proofs/Drops` and `Safe` what follows for
 //!   cells and for states.
 //! - `proofs/Said` goes over all that is sent: a Bye is owed, or answered, and answers go to who
-//!   was accepted.
+//!   was accepted (`specs/Answers`), and is listed (`proofs/Acks`, `Listed`).
 //! - Premises: `StandOn` and `StatesAreCited` (`specs/Premises`), of births, events, edges, flags,
 //!   views and contents. It goes by `law_births` alone, so laws of names and quiet may cite it.
 //! - A new kind of message says nothing of replicas that go, where `word_of` has no word for it,

@@ -18,11 +18,10 @@ use Rattle.law_places.specs.pg_msg.declared.message.Sent.{Sent}
 use Rattle.law_places.specs.pg_msg.declared.work.Work.{Work}
 use Rattle.law_places.specs.pg_msg.Numbers.{is_in_range}
 use Rattle.law_places.specs.pg_msg.Work.{new_work}
-use Rattle.law_places.proofs.theory_flood_pieces.Choices.{chosen}
 use Rattle.law_places.specs.pg_run.Intending.{IntendsInOrder}
 use Rattle.law_places.specs.pg_server.declared.input.Input.{Input}
 use Rattle.law_places.specs.pg_server.declared.input.Input.TheVariants as input
-use Rattle.law_places.specs.pg_server.Local.{Effect, closed, done_of, effect, finished, first_effect, is_heard, receive, reply_to, sent_again, settled as settled_by, without_volatile}
+use Rattle.law_places.specs.pg_server.Local.{Effect, closed, done_of, effect, finished, first_effect, is_heard, receive, reply_to, settled as settled_by, ticked, without_sources, without_volatile}
 use Rattle.law_places.specs.pg_server.Local.{intended}
 use Rattle.law_places.proofs.pg_run.Event.{nothing_last, nothing_sent as nothing_sent_behind}
 use Rattle.law_places.specs.pg_store.declared.store.Store.{Store}
@@ -152,31 +151,40 @@ module _ (last : ℕ) (sent : List Letter) (s : ℕ) (a : Store) (behind : IsBeh
     abbrev Ticks : Input
     Ticks = input.Tick moment word
 
-    abbrev W : Work
-    W = new_work moment 0
+    -- nobody is asked for a version any more, and all else is as it was
+    abbrev Lost : Store
+    Lost = without_sources a
 
     abbrev Cells : Work
-    Cells = ask_all a (tick a W)
+    Cells = ask_all Lost (tick Lost (new_work moment 0))
 
-    again_may : AllMay a a (sent_again a word W).sent
+    abbrev Ticked : Done
+    Ticked = ticked a word (new_work moment 0)
+
+    abbrev Idle : Done
+    Idle = idle a (new_work moment 0)
+
+    again_may : AllMay a Lost Ticked.work.sent
     again_may =
-        subst (AllMay a a) (sym (tick_last a word Cells).0)
-        (All-append (MaySent a a) ([] ++ cells_where a is_any) _ (All-append (MaySent a a) [] (cells_where a is_any) (nothing_sent a) (cells_may a a children is_any)) (all_may a a order.keys))
+        subst (AllMay a Lost) (sym (tick_last Lost word Cells).0)
+        (All-append (MaySent a Lost) ([] ++ cells_where Lost is_any) _
+        (All-append (MaySent a Lost) [] (cells_where Lost is_any) (nothing_sent Lost) (cells_may a Lost children is_any)) (all_may a Lost order.keys))
 
-    again_last : AllMay a a (sent_again a word W).tail
-    again_last = others_may a a (sent_again a word W).tail ((tick_last a word Cells).1 (All-nil IsOther))
+    again_last : AllMay a Lost Ticked.work.tail
+    again_last = others_may a Lost Ticked.work.tail ((tick_last Lost word Cells).1 (All-nil IsOther))
 
-    tick_by : (r : Option Reply) (t : Bool) (v : Work) → AllMay a a v.sent → AllMay a a v.tail
-        → IsGood (idle a v) (cond t (closed r (idle a v)) (finished r (idle a v))) → (cond t (closed r (idle a v)) (finished r (idle a v))).store ≡ a
-        → Stepped Ticks (cond t (closed r (idle a v)) (finished r (idle a v)))
-    tick_by r false v may last good still = finished_step Ticks r (idle a v) good refl refl may last
-    tick_by r true v may last good still =
-        let e = closed r (idle a v) in
-        let b = intended (settled_by (idle a v)) in
-        let first : AllMay a b.store b.work.sent = subst (λ ms. AllMay a b.store ms) (sym (nothing_sent_behind (idle a v))) (subst (λ (s : Store). AllMay a s v.sent) (sym still) may) in
-        let tail : AllMay a b.store b.work.tail = subst (λ ms. AllMay a b.store ms) (sym (nothing_last (idle a v))) (subst (λ (s : Store). AllMay a s v.tail) (sym still) last) in
-        idle_step_by Ticks (idle a v) e good (ap (λ (s : Store). s.names) still) (ap (λ (s : Store). s.intents) still)
-        (ends_may b (subst (λ (s : Store). HaveChildren s.names) (sym still) children) first tail)
+    tick_by : (r : Option Reply) (t : Bool) → IsGood (cond t Ticked Idle) (cond t (closed r (cond t Ticked Idle)) (finished r (cond t Ticked Idle)))
+        → (t ≡ true → (cond t (closed r (cond t Ticked Idle)) (finished r (cond t Ticked Idle))).store ≡ Lost)
+        → Stepped Ticks (cond t (closed r (cond t Ticked Idle)) (finished r (cond t Ticked Idle)))
+    tick_by r false good still = finished_step Ticks r Idle good refl refl (nothing_sent a) (nothing_sent a)
+    tick_by r true good still =
+        let e = closed r Ticked in
+        let b = intended (settled_by Ticked) in
+        let same : b.store ≡ Lost = still refl in
+        let first : AllMay a b.store b.work.sent = subst (λ ms. AllMay a b.store ms) (sym (nothing_sent_behind Ticked)) (subst (λ (s : Store). AllMay a s Ticked.work.sent) (sym same) again_may) in
+        let tail : AllMay a b.store b.work.tail = subst (λ ms. AllMay a b.store ms) (sym (nothing_last Ticked)) (subst (λ (s : Store). AllMay a s Ticked.work.tail) (sym same) again_last) in
+        idle_step_by Ticks Ticked e good (ap (λ (s : Store). s.names) same) (ap (λ (s : Store). s.intents) same)
+        (ends_may b (subst (λ (s : Store). HaveChildren s.names) (sym same) children) first tail)
 
   -- ---- a message
 
@@ -218,17 +226,12 @@ module _ (last : ℕ) (sent : List Letter) (s : ℕ) (a : Store) (behind : IsBeh
   -- what is asked of an input
   abbrev pub IsAsked : Input → Type 0
   IsAsked (input.Call moment x) = Unit {0}
-  IsAsked (input.Tick moment word) = (effect a (input.Tick moment word)).store ≡ a
+  IsAsked (input.Tick moment word) = is_before_clock_end a ≡ true → (effect a (input.Tick moment word)).store ≡ without_sources a
   IsAsked (input.Arrival packet) = Came packet
   IsAsked input.Restart = Unit {0}
 
   pub input_step : (asked : Input) → IsAsked asked → IsGood (first_effect a asked) (effect a asked) → Stepped asked (effect a asked)
   input_step (input.Call moment x) is good = call_by moment x (reply_to a (input.Call moment x)) (is_before_clock_end a) refl good
-  input_step (input.Tick moment word) is good =
-      let asked = input.Tick moment word in
-      let w = new_work moment 0 in
-      tick_by moment word (reply_to a asked) (is_before_clock_end a) (cond (is_before_clock_end a) (sent_again a word w) w)
-      (chosen (λ (v : Work). AllMay a a v.sent) (is_before_clock_end a) (sent_again a word w) w (again_may moment word) (nothing_sent a))
-      (chosen (λ (v : Work). AllMay a a v.tail) (is_before_clock_end a) (sent_again a word w) w (again_last moment word) (nothing_sent a)) good is
+  input_step (input.Tick moment word) is good = tick_by moment word (reply_to a (input.Tick moment word)) (is_before_clock_end a) good is
   input_step (input.Arrival packet) is good = message_by packet is (reply_to a (input.Arrival packet)) (is_heard a packet) refl good
   input_step input.Restart is good = restart_by (reply_to a input.Restart) (is_before_clock_end a) good

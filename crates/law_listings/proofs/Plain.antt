@@ -1,5 +1,5 @@
 -- Messages that tell of no place, and works that send no other.
-use Rattle.std.proofs.Common.{ℕ, ◌≡◌, List, [], ◌∷◌, Some, refl, All, ◌==◌, ◌-◌, ◌/◌, ◌%◌, true, length, slice_get, Option, None}
+use Rattle.std.proofs.Common.{ℕ, ◌≡◌, List, [], ◌∷◌, Some, refl, All, ◌==◌, ◌/◌, ◌%◌, true, length, slice_get, Option, None}
 use Rattle.std.proofs.lemmas.List.Elements.{All-append, All-cons, All-nil}
 use Rattle.law_places.specs.pg_base.declared.id.FileId.{FileId}
 use Rattle.theory_listing.specs.World.Saying.{Other}
@@ -49,6 +49,7 @@ none = (All-nil IsOther, All-nil IsOther)
 
 -- what tells nothing of what is held tells of no place
 plain_is : (m : Message) → is_plain m ≡ true → IsPlain m
+plain_is (message.Later ends stamp) h = λ a from. (refl, tt)
 plain_is (message.Fetch file birth) h = λ a from. (refl, tt)
 plain_is (message.Grant ends granted) h = λ a from. (refl, tt)
 plain_is (message.NoGrant file birth) h = λ a from. (refl, tt)

@@ -33,13 +33,20 @@ use Rattle.law_places.specs.pg_msg.declared.work.Work.{Work}
 use Rattle.law_places.proofs.theory_flood_pieces.Choices.{chosen, decided}
 use Rattle.law_places.specs.pg_register.declared.place.Place.{Place}
 use Rattle.law_places.specs.pg_run.Intending.{IntendsInOrder}
+use Rattle.law_places.proofs.pg_run.Transfers.{KeepsTransfers, delta_keeps, harbinger_keeps, later_keeps, piece_keeps, want_keeps}
 use Rattle.law_places.specs.pg_server.Local.{receive}
+use Rattle.law_places.specs.pg_server.pg_transfer.Asking.{with_notes}
+use Rattle.law_places.specs.pg_server.pg_transfer.Delta.{delta}
+use Rattle.law_places.specs.pg_server.pg_transfer.Harbinger.{harbinger}
+use Rattle.law_places.specs.pg_server.pg_transfer.Later.{later}
+use Rattle.law_places.specs.pg_server.pg_transfer.Piece.{piece}
+use Rattle.law_places.specs.pg_server.pg_transfer.Want.{want}
 use Rattle.law_places.specs.pg_store.declared.store.Store.{Store}
 use Rattle.law_places.specs.pg_store.Beginning.{with_intents}
 use Rattle.law_places.specs.pg_store.Births.{is_pending}
 use Rattle.law_places.specs.pg_store.Links.{knows_later}
 use Rattle.law_places.specs.pg_store.Servers.{next_target, view_of}
-use Rattle.law_places.specs.pg_store.Store.{is_full, is_held}
+use Rattle.law_places.specs.pg_store.Store.{is_full, is_held, keep_delta}
 use Rattle.law_places.proofs.pg_store.Given.{pending_may}
 use Rattle.law_places.specs.pg_pieces.declared.accepting.EdgeUse.TheVariants as manner
 use Rattle.law_places.specs.pg_pieces.Accepting.{accept, is_accepted, link_peer}
@@ -261,15 +268,33 @@ module _ (a : Store) (behind : IsBehind a) (order : IntendsInOrder a) (heard : L
       let b = with_intents a (aimed a.intents q (next_target a work.from)) in
       chosen (λ (x : Store). First (idle x work)) (does_ask (intent_at a.intents q) work.from) b a (alike (idle b work) (aimed_alike a q (next_target a work.from))) (idle_first a behind heard view work)
 
+  -- bodies of versions
+  abbrev IsAlike : Done → Type 0
+  IsAlike d = Alike a d.store
+
+  bodies : (ends : Ends) → KeepsTransfers ends IsAlike
+  bodies ends = record {
+    notes = λ d notes k. Alike-trans k (alike_by d.store (with_notes d.store notes) refl refl);
+    keeps = λ d delta k. Alike-trans k (alike_by d.store (keep_delta d.store ends.file delta) refl refl);
+    takes = λ d v k. Alike-trans k (version_alike d.store ends.file v);
+    answers = λ d m is k. k;
+    tells = λ d head e is k. k;
+  }
+
   -- A MESSAGE
   pub receive_first : (z : Store) (m : Message) (work : Work) → heard.says ≡ says z m → IsOne a z m → First (receive a m work)
   receive_first z (message.Cell ends tag c) work said one = cell_first ends tag c work said
   receive_first z (message.Ack ends key tag) work said one = alike _ (alike_by a _ refl refl)
-  receive_first z (message.Harbinger ends tag head) work said one = idle_first a behind heard view work
-  receive_first z (message.Want ends wanted) work said one = idle_first a behind heard view work
-  receive_first z (message.Delta ends delta) work said one = idle_first a behind heard view work
-  receive_first z (message.Piece ends piece) work said one = idle_first a behind heard view work
-  receive_first z (message.Later ends stamp) work said one = idle_first a behind heard view work
+  receive_first z (message.Harbinger ends tag head) work said one =
+      alike (harbinger a ends tag head work) (harbinger_keeps ends IsAlike (bodies ends) a work (Alike-refl a) tag head (accept_alike a ends manner.Makes work))
+  receive_first z (message.Want ends wanted) work said one =
+      alike (want a ends wanted work) (want_keeps ends IsAlike (bodies ends) a work (Alike-refl a) wanted (accept_alike a ends manner.Needs work))
+  receive_first z (message.Delta ends d) work said one =
+      alike (delta a ends d work) (delta_keeps ends IsAlike (bodies ends) a work (Alike-refl a) d (accept_alike a ends manner.Answers work))
+  receive_first z (message.Piece ends p) work said one =
+      alike (piece a ends p work) (piece_keeps ends IsAlike (bodies ends) a work (Alike-refl a) p (accept_alike a ends manner.Answers work))
+  receive_first z (message.Later ends stamp) work said one =
+      alike (later a ends stamp work) (later_keeps ends IsAlike (bodies ends) a work (Alike-refl a) stamp (accept_alike a ends manner.Answers work))
   receive_first z (message.Fetch file birth) work said one = fetch_first file birth work
   receive_first z (message.Grant ends granted) work said one = grant_first ends granted work
   receive_first z (message.NoGrant file birth) work said one = no_grant_first file birth work

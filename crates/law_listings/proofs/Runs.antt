@@ -215,7 +215,7 @@ module _ (n : ℕ) (k : ListingsStandOn n) where
           let t : Taking = record { server = s; asked = input.Tick moment word } in
           let here : taking_in n Ran tick ≡ Some t = ap (λ b. cond b (Some t) None) there in
           let e = effect A (input.Tick moment word) in
-          sym (after_itself Ran.stores s e.store) ∙ sym (ap (λ (z : Step). z.stores s) (next_is n Ran tick t here)) ∙ (k.ticks events s moment word there).still s
+          λ time. sym (after_itself Ran.stores s e.store) ∙ sym (ap (λ (z : Step). z.stores s) (next_is n Ran tick t here)) ∙ (k.ticks events s moment word there).loses time
       asked_is (input.Arrival packet) came =
           let l = all_among (HasLetter Ran sent) (mail Ran.journal) (record { to = s; packet = packet }) old.mailed (contained_among (mail Ran.journal) (record { to = s; packet = packet }) came) in
           record { store = l.store; among = l.among; one = one_by packet l packet.message refl came }

@@ -41,6 +41,7 @@ use Rattle.law_listings.proofs.Heard.{IsBehind, none_later}
 use Rattle.law_listings.proofs.Joined.{told_then}
 use Rattle.law_listings.proofs.Alike.{Alike}
 use Rattle.law_places.proofs.pg_run.Sends.{AnswersHave, Fine, accept_fine, entry_fine, received_fine, told_fine}
+use Rattle.law_places.proofs.pg_run.SendsBodies.{AnswersBody}
 use Rattle.law_listings.proofs.Placed.{cell_then, grows_then, removed_then}
 use Rattle.law_listings.proofs.Plain.{IsOther, IsStamped, SendsOthers, other}
 use Rattle.law_listings.proofs.Steps.{IsToldWell, MaySay, Says, WorkSays, others_say}
@@ -181,6 +182,13 @@ module _ (a : Store) (behind : IsBehind a) (heard : Letter) (view : heard.view �
   plainly m has =
       let d = receive a m W in others_say a d.store d.work (others d.work (received_fine IsOther other from a m W has start))
 
+  -- nor does an answer to a part of a body
+  body_says : (ends : Ends) (stamp : Stamp) → AnswersBody IsOther from from a ends stamp
+  body_says ends stamp = record {
+    asks = λ b offset heads by z sender. (refl, tt);
+    acks = λ b s tag file met by z sender. (refl, tt);
+  }
+
   -- A MESSAGE
   pub receive_says : (m : Message) → WorkSays a (receive a m W).store (receive a m W).work
   receive_says (message.Confirm dir e) = confirm_says dir e
@@ -188,4 +196,15 @@ module _ (a : Store) (behind : IsBehind a) (heard : Letter) (view : heard.view �
   receive_says (message.Leave ends stamp) = leave_says ends stamp
   receive_says (message.Cell ends tag c) = plainly (message.Cell ends tag c) (λ fit met b same z sender. (refl, tt))
   receive_says (message.Bye ends) = plainly (message.Bye ends) (λ z sender. (refl, tt))
+  receive_says (message.Harbinger ends tag head) = plainly (message.Harbinger ends tag head) (record {
+    asks = λ b offset heads by z sender. (refl, tt);
+    acks = λ b tag file met by z sender. (refl, tt);
+    tells = λ b e by z sender. (refl, tt);
+  })
+  receive_says (message.Want ends wanted) = plainly (message.Want ends wanted) (record {
+    gives = λ b v offset by is z sender. (refl, tt);
+    changes = λ b v ranges by is z sender. (refl, tt);
+  })
+  receive_says (message.Delta ends delta) = plainly (message.Delta ends delta) (body_says ends delta.head.stamp)
+  receive_says (message.Piece ends piece) = plainly (message.Piece ends piece) (body_says ends piece.head.stamp)
   receive_says m = plainly m tt

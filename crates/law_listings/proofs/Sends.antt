@@ -2,6 +2,7 @@
 -- of its intentions.
 use Rattle.std.proofs.Common.{ℕ, ◌≡◌, ◌==◌, not, Bool, true, false, List, [], ◌∷◌, filter, get_or, Option, None, Some, is_some, refl, sym, ap, subst, ◌∙◌, All}
 use Rattle.std.specs.List.{AllByRecursion, flat_map}
+use Rattle.std.specs.Prelude.{nat_lt}
 use Rattle.std.proofs.lemmas.Bool.{false≢true}
 use Rattle.std.proofs.lemmas.List.Elements.{All-append, All-cons, All-nil, All-weaker}
 use Rattle.std.proofs.lemmas.Option.{none-some, same_Some}
@@ -24,6 +25,7 @@ use Rattle.law_places.proofs.pg_intent.Found.{stands_is}
 use Rattle.law_places.proofs.pg_intent.SameKey.{is_same_key-true}
 use Rattle.law_places.proofs.pg_intent.Stands.{each_found}
 use Rattle.theory_listing.specs.Rule.{MaySend}
+use Rattle.law_places.specs.pg_msg.declared.message.Ends.{Ends}
 use Rattle.law_places.specs.pg_msg.declared.message.Message.{Message}
 use Rattle.law_places.specs.pg_msg.declared.message.Message.TheVariants as message
 use Rattle.law_places.specs.pg_msg.declared.message.Sent.{Sent}
@@ -40,7 +42,7 @@ use Rattle.law_places.specs.pg_store.declared.store.Store.{Store}
 use Rattle.law_places.specs.pg_store.Cells.{cell_at, entry_cell, flag_cell, is_sure, version_cell}
 use Rattle.law_places.specs.pg_store.Store.{content_of}
 use Rattle.law_places.specs.pg_pieces.Posting.{sent_to}
-use Rattle.law_places.specs.pg_cells.Sending.{Wanted, cell_to, cell_under, cells_where, edge_cells, key_cell, replica_cells, waits}
+use Rattle.law_places.specs.pg_cells.Sending.{Wanted, cell_to, cell_under, cells_where, edge_cells, key_cell, replica_cells, told_as, waits}
 use Rattle.law_places.specs.pg_intentions.Intending.{pieces}
 use Rattle.law_places.specs.pg_intentions.Requests.{asked_of, asks, asks_by, confirm_message, leave_message, request}
 use Rattle.law_listings.specs.Letters.{of_stores, patch_place, says, told_by}
@@ -102,9 +104,20 @@ module _ (a b : Store) where
     cell_may f (key.Entry g) c h = entry_may f g c (entry_at b.names f g) refl h
     cell_may f (key.Version stamp) c h = version_may f c (head_at (content_of b f).heads (key.Version stamp)) h
 
+    -- so is what tells of it: of a version by its head alone, where that is long
+    told_may : (ends : Ends) (tag : ℕ) (c : Cell) → MayTell ends.file c → May (told_as ends tag c)
+    told_may ends tag (cells.Place place) h = (h, λ from. tt)
+    told_may ends tag (cells.Flag flag) h = (h, λ from. tt)
+    told_may ends tag (cells.Entry entry sure) h = (h, λ from. tt)
+    told_may ends tag (cells.Version v) h =
+        chosen May (nat_lt 1024 v.head.length) (message.Harbinger ends tag v.head) (message.Cell ends tag (cells.Version v)) (h, λ from. tt) (h, λ from. tt)
+
     under_may : (f : FileId) (birth : ℕ) (e : Edge) (q : Key) (tag : ℕ) (o : Option Cell) → cell_at b f q ≡ o → AllMay (cell_under b f birth e tag o)
     under_may f birth e q tag None h = none
-    under_may f birth e q tag (Some c) h = All-cons MaySent (cell_to b f birth e c tag) [] (cell_may f q c h, tt) none
+    under_may f birth e q tag (Some c) h =
+        let m = cell_to b f birth e c tag in
+        let k = told_may (record { file = f; sender = birth; receiver = e.birth }) tag c (cell_may f q c h) in
+        All-cons MaySent m [] (k.0, k.1 m.packet.from) none
 
     key_may : (f : FileId) (birth : ℕ) (e : Edge) (q : Key × ℕ) → AllMay (key_cell b f birth e q)
     key_may f birth e q = chosen AllMay (waits b f e q.0) [] (cell_under b f birth e q.1 (cell_at b f q.0)) none (under_may f birth e q.0 q.1 (cell_at b f q.0) refl)

@@ -11,7 +11,7 @@ use Rattle.law_passing.specs.pg_calls.Forgetting.{lost_at}
 use Rattle.law_passing.specs.pg_calls.GivingUp.{removal_at}
 use Rattle.law_passing.specs.pg_calls.Naming.{next_id}
 use Rattle.law_passing.specs.pg_server.declared.input.Input.TheVariants as input
-use Rattle.law_passing.specs.pg_run.Carried.{came}
+use Rattle.law_passing.specs.pg_run.Carried.{came_by}
 use Rattle.law_passing.specs.pg_run.Known.{Told}
 use Rattle.law_passing.specs.pg_run.Run.{made_takes}
 use Rattle.law_passing.specs.pg_run.Took.{Take}
@@ -28,7 +28,7 @@ module _ (removed : List ℕ) (p : Told) (a : Store) (now : List Take) (k : Goes
   Does c = do_call a c (new_work moment 0)
 
   abbrev Brought : Call → List Take
-  Brought c = made_takes a (input.Call moment c) ++ (came a (input.Call moment c) ++ now)
+  Brought c = made_takes a (input.Call moment c) ++ (came_by a moment c ++ now)
 
   -- in the view that the call leaves
   abbrev CallIs : Call → Type 0

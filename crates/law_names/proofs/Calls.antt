@@ -6,6 +6,7 @@ use Rattle.law_passing.specs.pg_base.declared.id.Kind.{Kind}
 use Rattle.law_passing.specs.pg_base.declared.id.Kind.TheVariants.{Dir, File}
 use Rattle.law_passing.specs.pg_base.declared.policy.Policy.{Policy}
 use Rattle.law_passing.specs.pg_base.declared.policy.Policy.TheVariants.{Last}
+use Rattle.law_passing.specs.pg_base.declared.stamp.Stamp.{Stamp}
 use Rattle.law_passing.specs.pg_base.Id.{is_same_file}
 use Rattle.law_passing.specs.pg_register.declared.flag.Flag.{Flag}
 use Rattle.law_passing.specs.pg_register.declared.place.Place.{Place}
@@ -52,11 +53,13 @@ use Rattle.law_passing.specs.pg_calls.Calls.{do_call}
 use Rattle.law_passing.specs.pg_checks.Checks.{dir_at, empty_dir_at, file_at, first_child, in_time, move_along, move_of, move_to, new_name, new_name_in, target_at, unless_child}
 use Rattle.law_passing.specs.pg_calls.Demoting.{demoted_at, lowered}
 use Rattle.law_passing.specs.pg_calls.Dropping.{clean_gold, dropped_at, leave_of, leaving}
+use Rattle.law_passing.specs.pg_calls.Looks.{freshness}
 use Rattle.law_passing.specs.pg_calls.Making.{drawn, first_ranges, make_place}
 use Rattle.law_passing.specs.pg_calls.Naming.{begun, dead_place, next_id, place_in, with_id, with_thing}
 use Rattle.law_passing.specs.pg_checks.Paths.{paths_of}
 use Rattle.law_passing.proofs.pg_calls.Checked.{behind, no_ok, same_ok, unless_ok}
 use Rattle.law_passing.proofs.pg_calls.Walked.{file_found, full_own, reach_ok, thing_found}
+use Rattle.law_passing.specs.pg_run.pg_announced.Announced.{first_of}
 use Rattle.law_passing.specs.pg_run.Carried.{begun_by, patch_taken}
 use Rattle.law_passing.specs.pg_run.Took.{Take, entry_takes, take_of}
 use Rattle.law_passing.specs.pg_run.Took.Take.{Began}
@@ -242,7 +245,11 @@ module _ (removed : List ℕ) (p : Told) (a : Store) (now : List Take) (k : Goes
   read_is path offset count = goes_by (file_at a path) _ (λ f h. k)
 
   pub fresh_is : (path : List ℕ) → AnswerIs (do_call a (call.Fresh path) W)
-  fresh_is path = goes_by (file_at a path) _ (λ f h. k)
+  fresh_is path = goes_by (file_at a path) _ (λ f h. of_freshness (first_of a.announced f))
+    where
+      of_freshness : (o : Option Stamp) → Is a.names (begun_by (Some (freshness o)) ++ now)
+      of_freshness None = k
+      of_freshness (Some stamp) = k
 
   pub ls_is : (path : List ℕ) (from : ℕ) → AnswerIs (do_call a (call.Ls path from) W)
   ls_is path from = goes_by (dir_at a path) _ (λ f h. k)

@@ -9,6 +9,7 @@ use Rattle.law_passing.specs.pg_msg.Work.{new_work}
 use Rattle.law_passing.specs.pg_call.declared.reply.Reply.{Reply}
 use Rattle.law_passing.specs.pg_names.Names.{NamesValue}
 use Rattle.law_passing.proofs.pg_house.Truths.{chosen_false, chosen_true}
+use Rattle.law_passing.proofs.theory_flood_pieces.Choices.{chosen}
 use Rattle.law_passing.specs.pg_store.declared.store.Store.{Store}
 use Rattle.law_passing.specs.pg_store.Store.{is_before_clock_end}
 use Rattle.law_passing.specs.pg_pieces.Done.{Done, idle}
@@ -20,12 +21,14 @@ use Rattle.law_passing.specs.pg_calls.Naming.{next_id}
 use Rattle.law_passing.proofs.pg_calls.Late.{late_does_nothing}
 use Rattle.law_passing.specs.pg_server.declared.input.Input.{Input}
 use Rattle.law_passing.specs.pg_server.declared.input.Input.TheVariants as input
-use Rattle.law_passing.specs.pg_server.Local.{Effect, closed, effect, finished, first_effect, is_heard, receive, reply_to, sent_again, settled, takes_effect}
+use Rattle.law_passing.specs.pg_server.Local.{Effect, closed, effect, finished, first_effect, is_heard, receive, reply_to, settled, takes_effect, ticked, without_sources}
+use Rattle.law_passing.specs.pg_run.Asking.{Asked}
 use Rattle.law_passing.specs.pg_run.Carried.{came, carried, gone_by}
 use Rattle.law_passing.specs.pg_run.Known.{Told}
 use Rattle.law_passing.specs.pg_run.Passed.{passed, passed_with}
 use Rattle.law_passing.specs.pg_run.Run.{first_made, made_takes, removed_then, took_after, took_first}
 use Rattle.law_passing.specs.pg_run.Took.{Take, take_of, without_gone}
+use Rattle.law_passing.proofs.pg_run.Ticked.{tick_names}
 use Rattle.law_names.specs.Goes.{Goes}
 use Rattle.law_names.specs.Merged.{IsNewId}
 use Rattle.law_passing.specs.Tells.{AreApart}
@@ -65,17 +68,17 @@ module _ (gone : List ℕ) (answer : Option Reply) (d : Done) (now : List Take) 
 -- ---- any input
 
 -- what is made in the event, with what was taken before it, is told apart
-abbrev pub IsApart : Store → List Take → Input → List Update → Type 0
-IsApart a takes asked all =
-    (us : List Update) → ((u : Update) → Among u us → Among u all) → AreApart (map take_of us ++ took_first a takes asked)
+abbrev pub IsApart : Store → Asked → List Take → Input → List Update → Type 0
+IsApart a wants takes asked all =
+    (us : List Update) → ((u : Update) → Among u us → Among u all) → AreApart (map take_of us ++ took_first a wants takes asked)
 
-module _ (p : Told) (a : Store) (takes : List Take) (k : Goes a.names.removed a.names takes) (ready : IsReady p a) (ids : (kind : Kind) → IsNewId a (next_id a kind)) where
+module _ (p : Told) (a : Store) (wants : Asked) (takes : List Take) (k : Goes a.names.removed a.names takes) (ready : IsReady p a) (ids : (kind : Kind) → IsNewId a (next_id a kind)) where
   -- who is removed then
   abbrev Gone : Input → List ℕ
   Gone asked = removed_then a asked
 
   abbrev FirstIs : Input → Type 0
-  FirstIs asked = Goes (Gone asked) (first_effect a asked).store.names (took_first a takes asked)
+  FirstIs asked = Goes (Gone asked) (first_effect a asked).store.names (took_first a wants takes asked)
 
   -- what was made and came, and what was taken before and is left
   put_together : (s : NamesValue) (made xs old : List Take) → Goes s.removed s (made ++ (xs ++ old)) → Goes s.removed s ((made ++ xs) ++ old)
@@ -83,35 +86,34 @@ module _ (p : Told) (a : Store) (takes : List Take) (k : Goes a.names.removed a.
       let P : List Take → Type 0 = λ ys. Goes s.removed s ys in
       subst P (sym (append_assoc made xs old)) h
 
-  tick_made : (moment word : ℕ) (t : Bool) → (cond t (sent_again a word (new_work moment 0)) (new_work moment 0)).made ≡ []
-  tick_made moment word true = tick_walk_made a word (ask_all a (tick a (new_work moment 0)))
-  tick_made moment word false = refl
-
   -- THE FIRST EFFECT
   pub first_goes : (asked : Input) → IsInputGood p asked → takes_effect a asked ≡ true → FirstIs asked
   first_goes (input.Call moment c) good going =
       let x = do_call a c (new_work moment 0) in
-      put_together x.store.names (made_takes a (input.Call moment c)) (came a (input.Call moment c)) takes
+      put_together x.store.names (made_takes a (input.Call moment c)) (came a wants (input.Call moment c)) takes
       (call_goes a.names.removed p a takes k ready ids moment c)
   first_goes (input.Tick moment word) good going =
-      let P : List Update → Type 0 = λ us. Goes a.names.removed a.names ((map take_of us ++ []) ++ takes) in
-      subst P (sym (tick_made moment word (is_before_clock_end a))) k
+      let w = new_work moment 0 in
+      let free = without_sources a in
+      let P : Done → Type 0 = λ d. Goes d.store.names.removed d.store.names ((map take_of d.work.made ++ []) ++ takes) in
+      let Q : List Update → Type 0 = λ us. Goes a.names.removed a.names ((map take_of us ++ []) ++ takes) in
+      chosen P (is_before_clock_end a) (ticked a word w) (idle a w) (subst Q (sym (tick_walk_made free word (ask_all free (tick free w)))) k) k
   first_goes (input.Arrival packet) good going =
       let w = new_work 0 packet.from in
       let d = receive a packet.message w in
       let is : first_effect a (input.Arrival packet) ≡ d = chosen_true (is_heard a packet) d (idle a w) going in
       let old = without_gone (gone_by a packet.from packet.message) takes in
-      let P : Done → Type 0 = λ e. Goes e.store.names.removed e.store.names ((map take_of e.work.made ++ carried a packet.from packet.message) ++ old) in
-      let come = carried a packet.from packet.message in
+      let P : Done → Type 0 = λ e. Goes e.store.names.removed e.store.names ((map take_of e.work.made ++ carried a wants packet.from packet.message) ++ old) in
+      let come = carried a wants packet.from packet.message in
       subst P (sym is) (put_together d.store.names (map take_of d.work.made) come old
       (goes_itself a.names.removed d.store.names (map take_of d.work.made ++ (come ++ old))
-      (message_goes a.names.removed p a takes k ready packet.from packet.message good)))
+      (message_goes a.names.removed p a takes k ready packet.from wants packet.message good)))
   first_goes input.Restart good going = k
 
   -- where nothing takes effect names stay
   still : (asked : Input) → takes_effect a asked ≡ false → (first_effect a asked).store.names ≡ a.names
   still (input.Call moment c) late = ap (λ (s : Store). s.names) (late_does_nothing a c (new_work moment 0) late).0
-  still (input.Tick moment word) late = refl
+  still (input.Tick moment word) late = tick_names a moment word
   still (input.Arrival packet) unheard =
       ap (λ (d : Done). d.store.names) (chosen_false (is_heard a packet) (receive a packet.message (new_work 0 packet.from)) (idle a (new_work 0 packet.from)) unheard)
   still input.Restart late = refl
@@ -119,16 +121,16 @@ module _ (p : Told) (a : Store) (takes : List Take) (k : Goes a.names.removed a.
   abbrev Ends : Input → Bool → Effect
   Ends asked t = cond t (closed (reply_to a asked) (first_effect a asked)) (finished (reply_to a asked) (first_effect a asked))
 
-  by_test : (asked : Input) (t : Bool) → takes_effect a asked ≡ t → IsInputGood p asked → (t ≡ true → IsApart a takes asked (Ends asked t).out.made)
+  by_test : (asked : Input) (t : Bool) → takes_effect a asked ≡ t → IsInputGood p asked → (t ≡ true → IsApart a wants takes asked (Ends asked t).out.made)
       → Goes (Gone asked) (Ends asked t).store.names
-      (cond t (passed_with (Gone asked) (passed (Gone asked) (took_first a takes asked)) (drop (length (first_made a asked)) (Ends asked t).out.made)) takes)
+      (cond t (passed_with (Gone asked) (passed (Gone asked) (took_first a wants takes asked)) (drop (length (first_made a asked)) (Ends asked t).out.made)) takes)
   by_test asked true e good apart =
-      closed_goes (Gone asked) (reply_to a asked) (first_effect a asked) (took_first a takes asked) (first_goes asked good e) (apart refl)
+      closed_goes (Gone asked) (reply_to a asked) (first_effect a asked) (took_first a wants takes asked) (first_goes asked good e) (apart refl)
   by_test asked false e good apart =
       let s = (first_effect a asked).store.names in
       goes_itself a.names.removed s takes (goes_on a.names.removed a.names s takes (still asked e) k)
 
   -- AN INPUT
-  pub input_goes : (asked : Input) → IsInputGood p asked → (takes_effect a asked ≡ true → IsApart a takes asked (effect a asked).out.made)
-      → Goes (Gone asked) (effect a asked).store.names (took_after a takes asked)
+  pub input_goes : (asked : Input) → IsInputGood p asked → (takes_effect a asked ≡ true → IsApart a wants takes asked (effect a asked).out.made)
+      → Goes (Gone asked) (effect a asked).store.names (took_after a wants takes asked)
   input_goes asked good apart = by_test asked (takes_effect a asked) refl good apart

@@ -83,12 +83,13 @@ module _ (removed : List ℕ) where
   pub goes_noted : (s : NamesValue) (now : List Take) → Is s now → (f : FileId) (stamp : Stamp) → Is s (TookVersion f stamp ∷ now)
   goes_noted s now k f stamp = record { tells = version_tells f stamp now s k.tells; dirs = k.dirs; last = k.last; same_removed = k.same_removed }
 
+  pub goes_taken : (a : Store) (now : List Take) → Is a.names now → (f : FileId) (v : VersionValue) → Is (take_version a f v).names now
+  goes_taken a now k f v =
+      chosen (λ (b : Store). Is b.names now) (is_new_version a f v) (put_version a f v) a (goes_raised a.names v.head.stamp.time now k) k
+
   pub goes_version : (a : Store) (now : List Take) → Is a.names now → (f : FileId) (v : VersionValue)
       → Is (take_version a f v).names (TookVersion f v.head.stamp ∷ now)
-  goes_version a now k f v =
-      let noted = goes_noted a.names now k f v.head.stamp in
-      chosen (λ (b : Store). Is b.names (TookVersion f v.head.stamp ∷ now)) (is_new_version a f v) (put_version a f v) a
-      (goes_raised a.names v.head.stamp.time (TookVersion f v.head.stamp ∷ now) noted) noted
+  goes_version a now k f v = goes_taken a (TookVersion f v.head.stamp ∷ now) (goes_noted a.names now k f v.head.stamp) f v
 
   -- nothing is taken, and names stay as they are but for what is full
   pub goes_same : (s t : NamesValue) (now : List Take) → Is s now → AreSameNames s t → t.last ≡ s.last → t.removed ≡ s.removed → Is t now

@@ -9,6 +9,7 @@ pub mod Notes
 pub mod Making
 pub mod Held
 pub mod Leaving
+pub mod Bodies
 pub mod Messages
 pub mod Calls
 pub mod Forgetting

@@ -49,6 +49,7 @@ use Rattle.law_passing.specs.pg_repair.NoneHere.{asking_key}
 use Rattle.law_passing.specs.pg_repair.Telling.{told}
 use Rattle.law_passing.proofs.pg_calls.Walked.{full_own}
 use Rattle.law_passing.specs.pg_server.Local.{receive}
+use Rattle.law_passing.specs.pg_run.Asking.{Asked}
 use Rattle.law_passing.specs.pg_run.Carried.{carried, gone_by, granted_takes}
 use Rattle.law_passing.specs.pg_run.Intending.{IntendsInOrder}
 use Rattle.law_passing.specs.pg_run.Known.{AreTold, IsCellTold, IsMessageTold, Told}
@@ -57,6 +58,7 @@ use Rattle.law_passing.specs.pg_run.Took.Take.{TookFlag, TookPlace}
 use Rattle.law_passing.specs.pg_run.Took.Taker.{Itself}
 use Rattle.law_passing.proofs.pg_run.Lists.{among_back}
 use Rattle.law_names.specs.Goes.{Goes}
+use Rattle.law_names.proofs.Bodies.{delta_stays, harbinger_stays, later_stays, piece_stays, want_stays, with_version}
 use Rattle.law_names.proofs.Going.{goes_entry, goes_flag, goes_on, goes_place, goes_reordered, goes_version, still_held}
 use Rattle.law_names.proofs.Held.{away_inner, current_held, none_of}
 use Rattle.law_names.proofs.Leaving.{leave_ok_goes}
@@ -130,8 +132,8 @@ module _ (removed : List ℕ) (p : Told) (a : Store) (now : List Take) (k : Goes
       came_by false true fit current good = still_leaves (idle a W) refl refl
       came_by false false fit current good = still_leaves (idle a W) refl refl
 
-      cell_came : IsCellTold p ends.file c → Leaves (carried a from (message.Cell ends tag c)) (cell_done a ends tag c W)
-      cell_came good = came_by (fits ends.file c) (is_current a from ends) refl refl good
+      cell_came : (wants : Asked) → IsCellTold p ends.file c → Leaves (carried a wants from (message.Cell ends tag c)) (cell_done a ends tag c W)
+      cell_came wants good = came_by (fits ends.file c) (is_current a from ends) refl refl good
 
     -- ---- a replica is granted
 
@@ -277,49 +279,54 @@ module _ (removed : List ℕ) (p : Told) (a : Store) (now : List Take) (k : Goes
 
     -- ---- any message
 
-    leaves_with : (m : Message) → Leaves (carried a from m) (receive a m W) → With (carried a from m) (receive a m W)
-    leaves_with m l =
-        let P : List Update → Type 0 = λ us. Is (receive a m W).store.names (map take_of us ++ (carried a from m ++ now)) in
+    leaves_with : (wants : Asked) (m : Message) → Leaves (carried a wants from m) (receive a m W) → With (carried a wants from m) (receive a m W)
+    leaves_with wants m l =
+        let P : List Update → Type 0 = λ us. Is (receive a m W).store.names (map take_of us ++ (carried a wants from m ++ now)) in
         subst P (sym l.1) l.0
 
     -- A MESSAGE COMES
-    pub message_goes : (m : Message) → IsMessageTold p m
-        → Is (receive a m W).store.names (map take_of (receive a m W).work.made ++ (carried a from m ++ without_gone (gone_by a from m) now))
-    message_goes (message.Cell ends tag c) good = leaves_with (message.Cell ends tag c) (cell_came ends tag c good)
-    message_goes (message.Ack ends kk tag) good = k
-    message_goes (message.Harbinger ends tag head) good = k
-    message_goes (message.Want ends wanted) good = k
-    message_goes (message.Delta ends delta) good = k
-    message_goes (message.Piece ends piece) good = k
-    message_goes (message.Later ends stamp) good = k
-    message_goes (message.Fetch file birth) good =
-        let s = fetched_still a file birth W in leaves_with (message.Fetch file birth) (still_leaves (receive a (message.Fetch file birth) W) s.0 s.1)
-    message_goes (message.Grant ends g) good = leaves_with (message.Grant ends g) (grant_by (is_pending a ends.file ends.receiver) ends g refl good)
-    message_goes (message.NoGrant file birth) good =
-        leaves_with (message.NoGrant file birth) (still_leaves (receive a (message.NoGrant file birth) W) (turned_names a file birth from (next_target a from)) refl)
-    message_goes (message.Full ends) good = full_by (is_accepted a from manner.Answers ends && not (is_full a ends.file)) ends refl
-    message_goes (message.Seek file birth) good =
-        let s = seek_still a file birth W in leaves_with (message.Seek file birth) (still_leaves (receive a (message.Seek file birth) W) s.0 s.1)
-    message_goes (message.Here ends) good =
-        let s = accepted_still a ends manner.Makes W in leaves_with (message.Here ends) (still_leaves (receive a (message.Here ends) W) s.0 s.1)
-    message_goes (message.NoneHere what file child) good =
-        leaves_with (message.NoneHere what file child) (still_leaves (receive a (message.NoneHere what file child) W) (none_here_names a (asking_key what file child) from) refl)
-    message_goes (message.Gone file birth) good =
-        leaves_with (message.Gone file birth) (still_leaves (receive a (message.Gone file birth) W) (unlink_names a file from birth) refl)
-    message_goes (message.Bye ends) good =
-        leaves_with (message.Bye ends) (still_leaves (receive a (message.Bye ends) W) (unlink_names a ends.file from ends.sender) refl)
-    message_goes (message.ByeOk file birth) good = k
-    message_goes (message.Confirm dir e) good = leaves_with (message.Confirm dir e) (confirm_by dir e (is_held a e.child) refl)
-    message_goes (message.PlaceIs dir e) good = leaves_with (message.PlaceIs dir e) (place_is_by dir e good.0 good.1.sorted (is_held a dir) refl)
-    message_goes (message.Tell dir e) good = leaves_with (message.Tell dir e) (tell_by dir e good.0 good.1.sorted (is_held a dir) refl)
-    message_goes (message.TellOk dir child stamp) good =
-        leaves_with (message.TellOk dir child stamp) (still_leaves (receive a (message.TellOk dir child stamp) W) (told_names a dir child stamp from) refl)
-    message_goes (message.Leave ends stamp) good =
-        let s = leave_still a ends stamp W in leaves_with (message.Leave ends stamp) (still_leaves (receive a (message.Leave ends stamp) W) s.0 s.1)
-    message_goes (message.LeaveOk ends stamp) good = leave_ok_goes removed a now k ready.intends.leaves from ends stamp
-    message_goes (message.Invite ends) good = invite_is ends
-    message_goes (message.Walk ends origin birth hops word) good =
+    pub message_goes : (wants : Asked) (m : Message) → IsMessageTold p m
+        → Is (receive a m W).store.names (map take_of (receive a m W).work.made ++ (carried a wants from m ++ without_gone (gone_by a from m) now))
+    message_goes wants (message.Cell ends tag c) good = leaves_with wants (message.Cell ends tag c) (cell_came ends tag c wants good)
+    message_goes wants (message.Ack ends kk tag) good = k
+    message_goes wants (message.Harbinger ends tag head) good =
+        leaves_with wants (message.Harbinger ends tag head) (harbinger_stays removed a now k from ends tag head)
+    message_goes wants (message.Want ends wanted) good = leaves_with wants (message.Want ends wanted) (want_stays removed a now k from ends wanted)
+    message_goes wants (message.Delta ends delta) good =
+        let m = message.Delta ends delta in
+        leaves_with wants m (with_version removed a now k from _ ends.file delta.head.stamp (receive a m W) (delta_stays removed a now k from ends delta))
+    message_goes wants (message.Piece ends piece) good =
+        let m = message.Piece ends piece in
+        leaves_with wants m (with_version removed a now k from _ ends.file piece.head.stamp (receive a m W) (piece_stays removed a now k from ends piece))
+    message_goes wants (message.Later ends stamp) good = leaves_with wants (message.Later ends stamp) (later_stays removed a now k from ends stamp)
+    message_goes wants (message.Fetch file birth) good =
+        let s = fetched_still a file birth W in leaves_with wants (message.Fetch file birth) (still_leaves (receive a (message.Fetch file birth) W) s.0 s.1)
+    message_goes wants (message.Grant ends g) good = leaves_with wants (message.Grant ends g) (grant_by (is_pending a ends.file ends.receiver) ends g refl good)
+    message_goes wants (message.NoGrant file birth) good =
+        leaves_with wants (message.NoGrant file birth) (still_leaves (receive a (message.NoGrant file birth) W) (turned_names a file birth from (next_target a from)) refl)
+    message_goes wants (message.Full ends) good = full_by (is_accepted a from manner.Answers ends && not (is_full a ends.file)) ends refl
+    message_goes wants (message.Seek file birth) good =
+        let s = seek_still a file birth W in leaves_with wants (message.Seek file birth) (still_leaves (receive a (message.Seek file birth) W) s.0 s.1)
+    message_goes wants (message.Here ends) good =
+        let s = accepted_still a ends manner.Makes W in leaves_with wants (message.Here ends) (still_leaves (receive a (message.Here ends) W) s.0 s.1)
+    message_goes wants (message.NoneHere what file child) good =
+        leaves_with wants (message.NoneHere what file child) (still_leaves (receive a (message.NoneHere what file child) W) (none_here_names a (asking_key what file child) from) refl)
+    message_goes wants (message.Gone file birth) good =
+        leaves_with wants (message.Gone file birth) (still_leaves (receive a (message.Gone file birth) W) (unlink_names a file from birth) refl)
+    message_goes wants (message.Bye ends) good =
+        leaves_with wants (message.Bye ends) (still_leaves (receive a (message.Bye ends) W) (unlink_names a ends.file from ends.sender) refl)
+    message_goes wants (message.ByeOk file birth) good = k
+    message_goes wants (message.Confirm dir e) good = leaves_with wants (message.Confirm dir e) (confirm_by dir e (is_held a e.child) refl)
+    message_goes wants (message.PlaceIs dir e) good = leaves_with wants (message.PlaceIs dir e) (place_is_by dir e good.0 good.1.sorted (is_held a dir) refl)
+    message_goes wants (message.Tell dir e) good = leaves_with wants (message.Tell dir e) (tell_by dir e good.0 good.1.sorted (is_held a dir) refl)
+    message_goes wants (message.TellOk dir child stamp) good =
+        leaves_with wants (message.TellOk dir child stamp) (still_leaves (receive a (message.TellOk dir child stamp) W) (told_names a dir child stamp from) refl)
+    message_goes wants (message.Leave ends stamp) good =
+        let s = leave_still a ends stamp W in leaves_with wants (message.Leave ends stamp) (still_leaves (receive a (message.Leave ends stamp) W) s.0 s.1)
+    message_goes wants (message.LeaveOk ends stamp) good = leave_ok_goes removed a now k ready.intends.leaves from ends stamp
+    message_goes wants (message.Invite ends) good = invite_is ends
+    message_goes wants (message.Walk ends origin birth hops word) good =
         let m = message.Walk ends origin birth hops word in
-        let s = walk_still a ends origin birth hops word W in leaves_with m (still_leaves (receive a m W) s.0 s.1)
-    message_goes (message.Meet ends) good =
-        let s = accepted_still a ends manner.Makes W in leaves_with (message.Meet ends) (still_leaves (receive a (message.Meet ends) W) s.0 s.1)
+        let s = walk_still a ends origin birth hops word W in leaves_with wants m (still_leaves (receive a m W) s.0 s.1)
+    message_goes wants (message.Meet ends) good =
+        let s = accepted_still a ends manner.Makes W in leaves_with wants (message.Meet ends) (still_leaves (receive a (message.Meet ends) W) s.0 s.1)

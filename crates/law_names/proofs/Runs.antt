@@ -10,6 +10,7 @@ use Rattle.law_passing.specs.pg_store.declared.store.Store.{Store}
 use Rattle.law_passing.specs.pg_server.declared.input.Input.{Input}
 use Rattle.law_passing.specs.pg_server.declared.input.Input.TheVariants as input
 use Rattle.law_passing.specs.pg_server.Local.{effect, takes_effect}
+use Rattle.law_passing.specs.pg_run.Asking.{Asked}
 use Rattle.law_passing.specs.pg_run.Carried.{came, gone_in, strikes}
 use Rattle.law_passing.specs.pg_run.Known.{IsPlaceOf, Told, of_run}
 use Rattle.law_passing.specs.pg_run.Laws.{NamesMerge}
@@ -59,6 +60,9 @@ module _ (n : ℕ) (w : World) (event : Event) (s : ℕ) (asked : Input) (at : A
   abbrev A : Store
   A = w.stores s
 
+  abbrev V : Asked
+  V = w.asked s
+
   abbrev T : List Take
   T = w.took s
 
@@ -85,53 +89,53 @@ module _ (n : ℕ) (w : World) (event : Event) (s : ℕ) (asked : Input) (at : A
   old_told : AreTakesTold Then T
   old_told = later_told n w After (effect_step w event s asked).entry refl T k.told
 
-  new_told : AreTakesTold Then (came A asked)
+  new_told : AreTakesTold Then (came A V asked)
   new_told =
       came_told (of_run n w) Then (λ xs h. later_told n w After (effect_step w event s asked).entry refl xs h) A
-      (λ dir e target h. ((on.known.stores s at.0 at.1).patches dir e target h).1) (ready_of n w on s at).cells asked
+      (λ dir e target h. ((on.known.stores s at.0 at.1).patches dir e target h).1) (ready_of n w on s at).cells V asked
       (λ f q h. inr (inl (made_in (update.Place f q) h))) good
 
   -- what is left of what was taken before
   left_told : AreTakesTold Then (without_gone (gone_in A asked) T)
   left_told x h = old_told x (gone_among (gone_in A asked) T x h)
 
-  pub first_told : AreTakesTold Then (took_first A T asked)
+  pub first_told : AreTakesTold Then (took_first A V T asked)
   first_told =
-      both_told Then (brought A asked) (without_gone (gone_in A asked) T)
-      (both_told Then (made_takes A asked) (came A asked)
+      both_told Then (brought A V asked) (without_gone (gone_in A asked) T)
+      (both_told Then (made_takes A asked) (came A V asked)
       (unless_told Then (strikes A asked) (map take_of (first_made A asked))
       (made_told n After (effect_step w event s asked).entry w.journal refl (first_made A asked) made_in)) new_told) left_told
 
-  end_told : AreTakesTold Then (took_after A T asked)
+  end_told : AreTakesTold Then (took_after A V T asked)
   end_told = by (takes_effect A asked)
     where
-      by : (t : Bool) → AreTakesTold Then (cond t (passed_with (removed_then A asked) (passed (removed_then A asked) (took_first A T asked)) (made_behind A asked)) T)
+      by : (t : Bool) → AreTakesTold Then (cond t (passed_with (removed_then A asked) (passed (removed_then A asked) (took_first A V T asked)) (made_behind A asked)) T)
       by true =
-          within_told Then (passed_with (removed_then A asked) (passed (removed_then A asked) (took_first A T asked)) (made_behind A asked)) (map take_of (made_behind A asked) ++ took_first A T asked)
-          (took_within (removed_then A asked) (made_behind A asked) (took_first A T asked))
-          (both_told Then (map take_of (made_behind A asked)) (took_first A T asked)
+          within_told Then (passed_with (removed_then A asked) (passed (removed_then A asked) (took_first A V T asked)) (made_behind A asked)) (map take_of (made_behind A asked) ++ took_first A V T asked)
+          (took_within (removed_then A asked) (made_behind A asked) (took_first A V T asked))
+          (both_told Then (map take_of (made_behind A asked)) (took_first A V T asked)
           (made_told n After (effect_step w event s asked).entry w.journal refl (made_behind A asked) behind_in) first_told)
       by false = old_told
 
   module _ (later : StandsOn n After) where
-    pub apart : IsApart A T asked (effect A asked).out.made
+    pub apart : IsApart A V T asked (effect A asked).out.made
     apart us within =
-        takes_apart n After later (map take_of us ++ took_first A T asked)
-        (both_told Then (map take_of us) (took_first A T asked)
+        takes_apart n After later (map take_of us ++ took_first A V T asked)
+        (both_told Then (map take_of us) (took_first A V T asked)
         (made_told n After (effect_step w event s asked).entry w.journal refl us within) first_told)
 
-    end_goes : Goes (removed_then A asked) (effect A asked).store.names (took_after A T asked)
-    end_goes = input_goes (of_run n w) A T k.goes (ready_of n w on s at) (on.ids s at.0 at.1) asked good (λ going. apart)
+    end_goes : Goes (removed_then A asked) (effect A asked).store.names (took_after A V T asked)
+    end_goes = input_goes (of_run n w) A V T k.goes (ready_of n w on s at) (on.ids s at.0 at.1) asked good (λ going. apart)
 
     -- the server behind it
-    acted : Goes (effect A asked).store.names.removed (effect A asked).store.names (took_after A T asked)
+    acted : Goes (effect A asked).store.names.removed (effect A asked).store.names (took_after A V T asked)
     acted = record { tells = end_goes.tells; dirs = end_goes.dirs; last = end_goes.last; same_removed = refl }
 
     pub merged_then : ((t : ℕ) → 1 ≤ t → t ≤ n → IsMerged n w t) → (t : ℕ) → 1 ≤ t → t ≤ n → IsMerged n After t
     merged_then all t least most =
         let P : ℕ → Store → List Take → Type 0 = λ i b taken. 1 ≤ i → i ≤ n → Goes b.names.removed b.names taken × AreTakesTold Then taken in
         let step = effect_step w event s asked in
-        let r = pair_after P w.stores w.took s (effect A asked).store (took_after A T asked)
+        let r = pair_after P w.stores w.took s (effect A asked).store (took_after A V T asked)
         (λ i l m. let x = all i l m in (x.goes, later_told n w After step.entry refl (w.took i) x.told)) (λ l m. (acted, end_told)) t least most in
         record { goes = r.0; told = r.1 }
 

@@ -42,7 +42,8 @@ use Rattle.law_passing.specs.pg_calls.Calls.{do_call}
 use Rattle.law_passing.specs.pg_calls.Forgetting.{begin_lost, dead_at, dirs_of, fill_lost, forget_lost, is_wanted, last_place, last_listing, lost_at, strike_out, struck_out, unwished}
 use Rattle.law_passing.specs.pg_lookup.declared.paths.LookupError.{LookupError}
 use Rattle.law_passing.specs.pg_server.Local.{first_effect, reply_to}
-use Rattle.law_passing.specs.pg_run.Carried.{anew_takes, begun_by, came, carried, forgotten_takes, granted_takes, known_takes, patch_taken, patches_taken, struck_by, struck_takes}
+use Rattle.law_passing.specs.pg_run.Asking.{Asked}
+use Rattle.law_passing.specs.pg_run.Carried.{anew_takes, begun_by, came, came_by, carried, forgotten_takes, granted_takes, known_takes, patch_taken, patches_taken, struck_by, struck_takes}
 use Rattle.law_passing.specs.pg_run.Known.{AreTold, IsCellTold, IsEntryTold, IsFlagOf, IsMessageTold, IsPlaceOf, Told, WasMade, WasRaised, of_run}
 use Rattle.law_passing.specs.pg_run.Run.{World}
 use Rattle.law_passing.specs.pg_run.Took.{Take, Taker, entry_takes, first_place, flags_of, places_of, take_of, takes_in}
@@ -141,36 +142,38 @@ module _ (p : Told) where
         (unless_told (is_root e.child) (places_of Itself e.child e.place) (places_told Itself e.child e.place h.place_is))
         (flags_told Itself e.child e.flags h.flags_are)
 
-    carried_told : (from : ℕ) (m : Message) → IsMessageTold p m → AreTakesTold p (carried a from m)
-    carried_told from (message.Cell ends tag c) h =
+    carried_told : (wants : Asked) (from : ℕ) (m : Message) → IsMessageTold p m → AreTakesTold p (carried a wants from m)
+    carried_told wants from (message.Cell ends tag c) h =
         where_told (is_current a from ends && fits ends.file c) (takes_in ends.file c) (cell_told ends.file c h)
-    carried_told from (message.Grant ends g) h =
+    carried_told wants from (message.Grant ends g) h =
         where_told (is_pending a ends.file ends.receiver) (granted_takes a ends.file g) (granted_told ends.file g.place g.flags h)
-    carried_told from (message.Confirm dir e) h =
+    carried_told wants from (message.Confirm dir e) h =
         where_told (is_held a e.child) (cond (is_root e.child) [] (places_of Itself e.child e.place) ++ flags_of Itself e.child e.flags) (confirm_told e h.1)
-    carried_told from (message.PlaceIs dir e) h = where_told (is_held a dir) (entry_takes dir e) (entry_told dir e h.1)
-    carried_told from (message.Tell dir e) h = where_told (is_held a dir) (entry_takes dir e) (entry_told dir e h.1)
-    carried_told from (message.Ack ends k tag) h = none_told
-    carried_told from (message.Harbinger ends tag head) h = none_told
-    carried_told from (message.Want ends wanted) h = none_told
-    carried_told from (message.Delta ends delta) h = none_told
-    carried_told from (message.Piece ends piece) h = none_told
-    carried_told from (message.Later ends stamp) h = none_told
-    carried_told from (message.Fetch file birth) h = none_told
-    carried_told from (message.NoGrant file birth) h = none_told
-    carried_told from (message.Full ends) h = none_told
-    carried_told from (message.Seek file birth) h = none_told
-    carried_told from (message.Here ends) h = none_told
-    carried_told from (message.NoneHere ask file child) h = none_told
-    carried_told from (message.Gone file birth) h = none_told
-    carried_told from (message.Bye ends) h = none_told
-    carried_told from (message.ByeOk file birth) h = none_told
-    carried_told from (message.TellOk dir child stamp) h = none_told
-    carried_told from (message.Leave ends stamp) h = none_told
-    carried_told from (message.LeaveOk ends stamp) h = none_told
-    carried_told from (message.Invite ends) h = none_told
-    carried_told from (message.Walk ends origin birth hops word) h = none_told
-    carried_told from (message.Meet ends) h = none_told
+    carried_told wants from (message.PlaceIs dir e) h = where_told (is_held a dir) (entry_takes dir e) (entry_told dir e h.1)
+    carried_told wants from (message.Tell dir e) h = where_told (is_held a dir) (entry_takes dir e) (entry_told dir e h.1)
+    carried_told wants from (message.Ack ends k tag) h = none_told
+    carried_told wants from (message.Harbinger ends tag head) h = none_told
+    carried_told wants from (message.Want ends wanted) h = none_told
+    carried_told wants from (message.Delta ends d) h =
+        let u = TookVersion ends.file d.head.stamp in where_told _ (u ∷ []) (one_told u tt)
+    carried_told wants from (message.Piece ends p) h =
+        let u = TookVersion ends.file p.head.stamp in where_told _ (u ∷ []) (one_told u tt)
+    carried_told wants from (message.Later ends stamp) h = none_told
+    carried_told wants from (message.Fetch file birth) h = none_told
+    carried_told wants from (message.NoGrant file birth) h = none_told
+    carried_told wants from (message.Full ends) h = none_told
+    carried_told wants from (message.Seek file birth) h = none_told
+    carried_told wants from (message.Here ends) h = none_told
+    carried_told wants from (message.NoneHere ask file child) h = none_told
+    carried_told wants from (message.Gone file birth) h = none_told
+    carried_told wants from (message.Bye ends) h = none_told
+    carried_told wants from (message.ByeOk file birth) h = none_told
+    carried_told wants from (message.TellOk dir child stamp) h = none_told
+    carried_told wants from (message.Leave ends stamp) h = none_told
+    carried_told wants from (message.LeaveOk ends stamp) h = none_told
+    carried_told wants from (message.Invite ends) h = none_told
+    carried_told wants from (message.Walk ends origin birth hops word) h = none_told
+    carried_told wants from (message.Meet ends) h = none_told
 
     -- ---- a reply
 
@@ -240,18 +243,18 @@ module _ (p q : Told) (later : (xs : List Take) → AreTakesTold p xs → AreTak
   forgotten_told moment (Err why) made = none_told q
   forgotten_told moment (Ok id) made = lost_by moment id (is_held a id) (is_dir id) made
 
-  call_told : (moment : ℕ) (c : Call) → MadeIs (do_call a c (new_work moment 0)).work.made → AreTakesTold q (came a (input.Call moment c))
+  call_told : (moment : ℕ) (c : Call) → MadeIs (do_call a c (new_work moment 0)).work.made → AreTakesTold q (came_by a moment c)
   call_told moment (call.Forget id) made = forgotten_told moment (lost_at a id) made
   call_told moment c made =
       let r = reply_to a (input.Call moment c) in
       later (begun_by r) (reply_told p a patches r)
 
-  pub came_told : (asked : Input) → MadeIs (first_effect a asked).work.made → IsInputGood p asked → AreTakesTold q (came a asked)
-  came_told (input.Call moment c) made h = call_told moment c made
-  came_told (input.Tick moment word) made h = none_told q
-  came_told (input.Arrival packet) made h =
-      later (carried a packet.from packet.message) (carried_told p a patches packet.from packet.message h)
-  came_told input.Restart made h = none_told q
+  pub came_told : (wants : Asked) (asked : Input) → MadeIs (first_effect a asked).work.made → IsInputGood p asked → AreTakesTold q (came a wants asked)
+  came_told wants (input.Call moment c) made h = call_told moment c made
+  came_told wants (input.Tick moment word) made h = none_told q
+  came_told wants (input.Arrival packet) made h =
+      later (carried a wants packet.from packet.message) (carried_told p a patches wants packet.from packet.message h)
+  came_told wants input.Restart made h = none_told q
 
 -- ---- what is made, and was made
 

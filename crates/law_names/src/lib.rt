@@ -12,6 +12,8 @@
 //!   what comes, `Beginning` and `Patched` what begins, `Making` what is made, `Gone` what goes
 //!   with all that it took; `Settling` has the house rules, by `law_passing`.
 //! - `proofs/Notes` has which pieces make nothing and leave names as they were: these need no more.
+//!   What comes about bodies of versions is of these too (`proofs/Bodies`), and a version that is
+//!   taken.
 //! - `proofs/Sources`: what is taken was made, or was there at the start; so `AreApart` holds.
 //! - `law_passing` is cited, and no other law: the rest comes by `NamesStandOn`.
 //! - A new kind of message gets its line in `message_goes` (`proofs/Messages`): what it carries

@@ -8,6 +8,7 @@ use Rattle.pg_run.specs.pg_msg.declared.work.Slot.{Slot}
 use Rattle.pg_run.specs.pg_msg.declared.work.Work.{Work}
 use Rattle.pg_run.specs.pg_msg.Numbers.{is_in_range}
 use Rattle.pg_run.specs.pg_msg.Work.{new_work}
+use Rattle.pg_run.specs.pg_announced.Announced.{released}
 use Rattle.pg_run.specs.pg_call.declared.reply.Reply.{Reply}
 use Rattle.pg_run.specs.pg_store.declared.store.Store.{Store}
 use Rattle.pg_run.specs.pg_store.Servers.{is_live_other, view_of}
@@ -21,11 +22,12 @@ use Rattle.pg_run.specs.pg_calls.Calls.{do_call}
 use Rattle.pg_run.proofs.pg_calls.Late.{late_does_nothing}
 use Rattle.pg_run.specs.pg_server.declared.input.Input.{Input}
 use Rattle.pg_run.specs.pg_server.declared.input.Input.TheVariants as input
-use Rattle.pg_run.specs.pg_server.Local.{Effect, closed, done_of, effect, finished, first_effect, is_heard, receive, reply_to, sent_again, takes_effect, without_volatile}
+use Rattle.pg_run.specs.pg_server.Local.{Effect, closed, done_of, effect, finished, first_effect, is_heard, receive, reply_to, takes_effect, ticked, without_sources, without_volatile}
 use Rattle.pg_run.specs.theory_flood_pieces.Whole.{IsOther}
 use Rattle.pg_run.proofs.theory_flood_pieces.Choices.{chosen, decided}
 use Rattle.law_order.specs.Saying.{IsClosed, IsSaidLeft, IsSaidOfMessage, Saying}
 use Rattle.law_order.proofs.Accepting.{so_tick}
+use Rattle.law_order.proofs.Bodies.{sound_noted}
 use Rattle.law_order.proofs.Called.{GivesNewIds, so_called}
 use Rattle.law_order.proofs.Ended.{IsAtRest, IsDone, closed_sound, finished_sound}
 use Rattle.law_order.proofs.Received.{so_received}
@@ -70,19 +72,22 @@ module _ (p : Saying) (c : IsClosed p) (n s : ℕ) (mine : IsMember p n s) (a : 
       sound_alike p n s a k.sound (without_volatile a) (record { servers = refl; tags = refl; names = refl; replicas = refl })
       (births_as_before a (without_volatile a) (unwished_as_before a) k.sound.births) k.sound.keys k.sound.named.intents
 
-  tick_far : (moment word : ℕ) → Far (idle a (sent_again a word (new_work moment 0)))
+  tick_far : (moment word : ℕ) → Far (ticked a word (new_work moment 0))
   tick_far moment word =
       let w = new_work moment 0 in
-      so_tick p c n s (idle a (ask_all a (tick a w))) word mine (record {
-        store = k.sound;
+      let b = without_sources a in
+      let sound = sound_noted p n s a k.sound (released a.announced) in
+      so_tick p c n s (idle b (ask_all b (tick b w))) word mine (record {
+        store = sound;
         left = (begins moment 0).left;
-        sent = again_said p n s a k.sound w (none_sent moment 0);
+        sent = again_said p n s b sound w (none_sent moment 0);
         tail = none_sent moment 0;
       })
 
   first_tick : (moment word : ℕ) → Far (first_effect a (input.Tick moment word))
   first_tick moment word =
-      chosen (λ (w : Work). Far (idle a w)) (is_before_clock_end a) (sent_again a word (new_work moment 0)) (new_work moment 0) (tick_far moment word) (begins moment 0)
+      let w = new_work moment 0 in
+      chosen Far (is_before_clock_end a) (ticked a word w) (idle a w) (tick_far moment word) (begins moment 0)
 
   -- ---- what takes effect
 
@@ -114,8 +119,10 @@ module _ (p : Saying) (c : IsClosed p) (n s : ℕ) (mine : IsMember p n s) (a : 
       let none = late_does_nothing a x w late in
       late_call (do_call a x w).reply (done_of (do_call a x w)) w none.0 none.1 (none_sent moment 0) (none_sent moment 0)
   late_sound (input.Tick moment word) late =
-      let far = first_tick moment word in
-      finished_sound p c n s (reply_to a (input.Tick moment word)) (first_effect a (input.Tick moment word)) k far.sent far.tail
+      let w = new_work moment 0 in
+      let r = reply_to a (input.Tick moment word) in
+      let P : Bool → Type 0 = λ t. Ends (finished r (cond t (ticked a word w) (idle a w))) in
+      subst P (sym late) (finished_sound p c n s r (idle a w) k (none_sent moment 0) (none_sent moment 0))
   late_sound (input.Arrival packet) late =
       let w = new_work 0 packet.from in
       let P : Bool → Type 0 = λ t. Ends (finished (reply_to a (input.Arrival packet)) (cond t (receive a packet.message w) (idle a w))) in
@@ -126,7 +133,9 @@ module _ (p : Saying) (c : IsClosed p) (n s : ℕ) (mine : IsMember p n s) (a : 
   -- behind the first effect of any input
   late_first : (asked : Input) → takes_effect a asked ≡ false → Sound p n s (first_effect a asked).store
   late_first (input.Call moment x) late = subst (Sound p n s) (sym (late_does_nothing a x (new_work moment 0) late).0) k.sound
-  late_first (input.Tick moment word) late = k.sound
+  late_first (input.Tick moment word) late =
+      let w = new_work moment 0 in
+      subst (λ t. Sound p n s (cond t (ticked a word w) (idle a w)).store) (sym late) k.sound
   late_first (input.Arrival packet) late =
       let w = new_work 0 packet.from in
       subst (λ t. Sound p n s (cond t (receive a packet.message w) (idle a w)).store) (sym late) k.sound

@@ -21,7 +21,7 @@ use Rattle.pg_run.specs.pg_store.Beginning.{let_go}
 use Rattle.pg_run.specs.pg_store.Births.{birth_of, fill_at, has_birth, is_pending, wish_at, with_birth}
 use Rattle.pg_run.specs.pg_store.Links.{knows_later}
 use Rattle.pg_run.specs.pg_store.Servers.{next_target}
-use Rattle.pg_run.specs.pg_store.Store.{is_full, is_held, replica_of, take_entry, touch, with_names}
+use Rattle.pg_run.specs.pg_store.Store.{is_before_clock_end, is_full, is_held, replica_of, take_entry, touch, with_names}
 use Rattle.pg_run.specs.pg_pieces.declared.accepting.EdgeUse.{EdgeUse}
 use Rattle.pg_run.specs.pg_pieces.declared.accepting.EdgeUse.TheVariants as manner
 use Rattle.pg_run.specs.pg_pieces.Accepting.{accept, is_accepted, met}
@@ -67,7 +67,8 @@ use Rattle.pg_run.specs.pg_calls.Calls.{do_call}
 use Rattle.pg_run.specs.pg_checks.Checks.{dir_at, empty_dir_at, file_at, in_time, move_of, new_name, target_at}
 use Rattle.pg_run.specs.pg_server.declared.input.Input.{Input}
 use Rattle.pg_run.specs.pg_server.declared.input.Input.TheVariants as input
-use Rattle.pg_run.specs.pg_server.Local.{Effect, effect, finished, first_effect, is_heard, reply_to, takes_effect}
+use Rattle.pg_run.specs.pg_server.Local.{Effect, effect, finished, first_effect, is_heard, reply_to, takes_effect, ticked}
+use Rattle.pg_run.proofs.Transfers.{KeepsTransfers, delta_keeps, harbinger_keeps, later_keeps, piece_keeps, want_keeps}
 use Rattle.law_order.proofs.NoIds.{begin_files, either_done, either_files, enter_files, entry_files, few_files, flag_files, flags_files, link_files, lost_files, place_files, unlink_files, version_files}
 
 -- ---- a thing begins
@@ -97,6 +98,19 @@ taken_files a f (cells.Flag flag) w = flag_files a f flag
 taken_files a f (cells.Entry e sure) w = entry_files a f e
 taken_files a f (cells.Version v) w = version_files a f v
 
+-- bodies on demand give out none
+abbrev HasFiles : ℕ → Done → Type 0
+HasFiles files d = d.store.files ≡ files
+
+files_steps : (ends : Ends) (files : ℕ) → KeepsTransfers ends (HasFiles files)
+files_steps ends files = record {
+  notes = λ d ns h. h;
+  keeps = λ d delta h. h;
+  takes = λ d v h. version_files d.store ends.file v ∙ h;
+  answers = λ d m of h. h;
+  tells = λ d head e there h. h;
+}
+
 -- A MESSAGE gives out no id
 pub receive_files : (a : Store) (m : Message) (w : Work) → (receive a m w).store.files ≡ a.files
 receive_files a (message.Cell ends tag x) w =
@@ -104,6 +118,16 @@ receive_files a (message.Cell ends tag x) w =
     either_done a (fits ends.file x) (cond (is_accepted a w.from manner.Makes ends) _ e) (idle a w)
     (either_done a (is_accepted a w.from manner.Makes ends) _ e (taken_files e.store ends.file x e.work ∙ accept_files a ends manner.Makes w) (accept_files a ends manner.Makes w)) refl
 receive_files a (message.Ack ends q tag) w = refl
+receive_files a (message.Harbinger ends tag head) w =
+    harbinger_keeps ends (HasFiles a.files) (files_steps ends a.files) a w refl tag head (accept_files a ends manner.Makes w)
+receive_files a (message.Want ends wanted) w =
+    want_keeps ends (HasFiles a.files) (files_steps ends a.files) a w refl wanted (accept_files a ends manner.Needs w)
+receive_files a (message.Delta ends delta) w =
+    delta_keeps ends (HasFiles a.files) (files_steps ends a.files) a w refl delta (accept_files a ends manner.Answers w)
+receive_files a (message.Piece ends piece) w =
+    piece_keeps ends (HasFiles a.files) (files_steps ends a.files) a w refl piece (accept_files a ends manner.Answers w)
+receive_files a (message.Later ends stamp) w =
+    later_keeps ends (HasFiles a.files) (files_steps ends a.files) a w refl stamp (accept_files a ends manner.Answers w)
 receive_files a (message.Fetch file birth) w =
     either_done a (is_full a file) (cond (knows_later a file w.from birth) (idle a w) _) _
     (either_done a (knows_later a file w.from birth) (idle a w) _ refl (link_files a file w.from birth)) refl
@@ -247,7 +271,9 @@ module _ (a : Store) (w : Work) where
 
 first_files : (a : Store) (asked : Input) → a.files ≤ (first_effect a asked).store.files
 first_files a (input.Call moment x) = call_files a (new_work moment 0) x
-first_files a (input.Tick moment word) = up_same a.files a.files refl
+first_files a (input.Tick moment word) =
+    let w = new_work moment 0 in
+    up_same a.files _ (either_done a (is_before_clock_end a) (ticked a word w) (idle a w) refl refl)
 first_files a (input.Arrival packet) =
     let w = new_work 0 packet.from in
     up_same a.files _ (either_done a (is_heard a packet) (receive a packet.message w) (idle a w) (receive_files a packet.message w) refl)

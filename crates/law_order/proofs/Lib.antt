@@ -7,6 +7,7 @@ pub mod NamesSay
 pub mod Pieces
 pub mod Settled
 pub mod Sounding
+pub mod Bodies
 pub mod Intended
 pub mod BirthsStay
 pub mod Gone
@@ -35,6 +36,9 @@ pub use Rattle.pg_run.proofs.pg_edges as pg_edges
 pub use Rattle.pg_run.proofs.pg_intent as pg_intent
 pub use Rattle.pg_run.proofs.pg_names as pg_names
 pub use Rattle.pg_run.proofs.pg_content as pg_content
+pub use Rattle.pg_run.proofs.pg_delta as pg_delta
+pub use Rattle.pg_run.proofs.pg_announced as pg_announced
+pub use Rattle.pg_run.proofs.theory_bodies as theory_bodies
 pub use Rattle.pg_run.proofs.theory_flood as theory_flood
 pub use Rattle.pg_run.proofs.pg_replica as pg_replica
 pub use Rattle.pg_run.proofs.pg_house as pg_house

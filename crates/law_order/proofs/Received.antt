@@ -34,12 +34,12 @@ use Rattle.pg_run.specs.pg_store.Beginning.{with_intents}
 use Rattle.pg_run.specs.pg_store.Births.{fill_at, is_pending, wish_at, with_wishes}
 use Rattle.pg_run.specs.pg_store.Links.{is_clean, knows_later}
 use Rattle.pg_run.specs.pg_store.Servers.{next_target}
-use Rattle.pg_run.specs.pg_store.Store.{acknowledge, is_full, is_held, replica_at, with_names}
+use Rattle.pg_run.specs.pg_store.Store.{acknowledge, is_full, is_held, keep_delta, replica_at, with_names}
 use Rattle.pg_run.specs.pg_store.Wishes.{aim_wish}
 use Rattle.pg_run.proofs.pg_store.Aiming.{aim_births, aimed_births}
 use Rattle.pg_run.proofs.pg_store.Given.{pending_may}
 use Rattle.pg_run.specs.pg_pieces.declared.accepting.EdgeUse.TheVariants as manner
-use Rattle.pg_run.specs.pg_pieces.Accepting.{accept, is_accepted, link_peer}
+use Rattle.pg_run.specs.pg_pieces.Accepting.{accept, ends_to as to_peer, is_accepted, link_peer}
 use Rattle.pg_run.specs.pg_cells.Acks.{ack}
 use Rattle.pg_run.specs.pg_cells.Cells.{cell, fits, taken, taken_along}
 use Rattle.pg_run.specs.pg_pieces.Done.{Done, idle, link_of}
@@ -56,13 +56,16 @@ use Rattle.pg_run.specs.pg_server.Local.{receive}
 use Rattle.pg_run.specs.theory_flood_pieces.Whole.{IsOther}
 use Rattle.pg_run.proofs.theory_flood_pieces.Choices.{chosen, decided}
 use Rattle.pg_run.proofs.theory_flood_pieces.Together.{held_of_replica, own_of_held}
+use Rattle.pg_run.proofs.Transfers.{IsAnswer, KeepsTransfers, delta_keeps, harbinger_keeps, later_keeps, piece_keeps, want_keeps}
+use Rattle.pg_run.specs.pg_server.pg_transfer.Asking.{with_notes}
 use Rattle.law_order.specs.Saying.{IsClosed, IsSaidCell, IsSaidGranted, IsSaidLeft, IsSaidOfCell, IsSaidOfMessage, IsSaidOwn, IsSaidTold, Saying}
 use Rattle.law_order.proofs.Accepting.{so_accept, so_reply, so_seek, so_store, so_walk}
+use Rattle.law_order.proofs.Bodies.{sound_kept, sound_noted}
 use Rattle.law_order.proofs.Intended.{all_aimed, own_said as own_told}
 use Rattle.law_order.proofs.Leaving.{so_bye, so_bye_ok, so_leave, so_leave_ok}
 use Rattle.law_order.proofs.Sent.{own_said}
 use Rattle.law_order.proofs.Sounding.{Sound, sound_acknowledge, sound_alike, sound_begun, sound_ended, sound_filled, sound_unlink}
-use Rattle.law_order.proofs.Taking.{IsMember, SoFar, so_entry, so_flags, so_link, so_place, so_raised, so_taken}
+use Rattle.law_order.proofs.Taking.{IsMember, SoFar, so_entry, so_flags, so_link, so_place, so_raised, so_sent, so_taken, so_version}
 
 module _ (p : Saying) (c : IsClosed p) (n s : ℕ) (mine : IsMember p n s) where
   abbrev Far : Done → Type 0
@@ -256,10 +259,39 @@ module _ (p : Saying) (c : IsClosed p) (n s : ℕ) (mine : IsMember p n s) where
       (chosen (Sound p n s) (does_ask (intent_at d.store.intents q) d.work.from) (with_intents d.store (aimed d.store.intents q next)) d.store
       (sound_aimed d.store q next k.store) k.store)
 
+  -- ---- bodies on demand
+
+  answer_said : (ends : Ends) (m : Message) → IsAnswer ends m → IsSaidOfMessage p m
+  answer_said ends (message.Want e wanted) of = tt
+  answer_said ends (message.Delta e delta) of = tt
+  answer_said ends (message.Piece e piece) of = tt
+  answer_said ends (message.Later e stamp) of = tt
+  answer_said ends (message.Ack e q tag) of = tt
+  answer_said ends m of = absurd of
+
+  so_steps : (ends : Ends) → KeepsTransfers ends Far
+  so_steps ends = record {
+    notes = λ d ns k. so_store p c n s d (with_notes d.store ns) k (sound_noted p n s d.store k.store ns);
+    keeps = λ d delta k. so_store p c n s d (keep_delta d.store ends.file delta) k (sound_kept p n s d.store k.store ends.file delta);
+    takes = λ d v k. so_version p c n s d ends.file v k;
+    answers = λ d m of k. so_reply p c n s d m k (answer_said ends m of);
+    tells = λ d head e there k. so_sent p c n s d e.peer (message.Harbinger (to_peer d.store ends.file e.birth) 0 head) k tt;
+  }
+
   -- A MESSAGE
   pub so_received : (d : Done) (m : Message) → IsOther n s d.work.from → IsSaidOfMessage p m → Far d → Far (receive d.store m d.work)
   so_received d (message.Cell ends tag x) other said k = so_cell d ends tag x other said k
   so_received d (message.Ack ends q tag) other said k = so_ack d ends q tag k
+  so_received d (message.Harbinger ends tag head) other said k =
+      harbinger_keeps ends Far (so_steps ends) d.store d.work k tag head (so_accept p c n s d ends manner.Makes other k)
+  so_received d (message.Want ends wanted) other said k =
+      want_keeps ends Far (so_steps ends) d.store d.work k wanted (so_accept p c n s d ends manner.Needs other k)
+  so_received d (message.Delta ends delta) other said k =
+      delta_keeps ends Far (so_steps ends) d.store d.work k delta (so_accept p c n s d ends manner.Answers other k)
+  so_received d (message.Piece ends piece) other said k =
+      piece_keeps ends Far (so_steps ends) d.store d.work k piece (so_accept p c n s d ends manner.Answers other k)
+  so_received d (message.Later ends stamp) other said k =
+      later_keeps ends Far (so_steps ends) d.store d.work k stamp (so_accept p c n s d ends manner.Answers other k)
   so_received d (message.Fetch file birth) other said k = so_fetch d file birth other k
   so_received d (message.Grant ends granted) other said k = so_grant d ends granted other said k
   so_received d (message.NoGrant file birth) other said k = so_no_grant d file birth k
@@ -279,4 +311,3 @@ module _ (p : Saying) (c : IsClosed p) (n s : ℕ) (mine : IsMember p n s) where
   so_received d (message.Leave ends stamp) other said k = so_leave p c n s d ends stamp other k
   so_received d (message.LeaveOk ends stamp) other said k = so_leave_ok p c n s d ends stamp k
   so_received d (message.Invite ends) other said k = so_invite d ends other k
-  so_received d m other said k = k

@@ -1,5 +1,5 @@
 -- What is sent of what is known and intended is said too.
-use Rattle.std.proofs.Common.{ℕ, ◌≡◌, ◌==◌, ◌++◌, Bool, true, false, cond, List, [], ◌∷◌, Option, None, Some, All, get_or, refl, sym, ap, subst}
+use Rattle.std.proofs.Common.{ℕ, ◌≡◌, ◌==◌, ◌++◌, Bool, true, false, cond, List, [], ◌∷◌, Option, None, Some, All, get_or, nat_lt, refl, sym, ap, subst}
 use Rattle.std.specs.List.{filter, find, flat_map}
 use Rattle.std.proofs.lemmas.List.Elements.{All-append, All-cons, All-head, All-nil, All-tail}
 use Rattle.std.proofs.lemmas.Option.{none-some, same_Some}
@@ -8,6 +8,7 @@ use Rattle.pg_run.specs.pg_edges.declared.edge.Edge.{Edge}
 use Rattle.pg_run.specs.pg_edges.declared.key.Key.{Key}
 use Rattle.pg_run.specs.pg_edges.declared.key.Key.TheVariants as key
 use Rattle.pg_run.specs.pg_entries.declared.cell.Cell.{Cell}
+use Rattle.pg_run.specs.pg_entries.declared.cell.Cell.TheVariants as cell_kind
 use Rattle.pg_run.specs.pg_entries.declared.entry.Entry.{Entry}
 use Rattle.pg_run.specs.pg_base.Version.{VersionValue}
 use Rattle.pg_run.specs.pg_intent.declared.intent.Intent.{Intent}
@@ -15,7 +16,9 @@ use Rattle.pg_run.specs.pg_intent.declared.intent.Intent.TheVariants as intent
 use Rattle.pg_run.specs.pg_intent.declared.key.IntentKey.{IntentKey}
 use Rattle.pg_run.specs.pg_intent.Intent.{target_of}
 use Rattle.pg_run.specs.pg_intent.Intents.{intent_at}
+use Rattle.pg_run.specs.pg_msg.declared.message.Ends.{Ends}
 use Rattle.pg_run.specs.pg_msg.declared.message.Message.{Message}
+use Rattle.pg_run.specs.pg_msg.declared.message.Message.TheVariants as message
 use Rattle.pg_run.specs.pg_msg.declared.message.Sent.{Sent}
 use Rattle.pg_run.specs.pg_msg.declared.work.Work.{Work}
 use Rattle.pg_run.specs.pg_names.declared.attributes.Attributes.{Attributes}
@@ -30,7 +33,7 @@ use Rattle.pg_run.specs.pg_store.Cells.{cell_at, entry_cell, flag_cell, is_sure,
 use Rattle.pg_run.specs.pg_store.Store.{content_of, replica_at}
 use Rattle.pg_run.specs.pg_pieces.Done.{Done}
 use Rattle.pg_run.specs.pg_cells.Finish.{finish}
-use Rattle.pg_run.specs.pg_cells.Sending.{Wanted, cell_under, cells_where, edge_cells, is_any, is_chosen, key_cell, replica_cells, waits}
+use Rattle.pg_run.specs.pg_cells.Sending.{Wanted, cell_under, cells_where, edge_cells, is_any, is_chosen, key_cell, replica_cells, told_as, waits}
 use Rattle.pg_run.specs.pg_cells.Ticks.{tick}
 use Rattle.pg_run.specs.pg_intentions.Intending.{pieces}
 use Rattle.pg_run.specs.pg_intentions.Requests.{ask_all, ask_begun, asked_of, asks, asks_by, confirm_message, leave_message, request}
@@ -108,9 +111,19 @@ module _ (p : Saying) (n s : ℕ) (a : Store) (k : Sound p n s a) where
 
   -- ---- cells
 
+  -- what tells of a cell, be it by a version's head alone
+  as_said : (ends : Ends) (tag : ℕ) (x : Cell) → IsSaidOfCell p ends.file x → IsSaidOfMessage p (told_as ends tag x)
+  as_said ends tag (cell_kind.Version v) said =
+      chosen (IsSaidOfMessage p) (nat_lt 1024 v.head.length) (message.Harbinger ends tag v.head) (message.Cell ends tag (cell_kind.Version v)) tt tt
+  as_said ends tag (cell_kind.Place place) said = said
+  as_said ends tag (cell_kind.Flag flag) said = said
+  as_said ends tag (cell_kind.Entry e sure) said = said
+
   under_said : (f : FileId) (birth : ℕ) (e : Edge) (tag : ℕ) (o : Option Cell) → IsSaidOfKey f o → AreSaidOf p (cell_under a f birth e tag o)
   under_said f birth e tag None said = All-nil OfSent
-  under_said f birth e tag (Some x) said = All-cons OfSent _ [] (said x refl) (All-nil OfSent)
+  under_said f birth e tag (Some x) said =
+      let ends : Ends = record { file = f; sender = birth; receiver = e.birth } in
+      All-cons OfSent _ [] (as_said ends tag x (said x refl)) (All-nil OfSent)
 
   module _ (f : FileId) (x : Replica) (is : replica_at a f ≡ Some x) where
     one_said : (birth : ℕ) (e : Edge) (q : Key × ℕ) → AreSaidOf p (key_cell a f birth e q)

@@ -111,7 +111,7 @@ module _ (p : Saying) (n s : ℕ) where
 
   module _ (a : Store) (k : Sound a) where
     -- the same is held and intended
-    sound_by : (b : Store) → IsWhole n s b → IsNamed p b → HoldsAsBefore a b → b.intents ≡ a.intents → Sound b
+    pub sound_by : (b : Store) → IsWhole n s b → IsNamed p b → HoldsAsBefore a b → b.intents ≡ a.intents → Sound b
     sound_by b whole named same intents = record {
       whole = whole;
       births = births_as_before a b same k.births;

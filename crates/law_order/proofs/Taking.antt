@@ -196,7 +196,7 @@ module _ (p : Saying) (c : IsClosed p) (n s : ℕ) where
       so_with noted after.store after.work (so_entry d dir e here k) (so_entry d dir e here k).store
       (beside_doubt (is_place_news (entry_news d.store dir e) && not sure) noted.work dir e.child)
 
-  so_version : (d : Done) (f : FileId) (v : VersionValue) → SoFar d → SoFar (take_version_noted d.store f v d.work)
+  pub so_version : (d : Done) (f : FileId) (v : VersionValue) → SoFar d → SoFar (take_version_noted d.store f v d.work)
   so_version d f v k =
       let after = take_version_noted d.store f v d.work in
       so_with d after.store after.work k (sound_version p n s d.store k.store f v) (beside_news (is_new_version d.store f v) d.work f (key.Version v.head.stamp))

@@ -10,6 +10,9 @@ pub use Rattle.pg_run.specs.pg_edges as pg_edges
 pub use Rattle.pg_run.specs.pg_intent as pg_intent
 pub use Rattle.pg_run.specs.pg_names as pg_names
 pub use Rattle.pg_run.specs.pg_content as pg_content
+pub use Rattle.pg_run.specs.pg_delta as pg_delta
+pub use Rattle.pg_run.specs.pg_announced as pg_announced
+pub use Rattle.pg_run.specs.theory_bodies as theory_bodies
 pub use Rattle.pg_run.specs.theory_flood as theory_flood
 pub use Rattle.pg_run.specs.pg_replica as pg_replica
 pub use Rattle.pg_run.specs.pg_msg as pg_msg

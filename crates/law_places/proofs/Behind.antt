@@ -68,7 +68,7 @@ use Rattle.pg_run.specs.pg_intentions.Seeks.{aim_seek, begin_seek, begin_seeks, 
 use Rattle.pg_run.specs.pg_server.Local.{intended, sent_at_end, settled}
 use Rattle.law_places.proofs.Origins.{IsMade}
 use Rattle.law_places.proofs.Fine.{AreKnown, IsFine, news_made, raised_flag, same_drawn}
-use Rattle.law_places.proofs.Messages.{OfCell, OfMessage, OfSent}
+use Rattle.law_places.proofs.Messages.{OfCell, OfMessage, OfSent, as_told}
 use Rattle.law_places.proofs.Timed.{AreTimed, UpTo, timed_later}
 use Rattle.law_places.proofs.Known.{AreNames, OfAll, OfIntent, aimed_is, begun_is, filter_is, found_is, or_is}
 
@@ -273,7 +273,7 @@ module _ (P : FileId → Place → Type 0) (blanks : (f : FileId) → is_same_fi
 
     under_told : (f : FileId) (birth : ℕ) (e : Edge) (q : Key) (tag : ℕ) (o : Option Cell) → cell_at b f q ≡ o → Told (cell_under b f birth e tag o)
     under_told f birth e q tag None h = none_told
-    under_told f birth e q tag (Some c) h = All-cons (OfSent P) (cell_to b f birth e c tag) [] (cell_told f q c h) none_told
+    under_told f birth e q tag (Some c) h = All-cons (OfSent P) (cell_to b f birth e c tag) [] (as_told P (record { file = f; sender = birth; receiver = e.birth }) tag c (cell_told f q c h)) none_told
 
     key_told : (f : FileId) (birth : ℕ) (e : Edge) (q : Key × ℕ) → Told (key_cell b f birth e q)
     key_told f birth e q =

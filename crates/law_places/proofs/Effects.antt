@@ -7,7 +7,6 @@ use Rattle.pg_run.specs.pg_base.Id.{is_same_file}
 use Rattle.pg_run.specs.pg_call.declared.reply.Reply.{Reply}
 use Rattle.pg_run.specs.pg_house.Work.{State, state_of}
 use Rattle.pg_run.proofs.pg_house.Drawn.{IsDrawn, drawn_on}
-use Rattle.pg_run.specs.pg_msg.declared.work.Work.{Work}
 use Rattle.pg_run.specs.pg_msg.Work.{new_work}
 use Rattle.pg_run.proofs.theory_flood_pieces.Choices.{chosen}
 use Rattle.pg_run.specs.pg_register.declared.place.Place.{Place}
@@ -15,7 +14,7 @@ use Rattle.pg_run.specs.pg_register.Place.{blank_place, root}
 use Rattle.pg_run.proofs.pg_intentions.Steady.{begin_end_stays}
 use Rattle.pg_run.specs.pg_server.declared.input.Input.{Input}
 use Rattle.pg_run.specs.pg_server.declared.input.Input.TheVariants as input
-use Rattle.pg_run.specs.pg_server.Local.{Effect, closed, effect, finished, first_effect, intended, is_heard, receive, reply_to, sent_again, settled, takes_effect, without_volatile}
+use Rattle.pg_run.specs.pg_server.Local.{Effect, closed, effect, finished, first_effect, intended, is_heard, receive, reply_to, settled, takes_effect, ticked, without_sources, without_volatile}
 use Rattle.pg_run.specs.pg_store.declared.store.Store.{Store}
 use Rattle.pg_run.specs.pg_store.Store.{is_before_clock_end}
 use Rattle.pg_run.specs.pg_pieces.Done.{Done, idle}
@@ -98,8 +97,10 @@ module _ (P : FileId → Place → Type 0) (blanks : (f : FileId) → is_same_fi
     first_fine (input.Call moment call) asks may = called P blanks s a.names.last some a moment call (begins moment 0) may
     first_fine (input.Tick moment word) asks may =
         let work = new_work moment 0 in
-        chosen (λ (w : Work). Fine (idle a w)) (is_before_clock_end a) (sent_again a word work) work
-        (tick_fine P s a.names.last word (idle a (ask_all a (tick a work))) (again_fine P blanks s a.names.last (idle a work) (begins moment 0))) (begins moment 0)
+        let b = without_sources a in
+        let still = as_before P s a.names.last (idle a work) (idle b work) refl refl refl refl (begins moment 0) in
+        chosen Fine (is_before_clock_end a) (ticked a word work) (idle a work)
+        (tick_fine P s a.names.last word (idle b (ask_all b (tick b work))) (again_fine P blanks s a.names.last (idle b work) still)) (begins moment 0)
     first_fine (input.Arrival packet) asks may =
         let work = new_work 0 packet.from in
         chosen Fine (is_heard a packet) (receive a packet.message work) (idle a work)

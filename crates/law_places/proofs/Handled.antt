@@ -28,7 +28,7 @@ use Rattle.pg_run.specs.pg_store.Beginning.{with_intents}
 use Rattle.pg_run.specs.pg_store.Births.{fill_at, has_birth, is_pending, wish_at, with_wishes}
 use Rattle.pg_run.specs.pg_store.Links.{is_clean, knows_later}
 use Rattle.pg_run.specs.pg_store.Servers.{next_target}
-use Rattle.pg_run.specs.pg_store.Store.{is_full, is_held, replica_at, with_names}
+use Rattle.pg_run.specs.pg_store.Store.{is_full, is_held, keep_delta, replica_at, with_names}
 use Rattle.pg_run.specs.pg_store.Wishes.{aim_wish}
 use Rattle.pg_run.specs.pg_pieces.declared.accepting.EdgeUse.{EdgeUse}
 use Rattle.pg_run.specs.pg_pieces.declared.accepting.EdgeUse.TheVariants as manner
@@ -47,6 +47,8 @@ use Rattle.pg_run.specs.pg_repair.NoneHere.{asking_key, does_ask, none_here}
 use Rattle.pg_run.specs.pg_repair.Telling.{is_told, tell, tell_ok, told}
 use Rattle.pg_run.specs.pg_intent.Intents.{intent_at}
 use Rattle.pg_run.specs.pg_server.Local.{receive}
+use Rattle.pg_run.specs.pg_server.pg_transfer.Asking.{with_notes}
+use Rattle.pg_run.proofs.Transfers.{IsAnswer, KeepsTransfers, delta_keeps, harbinger_keeps, later_keeps, piece_keeps, want_keeps}
 use Rattle.law_places.proofs.Begun.{begin_fine}
 use Rattle.law_places.proofs.Messages.{OfCell, OfEntry, OfMessage}
 use Rattle.law_places.proofs.Timed.{fill_timed}
@@ -226,15 +228,39 @@ module _ (P : FileId → Place → Type 0) (blanks : (f : FileId) → is_same_fi
       (with_intents d.store (aimed d.store.intents q (next_target d.store d.work.from))) d.store
       (intending P s least d _ (aimed_is P d.store.intents q _ k.known.intents) k) k
 
+  -- ---- bodies on demand
+
+  answer_of : (ends : Ends) (m : Message) → IsAnswer ends m → OfMessage P m
+  answer_of ends (message.Want e wanted) of = tt
+  answer_of ends (message.Delta e delta) of = tt
+  answer_of ends (message.Piece e piece) of = tt
+  answer_of ends (message.Later e stamp) of = tt
+  answer_of ends (message.Ack e q tag) of = tt
+  answer_of ends m of = absurd of
+
+  steps_fine : (ends : Ends) → KeepsTransfers ends Fine
+  steps_fine ends = record {
+    notes = λ d ns k. as_before P s least d (idle (with_notes d.store ns) d.work) refl refl refl refl k;
+    keeps = λ d delta k. as_before P s least d (idle (keep_delta d.store ends.file delta) d.work) refl refl refl refl k;
+    takes = λ d v k. version_fine P s least d k ends.file v;
+    answers = λ d m of k. answered d m (answer_of ends m of) k;
+    tells = λ d head e there k. posted P s least d e.peer (message.Harbinger (ends_to d.store ends.file e.birth) 0 head) tt k;
+  }
+
   -- A MESSAGE
   pub receive_fine : (m : Message) (d : Done) → RootStays d.store → OfMessage P m → Fine d → Fine (receive d.store m d.work)
   receive_fine (message.Cell ends tag c) d stays of k = cell_fine ends tag c of d k
   receive_fine (message.Ack ends key tag) d stays of k = ack_fine ends key tag d k
-  receive_fine (message.Harbinger ends tag head) d stays of k = k
-  receive_fine (message.Want ends wanted) d stays of k = k
-  receive_fine (message.Delta ends delta) d stays of k = k
-  receive_fine (message.Piece ends piece) d stays of k = k
-  receive_fine (message.Later ends stamp) d stays of k = k
+  receive_fine (message.Harbinger ends tag head) d stays of k =
+      harbinger_keeps ends Fine (steps_fine ends) d.store d.work k tag head (accept_fine d ends manner.Makes k)
+  receive_fine (message.Want ends wanted) d stays of k =
+      want_keeps ends Fine (steps_fine ends) d.store d.work k wanted (accept_fine d ends manner.Needs k)
+  receive_fine (message.Delta ends delta) d stays of k =
+      delta_keeps ends Fine (steps_fine ends) d.store d.work k delta (accept_fine d ends manner.Answers k)
+  receive_fine (message.Piece ends piece) d stays of k =
+      piece_keeps ends Fine (steps_fine ends) d.store d.work k piece (accept_fine d ends manner.Answers k)
+  receive_fine (message.Later ends stamp) d stays of k =
+      later_keeps ends Fine (steps_fine ends) d.store d.work k stamp (accept_fine d ends manner.Answers k)
   receive_fine (message.Fetch file birth) d stays of k = fetch_fine file birth d k
   receive_fine (message.Grant ends granted) d stays of k = grant_fine ends granted d (stays.pending ends.file ends.receiver) of k
   receive_fine (message.NoGrant file birth) d stays of k = no_grant_fine file birth d k

@@ -1,16 +1,19 @@
 -- Which messages tell of places that may stand.
-use Rattle.std.proofs.Common.{◌≡◌, false, List, All}
+use Rattle.std.proofs.Common.{ℕ, ◌≡◌, false, nat_lt, List, All}
 use Rattle.std.proofs.lemmas.List.Elements.{All-weaker}
 use Rattle.pg_run.specs.pg_base.declared.id.FileId.{FileId}
 use Rattle.pg_run.specs.pg_base.Id.{is_same_file}
 use Rattle.pg_run.specs.pg_entries.declared.cell.Cell.{Cell}
 use Rattle.pg_run.specs.pg_entries.declared.cell.Cell.TheVariants as cells
 use Rattle.pg_run.specs.pg_entries.declared.entry.Entry.{Entry}
+use Rattle.pg_run.specs.pg_cells.Sending.{told_as}
+use Rattle.pg_run.specs.pg_msg.declared.message.Ends.{Ends}
 use Rattle.pg_run.specs.pg_msg.declared.message.Message.{Message}
 use Rattle.pg_run.specs.pg_msg.declared.message.Message.TheVariants as message
 use Rattle.pg_run.specs.pg_msg.declared.message.Sent.{Sent}
 use Rattle.pg_run.specs.pg_register.declared.place.Place.{Place}
 use Rattle.pg_run.specs.pg_register.Place.{root}
+use Rattle.pg_run.proofs.theory_flood_pieces.Choices.{chosen}
 
 module _ (P : FileId → Place → Type 0) where
   abbrev pub OfEntry : Entry → Type 0
@@ -33,6 +36,14 @@ module _ (P : FileId → Place → Type 0) where
 
   abbrev pub OfSent : Sent → Type 0
   OfSent m = OfMessage m.packet.message
+
+  -- what tells of a cell, be it by a version's head alone
+  pub as_told : (ends : Ends) (tag : ℕ) (c : Cell) → OfCell ends.file c → OfMessage (told_as ends tag c)
+  as_told ends tag (cells.Version v) of =
+      chosen OfMessage (nat_lt 1024 v.head.length) (message.Harbinger ends tag v.head) (message.Cell ends tag (cells.Version v)) tt tt
+  as_told ends tag (cells.Place place) of = of
+  as_told ends tag (cells.Entry e sure) of = of
+  as_told ends tag (cells.Flag flag) of = tt
 
 -- what may be told may be told by a weaker rule
 module _ (P Q : FileId → Place → Type 0) (up : (f : FileId) (p : Place) → P f p → Q f p) where

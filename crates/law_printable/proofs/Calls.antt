@@ -9,6 +9,7 @@ use Rattle.pg_run.specs.pg_base.declared.stamp.Stamp.{Stamp}
 use Rattle.pg_run.specs.pg_call.declared.call.Call.{Call}
 use Rattle.pg_run.specs.pg_call.declared.call.Call.TheVariants as call
 use Rattle.pg_run.specs.pg_call.declared.call.Target.{Target}
+use Rattle.pg_run.specs.pg_announced.Announced.{first_of}
 use Rattle.pg_run.specs.pg_call.declared.reply.Reply.{Reply}
 use Rattle.pg_run.specs.pg_call.declared.reply.Reply.TheVariants as reply
 use Rattle.pg_run.specs.pg_call.Call.{IsCall}
@@ -38,7 +39,7 @@ use Rattle.pg_run.specs.pg_calls.Demoting.{demote, demoted_at, lowered}
 use Rattle.pg_run.specs.pg_calls.Dropping.{clean_gold, drop, dropped_at, leave_of, leaving}
 use Rattle.pg_run.specs.pg_calls.Forgetting.{lost_at}
 use Rattle.pg_run.specs.pg_calls.GivingUp.{removal_at}
-use Rattle.pg_run.specs.pg_calls.Looks.{counts, listing, ls, page, stat_of, stop as stop_call}
+use Rattle.pg_run.specs.pg_calls.Looks.{counts, freshness, listing, ls, page, stat_of, stop as stop_call}
 use Rattle.pg_run.specs.pg_calls.Making.{drawn, first_ranges, make_place, make_version, version_of}
 use Rattle.pg_run.specs.pg_calls.Naming.{begun, create, dead_place, mkdir, next_id, place_in, rename, taken_away, with_id, with_thing}
 use Rattle.pg_run.proofs.pg_calls.Checked.{fit_found}
@@ -216,6 +217,11 @@ module _ (K : Type 0) (s : Store) (work : Work) (h : DoneSuits (idle s work)) wh
   stop_suits : CallSuits K (stop_call s work)
   stop_suits = replied_suits K s work (in_time s (tt {0})) (λ found. reply.Done) h (λ found k. tt)
 
+-- that a version was announced is told by its stamp
+fresh_told : (o : Option Stamp) → IsCallAnswer (freshness o)
+fresh_told None = tt
+fresh_told (Some stamp) = tt
+
 pub call_suits : (s : Store) (work : Work) → DoneSuits (idle s work) → (c : Call) → CallSuits (IsCall c) (do_call s c work)
 call_suits s work h (call.Mkdir path) = mkdir_suits (IsCall (call.Mkdir path)) s work h path
 call_suits s work h (call.Create path policy) = create_suits (IsCall (call.Create path policy)) s work h path policy
@@ -223,7 +229,8 @@ call_suits s work h (call.Write path offset bytes) = change_suits (IsCall (call.
 call_suits s work h (call.Cut path length) = change_suits (IsCall (call.Cut path length)) s work h path (cut_to length)
 call_suits s work h (call.Read path offset count) = read_suits (IsCall (call.Read path offset count)) s work h path offset count (λ k. k.2)
 call_suits s work h (call.Fresh path) =
-    replied_suits (IsCall (call.Fresh path)) s work (file_at s path) (λ f. reply.Done) h (λ f k. tt)
+    let next : FileId → Reply = λ f. freshness (first_of s.announced f) in
+    replied_suits (IsCall (call.Fresh path)) s work (file_at s path) next h (λ f k. fresh_told (first_of s.announced f))
 call_suits s work h (call.Ls path from) = ls_suits (IsCall (call.Ls path from)) s work h path from
 call_suits s work h (call.Stat target) =
     replied_suits (IsCall (call.Stat target)) s work (target_at s target) (λ f. reply.Stat (stat_of s f)) h

@@ -1,5 +1,5 @@
 -- What is told of one event suits, and what all servers hold and what is under way behind it; and so of any run.
-use Rattle.std.proofs.Common.{ℕ, ◌≡◌, ◌==◌, Bool, true, false, cond, List, Option, None, Some, All, refl, sym, subst}
+use Rattle.std.proofs.Common.{ℕ, ◌≡◌, ◌==◌, Bool, true, false, cond, List, Option, None, Some, All, refl, sym, subst, ◌∙◌}
 use Rattle.std.specs.List.{AllByRecursion, flat_map}
 use Rattle.std.proofs.lemmas.Option.{none-some, same_Some}
 use Rattle.std.proofs.lemmas.List.Elements.{All-append, All-contains, All-nil, recursion_from_All}
@@ -28,12 +28,13 @@ use Rattle.pg_run.specs.pg_intentions.Requests.{ask_all, asks}
 use Rattle.pg_run.specs.pg_calls.Calls.{do_call}
 use Rattle.pg_run.specs.pg_server.declared.input.Input.{Input}
 use Rattle.pg_run.specs.pg_server.declared.input.Input.TheVariants as input
-use Rattle.pg_run.specs.pg_server.Local.{Effect, closed, done_of, effect, finished, first_effect, intended, is_heard, receive, sent_again, sent_at_end, settled, without_volatile}
+use Rattle.pg_run.specs.pg_server.Local.{Effect, closed, done_of, effect, finished, first_effect, intended, is_heard, receive, sent_at_end, settled, ticked, without_volatile}
 use Rattle.pg_run.specs.Journal.{bag, mail, message_at, removals}
 use Rattle.pg_run.specs.Run.{Step, Taking, World, effect_step, idle_step, is_due, is_live, next, taking_in, taking_message, world_after}
 use Rattle.pg_run.proofs.Event.{nothing_last}
 use Rattle.pg_run.proofs.Frame.{IsFramed, framed, was_sent}
 use Rattle.pg_run.proofs.LastWalks.{lasts_have}
+use Rattle.pg_run.proofs.Ticked.{sent_again_same}
 use Rattle.pg_run.proofs.Walks.{again_is, tick_walks}
 use Rattle.pg_trace.specs.Suited.{Answers, IsSuited, SuitsKind, SuitsUpdate}
 use Rattle.law_printable.proofs.Behind.{ended_suits, intended as intentions_suit, settled_suits}
@@ -102,7 +103,7 @@ module _ (s : Store) (h : StoreSuits s) (server moment word : ℕ) where
   abbrev Begun : Work
   Begun = new_work moment 0
 
-  again_suits : DoneSuits (idle s (sent_again s word Begun))
+  again_suits : DoneSuits (ticked s word Begun)
   again_suits =
       let cells = cells_where s is_any in
       let none = new_suits moment 0 in
@@ -112,16 +113,19 @@ module _ (s : Store) (h : StoreSuits s) (server moment word : ℕ) where
         left = none.left;
         unsure = none.unsure;
       } in
-      record { store = h; work = subst (WorkSuits Suits) (sym (again_is s word Begun)) all }
+      record {
+        store = record { names = h.names; intents = h.intents };
+        work = subst (WorkSuits Suits) (sym (sent_again_same s word Begun ∙ again_is s word Begun)) all;
+      }
 
   abbrev Answering : Bool → Option Reply
   Answering t = Some (cond t reply.Done (reply.Refused ClockEnd))
 
   abbrev Working : Bool → Done
-  Working t = idle s (cond t (sent_again s word Begun) Begun)
+  Working t = cond t (ticked s word Begun) (idle s Begun)
 
   by_clock : (t : Bool) → AllSuit (Working t).work.tail → EffectSuits Ticked (cond t (closed (Answering t) (Working t)) (finished (Answering t) (Working t)))
-  by_clock true last = closed_suits Ticked (Some reply.Done) (idle s (sent_again s word Begun)) (λ k. tt) last again_suits
+  by_clock true last = closed_suits Ticked (Some reply.Done) (ticked s word Begun) (λ k. tt) last again_suits
   by_clock false last = finished_suits Ticked (Some (reply.Refused ClockEnd)) (idle s Begun) (λ k. refl) last (begun s moment 0 h)
 
   pub ticked_suits : EffectSuits Ticked (effect s (input.Tick moment word))

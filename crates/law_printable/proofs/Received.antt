@@ -19,10 +19,11 @@ use Rattle.pg_run.specs.pg_repair.Fetching.{ends_to}
 use Rattle.pg_run.specs.pg_graph.Seeking.{seek}
 use Rattle.pg_run.specs.pg_graph.Walks.{goes_on, meet_origin, onward, walk, walk_along, walk_on, walked}
 use Rattle.pg_run.specs.pg_server.Local.{receive}
+use Rattle.pg_run.proofs.Transfers.{IsAnswer, KeepsTransfers, delta_keeps, harbinger_keeps, later_keeps, piece_keeps, want_keeps}
 use Rattle.law_printable.proofs.House.{WorkSuits}
 use Rattle.law_printable.proofs.Leaving.{bye_ok_suits, bye_suits, leave_ok_suits, leave_suits}
-use Rattle.law_printable.proofs.Messages.{Suits, SuitsMessage}
-use Rattle.law_printable.proofs.Stores.{DoneSuits, peer_linked, posted, unlink_suits}
+use Rattle.law_printable.proofs.Messages.{Suits, SuitsMessage, SuitsPost}
+use Rattle.law_printable.proofs.Stores.{DoneSuits, peer_linked, posted, unlink_suits, version_noted}
 use Rattle.law_printable.proofs.Handlers.{Plain, Suited, replied, accept_suits, cell_suits, fetch_suits, grant_suits, no_grant_suits, full_suits, invite_suits, confirm_suits, place_is_suits, tell_suits, tell_ok_suits, none_here_suits}
 
 -- ---- a replica that seeks, and walks
@@ -71,6 +72,28 @@ walk_suits s ends origin birth hops word work h =
     (chosen DoneSuits (origin == s.names.server) (idle s work) next h (walked_suits s ends origin birth hops word on work h))
     (accept_suits s ends manner.Needs work h)
 
+-- ---- bodies on demand: of what is asked and answered stamps are told
+
+answer_post : (ends : Ends) (m : Message) → IsAnswer ends m → SuitsPost m
+answer_post ends (message.Want e wanted) is = record { about = λ g. g; told = λ g. g; carried = tt }
+answer_post ends (message.Delta e d) is = record { about = λ g. g; told = λ g. g; carried = tt }
+answer_post ends (message.Piece e p) is = record { about = λ g. g; told = λ g. g; carried = tt }
+answer_post ends (message.Later e stamp) is = record { about = λ g. g; told = λ g. g; carried = tt }
+answer_post ends (message.Ack e q tag) is = record { about = λ g. g; told = λ g. g; carried = tt }
+answer_post ends m is = absurd is
+
+bodies_suit : (ends : Ends) → KeepsTransfers ends DoneSuits
+bodies_suit ends = record {
+  notes = λ d ns h. record { store = record { names = h.store.names; intents = h.store.intents }; work = h.work };
+  keeps = λ d delta h. record { store = record { names = h.store.names; intents = h.store.intents }; work = h.work };
+  takes = λ d v h. version_noted d.store d.work (record { store = h.store; work = h.work }) ends.file v;
+  answers = λ d m is h. record { store = h.store; work = posted d.store d.work.from m d.work (answer_post ends m is) h.work };
+  tells = λ d head e is h. record {
+    store = h.store;
+    work = posted d.store e.peer _ d.work (record { about = λ g. g; told = λ g. g; carried = tt }) h.work;
+  };
+}
+
 -- ---- any message
 
 pub received_suits : (s : Store) (m : Message) (work : Work) → SuitsMessage m → Suited s work → DoneSuits (receive s m work)
@@ -97,4 +120,13 @@ received_suits s (message.TellOk dir child stamp) work k h = tell_ok_suits s dir
 received_suits s (message.Walk ends origin birth hops word) work k h = walk_suits s ends origin birth hops word work h
 received_suits s (message.Meet ends) work k h = accept_suits s ends manner.Makes work h
 received_suits s (message.Invite ends) work k h = invite_suits s ends work h
-received_suits s m work k h = h
+received_suits s (message.Harbinger ends tag head) work k h =
+    harbinger_keeps ends DoneSuits (bodies_suit ends) s work h tag head (accept_suits s ends manner.Makes work h)
+received_suits s (message.Want ends wanted) work k h =
+    want_keeps ends DoneSuits (bodies_suit ends) s work h wanted (accept_suits s ends manner.Needs work h)
+received_suits s (message.Delta ends d) work k h =
+    delta_keeps ends DoneSuits (bodies_suit ends) s work h d (accept_suits s ends manner.Answers work h)
+received_suits s (message.Piece ends p) work k h =
+    piece_keeps ends DoneSuits (bodies_suit ends) s work h p (accept_suits s ends manner.Answers work h)
+received_suits s (message.Later ends stamp) work k h =
+    later_keeps ends DoneSuits (bodies_suit ends) s work h stamp (accept_suits s ends manner.Answers work h)

@@ -1,6 +1,7 @@
 -- What is sent at the end of an event, and what a tick sends, suits.
 use Rattle.std.proofs.Common.{ℕ, ◌≡◌, ◌==◌, Bool, List, [], ◌∷◌, Option, None, Some, All, refl, subst, sym}
 use Rattle.std.specs.List.{filter, flat_map}
+use Rattle.std.specs.Prelude.{nat_lt}
 use Rattle.std.proofs.lemmas.List.Elements.{All-append, All-cons, All-head, All-nil, All-tail}
 use Rattle.pg_run.specs.pg_base.declared.id.FileId.{FileId}
 use Rattle.pg_run.specs.pg_base.Version.{VersionValue}
@@ -9,13 +10,16 @@ use Rattle.pg_run.specs.pg_edges.declared.edge.Edge.{Edge}
 use Rattle.pg_run.specs.pg_edges.declared.key.Key.{Key}
 use Rattle.pg_run.specs.pg_edges.declared.key.Key.TheVariants as key
 use Rattle.pg_run.specs.pg_entries.declared.cell.Cell.{Cell}
+use Rattle.pg_run.specs.pg_entries.declared.cell.Cell.TheVariants as cell
 use Rattle.pg_run.specs.pg_entries.declared.entry.Entry.{Entry}
 use Rattle.pg_run.specs.pg_intent.declared.intent.Intent.{Intent}
 use Rattle.pg_run.specs.pg_intent.declared.intent.Intent.TheVariants as intent
 use Rattle.pg_run.specs.pg_intent.declared.key.IntentKey.{IntentKey}
 use Rattle.pg_run.specs.pg_intent.Intent.{target_of}
 use Rattle.pg_run.specs.pg_intent.Intents.{intent_at}
+use Rattle.pg_run.specs.pg_msg.declared.message.Ends.{Ends}
 use Rattle.pg_run.specs.pg_msg.declared.message.Message.{Message}
+use Rattle.pg_run.specs.pg_msg.declared.message.Message.TheVariants as message
 use Rattle.pg_run.specs.pg_names.declared.attributes.Attributes.{Attributes}
 use Rattle.pg_run.specs.pg_names.Names.{NamesValue, cell_at as entry_at, own_at, own_or_blank}
 use Rattle.pg_run.specs.pg_register.declared.flag.Flag.{Flag}
@@ -26,7 +30,7 @@ use Rattle.pg_run.specs.pg_store.declared.store.Store.{Store}
 use Rattle.pg_run.specs.pg_store.Cells.{cell_at, entry_cell, flag_cell, is_sure, version_cell}
 use Rattle.pg_run.specs.pg_store.Store.{content_of}
 use Rattle.pg_run.proofs.pg_house.Truths.{chosen}
-use Rattle.pg_run.specs.pg_cells.Sending.{Wanted, cell_to, cell_under, cells_where, edge_cells, key_cell, replica_cells, waits}
+use Rattle.pg_run.specs.pg_cells.Sending.{Wanted, cell_to, cell_under, cells_where, edge_cells, key_cell, replica_cells, told_as, waits}
 use Rattle.pg_run.specs.pg_pieces.Posting.{sent_to}
 use Rattle.pg_run.specs.pg_intentions.Intending.{pieces}
 use Rattle.pg_run.specs.pg_intentions.Requests.{asked_of, asks, asks_by, confirm_message, leave_message, request}
@@ -77,12 +81,24 @@ key_may s f (key.Version stamp) h = version_may f (head_at (content_of s f).head
 
 -- ---- cells that are sent
 
+whole_suits : (s : Store) (to : ℕ) (ends : Ends) (tag : ℕ) (c : Cell) → SuitsCell ends.file c → Suits (sent_to s to (message.Cell ends tag c))
+whole_suits s to ends tag c k = record { told = record { about = λ h. h; told = λ h. h }; carried = k }
+
+-- it is told of as a whole, or by its head
+told_suits : (s : Store) (to : ℕ) (ends : Ends) (tag : ℕ) (c : Cell) → SuitsCell ends.file c → Suits (sent_to s to (told_as ends tag c))
+told_suits s to ends tag (cell.Place place) k = whole_suits s to ends tag (cell.Place place) k
+told_suits s to ends tag (cell.Flag flag) k = whole_suits s to ends tag (cell.Flag flag) k
+told_suits s to ends tag (cell.Entry entry sure) k = whole_suits s to ends tag (cell.Entry entry sure) k
+told_suits s to ends tag (cell.Version v) k =
+    chosen (λ (m : Message). Suits (sent_to s to m)) (nat_lt 1024 v.head.length) (message.Harbinger ends tag v.head) (message.Cell ends tag (cell.Version v))
+    (record { told = record { about = λ h. h; told = λ h. h }; carried = tt }) (whole_suits s to ends tag (cell.Version v) k)
+
 under_suits : (s : Store) (f : FileId) (birth : ℕ) (e : Edge) (tag : ℕ) (o : Option Cell) → MaySuit f o
     → AllSuit (cell_under s f birth e tag o)
 under_suits s f birth e tag None k = All-nil Suits
 under_suits s f birth e tag (Some c) k =
-    All-cons Suits (cell_to s f birth e c tag) []
-    (record { told = record { about = λ h. h; told = λ h. h }; carried = k }) (All-nil Suits)
+    let ends : Ends = record { file = f; sender = birth; receiver = e.birth } in
+    All-cons Suits (cell_to s f birth e c tag) [] (told_suits s e.peer ends tag c k) (All-nil Suits)
 
 module _ (s : Store) (h : NamesSuit s.names) (wanted : Wanted) where
   keys_suit : (f : FileId) (birth : ℕ) (e : Edge) (k : Key × ℕ) → AllSuit (key_cell s f birth e k)

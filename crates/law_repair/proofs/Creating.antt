@@ -8,6 +8,8 @@ use Rattle.law_full.specs.pg_base.declared.id.Kind.{Kind}
 use Rattle.law_full.specs.pg_base.declared.id.Kind.TheVariants.{Dir, File}
 use Rattle.law_full.specs.pg_base.declared.policy.Policy.{Policy}
 use Rattle.law_full.specs.pg_base.declared.policy.Policy.TheVariants.{Last}
+use Rattle.law_full.specs.pg_base.declared.stamp.Stamp.{Stamp}
+use Rattle.law_golds.specs.law_contents.pg_announced.Announced.{first_of}
 use Rattle.law_full.specs.pg_call.declared.call.Call.{Call}
 use Rattle.law_full.specs.pg_call.declared.call.Call.TheVariants as call
 use Rattle.law_full.specs.pg_call.declared.refusal.Refusal.{Refusal}
@@ -20,6 +22,7 @@ use Rattle.law_full.specs.pg_calls.Demoting.{demoted_at}
 use Rattle.law_full.specs.pg_calls.Dropping.{clean_gold, dropped_at, leaving}
 use Rattle.law_full.specs.pg_calls.Forgetting.{lost_at}
 use Rattle.law_full.specs.pg_calls.GivingUp.{removal_at}
+use Rattle.law_full.specs.pg_calls.Looks.{freshness}
 use Rattle.law_full.specs.pg_calls.Naming.{begun, next_id, place_in, with_id, with_thing}
 use Rattle.law_full.specs.pg_checks.declared.checks.NewName.{NewName}
 use Rattle.law_full.specs.pg_checks.Answer.{Answer, answered, replied, told}
@@ -53,7 +56,7 @@ use Rattle.law_full.specs.pg_store.Births.{draw_birth, with_birth}
 use Rattle.law_full.specs.pg_store.Store.{is_full, is_held, is_before_clock_end, take_place}
 use Rattle.law_full.specs.pg_run.Run.{World, next, run}
 use Rattle.law_repair.specs.Kept.{IsCreated, MadeThingsAreCreated, is_held_by}
-use Rattle.law_repair.proofs.Keeping.{same_number}
+use Rattle.law_repair.proofs.FlagHad.{same_number}
 use Rattle.law_repair.proofs.Stays.{full_rules}
 use Rattle.law_repair.proofs.Steps.{IsActed, one_step}
 
@@ -61,6 +64,10 @@ use Rattle.law_repair.proofs.Steps.{IsActed, one_step}
 
 refused_not : (why : Refusal) (file : FileId) → reply.Refused why ≡ reply.Made file → ⊥
 refused_not why file h = cc
+
+fresh_not : (o : Option Stamp) (file : FileId) → freshness o ≡ reply.Made file → ⊥
+fresh_not None file h = cc
+fresh_not (Some stamp) file h = cc
 
 id_is : (id file : FileId) → reply.Made id ≡ reply.Made file → id ≡ file
 id_is id file h = cc
@@ -119,7 +126,7 @@ module _ (a : Store) (file : FileId) (moment : ℕ) where
   called (call.Write text offset bytes) = changes text (written offset bytes)
   called (call.Cut text length) = changes text (cut_to length)
   called (call.Read text offset count) = looks (file_at a text) _ (λ x h. cc)
-  called (call.Fresh text) = looks (file_at a text) _ (λ x h. cc)
+  called (call.Fresh text) = looks (file_at a text) _ (λ x h. fresh_not (first_of a.announced x) file h)
   called (call.Ls text from) = looks (dir_at a text) _ (λ x h. cc)
   called (call.Stat target) = looks (target_at a target) _ (λ x h. cc)
   called (call.Rename from to) = answers (move_of a from to) _ (λ x at h. absurd (let z = h in cc))

@@ -51,7 +51,7 @@ use Rattle.law_full.specs.pg_pieces.Golds.{is_gold}
 use Rattle.law_full.specs.pg_pieces.Making.{lower_flag, own_next}
 use Rattle.law_full.specs.pg_server.declared.input.Input.{Input}
 use Rattle.law_full.specs.pg_server.declared.input.Input.TheVariants as input
-use Rattle.law_full.specs.pg_server.Local.{effect, first_effect, reply_to}
+use Rattle.law_full.specs.pg_server.Local.{effect, first_effect, reply_to, ticked}
 use Rattle.law_full.specs.pg_store.declared.store.Store.{Store}
 use Rattle.law_full.specs.pg_store.declared.wishes.Wish.{Wish}
 use Rattle.law_full.specs.pg_store.Births.{draw_birth, has_birth, with_birth, with_wish}
@@ -284,7 +284,9 @@ module _ (a : Store) (asked : Input) (file : FileId) where
 
   first_by : (x : Input) → asked ≡ x → P (first_effect a x).store.names
   first_by (input.Call moment c) is = call_p moment c is
-  first_by (input.Tick moment word) is = before
+  first_by (input.Tick moment word) is =
+      let w = new_work moment 0 in
+      chosen (λ (d : Done). P d.store.names) (is_before_clock_end a) (ticked a word w) (idle a w) before before
   first_by (input.Arrival packet) is =
       arrival_kept P a packet before
       (λ heard. receive_kept P AnyPlace Begins Fills p_kept a before packet.message (new_work 0 packet.from)

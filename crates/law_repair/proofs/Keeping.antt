@@ -1,41 +1,34 @@
 -- What full replicas know of a gold one that stays gold, they know behind one event more.
-use Rattle.std.proofs.Common.{ℕ, ◌≡◌, ◌≢◌, ◌≤◌, ◌==◌, ◌+◌, Bool, true, false, List, [], ◌∷◌, ◌++◌, Option, None, Some, option_map, refl, sym, ap, subst, ◌∙◌, inl, inr, ◌⊎◌, arith}
+use Rattle.std.proofs.Common.{ℕ, ◌≡◌, ◌≢◌, ◌≤◌, ◌+◌, true, false, List, [], ◌∷◌, ◌++◌, Option, Some, option_map, sym, ap, subst, ◌∙◌, inl, inr, ◌⊎◌, arith}
 use Rattle.std.specs.Prelude.{Contains}
-use Rattle.std.proofs.lemmas.Bool.{eqb-true, eqb-false, false≢true}
+use Rattle.std.proofs.lemmas.Bool.{false≢true}
 use Rattle.std.proofs.lemmas.List.Elements.{All-contains}
-use Rattle.std.proofs.lemmas.Option.{none-some, same_Some}
+use Rattle.std.proofs.lemmas.Option.{same_Some}
 use Rattle.law_full.specs.pg_base.declared.id.FileId.{FileId}
 use Rattle.law_full.specs.pg_base.declared.id.Kind.{Kind}
 use Rattle.law_full.specs.pg_call.declared.call.Call.TheVariants as call
 use Rattle.law_full.specs.pg_calls.Naming.{next_id}
 use Rattle.law_full.proofs.pg_calls.Walked.{full_held}
-use Rattle.law_full.specs.pg_edges.declared.key.Key.{Key}
 use Rattle.law_full.specs.pg_edges.declared.key.Key.TheVariants as key
-use Rattle.law_full.specs.pg_entries.declared.cell.Cell.{Cell}
 use Rattle.law_full.specs.pg_entries.declared.cell.Cell.TheVariants as cell
-use Rattle.law_full.specs.pg_entries.declared.entry.Entry.{Entry}
 use Rattle.law_full.specs.pg_event.declared.event.Event.{Event}
-use Rattle.law_full.specs.theory_flood.Server.{Holds as HoldsCell}
 use Rattle.law_full.specs.pg_msg.declared.message.Ends.{Ends}
 use Rattle.law_full.specs.pg_msg.declared.message.Message.TheVariants as message
 use Rattle.law_full.specs.pg_msg.declared.message.Sent.{Sent}
 use Rattle.law_full.specs.pg_msg.declared.update.Update.TheVariants as update
-use Rattle.law_full.specs.pg_names.Names.{own_or_blank, cell_at as entry_at}
 use Rattle.law_full.specs.pg_register.declared.flag.Flag.{Flag}
-use Rattle.law_full.specs.pg_register.Flag.{flag_of, is_older}
-use Rattle.law_full.specs.pg_replica.Replica.{cell_at as head_at}
+use Rattle.law_full.specs.pg_register.Flag.{is_older}
 use Rattle.law_full.specs.pg_replica.declared.replica.Replica.{Replica}
-use Rattle.law_full.specs.pg_base.Version.{VersionValue}
 use Rattle.law_full.specs.pg_pieces.Golds.{is_gold}
 use Rattle.law_full.specs.pg_server.declared.input.Input.{Input}
 use Rattle.law_full.specs.pg_server.Local.{effect, first_effect}
 use Rattle.law_full.specs.pg_store.declared.store.Store.{Store}
-use Rattle.law_full.specs.pg_store.Cells.{cell_at, entry_cell, flag_cell, is_sure, version_cell}
-use Rattle.law_full.specs.pg_store.Store.{content_of, is_full}
+use Rattle.law_full.specs.pg_store.Cells.{flag_cell}
+use Rattle.law_full.specs.pg_store.Store.{is_full}
 use Rattle.law_full.specs.pg_store.Together.{BirthsMove, IsOver, birth_at}
 use Rattle.law_full.proofs.pg_store.Over.{moves_then, over_stays}
 use Rattle.law_full.specs.theory_flood_pieces.Growing.{Grows}
-use Rattle.law_full.specs.theory_flood_pieces.UpTo.{IsFlagKnownBy, IsFlagUpTo, IsUpTo}
+use Rattle.law_full.specs.theory_flood_pieces.UpTo.{IsFlagKnownBy}
 use Rattle.law_full.specs.theory_flood_pieces.Whole.{IsWhole}
 use Rattle.law_golds.proofs.law_births.Here.{birth_of_held}
 use Rattle.law_full.specs.Filled.{SaysFull}
@@ -43,78 +36,16 @@ use Rattle.law_golds.specs.law_order.Named.{IsMade}
 use Rattle.law_full.specs.pg_run.Acknowledged.{IsHadThere}
 use Rattle.law_full.specs.pg_run.Journal.{mail}
 use Rattle.law_full.specs.pg_run.Laws.{TakesIn}
-use Rattle.law_full.specs.pg_run.Run.{World, is_live, next, run}
-use Rattle.law_full.proofs.pg_run.Found.{flag_found}
+use Rattle.law_full.specs.pg_run.Run.{World, is_live, run}
 use Rattle.law_full.proofs.pg_run.Frame.{HasCome, live_is}
 use Rattle.law_full.proofs.pg_run.Lists.{among_contained, among_parts, contained_among}
 use Rattle.law_repair.specs.Facts.{ForgetsIt, IsCleanEdge, MakesIt, TellsFull}
 use Rattle.law_repair.specs.Given.{StandOn}
 use Rattle.law_repair.specs.Kept.{Forgets, IsGoldAt}
+use Rattle.law_repair.proofs.FlagHad.{KnowsUp, flag_had, grown_by, same_number}
 use Rattle.law_repair.proofs.GoldsThere.{OwnFlag, flag_at, held_not_over, known_of, not_older_itself, own_of_known, own_there, top}
 use Rattle.law_repair.proofs.Steps.{IsActed, IsIdle, acts_live, called_is, live_before, one_step}
-
--- ---- what is known of a gold replica of server k
-
--- its replica is full, and this store knows its present flag
-abbrev pub Agrees : FileId → ℕ → Store → Store → Type 0
-Agrees file k a c = (is_full c file ≡ true) × (flag_at a file k ≡ flag_at c file k)
-
--- known: each live full replica does
--- told: and each that is said to be full
-pub record AreAgreed (n : ℕ) (w : World) (file : FileId) (k : ℕ) : Type 0 where
-  pub known : (t : ℕ) → is_live n w t ≡ true → is_full (w.stores t) file ≡ true → Agrees file k (w.stores t) (w.stores k)
-  pub told : (m : Sent) (ends : Ends) → Contains (mail w.journal) m → m.packet.message ≡ message.Full ends → ends.file ≡ file
-      → is_live n w m.to ≡ true → birth_at (w.stores m.to) file ≡ Some ends.receiver → Agrees file k (w.stores m.to) (w.stores k)
-
--- ---- small things
-
-agrees_by : (file : FileId) (k : ℕ) (a b c d : Store) → b ≡ a → d ≡ c → Agrees file k a c → Agrees file k b d
-agrees_by file k a b c d e f h =
-    subst (λ (x : Store). Agrees file k x d) (sym e) (subst (λ (y : Store). Agrees file k a y) (sym f) h)
-
-pub same_number : (s t : ℕ) → (s ≡ t) ⊎ (s ≢ t)
-same_number s t = by (s == t) refl
-  where
-    by : (u : Bool) → (s == t) ≡ u → (s ≡ t) ⊎ (s ≢ t)
-    by true e = inl (eqb-true s t e)
-    by false e = inr (eqb-false s t e)
-
--- ---- a flag's cell that a peer has
-
-no_flag : (X : Type 0) (f : Flag) (c : Cell) (o : Option Flag) → flag_cell o ≡ Some c → ((g : Flag) → o ≡ Some g → IsFlagUpTo f g → X) → IsUpTo (cell.Flag f) c → X
-no_flag X f c None is next up = absurd (none-some c is)
-no_flag X f c (Some g) is next up = next g refl (subst (IsUpTo (cell.Flag f)) (sym (same_Some (cell.Flag g) c is)) up)
-
-entry_no : (X : Type 0) (f : Flag) (c : Cell) (sure : Bool) (o : Option Entry) → entry_cell o sure ≡ Some c → IsUpTo (cell.Flag f) c → X
-entry_no X f c sure None is up = absurd (none-some c is)
-entry_no X f c sure (Some e) is up = absurd (subst (IsUpTo (cell.Flag f)) (sym (same_Some (cell.Entry e sure) c is)) up)
-
-version_no : (X : Type 0) (f : Flag) (c : Cell) (o : Option VersionValue) → version_cell o ≡ Some c → IsUpTo (cell.Flag f) c → X
-version_no X f c None is up = absurd (none-some c is)
-version_no X f c (Some v) is up = absurd (subst (IsUpTo (cell.Flag f)) (sym (same_Some (cell.Version v) c is)) up)
-
-abbrev KnowsUp : Store → FileId → Flag → Type 0
-KnowsUp b file f = (g : Flag) × (flag_at b file f.server ≡ Some g) × (is_older g f ≡ false)
-
-had_by : (b : Store) (file : FileId) (f : Flag) (q : Key) (c : Cell) → cell_at b file q ≡ Some c → IsUpTo (cell.Flag f) c → KnowsUp b file f
-had_by b file f key.Place c is up =
-    absurd (subst (IsUpTo (cell.Flag f)) (sym (same_Some (cell.Place (own_or_blank b.names file).place) c is)) up)
-had_by b file f (key.Flag m) c is up =
-    no_flag (KnowsUp b file f) f c (flag_of (own_or_blank b.names file).flags m) is
-    (λ g there upto.
-    let server : f.server ≡ m = upto.0 ∙ (flag_found (own_or_blank b.names file).flags m g there).1 in
-    (g, ap (flag_of (own_or_blank b.names file).flags) server ∙ there, upto.1)) up
-had_by b file f (key.Entry child) c is up = entry_no (KnowsUp b file f) f c (is_sure b file child) (entry_at b.names file child) is up
-had_by b file f (key.Version stamp) c is up = version_no (KnowsUp b file f) f c (head_at (content_of b file).heads (key.Version stamp)) is up
-
-flag_had : (b : Store) (file : FileId) (f : Flag) → HoldsCell IsUpTo (cell_at b file) (cell.Flag f) → KnowsUp b file f
-flag_had b file f h = had_by b file f h.key h.cell h.is h.upto
-
--- ---- what grows
-
-pub grown_by : (f : Flag) (o : Option Flag) → IsFlagKnownBy (Some f) o → (g : Flag) × (o ≡ Some g) × (is_older g f ≡ false)
-grown_by f None up = absurd up
-grown_by f (Some g) up = (g, refl, up.1)
+use Rattle.law_repair.proofs.Agreed.{Agrees, AreAgreed, agrees_by}
 
 -- ---- one event more
 

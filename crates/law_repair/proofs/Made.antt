@@ -1,6 +1,5 @@
 -- Which flags of a full gold thing the first effect of an input makes: none, unless it is demoted.
-use Rattle.std.proofs.Common.{ℕ, ◌≡◌, ◌==◌, ◌&&◌, not, Bool, true, false, cond, List, [], ◌∷◌, ◌++◌, Option, None, Some, Result, Ok, Err, refl, sym, ap, subst, ◌∙◌, inl, inr, ◌⊎◌}
-use Rattle.std.specs.Prelude.{nat_lt}
+use Rattle.std.proofs.Common.{ℕ, ◌≡◌, ◌==◌, ◌&&◌, not, Bool, true, false, cond, List, [], ◌∷◌, ◌++◌, Option, None, Some, Result, Ok, Err, refl, sym, ap, ◌∙◌, inl, inr, ◌⊎◌}
 use Rattle.std.specs.List.{flat_map}
 use Rattle.std.proofs.lemmas.Bool.{and_parts, false≢true, not-true}
 use Rattle.std.proofs.lemmas.List.Elements.{All-append, All-nil}
@@ -9,21 +8,17 @@ use Rattle.law_full.specs.pg_base.declared.id.Kind.{Kind}
 use Rattle.law_full.specs.pg_base.declared.id.Kind.TheVariants.{Dir, File}
 use Rattle.law_full.specs.pg_base.declared.policy.Policy.{Policy}
 use Rattle.law_full.specs.pg_base.declared.policy.Policy.TheVariants.{Last}
-use Rattle.law_full.specs.pg_base.declared.stamp.Stamp.{Stamp}
 use Rattle.law_full.specs.pg_base.Id.{is_same_file}
-use Rattle.law_full.proofs.pg_base.Orders.{is_same_file-refl, is_same_file-true}
+use Rattle.law_full.proofs.pg_base.Orders.{is_same_file-true}
 use Rattle.law_full.specs.pg_call.declared.call.Call.{Call}
 use Rattle.law_full.specs.pg_call.declared.call.Call.TheVariants as call
 use Rattle.law_full.specs.pg_call.declared.call.Target.{Target}
 use Rattle.law_full.specs.pg_call.declared.refusal.Refusal.TheVariants.{Held}
 use Rattle.law_full.specs.pg_call.declared.reply.Reply.{Reply}
-use Rattle.law_full.specs.pg_content.Content.{Among}
 use Rattle.law_full.specs.pg_intent.declared.key.IntentKey.TheVariants as intent_key
 use Rattle.law_full.specs.pg_msg.declared.message.Ends.{Ends}
 use Rattle.law_full.specs.pg_msg.declared.message.Message.{Message}
 use Rattle.law_full.specs.pg_msg.declared.message.Message.TheVariants as message
-use Rattle.law_full.specs.pg_msg.declared.update.MadeVersion.{MadeVersion}
-use Rattle.law_full.specs.pg_msg.declared.update.Update.{Update}
 use Rattle.law_full.specs.pg_msg.declared.update.Update.TheVariants as update
 use Rattle.law_full.specs.pg_msg.declared.work.Work.{Work}
 use Rattle.law_full.specs.pg_msg.Work.{new_work, with_made}
@@ -35,9 +30,9 @@ use Rattle.law_full.specs.pg_calls.Bodies.{change, change_file, when_fit}
 use Rattle.law_full.specs.pg_calls.Calls.{do_call}
 use Rattle.law_full.specs.pg_calls.Demoting.{demoted_at, lowered}
 use Rattle.law_full.specs.pg_calls.Dropping.{clean_gold, dropped_at, leave_of, leaving}
-use Rattle.law_full.specs.pg_calls.Forgetting.{bare_entry, begin_lost, begun_at, begun_with, dead_at, dirs_of, fill_lost, forget_lost, has_blank_place, is_wanted, last_listing, last_place, lost_at, mark, marked_each, placed_in_root, placed_lost, root_place, strike_out, struck_out, unless_full, unwished}
+use Rattle.law_full.specs.pg_calls.Forgetting.{begin_lost, begun_at, begun_with, dead_at, dirs_of, fill_lost, forget_lost, has_blank_place, is_wanted, last_listing, last_place, lost_at, placed_in_root, placed_lost, root_place, strike_out, struck_out, unless_full, unwished}
 use Rattle.law_full.specs.pg_calls.GivingUp.{enter_view, removal_at}
-use Rattle.law_full.specs.pg_calls.Making.{drawn, first_ranges, make_place, make_version, version_of}
+use Rattle.law_full.specs.pg_calls.Making.{drawn, first_ranges, make_place}
 use Rattle.law_full.specs.pg_calls.Naming.{begun, dead_place, next_id, place_in, raised, with_id, with_thing}
 use Rattle.law_full.proofs.pg_calls.Checked.{behind, unless_ok}
 use Rattle.law_full.specs.pg_checks.declared.checks.NewName.{NewName}
@@ -52,15 +47,15 @@ use Rattle.law_full.specs.pg_pieces.Accepting.{accept, is_accepted, with_gone}
 use Rattle.law_full.specs.pg_pieces.Done.{Done, idle}
 use Rattle.law_full.specs.pg_pieces.Golds.{is_gold}
 use Rattle.law_full.specs.pg_pieces.Intending.{begin_intent}
-use Rattle.law_full.specs.pg_pieces.Making.{lower_flag, make_flag, own_next, raise_flag}
+use Rattle.law_full.specs.pg_pieces.Making.{lower_flag, own_next}
 use Rattle.law_full.specs.pg_pieces.Posting.{post}
 use Rattle.law_full.specs.pg_cells.Sending.{cells_where, is_any}
 use Rattle.law_full.specs.pg_cells.Ticks.{tick}
-use Rattle.law_full.specs.pg_repair.Filling.{few_golds, fill, full, invite, invited, is_bronze, live_golds, raise_if_few}
+use Rattle.law_full.specs.pg_repair.Filling.{fill, full, invite, invited, is_bronze, raise_if_few}
 use Rattle.law_full.specs.pg_intentions.Requests.{ask_all, asks}
 use Rattle.law_full.specs.pg_server.declared.input.Input.{Input}
 use Rattle.law_full.specs.pg_server.declared.input.Input.TheVariants as input
-use Rattle.law_full.specs.pg_server.Local.{first_effect, is_heard, receive, sent_again}
+use Rattle.law_full.specs.pg_server.Local.{first_effect, is_heard, receive, ticked, without_sources}
 use Rattle.law_full.specs.pg_store.declared.store.Store.{Store}
 use Rattle.law_full.specs.pg_store.declared.wishes.Wish.{Wish}
 use Rattle.law_full.specs.pg_store.Births.{has_birth, with_birth, with_wish}
@@ -68,78 +63,15 @@ use Rattle.law_full.specs.pg_store.Links.{knows_later}
 use Rattle.law_full.specs.pg_store.Store.{is_full, is_held, is_before_clock_end, with_names}
 use Rattle.law_full.proofs.theory_flood_pieces.Choices.{chosen, decided}
 use Rattle.law_golds.specs.law_births.Flags.{AnyBye, SaysMessage, SaysStore}
+use Rattle.law_golds.proofs.Bodies.{said_delta, said_harbinger, said_later, said_piece, said_want}
 use Rattle.law_golds.proofs.Effects.{SaysPacket}
 use Rattle.law_golds.proofs.Losing.{entered_says}
 use Rattle.law_golds.proofs.Received.{said_ack, said_begun_intent, said_bye, said_cell, said_confirm, said_ended, said_fetch, said_gone, said_grant, said_leave, said_leave_ok, said_no_grant, said_none_here, said_place_is, said_seek, said_tell, said_tell_ok, said_walk, said_walk_of_tick}
 use Rattle.law_golds.proofs.Says.{Says, SaysSent, said_accept, said_asked}
 use Rattle.law_golds.proofs.Sending.{asks_all, cells_say}
 use Rattle.law_full.proofs.pg_run.Event.{Comes}
-use Rattle.law_full.proofs.pg_run.Lists.{among_parts}
-use Rattle.law_full.proofs.pg_run.Still.{entry_still, flag_still, place_still}
 use Rattle.law_full.proofs.pg_calls.Walked.{full_held}
-
--- ---- lists
-
--- no flag of the thing is among these
-abbrev pub NoneOf : FileId → List Update → Type 0
-NoneOf file us = (g : Flag) → Among (update.Flag file g) us → ⊥
-
-none_nil : (file : FileId) → NoneOf file []
-none_nil file g there = absurd there
-
-none_place : (file f : FileId) (p : Place) → NoneOf file (update.Place f p ∷ [])
-none_place file f p g (inl same) = absurd (let z : update.Flag file g ≡ update.Place f p = same in cc)
-none_place file f p g (inr rest) = absurd rest
-
-none_version : (file : FileId) (u : MadeVersion) → NoneOf file (update.Version u ∷ [])
-none_version file u g (inl same) = absurd (let z : update.Flag file g ≡ update.Version u = same in cc)
-none_version file u g (inr rest) = absurd rest
-
-thing_is : (f q : FileId) (g h : Flag) → update.Flag f g ≡ update.Flag q h → f ≡ q
-thing_is f q g h e = cc
-
-pub none_flag : (file f : FileId) (h : Flag) → is_same_file f file ≡ false → NoneOf file (update.Flag f h ∷ [])
-none_flag file f h apart g (inl same) =
-    absurd (false≢true (sym apart ∙ ap (λ (q : FileId). is_same_file q file) (sym (thing_is file f g h same)) ∙ is_same_file-refl file))
-none_flag file f h apart g (inr rest) = absurd rest
-
-pub none_both : (file : FileId) (us vs : List Update) → NoneOf file us → NoneOf file vs → NoneOf file (us ++ vs)
-none_both file us vs a b g there = elim (among_parts (update.Flag file g) us vs there) [ inl x ↦ a g x | inr y ↦ b g y ]
-
-pub none_same : (file : FileId) (us vs : List Update) → vs ≡ us → NoneOf file us → NoneOf file vs
-none_same file us vs same k g there = k g (subst (Among (update.Flag file g)) same there)
-
--- ---- pieces
-
-module _ (file : FileId) where
-  abbrev Of : Done → Type 0
-  Of d = NoneOf file d.work.made
-
-  flag_none : (b : Store) (f : FileId) (g : Flag) (w : Work) → is_same_file f file ≡ false → NoneOf file w.made → Of (make_flag b f g w)
-  flag_none b f g w apart k =
-      none_same file (w.made ++ update.Flag f g ∷ []) _ (flag_still b f g (with_made w (update.Flag f g))).made
-      (none_both file w.made (update.Flag f g ∷ []) k (none_flag file f g apart))
-
-  pub raise_none : (b : Store) (f : FileId) (w : Work) → is_same_file f file ≡ false → NoneOf file w.made → Of (raise_flag b f w)
-  raise_none b f w apart k = flag_none b f (own_next b f true) w apart k
-
-  few_none : (b : Store) (f : FileId) (w : Work) → is_same_file f file ≡ false → NoneOf file w.made → Of (raise_if_few b f w)
-  few_none b f w apart k = chosen Of (nat_lt (live_golds b f) few_golds) (raise_flag b f w) (idle b w) (raise_none b f w apart k) k
-
-  place_none : (b : Store) (f : FileId) (p : Place) (w : Work) → NoneOf file w.made → Of (make_place f p (idle b w))
-  place_none b f p w k =
-      none_same file (w.made ++ update.Place f p ∷ []) _ (place_still b f p (with_made w (update.Place f p))).made
-      (none_both file w.made (update.Place f p ∷ []) k (none_place file f p))
-
-  version_none : (d : Done) (f : FileId) (stamp : Stamp) (ranges : RangesValue) → Of d → Of (make_version f stamp ranges d)
-  version_none d f stamp ranges k =
-      none_both file d.work.made (update.Version (version_of d.store f stamp ranges) ∷ []) k (none_version file (version_of d.store f stamp ranges))
-
-  marks_none : (dirs : List FileId) (b : Store) (id : FileId) (place : Place) (w : Work) → NoneOf file w.made → Of (marked_each b id place dirs w)
-  marks_none [] b id place w k = k
-  marks_none (dir ∷ dirs) b id place w k =
-      let one = mark id place b dir w in
-      marks_none dirs one.store id place one.work (none_same file w.made one.work.made (entry_still b dir (bare_entry id place) w).made k)
+use Rattle.law_repair.proofs.Unflagged.{NoneOf, Of, few_none, flag_none, marks_none, none_both, none_nil, none_place, place_none, raise_none, none_same, version_none}
 
 -- ---- a full gold thing at a server
 
@@ -194,6 +126,11 @@ module _ (s : ℕ) (a : Store) (file : FileId) (all : is_full a file ≡ true) (
     received : (from : ℕ) (m : Message) → SaysMessage Q m → Of file (receive a m (new_work 0 from))
     received from (message.Cell ends tag c) says = said _ (said_cell Q s [] a ends tag c (new_work 0 from) says (start_says 0 from))
     received from (message.Ack ends q tag) says = said _ (said_ack Q s [] a ends q tag (new_work 0 from) (start_says 0 from))
+    received from (message.Harbinger ends tag head) says = said _ (said_harbinger Q s [] a ends (new_work 0 from) (start_says 0 from) tag head)
+    received from (message.Want ends wanted) says = said _ (said_want Q s [] a ends (new_work 0 from) (start_says 0 from) wanted)
+    received from (message.Delta ends x) says = said _ (said_delta Q s [] a ends (new_work 0 from) (start_says 0 from) x)
+    received from (message.Piece ends p) says = said _ (said_piece Q s [] a ends (new_work 0 from) (start_says 0 from) p)
+    received from (message.Later ends stamp) says = said _ (said_later Q s [] a ends (new_work 0 from) (start_says 0 from) stamp)
     received from (message.Fetch f birth) says = said _ (said_fetch Q s [] a f birth (new_work 0 from) (start_says 0 from))
     received from (message.Grant ends granted) says = said _ (said_grant Q s [] a ends granted (new_work 0 from) says (start_says 0 from))
     received from (message.NoGrant f birth) says = said _ (said_no_grant Q s [] a f birth (new_work 0 from) (start_says 0 from))
@@ -213,15 +150,20 @@ module _ (s : ℕ) (a : Store) (file : FileId) (all : is_full a file ≡ true) (
     received from (message.TellOk dir child stamp) says = said _ (said_tell_ok Q s [] a dir child stamp (new_work 0 from) (start_says 0 from))
     received from (message.Walk ends origin birth hops word) says = said _ (said_walk Q s [] a ends origin birth hops word (new_work 0 from) (start_says 0 from))
     received from (message.Meet ends) says = said _ (said_accept Q s [] a ends (new_work 0 from) (start_says 0 from))
-    received from m says = said (idle a (new_work 0 from)) (start_says 0 from)
 
-    ticked : (moment word : ℕ) → Says Q s [] (idle a (sent_again a word (new_work moment 0)))
-    ticked moment word =
-        said_walk_of_tick Q s [] a word (ask_all a (tick a (new_work moment 0)))
+    -- a tick
+    released_says : SaysStore Q AnyBye s (without_sources a)
+    released_says = record { names = k.names; intents = k.intents }
+
+    ticks_say : (moment word : ℕ) → Says Q s [] (ticked a word (new_work moment 0))
+    ticks_say moment word =
+        let b = without_sources a in
+        said_walk_of_tick Q s [] b word (ask_all b (tick b (new_work moment 0)))
         (record {
-          store = k;
-          sent = All-append (SaysSent Q) ([] ++ cells_where a is_any) (flat_map (asks a) a.intents)
-              (All-append (SaysSent Q) [] (cells_where a is_any) (All-nil (SaysSent Q)) (cells_say Q s a k is_any)) (asks_all Q s a k);
+          store = released_says;
+          sent = All-append (SaysSent Q) ([] ++ cells_where b is_any) (flat_map (asks b) b.intents)
+              (All-append (SaysSent Q) [] (cells_where b is_any) (All-nil (SaysSent Q)) (cells_say Q s b released_says is_any))
+              (asks_all Q s b released_says);
           tail = All-nil (SaysSent Q);
           made = refl;
         })
@@ -356,8 +298,8 @@ module _ (s : ℕ) (a : Store) (file : FileId) (all : is_full a file ≡ true) (
       first_by : (x : Input) → asked ≡ x → Comes (SaysPacket Q) x → Result_of (first_effect a x)
       first_by (input.Call moment c) is came = called moment c is
       first_by (input.Tick moment word) is came =
-          inl (chosen (λ (w : Work). NoneOf file w.made) (is_before_clock_end a) (sent_again a word (new_work moment 0)) (new_work moment 0)
-          (said (idle a (sent_again a word (new_work moment 0))) (ticked moment word)) (none_nil file))
+          let w = new_work moment 0 in
+          inl (chosen (Of file) (is_before_clock_end a) (ticked a word w) (idle a w) (said (ticked a word w) (ticks_say moment word)) (none_nil file))
       first_by (input.Arrival packet) is came =
           inl (chosen (Of file) (is_heard a packet) (receive a packet.message (new_work 0 packet.from)) (idle a (new_work 0 packet.from))
           (received packet.from packet.message came) (none_nil file))

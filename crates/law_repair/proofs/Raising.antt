@@ -1,40 +1,28 @@
 -- Of a full gold replica no raised flag is made: it is lowered only where another live gold one is seen.
-use Rattle.std.proofs.Common.{ℕ, ◌≡◌, ◌≢◌, ◌<◌, ◌==◌, ◌||◌, ◌&&◌, not, nat_lt, Bool, true, false, cond, List, [], ◌∷◌, ◌++◌, drop, length, Option, None, Some, Result, is_some, All, refl, sym, ap, subst, ◌∙◌, inl, inr, ◌⊎◌, arith}
+use Rattle.std.proofs.Common.{ℕ, ◌≡◌, ◌≢◌, ◌<◌, not, Bool, true, false, cond, List, [], ◌∷◌, ◌++◌, Option, Some, Result, refl, sym, ap, subst, ◌∙◌, inl, inr, ◌⊎◌}
 use Rattle.std.specs.Prelude.{Contains}
-use Rattle.std.proofs.lemmas.Bool.{and_parts, false≢true, ne_eqb, not-true}
-use Rattle.std.proofs.lemmas.Bool.Decides.{nat_tests}
+use Rattle.std.proofs.lemmas.Bool.{and_parts, false≢true}
 use Rattle.std.proofs.lemmas.Option.{same_Some}
 use Rattle.law_full.specs.pg_base.declared.id.FileId.{FileId}
 use Rattle.law_full.specs.pg_base.Id.{is_same_file}
 use Rattle.law_full.specs.pg_call.declared.refusal.Refusal.TheVariants.{LastGold, Root}
 use Rattle.law_full.specs.pg_call.declared.reply.Reply.TheVariants.{Done as IsDone}
 use Rattle.law_full.specs.pg_content.Content.{Among}
-use Rattle.law_full.proofs.pg_content.Members.{all_among, among_all, any_found}
+use Rattle.law_full.proofs.pg_content.Members.{all_among, any_found}
 use Rattle.law_golds.specs.law_contents.Together.{HoldBoth}
-use Rattle.law_full.specs.pg_edges.declared.key.Key.{Key}
-use Rattle.law_full.specs.pg_edges.Edges.{keys_at}
 use Rattle.law_full.specs.pg_entries.declared.entry.Entry.{Entry}
 use Rattle.law_full.specs.pg_event.declared.event.Event.{Event}
 use Rattle.law_full.proofs.theory_flood.Flood.{after_itself}
-use Rattle.law_full.specs.pg_house.House.{house}
 use Rattle.law_full.specs.pg_house.Returning.{is_root}
-use Rattle.law_full.specs.pg_house.Work.{state_of}
-use Rattle.law_full.proofs.pg_house.Keys.{rules_by}
 use Rattle.law_full.specs.pg_msg.declared.message.Sent.{Sent}
 use Rattle.law_full.specs.pg_msg.declared.update.Update.{Update}
 use Rattle.law_full.specs.pg_msg.declared.update.Update.TheVariants as update
-use Rattle.law_full.specs.pg_msg.declared.work.Work.{Work}
-use Rattle.law_full.specs.pg_msg.Work.{new_work, with_made}
+use Rattle.law_full.specs.pg_msg.Work.{new_work}
 use Rattle.law_full.specs.pg_names.declared.attributes.Attributes.{Attributes}
-use Rattle.law_full.specs.pg_names.Names.{NamesValue, cell_at, or_blank, own_at, with_flag}
-use Rattle.law_full.proofs.pg_names.Lookups.{flag_same, update_frame}
+use Rattle.law_full.specs.pg_names.Names.{cell_at, own_at}
 use Rattle.law_full.specs.pg_register.declared.flag.Flag.{Flag}
-use Rattle.law_full.specs.pg_register.Flag.{flag_of, is_live, is_older, is_removed, newest}
+use Rattle.law_full.specs.pg_register.Flag.{is_live, is_older, is_removed}
 use Rattle.law_full.specs.pg_register.Place.{root}
-use Rattle.law_full.proofs.pg_register.ByServer.{flag_of-join_flag}
-use Rattle.law_full.specs.pg_replica.declared.replica.Replica.{Replica}
-use Rattle.law_full.specs.pg_replica.Replica.{are_none, is_clean_to}
-use Rattle.law_full.specs.pg_replica.Replicas.{or_nothing}
 use Rattle.law_full.specs.pg_calls.Demoting.{has_clean_gold, is_clean_gold, lowered, unless_last, unless_root}
 use Rattle.law_full.proofs.pg_calls.Checked.{behind, unless_ok}
 use Rattle.law_full.proofs.pg_calls.Walked.{full_held}
@@ -44,26 +32,20 @@ use Rattle.law_full.specs.pg_lookup.declared.paths.LookupError.{LookupError}
 use Rattle.law_full.specs.pg_lookup.Walk.{and_then}
 use Rattle.law_full.specs.pg_pieces.Done.{Done, idle}
 use Rattle.law_full.specs.pg_pieces.Golds.{flags_of, is_gold}
-use Rattle.law_full.specs.pg_pieces.Making.{lower_flag, own_next}
-use Rattle.law_full.specs.pg_cells.Settling.{rules, settle}
-use Rattle.law_full.proofs.pg_cells.Settled.{settle_keeps}
-use Rattle.law_full.proofs.pg_intentions.Steady.{begin_end_stays}
+use Rattle.law_full.specs.pg_pieces.Making.{lower_flag}
 use Rattle.law_full.specs.pg_server.declared.input.Input.{Input}
 use Rattle.law_full.specs.pg_server.declared.input.Input.TheVariants as input
-use Rattle.law_full.specs.pg_server.Local.{Effect, done_of, effect, first_effect, intended, settled, takes_effect}
+use Rattle.law_full.specs.pg_server.Local.{done_of, effect, first_effect}
 use Rattle.law_full.specs.pg_store.declared.store.Store.{Store}
 use Rattle.law_full.specs.pg_store.Links.{is_clean}
-use Rattle.law_full.specs.pg_store.Store.{is_full, is_newer_flag, put_flag, replica_at, take_flag, with_names}
+use Rattle.law_full.specs.pg_store.Store.{is_full, replica_at}
 use Rattle.law_full.specs.pg_store.Together.{AreTogether, birth_at}
 use Rattle.law_full.proofs.pg_store.Over.{over_stays}
 use Rattle.law_full.specs.theory_flood_pieces.UpTo.{IsFlagKnownBy}
 use Rattle.law_full.specs.theory_flood_pieces.Whole.{IsWhole}
-use Rattle.law_full.proofs.theory_flood_pieces.Choices.{chosen}
-use Rattle.law_full.proofs.theory_flood_pieces.Touching.{same_names}
 use Rattle.law_golds.specs.law_births.Flags.{SaysNames}
 use Rattle.law_golds.proofs.law_births.Has.{born_of}
 use Rattle.law_golds.proofs.law_births.Here.{birth_of_held}
-use Rattle.law_golds.proofs.law_births.NamesSay.{says_flag}
 use Rattle.law_leaving.proofs.Moments.{acts_so}
 use Rattle.law_golds.specs.Premises.{FirstEffectsAreWhole, NextIdsAreAway}
 use Rattle.law_golds.proofs.Effects.{SaysPacket, first_fine}
@@ -73,7 +55,6 @@ use Rattle.law_golds.proofs.Known.{store_less}
 use Rattle.law_golds.proofs.Own.{IsOwn, Stands as IsUpTo}
 use Rattle.law_golds.proofs.Says.{SaysSent}
 use Rattle.law_golds.proofs.Worlds.{AreOwn, own_run}
-use Rattle.law_golds.proofs.Flags.{there_found}
 use Rattle.law_quiet.specs.Given.{ServersAreWhole}
 use Rattle.law_full.specs.pg_run.Births.{BirthsMoveInEvents, ReplicasStayOrGo}
 use Rattle.law_full.specs.pg_run.Going.{FlagsAreMadeWhereHeld}
@@ -83,158 +64,18 @@ use Rattle.law_full.specs.pg_run.Known.{IsFlagOf}
 use Rattle.law_full.specs.pg_run.Laws.{HouseIsInOrder, TakesIn}
 use Rattle.law_full.specs.pg_run.Run.{Taking, World, run}
 use Rattle.law_full.specs.pg_run.Views.{ViewsArePrefixes}
-use Rattle.law_full.proofs.pg_run.Event.{Comes, effect_is, store_is}
-use Rattle.law_full.proofs.pg_run.Found.{listed_edge}
+use Rattle.law_full.proofs.pg_run.Event.{Comes}
 use Rattle.law_full.proofs.pg_run.Frame.{Acts, HasCome, acts_is}
 use Rattle.law_full.proofs.pg_run.Lists.{contained_among}
-use Rattle.law_full.proofs.pg_run.Still.{flag_still}
 use Rattle.law_repair.specs.Facts.{GoldsRaiseNone}
-use Rattle.law_repair.proofs.GoldsThere.{OwnFlag, flag_at, held_not_over, own_flag, own_of_known}
-use Rattle.law_repair.proofs.Keeping.{grown_by}
-use Rattle.law_repair.proofs.Made.{IsDemoted, NoneOf, first_made}
-use Rattle.law_repair.proofs.QuietEdges.{edge_other}
+use Rattle.law_repair.proofs.GoldsThere.{OwnFlag, flag_at, held_not_over, own_flag}
+use Rattle.law_repair.proofs.FlagHad.{grown_by}
+use Rattle.law_repair.proofs.Made.{IsDemoted, first_made}
+use Rattle.law_repair.proofs.Unflagged.{NoneOf}
 use Rattle.law_repair.proofs.Settling.{Stands, UpTo, flag_is, settled_stands}
 use Rattle.law_repair.proofs.Starts.{born_held}
-
--- ---- numbers
-
-older_less : (b n c m : ℕ) → b < c → (nat_lt b c || (b == c && nat_lt n m)) ≡ true
-older_less b n c m less = grind (arith, nat_tests)
-
-older_is : (b n c m : ℕ) → b ≡ c → n < m → (nat_lt b c || (b == c && nat_lt n m)) ≡ true
-older_is b n c m same less = grind (arith, nat_tests)
-
--- ---- removals behind the first effect
-
-taken_removed : (b : Store) (f : FileId) (g : Flag) → (take_flag b f g).names.removed ≡ b.names.removed
-taken_removed b f g =
-    chosen (λ (c : Store). c.names.removed ≡ b.names.removed) (is_newer_flag b f g) (put_flag b f g) b (update_frame b.names f (with_flag g)).removed refl
-
-rules_removed : (b : Store) (w : Work) → (rules b w).store.names.removed ≡ b.names.removed
-rules_removed b w =
-    let st = house w.now (state_of b.names w) in
-    ap (λ (m : NamesValue). m.removed) (same_names (with_names b st.names) (drop (length w.touched) st.work.touched)) ∙ (rules_by w.now (state_of b.names w)).1
-
-settled_removed : (b : Store) (w : Work) → (settle b w).store.names.removed ≡ b.names.removed
-settled_removed b w =
-    settle_keeps (λ (c : Store) (v : Work). c.names.removed ≡ b.names.removed) (λ c v k. rules_removed c v ∙ k)
-    (λ c f v less k. taken_removed c f (own_next c f true) ∙ k) b w refl
-
-end_removed : (a : Store) (asked : Input) → (effect a asked).store.names.removed ≡ (first_effect a asked).store.names.removed
-end_removed a asked =
-    let d = first_effect a asked in
-    ap (λ (b : Store). b.names.removed) (store_is a asked)
-    ∙ chosen (λ (e : Done). e.store.names.removed ≡ d.store.names.removed) (takes_effect a asked) (intended (settled d)) d
-    (ap (λ (m : NamesValue). m.removed) (begin_end_stays (settled d).store (settled d).work).names ∙ settled_removed d.store d.work) refl
-
--- what holds of all that is made by the end of the rules holds of all
-end_made : (P : List Update → Type 0) (a : Store) (asked : Input) → P (first_effect a asked).work.made → P (settled (first_effect a asked)).work.made
-    → P (effect a asked).out.made
-end_made P a asked first all =
-    let d = first_effect a asked in
-    subst P (sym (ap (λ (e : Effect). e.out.made) (effect_is a asked)))
-    (chosen (λ (e : Done). P e.work.made) (takes_effect a asked) (intended (settled d)) d
-    (subst P (sym (begin_end_stays (settled d).store (settled d).work).made) all) first)
-
--- ---- a clean edge leads to another server
-
-listed_by : (o : Option (List (Key × ℕ))) → are_none o ≡ true → is_some o ≡ true
-listed_by None h = h
-listed_by (Some ks) h = refl
-
-clean_other : (n s : ℕ) (a : Store) (file : FileId) (x : Replica) → IsWhole n s a → replica_at a file ≡ Some x → (peer birth : ℕ)
-    → is_clean a file peer birth ≡ true → peer ≢ s
-clean_other n s a file x whole is peer birth clean =
-    let here : is_clean_to x peer birth ≡ true = ap (λ (o : Option Replica). is_clean_to (or_nothing o) peer birth) (sym is) ∙ clean in
-    let edge = listed_edge x.edges peer birth (listed_by (keys_at x.edges peer birth) here) in
-    let other = (edge_other n s a file x edge.edge whole is edge.among).apart in
-    λ same. other (edge.to ∙ same)
-
--- ---- it is demoted
-
-module _ (n s : ℕ) (a : Store) (file : FileId) (whole : IsWhole n s a) (x : Replica) (held : replica_at a file ≡ Some x)
-    (passing : (own : Attributes) → own_at a.names file ≡ Some own → (dir : FileId) (e : Entry) → cell_at a.names dir file ≡ Some e → e.flags ≡ own.flags)
-    (g : Flag) (seen : Among g (flags_of a file)) (lives : is_live a.names.removed g ≡ true) (clean : is_clean a file g.server g.birth ≡ true) (work : Work)
-    (empty : work.made ≡ []) where
-  abbrev G : Flag
-  G = own_next a file false
-
-  abbrev D : Done
-  D = lower_flag a file work
-
-  abbrev raised : g.raised ≡ true
-  raised = (and_parts g.raised (not (is_removed a.names.removed g.server)) lives).0
-
-  other : g.server ≢ s
-  other = clean_other n s a file x whole held g.server g.birth clean
-
-  flags_are : (own : Attributes) → own_at a.names file ≡ Some own → flags_of a file ≡ own.flags
-  flags_are own at = ap (λ (o : Option Attributes). (or_blank file o).flags) at
-
-  one_by : (own : Attributes) → own_at a.names file ≡ Some own → (h : Flag) → Among h own.flags → h.server ≡ g.server → h ≡ g
-  one_by own at h there same =
-      let sorted = whole.names.sorted file own at in
-      let mine = there_found own.flags h sorted there in
-      let its = there_found own.flags g sorted (subst (Among g) (flags_are own at) seen) in
-      same_Some h g (sym mine ∙ ap (flag_of own.flags) same ∙ its)
-
-  all_up : (own : Attributes) → own_at a.names file ≡ Some own → (f : FileId) (hs : List Flag) → (f ≡ file → hs ≡ own.flags) → All (UpTo file g f) hs
-  all_up own at f hs same =
-      among_all (UpTo file g f) hs (λ h there e server. inr (one_by own at h (subst (Among h) (same e) there) server))
-
-  own_found : (own : Attributes) × (own_at a.names file ≡ Some own)
-  own_found = own_of_known a file g.server g (there_at (own_at a.names file) refl)
-    where
-      there_at : (o : Option Attributes) → own_at a.names file ≡ o → flag_at a file g.server ≡ Some g
-      there_at None at = absurd (subst (Among g) (ap (λ (p : Option Attributes). (or_blank file p).flags) at) seen)
-      there_at (Some own) at =
-          ap (λ (fs : List Flag). flag_of fs g.server) (ap (λ (p : Option Attributes). (or_blank file p).flags) at)
-          ∙ there_found own.flags g (whole.names.sorted file own at) (subst (Among g) (ap (λ (p : Option Attributes). (or_blank file p).flags) at) seen)
-
-  says_before : SaysNames (UpTo file g) s a.names
-  says_before = record {
-    server = whole.server;
-    own = λ f own at. all_up own_found.0 own_found.1 f own.flags
-        (λ e. ap (λ (o : Attributes). o.flags) (same_Some own own_found.0 (sym at ∙ ap (own_at a.names) e ∙ own_found.1)));
-    cells = λ dir child e at. (
-      whole.names.children dir child e at,
-      all_up own_found.0 own_found.1 child e.flags (λ same. passing own_found.0 own_found.1 dir e (ap (cell_at a.names dir) (sym same) ∙ at)),
-    );
-  }
-
-  there_before : flag_at a file g.server ≡ Some g
-  there_before =
-      ap (λ (fs : List Flag). flag_of fs g.server) (flags_are own_found.0 own_found.1)
-      ∙ there_found own_found.0.flags g (whole.names.sorted file own_found.0 own_found.1) (subst (Among g) (flags_are own_found.0 own_found.1) seen)
-
-  not_mine : G.server ≡ g.server → ⊥
-  not_mine e = other (sym e ∙ whole.server)
-
-  there_after : flag_at (take_flag a file G) file g.server ≡ Some g
-  there_after =
-      chosen (λ (b : Store). flag_at b file g.server ≡ Some g) (is_newer_flag a file G) (put_flag a file G) a
-      (ap (λ (o : Option Attributes). flag_of (or_blank file o).flags g.server) (flag_same a.names file G own_found.0 own_found.1)
-      ∙ flag_of-join_flag G own_found.0.flags g.server
-      ∙ ap (λ t. cond t (newest (flag_of own_found.0.flags g.server) (Some G)) (flag_of own_found.0.flags g.server)) (ne_eqb G.server g.server not_mine)
-      ∙ ap (λ (fs : List Flag). flag_of fs g.server) (sym (flags_are own_found.0 own_found.1)) ∙ there_before) there_before
-
-  only : (h : Flag) → Among (update.Flag file h) (update.Flag file G ∷ []) → h.raised ≡ false
-  only h (inl same) = (let z : update.Flag file h ≡ update.Flag file G = same in let e : h ≡ G = cc in ap (λ (f : Flag). f.raised) e)
-  only h (inr rest) = absurd rest
-
-  made_is : D.work.made ≡ update.Flag file G ∷ []
-  made_is = (flag_still a file G (with_made work (update.Flag file G))).made ∙ ap (λ (us : List Update). us ++ update.Flag file G ∷ []) empty
-
-  demoted_stands : IsWhole n s D.store → Stands n s file g raised D.store D.work
-  demoted_stands after = record {
-    whole = after;
-    says = chosen (λ (b : Store). SaysNames (UpTo file g) s b.names) (is_newer_flag a file G) (put_flag a file G) a
-        (says_flag (UpTo file g) s a.names file G (λ same at. absurd (not_mine at)) says_before) says_before;
-    there = there_after;
-    live = ap (λ (rs : List ℕ). is_removed rs g.server) (taken_removed a file G)
-        ∙ not-true (is_removed a.names.removed g.server) (and_parts g.raised (not (is_removed a.names.removed g.server)) lives).1;
-    none = λ h there. only h (subst (Among (update.Flag file h)) made_is there);
-  }
+use Rattle.law_repair.proofs.EventEnds.{end_made, end_removed, older_is, older_less}
+use Rattle.law_repair.proofs.Demoted.{demoted_stands}
 
 -- ---- in an event
 

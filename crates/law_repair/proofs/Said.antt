@@ -109,8 +109,8 @@ module _ (a : Store) (asked : Input) where
   sent_says = effect_sends Says a asked (record {
     plain = plain_says;
     replies = replies;
-    cells_before = λ wanted. all_cells Says a (λ f birth e c tag ends same. absurd (cell_no_full _ ends tag c same)) wanted;
-    cells_behind = λ wanted. all_cells Says End (λ f birth e c tag ends same. absurd (cell_no_full _ ends tag c same)) wanted;
+    cells_before = λ wanted. all_cells Says plain_says a (λ x e c tag ends same. absurd (cell_no_full x ends tag c same)) wanted;
+    cells_behind = λ wanted. all_cells Says plain_says End (λ x e c tag ends same. absurd (cell_no_full x ends tag c same)) wanted;
     asked_before = λ i d lt. asks_none a (get_or a.intents i d);
     asked_behind = λ q. asked_none q (intent_at End.intents q);
   })

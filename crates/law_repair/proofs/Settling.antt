@@ -40,7 +40,7 @@ use Rattle.law_full.proofs.pg_run.Found.{flag_found}
 use Rattle.law_full.proofs.pg_run.Lists.{among_parts}
 use Rattle.law_full.proofs.pg_run.Still.{flag_still}
 use Rattle.law_repair.proofs.GoldsThere.{flag_at, own_of_known}
-use Rattle.law_repair.proofs.Keeping.{grown_by}
+use Rattle.law_repair.proofs.FlagHad.{grown_by}
 
 -- what is known of this server's flags of the thing is older than this one, or this one
 abbrev pub UpTo : FileId → Flag → FileId → Flag → Type 0

@@ -44,7 +44,8 @@ use Rattle.law_repair.specs.Given.{StandOn}
 use Rattle.law_repair.specs.Kept.{IsGoldAt, is_held_by}
 use Rattle.law_repair.proofs.GoldsThere.{held_not_over}
 use Rattle.law_repair.proofs.Joining.{connected}
-use Rattle.law_repair.proofs.Keeping.{Agrees, AreAgreed, same_number}
+use Rattle.law_repair.proofs.FlagHad.{same_number}
+use Rattle.law_repair.proofs.Agreed.{Agrees, AreAgreed}
 use Rattle.law_repair.proofs.Steps.{IsActed, IsIdle, one_step}
 
 -- ---- who holds

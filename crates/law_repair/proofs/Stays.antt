@@ -30,12 +30,12 @@ use Rattle.law_full.specs.pg_pieces.Making.{own_next}
 use Rattle.law_full.specs.pg_repair.Granting.{begin_granted, grant, granted_own}
 use Rattle.law_full.specs.pg_server.declared.input.Input.{Input}
 use Rattle.law_full.specs.pg_server.declared.input.Input.TheVariants as input
-use Rattle.law_full.specs.pg_server.Local.{effect, first_effect, is_heard, receive}
+use Rattle.law_full.specs.pg_server.Local.{effect, first_effect, is_heard, receive, ticked}
 use Rattle.law_full.specs.pg_store.declared.store.Store.{Store}
 use Rattle.law_full.specs.pg_store.declared.wishes.Wish.{Wish}
 use Rattle.law_full.specs.pg_store.Births.{draw_birth, fill_at, has_birth, is_fill_at, is_pending, wish_at, with_birth}
 use Rattle.law_full.specs.pg_store.Links.{is_new_link, knows_later, put_link}
-use Rattle.law_full.specs.pg_store.Store.{is_full, is_held, replica_at, take_place}
+use Rattle.law_full.specs.pg_store.Store.{is_before_clock_end, is_full, is_held, replica_at, take_place}
 use Rattle.law_full.specs.pg_store.Together.{birth_at}
 use Rattle.law_full.specs.pg_store.Wishes.{is_with_birth}
 use Rattle.law_full.proofs.pg_store.Over.{over_stays}
@@ -142,7 +142,9 @@ module _ (a : Store) (asked : Input) (file : FileId) where
               (record { placed = λ b. tt; fills = tt; known = λ p k. inl refl; anew = inl refl }) h;
           removed = λ server h. h;
         }) before c
-    first_by (input.Tick moment word) is = before
+    first_by (input.Tick moment word) is =
+        let w = new_work moment 0 in
+        chosen (λ (d : Done). P d.store.names) (is_before_clock_end a) (ticked a word w) (idle a w) before before
     first_by (input.Arrival packet) is =
         arrival_kept P a packet before
         (λ heard. receive_kept P AnyPlace Begins Fills p_kept a before packet.message (new_work 0 packet.from)

@@ -18,7 +18,8 @@ use Rattle.law_full.specs.pg_store.Together.{birth_at}
 use Rattle.law_repair.specs.Given.{StandOn}
 use Rattle.law_repair.specs.Kept.{AreNeighbours, IsCreated, IsGoldAt, IsKept, IsMoment, StaysGold, is_held_by}
 use Rattle.law_repair.proofs.Joining.{all_full, all_know, connected, full_held, full_is}
-use Rattle.law_repair.proofs.Keeping.{AreAgreed, agreed_on}
+use Rattle.law_repair.proofs.Agreed.{AreAgreed}
+use Rattle.law_repair.proofs.Keeping.{agreed_on}
 use Rattle.law_repair.proofs.Starts.{created_agreed, created_connected, holds_held, none_holds, start_agreed, start_connected}
 
 -- ---- lists

@@ -13,7 +13,7 @@ ghost use Rattle.law_full.specs.pg_run.Laws.{HouseIsInOrder, QuietDirectoriesAre
 ghost use Rattle.law_full.specs.pg_run.Views.{ViewsArePrefixes};
 ghost use Rattle.law_repair.specs.Facts.{FullBegins, FullIsSaid, FullStays, GoldsRaiseNone};
 ghost use Rattle.law_repair.specs.Given.{StandOn};
-ghost use Rattle.law_repair.specs.Witness.{LossIsNotKept, RemovalKeepsTheRoot, StartIsConnected};
+ghost use Rattle.law_repair.specs.Witness.{LossIsNotKept, LossParts, RemovalKeepsTheRoot, StartIsConnected};
 ghost use Rattle.law_repair.specs.Kept.{KeptDirectoriesAreBroughtBack, KeptNamesFormATree, KeptServersAgree, KeptThingsAreConnected, KeptThingsAreListedOnlyWhereTheyStand, MadeThingsAreCreated};
 
 /// What becomes full in an event is told so, or made, or forgotten; and only what was full says that another is, to a peer that
@@ -66,10 +66,12 @@ pub fn kept_runs_are_repaired()
 
 /// The definitions, tried on runs: where a server is removed and the others give it up, the root was
 /// kept; where the one gold replica of a file, and that of a directory, went with their server,
-/// neither was.
+/// neither was. And where a file moves while all its gold replicas go, all gets quiet and the file
+/// is not connected: that a thing was kept is a premise that is needed.
 pub fn some_things_are_kept()
     ensures kept { RemovalKeepsTheRoot }
     ensures lost { LossIsNotKept }
+    ensures parted { LossParts }
 {}
 
 /// The graphs of the start are connected.

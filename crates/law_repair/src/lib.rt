@@ -6,13 +6,14 @@
 //! and each later quiet end of an event (`IsQuietBehind`); between neighbours one replica
 //! `StaysGold`, and none `Forgets` the thing.
 //!
-//! - `AreAgreed` (`proofs/Keeping`) is the invariant between two moments: each live full replica
+//! - `AreAgreed` (`proofs/Agreed`) is the invariant between two moments: each live full replica
 //!   knows the present flag of the one that stays gold, and so does each that is told to be full.
+//!   `proofs/Keeping` keeps it.
 //!   `proofs/Starts` and `Creating` have the first moment, `proofs/Walking` goes from one to the
 //!   next, and `proofs/Joining` has that the graph is connected where all know that flag.
 //! - `specs/Facts` has what is shown of single events: what becomes full was told so (`Filled`,
-//!   `Said`), stays so (`Stays`), and a full gold replica makes no raised flag (`Made`, `Raising`,
-//!   `Settling`).
+//!   `Said`), stays so (`Stays`), and a full gold replica makes no raised flag (`Made`,
+//!   `Demoted`, `Raising`, `Settling`).
 //! - `specs/Witness` and `proofs/Witness` try the definitions on runs, by computation.
 //! - Premises: `StandOn` (`specs/Given`), of events, of what is held and known, and of quiet runs.
 //!   It stands on the crates of golds, full replicas, drops and quiet, and may cite what these

@@ -34,6 +34,7 @@ use Rattle.law_full.specs.pg_server.declared.input.Input.{Input}
 use Rattle.law_full.specs.pg_server.declared.input.Input.TheVariants as input
 use Rattle.law_full.specs.pg_server.Local.{effect, first_effect, is_heard}
 use Rattle.law_full.proofs.theory_flood_pieces.Choices.{chosen}
+use Rattle.law_full.proofs.pg_run.Ticked.{tick_store}
 use Rattle.law_full.proofs.Calling.{CallsKeep, call_kept}
 use Rattle.law_full.proofs.Coming.{MayCome, receive_kept}
 use Rattle.law_full.proofs.Effects.{arrival_kept, effect_kept}
@@ -246,7 +247,9 @@ module _ (dir : FileId) (is : is_dir dir ≡ true) (removal : Place) (dead : rem
   pub first_dead : (asked : Input) → HearsMindful asked → Caused asked (first_effect a asked).store.names
   first_dead (input.Call moment c) hears =
       call_kept (Caused (input.Call moment c)) a (new_work moment 0) (calls_dead moment c) (start_at (input.Call moment c) (λ e. inl (sym e))) c
-  first_dead (input.Tick moment word) hears = start_at (input.Tick moment word) (λ e. sym e)
+  first_dead (input.Tick moment word) hears =
+      let begins = start_at (input.Tick moment word) (λ e. sym e) in
+      tick_store a moment word (λ (b : Store). Caused (input.Tick moment word) b.names) begins begins
   first_dead (input.Arrival packet) hears =
       let asked = input.Arrival packet in
       let Cause : Type 0 = IsCaused a asked dir removal in

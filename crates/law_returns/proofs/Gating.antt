@@ -36,6 +36,7 @@ use Rattle.law_full.specs.pg_run.Run.{World}
 use Rattle.law_full.proofs.pg_run.Event.{CellHas, cells_have}
 use Rattle.law_full.proofs.Clean.{among_of}
 use Rattle.law_full.proofs.Filling.{AckedIn}
+use Rattle.law_full.proofs.Told.{told_whole}
 use Rattle.law_returns.specs.Gate.{Brings, KnowsOrOver, place_at}
 
 -- ---- edges without entries
@@ -131,8 +132,10 @@ module _ (n : ℕ) (v : World) (acked : AckedIn n v) (whole : (t : ℕ) → IsWh
 
     guarded_cell : (q : Key × ℕ) → CellHas Guards Sender f x e q
     guarded_cell q c at free b =
-        let ends = same_ends _ b.ends q.1 b.tag c (cell.Place removal) b.is in
-        let brought : c ≡ cell.Place removal = same_cell _ b.ends q.1 b.tag c (cell.Place removal) b.is in
+        let mine : Ends = record { file = f; sender = x.birth; receiver = e.birth } in
+        let whole_is = told_whole mine b.ends q.1 b.tag c (cell.Place removal) b.is in
+        let ends = same_ends mine b.ends q.1 b.tag c (cell.Place removal) whole_is in
+        let brought : c ≡ cell.Place removal = same_cell mine b.ends q.1 b.tag c (cell.Place removal) whole_is in
         let t = guarded_place q.0 free (ap (λ (z : Ends). z.file) ends ∙ b.here) (at ∙ ap Some brought) in
         record {
           view = refl;

@@ -22,6 +22,7 @@ use Rattle.law_full.specs.pg_server.Local.{first_effect, takes_effect}
 use Rattle.law_full.specs.theory_flood_pieces.Names.{IsEntryKnownBy}
 use Rattle.law_full.specs.theory_flood_pieces.UpTo.{IsPlaceUpTo}
 use Rattle.law_full.proofs.theory_flood_pieces.Flags.{newer_of_both}
+use Rattle.law_full.specs.pg_run.Asking.{Asked}
 use Rattle.law_full.specs.pg_run.Laws.{NamesMerge, ReturnsAreJustified, took_behind}
 use Rattle.law_full.specs.pg_run.Passed.{has_cell, has_taken, passed, passed_with, passes}
 use Rattle.law_full.specs.pg_run.Carried.{gone_in}
@@ -100,13 +101,13 @@ passed_with_grown removed takes (u ∷ us) =
     grown_further takes next (passed_with removed next us) (grown_further takes one next (grown_front (take_of u ∷ []) takes) (passed_grown removed one)) (passed_with_grown removed next us)
 
 -- of the replicas that do not go
-behind_grown : (a : Store) (takes : List Take) (asked : Input) (k : ℕ) → IsGrown (without_gone (gone_in a asked) takes) (took_behind a takes asked k)
-behind_grown a takes asked k =
+behind_grown : (a : Store) (wants : Asked) (takes : List Take) (asked : Input) (k : ℕ) → IsGrown (without_gone (gone_in a asked) takes) (took_behind a wants takes asked k)
+behind_grown a wants takes asked k =
     let left = without_gone (gone_in a asked) takes in
-    let first = took_first a takes asked in
+    let first = took_first a wants takes asked in
     let then = passed (removed_then a asked) first in
-    grown_further left first (took_behind a takes asked k) (grown_front (brought a asked) left)
-    (grown_further first then (took_behind a takes asked k) (passed_grown (removed_then a asked) first) (passed_with_grown (removed_then a asked) then (take k (made_behind a asked))))
+    grown_further left first (took_behind a wants takes asked k) (grown_front (brought a wants asked) left)
+    (grown_further first then (took_behind a wants takes asked k) (passed_grown (removed_then a asked) first) (passed_with_grown (removed_then a asked) then (take k (made_behind a asked))))
 
 -- ---- a directory that took a place of a child has a cell for it
 
@@ -150,6 +151,7 @@ justified n edges merge stamps stay before removing between last s m asked dir c
     let events = before ++ removing ∷ between in
     let w = run n events in
     let a = w.stores s in
+    let wants = w.asked s in
     let took = w.took s in
     let k = stands_all n edges events in
     let reach = acts_is n w last (record { server = s; asked = asked }) takes in
@@ -157,8 +159,8 @@ justified n edges merge stamps stay before removing between last s m asked dir c
     let removes : Removes n before removing dir removal = record { directory = directory; dead = r.dead; made = made } in
     let late = is_late n edges before removing dir removal removes in
     let hear = hears n dir directory removal r.dead late w k last s asked reach.least reach.most takes reach.came in
-    let gone : (own_place dir (took_behind a took asked r.k)).live ≡ false = ap (λ (p : Place). p.live) r.was ∙ r.dead in
-    let kept : IsStillThere (removed_then a asked) (own_place dir (took_behind a took asked r.k)) =
+    let gone : (own_place dir (took_behind a wants took asked r.k)).live ≡ false = ap (λ (p : Place). p.live) r.was ∙ r.dead in
+    let kept : IsStillThere (removed_then a asked) (own_place dir (took_behind a wants took asked r.k)) =
     ap (λ (p : Place). is_removed (removed_then a asked) p.stamp.server) r.was ∙ r.kept in
     let had : place_at (first_effect a asked).store.names dir ≡ removal = stay events last s asked takes r.k (update.Place dir r.place) r.made dir directory gone kept ∙ r.was in
     let caused : IsCaused a asked dir removal = first_dead dir directory removal r.dead late a asked hear r.kept had in
@@ -180,7 +182,7 @@ justified n edges merge stamps stay before removing between last s m asked dir c
     ap (latest_place child) (places_still a dir removal late asked going had child took) in
     let grown : IsPlaceUpTo (place_in (InDir dir) child took) listed =
     subst (λ (p : Place). IsPlaceUpTo p listed) still
-    (subst (λ (p : Place). IsPlaceUpTo (place_in (InDir dir) child (without_gone (gone_in a asked) took)) p) r.cell (behind_grown a took asked r.k (InDir dir) child)) in
+    (subst (λ (p : Place). IsPlaceUpTo (place_in (InDir dir) child (without_gone (gone_in a asked) took)) p) r.cell (behind_grown a wants took asked r.k (InDir dir) child)) in
     let low : IsPlaceUpTo e.place listed =
     UpTo-trans e.place.stamp here.0.place.stamp listed.stamp here.2 (subst (λ (p : Place). IsPlaceUpTo p listed) (sym told) grown) in
     let high : IsPlaceUpTo listed e.place = latest_among child ps listed among in

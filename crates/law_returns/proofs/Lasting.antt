@@ -26,6 +26,7 @@ use Rattle.law_full.specs.pg_calls.Naming.{begun, next_id, place_in, with_id}
 use Rattle.law_full.specs.pg_server.declared.input.Input.{Input}
 use Rattle.law_full.specs.pg_server.declared.input.Input.TheVariants as input
 use Rattle.law_full.specs.pg_server.Local.{effect, first_effect}
+use Rattle.law_full.proofs.pg_run.Ticked.{tick_store}
 use Rattle.law_full.proofs.Calling.{CallsKeep, call_kept}
 use Rattle.law_full.proofs.Coming.{receive_kept}
 use Rattle.law_full.proofs.Effects.{arrival_kept, effect_kept}
@@ -71,7 +72,7 @@ module _ (P : NamesValue → Type 0) (k : AreKept P AnyPlace AnyBegins AnyFills)
 
   pub first_any : (a : Store) (asked : Input) → P a.names → P (first_effect a asked).store.names
   first_any a (input.Call moment c) h = call_kept P a (new_work moment 0) (calls_any a (new_work moment 0)) h c
-  first_any a (input.Tick moment word) h = h
+  first_any a (input.Tick moment word) h = tick_store a moment word (λ (b : Store). P b.names) h h
   first_any a (input.Arrival packet) h =
       arrival_kept P a packet h
       (λ heard. receive_kept P AnyPlace AnyBegins AnyFills k a h packet.message (new_work 0 packet.from)

@@ -189,9 +189,12 @@ listed_cell d c e a confirms there is =
 abbrev Says : Sent → Type 0
 Says m = IsMindful m.packet.message
 
+plain_says : (x : Sent) → is_plain x.packet.message ≡ true → Says x
+plain_says x plain = plain_mindful x.packet.message plain
+
 asked_mindful : (a : Store) → ConfirmsStand a → (i : Intent) → Among i a.intents → All Says (asks a i)
 asked_mindful a confirms i among =
-    asks_are Says (λ x plain. plain_mindful x.packet.message plain) a i
+    asks_are Says plain_says a i
     (λ d c target e is there to. listed_mindful d e (listed_cell d c e a confirms (ap (stands a.intents) (sym (ap key_of is)) ∙ stands_of a.intents i among) there))
 
 begun_mindful : (a : Store) → ConfirmsStand a → (q : IntentKey) (o : Option Intent) → intent_at a.intents q ≡ o → All Says (pieces (asks a) o)
@@ -203,13 +206,13 @@ sent_mindful : (a : Store) (asked : Input) → ConfirmsStand a → ConfirmsStand
 sent_mindful a asked before behind =
     let e = (effect a asked).store in
     effect_sends Says a asked (record {
-      plain = λ x plain. plain_mindful x.packet.message plain;
+      plain = plain_says;
       replies = λ packet is. record {
         granted = λ b to ends own x. granted_mindful ends own x;
         full = λ file birth fetched holds clean. full_mindful _;
       };
-      cells_before = λ wanted. all_cells Says a (λ f birth x c tag. cell_mindful _ tag c) wanted;
-      cells_behind = λ wanted. all_cells Says e (λ f birth x c tag. cell_mindful _ tag c) wanted;
+      cells_before = λ wanted. all_cells Says plain_says a (λ ends x c tag. cell_mindful ends tag c) wanted;
+      cells_behind = λ wanted. all_cells Says plain_says e (λ ends x c tag. cell_mindful ends tag c) wanted;
       asked_before = All-weaker (Contains a.intents) (λ (i : Intent). All Says (asks a i)) (λ i there. asked_mindful a before i (contained_among a.intents i there)) a.intents (All-contains_itself a.intents);
       asked_behind = λ q. begun_mindful e behind q (intent_at e.intents q) refl;
     })

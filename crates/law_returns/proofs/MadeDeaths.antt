@@ -15,7 +15,6 @@ use Rattle.law_full.specs.pg_msg.declared.work.Work.{Work}
 use Rattle.law_full.specs.pg_msg.Work.{new_work}
 use Rattle.law_full.specs.pg_house.Work.{state_of}
 use Rattle.law_full.specs.pg_store.declared.store.Store.{Store}
-use Rattle.law_full.specs.pg_store.Store.{is_before_clock_end}
 use Rattle.law_full.specs.pg_pieces.Done.{Done, idle}
 use Rattle.law_full.specs.pg_cells.Settling.{rules}
 use Rattle.law_full.specs.pg_cells.Ticks.{tick}
@@ -23,8 +22,9 @@ use Rattle.law_full.specs.pg_intentions.Requests.{ask_all}
 use Rattle.law_full.proofs.pg_intentions.Steady.{begin_end_stays}
 use Rattle.law_full.specs.pg_server.declared.input.Input.{Input}
 use Rattle.law_full.specs.pg_server.declared.input.Input.TheVariants as input
-use Rattle.law_full.specs.pg_server.Local.{Effect, closed, effect, finished, first_effect, is_heard, receive, reply_to, sent_again, settled, takes_effect}
+use Rattle.law_full.specs.pg_server.Local.{Effect, closed, effect, finished, first_effect, is_heard, receive, reply_to, settled, takes_effect}
 use Rattle.law_full.proofs.theory_flood_pieces.Choices.{chosen}
+use Rattle.law_full.proofs.pg_run.Ticked.{tick_work}
 use Rattle.law_full.proofs.HousePlaces.{StaysSo, house_stays}
 use Rattle.law_full.proofs.Called.{IsGoing, call_sends}
 use Rattle.law_full.proofs.Replies.{MayAnswer, receive_sends, tick_sends}
@@ -102,8 +102,8 @@ first_made a (input.Tick moment word) =
     let asked = input.Tick moment word in
     let w = new_work moment 0 in
     let none = All-nil (IsOfGoing a asked) in
-    chosen (λ (v : Work). All (IsOfGoing a asked) v.made) (is_before_clock_end a) (sent_again a word w) w
-    (tick_sends (λ (v : Work). All (IsOfGoing a asked) v.made) (made_closed a asked) a word (ask_all a (tick a w)) none) none
+    tick_work a moment word (λ (v : Work). All (IsOfGoing a asked) v.made) none
+    (λ early. tick_sends (λ (v : Work). All (IsOfGoing a asked) v.made) (made_closed a asked) a word (ask_all a (tick a w)) none)
 first_made a (input.Arrival packet) =
     let asked = input.Arrival packet in
     let w = new_work 0 packet.from in

@@ -11,6 +11,7 @@ use Rattle.law_full.specs.pg_event.declared.event.Event.{Event}
 use Rattle.law_full.specs.pg_store.declared.store.Store.{Store}
 use Rattle.law_full.specs.pg_server.declared.input.Input.{Input}
 use Rattle.law_full.specs.pg_server.Local.{first_effect, takes_effect}
+use Rattle.law_full.specs.pg_run.Asking.{Asked}
 use Rattle.law_full.specs.pg_run.Known.{of_run}
 use Rattle.law_full.specs.pg_run.Laws.{took_behind}
 use Rattle.law_full.specs.pg_run.Run.{Taking, made_behind, removed_then, run, took_first}
@@ -46,18 +47,18 @@ live_made : (a : Store) (asked : Input) (u : Update) → Among u (made_behind a 
 live_made a asked u h f p same =
     (All-contains IsLiveOfDir (made_behind a asked) u (made_live a asked) (among_contained (made_behind a asked) u h) f p same).1
 
-module _ (a : Store) (takes : List Take) (asked : Input) (goes : Goes (removed_then a asked) (first_effect a asked).store.names (took_first a takes asked))
-    (all : List Update) (apart_all : IsApart a takes asked all) (behind : (u : Update) → Among u (made_behind a asked) → Among u all) (dir : FileId) (is : is_dir dir ≡ true) where
+module _ (a : Store) (wants : Asked) (takes : List Take) (asked : Input) (goes : Goes (removed_then a asked) (first_effect a asked).store.names (took_first a wants takes asked))
+    (all : List Update) (apart_all : IsApart a wants takes asked all) (behind : (u : Update) → Among u (made_behind a asked) → Among u all) (dir : FileId) (is : is_dir dir ≡ true) where
   abbrev Now : List Take
-  Now = took_first a takes asked
+  Now = took_first a wants takes asked
 
   -- what it had behind the first effect is what was taken by then
   own_first : place_at (first_effect a asked).store.names dir ≡ own_place dir Now
   own_first = place_is Now (apart_all [] (λ u h. absurd h)) Itself dir (own_or_blank (first_effect a asked).store.names dir).place (goes.tells.place dir)
 
-  dead_stays : (k : ℕ) → (own_place dir (took_behind a takes asked k)).live ≡ false
-      → IsStillThere (removed_then a asked) (own_place dir (took_behind a takes asked k))
-      → place_at (first_effect a asked).store.names dir ≡ own_place dir (took_behind a takes asked k)
+  dead_stays : (k : ℕ) → (own_place dir (took_behind a wants takes asked k)).live ≡ false
+      → IsStillThere (removed_then a asked) (own_place dir (took_behind a wants takes asked k))
+      → place_at (first_effect a asked).store.names dir ≡ own_place dir (took_behind a wants takes asked k)
   dead_stays k dead there =
       let us = take k (made_behind a asked) in
       own_first
@@ -89,6 +90,6 @@ module _ (n : ℕ) (all : (events : List Event) → StandsOn n (run n events)) w
       let k = merged_run n all events s acts.least acts.most in
       let a = w.stores s in
       let going : takes_effect a asked ≡ true = going_by a asked i (slice_get_within (made_behind a asked) i u h) (takes_effect a asked) refl in
-      let goes = first_goes (of_run n w) a (w.took s) k.goes (ready_of n w on s at) (on.ids s acts.least acts.most) asked (input_of n w on s asked acts.came) going in
-      dead_stays a (w.took s) asked goes _ (apart n w last s asked at acts.came on k (next_stands n all events last t takes))
+      let goes = first_goes (of_run n w) a (w.asked s) (w.took s) k.goes (ready_of n w on s at) (on.ids s acts.least acts.most) asked (input_of n w on s asked acts.came) going in
+      dead_stays a (w.asked s) (w.took s) asked goes _ (apart n w last s asked at acts.came on k (next_stands n all events last t takes))
       (behind_in n w last s asked at acts.came on k) dir is i dead there

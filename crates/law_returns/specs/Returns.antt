@@ -33,8 +33,8 @@ DeadPlacesStay servers = (events : List Event) (last : Event) (s : ℕ) (asked :
     → let w = run servers events in TakesIn servers w last s asked
     → (k : ℕ) (u : Update) → slice_get (made_behind (w.stores s) asked) k ≡ Some u
     → (dir : FileId) → is_dir dir ≡ true
-    → (own_place dir (took_behind (w.stores s) (w.took s) asked k)).live ≡ false
+    → (own_place dir (took_behind (w.stores s) (w.asked s) (w.took s) asked k)).live ≡ false
     → IsStillThere (removed_then (w.stores s) asked)
-    (own_place dir (took_behind (w.stores s) (w.took s) asked k))
+    (own_place dir (took_behind (w.stores s) (w.asked s) (w.took s) asked k))
     → place_at (first_effect (w.stores s) asked).store.names dir
-    ≡ own_place dir (took_behind (w.stores s) (w.took s) asked k)
+    ≡ own_place dir (took_behind (w.stores s) (w.asked s) (w.took s) asked k)

@@ -9,6 +9,7 @@ use Rattle.pg_run.specs.pg_base.Id.{file_cmp, is_same_file}
 use Rattle.pg_run.specs.pg_base.Version.{VersionValue}
 use Rattle.pg_run.proofs.pg_base.Orders.{is_same_file-refl}
 use Rattle.pg_run.specs.pg_content.Content.{Among}
+use Rattle.pg_run.specs.pg_delta.declared.delta.KeptDelta.{KeptDelta}
 use Rattle.pg_run.specs.pg_edges.declared.key.Key.{Key}
 use Rattle.pg_run.specs.pg_edges.declared.key.Key.TheVariants as key
 use Rattle.pg_run.specs.pg_edges.declared.edge.Edge.{Edge}
@@ -27,13 +28,13 @@ use Rattle.pg_run.specs.pg_register.Flag.{flag_of}
 use Rattle.pg_run.specs.pg_replica.declared.link.Link.{Link}
 use Rattle.pg_run.specs.pg_replica.declared.replica.Replica.{Replica}
 use Rattle.pg_run.specs.pg_replica.Laws.{IsKeyOf}
-use Rattle.pg_run.specs.pg_replica.Replica.{has_edge, keys as head_keys, with_ack, with_link, with_unlink}
-use Rattle.pg_run.specs.pg_replica.Replicas.{ByFile, put_replica, replicas_acked, replicas_linked, replicas_unlinked}
+use Rattle.pg_run.specs.pg_replica.Replica.{has_edge, keys as head_keys, with_ack, with_kept, with_link, with_unlink}
+use Rattle.pg_run.specs.pg_replica.Replicas.{ByFile, put_replica, replicas_acked, replicas_keeping, replicas_linked, replicas_unlinked}
 use Rattle.pg_run.proofs.pg_replica.Heads.{head_cell}
 use Rattle.pg_run.specs.pg_store.declared.store.Store.{Store}
 use Rattle.pg_run.specs.pg_store.Cells.{version_cell}
 use Rattle.pg_run.specs.pg_store.Links.{entry_keys, flag_keys, is_linked, is_new_link, keys, link, name_keys, put_link, unlink}
-use Rattle.pg_run.specs.pg_store.Store.{acknowledge, content_of, replica_at, with_drawn}
+use Rattle.pg_run.specs.pg_store.Store.{acknowledge, content_of, keep_delta, replica_at, with_drawn}
 use Rattle.pg_run.proofs.theory_flood_pieces.Choices.{chosen}
 use Rattle.pg_run.proofs.theory_flood_pieces.Stores.{Changes}
 use Rattle.pg_run.proofs.Lists.{among_parts}
@@ -197,3 +198,19 @@ acked_by a f link q tag (Some x) e k =
 
 pub acknowledged_have : (a : Store) (f : FileId) (link : Link) (q : Key) (tag : ℕ) → AllHaveCells a → AllHaveCells (acknowledge a f link q tag)
 acknowledged_have a f link q tag k = acked_by a f link q tag (replica_at a f) refl k
+
+-- ---- one more delta is kept
+
+abbrev with_one_more : Store → FileId → KeptDelta → Option Replica → Store
+with_one_more a f d o = record a { replicas = replicas_keeping a.replicas f d o }
+
+kept_by : (a : Store) (f : FileId) (d : KeptDelta) (o : Option Replica) → replica_at a f ≡ o → AllHaveCells a → AllHaveCells (with_one_more a f d o)
+kept_by a f d None e k = k
+kept_by a f d (Some x) e k =
+    let y = with_kept x d in
+    let b = with_one_more a f d (Some x) in
+    let ch : Changes a b f x y = record { old = e; replicas = refl } in
+    one_changed a b f x y ch (λ g r h. h) refl (λ p i r g h. inl h) k
+
+pub kept_have : (a : Store) (f : FileId) (d : KeptDelta) → AllHaveCells a → AllHaveCells (keep_delta a f d)
+kept_have a f d k = kept_by a f d (replica_at a f) refl k

@@ -14,7 +14,7 @@ use Rattle.pg_run.specs.pg_store.Store.{new_store, replica_at, with_names}
 use Rattle.pg_run.specs.pg_store.Views.{with_removed}
 use Rattle.pg_run.specs.pg_server.declared.input.Input.{Input}
 use Rattle.pg_run.specs.pg_server.declared.input.Input.TheVariants as input
-use Rattle.pg_run.specs.pg_server.Local.{effect, without_volatile}
+use Rattle.pg_run.specs.pg_server.Local.{effect, without_sources, without_volatile}
 use Rattle.pg_run.proofs.theory_flood_pieces.Graphs.{new_clean}
 use Rattle.pg_run.specs.Run.{World, run}
 use Rattle.pg_run.proofs.Event.{Comes, IsKeptByParts, store_kept}
@@ -24,7 +24,7 @@ use Rattle.pg_run.specs.pg_names.Names.{NamesValue, remove_server}
 use Rattle.pg_run.specs.pg_edges.declared.key.Key.{Key}
 use Rattle.law_ticks.proofs.Keyed.{NameHas}
 use Rattle.law_ticks.proofs.KeysCells.{AllHaveCells, HaveCells, HaveIn, beside_have, entry_have, flag_have, named_have, place_have, removed_up}
-use Rattle.law_ticks.proofs.KeysLinks.{acknowledged_have, link_have, unlink_have}
+use Rattle.law_ticks.proofs.KeysLinks.{acknowledged_have, kept_have, link_have, unlink_have}
 use Rattle.law_ticks.proofs.Intended.{intended_left, settled_left}
 use Rattle.law_ticks.proofs.KeysVersions.{begin_have, fill_have, goes_have, ruled_have, version_have, write_have}
 use Rattle.law_ticks.proofs.Called.{called}
@@ -36,6 +36,7 @@ pieces = record {
   flag = λ a f flag h. flag_have a f flag h;
   entry = λ a d e h. entry_have a d e h;
   version = λ a f v h. version_have a f v h;
+  keeps = λ a f d h. kept_have a f d h;
   write = λ a f stamp ranges h. write_have a f stamp ranges h;
   link = λ a f peer birth h. link_have a f peer birth h;
   unlink = λ a f peer birth h. unlink_have a f peer birth h;
@@ -69,6 +70,7 @@ parts : IsKeptByParts Any AllHaveCells
 parts = record {
   calls = λ a moment c h. called AllHaveCells pieces a c (new_work moment 0) h;
   arrivals = λ a packet heard came h. received AllHaveCells pieces a packet.message (new_work 0 packet.from) h;
+  ticks = λ a h. pieces.beside a (without_sources a) refl refl h;
   restarts = λ a h. pieces.beside a (without_volatile a) refl refl h;
   rules = λ d h. settled_left AllHaveCells pieces d.store d.work h;
   intentions = λ d h. intended_left AllHaveCells pieces d.store d.work h;

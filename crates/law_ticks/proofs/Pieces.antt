@@ -8,6 +8,7 @@ use Rattle.pg_run.specs.pg_patch.Ranges.{RangesValue}
 use Rattle.pg_run.specs.pg_entries.declared.cell.Cell.{Cell}
 use Rattle.pg_run.specs.pg_entries.declared.cell.Cell.TheVariants as cells
 use Rattle.pg_run.specs.pg_entries.declared.entry.Entry.{Entry}
+use Rattle.pg_run.specs.pg_delta.declared.delta.KeptDelta.{KeptDelta}
 use Rattle.pg_run.specs.pg_edges.declared.edge.Edge.{Edge}
 use Rattle.pg_run.specs.pg_edges.declared.key.Key.{Key}
 use Rattle.pg_run.specs.pg_intent.declared.key.IntentKey.TheVariants as intent_key
@@ -28,7 +29,7 @@ use Rattle.pg_run.specs.pg_store.Beginning.{begin, let_go}
 use Rattle.pg_run.specs.pg_store.Births.{birth_of, fill_at, has_birth, is_pending, wish_at}
 use Rattle.pg_run.specs.pg_store.Links.{knows_later, link, unlink}
 use Rattle.pg_run.specs.pg_store.Servers.{next_target}
-use Rattle.pg_run.specs.pg_store.Store.{acknowledge, is_full, is_held, replica_of, take_entry, take_flag, take_place, take_version, with_names, write}
+use Rattle.pg_run.specs.pg_store.Store.{acknowledge, is_full, is_held, keep_delta, replica_of, take_entry, take_flag, take_place, take_version, with_names, write}
 use Rattle.pg_run.specs.pg_store.Views.{with_removed}
 use Rattle.pg_run.specs.pg_house.Work.{is_root}
 use Rattle.pg_run.specs.pg_pieces.declared.accepting.EdgeUse.{EdgeUse}
@@ -51,9 +52,11 @@ use Rattle.pg_run.specs.pg_graph.Seeking.{seek}
 use Rattle.pg_run.specs.pg_repair.Telling.{is_told, tell, tell_ok}
 use Rattle.pg_run.specs.pg_graph.Walks.{goes_on, meet_origin, onward, walk, walk_on, walked}
 use Rattle.pg_run.specs.pg_server.Local.{receive}
+use Rattle.pg_run.specs.pg_server.pg_transfer.Asking.{with_notes}
 use Rattle.pg_run.proofs.pg_graph.LeaveOk.{byes_by, leave_ok_by}
 use Rattle.pg_run.proofs.theory_flood_pieces.Choices.{chosen}
 use Rattle.pg_run.proofs.Bags.{All-every}
+use Rattle.pg_run.proofs.Transfers.{KeepsTransfers, delta_keeps, harbinger_keeps, later_keeps, piece_keeps, want_keeps}
 
 -- each piece keeps P
 -- beside: whatever stands beside names and replicas
@@ -62,6 +65,7 @@ pub record OutlivesPieces (P : Store → Type 0) : Type 0 where
   pub flag : (a : Store) (f : FileId) (flag : Flag) → P a → P (take_flag a f flag)
   pub entry : (a : Store) (d : FileId) (e : Entry) → P a → P (take_entry a d e)
   pub version : (a : Store) (f : FileId) (v : VersionValue) → P a → P (take_version a f v)
+  pub keeps : (a : Store) (f : FileId) (d : KeptDelta) → P a → P (keep_delta a f d)
   pub write : (a : Store) (f : FileId) (stamp : Stamp) (ranges : RangesValue) → P a → P (write a f stamp ranges)
   pub link : (a : Store) (f : FileId) (peer birth : ℕ) → P a → P (link a f peer birth)
   pub unlink : (a : Store) (f : FileId) (peer birth : ℕ) → P a → P (unlink a f peer birth)
@@ -222,9 +226,30 @@ module _ (P : Store → Type 0) (k : OutlivesPieces P) where
       (λ d e any so. unseen d.store (begin_intent d.store (bye_to f (birth_of next f) e) d.work).store refl refl so)
       (replica_of next f).edges (All-every (λ (e : Edge). Unit {0}) (replica_of next f).edges (λ e. tt)) (idle (let_go next f) work) (k.goes next f one))
 
+  -- ---- bodies of versions
+
+  bodies : (ends : Ends) → KeepsTransfers ends Left
+  bodies ends = record {
+    notes = λ d notes h. k.beside d.store (with_notes d.store notes) refl refl h;
+    keeps = λ d delta h. k.keeps d.store ends.file delta h;
+    takes = λ d v h. k.version d.store ends.file v h;
+    answers = λ d m is h. h;
+    tells = λ d head e is h. h;
+  }
+
   pub received : (a : Store) (m : Message) (work : Work) → P a → Left (receive a m work)
   received a (message.Cell ends tag c) work h = cell_left a ends tag c work h
   received a (message.Ack ends key tag) work h = k.answer a ends.file (link_of work.from ends) key tag h
+  received a (message.Harbinger ends tag head) work h =
+      harbinger_keeps ends Left (bodies ends) a work h tag head (accept_left a ends manner.Makes work h)
+  received a (message.Want ends wanted) work h =
+      want_keeps ends Left (bodies ends) a work h wanted (accept_left a ends manner.Needs work h)
+  received a (message.Delta ends delta) work h =
+      delta_keeps ends Left (bodies ends) a work h delta (accept_left a ends manner.Answers work h)
+  received a (message.Piece ends piece) work h =
+      piece_keeps ends Left (bodies ends) a work h piece (accept_left a ends manner.Answers work h)
+  received a (message.Later ends stamp) work h =
+      later_keeps ends Left (bodies ends) a work h stamp (accept_left a ends manner.Answers work h)
   received a (message.Fetch file birth) work h = fetch_left a file birth work h
   received a (message.Grant ends granted) work h = grant_left a ends granted work h
   received a (message.NoGrant file birth) work h =
@@ -246,4 +271,3 @@ module _ (P : Store → Type 0) (k : OutlivesPieces P) where
   received a (message.Walk ends origin birth hops word) work h = walk_left a ends origin birth hops word work h
   received a (message.Meet ends) work h = accept_left a ends manner.Makes work h
   received a (message.Invite ends) work h = invite_left a ends work h
-  received a m work h = h

@@ -19,6 +19,7 @@ tidy n g events s least most =
       by_id = g.things events s least most;
       still = g.intends.still events s least most;
       still_without = g.intends.still_without events s least most;
+      still_released = g.intends.still_released events s least most;
       asked = g.intends.asked events s least most;
       whole = whole;
       cells = λ file x peer birth q tag held h.

@@ -12,7 +12,7 @@ use Rattle.pg_run.specs.pg_pieces.Done.{idle}
 use Rattle.pg_run.specs.theory_flood_pieces.Whole.{IsWhole}
 use Rattle.pg_run.specs.pg_intentions.Beginning.{begin_end}
 use Rattle.pg_run.specs.pg_intentions.Requests.{request}
-use Rattle.pg_run.specs.pg_server.Local.{without_volatile}
+use Rattle.pg_run.specs.pg_server.Local.{without_sources, without_volatile}
 use Rattle.pg_run.specs.Golds.{FullReplicasSeeGold}
 use Rattle.pg_run.specs.Laws.{AtEach, HouseIsInOrder, names_after, store_after}
 
@@ -35,12 +35,14 @@ StaysIntended a = (work : Work) → work.left ≡ [] → work.unsure ≡ [] → 
 abbrev pub HaveRequests : Store → Type 0
 HaveRequests a = All (λ i. (m : Message) × (request a i ≡ Some m)) a.intents
 
--- intentions are as what is held asks, also without wishes
+-- intentions are as what is held asks, also without wishes, and where nobody is asked for a version
 pub record IntentionsAreStill (servers : ℕ) : Type 0 where
   pub still : (events : List Event)
       → AtEach servers (λ s. StaysIntended (store_after servers events s))
   pub still_without : (events : List Event)
       → AtEach servers (λ s. StaysIntended (without_volatile (store_after servers events s)))
+  pub still_released : (events : List Event)
+      → AtEach servers (λ s. StaysIntended (without_sources (store_after servers events s)))
   pub asked : (events : List Event)
       → AtEach servers (λ s. HaveRequests (store_after servers events s))
 

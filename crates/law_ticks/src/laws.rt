@@ -12,14 +12,17 @@ pub fn keys_have_cells()
     ensures { (servers : ℕ) → KeysHaveCells servers }
 {}
 
-/// A tick sends the present cell of each key that its server owes and that does not wait, in their order, behind these the
-/// message of each intention that asks a server, and last the walk that its word chooses, if it chooses one, and nothing
-/// else; it is refused exactly where the clock is at its end.
+/// A tick sends what is present of each key that its server owes and that does not wait, in their
+/// order: the head of a version of more than 1,024 bytes, else the cell. Behind these it sends the
+/// message of each intention that asks a server, and last the walk that its word chooses, if it
+/// chooses one, and nothing else. Nobody is asked for any version any more behind it, and it
+/// changes nothing else. It is refused, and changes nothing, exactly where the clock is at its
+/// end.
 pub fn ticks_send_what_is_owed()
     ensures { (servers : ℕ) → TidinessIsGiven servers → TicksSendWhatIsOwed servers }
 {}
 
-/// A restart loses the wishes of its server, and changes nothing else.
+/// A restart loses the wishes of its server and what is noted of versions there, and changes nothing else.
 pub fn restarts_lose_wishes()
     ensures { (servers : ℕ) → TidinessIsGiven servers → RestartsLoseWishes servers }
 {}

@@ -1,7 +1,7 @@
 //! What a tick sends in a run and what a restart does, and what a run waits for.
 //!
-//! Of the laws come the clauses `owed` and `lost` of `run`. What a world is told to wait for is the
-//! first of its causes; each key that is owed has a cell; and no house rule applies after any
+//! Of the laws comes the clause `owed` of `run`. What a world is told to wait for is the first of its
+//! causes; each key that is owed has a cell; and no house rule applies after any
 //! events: these are laws of their own. The statements stand in `specs/Laws` and
 //! `pg_run/specs/Ticks`.
 //!

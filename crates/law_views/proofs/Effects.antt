@@ -1,7 +1,7 @@
 -- What an event does at a server: what is seen of it then, in the view in which it is then, and that all
 -- that it sends is from it and of that view.
 use Rattle.std.proofs.Common.{[], ℕ, ◌≡◌, ◌==◌, ◌&&◌, Bool, true, false, not, List, ◌∷◌, ◌++◌, get_or, Option, None, Some, ◌⊎◌, inl, inr, refl, sym, ap, subst, ◌∙◌, All}
-use Rattle.std.specs.Prelude.{Err, Ok, Result}
+use Rattle.std.specs.Prelude.{Err, Ok, Result, nat_lt}
 use Rattle.std.specs.Map.{keys_of}
 use Rattle.std.proofs.lemmas.Bool.{and_parts}
 use Rattle.std.proofs.lemmas.List.Elements.{All-append, All-nil, All-weaker}
@@ -9,7 +9,9 @@ use Rattle.std.proofs.lemmas.Option.{none-some, same_Some}
 use Rattle.std.specs.List.{flat_map}
 use Rattle.pg_run.specs.pg_base.declared.id.FileId.{FileId}
 use Rattle.pg_run.specs.pg_edges.declared.edge.Edge.{Edge}
+use Rattle.pg_run.specs.pg_announced.Announced.{released}
 use Rattle.pg_run.specs.pg_entries.declared.cell.Cell.{Cell}
+use Rattle.pg_run.specs.pg_entries.declared.cell.Cell.TheVariants as cell_kind
 use Rattle.pg_run.specs.pg_call.declared.refusal.Refusal.TheVariants as refusal
 use Rattle.pg_run.specs.pg_intent.declared.key.IntentKey.{IntentKey}
 use Rattle.pg_run.specs.pg_intent.Intent.{target_of}
@@ -22,6 +24,7 @@ use Rattle.pg_run.specs.pg_call.declared.reply.Reply.TheVariants as reply
 use Rattle.pg_run.specs.pg_entries.declared.entry.Entry.{Entry}
 use Rattle.pg_run.specs.pg_intent.declared.intent.Intent.{Intent}
 use Rattle.pg_run.specs.pg_intent.declared.intent.Intent.TheVariants as intent
+use Rattle.pg_run.specs.pg_msg.declared.message.Ends.{Ends}
 use Rattle.pg_run.specs.pg_msg.declared.message.Message.{Message}
 use Rattle.pg_run.specs.pg_msg.declared.message.Message.TheVariants as message
 use Rattle.pg_run.specs.pg_msg.declared.message.Packet.{Packet}
@@ -39,7 +42,7 @@ use Rattle.pg_run.specs.pg_store.Views.{enter}
 use Rattle.pg_run.specs.pg_lookup.declared.paths.LookupError.{LookupError}
 use Rattle.pg_run.specs.pg_pieces.Done.{Done, idle}
 use Rattle.pg_run.specs.pg_pieces.Posting.{sent_to}
-use Rattle.pg_run.specs.pg_cells.Sending.{Wanted, cell_to, cells_where, is_any, is_chosen}
+use Rattle.pg_run.specs.pg_cells.Sending.{Wanted, cell_to, cells_where, is_any, is_chosen, told_as}
 use Rattle.pg_run.specs.pg_cells.Ticks.{tick}
 use Rattle.pg_run.specs.pg_intentions.Inviting.{invite_along, invite_each, invite_of, invites, loose_edge}
 use Rattle.pg_run.specs.pg_intentions.Requests.{ask_all, asks, asks_by, confirm_message, leave_message, request}
@@ -49,7 +52,7 @@ use Rattle.pg_run.proofs.pg_calls.Checked.{behind, unless_ok}
 use Rattle.pg_run.specs.pg_calls.GivingUp.{doubt_all, enter_view, may_give_up, removal_at}
 use Rattle.pg_run.specs.pg_server.declared.input.Input.{Input}
 use Rattle.pg_run.specs.pg_server.declared.input.Input.TheVariants as input
-use Rattle.pg_run.specs.pg_server.Local.{done_of, effect, first_effect, is_heard, receive, sent_again}
+use Rattle.pg_run.specs.pg_server.Local.{done_of, effect, first_effect, is_heard, receive, ticked, without_sources}
 use Rattle.pg_run.proofs.theory_flood_pieces.Choices.{chosen, decided}
 use Rattle.pg_run.proofs.Event.{all_sent, asks_by_have, asks_have, cells_have, end_has, end_of, store_is}
 use Rattle.pg_run.proofs.LastWalks.{GoesLast, IsPassedOn, IsWalkOf, each_invites, first_tail}
@@ -60,7 +63,7 @@ use Rattle.law_views.proofs.Ends.{intended_seen, settled_seen}
 use Rattle.law_views.proofs.Entering.{enter_seen}
 use Rattle.law_views.proofs.Fine.{IsFine, IsOfLive, IsSent, sent_is}
 use Rattle.law_views.proofs.Handled.{receive_fine}
-use Rattle.law_views.proofs.Seen.{IsSeen}
+use Rattle.law_views.proofs.Seen.{IsSeen, seen_noted}
 use Rattle.law_views.proofs.Targets.{live_parts}
 use Rattle.law_views.specs.Premises.{FlagsAreOf}
 
@@ -74,9 +77,17 @@ module _ (n s : ℕ) (R : List ℕ) where
   module _ (b : Store) (k : IsSeen n s R b) where
     -- ---- what cells and intentions send is no walk
 
+    as_plain : (ends : Ends) (tag : ℕ) (c : Cell) → Plain (told_as ends tag c)
+    as_plain ends tag (cell_kind.Version v) =
+        chosen Plain (nat_lt 1024 v.head.length) (message.Harbinger ends tag v.head) (message.Cell ends tag (cell_kind.Version v)) tt tt
+    as_plain ends tag (cell_kind.Place place) = tt
+    as_plain ends tag (cell_kind.Flag flag) = tt
+    as_plain ends tag (cell_kind.Entry e sure) = tt
+
     cell_sent : (file : FileId) (birth : ℕ) (e : Edge) (c : Cell) (tag : ℕ) → Sends (cell_to b file birth e c tag)
     cell_sent file birth e c tag =
-        sent_is n s R b e.peer (message.Cell (record { file = file; sender = birth; receiver = e.birth }) tag c) tt k
+        let ends : Ends = record { file = file; sender = birth; receiver = e.birth } in
+        sent_is n s R b e.peer (told_as ends tag c) (as_plain ends tag c) k
 
     pub cells_fine : (wanted : Wanted) → All Sends (cells_where b wanted)
     cells_fine wanted =
@@ -250,16 +261,18 @@ module _ (n s : ℕ) (a : Store) (k : IsSeen n s a.names.removed a) (together : 
   tick_goes moment word =
       let asked = input.Tick moment word in
       let w = new_work moment 0 in
-      let all = record (ask_all a (tick a w)) { tail = tick_walks a word } in
-      let cells = cells_where a is_any in
-      let again : IsFine n s Now (idle a all) = record {
-        seen = k;
-        sent = All-append (IsSent n s Now) ([] ++ cells) (flat_map (asks a) a.intents)
-            (All-append (IsSent n s Now) [] cells (All-nil (IsSent n s Now)) (cells_fine n s Now a k is_any)) (asks_fine n s Now a k);
+      let b = without_sources a in
+      let seen = seen_noted n s Now a (released a.announced) k in
+      let all = record (ask_all b (tick b w)) { tail = tick_walks b word } in
+      let cells = cells_where b is_any in
+      let again : IsFine n s Now (idle b all) = record {
+        seen = seen;
+        sent = All-append (IsSent n s Now) ([] ++ cells) (flat_map (asks b) b.intents)
+            (All-append (IsSent n s Now) [] cells (All-nil (IsSent n s Now)) (cells_fine n s Now b seen is_any)) (asks_fine n s Now b seen);
       } in
       stays asked (first_effect a asked)
-      (chosen (λ (v : Work). IsFine n s Now (idle a v)) (is_before_clock_end a) (sent_again a word w) w
-      (subst (λ (v : Work). IsFine n s Now (idle a v)) (sym (again_is a word w)) again) (begins moment 0))
+      (chosen (IsFine n s Now) (is_before_clock_end a) (ticked a word w) (idle a w)
+      (subst (λ (v : Work). IsFine n s Now (idle b v)) (sym (again_is b word w)) again) (begins moment 0))
       (All-weaker (GoesLast a asked) (IsSent n s Now)
       (λ m h. walk_sent h.0 a.names.server (birth_of a h.0) m (ap (is_removed Now) k.server ∙ own) h.2)
       (first_effect a asked).work.tail (first_tail a asked))

@@ -28,7 +28,7 @@ use Rattle.pg_run.specs.pg_store.Beginning.{with_intents}
 use Rattle.pg_run.specs.pg_store.Births.{fill_at, is_pending, wish_at, with_wishes}
 use Rattle.pg_run.specs.pg_store.Links.{is_clean, knows_later}
 use Rattle.pg_run.specs.pg_store.Servers.{next_target}
-use Rattle.pg_run.specs.pg_store.Store.{acknowledge, is_full, is_held, is_new_version, replica_at, take_version, with_names}
+use Rattle.pg_run.specs.pg_store.Store.{acknowledge, is_full, is_held, is_new_version, keep_delta, replica_at, take_version, with_names}
 use Rattle.pg_run.specs.pg_store.Wishes.{aim_wish}
 use Rattle.pg_run.specs.pg_pieces.declared.accepting.EdgeUse.TheVariants as manner
 use Rattle.pg_run.specs.pg_pieces.Accepting.{accept, ends_to, is_accepted, link_peer, met}
@@ -50,10 +50,12 @@ use Rattle.pg_run.specs.pg_repair.Granting.{aim_fill, begin_granted, begun_by, f
 use Rattle.pg_run.specs.pg_repair.NoneHere.{asking_key, does_ask, none_here}
 use Rattle.pg_run.specs.pg_repair.Telling.{is_told, tell, tell_ok, told}
 use Rattle.pg_run.specs.pg_server.Local.{receive}
+use Rattle.pg_run.specs.pg_server.pg_transfer.Asking.{with_notes}
+use Rattle.pg_run.proofs.Transfers.{IsAnswer, KeepsTransfers, delta_keeps, harbinger_keeps, later_keeps, piece_keeps, want_keeps}
 use Rattle.pg_run.specs.pg_names.Names.{own_or_blank}
 use Rattle.pg_run.proofs.theory_flood_pieces.Choices.{chosen}
 use Rattle.law_views.proofs.Fine.{IsFine, news_sent, IsOfLive, entry_cell_fine, entry_fine, flag_fine, flag_made, flags_fine, intending, linked, place_fine, posted, stored, worked}
-use Rattle.law_views.proofs.Seen.{IsPeer, seen_ack, seen_aim, seen_begin, seen_names, seen_version}
+use Rattle.law_views.proofs.Seen.{IsPeer, seen_ack, seen_aim, seen_begin, seen_kept, seen_names, seen_noted, seen_version}
 use Rattle.law_views.proofs.Targets.{next_live}
 use Rattle.law_views.proofs.Along.{FromLive, accept_fine, answers, bye_fine, leave_fine, leave_ok_fine, unlinked}
 
@@ -252,15 +254,39 @@ module _ (n s : ℕ) (R : List ℕ) where
       (posted n s R link origin (message.Meet (ends_to link.store ends.file birth)) tt (linked n s R d ends.file origin birth live k))))
       (accept_fine n s R d from ends manner.Needs k)
 
+  -- ---- bodies on demand
+
+  answer_live : (ends : Ends) (m : Message) → IsAnswer ends m → IsOfLive R m
+  answer_live ends (message.Want e wanted) of = tt
+  answer_live ends (message.Delta e delta) of = tt
+  answer_live ends (message.Piece e piece) of = tt
+  answer_live ends (message.Later e stamp) of = tt
+  answer_live ends (message.Ack e q tag) of = tt
+  answer_live ends m of = absurd of
+
+  steps_fine : (ends : Ends) → KeepsTransfers ends Fine
+  steps_fine ends = record {
+    notes = λ d ns k. stored n s R d (with_notes d.store ns) (seen_noted n s R d.store ns k.seen) k;
+    keeps = λ d delta k. stored n s R d (keep_delta d.store ends.file delta) (seen_kept n s R d.store ends.file delta k.seen) k;
+    takes = λ d v k. version_fine d ends.file v k;
+    answers = λ d m of k. answers n s R d m (answer_live ends m of) k;
+    tells = λ d head e there k. posted n s R d e.peer (message.Harbinger (ends_to d.store ends.file e.birth) 0 head) tt k;
+  }
+
   -- A MESSAGE
   pub receive_fine : (m : Message) (d : Done) → FromLive n s R d → IsOfLive R m → Fine d → Fine (receive d.store m d.work)
   receive_fine (message.Cell ends tag c) d from live k = cell_fine ends tag c d from k
   receive_fine (message.Ack ends q tag) d from live k = ack_fine ends q tag d k
-  receive_fine (message.Harbinger ends tag head) d from live k = k
-  receive_fine (message.Want ends wanted) d from live k = k
-  receive_fine (message.Delta ends delta) d from live k = k
-  receive_fine (message.Piece ends piece) d from live k = k
-  receive_fine (message.Later ends stamp) d from live k = k
+  receive_fine (message.Harbinger ends tag head) d from live k =
+      harbinger_keeps ends Fine (steps_fine ends) d.store d.work k tag head (accept_fine n s R d from ends manner.Makes k)
+  receive_fine (message.Want ends wanted) d from live k =
+      want_keeps ends Fine (steps_fine ends) d.store d.work k wanted (accept_fine n s R d from ends manner.Needs k)
+  receive_fine (message.Delta ends delta) d from live k =
+      delta_keeps ends Fine (steps_fine ends) d.store d.work k delta (accept_fine n s R d from ends manner.Answers k)
+  receive_fine (message.Piece ends piece) d from live k =
+      piece_keeps ends Fine (steps_fine ends) d.store d.work k piece (accept_fine n s R d from ends manner.Answers k)
+  receive_fine (message.Later ends stamp) d from live k =
+      later_keeps ends Fine (steps_fine ends) d.store d.work k stamp (accept_fine n s R d from ends manner.Answers k)
   receive_fine (message.Fetch file birth) d from live k = fetch_fine file birth d from k
   receive_fine (message.Grant ends granted) d from live k = grant_fine ends granted d from k
   receive_fine (message.NoGrant file birth) d from live k = no_grant_fine file birth d k

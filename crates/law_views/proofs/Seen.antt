@@ -19,6 +19,9 @@ use Rattle.pg_run.specs.pg_intent.declared.intent.Intent.TheVariants as intent
 use Rattle.pg_run.specs.pg_intent.declared.key.IntentKey.{IntentKey}
 use Rattle.pg_run.specs.pg_intent.Intents.{ended, intent_at}
 use Rattle.pg_run.specs.pg_intent.Target.{IsLiveOther}
+use Rattle.pg_run.specs.pg_announced.Announced.{NotesValue}
+use Rattle.pg_run.specs.pg_delta.declared.delta.KeptDelta.{KeptDelta}
+use Rattle.pg_run.specs.pg_server.pg_transfer.Asking.{with_notes}
 use Rattle.pg_run.specs.pg_names.declared.attributes.Attributes.{Attributes}
 use Rattle.pg_run.specs.pg_names.Names.{NamesValue}
 use Rattle.pg_run.specs.pg_names.Names as names
@@ -29,15 +32,15 @@ use Rattle.pg_run.specs.pg_register.declared.place.Place.{Place}
 use Rattle.pg_run.specs.pg_register.Flag.{is_removed}
 use Rattle.pg_run.specs.pg_replica.declared.link.Link.{Link}
 use Rattle.pg_run.specs.pg_replica.declared.replica.Replica.{Replica}
-use Rattle.pg_run.specs.pg_replica.Replica.{covered_heads, has_edge, key_of, keys as head_keys, new_replica, own_actor, with_ack, with_head, with_link, with_touch, with_unlink, with_write, without_keys}
-use Rattle.pg_run.specs.pg_replica.Replicas.{ByFile, put_replica, replica_in, replicas_acked, replicas_linked, replicas_taking, replicas_touched, replicas_unlinked, replicas_writing}
+use Rattle.pg_run.specs.pg_replica.Replica.{covered_heads, has_edge, key_of, keys as head_keys, new_replica, own_actor, with_ack, with_head, with_kept, with_link, with_touch, with_unlink, with_write, without_keys}
+use Rattle.pg_run.specs.pg_replica.Replicas.{ByFile, put_replica, replica_in, replicas_acked, replicas_keeping, replicas_linked, replicas_taking, replicas_touched, replicas_unlinked, replicas_writing}
 use Rattle.pg_run.proofs.pg_replica.Going.{replica_behind}
 use Rattle.pg_run.specs.pg_store.declared.store.Store.{Store}
 use Rattle.pg_run.specs.pg_store.declared.wishes.Wish.{Wish}
 use Rattle.pg_run.specs.pg_store.Beginning.{begin, let_go, patches_of, put_new, take_patch, take_patches, take_told, take_told_in, with_intents}
 use Rattle.pg_run.specs.pg_store.Births.{wish_at, with_birth, with_wish, with_wishes}
 use Rattle.pg_run.specs.pg_store.Links.{is_linked, is_new_link, keys, link, put_link, unlink}
-use Rattle.pg_run.specs.pg_store.Store.{acknowledge, is_new_version, is_newer_entry, is_newer_flag, is_newer_place, put_entry, put_flag, put_place, put_version, replica_at, take_entry, take_flag, take_place, take_version, touch, with_names, write}
+use Rattle.pg_run.specs.pg_store.Store.{acknowledge, is_new_version, is_newer_entry, is_newer_flag, is_newer_place, keep_delta, put_entry, put_flag, put_place, put_version, replica_at, take_entry, take_flag, take_place, take_version, touch, with_names, write}
 use Rattle.pg_run.specs.pg_store.Wishes.{aim_wish, aimed, aimed_at, wish_in, without_wish}
 use Rattle.pg_run.proofs.pg_store.Aiming.{aim_found}
 use Rattle.pg_run.proofs.pg_store.Given.{left_by}
@@ -168,6 +171,15 @@ module _ (n s : ℕ) (R : List ℕ) where
   seen_ack a file l q tag k =
       seen_by a (acknowledge a file l q tag) refl refl refl refl
       (acked_lead a.replicas file l q tag (replica_at a file) refl k.edges) k
+
+  pub seen_noted : (a : Store) (ns : NotesValue) → IsSeen a → IsSeen (with_notes a ns)
+  seen_noted a ns k = seen_by a (with_notes a ns) refl refl refl refl k.edges k
+
+  pub seen_kept : (a : Store) (file : FileId) (delta : KeptDelta) → IsSeen a → IsSeen (keep_delta a file delta)
+  seen_kept a file delta k =
+      seen_by a (keep_delta a file delta) refl refl refl refl
+      (made_lead a.replicas file (λ o. replicas_keeping a.replicas file delta o) (λ x. with_kept x delta) (replica_at a file)
+      refl refl (λ x. refl) (λ x h. h) k.edges) k
 
   -- ---- edges
 

@@ -1,5 +1,3 @@
-pub mod Settled
-pub mod Gone
 pub mod Lines
-pub mod Journals
-pub mod Showing
+pub mod Asking
+pub mod Dispatch

@@ -4,7 +4,7 @@ use Rattle.pg_sched.specs.declared.line.Line.{Line}
 use Rattle.law_printable.specs.pg_run.Run.{World, run_from, start}
 use Rattle.pg_world.proofs.Standing.{run_from-append}
 use Rattle.pangaea.specs.Laws.{LinesAreEvents}
-use Rattle.pangaea.specs.Settling.{after_line, after_lines, all_events, events_of}
+use Rattle.pg_replay.specs.Settling.{after_line, after_lines, all_events, events_of}
 
 -- the world behind lines is that of their events
 lines_from : (n : ℕ) (w : World) (lines : List Line) → after_lines n w lines ≡ run_from n w (all_events n w lines)

@@ -2,7 +2,7 @@
 use Rattle.std.specs.Prelude.{ℕ, ◌≡◌, List}
 use Rattle.pg_sched.specs.declared.line.Line.{Line}
 use Rattle.law_printable.specs.pg_run.Run.{start, run}
-use Rattle.pangaea.specs.Settling.{after_lines, all_events}
+use Rattle.pg_replay.specs.Settling.{after_lines, all_events}
 
 -- behind any lines of a schedule the world is that of the run of their events, with those of each
 -- settling among them

@@ -1,13 +1,15 @@
 -- What the program writes of an input, and when it ends how.
-use Rattle.std.specs.Prelude.{ℕ, ◌≡◌, ◌≤◌, ◌<◌, List, Vec, String, Option, Some, IfSome, vec_len, length, codes, slice_get, take, IsSomeAnd}
-use Rattle.std.specs.String.{string_bytes}
-use Rattle.std.specs.Global.{Global}
+use Rattle.std.specs.Prelude.{ℕ, ◌≡◌, ◌≤◌, ◌<◌, Bool, List, [], true, false, Option, Some, IfSome, length, take}
 use Rattle.std.specs.Io.KnownBytes.{Appends}
 use Rattle.pg_sched.specs.declared.line.Line.{Line}
 use Rattle.pg_sched.specs.Schedule.{spelling, IsCount, AreLines}
-use Rattle.pangaea.specs.declared.command.TheConstants.{LIMIT}
-use Rattle.pg_trace.specs.JournalLine.{ArePrinted}
-use Rattle.pangaea.specs.Text.{journal_of, text_of}
+use Rattle.pangaea.specs.declared.replay.TheConstants.{LIMIT}
+use Rattle.pangaea.specs.declared.grammar.Command.{Command}
+use Rattle.pangaea.specs.declared.grammar.Command.TheVariants.{Replay, Make, Soak}
+use Rattle.pg_make.specs.Made.{made_text}
+use Rattle.pg_meter.specs.declared.meter.Reading.{Reading}
+use Rattle.pg_replay.specs.Soaking.{soak_text}
+use Rattle.pg_replay.specs.Text.{IsTextOf}
 
 -- the most bytes that an input may have. A clause of `run` says which number it is
 abbrev pub most_input : ℕ
@@ -16,20 +18,11 @@ most_input = LIMIT
 abbrev pub IsTooLong : List ℕ → Type 0
 IsTooLong input = most_input < length input
 
--- the input spells a schedule, each line of the journal of the schedule's run is a line of a journal, and P
--- holds of the text of that journal
-pub record IsTextOf (input : List ℕ) (P : List ℕ → Type 0) : Type 0 where
-  pub servers : ℕ
-  pub lines : List Line
-  pub count : IsCount servers
-  pub each : AreLines lines
-  pub whole : input ≡ spelling servers lines
-  pub printed : ArePrinted (journal_of servers lines)
-  pub written : P (text_of servers lines)
-
 -- a known input spells a schedule, and exactly the text of its run stands behind what the sink held
-abbrev pub WritesAll : Option (List ℕ) → Option (List ℕ) → Option (List ℕ) → Type 0
-WritesAll input before after = IfSome input (λ bytes. IsTextOf bytes (Appends before after))
+abbrev pub WritesAll : List Reading → Option (List ℕ) → Option (List ℕ) → Option (List ℕ)
+    → Type 0
+WritesAll meters input before after =
+    IfSome input (λ bytes. IsTextOf meters bytes (Appends before after))
 
 -- of that text a prefix that is not the whole
 abbrev pub AppendsPrefix : Option (List ℕ) → Option (List ℕ) → List ℕ → Type 0
@@ -37,9 +30,10 @@ AppendsPrefix before after text =
     (n : ℕ) × (n < length text) × Appends before after (take n text)
 
 -- the same of a prefix of that text
-abbrev pub WritesPrefix : Option (List ℕ) → Option (List ℕ) → Option (List ℕ) → Type 0
-WritesPrefix input before after =
-    IfSome input (λ bytes. IsTextOf bytes (AppendsPrefix before after))
+abbrev pub WritesPrefix : List Reading → Option (List ℕ) → Option (List ℕ) → Option (List ℕ)
+    → Type 0
+WritesPrefix meters input before after =
+    IfSome input (λ bytes. IsTextOf meters bytes (AppendsPrefix before after))
 
 -- the input is known, spells a schedule, and is not too long
 pub record IsGoodInput (input : Option (List ℕ)) : Type 0 where
@@ -50,15 +44,29 @@ pub record IsGoodInput (input : Option (List ℕ)) : Type 0 where
   pub whole : input ≡ Some (spelling servers lines)
   pub short : length (spelling servers lines) ≤ most_input
 
-abbrev pub Words : Type 0
-Words = Vec (String Global) Global
+-- ---- each command
 
--- the word behind the program's name is `replay`
-abbrev pub FirstIsReplay : Words → Type 0
-FirstIsReplay words =
-    IsSomeAnd (slice_get words.items 1) (λ word. string_bytes word ≡ codes "replay")
+-- the meters that are handed in, where a replay has some
+abbrev pub handed : Bool → List Reading → List Reading
+handed true meters = meters
+handed false meters = []
 
--- and there is no further word
-pub record AreGoodWords (words : Words) : Type 0 where
-  pub first : FirstIsReplay words
-  pub no_more : vec_len words ≤ 2
+-- what is behind what the sink held, when the command is done
+abbrev pub Writes : Command → List Reading → Option (List ℕ) → Option (List ℕ) → Option (List ℕ)
+    → Type 0
+Writes (Replay metered) meters input before after =
+    WritesAll (handed metered meters) input before after
+Writes (Make numbers) meters input before after =
+    Appends before after (made_text numbers.seed numbers.servers numbers.events)
+Writes (Soak numbers) meters input before after =
+    Appends before after (soak_text numbers.seed numbers.servers numbers.events)
+
+-- a prefix of that
+abbrev pub WritesFront : Command → List Reading → Option (List ℕ) → Option (List ℕ)
+    → Option (List ℕ) → Type 0
+WritesFront (Replay metered) meters input before after =
+    WritesPrefix (handed metered meters) input before after
+WritesFront (Make numbers) meters input before after =
+    AppendsPrefix before after (made_text numbers.seed numbers.servers numbers.events)
+WritesFront (Soak numbers) meters input before after =
+    AppendsPrefix before after (soak_text numbers.seed numbers.servers numbers.events)

@@ -1,99 +1,164 @@
 //! The program's commands.
 
-ghost use Rattle.std.specs.Prelude.{◌≡◌, ◌≢◌, ◌<◌, ◌≤◌, ◌^◌, ◌↔◌, ◌⊎◌, ℕ, List, IfSome, Some, IsTrue, length, vec_len};
+ghost use Rattle.std.specs.Prelude.{◌≡◌, ◌≢◌, ◌<◌, ◌≤◌, ◌^◌, ◌↔◌, ◌⊎◌, ℕ, List, IfSome, Some, length, map};
 ghost use Rattle.std.specs.Io.KnownBytes.{IsAtEnd};
 ghost use Rattle.pg_io.specs.Causes.{Rose};
 ghost use Rattle.pg_sched.specs.Schedule.{IsFirstBad};
 ghost use Rattle.pg_call.specs.declared.fault.Fault.{Fault};
 ghost use Rattle.law_all.specs.Laws.{LawsOfRuns};
+ghost use Rattle.law_all.specs.law_determined.Determined.{NamesAreDetermined};
+ghost use Rattle.law_all.specs.law_lists.Laws.{RemovalsStay, ReturnsList};
 ghost use Rattle.law_all.specs.law_places.Laws.{OnePlaceAStamp};
+ghost use Rattle.law_all.specs.law_refused.Refusals.{RefusalsChangeNothing};
 ghost use Rattle.law_all.specs.law_repair.Kept.{KeptDirectoriesAreBroughtBack, KeptNamesFormATree, KeptServersAgree, KeptThingsAreConnected, KeptThingsAreListedOnlyWhereTheyStand};
+ghost use Rattle.law_all.specs.law_rests.Rests.{NoneIsUnderWayToRemoved, RemovedServersRest};
+ghost use Rattle.law_all.specs.law_stamps.Stamps.{OneStampEach};
 ghost use Rattle.law_printable.specs.pg_run.Acknowledged.{AcknowledgedKeysAreHad};
 ghost use Rattle.law_printable.specs.pg_run.Births.{BirthsAreAlone, BirthsAreKnown, BirthsAreOfOneThing, GreaterBirthsReplaceEdges, LinksNameTheSender};
 ghost use Rattle.law_printable.specs.pg_run.Came.{TakesWhatCame};
 ghost use Rattle.law_printable.specs.pg_run.Going.{EachPeerIsTold};
 ghost use Rattle.law_printable.specs.pg_run.Golds.{FullReplicasSeeGold, ReplicasNameGolds};
+ghost use Rattle.law_printable.specs.pg_run.Bodies.{BodiesAnswerWants, FirstHarbingersAsk, OneIsAskedAtATime};
+ghost use Rattle.law_printable.specs.pg_run.Deltas.{KeepsWhatItMadeOrTook, WantsGetTheShortestChange};
 ghost use Rattle.law_printable.specs.pg_run.Histories.{AncestryByVectors, CarriesHistory, ClockEndsFirst, MakesHistories, OneVersionAStamp, StateIsDetermined, StateIsItsHeads};
 ghost use Rattle.law_printable.specs.pg_run.Intending.{IntentionsAreInOrder};
 ghost use Rattle.law_printable.specs.pg_run.Laws.{HoldsWhatItTook, HouseIsInOrder, NamesMerge, QuietDirectoriesAreBroughtBack, QuietIsTold, QuietJoinedServersAgree, QuietNamesFormATree, QuietServersAgree, QuietThingsAreListedOnlyWhereTheyStand, ReturnsAreJustified};
 ghost use Rattle.law_printable.specs.pg_run.Leaving.{ByesAreOver, DropsAreSafe, HeardEdgesAreKnown, WhatWentIsOver};
 ghost use Rattle.law_printable.specs.pg_run.Ticks.{TicksSendWhatIsOwed};
 ghost use Rattle.law_printable.specs.pg_run.Views.{MessagesAreOfViews, ViewsArePrefixes};
+ghost use Rattle.law_shows.specs.Shows.{ShowsAreStates};
 ghost use Rattle.pangaea.specs.Ending.{EndsOnly, FirstBadIs};
 ghost use Rattle.pangaea.specs.Laws.{LinesAreEvents};
-ghost use Rattle.pangaea.specs.Written.{AreGoodWords, FirstIsReplay, IsGoodInput, IsTooLong, WritesAll, WritesPrefix, most_input};
+ghost use Rattle.pangaea.specs.Written.{IsGoodInput, IsTooLong, Writes, WritesFront, handed, most_input};
+ghost use Rattle.pangaea.specs.Words.{Asks, AsksForReplay, IsCommand, IsFault, IsReplay};
+ghost use Rattle.pangaea.specs.declared.grammar.Command.{Command};
+ghost use Rattle.pangaea.specs.declared.grammar.Numbers.{Numbers};
+ghost use Rattle.pg_meter.specs.Note.{reading};
+ghost use Rattle.pg_replay.specs.Apart.{JournalsAreAlike};
 
-use crate::journal::journal_of;
+use crate::grammar::{Command, command_of};
 use crate::laws::lines_are_events;
+use crate::make::make;
+use crate::replay::replay;
+use crate::soak::soak;
 use law_all::laws_of_runs;
+use law_shows::shows_are_states;
 use pg_event::Status;
-use pg_io::{ReadAllError, Sink, Source, read_all, write_all};
-use pg_sched::{ReadError, read};
+use pg_io::{Sink, Source};
+use pg_meter::Meter;
+use pg_replay::journals_are_alike;
 use std::alloc::Global;
 
-/// The most bytes that an input may have.
-pub const LIMIT: usize = 1 << 26;
+/// The meters that are handed in, where a replay has some; else none.
+fn handed(alloc: Global, metered: bool, meters: Vec<Box<dyn Meter>>) -> Vec<Box<dyn Meter>>
+    ensures { map (λ m. reading (counts m) (counted m)) result.items
+        ≡ handed metered (map (λ m. reading (counts m) (counted m)) meters.items) }
+{
+    if metered { meters } else { Vec::new(alloc) }
+}
 
-/// Reads a schedule and writes the journal of its run. Nothing is written, and no line is found
-/// bad, before the whole input was read.
-pub fn replay<S: Source, K: Sink>(alloc: Global, source: &mut S, sink: &mut K) -> Status
-    // What is written: the spelling of the lines of the run, each of them a line of a journal; so it
-    // is read again.
+/// Does what a command says.
+fn obey<S: Source, K: Sink>(
+    alloc: Global,
+    command: Command,
+    source: &mut S,
+    sink: &mut K,
+    meters: Vec<Box<dyn Meter>>,
+) -> Status
+    requires { IsCommand command }
     ensures done { result ≡ Status.Done
-        → WritesAll (S.remaining source.old) (K.contents sink.old) (K.contents sink.new) }
-    ensures whole { result ≡ Status.Done → IsAtEnd (S.remaining source.new) }
-    ensures whole_first { result ≡ Status.WriteFault → IsAtEnd (S.remaining source.new) }
+        → Writes command (map (λ m. reading (counts m) (counted m)) meters.items)
+        (S.remaining source.old) (K.contents sink.old) (K.contents sink.new) }
+    ensures whole { IsReplay command → result ≡ Status.Done → IsAtEnd (S.remaining source.new) }
+    ensures whole_first { IsReplay command → result ≡ Status.WriteFault
+        → IsAtEnd (S.remaining source.new) }
     ensures prefix { result ≡ Status.WriteFault
-        → WritesPrefix (S.remaining source.old) (K.contents sink.old) (K.contents sink.new) }
+        → WritesFront command (map (λ m. reading (counts m) (counted m)) meters.items)
+        (S.remaining source.old) (K.contents sink.old) (K.contents sink.new) }
+    ensures unread { ¬ (IsReplay command) → source.new ≡ source.old }
     ensures untouched { result ≢ Status.Done → result ≢ Status.WriteFault → sink.new ≡ sink.old }
-
-    // And what holds of every run: all laws of runs.
-    ensures laws { (servers : ℕ) → LawsOfRuns servers }
-
-    // When it ends how.
+    ensures usage { (n : ℕ) → result ≢ Status.Usage n }
     ensures read { result ≡ Status.ReadFault → Rose (S.faults source.old) (S.faults source.new) }
     ensures write { result ≡ Status.WriteFault → Rose (K.faults sink.old) (K.faults sink.new) }
-    ensures limit { most_input ≡ 2 ^ 26 }
     ensures long { result ≡ Status.InputLong → IfSome (S.remaining source.old) IsTooLong }
-    ensures short { (input : List ℕ) → S.remaining source.old ≡ Some input → IsTooLong input
+    ensures short { (input : List ℕ) → IsReplay command → S.remaining source.old ≡ Some input
+        → IsTooLong input
         → ¬ (Rose (S.faults source.old) (S.faults source.new))
         → EndsOnly result Status.InputLong }
     ensures bad { (n : ℕ) (f : Fault) → result ≡ Status.BadLine n f
         → FirstBadIs (S.remaining source.old) n f }
     ensures whole_bad { (n : ℕ) (f : Fault) → result ≡ Status.BadLine n f
         → IsAtEnd (S.remaining source.new) }
-    ensures first_bad { (input : List ℕ) (n : ℕ) (f : Fault) → S.remaining source.old ≡ Some input
-        → length input ≤ most_input → IsFirstBad input n f
+    ensures first_bad { (input : List ℕ) (n : ℕ) (f : Fault) → IsReplay command
+        → S.remaining source.old ≡ Some input → length input ≤ most_input → IsFirstBad input n f
         → ¬ (Rose (S.faults source.old) (S.faults source.new))
         → EndsOnly result (Status.BadLine n f) }
-    ensures usage { (n : ℕ) → result ≢ Status.Usage n }
-    ensures complete { IsGoodInput (S.remaining source.old)
+    ensures complete { IsReplay command → IsGoodInput (S.remaining source.old)
         → ¬ (Rose (S.faults source.old) (S.faults source.new))
         → ¬ (Rose (K.faults sink.old) (K.faults sink.new))
         → EndsOnly result Status.Done }
+    ensures complete_made { ¬ (IsReplay command) → ¬ (Rose (K.faults sink.old) (K.faults sink.new))
+        → EndsOnly result Status.Done }
 {
-    laws_of_runs();
-    let input = match read_all(alloc, source, LIMIT) {
-        Ok(input) => input,
-        Err(error) => match error {
-            ReadAllError::Fault => return Status::ReadFault,
-            ReadAllError::Long => return Status::InputLong,
-            ReadAllError::OutOfMemory => return Status::OutOfMemory,
-        },
-    };
-    let schedule = match read(alloc, &input) {
-        Ok(schedule) => schedule,
-        Err(error) => match error {
-            ReadError::BadLine(number, fault) => return Status::BadLine(number, fault),
-            ReadError::OutOfMemory => return Status::OutOfMemory,
-        },
-    };
-    let Ok(text) = journal_of(alloc, &schedule) else {
-        return Status::OutOfMemory;
-    };
-    match write_all(sink, text.as_slice()) {
-        Ok(()) => Status::Done,
-        Err(_) => Status::WriteFault,
+    match command {
+        Command::Replay { metered } => {
+            let meters = handed(alloc, metered, meters);
+            replay(alloc, source, sink, meters)
+        }
+        Command::Make(n) => make(alloc, n.seed, n.servers, n.events, sink, meters),
+        Command::Soak(n) => soak(alloc, n.seed, n.servers, n.events, sink, meters),
+    }
+}
+
+/// Does what the words ask for, or says which of them is at fault.
+fn dispatch<S: Source, K: Sink>(
+    alloc: Global,
+    words: &Vec<String>,
+    source: &mut S,
+    sink: &mut K,
+    meters: Vec<Box<dyn Meter>>,
+) -> Status
+    ensures done { (command : Command) → Asks words.now command → result ≡ Status.Done
+        → Writes command (map (λ m. reading (counts m) (counted m)) meters.items)
+        (S.remaining source.old) (K.contents sink.old) (K.contents sink.new) }
+    ensures whole { AsksForReplay words.now → result ≡ Status.Done
+        → IsAtEnd (S.remaining source.new) }
+    ensures whole_first { AsksForReplay words.now → result ≡ Status.WriteFault
+        → IsAtEnd (S.remaining source.new) }
+    ensures prefix { (command : Command) → Asks words.now command → result ≡ Status.WriteFault
+        → WritesFront command (map (λ m. reading (counts m) (counted m)) meters.items)
+        (S.remaining source.old) (K.contents sink.old) (K.contents sink.new) }
+    ensures unread { ¬ (AsksForReplay words.now) → source.new ≡ source.old }
+    ensures untouched { result ≢ Status.Done → result ≢ Status.WriteFault → sink.new ≡ sink.old }
+    ensures usage { (n : ℕ) → result ≡ Status.Usage n ↔ IsFault words.now n }
+    ensures read { result ≡ Status.ReadFault → Rose (S.faults source.old) (S.faults source.new) }
+    ensures write { result ≡ Status.WriteFault → Rose (K.faults sink.old) (K.faults sink.new) }
+    ensures limit { most_input ≡ 2 ^ 26 }
+    ensures long { result ≡ Status.InputLong → IfSome (S.remaining source.old) IsTooLong }
+    ensures short { (input : List ℕ) → AsksForReplay words.now → S.remaining source.old ≡ Some input
+        → IsTooLong input
+        → ¬ (Rose (S.faults source.old) (S.faults source.new))
+        → EndsOnly result Status.InputLong }
+    ensures bad { (n : ℕ) (f : Fault) → result ≡ Status.BadLine n f
+        → FirstBadIs (S.remaining source.old) n f }
+    ensures whole_bad { (n : ℕ) (f : Fault) → result ≡ Status.BadLine n f
+        → IsAtEnd (S.remaining source.new) }
+    ensures first_bad { (input : List ℕ) (n : ℕ) (f : Fault) → AsksForReplay words.now
+        → S.remaining source.old ≡ Some input → length input ≤ most_input → IsFirstBad input n f
+        → ¬ (Rose (S.faults source.old) (S.faults source.new))
+        → EndsOnly result (Status.BadLine n f) }
+    ensures complete { AsksForReplay words.now → IsGoodInput (S.remaining source.old)
+        → ¬ (Rose (S.faults source.old) (S.faults source.new))
+        → ¬ (Rose (K.faults sink.old) (K.faults sink.new))
+        → EndsOnly result Status.Done }
+    ensures complete_made { (numbers : Numbers)
+        → Asks words.now (Command.Make numbers) ⊎ Asks words.now (Command.Soak numbers)
+        → ¬ (Rose (K.faults sink.old) (K.faults sink.new))
+        → EndsOnly result Status.Done }
+{
+    match command_of(words) {
+        Ok(command) => obey(alloc, command, source, sink, meters),
+        Err(word) => Status::Usage(word),
     }
 }
 
@@ -103,33 +168,55 @@ pub fn run<S: Source, K: Sink>(
     words: &Vec<String>,
     source: &mut S,
     sink: &mut K,
+    meters: Vec<Box<dyn Meter>>,
 ) -> Status
-    // What is written: the spelling of the lines of the run, each of them a line of a journal; so it
-    // is read again.
-    ensures done { result ≡ Status.Done
-        → WritesAll (S.remaining source.old) (K.contents sink.old) (K.contents sink.new) }
-    ensures whole { result ≡ Status.Done → IsAtEnd (S.remaining source.new) }
-    ensures whole_first { result ≡ Status.WriteFault → IsAtEnd (S.remaining source.new) }
-    ensures prefix { result ≡ Status.WriteFault
-        → WritesPrefix (S.remaining source.old) (K.contents sink.old) (K.contents sink.new) }
+    // What is written: of a schedule that is read the spelling of the lines of its run, each of them a
+    // line of a journal; so it is read again. Of made schedules their text, and what came of their run.
+    ensures done { (command : Command) → Asks words.now command → result ≡ Status.Done
+        → Writes command (map (λ m. reading (counts m) (counted m)) meters.items)
+        (S.remaining source.old) (K.contents sink.old) (K.contents sink.new) }
+    ensures whole { AsksForReplay words.now → result ≡ Status.Done
+        → IsAtEnd (S.remaining source.new) }
+    ensures whole_first { AsksForReplay words.now → result ≡ Status.WriteFault
+        → IsAtEnd (S.remaining source.new) }
+    ensures prefix { (command : Command) → Asks words.now command → result ≡ Status.WriteFault
+        → WritesFront command (map (λ m. reading (counts m) (counted m)) meters.items)
+        (S.remaining source.old) (K.contents sink.old) (K.contents sink.new) }
+    ensures unread { ¬ (AsksForReplay words.now) → source.new ≡ source.old }
     ensures untouched { result ≢ Status.Done → result ≢ Status.WriteFault → sink.new ≡ sink.old }
 
+    // Meters change nothing of a journal but their own lines, and which lines are void for want of one.
+    ensures alike { (servers : ℕ) → JournalsAreAlike servers }
+
     // What each server took is what it made, what was delivered to it, and what was there from the start
-    // on. What it holds is the state of exactly that: contents, and names.
+    // on. What it holds is the state of exactly that: contents, and names. And so is what it shows.
     ensures took { (servers : ℕ) → TakesWhatCame servers }
     ensures merge { (servers : ℕ) → servers < 2 ^ 32 → HoldsWhatItTook servers }
     ensures names { (servers : ℕ) → servers < 2 ^ 32 → NamesMerge servers }
+    ensures shows { (servers : ℕ) → servers < 2 ^ 32 → ShowsAreStates servers }
     ensures heads { (servers : ℕ) → servers < 2 ^ 32 → StateIsItsHeads servers }
     ensures determined { (servers : ℕ) → servers < 2 ^ 32 → StateIsDetermined servers }
+    ensures determined_names { (servers : ℕ) → servers < 2 ^ 32 → NamesAreDetermined servers }
 
     // The versions of a file are a history, whose ancestors vectors tell, and which messages carry. Of
-    // one stamp there is one version, and one place of a thing. Clocks end before other numbers do.
+    // one stamp there is one version, and one place of a thing; and no two versions or places that were
+    // made have one. Clocks end before other numbers do.
     ensures histories { (servers : ℕ) → servers < 2 ^ 32 → MakesHistories servers }
     ensures one_version_a_stamp { (servers : ℕ) → servers < 2 ^ 32 → OneVersionAStamp servers }
     ensures one_place { (servers : ℕ) → OnePlaceAStamp servers }
+    ensures one_stamp { (servers : ℕ) → servers < 2 ^ 32 → OneStampEach servers }
     ensures ancestry { (servers : ℕ) → servers < 2 ^ 32 → AncestryByVectors servers }
     ensures carried { (servers : ℕ) → servers < 2 ^ 32 → CarriesHistory servers }
     ensures clock { (servers : ℕ) → servers < 2 ^ 32 → ClockEndsFirst servers }
+    // More than 1,024 bytes of a body go only to who asked for them; one server is asked at a time.
+    // Who hears of a version first asks its sender for all of the body, and tells the peers of all
+    // other edges. A replica keeps the latest of the deltas that it made or took, and a Want is given
+    // the change that these lead to, where one does and is worth it.
+    ensures bodies { (servers : ℕ) → servers < 2 ^ 32 → BodiesAnswerWants servers }
+    ensures one_asked { (servers : ℕ) → servers < 2 ^ 32 → OneIsAskedAtATime servers }
+    ensures first_harbingers { (servers : ℕ) → FirstHarbingersAsk servers }
+    ensures kept_deltas { (servers : ℕ) → servers < 2 ^ 32 → KeepsWhatItMadeOrTook servers }
+    ensures given { (servers : ℕ) → servers < 2 ^ 32 → WantsGetTheShortestChange servers }
 
     // Behind every event names are as the house rules ask, and each server intends what it is to. Each
     // line is events of the run, those of a settling among them. A tick sends what is owed and the walk
@@ -138,11 +225,19 @@ pub fn run<S: Source, K: Sink>(
     ensures events { (servers : ℕ) → LinesAreEvents servers }
     ensures intends { (servers : ℕ) → IntentionsAreInOrder servers }
     ensures owed { (servers : ℕ) → TicksSendWhatIsOwed servers }
+    // A refused call changes nothing, but that what is not here yet is asked for: a wish may be kept, and
+    // its Fetch be sent.
+    ensures refused { (servers : ℕ) → RefusalsChangeNothing servers }
 
     // What a server knows of removals is the first of them, in their order, and never its own; it has no
     // edge to who is removed so. A message is of a view that its sender had, and in which it was live.
     ensures views { (servers : ℕ) → ViewsArePrefixes servers }
     ensures messages_of_views { (servers : ℕ) → MessagesAreOfViews servers }
+
+    // A server that is not live takes nothing more, whatever follows: it stays as it was, and no entry
+    // tells of an effect of it. No message to a removed one is under way.
+    ensures rests { (servers : ℕ) → RemovedServersRest servers }
+    ensures none_to_removed { (servers : ℕ) → NoneIsUnderWayToRemoved servers }
 
     // After every event each full replica sees a live gold. A gold replica names with an edge each other
     // live gold that it sees, or seeks one; any other replica names one, or seeks one.
@@ -192,19 +287,19 @@ pub fn run<S: Source, K: Sink>(
     ensures kept_back { (servers : ℕ) → servers < 2 ^ 32 → KeptDirectoriesAreBroughtBack servers }
 
     // Where a directory comes back, whoever removed it in an earlier event had not heard of the places
-    // that it lists, unless it is removed in the view of who brings the directory back.
+    // that it lists, unless it is removed in the view of who brings the directory back. It lists a child
+    // then; and in the event of an rmdir no rule brings back what was removed.
     ensures justified { (servers : ℕ) → servers < 2 ^ 32 → ReturnsAreJustified servers }
+    ensures returns_list { (servers : ℕ) → servers < 2 ^ 32 → ReturnsList servers }
+    ensures removal_stays { (servers : ℕ) → RemovalsStay servers }
 
     // When it ends how.
-    ensures first_word { result ≡ Status.Usage 1 ↔ ¬ (FirstIsReplay words.now) }
-    ensures second_word { result ≡ Status.Usage 2
-        ↔ (FirstIsReplay words.now × (2 < vec_len words.now)) }
-    ensures usage { (n : ℕ) → result ≡ Status.Usage n → (n ≡ 1) ⊎ (n ≡ 2) }
+    ensures usage { (n : ℕ) → result ≡ Status.Usage n ↔ IsFault words.now n }
     ensures read { result ≡ Status.ReadFault → Rose (S.faults source.old) (S.faults source.new) }
     ensures write { result ≡ Status.WriteFault → Rose (K.faults sink.old) (K.faults sink.new) }
     ensures limit { most_input ≡ 2 ^ 26 }
     ensures long { result ≡ Status.InputLong → IfSome (S.remaining source.old) IsTooLong }
-    ensures short { (input : List ℕ) → AreGoodWords words.now → S.remaining source.old ≡ Some input
+    ensures short { (input : List ℕ) → AsksForReplay words.now → S.remaining source.old ≡ Some input
         → IsTooLong input
         → ¬ (Rose (S.faults source.old) (S.faults source.new))
         → EndsOnly result Status.InputLong }
@@ -212,34 +307,24 @@ pub fn run<S: Source, K: Sink>(
         → FirstBadIs (S.remaining source.old) n f }
     ensures whole_bad { (n : ℕ) (f : Fault) → result ≡ Status.BadLine n f
         → IsAtEnd (S.remaining source.new) }
-    ensures first_bad { (input : List ℕ) (n : ℕ) (f : Fault) → AreGoodWords words.now
+    ensures first_bad { (input : List ℕ) (n : ℕ) (f : Fault) → AsksForReplay words.now
         → S.remaining source.old ≡ Some input → length input ≤ most_input → IsFirstBad input n f
         → ¬ (Rose (S.faults source.old) (S.faults source.new))
         → EndsOnly result (Status.BadLine n f) }
-    ensures complete { AreGoodWords words.now → IsGoodInput (S.remaining source.old)
+    ensures complete { AsksForReplay words.now → IsGoodInput (S.remaining source.old)
         → ¬ (Rose (S.faults source.old) (S.faults source.new))
+        → ¬ (Rose (K.faults sink.old) (K.faults sink.new))
+        → EndsOnly result Status.Done }
+    ensures complete_made { (numbers : Numbers)
+        → Asks words.now (Command.Make numbers) ⊎ Asks words.now (Command.Soak numbers)
         → ¬ (Rose (K.faults sink.old) (K.faults sink.new))
         → EndsOnly result Status.Done }
 {
     // The laws of every run: these calls say what holds, and do nothing.
     laws_of_runs();
     lines_are_events();
+    journals_are_alike();
+    shows_are_states();
 
-    if !is_replay(words) {
-        return Status::Usage(1);
-    }
-    if words.len() > 2 {
-        return Status::Usage(2);
-    }
-    replay(alloc, source, sink)
-}
-
-/// Whether the word behind the program's name is `replay`.
-fn is_replay(words: &Vec<String>) -> bool
-    ensures { IsTrue result ↔ FirstIsReplay words.now }
-{
-    match words.get(1) {
-        Some(word) => word.as_str() == "replay",
-        None => false,
-    }
+    dispatch(alloc, words, source, sink, meters)
 }

@@ -1,5 +1,5 @@
 -- Versions that a server heard of and does not cover.
-use Rattle.std.specs.Prelude.{ℕ, Bool, false, ◌==◌, ◌&&◌, not, nat_le, if◌then◌else◌, List, [], ◌++◌, map, Option, None, Some}
+use Rattle.std.specs.Prelude.{ℕ, Bool, false, ◌==◌, ◌&&◌, not, nat_le, if◌then◌else◌, List, [], ◌∷◌, ◌++◌, map, Option, None, Some}
 use Rattle.std.specs.List.{filter, list_any}
 use Rattle.std.specs.BTreeMap.{is_at, insert_entry}
 use Rattle.std.specs.List.Sorted.{IsStrictlySortedBy}
@@ -41,7 +41,8 @@ abbrev pub is_asked_of : ℕ → Option Announced → Bool
 is_asked_of from None = false
 is_asked_of from (Some n) = n.source == from
 
--- a version of the file whose vector covers the head, and for which somebody else than this server is asked
+-- a version of the file whose vector covers the head, and for which somebody else than this server
+-- is asked
 abbrev pub covers_for_other : FileId → ℕ → Head → NoteKey → Announced → Bool
 covers_for_other file from head k n =
     is_same_file k.file file && (not (n.source == 0) && (not (n.source == from)
@@ -49,6 +50,11 @@ covers_for_other file from head k n =
 
 abbrev pub is_awaited : NotesValue → FileId → ℕ → Head → Bool
 is_awaited notes file from head = list_any (λ e. covers_for_other file from head e.0 e.1) notes
+
+-- the least stamp of those of a file
+abbrev pub first_of : NotesValue → FileId → Option Stamp
+first_of [] file = None
+first_of (e ∷ es) file = if is_same_file e.0.file file then Some e.0.stamp else first_of es file
 
 -- ---- changes
 

@@ -1,7 +1,7 @@
 //! Versions that a server heard of and does not cover.
 
 ghost use Rattle.std.specs.Prelude.{◌≡◌, [], IfOk, OnErr, OnOk, option_copied};
-ghost use Rattle.pg_announced.specs.Announced.{aimed, change_note, covers_for_other, emptied, is_asked_of, is_awaited, is_over, longer, lose_note, new_note, note_at, put_note, released, unasked, without_covered, without_file, without_note};
+ghost use Rattle.pg_announced.specs.Announced.{aimed, change_note, covers_for_other, emptied, first_of, is_asked_of, is_awaited, is_over, longer, lose_note, new_note, note_at, put_note, released, unasked, without_covered, without_file, without_note};
 
 use pg_base::{Bytes, FileId, Head, NodeId, Shared, Stamp};
 use pg_content::Content;
@@ -113,8 +113,8 @@ impl Announcements {
         }
     }
 
-    /// Whether a version of the file is noted that covers the head, and somebody else than `from` is
-    /// asked for it.
+    /// Whether a version of the file is noted that covers the head, and somebody else than `from`
+    /// is asked for it.
     pub fn is_awaited(&self, file: &FileId, from: NodeId, head: &Head) -> bool
         ensures { result ≡ is_awaited self.now file.now from head.now }
     {
@@ -124,6 +124,18 @@ impl Announcements {
             }
         }
         false
+    }
+
+    /// The least stamp of a version of the file that is noted, if one is.
+    pub fn first_of(&self, file: &FileId) -> Option<Stamp>
+        ensures { result ≡ first_of self.now file.now }
+    {
+        for (key, _) in self.by_version.iter() {
+            if key.file == *file {
+                return Some(key.stamp);
+            }
+        }
+        None
     }
 
     /// The note of the version is `note` from now on.
@@ -143,8 +155,8 @@ impl Announcements {
         self.by_version.remove(key)
     }
 
-    /// A further harbinger of the version came: if the version is noted, its sender is asked from now
-    /// on.
+    /// A further harbinger of the version came: if the version is noted, its sender is asked from
+    /// now on.
     pub fn aim(&mut self, key: &NoteKey, source: NodeId, tag: u64)
         ensures { self.new ≡ change_note (aimed source tag) self.old key.now }
     {

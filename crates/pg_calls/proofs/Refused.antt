@@ -3,6 +3,8 @@ use Rattle.std.proofs.Common.{ℕ, ◌≡◌, ◌==◌, ◌∙◌, ◌⊎◌, Bo
 use Rattle.std.proofs.lemmas.Bool.{false≢true}
 use Rattle.pg_base.specs.declared.id.FileId.{FileId}
 use Rattle.pg_base.specs.declared.id.Kind.TheVariants.{Dir, File}
+use Rattle.pg_base.specs.declared.stamp.Stamp.{Stamp}
+use Rattle.pg_announced.specs.Announced.{first_of}
 use Rattle.pg_patch.specs.Ranges.{RangesValue, cut_to, written}
 use Rattle.pg_register.specs.declared.flag.Flag.{Flag}
 use Rattle.pg_replica.specs.Replica.{has_many_actors, is_too_long}
@@ -11,7 +13,7 @@ use Rattle.pg_msg.specs.declared.work.Work.{Work}
 use Rattle.pg_call.specs.declared.call.Call.{Call}
 use Rattle.pg_call.specs.declared.call.Call.TheVariants as call
 use Rattle.pg_call.specs.declared.refusal.Refusal.{Refusal}
-use Rattle.pg_call.specs.declared.refusal.Refusal.TheVariants.{ManyActors, NotYet, TooLong}
+use Rattle.pg_call.specs.declared.refusal.Refusal.TheVariants.{Behind, ManyActors, NotYet, TooLong}
 use Rattle.pg_call.specs.declared.reply.Reply.{Reply}
 use Rattle.pg_call.specs.declared.reply.Reply.TheVariants as reply
 use Rattle.pg_house.proofs.Truths.{chosen}
@@ -32,6 +34,7 @@ use Rattle.pg_calls.specs.Demoting.{demoted_at}
 use Rattle.pg_calls.specs.Dropping.{clean_gold, dropped_at, leaving}
 use Rattle.pg_calls.specs.Forgetting.{lost_at}
 use Rattle.pg_calls.specs.GivingUp.{removal_at}
+use Rattle.pg_calls.specs.Looks.{freshness}
 use Rattle.pg_calls.specs.Naming.{next_id}
 use Rattle.pg_calls.specs.Refused.{OnlyAsks, RefusedOnlyAsks, SendsFetch}
 use Rattle.pg_calls.proofs.Missing.{IsMissing, demoted_missing, dir_missing, dropped_missing, empty_missing, file_missing, lost_missing, move_missing, name_missing, removal_missing, target_missing}
@@ -146,6 +149,15 @@ module _ (store : Store) (work : Work) (why : Refusal) where
       passes (file_at store text) (change_file store ranges work) (file_missing store text)
       (λ file. passes (when_fit store ranges file) _ (fits ranges file) (λ fit h. absurd (no_refusal _ why h refl)))
 
+  -- a file that lacks a version is not fresh, and nothing is asked for
+  lacks : (o : Option Stamp) → Left store work why (told store work (freshness o))
+  lacks None h = absurd (no_refusal reply.Done why h refl)
+  lacks (Some stamp) h = record {
+    kept = inl refl;
+    sent = inl refl;
+    missing = λ file e. absurd (no_file (Behind stamp) why file (same_refusal (Behind stamp) why h) refl e);
+  }
+
   timed : StopsAt (IsMissing store.names) (in_time store (tt {0}))
   timed = stops_time (IsMissing store.names) store (tt {0})
 
@@ -162,7 +174,7 @@ refused_only_asks store (call.Cut path length) work why = changes store work why
 refused_only_asks store (call.Read path offset count) work why =
     looks store work why (file_at store path) _ (file_missing store path) (λ x h. no_refusal _ why h refl)
 refused_only_asks store (call.Fresh path) work why =
-    looks store work why (file_at store path) _ (file_missing store path) (λ x h. no_refusal _ why h refl)
+    passes store work why (file_at store path) _ (file_missing store path) (λ file. lacks store work why (first_of store.announced file))
 refused_only_asks store (call.Ls path from) work why =
     looks store work why (dir_at store path) _ (dir_missing store path) (λ x h. no_refusal _ why h refl)
 refused_only_asks store (call.Stat target) work why =

@@ -1,6 +1,7 @@
 -- Calls that look: where they go on they change nothing, and the client is told this.
 use Rattle.std.specs.Prelude.{ℕ, ◌-◌, ◌^◌, min, if◌then◌else◌, List, [], length, take, drop, count_by, Option, None, Some}
 use Rattle.pg_base.specs.declared.id.FileId.{FileId}
+use Rattle.pg_base.specs.declared.stamp.Stamp.{Stamp}
 use Rattle.pg_content.specs.Content.{shown_bytes}
 use Rattle.pg_entries.specs.Shown.{listing_of}
 use Rattle.pg_path.specs.declared.row.Row.{Row}
@@ -9,7 +10,9 @@ use Rattle.pg_names.specs.declared.attributes.Attributes.{Attributes}
 use Rattle.pg_names.specs.Names.{InodeValue, is_dir, known, own_or_blank}
 use Rattle.pg_house.specs.Holding.{held_back}
 use Rattle.pg_msg.specs.declared.work.Work.{Work}
+use Rattle.pg_announced.specs.Announced.{first_of}
 use Rattle.pg_call.specs.declared.call.Target.{Target}
+use Rattle.pg_call.specs.declared.refusal.Refusal.TheVariants as refusal
 use Rattle.pg_call.specs.declared.reply.Reply.{Reply}
 use Rattle.pg_call.specs.declared.reply.Reply.TheVariants as reply
 use Rattle.pg_call.specs.declared.reply.Stat.{Stat}
@@ -46,9 +49,14 @@ ls store text from work =
 
 -- ---- one file or directory
 
--- nothing is announced, so every version that was is here
+-- the least of the versions that were announced and are not here, if there is one
+abbrev pub freshness : Option Stamp → Reply
+freshness None = reply.Done
+freshness (Some stamp) = reply.Refused (refusal.Behind stamp)
+
 abbrev pub fresh : Store → List ℕ → Work → Answer
-fresh store text work = replied store work (file_at store text) (λ file. reply.Done)
+fresh store text work = replied store work (file_at store text)
+    (λ file. freshness (first_of store.announced file))
 
 -- the greatest number that a reply has
 abbrev pub at_most : ℕ → ℕ

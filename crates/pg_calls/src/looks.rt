@@ -3,10 +3,10 @@
 ghost use Rattle.std.specs.Prelude.{◌≡◌, IfOk, OnOk, count_by};
 ghost use Rattle.pg_names.specs.Names.{known};
 ghost use Rattle.pg_register.specs.Flag.{is_live};
-ghost use Rattle.pg_calls.specs.Looks.{counts, fresh, head_count, listing, ls, page, rows_from, shown_length, stat, stat_of, status, stop};
+ghost use Rattle.pg_calls.specs.Looks.{counts, fresh, freshness, head_count, listing, ls, page, rows_from, shown_length, stat, stat_of, status, stop};
 
-use pg_base::{FileId, Items, Shared};
-use pg_call::{Counts, Reply, Stat, Target};
+use pg_base::{FileId, Items, Shared, Stamp};
+use pg_call::{Counts, Refusal, Reply, Stat, Target};
 use pg_cells::key_count;
 use pg_checks::{deny, dir_at, file_at, in_time, target_at};
 use pg_house::count_held_back;
@@ -69,7 +69,17 @@ fn rows_from(rows: Items<Row>, from: u32) -> Result<Items<Row>, AllocError>
     Ok(Items::from_vec(page))
 }
 
-/// Whether every version of a file that was announced is here: none is announced before it comes.
+/// Done, where every version of a file that was announced is here; else the least of the others is told.
+fn freshness(first: Option<Stamp>) -> Reply
+    ensures { result ≡ freshness first }
+{
+    match first {
+        Some(stamp) => Reply::Refused(Refusal::Behind(stamp)),
+        None => Reply::Done,
+    }
+}
+
+/// Whether every version of a file that was announced is here.
 #[tactic(auto, using(crate::proofs::Denials::store_is, crate::proofs::Denials::work_is, crate::proofs::Denials::reply_is))]
 pub(crate) fn fresh(store: &mut Store, text: &[u8], work: &mut Work) -> Result<Reply, AllocError>
     ensures store { OnOk result (store.new ≡ (fresh store.old text.now work.old).store) }
@@ -77,7 +87,7 @@ pub(crate) fn fresh(store: &mut Store, text: &[u8], work: &mut Work) -> Result<R
     ensures reply { IfOk result (λ r. r ≡ (fresh store.old text.now work.old).reply) }
 {
     match file_at(store, text) {
-        Ok(_) => Ok(Reply::Done),
+        Ok(file) => Ok(freshness(store.announced.first_of(&file))),
         Err(denied) => Ok(deny(store, denied, work)?),
     }
 }

@@ -1,5 +1,5 @@
 -- Cells as they are sent, along edges on which their keys are unacknowledged.
-use Rattle.std.specs.Prelude.{ℕ, ◌==◌, Bool, true, false, ◌&&◌, ◌||◌, not, if◌then◌else◌, List, [], ◌∷◌, Option, None, Some}
+use Rattle.std.specs.Prelude.{ℕ, ◌==◌, Bool, true, false, ◌&&◌, ◌||◌, not, if◌then◌else◌, nat_lt, List, [], ◌∷◌, Option, None, Some}
 use Rattle.std.specs.List.{filter, flat_map, list_any}
 use Rattle.pg_base.specs.declared.id.FileId.{FileId}
 use Rattle.pg_base.specs.Id.{is_same_file}
@@ -9,6 +9,9 @@ use Rattle.pg_edges.specs.declared.key.Key.TheVariants as key
 use Rattle.pg_edges.specs.Key.{is_same_key}
 use Rattle.pg_edges.specs.Keys.{has_entry}
 use Rattle.pg_entries.specs.declared.cell.Cell.{Cell}
+use Rattle.pg_entries.specs.declared.cell.Cell.TheVariants as cell
+use Rattle.pg_msg.specs.declared.message.Ends.{Ends}
+use Rattle.pg_msg.specs.declared.message.Message.{Message}
 use Rattle.pg_msg.specs.declared.message.Message.TheVariants as message
 use Rattle.pg_msg.specs.declared.message.Sent.{Sent}
 use Rattle.pg_msg.specs.declared.work.Linked.{Linked}
@@ -21,10 +24,16 @@ use Rattle.pg_pieces.specs.Posting.{sent_to}
 
 -- ---- one cell
 
--- a cell under a tag, to the peer of an edge; from a replica of this birth
+-- a version of more than 1,024 bytes is told of by its head alone, all else whole
+abbrev pub told_as : Ends → ℕ → Cell → Message
+told_as ends tag (cell.Version v) = if nat_lt 1024 v.head.length
+    then message.Harbinger ends tag v.head else message.Cell ends tag (cell.Version v)
+told_as ends tag c = message.Cell ends tag c
+
+-- what tells of a cell under a tag, to the peer of an edge; from a replica of this birth
 abbrev pub cell_to : Store → FileId → ℕ → Edge → Cell → ℕ → Sent
 cell_to store file birth e c tag = sent_to store e.peer
-    (message.Cell (record { file = file; sender = birth; receiver = e.birth }) tag c)
+    (told_as (record { file = file; sender = birth; receiver = e.birth }) tag c)
 
 -- the same, where the key has a cell
 abbrev pub cell_under : Store → FileId → ℕ → Edge → ℕ → Option Cell → List Sent

@@ -1,13 +1,13 @@
 //! Cells as they are sent, along edges on which their keys are unacknowledged.
 
-ghost use Rattle.std.specs.Prelude.{◌≡◌, ◌++◌, ◌∷◌, [], OnOk, not};
+ghost use Rattle.std.specs.Prelude.{◌≡◌, ◌++◌, ◌∷◌, [], IfOk, OnOk, not};
 ghost use Rattle.pg_names.specs.Names.{is_dir, own_or_blank};
 ghost use Rattle.pg_store.specs.Store.{replica_at};
 ghost use Rattle.pg_cells.specs.KeyFilter.{ListsChosen, chosen_cells, file_cells, passes};
-ghost use Rattle.pg_cells.specs.Sending.{cell_to, cells_where, edge_cells, is_place, key_cell, replica_cells, waits};
+ghost use Rattle.pg_cells.specs.Sending.{cell_to, cells_where, edge_cells, is_place, key_cell, replica_cells, told_as, waits};
 
 use crate::key_filter::KeyFilter;
-use pg_base::{FileId, Items};
+use pg_base::{FileId, Items, Shared, Version};
 use pg_edges::{Edge, Key};
 use pg_entries::Cell;
 use pg_msg::{Ends, Message, Sent};
@@ -18,8 +18,36 @@ use pg_store::Store;
 use std::alloc::AllocError;
 use std::collections::BTreeMap;
 
-/// Sends a cell under a tag to the peer of an edge, from a replica of this birth.
-fn send_cell(
+/// The most bytes of a body that goes unasked.
+const MOST_UNASKED: u32 = 1_024;
+
+/// What tells of a version under a tag: its head, where it has a long body.
+fn version_as(store: &Store, ends: Ends, tag: u64, version: Version) -> Result<Message, AllocError>
+    ensures { IfOk result (λ message. message ≡ told_as ends tag (Cell.Version version)) }
+{
+    if MOST_UNASKED < version.head().length {
+        let head = Shared::new(store.allocator(), version.head().copy()?)?;
+        return Ok(Message::Harbinger { ends, tag, head });
+    }
+    let cell = Cell::Version(version);
+    Ok(Message::Cell { ends, tag, cell })
+}
+
+/// What tells of a cell under a tag: of a version that has a long body its head.
+fn told_as(store: &Store, ends: Ends, tag: u64, cell: Cell) -> Result<Message, AllocError>
+    ensures { IfOk result (λ message. message ≡ told_as ends tag cell) }
+{
+    let cell = match cell {
+        Cell::Version(version) => return version_as(store, ends, tag, version),
+        Cell::Place(place) => Cell::Place(place),
+        Cell::Flag(flag) => Cell::Flag(flag),
+        Cell::Entry(entry, sure) => Cell::Entry(entry, sure),
+    };
+    Ok(Message::Cell { ends, tag, cell })
+}
+
+/// Tells of a cell under a tag to the peer of an edge, from a replica of this birth.
+fn tell(
     store: &Store,
     file: FileId,
     birth: u64,
@@ -36,7 +64,8 @@ fn send_cell(
         sender: birth,
         receiver: edge.birth,
     };
-    send(store, edge.peer, Message::Cell { ends, tag, cell }, sent)?;
+    let message = told_as(store, ends, tag, cell)?;
+    send(store, edge.peer, message, sent)?;
     Ok(())
 }
 
@@ -80,7 +109,7 @@ fn send_key(
         return Ok(());
     }
     if let Some(cell) = store.cell(file, key)? {
-        send_cell(store, file, birth, edge, cell, tag, sent)?;
+        tell(store, file, birth, edge, cell, tag, sent)?;
     }
     Ok(())
 }

@@ -26,6 +26,7 @@ pub record IsSteady (a : Store) (v : Work) (d : Done) : Type 0 where
   pub replicas : d.store.replicas ≡ a.replicas
   pub servers : d.store.servers ≡ a.servers
   pub tags : d.store.tags ≡ a.tags
+  pub announced : d.store.announced ≡ a.announced
   pub files : d.store.files ≡ a.files
   pub births : a.births ≤ d.store.births
   pub now : d.work.now ≡ v.now
@@ -44,6 +45,7 @@ stays a v = record {
   replicas = refl;
   servers = refl;
   tags = refl;
+  announced = refl;
   files = refl;
   births = omega arith;
   now = refl;
@@ -63,6 +65,7 @@ stays_on one more = record {
   replicas = more.replicas ∙ one.replicas;
   servers = more.servers ∙ one.servers;
   tags = more.tags ∙ one.tags;
+  announced = more.announced ∙ one.announced;
   files = more.files ∙ one.files;
   births = omega (arith, one.births, more.births);
   now = more.now ∙ one.now;
@@ -91,6 +94,7 @@ intends_by s is w k true = record {
   replicas = refl;
   servers = refl;
   tags = refl;
+  announced = refl;
   files = refl;
   births = omega arith;
   now = refl;
@@ -108,6 +112,7 @@ intends_by s is w k false = record {
   replicas = refl;
   servers = refl;
   tags = refl;
+  announced = refl;
   files = refl;
   births = omega arith;
   now = refl;
@@ -131,6 +136,7 @@ ended_stays s is w = record {
   replicas = refl;
   servers = refl;
   tags = refl;
+  announced = refl;
   files = refl;
   births = omega arith;
   now = refl;
@@ -165,6 +171,7 @@ wished_stays s file w None = record {
   replicas = refl;
   servers = refl;
   tags = refl;
+  announced = refl;
   files = refl;
   births = omega arith;
   now = refl;
@@ -182,6 +189,7 @@ wished_stays s file w (Some wish) = record {
   replicas = refl;
   servers = refl;
   tags = refl;
+  announced = refl;
   files = refl;
   births = omega arith;
   now = refl;

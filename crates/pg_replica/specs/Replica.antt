@@ -2,7 +2,6 @@
 -- write and an answer make of it.
 use Rattle.std.specs.Prelude.{ℕ, ◌+◌, ◌==◌, ◌&&◌, Bool, false, if◌then◌else◌, List, [], ◌∷◌, filter, length, map, nat_le, nat_lt, not, Option, None, Some}
 use Rattle.std.specs.List.{list_any}
-use Rattle.pg_base.specs.declared.head.Head.{Head}
 use Rattle.pg_base.specs.declared.stamp.Stamp.{Stamp}
 use Rattle.pg_base.specs.declared.vector.Actor.{Actor}
 use Rattle.pg_base.specs.declared.policy.Policy.{Policy}
@@ -17,7 +16,7 @@ use Rattle.pg_edges.specs.Edges.{acked, edge_to, is_listed, is_none, keys_at, li
 use Rattle.pg_base.specs.Version.{VersionValue, actor_of}
 use Rattle.pg_content.specs.Content.{is_covered, covers_version, actor_limit, body_limit, joined_content, next_vector, shown_bytes, with_heads, written}
 use Rattle.pg_delta.specs.Kept.{with_delta}
-use Rattle.pg_delta.specs.Taking.{delta_to, patched_version, stamps_of}
+use Rattle.pg_delta.specs.Taking.{delta_to, stamps_of}
 use Rattle.pg_delta.specs.declared.delta.KeptDelta.{KeptDelta}
 use Rattle.pg_content.specs.declared.error.WriteError.{WriteError}
 use Rattle.pg_content.specs.declared.error.WriteError.TheVariants.{TooLong, ManyActors}
@@ -62,13 +61,9 @@ with_head x v tags = record x {
   edges = touched (without_keys x.edges (keys (covered_heads x.content.heads v))) (key_of v) tags;
 }
 
--- what the ranges make of what is shown comes as the version of that head, from the heads of these
--- stamps, and is kept as a delta
-abbrev pub with_patched : Replica → Head → List Stamp → RangesValue → ℕ → Replica
-with_patched x head from ranges tags =
-    record (with_head x (patched_version x.content head ranges) tags) {
-      kept = with_delta x.kept (delta_to from head.stamp ranges);
-    }
+-- one more delta is kept
+abbrev pub with_kept : Replica → KeptDelta → Replica
+with_kept x delta = record x { kept = with_delta x.kept delta }
 
 -- a version that is covered changes nothing; any other is a head from then on
 abbrev pub with_version : Replica → VersionValue → ℕ → Replica

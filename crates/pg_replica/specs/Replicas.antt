@@ -9,11 +9,12 @@ use Rattle.pg_base.specs.declared.policy.Policy.TheVariants.{Last}
 use Rattle.pg_base.specs.declared.stamp.Stamp.{Stamp}
 use Rattle.pg_base.specs.Version.{VersionValue}
 use Rattle.pg_patch.specs.Ranges.{RangesValue}
+use Rattle.pg_delta.specs.declared.delta.KeptDelta.{KeptDelta}
 use Rattle.pg_edges.specs.declared.key.Key.{Key}
 use Rattle.pg_edges.specs.Edges.{is_listed, makes_edge}
 use Rattle.pg_replica.specs.declared.link.Link.{Link}
 use Rattle.pg_replica.specs.declared.replica.Replica.{Replica}
-use Rattle.pg_replica.specs.Replica.{covers, has_edge, knows_own_end, new_replica, own_actor, with_ack, with_head, with_link, with_touch, with_unlink, with_write}
+use Rattle.pg_replica.specs.Replica.{covers, has_edge, knows_own_end, new_replica, own_actor, with_ack, with_head, with_kept, with_link, with_touch, with_unlink, with_write}
 
 abbrev pub ByFile : Type 0
 ByFile = List (FileId × Replica)
@@ -107,6 +108,11 @@ abbrev pub replicas_writing :
 replicas_writing replicas file stamp ranges tags None = replicas
 replicas_writing replicas file stamp ranges tags (Some x) =
     put_replica replicas file (with_write x (own_actor x stamp.server) stamp ranges tags)
+
+-- one more delta is kept
+abbrev pub replicas_keeping : ByFile → FileId → KeptDelta → Option Replica → ByFile
+replicas_keeping replicas file delta None = replicas
+replicas_keeping replicas file delta (Some x) = put_replica replicas file (with_kept x delta)
 
 -- an answer comes along an edge
 abbrev pub replicas_acked : ByFile → FileId → Link → Key → ℕ → Option Replica → ByFile

@@ -6,7 +6,7 @@ ghost use Rattle.pg_base.specs.Version.{stamp_of};
 ghost use Rattle.pg_patch.specs.Ranges.{applied};
 ghost use Rattle.pg_content.specs.Content.{actor_limit, body_limit, next_vector, next_version, shown_bytes};
 ghost use Rattle.pg_edges.specs.Edges.{are_clean, drawn, makes_edge, touched};
-ghost use Rattle.pg_replica.specs.Replica.{cell_at, covers, has_edge, has_room, is_clean_to, is_too_long, keys, knows_later, new_replica, own_actor, refusal_of, with_ack_along, with_head, with_link, with_only, with_touch};
+ghost use Rattle.pg_replica.specs.Replica.{cell_at, covers, has_edge, has_room, is_clean_to, is_too_long, keys, knows_later, new_replica, own_actor, refusal_of, with_ack_along, with_head, with_kept, with_link, with_only, with_touch};
 
 use crate::link::Link;
 use crate::retiring::{key_of, retire_all, retire_replaced};
@@ -154,6 +154,15 @@ impl Replica {
         // These are fewer than 2^63, so the tags stay in range.
         let _count = keys.len();
         Ok(self.edges.link(peer, birth, keys, tags)?)
+    }
+
+    /// One more delta is kept, unless it has too many bytes. After a refusal all is as before.
+    pub(crate) fn keep(&mut self, delta: KeptDelta) -> Result<(), AllocError>
+        ensures replica { OnOk result (self.new ≡ with_kept self.old delta) }
+        ensures content { self.new.content ≡ self.old.content }
+        ensures edges { self.new.edges ≡ self.old.edges }
+    {
+        self.kept.keep(delta)
     }
 
     /// The version that the server makes of what the ranges make of what is shown, with all heads as its bases. Nothing

@@ -7,7 +7,7 @@ ghost use Rattle.pg_base.specs.Id.{file_cmp};
 ghost use Rattle.pg_base.specs.Version.{stamp_of};
 ghost use Rattle.pg_edges.specs.Edges.{are_clean};
 ghost use Rattle.pg_replica.specs.Replica.{has_room, refusal_of};
-ghost use Rattle.pg_replica.specs.Replicas.{edge_count, have_own_end, is_own_end_in, lists_peer, or_nothing, put_replica, replica_in, replicas_acked, replicas_linked, replicas_taking, replicas_touched, replicas_unlinked, replicas_writing, takes_link, takes_version, without_replica};
+ghost use Rattle.pg_replica.specs.Replicas.{edge_count, have_own_end, is_own_end_in, lists_peer, or_nothing, put_replica, replica_in, replicas_acked, replicas_keeping, replicas_linked, replicas_taking, replicas_touched, replicas_unlinked, replicas_writing, takes_link, takes_version, without_replica};
 ghost use Rattle.pg_replica.specs.Index.{IsIndex};
 
 use crate::link::Link;
@@ -18,6 +18,7 @@ use crate::numbers::knows_own_end;
 use crate::replica::Replica;
 use pg_base::{FileId, Items, NodeId, Stamp, Version};
 use pg_content::WriteError;
+use pg_delta::KeptDelta;
 use pg_edges::Key;
 use pg_patch::Ranges;
 use std::alloc::{AllocError, Global};
@@ -241,6 +242,17 @@ impl Replicas {
             ranges,
             tags,
         )
+    }
+
+    /// The replica of a file keeps one more delta, if there is one. After out of memory all is as before.
+    pub fn keep_delta(&mut self, file: FileId, delta: KeptDelta) -> Result<(), AllocError>
+        ensures { OnOk result (self.new
+            ≡ replicas_keeping self.old file delta (replica_in self.old file)) }
+    {
+        let Some(replica) = self.by_file.get_mut(&file) else {
+            return Ok(());
+        };
+        replica.keep(delta)
     }
 
     /// An answer that came along an edge takes the key off where the tag is the present one there. The file is listed no

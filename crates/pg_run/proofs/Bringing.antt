@@ -5,6 +5,7 @@ use Rattle.pg_content.specs.Content.{Among}
 use Rattle.pg_store.specs.declared.store.Store.{Store}
 use Rattle.pg_server.specs.declared.input.Input.{Input}
 use Rattle.pg_server.specs.Local.{effect, takes_effect}
+use Rattle.pg_run.specs.Asking.{Asked}
 use Rattle.pg_run.specs.Carried.{gone_in}
 use Rattle.pg_run.specs.Took.{Take, take_of, without_gone}
 use Rattle.pg_run.specs.Passed.{passed, passed_with}
@@ -16,7 +17,7 @@ use Rattle.pg_run.proofs.Gone.{left_within}
 use Rattle.pg_run.proofs.Makes.{is_made_in_parts}
 use Rattle.pg_run.proofs.Striking.{made_brought}
 
-module _ (store : Store) (takes : List Take) (asked : Input) where
+module _ (store : Store) (wants : Asked) (takes : List Take) (asked : Input) where
   abbrev Removed : List ℕ
   Removed = removed_then store asked
 
@@ -25,7 +26,7 @@ module _ (store : Store) (takes : List Take) (asked : Input) where
   Left = without_gone (gone_in store asked) takes
 
   abbrev First : List Take
-  First = brought store asked ++ Left
+  First = brought store wants asked ++ Left
 
   abbrev Behind : List Take
   Behind = map take_of (made_behind store asked)
@@ -37,14 +38,14 @@ module _ (store : Store) (takes : List Take) (asked : Input) where
   Made = map take_of (effect store asked).out.made
 
   abbrev All : List Take
-  All = all_brought store asked
+  All = all_brought store wants asked
 
   made_parts : Made ≡ map take_of (first_made store asked) ++ Behind
   made_parts = ap (map take_of) (is_made_in_parts store asked) ∙ map-append take_of (first_made store asked) (made_behind store asked)
 
   behind_came : (u : Take) → Among u Behind → Among u All
   behind_came u k =
-      among_back u (brought store asked) Made
+      among_back u (brought store wants asked) Made
       (subst (λ (us : List Take). Among u us) (sym made_parts) (among_back u (map take_of (first_made store asked)) Behind k))
 
   -- nothing else is known at the end
@@ -55,8 +56,8 @@ module _ (store : Store) (takes : List Take) (asked : Input) where
       (within_parts Behind (passed Removed First) (All ++ Left)
       (λ u k. told_itself u (All ++ Left) (among_front u All Left (behind_came u k)))
       (within_then (passed Removed First) First (All ++ Left) (passed_within Removed First)
-      (within_parts (brought store asked) Left (All ++ Left)
-      (λ u k. told_itself u (All ++ Left) (among_front u All Left (among_front u (brought store asked) Made k)))
+      (within_parts (brought store wants asked) Left (All ++ Left)
+      (λ u k. told_itself u (All ++ Left) (among_front u All Left (among_front u (brought store wants asked) Made k)))
       (within_back All Left))))
 
   -- and nothing that is left is forgotten
@@ -70,19 +71,19 @@ module _ (store : Store) (takes : List Take) (asked : Input) where
   behind_within u k =
       within_made Removed (made_behind store asked) (passed Removed First) u (among_front u Behind (passed Removed First) k)
 
-  brought_within : Within (brought store asked) End
-  brought_within u k = first_within u (among_front u (brought store asked) Left k)
+  brought_within : Within (brought store wants asked) End
+  brought_within u k = first_within u (among_front u (brought store wants asked) Left k)
 
   came_within : Within All End
   came_within =
-      within_parts (brought store asked) Made End brought_within
+      within_parts (brought store wants asked) Made End brought_within
       (λ u k. elim (among_parts u (map take_of (first_made store asked)) Behind (subst (λ (us : List Take). Among u us) made_parts k)) [
-        | inl first ↦ told_on (brought store asked) End brought_within u (made_brought store asked u first)
+        | inl first ↦ told_on (brought store wants asked) End brought_within u (made_brought store wants asked u first)
         | inr behind ↦ behind_within u behind
       ])
 
   kept_within : Within Left End
-  kept_within u k = first_within u (among_back u (brought store asked) Left k)
+  kept_within u k = first_within u (among_back u (brought store wants asked) Left k)
 
   -- ---- where it takes effect
 

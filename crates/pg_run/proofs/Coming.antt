@@ -52,12 +52,12 @@ module _ (n s : ℕ) where
   abbrev TookBy : World → Option Taking → Step → Type 0
   TookBy w None step = step.took s ≡ w.took s
   TookBy w (Some t) step =
-      ((s ≡ t.server) × (step.took s ≡ took_after (w.stores t.server) (w.took t.server) t.asked))
+      ((s ≡ t.server) × (step.took s ≡ took_after (w.stores t.server) (w.asked t.server) (w.took t.server) t.asked))
       ⊎ ((s ≢ t.server) × (step.took s ≡ w.took s))
 
   by_effect : (w : World) (event : Event) (server : ℕ) (asked : Input)
       → TookBy w (Some (record { server = server; asked = asked })) (effect_step w event server asked)
-  by_effect w event server asked = here w.took server (took_after (w.stores server) (w.took server) asked) s
+  by_effect w event server asked = here w.took server (took_after (w.stores server) (w.asked server) (w.took server) asked) s
 
   by_frame : (w : World) (event : Event) (o : Option Taking) (step : Step) → IsFramed n w event o step → TookBy w o step
   by_frame w event None step f = ap (λ (z : Step). z.took s) f.1
@@ -72,12 +72,12 @@ module _ (n s : ℕ) where
     Told takes = Tells takes u
 
     brings_here : (w : World) (event : Event) (t : Taking) → taking_in n w event ≡ Some t → s ≡ t.server
-        → takes_effect (w.stores t.server) t.asked ≡ true → Told (all_brought (w.stores t.server) t.asked) → Brings n w event s Told
+        → takes_effect (w.stores t.server) t.asked ≡ true → Told (all_brought (w.stores t.server) (w.asked t.server) t.asked) → Brings n w event s Told
     brings_here w event t h same going told = record {
       asked = t.asked;
       takes = h ∙ ap (λ (k : ℕ). Some (record { server = k; asked = t.asked })) (sym same);
       going = subst (λ (k : ℕ). takes_effect (w.stores k) t.asked ≡ true) (sym same) going;
-      holds = subst (λ (k : ℕ). Told (all_brought (w.stores k) t.asked)) (sym same) told;
+      holds = subst (λ (k : ℕ). Told (all_brought (w.stores k) (w.asked k) t.asked)) (sym same) told;
     }
 
     -- ---- it was told before, and the replica stays
@@ -110,7 +110,7 @@ module _ (n s : ℕ) where
     told_by loses w event None step h took told = inl (subst Told took told, none_takes w event h)
     told_by loses w event (Some t) step h took told = elim took [
       | inl at ↦ (
-          let r = told_at (w.stores t.server) (w.took t.server) t.asked u (takes_effect (w.stores t.server) t.asked) refl (subst Told at.1 told) in
+          let r = told_at (w.stores t.server) (w.asked t.server) (w.took t.server) t.asked u (takes_effect (w.stores t.server) t.asked) refl (subst Told at.1 told) in
           elim r [
             | inl old ↦ inl (subst (λ (k : ℕ). Told (w.took k)) (sym at.0) old.0, stays_there loses w event t h old.1)
             | inr new ↦ inr (brings_here w event t h at.0 new.0 new.1)
@@ -144,7 +144,7 @@ module _ (n s : ℕ) where
       | inl at ↦ (
           let there : Told (w.took t.server) = subst (λ (k : ℕ). Told (w.took k)) at.0 told in
           subst Told (sym at.1)
-          (kept_at (w.stores t.server) (w.took t.server) t.asked u (takes_effect (w.stores t.server) t.asked) refl there
+          (kept_at (w.stores t.server) (w.asked t.server) (w.took t.server) t.asked u (takes_effect (w.stores t.server) t.asked) refl there
           (λ going. left_by keeps (w.took t.server) (gone_in (w.stores t.server) t.asked)
           (λ file gone of. stays (leaves_here w event t h at.0 going file gone of)) there)))
       | inr other ↦ subst Told (sym other.1) told
@@ -154,7 +154,7 @@ module _ (n s : ℕ) where
     gained_by w event step took b =
         let took_here : TookBy w (Some (record { server = s; asked = b.asked })) step = subst (λ (o : Option Taking). TookBy w o step) b.takes took in
         elim took_here [
-          | inl at ↦ subst Told (sym at.1) (gained_at (w.stores s) (w.took s) b.asked u (takes_effect (w.stores s) b.asked) b.going b.holds)
+          | inl at ↦ subst Told (sym at.1) (gained_at (w.stores s) (w.asked s) (w.took s) b.asked u (takes_effect (w.stores s) b.asked) b.going b.holds)
           | inr other ↦ absurd (other.0 refl)
         ]
 
@@ -219,7 +219,7 @@ module _ (n s : ℕ) (file : FileId) where
   -- what each brings, said in another way
   module _ (P Q : List Take → Type 0) (so : (takes : List Take) → P takes → Q takes) where
     brings_so : (w : World) (event : Event) → Brings n w event s P → Brings n w event s Q
-    brings_so w event b = record { asked = b.asked; takes = b.takes; going = b.going; holds = so (all_brought (w.stores s) b.asked) b.holds }
+    brings_so w event b = record { asked = b.asked; takes = b.takes; going = b.going; holds = so (all_brought (w.stores s) (w.asked s) b.asked) b.holds }
 
     from_so : (w : World) (events : List Event) → CameFrom n w events s (Is file) P → CameFrom n w events s (Is file) Q
     from_so w [] k = k

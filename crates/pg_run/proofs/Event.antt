@@ -30,7 +30,7 @@ use Rattle.pg_server.proofs.pg_intentions.Steady.{begin_end_stays}
 use Rattle.pg_server.specs.pg_calls.Calls.{do_call}
 use Rattle.pg_server.specs.declared.input.Input.{Input}
 use Rattle.pg_server.specs.declared.input.Input.TheVariants as input
-use Rattle.pg_server.specs.Local.{Effect, done_of, effect, finished, first_effect, intended, is_heard, receive, reply_to, sent_again, settled, takes_effect, without_volatile}
+use Rattle.pg_server.specs.Local.{Effect, done_of, effect, finished, first_effect, intended, is_heard, receive, reply_to, settled, takes_effect, ticked, without_sources, without_volatile}
 use Rattle.theory_flood_pieces.proofs.Choices.{All-flat_map, chosen, decided}
 use Rattle.theory_flood_pieces.proofs.Settling.{settle_sent, settle_tail}
 
@@ -124,21 +124,18 @@ Comes H input.Restart = Unit {0}
 pub record FirstHas (H : Packet → Type 0) (a : Store) (P : Done → Type 0) : Type 0 where
   pub calls : (moment : ℕ) (call : Call) → P (done_of (do_call a call (new_work moment 0)))
   pub ticks : (moment word : ℕ) → is_before_clock_end a ≡ true
-      → P (idle a (sent_again a word (new_work moment 0)))
+      → P (ticked a word (new_work moment 0))
   pub arrivals : (packet : Packet) → is_heard a packet ≡ true → H packet
       → P (receive a packet.message (new_work 0 packet.from))
   pub restarts : P (idle (without_volatile a) (new_work 0 0))
   pub nothing : (moment from : ℕ) → P (idle a (new_work moment from))
 
 module _ (H : Packet → Type 0) (a : Store) (P : Done → Type 0) (k : FirstHas H a P) where
-  tick_has : (moment word : ℕ) (t : Bool) → is_before_clock_end a ≡ t
-      → P (idle a (cond t (sent_again a word (new_work moment 0)) (new_work moment 0)))
-  tick_has moment word true is = k.ticks moment word is
-  tick_has moment word false is = k.nothing moment 0
-
   pub first_has : (asked : Input) → Comes H asked → P (first_effect a asked)
   first_has (input.Call moment call) h = k.calls moment call
-  first_has (input.Tick moment word) h = tick_has moment word (is_before_clock_end a) refl
+  first_has (input.Tick moment word) h =
+      decided P (is_before_clock_end a) (ticked a word (new_work moment 0)) (idle a (new_work moment 0))
+      (λ t. k.ticks moment word t) (λ f. k.nothing moment 0)
   first_has (input.Arrival packet) h =
       decided P (is_heard a packet) (receive a packet.message (new_work 0 packet.from))
       (idle a (new_work 0 packet.from)) (λ t. k.arrivals packet t h) (λ f. k.nothing 0 packet.from)
@@ -163,6 +160,7 @@ pub record IsKeptByParts (H : Packet → Type 0) (P : Store → Type 0) : Type 0
       → P (do_call a call (new_work moment 0)).store
   pub arrivals : (a : Store) (packet : Packet) → is_heard a packet ≡ true → H packet → P a
       → P (receive a packet.message (new_work 0 packet.from)).store
+  pub ticks : (a : Store) → P a → P (without_sources a)
   pub restarts : (a : Store) → P a → P (without_volatile a)
   pub rules : (d : Done) → P d.store → P (settled d).store
   pub intentions : (d : Done) → P d.store → P (intended d).store
@@ -173,7 +171,7 @@ pub store_kept : (H : Packet → Type 0) (P : Store → Type 0) → IsKeptByPart
 store_kept H P k a asked came h =
     let first = first_has H a (λ d. P d.store) (record {
       calls = λ moment call. k.calls a moment call h;
-      ticks = λ moment word going. h;
+      ticks = λ moment word going. k.ticks a h;
       arrivals = λ packet heard is. k.arrivals a packet heard is h;
       restarts = k.restarts a h;
       nothing = λ moment from. h;

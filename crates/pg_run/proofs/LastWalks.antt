@@ -43,14 +43,19 @@ use Rattle.pg_server.specs.pg_calls.GivingUp.{doubt_all, enter_view, removal_at}
 use Rattle.pg_server.specs.pg_graph.Walks.{edges_of, goes_on, is_onward, meet_origin, onward, walk, walk_along, walk_from, walk_of, walk_on, walked, with_few_edges}
 use Rattle.pg_server.specs.pg_intentions.Seeks.{matches}
 use Rattle.pg_server.specs.pg_graph.Leaving.{leave, leave_ok}
+use Rattle.pg_server.specs.pg_transfer.Delta.{delta}
+use Rattle.pg_server.specs.pg_transfer.Harbinger.{harbinger}
+use Rattle.pg_server.specs.pg_transfer.Later.{later}
+use Rattle.pg_server.specs.pg_transfer.Piece.{piece}
+use Rattle.pg_server.specs.pg_transfer.Want.{want}
 use Rattle.pg_server.specs.declared.input.Input.{Input}
 use Rattle.pg_server.specs.declared.input.Input.TheVariants as input
-use Rattle.pg_server.specs.Local.{first_effect, is_heard, receive, sent_again}
+use Rattle.pg_server.specs.Local.{first_effect, is_heard, receive, ticked, without_sources}
 use Rattle.theory_flood_pieces.proofs.Choices.{chosen, decided}
 use Rattle.pg_run.specs.Ticks.{HasFewEdges}
 use Rattle.pg_run.proofs.Walks.{again_is, at_among, few_there, tick_walks}
 use Rattle.pg_run.proofs.Lists.{among_contained}
-use Rattle.pg_run.proofs.Tails.{accept_same, cell_same, confirm_same, fetch_same, full_same, grant_same, invite_same, leave_ok_same, leave_same, link_same, place_is_same, seek_same, tell_same}
+use Rattle.pg_run.proofs.Tails.{accept_same, cell_same, confirm_same, delta_same, fetch_same, full_same, grant_same, harbinger_same, invite_same, later_same, leave_ok_same, leave_same, link_same, piece_same, place_is_same, seek_same, tell_same, want_same}
 use Rattle.pg_run.proofs.TailsOfCalls.{answered_same, call_same}
 
 -- ---- walks
@@ -172,6 +177,12 @@ module _ (a : Store) (from : ℕ) where
   receive_has (message.Invite ends) = none_last (message.Invite ends) (invite a ends Fresh).work (invite_same a ends Fresh)
   receive_has (message.Walk ends origin birth hops word) = walk_has a from ends origin birth hops word
   receive_has (message.Meet ends) = none_last (message.Meet ends) (accept a ends manner.Makes Fresh).work (accept_same a ends manner.Makes Fresh)
+  receive_has (message.Harbinger ends tag head) =
+      none_last (message.Harbinger ends tag head) (harbinger a ends tag head Fresh).work (harbinger_same ends Fresh a tag head)
+  receive_has (message.Want ends wanted) = none_last (message.Want ends wanted) (want a ends wanted Fresh).work (want_same ends Fresh a wanted)
+  receive_has (message.Delta ends d) = none_last (message.Delta ends d) (delta a ends d Fresh).work (delta_same ends Fresh a d)
+  receive_has (message.Piece ends p) = none_last (message.Piece ends p) (piece a ends p Fresh).work (piece_same ends Fresh a p)
+  receive_has (message.Later ends stamp) = none_last (message.Later ends stamp) (later a ends stamp Fresh).work (later_same ends Fresh a stamp)
   receive_has m = All-nil (IsPassedOn a from m)
 
 -- ---- a server is given up
@@ -251,8 +262,9 @@ module _ (a : Store) (moment word : ℕ) where
 
   tick_has : All Begins (first_effect a (input.Tick moment word)).work.tail
   tick_has =
-      chosen (λ (w : Work). All Begins w.tail) (is_before_clock_end a) (sent_again a word (new_work moment 0)) (new_work moment 0)
-      (subst (λ (w : Work). All Begins w.tail) (sym (again_is a word (new_work moment 0))) begun_has) (All-nil Begins)
+      let w = new_work moment 0 in
+      chosen (λ (d : Done). All Begins d.work.tail) (is_before_clock_end a) (ticked a word w) (idle a w)
+      (subst (λ (v : Work). All Begins v.tail) (sym (again_is (without_sources a) word w)) begun_has) (All-nil Begins)
 
 -- ALL THAT GOES LAST are walks and invites
 pub first_tail : (a : Store) (asked : Input) → All (GoesLast a asked) (first_effect a asked).work.tail

@@ -19,15 +19,22 @@ pub mod Zips
 pub mod OwedCells
 pub mod Requests
 pub mod Walks
+pub mod TransferWays
+pub mod Transferring
 pub mod Tails
 pub mod TailsOfCalls
 pub mod LastWalks
 pub mod Ticks
 pub mod Holders
+mod SendsLeaving
+pub mod SendsBodies
 pub mod Sends
 pub mod SendsLosses
 pub mod SendsCalls
 pub mod Still
+pub mod Late
+pub mod Transfers
+pub mod Ticked
 pub use Rattle.pg_base.proofs as pg_base
 pub use Rattle.pg_path.proofs as pg_path
 pub use Rattle.pg_register.proofs as pg_register
@@ -36,6 +43,9 @@ pub use Rattle.pg_edges.proofs as pg_edges
 pub use Rattle.pg_intent.proofs as pg_intent
 pub use Rattle.pg_names.proofs as pg_names
 pub use Rattle.pg_content.proofs as pg_content
+pub use Rattle.pg_delta.proofs as pg_delta
+pub use Rattle.pg_announced.proofs as pg_announced
+pub use Rattle.theory_bodies.proofs as theory_bodies
 pub use Rattle.theory_flood.proofs as theory_flood
 pub use Rattle.pg_replica.proofs as pg_replica
 pub use Rattle.pg_msg.proofs as pg_msg

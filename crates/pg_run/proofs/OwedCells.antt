@@ -1,26 +1,33 @@
 -- What a tick sends: the cell of each key that is owed and does not wait, and the message of each
 -- intention that asks a server.
-use Rattle.std.proofs.Common.{[], ℕ, ◌≡◌, Bool, true, false, not, cond, Option, Some, List, ◌∷◌, get_or, map, refl, sym, ap, subst, ◌∙◌}
+use Rattle.std.proofs.Common.{[], ℕ, ◌≡◌, Bool, true, false, nat_lt, not, cond, Option, Some, List, ◌∷◌, get_or, map, refl, sym, ap, subst, ◌∙◌}
 use Rattle.std.specs.List.{AllZip, filter, flat_map}
 use Rattle.std.proofs.lemmas.List.Elements.{All-weaker}
 use Rattle.pg_base.specs.declared.id.FileId.{FileId}
+use Rattle.pg_base.specs.Version.{VersionValue}
 use Rattle.pg_edges.specs.declared.key.Key.{Key}
+use Rattle.pg_edges.specs.declared.key.Key.TheVariants as key
 use Rattle.pg_edges.specs.declared.edge.Edge.{Edge}
 use Rattle.pg_edges.specs.Keys.{tag_in}
 use Rattle.pg_edges.specs.Edges.{edge_to, tag_at}
 use Rattle.pg_entries.specs.declared.cell.Cell.{Cell}
+use Rattle.pg_entries.specs.declared.cell.Cell.TheVariants as cell
 use Rattle.pg_replica.specs.declared.replica.Replica.{Replica}
+use Rattle.pg_msg.specs.declared.message.Ends.{Ends}
+use Rattle.pg_msg.specs.declared.message.Message.TheVariants as message
 use Rattle.pg_msg.specs.declared.message.Sent.{Sent}
+use Rattle.pg_msg.specs.declared.summary.Summary.{Summary}
 use Rattle.pg_msg.specs.Sent.{cell_key, summary}
 use Rattle.pg_event.specs.declared.quiet.OwedKey.{OwedKey}
 use Rattle.pg_store.specs.declared.store.Store.{Store}
 use Rattle.pg_store.specs.Cells.{cell_at}
 use Rattle.pg_store.specs.Store.{replica_at}
+use Rattle.pg_server.specs.pg_pieces.Posting.{sent_to}
 use Rattle.pg_server.specs.pg_cells.Sending.{cell_to, cell_under, cells_where, edge_cells, is_any, key_cell, replica_cells, waits}
 use Rattle.theory_flood_pieces.specs.Whole.{AreEdges, IsEdge, IsWhole}
 use Rattle.theory_flood_pieces.proofs.Found.{edges_found, entries_known, keys_found, tag_on_edge}
 use Rattle.pg_server.specs.Owing.{edge_owes, replica_owes}
-use Rattle.pg_run.specs.Ticks.{IsOwedCell, edge_of, is_let, let_through, owed_cell, waits_on}
+use Rattle.pg_run.specs.Ticks.{IsOwedCell, edge_of, is_large, is_let, let_through, owed_as, owed_cell, waits_on}
 use Rattle.pg_run.proofs.Zips.{zip_parts, zip_singles}
 
 -- each key on an edge has a cell, which is of that key
@@ -39,7 +46,28 @@ abbrev owing : ℕ → FileId → Edge → Key × ℕ → OwedKey
 owing server file e k = record { server = server; file = file; peer = e.peer; key = k.0 }
 
 abbrev IsSent : Store → OwedKey → Sent → Type 0
-IsSent a o m = IsOwedCell a o m × (summary m ≡ owed_cell o)
+IsSent a o m = IsOwedCell a o m × (summary m ≡ owed_cell a o)
+
+-- as it is told where its cell is such a version, or is not
+abbrev owed_with : ℕ → FileId → Edge → Key → Bool → Summary
+owed_with server file e q large = owed_as (owing server file e (q, 0)) q large
+
+module _ (a : Store) (file : FileId) (birth : ℕ) (e : Edge) (tag : ℕ) where
+  abbrev Along : Ends
+  Along = record { file = file; sender = birth; receiver = e.birth }
+
+  version_told : (v : VersionValue) (large : Bool)
+      → summary (sent_to a e.peer (cond large (message.Harbinger Along tag v.head) (message.Cell Along tag (cell.Version v))))
+      ≡ owed_with a.names.server file e (key.Version v.head.stamp) large
+  version_told v true = refl
+  version_told v false = refl
+
+  -- what tells of a cell is summed up as its key is owed
+  cell_told : (c : Cell) → summary (cell_to a file birth e c tag) ≡ owed_with a.names.server file e (cell_key c) (is_large (Some c))
+  cell_told (cell.Place place) = refl
+  cell_told (cell.Flag flag) = refl
+  cell_told (cell.Entry entry sure) = refl
+  cell_told (cell.Version v) = version_told v (nat_lt 1024 v.head.length)
 
 module _ (n s : ℕ) (a : Store) (whole : IsWhole n s a) (cells : KeysAreCells a) where
   abbrev Server : ℕ
@@ -65,7 +93,8 @@ module _ (n s : ℕ) (a : Store) (whole : IsWhole n s a) (cells : KeysAreCells a
         present = h.is;
         whole = refl;
       },
-      ap (λ z. owed_cell (record { server = Server; file = file; peer = e.peer; key = z })) h.named,
+      cell_told a file x.birth e k.1 h.c ∙ ap (λ q. owed_with Server file e q (is_large (Some h.c))) h.named
+          ∙ ap (λ o. owed_with Server file e k.0 (is_large o)) (sym h.is),
     )
 
     under_gate : (e : Edge) (k : Key × ℕ) (t : Bool) → edge_to x.edges e.peer ≡ Some e → tag_in e.keys k.0 ≡ Some k.1 → (h : HasKeyCell a file k.0)
@@ -110,11 +139,11 @@ module _ (n s : ℕ) (a : Store) (whole : IsWhole n s a) (cells : KeysAreCells a
 
 -- ---- as they are told
 
-pub all_told : (a : Store) (os : List OwedKey) (ms : List Sent) → AllZip (IsSent a) os ms → map summary ms ≡ map owed_cell os
+pub all_told : (a : Store) (os : List OwedKey) (ms : List Sent) → AllZip (IsSent a) os ms → map summary ms ≡ map (owed_cell a) os
 all_told a [] [] h = refl
 all_told a [] (m ∷ ms) h = absurd h
 all_told a (o ∷ os) [] h = absurd h
-all_told a (o ∷ os) (m ∷ ms) h = ap (λ x. x ∷ map summary ms) h.0.1 ∙ ap (λ xs. owed_cell o ∷ xs) (all_told a os ms h.1)
+all_told a (o ∷ os) (m ∷ ms) h = ap (λ x. x ∷ map summary ms) h.0.1 ∙ ap (λ xs. owed_cell a o ∷ xs) (all_told a os ms h.1)
 
 pub all_owed : (a : Store) (os : List OwedKey) (ms : List Sent) → AllZip (IsSent a) os ms → AllZip (IsOwedCell a) os ms
 all_owed a [] [] h = tt

@@ -1,5 +1,5 @@
--- WHICH MESSAGES A HANDLER SENDS: what holds of each message that tells nothing of what is held, holds of all that is sent,
--- where it holds of the answer to the cell, the Bye, the Confirm, the Tell or the Leave that comes.
+-- WHICH MESSAGES A HANDLER SENDS: what holds of each message that tells nothing of what is held, holds
+-- of all that is sent, where it holds of the answers to what comes that tell of it.
 use Rattle.std.proofs.Common.{ℕ, ◌≡◌, ◌==◌, ◌-◌, ◌/◌, ◌%◌, ◌&&◌, ◌||◌, not, Bool, true, false, List, [], ◌∷◌, length, slice_get, Option, None, Some, refl, sym, ap, subst, ◌∙◌, All}
 use Rattle.std.specs.Prelude.{nat_lt}
 use Rattle.std.proofs.lemmas.List.Elements.{All-push}
@@ -34,9 +34,8 @@ use Rattle.pg_register.specs.declared.place.Place.{Place}
 use Rattle.pg_replica.specs.declared.replica.Replica.{Replica}
 use Rattle.pg_store.specs.declared.store.Store.{Store}
 use Rattle.pg_store.specs.Births.{birth_of, has_birth, is_pending}
-use Rattle.pg_store.specs.Beginning.{let_go}
 use Rattle.pg_store.specs.Links.{is_clean, is_new_link, knows_later}
-use Rattle.pg_store.specs.Store.{entry_news, is_full, is_held, is_new_version, is_newer_flag, is_newer_place, replica_at, replica_of, with_names}
+use Rattle.pg_store.specs.Store.{entry_news, is_full, is_held, is_new_version, is_newer_flag, is_newer_place, replica_at, with_names}
 use Rattle.pg_server.specs.pg_pieces.declared.accepting.EdgeUse.{EdgeUse}
 use Rattle.pg_server.specs.pg_pieces.declared.accepting.EdgeUse.TheVariants as manner
 use Rattle.pg_server.specs.pg_pieces.Accepting.{accept, ends_to, is_accepted, is_answer, link_peer, met, with_gone}
@@ -51,13 +50,16 @@ use Rattle.pg_server.specs.pg_repair.Fetching.{answer_fetch, fetch, give, given}
 use Rattle.pg_server.specs.pg_repair.Filling.{few_golds, fill, full, invite, invited, is_bronze, live_golds, raise_if_few}
 use Rattle.pg_server.specs.pg_repair.Granting.{begin_granted, begun_by, grant}
 use Rattle.pg_server.specs.pg_repair.Telling.{tell, told}
-use Rattle.pg_server.specs.pg_graph.Leaving.{begin_byes, bye_to, gives_leave, goes, goes_or_stays, leave, leave_given, leave_ok, may_leave, without_leave}
+use Rattle.pg_server.specs.pg_graph.Leaving.{gives_leave, leave, leave_given}
 use Rattle.pg_server.specs.pg_graph.Seeking.{answered_seek, seek}
 use Rattle.pg_server.specs.pg_graph.Walks.{edges_of, goes_on, meet_origin, most_hops, onward, walk, walk_along, walk_from, walk_of, walk_of_tick, walk_on, walked, with_few_edges}
 use Rattle.pg_server.specs.Local.{receive}
 use Rattle.pg_run.proofs.Holders.{IsBy, accept_names, taken_by}
+use Rattle.pg_run.proofs.SendsLeaving.{leave_ok_fits}
+use Rattle.pg_run.proofs.SendsBodies.{AnswersBody, AnswersHarbinger, AnswersWant, delta_fits, harbinger_fits, later_fits, piece_fits, want_fits}
 
--- what is asked for and granted, that something is gone or not here, walks and those who are met
+-- what is asked for and granted, that something is gone, not here or not to be had now, walks and those
+-- who are met
 abbrev pub is_plain : Message → Bool
 is_plain (message.Fetch file birth) = true
 is_plain (message.Grant ends granted) = true
@@ -69,6 +71,7 @@ is_plain (message.Gone file birth) = true
 is_plain (message.Invite ends) = true
 is_plain (message.Walk ends origin birth hops word) = true
 is_plain (message.Meet ends) = true
+is_plain (message.Later ends stamp) = true
 is_plain _ = false
 
 module _ (Q : Sent → Type 0) (plain : (m : Sent) → is_plain m.packet.message ≡ true → Q m) (from : ℕ) where
@@ -303,30 +306,24 @@ module _ (Q : Sent → Type 0) (plain : (m : Sent) → is_plain m.packet.message
       chosen (λ (d : Done). Fine d.work) (is_accepted a work.from manner.Makes ends) (leave_given ends stamp m) m
       (chosen Fine (gives_leave m.store ends.file stamp) (post m.store m.work.from ok m.work) m.work (answered m.store ok m.work (has m.store) h) h) h
 
-  byes_fine : (file : FileId) (birth : ℕ) (es : List Edge) (d : Done) → Fine d.work → Fine (begin_byes file birth es d).work
-  byes_fine file birth [] d k = k
-  byes_fine file birth (e ∷ es) d k =
-      byes_fine file birth es (begin_intent d.store (bye_to file birth e) d.work) (intent_fine d.store (bye_to file birth e) d.work k)
-
-  pub leave_ok_fine : (a : Store) (ends : Ends) (stamp : Stamp) (work : Work) → Fine work → Fine (leave_ok a ends stamp work).work
-  leave_ok_fine a ends stamp work k =
-      let P : Done → Type 0 = λ d. Fine d.work in
-      let file = ends.file in
-      let free = without_leave a file in
-      chosen P (may_leave a ends stamp work) (goes_or_stays free file work) (idle a work)
-      (chosen P _ (idle free work) (goes free file work) k
-      (byes_fine file (birth_of free file) (replica_of free file).edges (idle (let_go free file) work) k)) k
-
   -- ---- EVERY MESSAGE
 
-  -- so are the answers to a cell, a Bye, a Confirm, a Tell and a Leave
+  -- so are the answers to a cell, a Bye, a Confirm, a Tell and a Leave, and what a Harbinger, a Want, a
+  -- Delta and a Piece make it send
   abbrev pub AnswersHave : Store → ℕ → Message → Type 0
   AnswersHave a asker (message.Cell ends tag c) = AnswerHas a ends tag c asker
   AnswersHave a asker (message.Bye ends) = Q (sent_to a asker (message.ByeOk ends.file ends.sender))
   AnswersHave a asker (message.Confirm dir e) = (b : Store) (r : Entry) → Q (sent_to b from (message.PlaceIs dir r))
   AnswersHave a asker (message.Tell dir e) = (b : Store) → Q (sent_to b from (message.TellOk dir e.child e.place.stamp))
   AnswersHave a asker (message.Leave ends stamp) = (b : Store) → Q (sent_to b from (message.LeaveOk (ends_to b ends.file ends.sender) stamp))
+  AnswersHave a asker (message.Harbinger ends tag head) = AnswersHarbinger Q from asker a ends head
+  AnswersHave a asker (message.Want ends wanted) = AnswersWant Q from a ends wanted
+  AnswersHave a asker (message.Delta ends d) = AnswersBody Q from asker a ends d.head.stamp
+  AnswersHave a asker (message.Piece ends p) = AnswersBody Q from asker a ends p.head.stamp
   AnswersHave a asker _ = Unit {0}
+
+  puts_off : (b : Store) (ends : Ends) (stamp : Stamp) → Q (sent_to b from (message.Later (back ends) stamp))
+  puts_off b ends stamp = plain (sent_to b from (message.Later (back ends) stamp)) refl
 
   pub received_fine : (a : Store) (m : Message) (work : Work) → AnswersHave a work.from m → Fine work → Fine (receive a m work).work
   received_fine a (message.Cell ends tag c) work has k = cell_fine a ends tag c work has k
@@ -340,8 +337,14 @@ module _ (Q : Sent → Type 0) (plain : (m : Sent) → is_plain m.packet.message
   received_fine a (message.PlaceIs dir e) work has k = place_is_fine a dir e work k
   received_fine a (message.Tell dir e) work has k = tell_fine a dir e work has k
   received_fine a (message.Leave ends stamp) work has k = leave_fine a ends stamp work has k
-  received_fine a (message.LeaveOk ends stamp) work has k = leave_ok_fine a ends stamp work k
+  received_fine a (message.LeaveOk ends stamp) work has k = leave_ok_fits Q from a ends stamp work k
   received_fine a (message.Invite ends) work has k = invite_fine a ends work k
   received_fine a (message.Walk ends origin birth hops word) work has k = walk_fine a ends origin birth hops word work k
   received_fine a (message.Meet ends) work has k = accept_fine a ends manner.Makes work k
+  received_fine a (message.Harbinger ends tag head) work has k =
+      harbinger_fits Q from puts_off a ends work k tag head has (accept_fine a ends manner.Makes work k)
+  received_fine a (message.Want ends wanted) work has k = want_fits Q from puts_off a ends work k wanted has (accept_fine a ends manner.Needs work k)
+  received_fine a (message.Delta ends d) work has k = delta_fits Q from puts_off a ends work k d has (accept_fine a ends manner.Answers work k)
+  received_fine a (message.Piece ends p) work has k = piece_fits Q from puts_off a ends work k p has (accept_fine a ends manner.Answers work k)
+  received_fine a (message.Later ends stamp) work has k = later_fits Q from puts_off a ends work k stamp (accept_fine a ends manner.Answers work k)
   received_fine a m work has k = k

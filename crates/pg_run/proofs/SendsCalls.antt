@@ -114,7 +114,7 @@ module _ (Q : Sent → Type 0) (plain : (m : Sent) → is_plain m.packet.message
     call_fine (call.Write text offset bytes) = change_quiet text (written offset bytes)
     call_fine (call.Cut text length) = change_quiet text (cut_to length)
     call_fine (call.Read text offset count) = looks (file_at a text) (λ f. reply.Bytes (shown_part a f offset count))
-    call_fine (call.Fresh text) = looks (file_at a text) (λ f. reply.Done)
+    call_fine (call.Fresh text) = looks (file_at a text) _
     call_fine (call.Ls text from) = looks (dir_at a text) (λ d. page (listing d (known a.names d)) from)
     call_fine (call.Stat target) = looks (target_at a target) (λ f. reply.Stat (stat_of a f))
     call_fine (call.Rename from to) = going (move_of a from to) (λ move. answer (moved a W move) reply.Done) (λ move. moved_quiet move.thing (place_in a moment move.to))

@@ -28,6 +28,7 @@ use Rattle.pg_server.specs.pg_checks.Asking.{cell_in, is_later, later, latest}
 use Rattle.pg_server.specs.pg_calls.Forgetting.{bare_entry, begin_lost, dead_at, dirs_of, fill_lost, forget_lost, lists_in, lost_at, mark, marked_each, strike_out, struck_out, unwished}
 use Rattle.pg_server.specs.declared.input.Input.{Input}
 use Rattle.pg_server.specs.declared.input.Input.TheVariants as input
+use Rattle.pg_run.specs.Asking.{Asked as Wanting}
 use Rattle.pg_run.specs.Carried.{anew_takes, came, forgotten_takes, strikes_out, struck_by, struck_takes}
 use Rattle.pg_run.specs.Took.{Take, take_of}
 use Rattle.pg_run.specs.Took.Take.{TookPlace}
@@ -135,13 +136,14 @@ module _ (a : Store) (moment : ℕ) where
   by_check (Err stop) = front_told (map take_of (Asked (Err stop)).work.made) []
   by_check (Ok id) = by_kind a moment id (is_held a id) (is_dir id)
 
-made_in_call : (a : Store) (moment : ℕ) (c : Call)
-    → Within (map take_of (first_made a (input.Call moment c))) (brought a (input.Call moment c))
-made_in_call a moment (call.Forget id) = by_check a moment (lost_at a id)
-made_in_call a moment c =
-    front_told (map take_of (first_made a (input.Call moment c))) (came a (input.Call moment c))
+made_in_call : (a : Store) (wants : Wanting) (moment : ℕ) (c : Call)
+    → Within (map take_of (first_made a (input.Call moment c))) (brought a wants (input.Call moment c))
+made_in_call a wants moment (call.Forget id) = by_check a moment (lost_at a id)
+made_in_call a wants moment c =
+    front_told (map take_of (first_made a (input.Call moment c))) (came a wants (input.Call moment c))
 
 -- WHAT IS MADE IS BROUGHT
-pub made_brought : (a : Store) (asked : Input) → Within (map take_of (first_made a asked)) (brought a asked)
-made_brought a (input.Call moment c) = made_in_call a moment c
-made_brought a asked = front_told (map take_of (first_made a asked)) (came a asked)
+pub made_brought : (a : Store) (wants : Wanting) (asked : Input)
+    → Within (map take_of (first_made a asked)) (brought a wants asked)
+made_brought a wants (input.Call moment c) = made_in_call a wants moment c
+made_brought a wants asked = front_told (map take_of (first_made a asked)) (came a wants asked)

@@ -1,5 +1,5 @@
 -- What messages leave of what goes last in an event: all of it, but for walks.
-use Rattle.std.proofs.Common.{[], ℕ, ◌≡◌, ◌==◌, ◌||◌, ◌&&◌, Bool, true, false, cond, not, nat_lt, List, ◌∷◌, Option, Some, None, refl, ◌∙◌}
+use Rattle.std.proofs.Common.{[], ℕ, ◌≡◌, ◌||◌, ◌&&◌, Bool, true, false, cond, not, nat_lt, List, ◌∷◌, Option, Some, None, refl, ◌∙◌}
 use Rattle.std.specs.Prelude.{is_some}
 use Rattle.pg_base.specs.declared.id.FileId.{FileId}
 use Rattle.pg_base.specs.declared.stamp.Stamp.{Stamp}
@@ -11,8 +11,12 @@ use Rattle.pg_edges.specs.declared.key.Key.TheVariants as key
 use Rattle.pg_entries.specs.declared.cell.Cell.{Cell}
 use Rattle.pg_entries.specs.declared.cell.Cell.TheVariants as cells
 use Rattle.pg_entries.specs.declared.entry.Entry.{Entry}
+use Rattle.pg_base.specs.declared.head.Head.{Head}
+use Rattle.pg_msg.specs.declared.message.Delta.{Delta}
 use Rattle.pg_msg.specs.declared.message.Ends.{Ends}
 use Rattle.pg_msg.specs.declared.message.Granted.{Granted}
+use Rattle.pg_msg.specs.declared.message.Piece.{Piece}
+use Rattle.pg_msg.specs.declared.message.Wanted.{Wanted}
 use Rattle.pg_msg.specs.declared.message.Message.TheVariants as message
 use Rattle.pg_msg.specs.declared.update.Update.TheVariants as update
 use Rattle.pg_msg.specs.declared.work.Work.{Work}
@@ -22,8 +26,6 @@ use Rattle.pg_intent.specs.Intent.{key_of}
 use Rattle.pg_intent.specs.Intents.{stands}
 use Rattle.pg_names.specs.Names.{own_or_blank}
 use Rattle.pg_house.specs.Work.{is_root, note_left}
-use Rattle.pg_call.specs.declared.call.Call.TheVariants as call
-use Rattle.pg_lookup.specs.declared.paths.LookupError.TheVariants as stop
 use Rattle.pg_replica.specs.declared.replica.Replica.{Replica}
 use Rattle.pg_store.specs.declared.store.Store.{Store}
 use Rattle.pg_store.specs.Beginning.{let_go}
@@ -48,9 +50,14 @@ use Rattle.pg_server.specs.pg_repair.Telling.{tell}
 use Rattle.pg_server.specs.pg_graph.Leaving.{begin_byes, bye_to, gives_leave, goes, goes_or_stays, leave, leave_given, leave_ok, may_leave, without_leave}
 use Rattle.pg_server.specs.pg_pieces.Intending.{begin_intent}
 use Rattle.pg_server.specs.pg_pieces.Parting.{stays_for}
-use Rattle.pg_server.specs.pg_checks.Answer.{Answer}
 use Rattle.pg_server.specs.pg_calls.Making.{make_place}
+use Rattle.pg_server.specs.pg_transfer.Delta.{delta}
+use Rattle.pg_server.specs.pg_transfer.Harbinger.{harbinger}
+use Rattle.pg_server.specs.pg_transfer.Later.{later}
+use Rattle.pg_server.specs.pg_transfer.Piece.{piece}
+use Rattle.pg_server.specs.pg_transfer.Want.{want}
 use Rattle.theory_flood_pieces.proofs.Choices.{chosen}
+use Rattle.pg_run.proofs.Transferring.{OutlivesSteps, delta_has, harbinger_has, later_has, piece_has, want_has}
 use Rattle.pg_names.specs.Names as names
 
 -- ---- what is put last stays so
@@ -230,3 +237,37 @@ leave_ok_same a ends stamp w =
     done_either w (may_leave a ends stamp w) (goes_or_stays b ends.file w) (idle a w)
     (done_either w (is_some (stays_for b ends.file)) (idle b w) (goes b ends.file w) refl
     (byes_same ends.file (birth_of b ends.file) (replica_of b ends.file).edges (idle (let_go b ends.file) w))) refl
+
+-- ---- bodies on demand
+
+module _ (ends : Ends) (w : Work) where
+  abbrev Keeps : Done → Type 0
+  Keeps d = Same w d.work
+
+  steps_same : OutlivesSteps Keeps ends
+  steps_same = record {
+    asks = λ d stamp offset heads h. h;
+    acknowledges = λ d stamp tag h. h;
+    puts_off = λ d stamp h. h;
+    gives = λ d v offset h. h;
+    changes = λ d ranges v heads h. h;
+    tells = λ d head h. h;
+    notes = λ d ns h. h;
+    keeps = λ d delta h. h;
+    takes = λ d v h. news_same (is_new_version d.store ends.file v) d.work ends.file (key.Version v.head.stamp) ∙ h;
+  }
+
+  pub harbinger_same : (a : Store) (tag : ℕ) (head : Head) → Same w (harbinger a ends tag head w).work
+  harbinger_same a tag head = harbinger_has Keeps ends steps_same a w refl tag head (accept_same a ends manner.Makes w)
+
+  pub want_same : (a : Store) (wanted : Wanted) → Same w (want a ends wanted w).work
+  want_same a wanted = want_has Keeps ends steps_same a w refl wanted (accept_same a ends manner.Needs w)
+
+  pub delta_same : (a : Store) (d : Delta) → Same w (delta a ends d w).work
+  delta_same a d = delta_has Keeps ends steps_same a w refl d (accept_same a ends manner.Answers w)
+
+  pub piece_same : (a : Store) (p : Piece) → Same w (piece a ends p w).work
+  piece_same a p = piece_has Keeps ends steps_same a w refl p (accept_same a ends manner.Answers w)
+
+  pub later_same : (a : Store) (stamp : Stamp) → Same w (later a ends stamp w).work
+  later_same a stamp = later_has Keeps ends steps_same a w refl stamp (accept_same a ends manner.Answers w)

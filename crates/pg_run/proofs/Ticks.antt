@@ -23,7 +23,8 @@ use Rattle.pg_event.specs.declared.event.Event.{Event}
 use Rattle.pg_event.specs.declared.event.Event.TheVariants.{Restart, Tick}
 use Rattle.pg_house.specs.Facts.{AreOrdered}
 use Rattle.pg_house.specs.Work.{state_of}
-use Rattle.theory_flood.proofs.Flood.{here}
+use Rattle.theory_flood.specs.World.{after}
+use Rattle.theory_flood.proofs.Flood.{after_itself, here}
 use Rattle.pg_store.specs.declared.store.Store.{Store}
 use Rattle.pg_store.specs.Births.{birth_of}
 use Rattle.pg_store.specs.Store.{is_before_clock_end}
@@ -36,7 +37,7 @@ use Rattle.theory_flood_pieces.specs.Whole.{IsWhole}
 use Rattle.pg_server.specs.pg_intentions.Beginning.{begin_end}
 use Rattle.pg_server.specs.pg_intentions.Requests.{ask_all, asks}
 use Rattle.pg_server.specs.declared.input.Input.TheVariants as input
-use Rattle.pg_server.specs.Local.{Effect, closed, effect, finished, intended, sent_again, settled, without_volatile}
+use Rattle.pg_server.specs.Local.{Effect, closed, effect, finished, intended, sent_again, settled, without_sources, without_volatile}
 use Rattle.pg_call.specs.declared.refusal.Refusal.TheVariants.{ClockEnd}
 use Rattle.pg_call.specs.declared.reply.Reply.{Reply}
 use Rattle.pg_call.specs.declared.reply.Reply.TheVariants as reply
@@ -44,7 +45,7 @@ use Rattle.pg_run.specs.Golds.{FullSeeGold}
 use Rattle.pg_run.specs.Laws.{AtEach, IsInOrder}
 use Rattle.pg_run.specs.Run.{World, effect_entry, effect_step, idle_step, run, why_void}
 use Rattle.pg_run.specs.Ticks.{IsRefused, RestartLoses, RestartsLoseWishes, SendsWhatItOwes, TickSends, TicksSendWhatIsOwed, let_through}
-use Rattle.pg_run.proofs.Frame.{live_is}
+use Rattle.pg_run.proofs.Frame.{live_is, other_after}
 use Rattle.pg_run.proofs.OwedCells.{KeysAreCells, all_owed, all_sent, all_told}
 use Rattle.pg_run.proofs.OwedOrder.{owed_sorted}
 use Rattle.pg_run.proofs.Requests.{HasRequest, requests_sent}
@@ -58,7 +59,8 @@ StaysIntended a = (work : Work) → work.left ≡ [] → work.unsure ≡ [] → 
 
 -- order, ordered: what the house rules leave
 -- golds: what is full sees a gold
--- still, still_without: the intentions are as what is held asks, and so they are without wishes
+-- still, still_released, still_without: the intentions are as what is held asks; so they are where of no
+-- version anybody is asked, and without wishes
 -- asked: each has a message
 -- by_id: things are by id
 -- whole, cells: what the edges leave
@@ -67,6 +69,7 @@ pub record IsTidy (n s : ℕ) (a : Store) : Type 0 where
   pub ordered : AreOrdered a.names
   pub golds : FullSeeGold a
   pub still : StaysIntended a
+  pub still_released : StaysIntended (without_sources a)
   pub still_without : StaysIntended (without_volatile a)
   pub asked : All (HasRequest a) a.intents
   pub by_id : IsStrictlySortedBy file_cmp (keys_of a.names.held)
@@ -90,7 +93,7 @@ replica_none a [] = refl
 replica_none a (r ∷ rs) = ap (λ l. l ++ flat_map (replica_cells a (is_chosen [] [])) rs) (edge_none a r.0 r.1.birth r.1.edges) ∙ replica_none a rs
 
 -- so no more is sent at the end, but the tail
-nothing_more : (a : Store) (sent tail : List Sent) → ((sent ++ cells_where a (is_chosen [] [])) ++ []) ++ tail ≡ sent ++ tail
+pub nothing_more : (a : Store) (sent tail : List Sent) → ((sent ++ cells_where a (is_chosen [] [])) ++ []) ++ tail ≡ sent ++ tail
 nothing_more a sent tail =
     ap (λ l. l ++ tail)
     (append-nil (sent ++ cells_where a (is_chosen [] [])) ∙ ap (λ l. sent ++ l) (replica_none a a.replicas) ∙ append-nil sent)
@@ -156,20 +159,23 @@ module _ (a : Store) (order : IsInOrder a.names) (ordered : AreOrdered a.names) 
 -- ---- a tick
 
 module _ (a : Store) (moment word : ℕ) where
+  abbrev Released : Store
+  Released = without_sources a
+
   abbrev Ticking : Work
   Ticking = record (ask_all a (tick a (new_work moment 0))) { tail = tick_walks a word }
 
-  again : sent_again a word (new_work moment 0) ≡ Ticking
-  again = again_is a word (new_work moment 0)
+  again : sent_again Released word (new_work moment 0) ≡ Ticking
+  again = again_is Released word (new_work moment 0)
 
   abbrev Sending : Effect
-  Sending = finished (Some reply.Done) (idle a Ticking)
+  Sending = finished (Some reply.Done) (idle Released Ticking)
 
   abbrev Refusing : Effect
   Refusing = finished (Some (reply.Refused ClockEnd)) (idle a (new_work moment 0))
 
   sent_is : Sending.out.sent ≡ (cells_where a is_any ++ flat_map (asks a) a.intents) ++ tick_walks a word
-  sent_is = nothing_more a (cells_where a is_any ++ flat_map (asks a) a.intents) (tick_walks a word)
+  sent_is = nothing_more Released (cells_where a is_any ++ flat_map (asks a) a.intents) (tick_walks a word)
 
   refuses : (event : Event) → IsRefused (effect_entry event Refusing)
   refuses event = record {
@@ -196,30 +202,38 @@ module _ (a : Store) (moment word : ℕ) where
           order = owed_sorted n s a k.whole;
         }
 
-    closes : closed (Some reply.Done) (idle a Ticking) ≡ Sending
-    closes = closed_is a k.order k.ordered k.golds k.still (Some reply.Done) Ticking refl refl refl
+    closes : closed (Some reply.Done) (idle Released Ticking) ≡ Sending
+    closes = closed_is Released k.order k.ordered k.golds k.still_released (Some reply.Done) Ticking refl refl refl
 
+    -- it is sent, or refused; and then nobody is asked any more, or nothing changed
     abbrev IsTick : Bool → Effect → Type 0
-    IsTick t done = (t ≡ true → SendsWhatItOwes a word (effect_entry event done)) × (¬ (t ≡ true) → IsRefused (effect_entry event done)) × (done.store ≡ a)
+    IsTick t done = (t ≡ true → SendsWhatItOwes a word (effect_entry event done)) × (¬ (t ≡ true) → IsRefused (effect_entry event done))
+        × (t ≡ true → done.store ≡ Released) × (¬ (t ≡ true) → done.store ≡ a)
 
     abbrev Answering : Bool → Option Reply
     Answering t = Some (cond t reply.Done (reply.Refused ClockEnd))
 
-    abbrev Working : Bool → Done
-    Working t = idle a (cond t Ticking (new_work moment 0))
+    abbrev Working : Bool → Work → Done
+    Working t w = cond t (idle Released w) (idle a (new_work moment 0))
 
-    by_clock : (t : Bool) → IsTick t (cond t (closed (Answering t) (Working t)) (finished (Answering t) (Working t)))
+    by_clock : (t : Bool) → IsTick t (cond t (closed (Answering t) (Working t Ticking)) (finished (Answering t) (Working t Ticking)))
     by_clock true = (
       λ e. subst (λ (done : Effect). SendsWhatItOwes a word (effect_entry event done)) (sym closes) sends,
       λ no. absurd (no refl),
-      ap (λ (done : Effect). done.store) closes,
+      λ e. ap (λ (done : Effect). done.store) closes,
+      λ no. absurd (no refl),
     )
-    by_clock false = (λ e. absurd (let z : false ≡ true = e in cc), λ no. refuses event, refl)
+    by_clock false = (
+      λ e. absurd (let z : false ≡ true = e in cc),
+      λ no. refuses event,
+      λ e. absurd (let z : false ≡ true = e in cc),
+      λ no. refl,
+    )
 
     abbrev Leaving : Work → Effect
     Leaving w =
-        let done : Bool → Done = λ t. idle a (cond t w (new_work moment 0)) in
-        cond (is_before_clock_end a) (closed (Answering (is_before_clock_end a)) (done (is_before_clock_end a))) (finished (Answering (is_before_clock_end a)) (done (is_before_clock_end a)))
+        let t = is_before_clock_end a in
+        cond t (closed (Answering t) (Working t w)) (finished (Answering t) (Working t w))
 
     pub tick_is : IsTick (is_before_clock_end a) (effect a (input.Tick moment word))
     tick_is = subst (λ (w : Work). IsTick (is_before_clock_end a) (Leaving w)) (sym again) (by_clock (is_before_clock_end a))
@@ -235,14 +249,15 @@ tick_step n w s moment word k =
     let event = Tick s moment word in
     let a = w.stores s in
     let is = tick_is a moment word n s k event in
+    let done = effect a (input.Tick moment word) in
+    let itself : after w.stores s done.store s ≡ done.store = after_itself w.stores s done.store in
     record {
       void = refl;
       sends = is.0;
+      loses = λ time. itself ∙ is.2 time;
       refuses = is.1;
-      still = λ t. elim (here w.stores s (effect a (input.Tick moment word)).store t) [
-        | inl own ↦ own.1 ∙ is.2 ∙ ap w.stores (sym own.0)
-        | inr other ↦ other.1
-      ];
+      stays = λ late. itself ∙ is.3 late;
+      still = λ t apart. other_after w.stores s done.store t apart;
     }
 
 pub ticks_send_what_is_owed : (n : ℕ) → AreTidy n → TicksSendWhatIsOwed n

@@ -15,7 +15,7 @@ use Rattle.pg_msg.specs.declared.message.Packet.{Packet}
 use Rattle.pg_msg.specs.declared.message.Sent.{Sent}
 use Rattle.pg_event.specs.declared.event.Event.{Event}
 use Rattle.pg_names.specs.declared.attributes.Attributes.{Attributes}
-use Rattle.pg_names.specs.Names.{cell_at, own_at}
+use Rattle.pg_names.specs.Names.{cell_at, is_dir, own_at}
 use Rattle.pg_register.specs.declared.flag.Flag.{Flag}
 use Rattle.pg_replica.specs.declared.replica.Replica.{Replica}
 use Rattle.pg_server.specs.pg_pieces.Accepting.{is_current}
@@ -185,6 +185,7 @@ GreaterBirthsReplaceEdges servers = (events : List Event) (event : Event)
 -- the ends of a message that links its sender, where it is accepted
 abbrev pub linking : Message → Option Ends
 linking (message.Cell ends tag c) = if fits ends.file c then Some ends else None
+linking (message.Harbinger ends tag head) = if is_dir ends.file then None else Some ends
 linking (message.Grant ends granted) = Some ends
 linking (message.Here ends) = Some ends
 linking (message.Meet ends) = Some ends

@@ -12,13 +12,15 @@ use Rattle.pg_store.specs.Start.{first_flags}
 use Rattle.pg_server.specs.declared.input.Input.{Input}
 use Rattle.pg_server.specs.Local.{effect, takes_effect}
 use Rattle.pg_run.specs.Took.{Take, first_takes, is_held, stamps_taken, take_of}
+use Rattle.pg_run.specs.Asking.{Asked}
 use Rattle.pg_run.specs.Carried.{gone_in}
 use Rattle.pg_run.specs.Passed.{flags_known, places_known}
 use Rattle.pg_run.specs.Run.{World, brought, first_made, made_behind, next, run, start, taking_in, world_after}
 
 -- what an input brings a server: what its first effect brings, and what is made in the event
-abbrev pub all_brought : Store → Input → List Take
-all_brought store asked = brought store asked ++ map take_of (effect store asked).out.made
+abbrev pub all_brought : Store → Asked → Input → List Take
+all_brought store wants asked =
+    brought store wants asked ++ map take_of (effect store asked).out.made
 
 -- an event brings a server, at which it takes effect, takes of which this holds
 pub record Brings (servers : ℕ) (w : World) (event : Event) (s : ℕ) (P : List Take → Type 0)
@@ -26,7 +28,7 @@ pub record Brings (servers : ℕ) (w : World) (event : Event) (s : ℕ) (P : Lis
   pub asked : Input
   pub takes : taking_in servers w event ≡ Some (record { server = s; asked = asked })
   pub going : takes_effect (w.stores s) asked ≡ true
-  pub holds : P (all_brought (w.stores s) asked)
+  pub holds : P (all_brought (w.stores s) (w.asked s) asked)
 
 -- the replica of a thing, for which this holds, goes at a server in an event
 pub record Leaves (servers : ℕ) (w : World) (event : Event) (s : ℕ) (Of : FileId → Type 0)

@@ -1,6 +1,7 @@
 -- What an input brings a server's replicas besides what is made: what a message carries, and the
--- replicas that begin. And which replica goes.
-use Rattle.std.specs.Prelude.{ℕ, Bool, false, ◌&&◌, not, if◌then◌else◌, List, [], ◌∷◌, ◌++◌, map, Option, None, Some, Result, Err, Ok}
+-- replicas that begin. And which replica goes. What a Delta or a Piece carries goes by whom the
+-- server asked last.
+use Rattle.std.specs.Prelude.{ℕ, Bool, false, ◌==◌, ◌+◌, ◌&&◌, not, if◌then◌else◌, List, [], ◌∷◌, ◌++◌, length, map, Option, None, Some, Result, Err, Ok}
 use Rattle.std.specs.List.{filter, flat_map}
 use Rattle.pg_base.specs.declared.id.FileId.{FileId}
 use Rattle.pg_base.specs.Id.{is_same_file}
@@ -9,10 +10,14 @@ use Rattle.pg_entries.specs.declared.cell.Cell.{Cell}
 use Rattle.pg_entries.specs.declared.entry.Entry.{Entry}
 use Rattle.pg_intent.specs.declared.intent.Intent.{Intent}
 use Rattle.pg_intent.specs.declared.intent.Intent.TheVariants as intent
+use Rattle.pg_delta.specs.Chain.{are_same_stamps}
+use Rattle.pg_delta.specs.Taking.{stamps_of}
+use Rattle.pg_msg.specs.declared.message.Delta.{Delta}
 use Rattle.pg_msg.specs.declared.message.Ends.{Ends}
 use Rattle.pg_msg.specs.declared.message.Granted.{Granted}
 use Rattle.pg_msg.specs.declared.message.Message.{Message}
 use Rattle.pg_msg.specs.declared.message.Message.TheVariants as message
+use Rattle.pg_msg.specs.declared.message.Piece.{Piece}
 use Rattle.pg_msg.specs.Work.{new_work}
 use Rattle.pg_call.specs.declared.call.Call.{Call}
 use Rattle.pg_call.specs.declared.call.Call.TheVariants as call
@@ -23,8 +28,9 @@ use Rattle.pg_names.specs.Names.{is_dir}
 use Rattle.pg_register.specs.declared.place.Place.{Place}
 use Rattle.pg_store.specs.declared.store.Store.{Store}
 use Rattle.pg_store.specs.Births.{is_pending}
-use Rattle.pg_store.specs.Store.{is_held}
-use Rattle.pg_server.specs.pg_pieces.Accepting.{is_current}
+use Rattle.pg_store.specs.Store.{content_of, is_held}
+use Rattle.pg_server.specs.pg_pieces.declared.accepting.EdgeUse.TheVariants as manner
+use Rattle.pg_server.specs.pg_pieces.Accepting.{is_accepted, is_current}
 use Rattle.pg_server.specs.pg_cells.Cells.{fits}
 use Rattle.pg_server.specs.pg_checks.Asking.{latest}
 use Rattle.pg_server.specs.pg_calls.Forgetting.{dead_at, dirs_of, is_wanted, last_place, lists_in, lost_at}
@@ -33,8 +39,9 @@ use Rattle.pg_server.specs.declared.input.Input.{Input}
 use Rattle.pg_server.specs.declared.input.Input.TheVariants as input
 use Rattle.pg_lookup.specs.declared.paths.LookupError.{LookupError}
 use Rattle.pg_server.specs.Local.{reply_to}
+use Rattle.pg_run.specs.Asking.{Asked, is_asked_at, is_asked_of}
 use Rattle.pg_run.specs.Took.{Take, entry_takes, flags_of, places_of, takes_in}
-use Rattle.pg_run.specs.Took.Take.{Began, TookPlace}
+use Rattle.pg_run.specs.Took.Take.{Began, TookPlace, TookVersion}
 use Rattle.pg_run.specs.Took.Taker.{InDir, Itself}
 
 -- ---- cells
@@ -44,6 +51,27 @@ use Rattle.pg_run.specs.Took.Taker.{InDir, Itself}
 abbrev pub cell_carried : Store → ℕ → Ends → Cell → List Take
 cell_carried store from ends c =
     if is_current store from ends && fits ends.file c then takes_in ends.file c else []
+
+-- ---- bodies
+
+-- an answer about a file, along an edge that is there
+abbrev pub answers_here : Store → ℕ → Ends → Bool
+answers_here store from ends =
+    not (is_dir ends.file) && is_accepted store from manner.Answers ends
+
+-- from who was asked for the version, a change of just what the heads show
+abbrev pub delta_carried : Store → Asked → ℕ → Ends → Delta → List Take
+delta_carried store wants from ends d = if answers_here store from ends
+    && (is_asked_of from (wants ends.file d.head.stamp)
+    && are_same_stamps (stamps_of (content_of store ends.file)) d.from)
+    then TookVersion ends.file d.head.stamp ∷ [] else []
+
+-- from who was asked for the version from this byte on, all that lacks of its body
+abbrev pub piece_carried : Store → Asked → ℕ → Ends → Piece → List Take
+piece_carried store wants from ends p = if answers_here store from ends
+    && (is_asked_at from p.offset (wants ends.file p.head.stamp)
+    && (p.offset + length p.bytes == p.head.length))
+    then TookVersion ends.file p.head.stamp ∷ [] else []
 
 -- ---- replicas that begin
 
@@ -90,34 +118,35 @@ told_carried store dir entry =
 
 -- ---- messages
 
--- what a message from a server carries, by what its receiver holds before it
-abbrev pub carried : Store → ℕ → Message → List Take
-carried store from (message.Cell ends tag c) = cell_carried store from ends c
-carried store from (message.Ack ends k tag) = []
-carried store from (message.Harbinger ends tag head) = []
-carried store from (message.Want ends wanted) = []
-carried store from (message.Delta ends delta) = []
-carried store from (message.Piece ends piece) = []
-carried store from (message.Later ends stamp) = []
-carried store from (message.Fetch file birth) = []
-carried store from (message.Grant ends granted) = grant_carried store ends granted
-carried store from (message.NoGrant file birth) = []
-carried store from (message.Full ends) = []
-carried store from (message.Seek file birth) = []
-carried store from (message.Here ends) = []
-carried store from (message.NoneHere ask file child) = []
-carried store from (message.Gone file birth) = []
-carried store from (message.Bye ends) = []
-carried store from (message.ByeOk file birth) = []
-carried store from (message.Confirm dir entry) = confirm_carried store entry
-carried store from (message.PlaceIs dir entry) = told_carried store dir entry
-carried store from (message.Tell dir entry) = told_carried store dir entry
-carried store from (message.TellOk dir child stamp) = []
-carried store from (message.Leave ends stamp) = []
-carried store from (message.LeaveOk ends stamp) = []
-carried store from (message.Invite ends) = []
-carried store from (message.Walk ends origin birth hops word) = []
-carried store from (message.Meet ends) = []
+-- what a message from a server carries, by what its receiver holds before it, and
+-- whom it asked last
+abbrev pub carried : Store → Asked → ℕ → Message → List Take
+carried store wants from (message.Cell ends tag c) = cell_carried store from ends c
+carried store wants from (message.Ack ends k tag) = []
+carried store wants from (message.Harbinger ends tag head) = []
+carried store wants from (message.Want ends wanted) = []
+carried store wants from (message.Delta ends delta) = delta_carried store wants from ends delta
+carried store wants from (message.Piece ends piece) = piece_carried store wants from ends piece
+carried store wants from (message.Later ends stamp) = []
+carried store wants from (message.Fetch file birth) = []
+carried store wants from (message.Grant ends granted) = grant_carried store ends granted
+carried store wants from (message.NoGrant file birth) = []
+carried store wants from (message.Full ends) = []
+carried store wants from (message.Seek file birth) = []
+carried store wants from (message.Here ends) = []
+carried store wants from (message.NoneHere ask file child) = []
+carried store wants from (message.Gone file birth) = []
+carried store wants from (message.Bye ends) = []
+carried store wants from (message.ByeOk file birth) = []
+carried store wants from (message.Confirm dir entry) = confirm_carried store entry
+carried store wants from (message.PlaceIs dir entry) = told_carried store dir entry
+carried store wants from (message.Tell dir entry) = told_carried store dir entry
+carried store wants from (message.TellOk dir child stamp) = []
+carried store wants from (message.Leave ends stamp) = []
+carried store wants from (message.LeaveOk ends stamp) = []
+carried store wants from (message.Invite ends) = []
+carried store wants from (message.Walk ends origin birth hops word) = []
+carried store wants from (message.Meet ends) = []
 
 -- ---- any input
 
@@ -184,11 +213,11 @@ abbrev pub came_by : Store → ℕ → Call → List Take
 came_by store moment (call.Forget id) = forgotten_takes store moment (lost_at store id)
 came_by store moment c = begun_by (reply_to store (input.Call moment c))
 
-abbrev pub came : Store → Input → List Take
-came store (input.Call moment c) = came_by store moment c
-came store (input.Tick moment word) = []
-came store (input.Arrival packet) = carried store packet.from packet.message
-came store input.Restart = []
+abbrev pub came : Store → Asked → Input → List Take
+came store wants (input.Call moment c) = came_by store moment c
+came store wants (input.Tick moment word) = []
+came store wants (input.Arrival packet) = carried store wants packet.from packet.message
+came store wants input.Restart = []
 
 -- ---- what goes
 

@@ -1,26 +1,20 @@
--- What each event does where replicas go: to edges, Byes, flags, and answers to cells. Statements on
--- all runs.
+-- What each event does where replicas go: to edges, Byes and flags. Statements on all runs.
 use Rattle.std.specs.Prelude.{ℕ, ◌≡◌, ◌⊎◌, ◌<◌, true, Contains, List, Some}
 use Rattle.pg_base.specs.declared.id.FileId.{FileId}
-use Rattle.pg_edges.specs.declared.key.Key.{Key}
 use Rattle.pg_edges.specs.Edges.{is_listed}
 use Rattle.pg_event.specs.declared.event.Event.{Event}
-use Rattle.pg_entries.specs.declared.cell.Cell.{Cell}
 use Rattle.pg_intent.specs.declared.intent.Intent.TheVariants as intent
 use Rattle.pg_msg.specs.declared.message.Ends.{Ends}
 use Rattle.pg_msg.specs.declared.message.Message.TheVariants as message
 use Rattle.pg_msg.specs.declared.message.Packet.{Packet}
 use Rattle.pg_msg.specs.declared.message.Sent.{Sent}
 use Rattle.pg_msg.specs.declared.update.Update.TheVariants as update
-use Rattle.pg_msg.specs.Sent.{cell_key}
 use Rattle.pg_register.specs.declared.flag.Flag.{Flag}
 use Rattle.pg_register.specs.Flag.{is_removed}
 use Rattle.pg_replica.specs.declared.replica.Replica.{Replica}
 use Rattle.pg_server.specs.declared.input.Input.{Input}
 use Rattle.pg_server.specs.declared.input.Input.TheVariants as input
 use Rattle.pg_server.specs.Local.{effect, takes_effect}
-use Rattle.pg_server.specs.pg_pieces.Accepting.{is_current}
-use Rattle.pg_server.specs.pg_cells.Cells.{fits}
 use Rattle.pg_store.specs.declared.store.Store.{Store}
 use Rattle.pg_store.specs.Store.{replica_at}
 use Rattle.pg_store.specs.Together.{birth_at}
@@ -133,27 +127,3 @@ ByesAreAnswered servers = InEvents servers (λ s a asked.
     × (ends.sender ≡ birth))
     × ((y : Replica) → replica_at (behind a asked) file ≡ Some y
     → (is_listed y.edges m.to birth ≡ true → ⊥)))
-
--- ---- answers to cells
-
--- a cell that is answered was accepted: it came along an edge, or made one
-pub record IsAcceptedCell (a : Store) (asked : Input) (m : Sent) (ends : Ends) (k : Key) (tag : ℕ)
-    : Type 0 where
-  pub packet : Packet
-  pub hears : Hears a asked packet
-  pub from : packet.from ≡ m.to
-  pub there : Ends
-  pub cell : Cell
-  pub is : packet.message ≡ message.Cell there tag cell
-  pub key : k ≡ cell_key cell
-  pub file : there.file ≡ ends.file
-  pub sender : there.sender ≡ ends.receiver
-  pub receiver : there.receiver ≡ ends.sender
-  pub current : is_current a packet.from there ≡ true
-  pub fitting : fits there.file cell ≡ true
-
-abbrev pub AnswersAreToAccepted : ℕ → Type 0
-AnswersAreToAccepted servers = InEvents servers (λ s a asked.
-    (m : Sent) (ends : Ends) (k : Key) (tag : ℕ) → Contains (sent_in a asked) m
-    → m.packet.message ≡ message.Ack ends k tag
-    → (m.packet.from ≡ s) × IsAcceptedCell a asked m ends k tag)

@@ -1,22 +1,28 @@
 -- What is to hold of versions in any run: the versions of a file are a history, what a server took
 -- of it comes to heads, and messages carry versions of the history.
 use Rattle.std.specs.Prelude.{ℕ, ◌⊎◌, ◌≡◌, ◌≤◌, ◌↔◌, ◌&&◌, not, List, Contains, map}
+use Rattle.pg_base.specs.declared.head.Head.{Head}
 use Rattle.pg_base.specs.declared.id.FileId.{FileId}
 use Rattle.pg_base.specs.declared.policy.Policy.{Policy}
 use Rattle.pg_base.specs.declared.stamp.Stamp.{Stamp}
 use Rattle.pg_base.specs.Vector.{Covers}
-use Rattle.pg_base.specs.Version.{VersionValue}
 use Rattle.pg_content.specs.Content.{Among, ContentValue}
-use Rattle.pg_content.specs.History.{IsAncestor, IsHistory, Made, maker, number_of, vector_of, version_of}
+use Rattle.pg_content.specs.History.{IsAncestor, IsHistory, Made, body_of, maker, number_of, vector_of}
 use Rattle.pg_content.specs.StandsFor.{StandsFor}
+use Rattle.pg_delta.specs.Leading.{IsTrueDelta}
+use Rattle.pg_delta.specs.Taking.{delta_to}
 use Rattle.pg_entries.specs.declared.cell.Cell.{Cell}
 use Rattle.pg_entries.specs.declared.cell.Cell.TheVariants as cell
+use Rattle.pg_msg.specs.declared.message.Delta.{Delta}
 use Rattle.pg_msg.specs.declared.message.Message.{Message}
 use Rattle.pg_msg.specs.declared.message.Message.TheVariants as message
+use Rattle.pg_msg.specs.declared.message.Piece.{Piece}
 use Rattle.pg_msg.specs.declared.message.Sent.{Sent}
 use Rattle.pg_event.specs.declared.entry.Entry.{Entry}
 use Rattle.pg_event.specs.declared.event.Event.{Event}
 use Rattle.pg_store.specs.Store.{has_time, have_own_flag_at_end, is_before_clock_end}
+use Rattle.theory_bodies.specs.Book.{IsHeadOf, IsVersionOf}
+use Rattle.theory_bodies.specs.Telling.{IsSlice}
 use Rattle.pg_run.specs.Journal.{Born, made_versions, mail, versions}
 use Rattle.pg_run.specs.State.{policy_made, versions_taken}
 use Rattle.pg_run.specs.Laws.{content_taken}
@@ -91,13 +97,8 @@ StateIsDetermined servers = (events : List Event) (file : FileId) (s t : ℕ)
 
 -- ---- what messages carry
 
--- a version of the history of its file, with the vector and the body that it has there
-pub record IsVersionOf (policy : Policy) (h : List Made) (v : VersionValue) : Type 0 where
-  pub made : Made
-  pub among : Among made h
-  pub whole : v ≡ version_of policy h made
-
--- the version that a cell brings is one, where it brings one
+-- the version that a cell brings is one of the history of its file, with the vector and the body
+-- that it has there, where it brings one
 abbrev pub BringsVersion : World → FileId → Cell → Type 0
 BringsVersion w file (cell.Place place) = Unit {0}
 BringsVersion w file (cell.Flag flag) = Unit {0}
@@ -105,13 +106,32 @@ BringsVersion w file (cell.Entry entry sure) = Unit {0}
 BringsVersion w file (cell.Version v) =
     IsVersionOf (policy_made file w.journal) (versions file w.history) v
 
+-- the head is that of a version of the history, with the vector and the length that it has there
+abbrev pub TellsHead : World → FileId → Head → Type 0
+TellsHead w file head = IsHeadOf (policy_made file w.journal) (versions file w.history) head
+
+-- the change makes the body of the version of what those that it starts from show, all as in the
+-- history
+abbrev pub TellsChange : World → FileId → Delta → Type 0
+TellsChange w file d = IsTrueDelta (policy_made file w.journal) (versions file w.history)
+    (delta_to d.from d.head.stamp d.ranges)
+
+-- the bytes are those that the body of the version has at the offset
+abbrev pub TellsBytes : World → FileId → Piece → Type 0
+TellsBytes w file p = IsSlice
+    (body_of (policy_made file w.journal) (versions file w.history) p.head.stamp) p.offset p.bytes
+
 -- and a grant names the policy of its file
 abbrev pub TellsOfHistory : World → Message → Type 0
 TellsOfHistory w (message.Cell ends tag c) = BringsVersion w ends.file c
+TellsOfHistory w (message.Harbinger ends tag head) = TellsHead w ends.file head
+TellsOfHistory w (message.Delta ends d) = TellsHead w ends.file d.head × TellsChange w ends.file d
+TellsOfHistory w (message.Piece ends p) = TellsHead w ends.file p.head × TellsBytes w ends.file p
 TellsOfHistory w (message.Grant ends granted) = granted.policy ≡ policy_made ends.file w.journal
 TellsOfHistory w _ = Unit {0}
 
--- each message that was ever sent and carries a version carries one of the history, as it is there
+-- each message that was ever sent and tells of a version tells of one of the history, as it is
+-- there: be it whole, by its head alone, as a change, or by bytes of its body
 abbrev pub CarriesHistory : ℕ → Type 0
 CarriesHistory servers = (events : List Event) (m : Sent)
     → Contains (mail (journal_after servers events)) m

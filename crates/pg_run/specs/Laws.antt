@@ -21,6 +21,7 @@ use Rattle.pg_house.specs.Facts.{NoCycle, NoDeadLists, OwnParent, Passing}
 use Rattle.pg_replica.specs.declared.replica.Replica.{Replica}
 use Rattle.pg_store.specs.declared.store.Store.{Store}
 use Rattle.pg_store.specs.Store.{replica_at}
+use Rattle.pg_run.specs.Asking.{Asked}
 use Rattle.pg_run.specs.Graphs.{AreConnected, AreJoined, Holds, IsConnected}
 use Rattle.pg_run.specs.Took.{Take, is_held, own_place, place_in, places_taken}
 use Rattle.pg_run.specs.Took.Taker.{InDir}
@@ -185,24 +186,24 @@ QuietDirectoriesAreBroughtBack servers = WhereConnected servers (IsBroughtBack s
 
 -- what the replicas of a server took behind the first effect of an input, and behind so many of the
 -- updates that the house rules made
-abbrev pub took_behind : Store → List Take → Input → ℕ → List Take
-took_behind store takes asked k =
+abbrev pub took_behind : Store → Asked → List Take → Input → ℕ → List Take
+took_behind store wants takes asked k =
     passed_with (removed_then store asked)
-    (passed (removed_then store asked) (took_first store takes asked))
+    (passed (removed_then store asked) (took_first store wants takes asked))
     (take k (made_behind store asked))
 
 -- the house rules bring a directory back at a server, whose own place was this dead one, and where
 -- it lists a child with this place
-pub record Returns (store : Store) (takes : List Take) (asked : Input) (dir : FileId)
-    (removal : Place) (child : FileId) (listed : Place) : Type 0 where
+pub record Returns (store : Store) (wants : Asked) (takes : List Take) (asked : Input)
+    (dir : FileId) (removal : Place) (child : FileId) (listed : Place) : Type 0 where
   pub k : ℕ
   pub place : Place
   pub made : slice_get (made_behind store asked) k ≡ Some (update.Place dir place)
   pub live : place.live ≡ true
-  pub was : own_place dir (took_behind store takes asked k) ≡ removal
+  pub was : own_place dir (took_behind store wants takes asked k) ≡ removal
   pub dead : removal.live ≡ false
   pub kept : is_removed (removed_then store asked) removal.stamp.server ≡ false
-  pub cell : place_in (InDir dir) child (took_behind store takes asked k) ≡ listed
+  pub cell : place_in (InDir dir) child (took_behind store wants takes asked k) ≡ listed
   pub lists : listed.live ≡ true
   pub here : listed.parent ≡ dir
 
@@ -221,7 +222,7 @@ ReturnsAreJustified servers =
     → removal.stamp.server ≡ m
     → let w = run servers (before ++ removing ∷ between) in
     TakesIn servers w last s asked
-    → Returns (w.stores s) (w.took s) asked dir removal child listed
+    → Returns (w.stores s) (w.asked s) (w.took s) asked dir removal child listed
     → ¬ (Contains (places_taken (InDir dir) child ((run servers before).took m)) listed)
 
 -- a world is told to be quiet exactly where it is

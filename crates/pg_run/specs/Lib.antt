@@ -1,6 +1,8 @@
 pub mod Journal
 pub mod Took
+pub mod Asking
 pub mod Carried
+pub mod Asked
 pub mod Passed
 pub mod Run
 pub mod State
@@ -17,10 +19,13 @@ pub mod Leaving
 pub mod Going
 pub mod Ruled
 pub mod Ticks
+pub mod Bodies
+pub mod Deltas
 pub mod Came
 pub mod Away
 pub mod Grown
 pub mod Views
+pub mod Noted
 pub use Rattle.pg_base.specs as pg_base
 pub use Rattle.pg_patch.specs as pg_patch
 pub use Rattle.pg_path.specs as pg_path
@@ -30,6 +35,9 @@ pub use Rattle.pg_edges.specs as pg_edges
 pub use Rattle.pg_intent.specs as pg_intent
 pub use Rattle.pg_names.specs as pg_names
 pub use Rattle.pg_content.specs as pg_content
+pub use Rattle.pg_delta.specs as pg_delta
+pub use Rattle.pg_announced.specs as pg_announced
+pub use Rattle.theory_bodies.specs as theory_bodies
 pub use Rattle.theory_flood.specs as theory_flood
 pub use Rattle.pg_replica.specs as pg_replica
 pub use Rattle.pg_words.specs as pg_words

@@ -1,5 +1,5 @@
--- What each event does to the servers, to the journal, to the history of versions, and to what
--- replicas took.
+-- What each event does to the servers, to the journal, to the history of versions, to what replicas
+-- took, and to whom servers asked for bodies.
 use Rattle.std.specs.Prelude.{[], ℕ, ◌&&◌, ◌==◌, ◌+◌, Bool, true, false, not, nat_le, nat_eq, slice_get, zero, suc, if◌then◌else◌, List, ◌∷◌, ◌++◌, drop, length, map, Option, None, Some}
 use Rattle.std.specs.Option.{option_eq}
 use Rattle.pg_msg.specs.declared.message.Sent.{Sent}
@@ -21,7 +21,9 @@ use Rattle.pg_server.specs.Local.{Effect, effect, first_effect, takes_effect}
 use Rattle.pg_register.specs.Flag.{is_removed}
 use Rattle.pg_run.specs.Journal.{Born, bag, born_in, message_at, removals}
 use Rattle.pg_run.specs.Took.{Take, first_takes, take_of, without_gone}
+use Rattle.pg_run.specs.Asking.{Asked, nobody_asked}
 use Rattle.pg_run.specs.Carried.{came, gone_in, strikes}
+use Rattle.pg_run.specs.Asked.{asked_behind}
 use Rattle.pg_run.specs.Passed.{passed, passed_with}
 
 -- stores: what each server holds, by its number
@@ -29,18 +31,22 @@ use Rattle.pg_run.specs.Passed.{passed, passed_with}
 -- history: all versions that were made, each with the birth of the replica that made it, the latest
 --   first
 -- took: what each server's replicas took
+-- asked: of each version whom each server asked for it last, where that counts still
 pub record World : Type 0 where
   pub stores : ℕ → Store
   pub journal : List Entry
   pub history : List Born
   pub took : ℕ → List Take
+  pub asked : ℕ → Asked
 
--- what the servers hold after an event, its entry, the history, and what replicas took
+-- what the servers hold after an event, its entry, the history, what replicas took, and who was
+-- asked
 pub record Step : Type 0 where
   pub stores : ℕ → Store
   pub entry : Entry
   pub history : List Born
   pub took : ℕ → List Take
+  pub asked : ℕ → Asked
 
 -- ---- what an event brings a server's replicas
 
@@ -54,8 +60,8 @@ made_takes store asked =
     if strikes store asked then [] else map take_of (first_made store asked)
 
 -- what its first effect brings: what was made, and what came
-abbrev pub brought : Store → Input → List Take
-brought store asked = made_takes store asked ++ came store asked
+abbrev pub brought : Store → Asked → Input → List Take
+brought store wants asked = made_takes store asked ++ came store wants asked
 
 -- the updates that the house rules made in the event, in their order
 abbrev pub made_behind : Store → Input → List Update
@@ -63,8 +69,9 @@ made_behind store asked = drop (length (first_made store asked)) (effect store a
 
 -- what a server's replicas took then, before anything passes: what its first effect brings, and what
 -- they had, but for the replica that goes
-abbrev pub took_first : Store → List Take → Input → List Take
-took_first store takes asked = brought store asked ++ without_gone (gone_in store asked) takes
+abbrev pub took_first : Store → Asked → List Take → Input → List Take
+took_first store wants takes asked =
+    brought store wants asked ++ without_gone (gone_in store asked) takes
 
 -- the servers that are removed in a server's view behind the first effect
 abbrev pub removed_then : Store → Input → List ℕ
@@ -72,11 +79,12 @@ removed_then store asked = (first_effect store asked).store.names.removed
 
 -- what a server's replicas took then: what its first effect brings passes, and so does each update
 -- that the house rules make
-abbrev pub took_after : Store → List Take → Input → List Take
-took_after store takes asked =
+abbrev pub took_after : Store → Asked → List Take → Input → List Take
+took_after store wants takes asked =
     if takes_effect store asked
     then passed_with (removed_then store asked)
-    (passed (removed_then store asked) (took_first store takes asked)) (made_behind store asked)
+    (passed (removed_then store asked) (took_first store wants takes asked))
+    (made_behind store asked)
     else takes
 
 -- ---- events
@@ -101,6 +109,7 @@ idle_step w event cause = record {
   entry = idle_entry event cause;
   history = w.history;
   took = w.took;
+  asked = w.asked;
 }
 
 -- the versions that a server made in an event, each of its replica as that is then
@@ -113,7 +122,9 @@ effect_step w event server asked = record {
   stores = after w.stores server (effect (w.stores server) asked).store;
   entry = effect_entry event (effect (w.stores server) asked);
   history = history_after w.history (effect (w.stores server) asked);
-  took = after w.took server (took_after (w.stores server) (w.took server) asked);
+  took = after w.took server
+      (took_after (w.stores server) (w.asked server) (w.took server) asked);
+  asked = after w.asked server (asked_behind (w.stores server) (w.asked server) asked);
 }
 
 abbrev pub is_server : ℕ → ℕ → Bool
@@ -228,6 +239,7 @@ world_after w step =
       journal = step.entry ∷ w.journal;
       history = step.history;
       took = step.took;
+      asked = step.asked;
     }
 
 abbrev pub start : ℕ → World
@@ -236,6 +248,7 @@ start servers = record {
   journal = [];
   history = [];
   took = λ server. first_takes (first_flags servers);
+  asked = λ server. nobody_asked;
 }
 
 -- the world after these events, the first of them first

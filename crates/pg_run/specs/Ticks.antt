@@ -1,5 +1,5 @@
 -- What a tick sends in any run, and what a restart does.
-use Rattle.std.specs.Prelude.{ℕ, Bool, true, false, not, Option, None, Some, [], ◌∷◌, ◌++◌, ◌==◌, ◌≡◌, ◌≢◌, ◌≤◌, ◌/◌, ◌%◌, ◌⊎◌, ◌↔◌, List, length, map, slice_get}
+use Rattle.std.specs.Prelude.{ℕ, Bool, true, false, nat_lt, not, Option, None, Some, [], ◌∷◌, ◌++◌, ◌==◌, ◌≡◌, ◌≢◌, ◌≤◌, ◌/◌, ◌%◌, ◌⊎◌, ◌↔◌, List, length, map, slice_get}
 use Rattle.std.specs.List.{AllZip, filter}
 use Rattle.std.specs.List.Sorted.{IsStrictlySortedBy}
 use Rattle.std.specs.Ordering.{nat_cmp, ordering_then}
@@ -10,7 +10,10 @@ use Rattle.pg_edges.specs.declared.edge.Edge.{Edge}
 use Rattle.pg_edges.specs.Key.{key_cmp}
 use Rattle.pg_edges.specs.Keys.{tag_in}
 use Rattle.pg_edges.specs.Edges.{AscendFrom, edge_to, peers}
+use Rattle.pg_edges.specs.declared.key.Key.{Key}
+use Rattle.pg_edges.specs.declared.key.Key.TheVariants as key
 use Rattle.pg_entries.specs.declared.cell.Cell.{Cell}
+use Rattle.pg_entries.specs.declared.cell.Cell.TheVariants as cell
 use Rattle.pg_entries.specs.declared.entry.Entry.{Entry as ChildEntry}
 use Rattle.pg_intent.specs.declared.intent.Intent.{Intent}
 use Rattle.pg_intent.specs.declared.intent.Intent.TheVariants as intent
@@ -18,9 +21,11 @@ use Rattle.pg_intent.specs.Intent.{target_of}
 use Rattle.pg_msg.specs.declared.message.Message.{Message}
 use Rattle.pg_msg.specs.declared.message.Message.TheVariants as message
 use Rattle.pg_msg.specs.declared.message.Sent.{Sent}
-use Rattle.pg_msg.specs.declared.summary.Summary.{Summary}
+use Rattle.pg_msg.specs.declared.summary.Detail.{Detail}
 use Rattle.pg_msg.specs.declared.summary.Detail.TheVariants as detail
+use Rattle.pg_msg.specs.declared.summary.MessageKind.{MessageKind}
 use Rattle.pg_msg.specs.declared.summary.MessageKind.TheVariants as kind
+use Rattle.pg_msg.specs.declared.summary.Summary.{Summary}
 use Rattle.pg_msg.specs.Sent.{summary}
 use Rattle.pg_call.specs.declared.refusal.Refusal.TheVariants.{ClockEnd}
 use Rattle.pg_call.specs.declared.reply.Reply.TheVariants.{Done, Refused}
@@ -36,11 +41,11 @@ use Rattle.pg_replica.specs.declared.replica.Replica.{Replica}
 use Rattle.pg_store.specs.Births.{birth_of}
 use Rattle.pg_store.specs.Store.{is_full, is_before_clock_end, replica_at}
 use Rattle.pg_server.specs.pg_pieces.Posting.{sent_to}
-use Rattle.pg_server.specs.pg_cells.Sending.{waits}
+use Rattle.pg_server.specs.pg_cells.Sending.{told_as, waits}
 use Rattle.pg_house.specs.Facts.{is_among}
 use Rattle.pg_register.specs.Place.{root}
 use Rattle.pg_server.specs.pg_graph.Walks.{edges_of}
-use Rattle.pg_server.specs.Local.{without_volatile}
+use Rattle.pg_server.specs.Local.{without_sources, without_volatile}
 use Rattle.pg_server.specs.Owing.{owed_keys}
 use Rattle.pg_run.specs.Run.{Step, is_live, next, run}
 
@@ -69,19 +74,29 @@ let_through a = filter (is_let a) (owed_keys a)
 
 -- ---- one cell
 
--- the cell of a key that is owed, as it is told
-abbrev pub owed_cell : OwedKey → Summary
-owed_cell o = record {
-  from = o.server;
-  to = o.peer;
-  kind = kind.Cell;
-  file = o.file;
-  detail = detail.Key o.key;
-}
+-- a version of more than 1,024 bytes goes by its head alone, all else whole
+abbrev pub is_large : Option Cell → Bool
+is_large None = false
+is_large (Some (cell.Place place)) = false
+is_large (Some (cell.Flag flag)) = false
+is_large (Some (cell.Entry entry sure)) = false
+is_large (Some (cell.Version v)) = nat_lt 1024 v.head.length
+
+abbrev pub told_of : OwedKey → MessageKind → Detail → Summary
+told_of o k d =
+    record { from = o.server; to = o.peer; kind = k; file = o.file; detail = d }
+
+abbrev pub owed_as : OwedKey → Key → Bool → Summary
+owed_as o (key.Version stamp) true = told_of o kind.Harbinger (detail.Stamp stamp)
+owed_as o k large = told_of o kind.Cell (detail.Key k)
+
+-- the cell of a key that is owed, as it is told: as a harbinger where it is such a version
+abbrev pub owed_cell : Store → OwedKey → Summary
+owed_cell a o = owed_as o o.key (is_large (cell_at a o.file o.key))
 
 -- the same, whole: it goes along the edge to the peer, names the births of both ends, and carries
--- the present cell of that key under the tag that the key has there. `sent_to` is a message in the
--- server's view
+-- the present cell of that key, or its head alone, under the tag that the key has there. `sent_to`
+-- is a message in the server's view
 pub record IsOwedCell (a : Store) (o : OwedKey) (m : Sent) : Type 0 where
   pub replica : Replica
   pub edge : Edge
@@ -91,7 +106,7 @@ pub record IsOwedCell (a : Store) (o : OwedKey) (m : Sent) : Type 0 where
   pub linked : edge_to replica.edges o.peer ≡ Some edge
   pub tagged : tag_in edge.keys o.key ≡ Some tag
   pub present : cell_at a o.file o.key ≡ Some c
-  pub whole : m ≡ sent_to a o.peer (message.Cell
+  pub whole : m ≡ sent_to a o.peer (told_as
       (record { file = o.file; sender = replica.birth; receiver = edge.birth }) tag c)
 
 -- ---- what is asked by intentions
@@ -176,7 +191,7 @@ pub record SendsWhatItOwes (a : Store) (word : ℕ) (entry : Entry) : Type 0 whe
   pub owed : AllZip (IsOwedCell a) (let_through a) cells
   pub asked : AllZip (IsRequest a) (asking a) requests
   pub walk : AreWalks a word walks
-  pub summaries : map summary cells ≡ map owed_cell (let_through a)
+  pub summaries : map summary cells ≡ map (owed_cell a) (let_through a)
   pub order : IsStrictlySortedBy owing_cmp (owed_keys a)
 
 -- the tick was refused, and nothing was made or sent
@@ -185,13 +200,15 @@ pub record IsRefused (entry : Entry) : Type 0 where
   pub made : entry.made ≡ []
   pub none : entry.sent ≡ []
 
--- a tick is refused exactly where its server's clock is at its end; and it changes nothing that any
--- server holds
+-- a tick is refused exactly where its server's clock is at its end. Of no announced version anybody
+-- is asked any more behind one that is not; and it changes nothing else that any server holds
 pub record TickSends (stores : ℕ → Store) (server word : ℕ) (step : Step) : Type 0 where
   pub void : step.entry.void ≡ None
   pub sends : HasTime (stores server) → SendsWhatItOwes (stores server) word step.entry
+  pub loses : HasTime (stores server) → step.stores server ≡ without_sources (stores server)
   pub refuses : ¬ (HasTime (stores server)) → IsRefused step.entry
-  pub still : (s : ℕ) → step.stores s ≡ stores s
+  pub stays : ¬ (HasTime (stores server)) → step.stores server ≡ stores server
+  pub still : (s : ℕ) → s ≢ server → step.stores s ≡ stores s
 
 -- and a live server sends then just what it owes, what it asks for, and at most one walk
 abbrev pub TicksSendWhatIsOwed : ℕ → Type 0

@@ -16,7 +16,7 @@ use Rattle.pg_calls.specs.pg_intentions.Requests.{ask_all}
 use Rattle.pg_calls.specs.Calls.{do_call}
 use Rattle.pg_server.specs.declared.input.Input.{Input}
 use Rattle.pg_server.specs.declared.input.Input.TheVariants as input
-use Rattle.pg_server.specs.Local.{Effect, closed, done_of, effect, effect_of, finished, is_heard, receive, sent_again, without_volatile}
+use Rattle.pg_server.specs.Local.{Effect, closed, done_of, effect, effect_of, finished, is_heard, receive, sent_again, without_sources, without_volatile}
 
 pub of_kind : (s : Store) (i k : Input) → i ≡ k → effect s k ≡ effect_of s i
 unfolding effect_of
@@ -56,18 +56,20 @@ heard a p v goes b w new is true_is bs ws =
     ∙ sym (ap (λ (t : Bool). if t then closed None (if t then d else rest) else finished None (if t then d else rest)) (sym is ∙ true_is))
 
 -- behind a tick
-pub ticked : (a : Store) (m word : ℕ) (v u x w : Work) (goes : Bool)
-    → v ≡ new_work m 0 → goes ≡ is_before_clock_end a → goes ≡ true
-    → u ≡ tick a v → x ≡ ask_all a u → w ≡ walk_of_tick a word x
-    → closed (Some reply.Done) (idle a w) ≡ effect a (input.Tick m word)
-ticked a m word v u x w goes new is true_is us xs ws =
+pub ticked : (a lost : Store) (m word : ℕ) (v u x w : Work) (goes : Bool)
+    → v ≡ new_work m 0 → goes ≡ is_before_clock_end a → goes ≡ true → lost ≡ without_sources a
+    → u ≡ tick lost v → x ≡ ask_all lost u → w ≡ walk_of_tick lost word x
+    → closed (Some reply.Done) (idle lost w) ≡ effect a (input.Tick m word)
+ticked a lost m word v u x w goes new is true_is gone us xs ws =
     let none = new_work m 0 in
     let late : Reply = reply.Refused ClockEnd in
-    ap (λ (y : Work). closed (Some reply.Done) (idle a y))
-    (ws ∙ ap (walk_of_tick a word) (xs ∙ ap (ask_all a) (us ∙ ap (tick a) new)))
+    let again = idle (without_sources a) (sent_again (without_sources a) word none) in
+    ap (λ (y : Work). closed (Some reply.Done) (idle lost y))
+    (ws ∙ ap (walk_of_tick lost word) (xs ∙ ap (ask_all lost) (us ∙ ap (tick lost) new)))
+    ∙ ap (λ (s : Store). closed (Some reply.Done) (idle s (sent_again s word none))) gone
     ∙ sym (ap (λ (t : Bool). if t
-    then closed (Some (if t then reply.Done else late)) (idle a (if t then sent_again a word none else none))
-    else finished (Some (if t then reply.Done else late)) (idle a (if t then sent_again a word none else none)))
+    then closed (Some (if t then reply.Done else late)) (if t then again else idle a none)
+    else finished (Some (if t then reply.Done else late)) (if t then again else idle a none))
     (sym is ∙ true_is))
 
 -- and behind a restart

@@ -1,5 +1,6 @@
 -- What a server does with what comes to it.
 use Rattle.std.specs.Prelude.{ℕ, [], ◌&&◌, ◌==◌, ◌++◌, Bool, if◌then◌else◌, Option, None, Some}
+use Rattle.pg_announced.specs.Announced.{released}
 use Rattle.pg_call.specs.declared.refusal.Refusal.TheVariants.{ClockEnd}
 use Rattle.pg_call.specs.declared.reply.Reply.{Reply}
 use Rattle.pg_call.specs.declared.reply.Reply.TheVariants as reply
@@ -29,6 +30,11 @@ use Rattle.pg_calls.specs.pg_graph.Leaving.{bye, bye_ok, leave, leave_ok}
 use Rattle.pg_calls.specs.pg_graph.Seeking.{here, seek}
 use Rattle.pg_calls.specs.pg_repair.Telling.{tell, tell_ok}
 use Rattle.pg_calls.specs.pg_graph.Walks.{walk, walk_of_tick}
+use Rattle.pg_transfer.specs.Delta.{delta}
+use Rattle.pg_transfer.specs.Harbinger.{harbinger}
+use Rattle.pg_transfer.specs.Later.{later}
+use Rattle.pg_transfer.specs.Piece.{piece}
+use Rattle.pg_transfer.specs.Want.{want}
 use Rattle.pg_calls.specs.pg_checks.Answer.{Answer}
 use Rattle.pg_calls.specs.Calls.{do_call}
 use Rattle.pg_server.specs.declared.input.Input.{Input}
@@ -74,16 +80,15 @@ abbrev pub is_heard : Store → Packet → Bool
 is_heard store packet = is_before_clock_end store && ((packet.view == view_of store)
     && (is_live_other store packet.from && is_in_range packet.message))
 
--- each kind of message goes to its handler, which does nothing where the message is not accepted.
--- Bodies on demand are not built: their messages do nothing
+-- each kind of message goes to its handler, which does nothing where the message is not accepted
 abbrev pub receive : Store → Message → Work → Done
 receive store (message.Cell ends tag c) work = cell store ends tag c work
 receive store (message.Ack ends k tag) work = ack store ends k tag work
-receive store (message.Harbinger ends tag head) work = idle store work
-receive store (message.Want ends wanted) work = idle store work
-receive store (message.Delta ends delta) work = idle store work
-receive store (message.Piece ends piece) work = idle store work
-receive store (message.Later ends stamp) work = idle store work
+receive store (message.Harbinger ends tag head) work = harbinger store ends tag head work
+receive store (message.Want ends wanted) work = want store ends wanted work
+receive store (message.Delta ends d) work = delta store ends d work
+receive store (message.Piece ends p) work = piece store ends p work
+receive store (message.Later ends stamp) work = later store ends stamp work
 receive store (message.Fetch file birth) work = fetch store file birth work
 receive store (message.Grant ends granted) work = grant store ends granted work
 receive store (message.NoGrant file birth) work = no_grant store file birth work
@@ -115,6 +120,13 @@ done_of a = record { store = a.store; work = a.work }
 abbrev pub sent_again : Store → ℕ → Work → Work
 sent_again store word work = walk_of_tick store word (ask_all store (tick store work))
 
+-- no server is asked for any version any more
+abbrev pub without_sources : Store → Store
+without_sources store = record store { announced = released store.announced }
+
+abbrev pub ticked : Store → ℕ → Work → Done
+ticked store word work = idle (without_sources store) (sent_again (without_sources store) word work)
+
 -- a restart loses the wishes and what is noted of versions, and nothing else
 abbrev pub without_volatile : Store → Store
 without_volatile store = record store { announced = []; wishes = [] }
@@ -123,9 +135,9 @@ without_volatile store = record store { announced = []; wishes = [] }
 -- that is not heard is ignored
 abbrev pub first_effect : Store → Input → Done
 first_effect store (input.Call moment call) = done_of (do_call store call (new_work moment 0))
-first_effect store (input.Tick moment word) = idle store
-    (if is_before_clock_end store then sent_again store word (new_work moment 0)
-    else new_work moment 0)
+first_effect store (input.Tick moment word) =
+    if is_before_clock_end store then ticked store word (new_work moment 0)
+    else idle store (new_work moment 0)
 first_effect store (input.Arrival packet) =
     if is_heard store packet then receive store packet.message (new_work 0 packet.from)
     else idle store (new_work 0 packet.from)

@@ -2,7 +2,7 @@
 
 ghost use Rattle.std.specs.Prelude.{◌≡◌, ◌≤◌, ◌^◌, ◌++◌, OnOk, IfOk};
 ghost use Rattle.pg_calls.specs.pg_pieces.Done.{idle};
-ghost use Rattle.pg_server.specs.Local.{closed, effect, effect_of, finished, is_heard, out_of, receive, without_volatile};
+ghost use Rattle.pg_server.specs.Local.{closed, effect, effect_of, finished, is_heard, out_of, receive, without_sources, without_volatile};
 
 use crate::input::{Input, Out};
 use pg_base::Items;
@@ -16,6 +16,7 @@ use pg_calls::repair::{
 };
 use pg_msg::{Message, Packet, Sent, Work};
 use pg_store::{LATEST_TIME, Store};
+use pg_transfer::{delta, harbinger, later, piece, want};
 use std::alloc::AllocError;
 
 /// These messages, and the others behind them.
@@ -93,13 +94,15 @@ fn call_effect(store: &mut Store, moment: u64, call: &Call) -> Result<Out, Alloc
     }
 }
 
-/// Sends again what is not acknowledged, and last a walk, if the word chooses one. At the end of the clock it is refused.
+/// No server is asked for any version any more. What is not acknowledged is sent again, and last a walk, if the word chooses
+/// one. At the end of the clock it is refused.
 fn tick_effect(store: &mut Store, moment: u64, word: u64) -> Result<Out, AllocError>
     ensures store { OnOk result (store.new ≡ (effect store.old (Input.Tick moment word)).store) }
     ensures out { IfOk result (λ out. out ≡ (effect store.old (Input.Tick moment word)).out) }
 {
     let mut work = Work::new(store.allocator(), moment, 0);
     if store.is_before_clock_end() {
+        lose_sources(store);
         tick(store, &mut work)?;
         ask_all(store, &mut work)?;
         walk_of_tick(store, word, &mut work)?;
@@ -108,6 +111,13 @@ fn tick_effect(store: &mut Store, moment: u64, word: u64) -> Result<Out, AllocEr
         let reply = Reply::Refused(Refusal::ClockEnd);
         Ok(finished(Some(reply), store, work)?)
     }
+}
+
+/// No server is asked for any version any more.
+fn lose_sources(store: &mut Store)
+    ensures { store.new ≡ without_sources store.old }
+{
+    store.announced.release();
 }
 
 /// It has lost its wishes and what it noted of versions, and nothing else: there is no reply, nothing is made, and nothing
@@ -159,8 +169,7 @@ fn arrival_effect(store: &mut Store, packet: Packet) -> Result<Out, AllocError>
     }
 }
 
-/// Each kind of message goes to its handler, which does nothing where the message is not accepted. What has no handler
-/// changes nothing.
+/// Each kind of message goes to its handler, which does nothing where the message is not accepted.
 fn receive(store: &mut Store, message: Message, work: &mut Work) -> Result<(), AllocError>
     requires { store.old.tags ≤ 2 ^ 62 }
     ensures store { OnOk result (store.new ≡ (receive store.old message work.old).store) }
@@ -176,11 +185,17 @@ fn receive(store: &mut Store, message: Message, work: &mut Work) -> Result<(), A
             ack(store, ends, key, tag, work);
             Ok(())
         }
-        Message::Harbinger { .. } => Ok(()),
-        Message::Want { .. } => Ok(()),
-        Message::Delta { .. } => Ok(()),
-        Message::Piece { .. } => Ok(()),
-        Message::Later { .. } => Ok(()),
+        Message::Harbinger { ends, tag, head } => harbinger(store, ends, tag, &head, work),
+        Message::Want { ends, wanted } => want(store, ends, wanted.get(), work),
+        Message::Delta {
+            ends,
+            delta: received,
+        } => delta(store, ends, received.get(), work),
+        Message::Piece {
+            ends,
+            piece: received,
+        } => piece(store, ends, received.get(), work),
+        Message::Later { ends, stamp } => later(store, ends, stamp, work),
         Message::Fetch { file, birth } => fetch(store, file, birth, work),
         Message::Grant { ends, granted } => grant(store, ends, granted.get(), work),
         Message::NoGrant { file, birth } => {

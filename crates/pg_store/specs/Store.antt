@@ -10,6 +10,7 @@ use Rattle.pg_base.specs.Version.{VersionValue}
 use Rattle.pg_patch.specs.Ranges.{RangesValue}
 use Rattle.pg_content.specs.Content.{ContentValue}
 use Rattle.pg_announced.specs.Announced.{NotesValue, without_covered}
+use Rattle.pg_delta.specs.declared.delta.KeptDelta.{KeptDelta}
 use Rattle.pg_edges.specs.declared.key.Key.{Key}
 use Rattle.pg_edges.specs.declared.key.Key.TheVariants as key
 use Rattle.pg_register.specs.declared.flag.Flag.{Flag}
@@ -21,7 +22,7 @@ use Rattle.pg_names.specs.Names.{InodeValue, NamesValue, is_entry_new, is_flag_n
 use Rattle.pg_names.specs.Names.{is_full as names_fill, is_held as names_hold}
 use Rattle.pg_replica.specs.declared.link.Link.{Link}
 use Rattle.pg_replica.specs.declared.replica.Replica.{Replica}
-use Rattle.pg_replica.specs.Replicas.{ByFile, edge_count, have_own_end, or_nothing, replica_in, replicas_acked, replicas_taking, replicas_touched, replicas_writing, takes_version}
+use Rattle.pg_replica.specs.Replicas.{ByFile, edge_count, have_own_end, or_nothing, replica_in, replicas_acked, replicas_keeping, replicas_taking, replicas_touched, replicas_writing, takes_version}
 use Rattle.pg_store.specs.declared.store.Store.{Store}
 use Rattle.pg_store.specs.declared.taking.EntryNews.{EntryNews}
 use Rattle.pg_store.specs.declared.taking.EntryNews.TheVariants as news
@@ -201,6 +202,12 @@ take_version store file v =
 abbrev pub write : Store → FileId → Stamp → RangesValue → Store
 write store file stamp ranges = end_covered (with_news store file stamp
     (replicas_writing store.replicas file stamp ranges store.tags (replica_at store file))) file
+
+-- one more delta of a held file is kept
+abbrev pub keep_delta : Store → FileId → KeptDelta → Store
+keep_delta store file delta = record store {
+  replicas = replicas_keeping store.replicas file delta (replica_at store file);
+}
 
 -- ---- an answer
 

@@ -3,11 +3,12 @@
 ghost use Rattle.std.specs.Prelude.{◌≡◌, ◌≢◌, ◌≤◌, ◌^◌, IfErr, IfOk, None, OnOk, Some, map, true};
 ghost use Rattle.pg_base.specs.Version.{stamp_of};
 ghost use Rattle.pg_replica.specs.Replica.{has_room, refusal_of};
-ghost use Rattle.pg_store.specs.Store.{content_of, end_covered, has_replica, is_new_version, replica_of, take_version, write};
+ghost use Rattle.pg_store.specs.Store.{content_of, end_covered, has_replica, is_new_version, keep_delta, replica_of, take_version, write};
 
 use crate::store::{COUNTER_LIMIT, Store};
 use pg_base::{FileId, Items, Stamp, Version};
 use pg_content::WriteError;
+use pg_delta::KeptDelta;
 use pg_patch::Ranges;
 use std::alloc::AllocError;
 
@@ -55,6 +56,13 @@ impl Store {
         self.names.raise(stamp.time);
         self.end_covered(&file);
         Ok(bases)
+    }
+
+    /// The replica of a held file keeps one more delta. After out of memory all is as before.
+    pub fn keep_delta(&mut self, file: FileId, delta: KeptDelta) -> Result<(), AllocError>
+        ensures { OnOk result (self.new ≡ keep_delta self.old file delta) }
+    {
+        self.replicas.keep_delta(file, delta)
     }
 
     /// What the replica of the file covers is not noted any more.

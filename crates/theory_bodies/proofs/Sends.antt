@@ -70,7 +70,7 @@ among_append (x ∷ xs) ys d l = elim l [
   | inr there ↦ elim (among_append xs ys d there) [ inl a ↦ inl (inr a) | inr z ↦ inr z ]
 ]
 
-among_reverse : (xs : List KeptDelta) (d : KeptDelta) → Among d (reverse xs) → Among d xs
+pub among_reverse : (xs : List KeptDelta) (d : KeptDelta) → Among d (reverse xs) → Among d xs
 among_reverse [] d l = absurd l
 among_reverse (x ∷ xs) d l = elim (among_append (reverse xs) (x ∷ []) d (subst (Among d) (reverse-append (x ∷ []) xs) l)) [
   | inl a ↦ inr (among_reverse xs d a)

@@ -4,9 +4,12 @@ use Rattle.pg_base.specs.declared.head.Head.{Head}
 use Rattle.pg_base.specs.declared.id.FileId.{FileId}
 use Rattle.pg_base.specs.declared.stamp.Stamp.{Stamp}
 use Rattle.pg_base.specs.Version.{VersionValue}
-use Rattle.pg_patch.specs.Ranges.{RangesValue}
-use Rattle.pg_content.specs.Content.{next_length}
+use Rattle.pg_patch.specs.Ranges.{IsRanges, RangesValue}
+use Rattle.pg_content.specs.Content.{Among, next_length}
+use Rattle.pg_delta.specs.declared.delta.KeptDelta.{KeptDelta}
+use Rattle.pg_delta.specs.Chain.{LeadsBy}
 use Rattle.pg_delta.specs.Taking.{patched_version, stamps_of}
+use Rattle.pg_delta.specs.Whole.{delta_of}
 use Rattle.theory_bodies.specs.Asked.{AreAgreed, AskStep, Asking, asking_of}
 use Rattle.theory_bodies.specs.Book.{IsBook, Book, GrowsTo, IsVersionIn}
 use Rattle.theory_bodies.specs.Protocol.{Holding, Keeps, Note, Protocol, Said}
@@ -44,6 +47,14 @@ module _ {N M : Type 0} (p : Protocol N M) where
   TheTagIsAHarbingers = (b : Book) (nodes : ℕ → N) (mail : List M) (s : ℕ) → Keeps p b nodes mail
       → (file : FileId) (stamp : Stamp) (n : Note) → p.notes (nodes s) file stamp ≡ Some n
       → n.source ≢ 0 → Said p.tells mail (Announces n.source s file n.tag n.head)
+
+-- ---- what is sent of kept deltas
+
+-- WHERE SOMETHING IS COMPUTED TO BE SENT of kept deltas, whose ranges are ranges, they lead there by it
+abbrev pub SentDeltasLead : Type 0
+SentDeltasLead = (kept : List KeptDelta) → ((d : KeptDelta) → Among d kept → IsRanges d.ranges)
+    → (from : List Stamp) (to : Stamp) (len : ℕ) (c : RangesValue)
+    → delta_of kept from to len ≡ Some c → LeadsBy kept from to c
 
 -- ---- what was asked
 

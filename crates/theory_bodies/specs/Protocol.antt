@@ -2,12 +2,14 @@
 use Rattle.std.specs.Prelude.{ℕ, ◌≡◌, ◌⊎◌, true, List, Option, Some, length, take}
 use Rattle.pg_base.specs.declared.head.Head.{Head}
 use Rattle.pg_base.specs.declared.id.FileId.{FileId}
+use Rattle.pg_base.specs.declared.policy.Policy.{Policy}
 use Rattle.pg_base.specs.declared.stamp.Stamp.{Stamp}
 use Rattle.pg_content.specs.Content.{Among, ContentValue}
 use Rattle.pg_content.specs.Covering.{AreVersionsOf}
+use Rattle.pg_content.specs.History.{Made, body_of}
 use Rattle.pg_delta.specs.declared.delta.KeptDelta.{KeptDelta}
 use Rattle.pg_delta.specs.Leading.{AreTrueDeltas}
-use Rattle.theory_bodies.specs.Book.{IsBook, Book, IsHeadIn, body_in}
+use Rattle.theory_bodies.specs.Book.{IsBook, Book, IsHeadOf}
 use Rattle.theory_bodies.specs.Telling.{IsTrue, Telling}
 use Rattle.theory_bodies.specs.Telling.Telling.{Announces}
 
@@ -31,12 +33,15 @@ pub record Protocol (N M : Type 0) : Type 1 where
   pub holds : N → FileId → Option Holding
   pub tells : M → Telling
 
--- a note: its head is that of a version of the file, of this stamp, and the bytes are the first
--- of the version's body
-pub record IsNoteIn (b : Book) (file : FileId) (stamp : Stamp) (n : Note) : Type 0 where
-  pub head : IsHeadIn b file n.head
+-- a note: its head is that of a version of this history, of this stamp, and the bytes are the
+-- first of the version's body
+pub record IsNoteOf (policy : Policy) (h : List Made) (stamp : Stamp) (n : Note) : Type 0 where
+  pub head : IsHeadOf policy h n.head
   pub at : n.head.stamp ≡ stamp
-  pub bytes : n.bytes ≡ take (length n.bytes) (body_in b file n.head.stamp)
+  pub bytes : n.bytes ≡ take (length n.bytes) (body_of policy h n.head.stamp)
+
+abbrev pub IsNoteIn : Book → FileId → Stamp → Note → Type 0
+IsNoteIn b file stamp n = IsNoteOf (b.policy file) (b.made file) stamp n
 
 -- what is held: the heads are versions of the file, whole, and the kept deltas are true
 pub record IsHoldingIn (b : Book) (file : FileId) (x : Holding) : Type 0 where

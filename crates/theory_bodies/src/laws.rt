@@ -1,6 +1,6 @@
 //! What holds in every run. Each law is a clause of a function that does nothing.
 
-ghost use Rattle.theory_bodies.specs.Laws.{ADeltaMakesTheVersion, EventsKeep, NotesGoOnToAgree, TheTagIsAHarbingers, WhatComesIsTheVersion, WhatIsAskedIsNoted};
+ghost use Rattle.theory_bodies.specs.Laws.{ADeltaMakesTheVersion, EventsKeep, NotesGoOnToAgree, SentDeltasLead, TheTagIsAHarbingers, WhatComesIsTheVersion, WhatIsAskedIsNoted};
 
 /// What servers hold and send, as bodies see it.
 pub trait Bodies {
@@ -30,6 +30,11 @@ pub fn what_comes_is_the_version<B: Bodies>()
 /// are just those that the delta starts from.
 pub fn a_delta_makes_the_version<B: Bodies>()
     ensures { ADeltaMakesTheVersion B.protocol }
+{}
+
+/// Where something is computed to be sent of kept deltas, they lead there by it.
+pub fn sent_deltas_lead()
+    ensures { SentDeltasLead }
 {}
 
 /// Who is asked for a version announced it to this server, under the tag that will be acknowledged.

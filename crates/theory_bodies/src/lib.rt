@@ -23,5 +23,5 @@ mod laws;
 
 pub use laws::{
     Bodies, a_delta_makes_the_version, events_keep, notes_agree_with_what_was_asked,
-    the_tag_is_a_harbingers, what_comes_is_the_version,
+    sent_deltas_lead, the_tag_is_a_harbingers, what_comes_is_the_version,
 };

@@ -27,7 +27,7 @@ use Rattle.pg_store.specs.Together.{birth_at}
 use Rattle.pg_store.proofs.Over.{over_tested}
 use Rattle.theory_flood_pieces.specs.Growing.{Grows, GrowsAt, GrowsOn}
 use Rattle.theory_flood_pieces.specs.Names.{IsEntryKnownBy}
-use Rattle.theory_flood_pieces.specs.Seen.{Overs, cells, cells_in, plain, seen, standing}
+use Rattle.theory_flood_pieces.specs.Seen.{Along, at_once, cells, cells_in, plain, seen, standing}
 use Rattle.theory_flood_pieces.specs.UpTo.{IsFlagKnownBy, IsPlaceUpTo, IsUpTo}
 use Rattle.theory_flood_pieces.specs.Whole.{AreByChild, IsWhole}
 use Rattle.theory_flood_pieces.proofs.Flags.{server_of}
@@ -94,9 +94,9 @@ there_by b f birth c r (Some y) is e same holds =
       holds = holds_itself b f c (subst (λ (z : Seen Cell). Holds IsUpTo z.cells (plain c)) (sym it) holds);
     }
 
-module _ (over : Overs) (a b : Store) (on : GoesOn (cells_in over) a b) where
+module _ (along : Along) (a b : Store) (on : GoesOn (cells_in along) a b) where
   -- where its birth does not count as over
-  there : (f : FileId) (x : Replica) (q : Key) (c : Cell) → over f x.birth ≡ false → replica_at a f ≡ Some x
+  there : (f : FileId) (x : Replica) (q : Key) (c : Cell) → along.over f x.birth ≡ false → replica_at a f ≡ Some x
       → cell_at a f q ≡ Some c → IsThere b f x.birth c
   there f x q c apart here is =
       elim (on (slot f 0 0 x.birth q) (plain c) (inl (
@@ -181,14 +181,14 @@ module _ (b : Store) (own : AreByChild b.names) (f : FileId) where
 
 -- ---- one replica grows
 
-module _ (over : Overs) (n s : ℕ) (a b : Store) (k : IsWhole n s a) (l : IsWhole n s b)
-    (on : GoesOn (cells_in over) a b) (f : FileId) where
+module _ (along : Along) (n s : ℕ) (a b : Store) (k : IsWhole n s a) (l : IsWhole n s b)
+    (on : GoesOn (cells_in along) a b) (f : FileId) where
   abbrev Mine : Attributes
   Mine = own_or_blank a.names f
 
-  module _ (x : Replica) (here : replica_at a f ≡ Some x) (apart : over f x.birth ≡ false) where
+  module _ (x : Replica) (here : replica_at a f ≡ Some x) (apart : along.over f x.birth ≡ false) where
     all_cells : (q : Key) (c : Cell) → cell_at a f q ≡ Some c → Holds IsUpTo (cell_at b f) c
-    all_cells q c is = (there over a b on f x q c apart here is).holds
+    all_cells q c is = (there along a b on f x q c apart here is).holds
 
     place_grows : IsPlaceUpTo Mine.place (own_or_blank b.names f).place
     place_grows =
@@ -217,7 +217,7 @@ module _ (over : Overs) (n s : ℕ) (a b : Store) (k : IsWhole n s a) (l : IsWho
 
     replica_grows : (birth_at b f ≡ Some x.birth) × GrowsAt a b f
     replica_grows = (
-      (there over a b on f x key.Place (cell.Place Mine.place) apart here refl).born,
+      (there along a b on f x key.Place (cell.Place Mine.place) apart here refl).born,
       record {
         place = place_grows;
         flags = λ m. flag_by m (flag_of Mine.flags m) refl;
@@ -227,30 +227,30 @@ module _ (over : Overs) (n s : ℕ) (a b : Store) (k : IsWhole n s a) (l : IsWho
     )
 
   grows_if : (birth : ℕ) (o : Option Replica) → replica_at a f ≡ o
-      → option_map (λ (x : Replica). x.birth) o ≡ Some birth → (t : Bool) → over f birth ≡ t
-      → ((birth_at b f ≡ Some birth) × GrowsAt a b f) ⊎ (over f birth ≡ true)
+      → option_map (λ (x : Replica). x.birth) o ≡ Some birth → (t : Bool) → along.over f birth ≡ t
+      → ((birth_at b f ≡ Some birth) × GrowsAt a b f) ⊎ (along.over f birth ≡ true)
   grows_if birth None here is t counts = absurd (none-some birth is)
   grows_if birth (Some x) here is true counts = inr counts
   grows_if birth (Some x) here is false counts =
       let same : x.birth ≡ birth = same_Some x.birth birth is in
-      let grows = replica_grows x here (ap (over f) same ∙ counts) in
+      let grows = replica_grows x here (ap (along.over f) same ∙ counts) in
       inl (grows.0 ∙ ap (λ (m : ℕ). Some m) same, grows.1)
 
   -- WHAT GOES ON TO COVER what it covers has grown, or counts as over
   pub grows_or_counts : (birth : ℕ) → birth_at a f ≡ Some birth
-      → ((birth_at b f ≡ Some birth) × GrowsAt a b f) ⊎ (over f birth ≡ true)
-  grows_or_counts birth is = grows_if birth (replica_at a f) refl is (over f birth) refl
+      → ((birth_at b f ≡ Some birth) × GrowsAt a b f) ⊎ (along.over f birth ≡ true)
+  grows_or_counts birth is = grows_if birth (replica_at a f) refl is (along.over f birth) refl
 
 -- ---- between events, and by steps in which no replica goes
 
 -- what stores say of births counts in the end
-in_the_end : (a b : Store) → GoesOn cells a b → GoesOn (cells_in (is_over b)) a b
+in_the_end : (a b : Store) → GoesOn cells a b → GoesOn (cells_in (at_once (is_over b))) a b
 in_the_end a b on q c h = elim h [ inl t ↦ on q c (inl t) | inr counts ↦ inr counts ]
 
 module _ (n s : ℕ) (a b : Store) (k : IsWhole n s a) (l : IsWhole n s b) where
   -- by all that is over in the end
-  pub grown_in : GoesOn (cells_in (is_over b)) a b → Grows a b
-  grown_in on f birth is = elim (grows_or_counts (is_over b) n s a b k l on f birth is) [
+  pub grown_in : GoesOn (cells_in (at_once (is_over b))) a b → Grows a b
+  grown_in on f birth is = elim (grows_or_counts (at_once (is_over b)) n s a b k l on f birth is) [
     | inl grows ↦ inl grows
     | inr counts ↦ inr ((over_tested b f birth).0 counts)
   ]
@@ -260,7 +260,7 @@ module _ (n s : ℕ) (a b : Store) (k : IsWhole n s a) (l : IsWhole n s b) where
 
   pub grown_by_steps : Steps standing a b → GrowsOn a b
   grown_by_steps steps f birth is =
-      elim (grows_or_counts (λ (g : FileId) (m : ℕ). false) n s a b k l steps.moves.covers f birth is) [
+      elim (grows_or_counts (at_once (λ (g : FileId) (m : ℕ). false)) n s a b k l steps.moves.covers f birth is) [
         | inl grows ↦ grows
         | inr counts ↦ absurd (false≢true counts)
       ]

@@ -24,7 +24,7 @@ use Rattle.pg_store.specs.Store.{replica_at}
 use Rattle.pg_store.proofs.Going.{cell_left, go_together, own_left}
 use Rattle.pg_store.proofs.Over.{known_behind}
 use Rattle.theory_flood_pieces.specs.Laws.{GoingsAreSteps}
-use Rattle.theory_flood_pieces.specs.Seen.{Overs, cells_in, see, seen}
+use Rattle.theory_flood_pieces.specs.Seen.{Along, cells_in, see, seen}
 use Rattle.theory_flood_pieces.specs.Whole.{AreEdges, AreOrderly, IsWhole}
 use Rattle.theory_flood_pieces.proofs.Stores.{cell_same, content_same, plain_at}
 use Rattle.theory_flood_pieces.proofs.Whole.{whole_by}
@@ -64,18 +64,18 @@ module _ (a : Store) (file : FileId) where
   others : OthersStay (see a) (see Left) file
   others f apart = ap (option_map (seen Left f)) (left_elsewhere f apart) ∙ seen_same f apart (replica_at a f)
 
-  left_steps : (over : Overs) (x : Replica) → replica_at a file ≡ Some x → over file x.birth ≡ true → Steps (cells_in over) a Left
-  left_steps over x here is =
+  left_steps : (along : Along) (x : Replica) → replica_at a file ≡ Some x → along.over file x.birth ≡ true → Steps (cells_in along) a Left
+  left_steps along x here is =
       let up : a.tags ≤ a.tags = omega arith in
-      drop_steps (cells_in over) a Left file (seen a file x) (ap (option_map (seen a file)) here)
+      drop_steps (cells_in along) a Left file (seen a file x) (ap (option_map (seen a file)) here)
       (ap (option_map (seen Left file)) left_here) up others
       (record { over = λ f n c h. h; taken = λ f n c h. tt }) (λ c h took. is)
 
-  steps_by : (over : Overs) (n : ℕ) (o : Option Replica) → replica_at a file ≡ o
-      → option_map (λ (x : Replica). x.birth) o ≡ Some n → over file n ≡ true → Steps (cells_in over) a Left
-  steps_by over n None here is counts = absurd (none-some n is)
-  steps_by over n (Some x) here is counts =
-      left_steps over x here (ap (over file) (same_Some x.birth n is) ∙ counts)
+  steps_by : (along : Along) (n : ℕ) (o : Option Replica) → replica_at a file ≡ o
+      → option_map (λ (x : Replica). x.birth) o ≡ Some n → along.over file n ≡ true → Steps (cells_in along) a Left
+  steps_by along n None here is counts = absurd (none-some n is)
+  steps_by along n (Some x) here is counts =
+      left_steps along x here (ap (along.over file) (same_Some x.birth n is) ∙ counts)
 
   -- ---- the server is whole
 
@@ -102,4 +102,4 @@ whole_gone n s a file k =
 
 -- A REPLICA GOES
 pub go_steps : GoingsAreSteps
-go_steps n s a file birth over k is counts = steps_by a file over birth (replica_at a file) refl is counts
+go_steps n s a file birth along k is counts = steps_by a file along birth (replica_at a file) refl is counts

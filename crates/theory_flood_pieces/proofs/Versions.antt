@@ -39,7 +39,7 @@ use Rattle.pg_replica.specs.Replicas.{ByFile, edge_count, or_nothing, put_replic
 use Rattle.pg_store.specs.Cells.{cell_at, flag_cell, version_cell}
 use Rattle.pg_store.specs.Store.{content_of, end_covered, replica_at, take_version, with_drawn, with_names, write}
 use Rattle.theory_flood_pieces.specs.Histories.{IsOfHistory}
-use Rattle.theory_flood_pieces.specs.Seen.{plain, seen, standing}
+use Rattle.theory_flood_pieces.specs.Seen.{head_cell, plain, seen, standing}
 use Rattle.theory_flood_pieces.specs.UpTo.{IsUpTo}
 use Rattle.theory_flood_pieces.proofs.Growth.{SameNames}
 use Rattle.theory_flood_pieces.proofs.Single.{one_steps}
@@ -73,10 +73,10 @@ module _ (b : Store) (file : FileId) (order : InStrictOrder (content_of b file).
   version_held v up = record { key = key_of up.0; cell = cell.Version up.0; is = ap version_cell (head_found Heads up.0 order up.1); upto = up.2 }
 
   -- and seen by the edges
-  version_seen : (v : VersionValue) → IsUpToHead v.head.vector Heads → Holds IsUpTo (plain_at b file) (cell.Version v)
+  version_seen : (v : VersionValue) → IsUpToHead v.head.vector Heads → Holds IsUpTo (plain_at b file) (head_cell v.head)
   version_seen v up = record {
     key = key_of up.0;
-    cell = cell.Version up.0;
+    cell = head_cell up.0.head;
     is = ap (λ (o : Option VersionValue). option_map plain (version_cell o)) (head_found Heads up.0 order up.1);
     upto = up.2;
   }
@@ -86,7 +86,7 @@ module _ (b : Store) (file : FileId) (order : InStrictOrder (content_of b file).
     head_held stamp c None e is = absurd (let z : None ≡ Some c = is in cc)
     head_held stamp c (Some v) e is =
         let P : Cell → Type 0 = λ z. Holds IsUpTo (plain_at b file) z in
-        subst P (some_same (cell.Version v) c is) (version_seen v (covered v (cell_head (content_of a file).heads (key.Version stamp) v e).0))
+        subst P (some_same (head_cell v.head) c is) (version_seen v (covered v (cell_head (content_of a file).heads (key.Version stamp) v e).0))
 
     stays_held : (q : Key) (c : Cell) → plain_at b file q ≡ plain_at a file q → plain_at a file q ≡ Some c → Holds IsUpTo (plain_at b file) c
     stays_held q c e is = record { key = q; cell = c; is = e ∙ is; upto = cell_itself c }

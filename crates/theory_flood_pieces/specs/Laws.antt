@@ -40,7 +40,7 @@ use Rattle.pg_cells.specs.Settling.{settle, touch_all}
 use Rattle.pg_cells.specs.Ticks.{tick}
 use Rattle.theory_flood_pieces.specs.Histories.{IsOfHistory}
 use Rattle.theory_flood_pieces.specs.Names.{AreNamesUpTo, IsToldBy}
-use Rattle.theory_flood_pieces.specs.Seen.{Overs, cells, cells_in, says, saying}
+use Rattle.theory_flood_pieces.specs.Seen.{Along, answering, cells, cells_in, in_the_end, says, saying}
 use Rattle.theory_flood_pieces.specs.UpTo.{IsUpTo}
 use Rattle.theory_flood_pieces.specs.Whole.{IsOther, IsWhole, PatchesAreForDirs}
 
@@ -50,12 +50,14 @@ CellsAreSound = IsSound cells
 
 -- a server goes on by the rule of the edges, whichever births count as over all along
 abbrev pub StepsOn : Store → Store → Type 0
-StepsOn a b = (over : Overs) → Steps (cells_in over) a b
+StepsOn a b = (along : Along) → Steps (cells_in along) a b
 
--- at the end of an event those count as over that are over then, if births moved one way
+-- at the end of an event those count as over that are over then, if births moved one way; and this may
+-- be answered late
 abbrev pub EventsAreByTheRule : Type 0
-EventsAreByTheRule = (s : ℕ) (a b : Store) (heard : Saying Slot Cell) (sent : List Sent)
-    → BirthsMove a b → Rule (cells_in (is_over b)) s a b heard sent → Rule cells s a b heard sent
+EventsAreByTheRule = (s : ℕ) (a b : Store) (late : List (Saying Slot Cell)) (heard : Saying Slot Cell)
+    (sent : List Sent) → BirthsMove a b → Rule (cells_in (in_the_end b late)) s a b heard sent
+    → Rule (answering late) s a b heard sent
 
 -- ---- what comes
 
@@ -134,9 +136,9 @@ BeginningsAreSteps = (n s : ℕ) (a : Store) (file : FileId) (birth : ℕ) (poli
 
 -- a replica goes, whose birth counts as over
 abbrev pub GoingsAreSteps : Type 0
-GoingsAreSteps = (n s : ℕ) (a : Store) (file : FileId) (birth : ℕ) (over : Overs)
-    → IsWhole n s a → birth_at a file ≡ Some birth → over file birth ≡ true
-    → Steps (cells_in over) a (let_go a file)
+GoingsAreSteps = (n s : ℕ) (a : Store) (file : FileId) (birth : ℕ) (along : Along)
+    → IsWhole n s a → birth_at a file ≡ Some birth → along.over file birth ≡ true
+    → Steps (cells_in along) a (let_go a file)
 
 -- what stands beside names, replicas and tags is not seen: intentions, wishes, births, numbers of
 -- files
@@ -162,17 +164,17 @@ ViewsAreSteps = (a : Store) (server : ℕ) → StepsOn a (enter a server)
 
 -- to whichever tag, along an edge or not
 abbrev pub AnswersAreTaken : Type 0
-AnswersAreTaken = (over : Overs) (s : ℕ) (a : Store) (from : ℕ) (ends : Ends) (k : Key) (tag : ℕ)
-    → Rule (cells_in over) s a (acknowledge a ends.file (link_of from ends) k tag)
+AnswersAreTaken = (along : Along) (s : ℕ) (a : Store) (from : ℕ) (ends : Ends) (k : Key) (tag : ℕ)
+    → Rule (cells_in along) s a (acknowledge a ends.file (link_of from ends) k tag)
     (saying from s (message.Ack ends k tag)) []
 
 -- ---- what is sent
 
 -- where what was sent before may be sent, so may what comes behind it
 abbrev pub MaySendMore : (Store → Work → Work) → Type 0
-MaySendMore sending = (over : Overs) (n s : ℕ) (a b : Store) (heard : Saying Slot Cell) (work : Work)
-    → IsWhole n s b → HasSoundTags (cells_in over) b → AllMay (cells_in over) s a b heard work.sent
-    → AllMay (cells_in over) s a b heard (sending b work).sent
+MaySendMore sending = (along : Along) (n s : ℕ) (a b : Store) (heard : Saying Slot Cell) (work : Work)
+    → IsWhole n s b → HasSoundTags (cells_in along) b → AllMay (cells_in along) s a b heard work.sent
+    → AllMay (cells_in along) s a b heard (sending b work).sent
 
 abbrev pub TicksMaySend : Type 0
 TicksMaySend = MaySendMore tick
@@ -182,8 +184,8 @@ EndsMaySend = MaySendMore finish
 
 -- what the edges do not read may always be sent
 abbrev pub OthersMayBeSent : Type 0
-OthersMayBeSent = (over : Overs) (s : ℕ) (a b : Store) (heard : Saying Slot Cell) (ms : List Sent)
-    → All (λ m. says m ≡ Other) ms → AllMay (cells_in over) s a b heard ms
+OthersMayBeSent = (along : Along) (s : ℕ) (a b : Store) (heard : Saying Slot Cell) (ms : List Sent)
+    → All (λ m. says m ≡ Other) ms → AllMay (cells_in along) s a b heard ms
 
 -- ---- whole servers
 

@@ -9,7 +9,8 @@ pub fn cells_are_sound()
     ensures { CellsAreSound }
 {}
 
-/// Within an event the births that are over at its end may count as over all along.
+/// Within an event the births that are over at its end may count as over all along, whatever is
+/// answered late.
 pub fn over_counts()
     ensures { EventsAreByTheRule }
 {}

@@ -21,6 +21,8 @@ returns c = λ n. record {
     grow = c.views_are_prefixes.ensures.grow n;
     sent = c.messages_are_of_views.ensures.sent n;
     mailed = c.messages_are_of_views.ensures.views n;
+    rests = c.removed_servers_rest.ensures.rests n;
+    none_to_removed = c.removed_servers_rest.ensures.none n;
   };
   intents = record {
     order = c.intentions_are_in_order.ensures n;
@@ -33,9 +35,18 @@ returns c = λ n. record {
     determined = c.states_are_heads.ensures.determined n;
     made = c.runs_make_histories.ensures.histories n;
     one = c.runs_make_histories.ensures.one n;
+    stamps = c.stamps_are_drawn_once.ensures n;
     ancestry = c.runs_make_histories.ensures.ancestry n;
     carried = c.runs_make_histories.ensures.carried n;
     clock = c.clocks_end_first.ensures n;
+    announced = c.sources_announced.ensures n;
+    asked = c.one_is_asked.ensures n;
+    kept = c.kept_deltas_are_latest.ensures n;
+  };
+  bodies = record {
+    answers = c.bodies_answer_wants.ensures n;
+    shortest = c.wants_get_the_shortest_change.ensures n;
+    first = c.first_harbingers_ask.ensures n;
   };
   edges = record {
     whole = c.runs_keep_edges.ensures.whole n;
@@ -83,9 +94,13 @@ returns c = λ n. record {
     past = c.places_were_made.ensures.past n;
     known = c.what_is_carried_is_known.ensures n;
     merge = c.names_are_what_was_taken.ensures n;
+    determined = c.names_are_determined.ensures n;
     justified = c.returns_are_justified.ensures.justified n;
+    returns_list = c.returns_list_a_child.ensures n;
+    removals_stay = c.removals_stay.ensures n;
     owed = c.ticks_send_what_is_owed.ensures n;
     lost = c.restarts_lose_wishes.ensures n;
+    refused = c.refusals_change_nothing.ensures n;
     listed = c.listings_are_kept.ensures.kept n;
   };
   quiet = record {

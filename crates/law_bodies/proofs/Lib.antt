@@ -1,0 +1,8 @@
+mod Short
+mod Sent
+mod Told
+mod Linked
+mod Begun
+mod Keys
+mod First
+mod Harbingers

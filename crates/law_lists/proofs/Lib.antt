@@ -1,0 +1,6 @@
+mod Reasons
+mod Returning
+mod Behind
+mod Listing
+mod Staying
+mod Removing

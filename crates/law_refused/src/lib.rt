@@ -1,0 +1,23 @@
+//! A call that is refused changes nothing, in all runs.
+//!
+//! Behind a refused call the server goes on as behind any event: house rules run, intentions end
+//! and begin, and what was touched is sent. Here none of these does anything. So nothing is made,
+//! and, but for `NotYet`, nothing is sent and all stores are as before: the clause `refused` of
+//! `run`. With `NotYet` the thing is asked for: as its Fill or the wish for it asks already, else
+//! by a new wish with a fresh birth, if there is a server to be asked; and the one message is the
+//! Fetch of that. The statement stands in `specs/Refusals`.
+//!
+//! - `refusal_left` (`proofs/Left`): what each call leaves where it is refused, before the house
+//!   rules: all as it was, or what `ask_for` leaves. It goes over all calls, by what their checks
+//!   stop at (`Missing` of `pg_calls`).
+//! - A wish and a birth that is given out are nothing to house rules and intentions, so a server is
+//!   at rest with them as it was before (`proofs/Ended`, over `law_ticks` and `Idle` of
+//!   `pg_intentions`).
+//! - `proofs/Runs` has the event in a run: a void one tells no client anything.
+//! - Premise: `TidinessIsGiven` of `law_ticks`.
+//! - A further call costs a line in `proofs/Left`, a new kind of message nothing.
+#![tactic(auto)]
+
+mod laws;
+
+pub use laws::refusals_change_nothing;

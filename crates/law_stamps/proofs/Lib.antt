@@ -1,0 +1,4 @@
+mod Off
+mod Called
+mod Rooted
+mod Stamped

@@ -1,0 +1,10 @@
+use Rattle.pangaea.proofs.Asking.{asked_is, fault_is}
+use Rattle.pangaea.proofs.grammar.command_of.Goals as goal
+
+pub returns-clause-complete : goal.returns-clause-complete
+returns-clause-complete c =
+    asked_is c.args.words.now c.command_in.result c.command_in.ensures.found c.command_in.ensures.wrong
+
+pub returns-clause-first : goal.returns-clause-first
+returns-clause-first c =
+    fault_is c.args.words.now c.command_in.result c.command_in.ensures.found c.command_in.ensures.wrong

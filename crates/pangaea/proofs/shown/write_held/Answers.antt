@@ -1,7 +1,0 @@
-use Rattle.pangaea.proofs.Showing.{held_printed}
-use Rattle.pangaea.proofs.shown.write_held.Goals as goal
-
-pub returns-clause-spelled : goal.returns-clause-spelled
-returns-clause-spelled c =
-    held_printed c.args.server c.args.store.now c.args.id c.in-Some.held.now c.in_ok-shown.shown c.in-Some.ensures c.in_ok-shown.ensures
-    c.write_replica.ensures.spelled

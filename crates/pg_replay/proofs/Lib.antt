@@ -1,0 +1,6 @@
+pub mod Settled
+pub mod Gone
+pub mod Journals
+pub mod Showing
+pub mod Alike
+pub mod Soaked
