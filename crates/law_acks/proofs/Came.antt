@@ -1,5 +1,5 @@
--- A body comes, in pieces or as a change: its version is taken, and the harbinger that told of it is
--- answered. It keeps the rule of the edges.
+-- A body comes, in pieces or as a change: its version is taken, and the harbinger that told of it
+-- is answered. It keeps the rule of the edges.
 use Rattle.std.proofs.Common.{ℕ, ◌≡◌, ◌≤◌, ◌⊎◌, ◌==◌, ◌+◌, ◌&&◌, Bool, true, false, cond, not, [], length, Option, None, Some, option_map, refl, sym, ap, subst, ◌∙◌, inl, inr, arith}
 use Rattle.std.specs.Prelude.{Contains, nat_le}
 use Rattle.std.proofs.lemmas.Bool.{and_parts}

@@ -1,4 +1,5 @@
--- What is known of contents, of what begins and of directories, as the pieces of an event ask for it.
+-- What is known of contents, of what begins and of directories, as the pieces of an event ask for
+-- it.
 use Rattle.std.proofs.Common.{ℕ, ◌≡◌, List, [], length, Option, None, Some, refl, sym, ap, subst, ◌∙◌}
 use Rattle.pg_run.specs.pg_base.declared.id.FileId.{FileId}
 use Rattle.pg_run.specs.pg_base.declared.policy.Policy.{Policy}
@@ -17,8 +18,8 @@ use Rattle.pg_run.specs.theory_flood_pieces.Histories.{IsOfHistory}
 use Rattle.pg_run.proofs.theory_flood_pieces.Choices.{chosen}
 use Rattle.pg_run.proofs.theory_flood_pieces.Stores.{replica_here}
 
--- a version comes to a file: it is one of a history, as the file's policy has it, and the heads that
--- are held are of that history
+-- a version comes to a file: it is one of a history, as the file's policy has it, and the heads
+-- that are held are of that history
 pub record IsComing (a : Store) (file : FileId) (v : VersionValue) : Type 0 where
   pub policy : Policy
   pub history : List Made

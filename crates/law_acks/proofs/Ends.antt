@@ -1,5 +1,5 @@
--- How an event begins and ends: behind the first effect come the house rules, the intentions, and what is
--- sent.
+-- How an event begins and ends: behind the first effect come the house rules, the intentions, and
+-- what is sent.
 use Rattle.std.proofs.Common.{ℕ, Bool, true, false, cond, List, ◌++◌}
 use Rattle.std.proofs.lemmas.List.Elements.{All-append, All-weaker}
 use Rattle.pg_run.specs.pg_entries.declared.cell.Cell.{Cell}

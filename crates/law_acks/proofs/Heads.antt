@@ -1,5 +1,5 @@
--- A version comes of which the head alone is known to be one of the history: to the edges bodies are
--- nothing.
+-- A version comes of which the head alone is known to be one of the history: to the edges bodies
+-- are nothing.
 use Rattle.std.proofs.Common.{ℕ, ◌≡◌, ◌+◌, Bool, true, false, not, cond, List, [], length, Option, Some, refl, sym, ap, subst, ◌∙◌, inl, inr, arith}
 use Rattle.std.proofs.lemmas.Bool.Decides.{nat_tests}
 use Rattle.std.proofs.lemmas.Bool.{not-false, not-true}
@@ -144,8 +144,8 @@ module _ (a : Store) (file : FileId) (w : Replica) (held : replica_at a file ≡
 
 -- ---- what a message tells of
 
--- the head is that of a version of a history, as the file's policy has it, and the heads that are held
--- are of that history
+-- the head is that of a version of a history, as the file's policy has it, and the heads that are
+-- held are of that history
 pub record IsHeadComing (a : Store) (file : FileId) (head : Head) : Type 0 where
   pub policy : Policy
   pub history : List Made

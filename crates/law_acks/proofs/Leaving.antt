@@ -1,4 +1,5 @@
--- Who asks for leave is linked, a replica goes, and its peers hear of it: it keeps the rule of the edges.
+-- Who asks for leave is linked, a replica goes, and its peers hear of it: it keeps the rule of the
+-- edges.
 use Rattle.std.proofs.Common.{ℕ, ◌≡◌, ◌&&◌, true, not, List, [], ◌∷◌, Some, is_some, refl, ap}
 use Rattle.pg_run.specs.pg_base.declared.id.FileId.{FileId}
 use Rattle.pg_run.specs.pg_base.declared.stamp.Stamp.{Stamp}

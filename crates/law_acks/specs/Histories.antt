@@ -11,8 +11,8 @@ use Rattle.pg_run.specs.Laws.{AtEach, HoldsWhatItTook, store_after}
 use Rattle.pg_run.specs.Run.{World, run}
 use Rattle.pg_run.specs.State.{policy_made}
 
--- versions are histories, messages carry versions of them, and what a replica holds are the heads of
--- what it took
+-- versions are histories, messages carry versions of them, and what a replica holds are the heads
+-- of what it took
 pub record HaveHistories (servers : ℕ) : Type 0 where
   pub made : MakesHistories servers
   pub carried : CarriesHistory servers

@@ -12,9 +12,9 @@ pub fn contents_are_of_histories()
     ensures { (servers : ℕ) → HaveHistories servers → HoldHistories servers }
 {}
 
-/// Where a key is acknowledged the peer's replica has its cell, or its birth is over, and each message
-/// ever sent keeps its promise, since each event keeps the rule of the edges; and every edge is to
-/// another server.
+/// Where a key is acknowledged the peer's replica has its cell, or its birth is over, and each
+/// message ever sent keeps its promise, since each event keeps the rule of the edges; and every
+/// edge is to another server.
 pub fn runs_keep_edges()
     ensures edges { (servers : ℕ) → StandOn servers → RunsKeepEdges servers }
     ensures whole { (servers : ℕ) → StandOn servers → RunsStayWhole servers }

@@ -10,15 +10,15 @@
 //!   (`proofs/Ends`) what its first effect left; `Keeps` (`proofs/Runs`) is the invariant of a
 //!   world: servers are whole, tags are sound, edges and all that was ever sent keep their promise.
 //! - A birth that goes counts as over all along its event (`Counts`, `proofs/Gone`).
-//! - Premises: `StandOn` (`specs/Laws`), of contents (`HaveHistories`, `specs/Histories`), of who is
-//!   asked for versions, of what begins, and of births. No crate of laws is cited: `law_all` joins
-//!   them.
-//! - A harbinger is answered at once, where its version is covered (`proofs/Told`), or when the body
-//!   comes (`proofs/Came`): its sender announced the version (`proofs/Sources`). Of what comes so
-//!   only the head has to be one of the history (`proofs/Heads`): edges do not read bodies.
+//! - Premises: `StandOn` (`specs/Laws`), of contents (`HaveHistories`, `specs/Histories`), of who
+//!   is asked for versions, of what begins, and of births. No crate of laws is cited: `law_all`
+//!   joins them.
+//! - A harbinger is answered at once, where its version is covered (`proofs/Told`), or when the
+//!   body comes (`proofs/Came`): its sender announced the version (`proofs/Sources`). Of what comes
+//!   so only the head has to be one of the history (`proofs/Heads`): edges do not read bodies.
 //! - A new kind of message gets its line in `received_first` (`proofs/Effects`), with a lemma
-//!   `.._done` for its handler (`proofs/Handlers`, `Walks`, `Leaving`, `Told`, `Came`), and its case
-//!   of `saying` (`theory_flood_pieces/specs/Seen`): what it promises.
+//!   `.._done` for its handler (`proofs/Handlers`, `Walks`, `Leaving`, `Told`, `Came`), and its
+//!   case of `saying` (`theory_flood_pieces/specs/Seen`): what it promises.
 #![tactic(auto)]
 
 mod laws;

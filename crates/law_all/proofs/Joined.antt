@@ -13,7 +13,7 @@ use Rattle.law_rests.specs.Rests.{RemovedServersRest}
 use Rattle.law_returns.specs.Gate.{EdgesAreKept}
 use Rattle.law_acks.specs.Histories.{HaveHistories}
 use Rattle.law_acks.specs.Laws.{StandOn}
-use Rattle.law_repair.specs.law_listings.Laws.{FirstEffectsAreSound, ListingsAreKept, RootIsUnlisted}
+use Rattle.law_repair.specs.law_listings.Laws.{FirstEffectsAreSound, ListingsStandOn, RootIsUnlisted}
 use Rattle.pg_run.specs.pg_names.Names.{cell_at}
 use Rattle.law_returns.specs.law_names.Merged.{NamesStandOn, NewIdsAreNew}
 use Rattle.law_intents.specs.law_order.Named.{IsOfServer}
@@ -266,8 +266,8 @@ module _ (n : ℕ) (c : AreCited n) where
     pub heard : HeardEdgesAreKnown n
     heard = c.drops.heard leaving
 
-    listings : ListingsAreKept n
-    listings = c.names.listed (record {
+    pub listings_stand : ListingsStandOn n
+    listings_stand = record {
       order = order;
       house = c.order.order;
       one = one_place;
@@ -284,7 +284,7 @@ module _ (n : ℕ) (c : AreCited n) where
       views = fronts;
       mailed = mailed;
       sent = c.views.sent views_stand;
-    })
+    }
 
     -- ---- quiet
 
@@ -308,7 +308,7 @@ module _ (n : ℕ) (c : AreCited n) where
       intends = order;
       names = named;
       placed = placed;
-      listed = listings;
+      listed = c.names.listed listings_stand;
     }
 
     pub agree : QuietServersAgree n

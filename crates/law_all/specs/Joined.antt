@@ -1,6 +1,10 @@
 -- The laws of runs, as they are cited, each with what it stands on.
 use Rattle.std.specs.Prelude.{ℕ, ◌<◌, ◌^◌}
+use Rattle.law_confirms.specs.Confirms.{ConfirmsBeginAndStay}
+use Rattle.law_forgotten.specs.Forgets.{ForgetsStay}
+use Rattle.law_links.specs.Links.{AsksLinkTheAsker}
 use Rattle.law_refused.specs.Refusals.{RefusalsChangeNothing}
+use Rattle.law_wants.specs.Wants.{AnEventAsksOne}
 use Rattle.law_repair.specs.law_contents.Together as contents
 use Rattle.law_repair.specs.law_contents.Together.{HoldBoth}
 use Rattle.law_repair.specs.law_leaving.Premises as drops
@@ -97,6 +101,7 @@ pub record BodiesAreCited (servers : ℕ) : Type 0 where
   pub shortest : servers < 2 ^ 32 → contents.StandOn servers → TidinessIsGiven servers
       → WantsGetTheShortestChange servers
   pub first : TidinessIsGiven servers → FirstHarbingersAsk servers
+  pub one_in_each : AnEventAsksOne servers
 
 -- of what edges keep, and of births
 pub record EdgesAreCited (servers : ℕ) : Type 0 where
@@ -113,6 +118,7 @@ pub record EdgesAreCited (servers : ℕ) : Type 0 where
   pub of_one : IntentionsAreInOrder servers → BirthsAreOfOneThing servers
   pub greater : IntentionsAreInOrder servers → GreaterBirthsReplaceEdges servers
   pub linked : IntentionsAreInOrder servers → LinksNameTheSender servers
+  pub asked_linked : IntentionsAreInOrder servers → AsksLinkTheAsker servers
   pub moves : IntentionsAreInOrder servers → BirthsMoveInEvents servers
   pub on : IntentionsAreInOrder servers → BirthsMoveOn servers
   pub stay : IntentionsAreInOrder servers → ReplicasStayOrGo servers
@@ -162,10 +168,12 @@ pub record NamesAreCited (servers : ℕ) : Type 0 where
   pub returns_list : NamesStandOn servers → FirstEffectsAreOrdered servers → ReturnsList servers
   pub removals_stay : HouseIsInOrder servers → ServersAreWhole servers → FirstEffectsAreWhole servers
       → FirstEffectsAreOrdered servers → RemovalsStay servers
+  pub forgets_stay : ForgetsStay servers
   pub owed : TidinessIsGiven servers → TicksSendWhatIsOwed servers
   pub lost : TidinessIsGiven servers → RestartsLoseWishes servers
   pub refused : TidinessIsGiven servers → RefusalsChangeNothing servers
   pub listed : ListingsStandOn servers → ListingsAreKept servers
+  pub confirms : ListingsStandOn servers → ConfirmsBeginAndStay servers
 
 -- wherever a run is quiet
 pub record QuietIsCited (servers : ℕ) : Type 0 where

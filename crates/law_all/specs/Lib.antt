@@ -2,6 +2,10 @@ pub mod Joined
 pub mod Laws
 pub use Rattle.law_repair.specs.law_places as law_places
 pub use Rattle.law_determined.specs as law_determined
+pub use Rattle.law_wants.specs as law_wants
+pub use Rattle.law_links.specs as law_links
+pub use Rattle.law_forgotten.specs as law_forgotten
+pub use Rattle.law_confirms.specs as law_confirms
 pub use Rattle.law_refused.specs as law_refused
 pub use Rattle.law_repair.specs as law_repair
 pub use Rattle.law_lists.specs as law_lists

@@ -11,10 +11,13 @@ ghost use Rattle.law_all.specs.Laws.{LawsOfRuns};
 
 use law_acks::{runs_grow, runs_keep_edges};
 use law_bodies::{bodies_answer_wants, first_harbingers_ask};
+use law_confirms::confirms_begin_and_stay;
 use law_deltas::wants_get_the_shortest_change;
 use law_determined::names_are_determined;
+use law_forgotten::forgets_stay;
 use law_intents::order::{all_is_named, house_is_in_order, servers_are_whole, what_begins_is_new};
 use law_intents::{intentions_are_in_order, nothing_is_left_to_do};
+use law_links::asks_link_the_asker;
 use law_lists::{removals_stay, returns_list_a_child};
 use law_refused::refusals_change_nothing;
 use law_repair::births::{
@@ -43,10 +46,11 @@ use law_returns::returns_are_justified;
 use law_stamps::stamps_are_drawn_once;
 use law_ticks::{restarts_lose_wishes, ticks_send_what_is_owed};
 use law_views::{messages_are_of_views, views_are_prefixes};
+use law_wants::an_event_asks_one;
 use pg_run::{quiet_is_told, takes_are_what_came};
 
-/// All that servers have and messages bring of places and flags was made, or was there at the start: of places and of
-/// flags together, where it holds of each.
+/// All that servers have and messages bring of places and flags was made, or was there at the
+/// start: of places and of flags together, where it holds of each.
 fn what_is_carried_is_known()
     ensures { (servers : ℕ) → IntentionsAreInOrder servers → AllIsNamed servers
         → PlacesWereMade servers → FlagsAreKnown servers → CarriedIsKnown servers }
@@ -76,12 +80,14 @@ fn laws_are_cited()
     bodies_answer_wants();
     wants_get_the_shortest_change();
     first_harbingers_ask();
+    an_event_asks_one();
     runs_keep_edges();
     runs_grow();
     full_replicas_have_places();
     births_are_alone();
     births_are_known();
     edges_follow_births();
+    asks_link_the_asker();
     gone_stays_gone();
     births_move_on();
     events_of_leaving();
@@ -100,10 +106,12 @@ fn laws_are_cited()
     returns_are_justified();
     returns_list_a_child();
     removals_stay();
+    forgets_stay();
     ticks_send_what_is_owed();
     restarts_lose_wishes();
     refusals_change_nothing();
     listings_are_kept();
+    confirms_begin_and_stay();
     quiet_stores_agree();
     quiet_servers_agree();
     quiet_names_form_a_tree();

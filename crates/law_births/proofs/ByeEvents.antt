@@ -1,5 +1,5 @@
--- What stands at the key of a Bye behind an event: what stood there, but for an answer, a replica that goes, and a peer that is
--- removed.
+-- What stands at the key of a Bye behind an event: what stood there, but for an answer, a replica
+-- that goes, and a peer that is removed.
 use Rattle.std.proofs.Common.{ℕ, ◌≡◌, ◌==◌, Bool, true, false, cond, List, [], ◌∷◌, Option, None, Some, is_some, Ok, eq-eqb, inl, inr, refl, sym, ap, subst, ◌∙◌}
 use Rattle.std.proofs.lemmas.Bool.{eqb-true, false≢true}
 use Rattle.law_order.specs.pg_base.declared.id.FileId.{FileId}

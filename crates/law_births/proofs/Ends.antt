@@ -196,7 +196,8 @@ unlinked_if es peer false p d e one two = none_falls (ends es) p d e one two
 pub unlink_falls_not : (es : List Edge) (peer birth : ℕ) → NoneFalls (ends es) (ends (unlinked es peer birth))
 unlink_falls_not es peer birth = unlinked_if es peer (is_listed es peer birth)
 
--- each peer that was listed still is, with its birth or a greater one; or its edge is one that may go
+-- each peer that was listed still is, with its birth or a greater one; or its edge is one that may
+-- go
 abbrev pub UpBut : (ℕ → ℕ → Type 0) → List (ℕ × ℕ) → List (ℕ × ℕ) → Type 0
 UpBut W es fs = (p d : ℕ) → born_to es p ≡ Some d → ((e : ℕ) × (born_to fs p ≡ Some e) × (d ≤ e)) ⊎ W p d
 

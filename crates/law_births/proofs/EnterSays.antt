@@ -1,4 +1,5 @@
--- What is said of flags, of what is intended, and of edges is said where a server is removed in a view.
+-- What is said of flags, of what is intended, and of edges is said where a server is removed in a
+-- view.
 use Rattle.std.proofs.Common.{ℕ, ◌≡◌, Bool, true, false, cond, List, [], ◌∷◌, Option, None, Some, All, refl, sym, ap, subst, ◌∙◌}
 use Rattle.std.specs.List.{find}
 use Rattle.std.specs.Option.{option_map}

@@ -1,4 +1,5 @@
--- Births and edges where a server is removed in a view: its edges go, and who asked it asks another one.
+-- Births and edges where a server is removed in a view: its edges go, and who asked it asks another
+-- one.
 use Rattle.std.proofs.Common.{ℕ, ◌≡◌, ◌==◌, ◌||◌, ◌++◌, Bool, true, false, cond, List, [], ◌∷◌, Option, None, Some, Result, Ok, Err, eq-eqb, ◌⊎◌, inl, refl, ap, subst, ◌∙◌}
 use Rattle.std.specs.Option.{option_map}
 use Rattle.law_order.specs.pg_base.declared.id.FileId.{FileId}

@@ -92,7 +92,8 @@ module _ (P : FileId → ℕ → ℕ → Type 0) (G : FileId → ℕ → Type 0)
       (λ gold. fine_flag P G s from b f false w k (gold_by b f (flag_of (own_or_blank b.names f).flags b.names.server) refl gold k.store))
       (λ bronze. k)
 
-  -- what is known of the births that a call gives out: of the replica that it begins, and of the wish that it leaves
+  -- what is known of the births that a call gives out: of the replica that it begins, and of the
+  -- wish that it leaves
   pub record Allows (a : Store) (left : Answer) : Type 0 where
     pub born : (f : FileId) (n : ℕ) → birth_at left.store f ≡ Some n → P f s n
     pub fresh : (f : FileId) (t : ℕ) → left.store ≡ with_wish (with_birth a) f (fresh_wish a t) → standing a f ≡ None

@@ -1,4 +1,5 @@
--- What is said of births and flags is said where what was lost is given up, and where a server is removed in a view.
+-- What is said of births and flags is said where what was lost is given up, and where a server is
+-- removed in a view.
 use Rattle.std.proofs.Common.{ℕ, ◌≡◌, Bool, true, false, cond, not, List, [], ◌∷◌, Option, None, Some, All, refl, ap, ◌∙◌}
 use Rattle.std.specs.Map.{keys_of}
 use Rattle.std.proofs.lemmas.Bool.{and_parts}

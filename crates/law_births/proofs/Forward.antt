@@ -1,4 +1,5 @@
--- A birth that is to come when an event ends its first effect is there, or is to come, when the event ends.
+-- A birth that is to come when an event ends its first effect is there, or is to come, when the
+-- event ends.
 use Rattle.std.proofs.Common.{ℕ, ◌≡◌, ◌⊎◌, Bool, true, false, cond, not, List, [], ◌∷◌, Option, None, Some, is_some, inl, inr, refl, sym, ap, ◌∙◌, length, drop}
 use Rattle.law_order.specs.pg_base.declared.id.FileId.{FileId}
 use Rattle.law_order.specs.pg_base.Id.{is_same_file}

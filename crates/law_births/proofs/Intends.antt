@@ -1,4 +1,5 @@
--- Births behind the end of an event: intentions end and begin, and what is to be filled has a birth.
+-- Births behind the end of an event: intentions end and begin, and what is to be filled has a
+-- birth.
 use Rattle.std.proofs.Common.{ℕ, ◌≡◌, ◌≤◌, ◌+◌, ◌⊎◌, arith, Bool, true, false, cond, not, List, [], ◌∷◌, filter, Option, None, Some, is_some, inl, inr, refl, sym, ap, ◌∙◌}
 use Rattle.std.specs.Option.{option_map}
 use Rattle.std.proofs.lemmas.Bool.{false≢true}

@@ -112,7 +112,8 @@ byes_stay file birth es d =
     (λ x e one k. stays_then k (begun_stays x.store (bye_to file birth e) x.work (λ q. refl))) es (All-every (λ (e : Edge). Unit {0}) es (λ e. tt)) d
     (stays_itself d.store)
 
--- what went is said to have gone: by its server, in a Gone or a Bye; and what goes here goes with leave
+-- what went is said to have gone: by its server, in a Gone or a Bye; and what goes here goes with
+-- leave
 pub record Lets (V : Why) (a : Store) (m : Message) (w : Work) : Type 0 where
   pub gone : (file : FileId) (birth : ℕ) → m ≡ message.Gone file birth → V.edge file w.from birth
   pub bye : (x : Ends) → m ≡ message.Bye x → V.edge x.file w.from x.sender

@@ -1,4 +1,5 @@
--- Versions are made by calls alone: by the server that is called, of a thing of which it has a replica.
+-- Versions are made by calls alone: by the server that is called, of a thing of which it has a
+-- replica.
 use Rattle.std.proofs.Common.{ℕ, ◌≡◌, ◌==◌, true, false, List, [], ◌∷◌, ◌++◌, Option, None, Some, Result, Ok, Err, is_some, option_map, refl, sym, ap, subst, ◌∙◌, All}
 use Rattle.std.proofs.lemmas.List.Elements.{All-cons, All-nil, All-weaker}
 use Rattle.law_order.specs.pg_base.declared.id.FileId.{FileId}

@@ -31,7 +31,8 @@ pub record Why : Type 1 where
 abbrev pub AnyWhy : Why
 AnyWhy = record { edge = λ file peer birth. Unit {0}; replica = λ file. Unit {0} }
 
--- a replica is there with its birth, and no birth of a peer has fallen; and an edge that is gone had to go
+-- a replica is there with its birth, and no birth of a peer has fallen; and an edge that is gone
+-- had to go
 abbrev pub Keeps : Why → Store → FileId → ℕ → List (ℕ × ℕ) → Type 0
 Keeps V b file n es = (fs : List (ℕ × ℕ)) × (shape_at b file ≡ Some (n, fs)) × NoneFalls es fs × UpBut (V.edge file) es fs
 

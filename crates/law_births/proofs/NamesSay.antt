@@ -1,4 +1,5 @@
--- What is said of all flags that are known is said of them behind each change of names, and behind the house rules.
+-- What is said of all flags that are known is said of them behind each change of names, and behind
+-- the house rules.
 use Rattle.std.proofs.Common.{ℕ, ◌≡◌, zero, suc, Bool, true, false, cond, List, [], ◌∷◌, length, Option, None, Some, All, refl, sym, ap, subst, ◌∙◌}
 use Rattle.std.proofs.lemmas.List.Elements.{All-nil}
 use Rattle.std.proofs.lemmas.Option.{none-some, same_Some}

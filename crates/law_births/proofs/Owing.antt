@@ -1,4 +1,5 @@
--- In each event a Bye begins only where a replica goes, of each of its edges, and ends only by its peer's answer.
+-- In each event a Bye begins only where a replica goes, of each of its edges, and ends only by its
+-- peer's answer.
 use Rattle.std.proofs.Common.{ℕ, ◌≡◌, ◌++◌, ◌⊎◌, Bool, true, false, cond, not, List, [], ◌∷◌, Option, None, Some, is_some, inl, inr, refl, sym, ap, subst, ◌∙◌}
 use Rattle.std.specs.List.{find}
 use Rattle.std.proofs.lemmas.Bool.{and_parts, false≢true, not-true}

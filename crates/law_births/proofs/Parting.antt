@@ -1,4 +1,5 @@
--- What is said of births and flags is said where a replica asks for leave, goes, and its peers hear of it.
+-- What is said of births and flags is said where a replica asks for leave, goes, and its peers hear
+-- of it.
 use Rattle.std.proofs.Common.{ℕ, ◌≡◌, true, cond, not, Some, is_some, refl, sym, subst, ◌∙◌}
 use Rattle.std.proofs.lemmas.Bool.{and_parts}
 use Rattle.law_order.specs.pg_base.declared.id.FileId.{FileId}

@@ -60,8 +60,9 @@ use Rattle.law_births.proofs.Pieces.{shape}
 use Rattle.law_births.proofs.Mails.{OfBirths, Owed, SaysSent}
 use Rattle.law_births.proofs.StoreSays.{own_says}
 
--- what other laws say of a server: its replicas are by file, just what is held has one, its intentions are each of a key of its own,
--- a Fill of what is held has the birth of the replica, what is sought is held, and who is asked for leave is linked
+-- what other laws say of a server: its replicas are by file, just what is held has one, its
+-- intentions are each of a key of its own, a Fill of what is held has the birth of the replica,
+-- what is sought is held, and who is asked for leave is linked
 pub record Sorted (b : Store) : Type 0 where
   pub order : IsStrictlySortedBy file_cmp (keys_of b.replicas)
   pub together : AreTogether b

@@ -62,7 +62,8 @@ Known P s (input.Tick moment word) = Unit {0}
 Known P s (input.Arrival packet) = AllNamed P packet.from s packet.message × SaysMessage (OfBirths P) packet.message
 Known P s input.Restart = Unit {0}
 
--- where a message comes to a replica that is not here and not to come, it is gone; and so it is behind the leave with which it goes
+-- where a message comes to a replica that is not here and not to come, it is gone; and so it is
+-- behind the leave with which it goes
 abbrev pub Freshly : (FileId → ℕ → Type 0) → Store → Input → Type 0
 Freshly G a (input.Call moment call) = Unit {0}
 Freshly G a (input.Tick moment word) = Unit {0}

@@ -1,4 +1,5 @@
--- In each event an edge goes only by its peer's word, or where the peer is removed, and a replica only with leave.
+-- In each event an edge goes only by its peer's word, or where the peer is removed, and a replica
+-- only with leave.
 use Rattle.std.proofs.Common.{ℕ, ◌≡◌, ◌≤◌, ◌<◌, ◌⊎◌, arith, true, cond, List, Option, None, Some, inl, inr, refl, sym, ap, subst, ◌∙◌}
 use Rattle.std.specs.Option.{option_map}
 use Rattle.std.proofs.lemmas.Bool.{and_parts, cases_lt}

@@ -135,8 +135,8 @@ all_filled s (file ∷ files) part = (
 
 -- ---- which begin
 
--- a server that held a, where nothing was left to do, holds b: names and intentions are as they were,
--- and so are all replicas but that of one file
+-- a server that held a, where nothing was left to do, holds b: names and intentions are as they
+-- were, and so are all replicas but that of one file
 module _ (a b : Store) (file : FileId) (still : StaysIntended a) (names : b.names ≡ a.names)
     (intents : b.intents ≡ a.intents)
     (others : (f : FileId) → is_same_file f file ≡ false → replica_at b f ≡ replica_at a f) where

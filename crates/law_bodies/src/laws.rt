@@ -13,8 +13,8 @@ pub fn bodies_answer_wants()
 
 /// Where a harbinger comes of a version that is neither covered nor announced, and no other server
 /// is asked for one that covers it, its sender is asked for all of the body, and the peer of each
-/// other edge hears of it, under no tag. Nothing else is sent but what tells of the keys of the edge
-/// that the harbinger made, where it made one, and the message of a Seek that began by it.
+/// other edge hears of it, under no tag. Nothing else is sent but what tells of the keys of the
+/// edge that the harbinger made, where it made one, and the message of a Seek that began by it.
 pub fn first_harbingers_ask()
     ensures { (servers : ℕ) → TidinessIsGiven servers → FirstHarbingersAsk servers }
 {}

@@ -2,8 +2,9 @@
 //!
 //! A version is announced to all, and its body goes to who asks: a message that holds more than
 //! 1,024 bytes of a body answers a `Want`, in the same event, and goes to who sent it: the clause
-//! `bodies` of `run`. Who hears of a version first asks its sender for the body, and tells the peers
-//! of all other edges: the clause `first_harbingers`. The statements stand in `pg_run/specs/Bodies`.
+//! `bodies` of `run`. Who hears of a version first asks its sender for the body, and tells the
+//! peers of all other edges: the clause `first_harbingers`. The statements stand in
+//! `pg_run/specs/Bodies`.
 //!
 //! - `IsShort` (`proofs/Short`) of a message: it holds bytes of no body, or a version of at most
 //!   1,024 bytes. So are the messages of keys, of intentions, of calls and ticks, and all answers

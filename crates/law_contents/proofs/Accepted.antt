@@ -1,4 +1,5 @@
--- A message that is accepted has found its replica; an answer changes nothing before it is looked at.
+-- A message that is accepted has found its replica; an answer changes nothing before it is looked
+-- at.
 use Rattle.std.proofs.Common.{ℕ, ◌≡◌, Bool, true, false, cond, not, Some, refl}
 use Rattle.std.proofs.lemmas.Bool.{and_parts}
 use Rattle.law_order.specs.pg_msg.declared.message.Ends.{Ends}

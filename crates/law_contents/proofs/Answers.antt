@@ -1,6 +1,6 @@
--- An answer about a body comes: what is so of the server behind its way in, and what of a version that
--- comes though it is covered.
-use Rattle.std.proofs.Common.{ℕ, ◌≡◌, ◌≤◌, ◌<◌, ◌&&◌, ◌⊎◌, Bool, true, false, cond, not, nat_lt, List, [], ◌∷◌, ◌++◌, map, None, Some, inl, inr, refl, sym, ap, subst, ◌∙◌, arith}
+-- An answer about a body comes: what is so of the server behind its way in, and what of a version
+-- that comes though it is covered.
+use Rattle.std.proofs.Common.{ℕ, ◌≡◌, ◌≤◌, ◌&&◌, Bool, true, false, cond, not, nat_lt, List, [], ◌∷◌, ◌++◌, map, Some, refl, sym, ap, subst, ◌∙◌, arith}
 use Rattle.std.proofs.lemmas.Bool.{and_parts, lt-ltb}
 use Rattle.std.proofs.lemmas.List.{append-nil}
 use Rattle.std.proofs.lemmas.List.Elements.{All-nil}

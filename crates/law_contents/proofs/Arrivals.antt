@@ -41,8 +41,8 @@ use Rattle.law_contents.proofs.Versions.{version_alters, version_last}
 abbrev pub more_came : List Take → Came → Came
 more_came more came q = stamps_taken q more ++ came q
 
--- server s holds this behind the first effect of an event that makes no version, and stands for what
--- was brought
+-- server s holds this behind the first effect of an event that makes no version, and stands for
+-- what was brought
 pub record Arrives (s : ℕ) (a : Store) (us : List Born) (p : FileId → Policy)
     (N : FileId → Type 0) (came : Came) (d : Done) (more : List Take) : Type 0 where
   pub server : d.store.names.server ≡ a.names.server

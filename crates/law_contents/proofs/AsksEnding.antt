@@ -1,5 +1,6 @@
--- Behind a Later, and where a replica goes, nobody is asked for what was noted; other versions go on.
-use Rattle.std.proofs.Common.{ℕ, ◌≡◌, ◌≢◌, ◌==◌, ◌&&◌, ◌||◌, Bool, true, false, cond, not, List, Option, None, Some, is_some, option_map, inl, inr, refl, sym, ap, subst, ◌∙◌}
+-- Behind a Later, and where a replica goes, nobody is asked for what was noted; other versions go
+-- on.
+use Rattle.std.proofs.Common.{ℕ, ◌≡◌, ◌≢◌, ◌==◌, ◌&&◌, Bool, true, false, cond, not, List, Option, None, Some, is_some, option_map, inl, inr, refl, sym, ap, subst, ◌∙◌}
 use Rattle.std.proofs.lemmas.Bool.{and_from, and_parts, and_right, false≢true}
 use Rattle.std.proofs.lemmas.Bool.Decides.{Decides-eqb}
 use Rattle.law_order.specs.pg_announced.declared.announced.Announced.{Announced}

@@ -1,5 +1,5 @@
--- A client makes a thing: its id was not given out before, a replica begins, and a file begins with a
--- version.
+-- A client makes a thing: its id was not given out before, a replica begins, and a file begins with
+-- a version.
 use Rattle.std.proofs.Common.{ℕ, ◌≡◌, ◌<◌, ◌≤◌, ◌+◌, ◌^◌, Bool, true, false, cond, length, List, [], ◌∷◌, ◌++◌, map, Option, None, Some, refl, sym, ap, subst, ◌∙◌, inl, inr, ◌⊎◌, arith}
 use Rattle.std.proofs.lemmas.List.{map-append}
 use Rattle.law_order.specs.pg_base.declared.id.FileId.{FileId}

@@ -1,5 +1,5 @@
--- How a store changes: no replica's birth, content or kept deltas do, nor what is noted of versions; or
--- those of one replica do, and no version is noted that was not.
+-- How a store changes: no replica's birth, content or kept deltas do, nor what is noted of
+-- versions; or those of one replica do, and no version is noted that was not.
 use Rattle.std.proofs.Common.{ℕ, ◌≡◌, ◌≤◌, ◌⊎◌, Bool, true, false, List, [], Option, None, Some, option_map, inl, inr, refl, sym, ap, subst, ◌∙◌, arith}
 use Rattle.std.specs.List.Sorted.{IsStrictlySortedBy}
 use Rattle.std.specs.Map.{keys_of}

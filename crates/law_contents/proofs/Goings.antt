@@ -1,6 +1,6 @@
--- How what is noted goes on: notes end only where their versions are covered; or a version is asked for,
--- and noted so.
-use Rattle.std.proofs.Common.{ℕ, ◌≡◌, ◌⊎◌, ◌++◌, ◌&&◌, Bool, true, false, cond, List, [], ◌∷◌, Option, None, Some, option_map, inl, inr, refl, sym, ap, subst, ◌∙◌}
+-- How what is noted goes on: notes end only where their versions are covered; or a version is asked
+-- for, and noted so.
+use Rattle.std.proofs.Common.{ℕ, ◌≡◌, ◌⊎◌, ◌++◌, Bool, true, false, cond, List, [], ◌∷◌, Option, None, Some, option_map, inl, inr, refl, sym, ap, subst, ◌∙◌}
 use Rattle.std.specs.Cmp.{tied_itself}
 use Rattle.std.specs.Option.{option_or}
 use Rattle.std.specs.Ordering.{eq_by_cmp, is_eq}

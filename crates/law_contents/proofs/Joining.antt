@@ -1,5 +1,5 @@
--- A version comes to a file that a server holds, comes again, or is made there: the server stands for
--- it from then on.
+-- A version comes to a file that a server holds, comes again, or is made there: the server stands
+-- for it from then on.
 use Rattle.std.proofs.Common.{[], ℕ, ◌≡◌, ◌≤◌, Bool, true, false, cond, List, ◌∷◌, ◌++◌, Option, Some, refl, sym, subst, inl, inr, arith}
 use Rattle.law_order.specs.pg_base.declared.id.FileId.{FileId}
 use Rattle.law_order.specs.pg_base.declared.policy.Policy.{Policy}

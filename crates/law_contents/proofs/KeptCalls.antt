@@ -1,5 +1,5 @@
 -- The deltas that replicas keep behind a call: of what is written there is one more.
-use Rattle.std.proofs.Common.{ℕ, ◌≡◌, ◌+◌, true, false, cond, List, [], ◌∷◌, ◌++◌, map, Option, None, Some, Result, Ok, option_map, inl, refl, sym, ap, subst, ◌∙◌}
+use Rattle.std.proofs.Common.{ℕ, ◌≡◌, ◌+◌, true, false, cond, List, [], ◌∷◌, ◌++◌, map, Option, None, Some, Result, Ok, option_map, refl, sym, ap, subst, ◌∙◌}
 use Rattle.law_order.specs.pg_base.declared.id.FileId.{FileId}
 use Rattle.law_order.specs.pg_base.declared.id.Kind.{Kind}
 use Rattle.law_order.specs.pg_base.declared.id.Kind.TheVariants.{Dir, File}

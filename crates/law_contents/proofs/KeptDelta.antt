@@ -1,5 +1,5 @@
--- The deltas that replicas keep behind a delta: it is kept where it is carried to a server that does not
--- cover its version.
+-- The deltas that replicas keep behind a delta: it is kept where it is carried to a server that
+-- does not cover its version.
 use Rattle.std.proofs.Common.{ℕ, ◌≡◌, ◌≢◌, ◌&&◌, ◌==◌, Bool, true, false, not, cond, List, [], ◌∷◌, Option, None, Some, option_map, refl, sym, ap, subst, ◌∙◌}
 use Rattle.std.proofs.lemmas.Bool.Decides.{Decides-eqb}
 use Rattle.law_order.specs.pg_announced.declared.announced.Announced.{Announced}

@@ -1,5 +1,6 @@
--- The deltas that replicas keep behind a message: but for a delta that is taken none is kept besides.
-use Rattle.std.proofs.Common.{ℕ, ◌≡◌, ◌≢◌, ◌&&◌, ◌+◌, Bool, true, false, cond, not, List, [], Option, None, Some, is_some, inr, refl, sym, ap, subst, ◌∙◌}
+-- The deltas that replicas keep behind a message: but for a delta that is taken none is kept
+-- besides.
+use Rattle.std.proofs.Common.{ℕ, ◌≡◌, ◌≢◌, ◌&&◌, Bool, true, false, cond, not, List, [], Option, None, Some, is_some, inr, refl, sym, ap, subst, ◌∙◌}
 use Rattle.law_order.specs.pg_announced.declared.announced.Announced.{Announced}
 use Rattle.law_order.specs.pg_announced.Announced.{is_awaited}
 use Rattle.law_order.specs.pg_base.declared.head.Head.{Head}

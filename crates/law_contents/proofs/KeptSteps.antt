@@ -1,4 +1,5 @@
--- How the deltas that a replica keeps go on: they stay, or end with it, and others are kept besides.
+-- How the deltas that a replica keeps go on: they stay, or end with it, and others are kept
+-- besides.
 use Rattle.std.proofs.Common.{ℕ, ◌≡◌, ◌⊎◌, Bool, true, false, cond, List, [], ◌∷◌, ◌++◌, map, Option, None, Some, option_map, inl, inr, refl, sym, ap, subst, ◌∙◌}
 use Rattle.std.specs.List.{filter}
 use Rattle.std.proofs.lemmas.List.{append_assoc, append-nil}
@@ -32,8 +33,8 @@ abbrev pub added : List KeptDelta → List KeptDelta → List KeptDelta
 added kept [] = kept
 added kept (d ∷ ds) = added (with_delta kept d) ds
 
--- what is held of a thing, first this and now that: what was kept stays, unless the replica went, and
--- these are kept besides
+-- what is held of a thing, first this and now that: what was kept stays, unless the replica went,
+-- and these are kept besides
 pub record KeptStep (gone : Bool) (o q : Option Core) (more : List KeptDelta) : Type 0 where
   pub kept : kept_in q ≡ added (cond gone [] (kept_in o)) more
   pub none : q ≡ None → ((o ≡ None) ⊎ (gone ≡ true)) × (more ≡ [])

@@ -1,5 +1,5 @@
--- What was lost is given up: no version is made; and where a directory begins anew, none was made of
--- its birth.
+-- What was lost is given up: no version is made; and where a directory begins anew, none was made
+-- of its birth.
 use Rattle.std.proofs.Common.{ℕ, ◌≡◌, ◌+◌, ◌&&◌, Bool, true, false, cond, not, List, [], ◌∷◌, ◌++◌, map, Option, None, Some, refl, sym, ap, ◌∙◌, inl}
 use Rattle.law_order.specs.pg_base.declared.id.FileId.{FileId}
 use Rattle.law_order.specs.pg_base.declared.policy.Policy.{Policy}

@@ -1,4 +1,5 @@
--- What a server notes behind the handlers of bodies comes of what it noted before and of what was heard.
+-- What a server notes behind the handlers of bodies comes of what it noted before and of what was
+-- heard.
 use Rattle.std.proofs.Common.{ℕ, ◌≡◌, ◌⊎◌, ◌+◌, ◌&&◌, ◌==◌, Bool, true, false, cond, Option, None, Some, length, option_map, inl, inr, refl, sym, ap, subst, ◌∙◌}
 use Rattle.std.specs.Prelude.{nat_le}
 use Rattle.std.proofs.lemmas.Bool.{and_parts}

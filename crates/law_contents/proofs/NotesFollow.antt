@@ -1,4 +1,5 @@
--- What a server notes behind a message about a body comes of what it noted before and of what it heard.
+-- What a server notes behind a message about a body comes of what it noted before and of what it
+-- heard.
 use Rattle.std.proofs.Common.{ℕ, ◌≡◌, Bool, true, false, cond, not, List, length, ◌+◌, Option, None, Some, refl, sym, subst, ◌∙◌}
 use Rattle.std.proofs.lemmas.List.Elements.{All-nil}
 use Rattle.law_order.specs.pg_announced.declared.announced.Announced.{Announced}

@@ -1,5 +1,5 @@
 -- What each call comes to: no version is made, be it that a directory begins, or one is.
-use Rattle.std.proofs.Common.{ℕ, ◌≡◌, ◌≤◌, ◌==◌, cond, List, [], ◌++◌, map, ◌∙◌, Option, None, Some, Result, Ok, Err, refl, sym, subst, inl, inr, ◌⊎◌}
+use Rattle.std.proofs.Common.{ℕ, ◌≡◌, ◌≤◌, ◌==◌, cond, List, [], ◌++◌, map, Option, None, Some, Result, Ok, Err, refl, sym, subst, inl, inr, ◌⊎◌}
 use Rattle.law_order.specs.pg_base.declared.id.FileId.{FileId}
 use Rattle.law_order.specs.pg_base.declared.id.Kind.TheVariants.{Dir, File}
 use Rattle.law_order.specs.pg_base.declared.policy.Policy.{Policy}

@@ -59,8 +59,8 @@ one_place (update.Place g other ∷ us) f place are = one_place us f place are
 one_place (update.Version made ∷ us) f place are = absurd are
 one_place (update.Flag g flag ∷ us) f place are = absurd are
 
--- places were made behind these by the same server, in the same view, and the clock is not below this
--- time
+-- places were made behind these by the same server, in the same view, and the clock is not below
+-- this time
 pub record MakesPlaces (first : List Update) (server : ℕ) (removed : List ℕ) (low : ℕ) (st : State)
     : Type 0 where
   pub places : List Update

@@ -1,5 +1,5 @@
--- A version is taken: one whose body became whole here, one that is here already, and the delta that is
--- kept beside it.
+-- A version is taken: one whose body became whole here, one that is here already, and the delta
+-- that is kept beside it.
 use Rattle.std.proofs.Common.{[], ℕ, ◌≡◌, ◌≤◌, ◌==◌, true, false, cond, List, ◌∷◌, ◌++◌, map, Option, None, Some, option_map, inl, refl, sym, ap, subst, ◌∙◌, arith}
 use Rattle.std.proofs.lemmas.List.{append-nil}
 use Rattle.law_order.specs.pg_base.declared.head.Head.{Head}

@@ -1,5 +1,5 @@
--- Which versions are among what replicas took: passing brings none, and so does no place or flag that
--- is made behind the first effect.
+-- Which versions are among what replicas took: passing brings none, and so does no place or flag
+-- that is made behind the first effect.
 use Rattle.std.proofs.Common.{ℕ, ◌≡◌, List, [], ◌∷◌, ◌++◌, map, Option, None, Some, refl, ap, ◌∙◌}
 use Rattle.std.specs.List.{flat_map}
 use Rattle.std.proofs.lemmas.Grind.{flat_map-append}

@@ -1,5 +1,5 @@
--- What a forget may begin anew was given out: of a thing that is not held, what a held cell, a Fill or a
--- Patch names.
+-- What a forget may begin anew was given out: of a thing that is not held, what a held cell, a Fill
+-- or a Patch names.
 use Rattle.std.proofs.Common.{ℕ, ◌≡◌, ◌==◌, true, false, not, List, [], ◌∷◌, length, Option, None, Some, is_some, refl, sym, ap, subst, ◌∙◌, inl, inr, arith}
 use Rattle.std.proofs.lemmas.Bool.{false≢true}
 use Rattle.std.specs.List.{list_any}

@@ -41,9 +41,9 @@ abbrev pub IsNamed : (ℕ → Store) → FileId → Type 0
 IsNamed stores file = file.number ≤ (stores file.server).files
 
 -- THE INVARIANT: the versions that were made are histories; each server stands for what came to it,
--- and what it notes of versions agrees with whom it asked for them;
--- messages carry versions of the histories, whole, and policies; and whatever has a version, is held
--- or is granted has an id that was given out. What has none has no policy yet
+-- and what it notes of versions agrees with whom it asked for them; messages carry versions of the
+-- histories, whole, and policies; and whatever has a version, is held or is granted has an id that
+-- was given out. What has none has no policy yet
 pub record Sound (stores : ℕ → Store) (us : List Born) (p : FileId → Policy)
     (took : ℕ → List Take) (wants : ℕ → Asked) (mail : List Sent) : Type 0 where
   pub server : (s : ℕ) → (stores s).names.server ≡ s

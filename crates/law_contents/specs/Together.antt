@@ -20,8 +20,8 @@ abbrev pub HoldBoth : ℕ → Type 0
 HoldBoth servers = (events : List Event)
     → AtEach servers (λ s. GoTogether (store_after servers events s))
 
--- and a birth that is over, or a version's maker, is none that is to come; and what a server knows or
--- intends to fetch was given out
+-- and a birth that is over, or a version's maker, is none that is to come; and what a server knows
+-- or intends to fetch was given out
 pub record StandOn (servers : ℕ) : Type 0 where
   pub both : HoldBoth servers
   pub moves : BirthsMoveOn servers

@@ -1,4 +1,5 @@
-//! What holds of the contents of files after any events, of servers at which names and replicas go together.
+//! What holds of the contents of files after any events, of servers at which names and replicas go
+//! together.
 
 ghost use Rattle.std.specs.Prelude.{ℕ, ◌<◌, ◌^◌};
 ghost use Rattle.law_contents.specs.Together.{StandOn};
@@ -22,9 +23,10 @@ pub fn states_are_heads()
         → StateIsDetermined servers }
 {}
 
-/// The versions of a file are a history, no two of which have one stamp; it has just the versions that entries tell
-/// of. A version's vector tells its ancestors, and each message that was ever sent and carries a version carries one of
-/// the history, as it is there; a grant names the policy of its file.
+/// The versions of a file are a history, no two of which have one stamp; it has just the versions
+/// that entries tell of. A version's vector tells its ancestors, and each message that was ever
+/// sent and carries a version carries one of the history, as it is there; a grant names the policy
+/// of its file.
 pub fn runs_make_histories()
     ensures histories { (servers : ℕ) → servers < 2 ^ 32 → StandOn servers
         → MakesHistories servers }
@@ -41,8 +43,8 @@ pub fn clocks_end_first()
     ensures { (servers : ℕ) → servers < 2 ^ 32 → StandOn servers → ClockEndsFirst servers }
 {}
 
-/// Who is asked for a version that a server notes announced it to that server: just that version,
-/// under just the tag that is noted.
+/// A server that is asked for a version, which another one notes, announced it to that one: just
+/// that version, under just the tag that is noted.
 pub fn sources_announced()
     ensures { (servers : ℕ) → servers < 2 ^ 32 → StandOn servers → SourcesAnnounced servers }
 {}

@@ -12,15 +12,15 @@
 //!   all cores, or `Alters` the one of one file. A field more of a replica changes little here.
 //! - What a server took is a set of versions, told by its members (`proofs/Sets`). A fact on all
 //!   files is shown of the file of the last version (`proofs/Histories`).
-//! - What a server notes of versions agrees with whom it asked for them (`Agrees`, `proofs/Agreed`):
-//!   so what a piece or a delta carries is told by the messages that were sent. Who is asked announced
-//!   it (`proofs/HarbingersCame`), and none is noted that is covered (`proofs/Opens`).
-//! - Kept deltas are those of what was made and taken (`proofs/KeptRuns`): each piece tells how they
-//!   go on (`KeptStep`, `proofs/KeptSteps`).
-//! - Bodies on demand: whom a server asked last for a version agrees with what it notes of it
-//!   (`Agrees`, `proofs/Agreed`), unless the version is covered. A first effect that asks for
-//!   nothing lets notes end only where they are covered (`Goes`, `proofs/Goings`); the five kinds
-//!   of bodies have steps of their own (`proofs/AsksBodies`, `AsksEnding`).
+//! - What a server notes of versions agrees with whom it asked for them (`Agrees`,
+//!   `proofs/Agreed`), unless the version is covered: so what a piece or a delta carries is told by
+//!   the messages that were sent. Who is asked announced the version (`proofs/HarbingersCame`), and
+//!   none is noted that is covered (`proofs/Opens`).
+//! - Kept deltas are those of what was made and taken (`proofs/KeptRuns`): each piece tells how
+//!   they go on (`KeptStep`, `proofs/KeptSteps`).
+//! - Bodies on demand: a first effect that asks for nothing lets notes end only where they are
+//!   covered (`Goes`, `proofs/Goings`); the five kinds of bodies have steps of their own
+//!   (`proofs/AsksBodies`, `AsksEnding`).
 //! - Premises: `StandOn` (`specs/Together`), of `law_order` and the laws on births and intentions.
 //! - A new kind of message gets its line in `receive_arrives` (`proofs/Receiving`): where it brings
 //!   no version and nothing begins, by a lemma `.._quiet` of `proofs/Handlers`; and its case of

@@ -1,5 +1,5 @@
 -- A Want for a head is answered by the shortest change that what was made and taken leads to.
-use Rattle.std.proofs.Common.{ℕ, ◌≡◌, ◌<◌, ◌^◌, List, Option, Some, option_map, sym, ap, subst, ◌∙◌}
+use Rattle.std.proofs.Common.{ℕ, ◌≡◌, ◌<◌, ◌^◌, List, Option, option_map, sym, ap, subst, ◌∙◌}
 use Rattle.law_contents.specs.pg_delta.declared.delta.KeptDelta.{KeptDelta}
 use Rattle.law_contents.specs.pg_delta.Chain.{IsDelta}
 use Rattle.law_contents.specs.pg_delta.Kept.{kept_deltas}

@@ -1,4 +1,5 @@
-//! What holds of the changes of bodies in all runs. Each law is a clause of a function that does nothing.
+//! What holds of changes of bodies in all runs. Each law is a clause of a function that does
+//! nothing.
 
 ghost use Rattle.std.specs.Prelude.{ℕ, ◌<◌, ◌^◌};
 ghost use Rattle.law_contents.specs.Together.{StandOn};

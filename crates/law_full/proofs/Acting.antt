@@ -1,5 +1,5 @@
--- What an event keeps: one server takes an input, or none does. And what every event keeps, a run does, from whichever
--- world on.
+-- What an event keeps: one server takes an input, or none does. And what every event keeps, a run
+-- does, from whichever world on.
 use Rattle.std.proofs.Common.{ℕ, ◌≡◌, ◌≤◌, List, [], ◌∷◌, Option, None, Some, refl, sym, subst}
 use Rattle.pg_run.specs.pg_event.declared.entry.VoidCause.{VoidCause}
 use Rattle.pg_run.specs.pg_event.declared.event.Event.{Event}

@@ -1,4 +1,5 @@
--- What comes of a call: places and versions that are made, flags, and what asks for a replica or for a gold.
+-- What comes of a call: places and versions that are made, flags, and what asks for a replica or
+-- for a gold.
 use Rattle.std.proofs.Common.{ℕ, ◌≡◌, ◌==◌, true, false, cond, List, [], ◌∷◌, length, Option, None, Some, Result, Ok, Err, refl, sym, ap, subst, ◌∙◌, ◌⊎◌, inl, inr}
 use Rattle.std.specs.List.{filter}
 use Rattle.std.proofs.lemmas.Bool.{false≢true}
@@ -35,7 +36,6 @@ use Rattle.pg_run.specs.pg_pieces.Done.{Done, idle}
 use Rattle.pg_run.specs.pg_pieces.Golds.{is_gold}
 use Rattle.pg_run.specs.pg_pieces.Making.{lower_flag, own_next}
 use Rattle.pg_run.specs.pg_pieces.Posting.{post}
-use Rattle.pg_run.specs.pg_repair.Fetching.{given}
 use Rattle.pg_run.specs.pg_checks.declared.checks.NewName.{NewName}
 use Rattle.pg_run.specs.pg_checks.Answer.{Answer, answered, replied, told as told_answer, unless}
 use Rattle.pg_run.specs.pg_checks.Asking as asking
@@ -85,7 +85,8 @@ file_is a text g is =
     let none = unless_ok (is_dir last.0) IsDir last.0 g last.2 in
     subst (λ (f : FileId). is_dir f ≡ false) none.1 none.0
 
--- what is struck out is listed by the directory that tells its place: its dead place has the stamp that is drawn now
+-- what is struck out is listed by the directory that tells its place: its dead place has the stamp
+-- that is drawn now
 listing_is : (a : Store) (id dir : FileId) → lists_in a.names id dir ≡ true → (moment : ℕ) → (dead_at a moment id dir).stamp ≡ drawn a moment
 listing_is a id dir lists moment = by (cell_at a.names dir id) refl
   where

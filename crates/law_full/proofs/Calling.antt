@@ -1,4 +1,5 @@
--- What each call keeps of names: new things, places that things get, and versions, which raise the greatest time.
+-- What each call keeps of names: new things, places that things get, and versions, which raise the
+-- greatest time.
 use Rattle.std.proofs.Common.{ℕ, ◌≡◌, ◌==◌, false, List, Option, None, Some, Result, Ok, Err, refl, sym, subst}
 use Rattle.pg_run.specs.pg_base.declared.id.FileId.{FileId}
 use Rattle.pg_run.specs.pg_base.declared.id.Kind.{Kind}
@@ -38,8 +39,9 @@ use Rattle.pg_run.specs.pg_calls.Making.{drawn}
 use Rattle.pg_run.specs.pg_calls.Naming.{next_id, with_id, with_thing}
 use Rattle.pg_run.proofs.theory_flood_pieces.Choices.{chosen}
 
--- a property of names that what a call does keeps, at a server that holds this: a new thing, a place with the stamp that
--- is drawn now, a flag, a greater time, what was lost and is given up, and a server that is removed
+-- a property of names that what a call does keeps, at a server that holds this: a new thing, a
+-- place with the stamp that is drawn now, a flag, a greater time, what was lost and is given up,
+-- and a server that is removed
 pub record CallsKeep (P : NamesValue → Type 0) (a : Store) (work : Work) : Type 0 where
   pub thing : (kind : Kind) (policy : Policy) (new : NewName) → P a.names → P (with_thing (with_id a) work (next_id a kind) policy new).store.names
   pub place : (f : FileId) (p : Place) → p.stamp ≡ drawn a work.now → P a.names → P (take_place a f p).names

@@ -1,4 +1,5 @@
--- Who has acknowledged all that it was sent: the edge to it was there before the event, since a new one has every key.
+-- Who has acknowledged all that it was sent: the edge to it was there before the event, since a new
+-- one has every key.
 use Rattle.std.proofs.Common.{ℕ, ◌≡◌, ◌==◌, inl, inr, Bool, true, false, cond, List, [], ◌∷◌, Option, None, Some, option_map, refl, sym, ap, ◌∙◌}
 use Rattle.std.specs.Prelude.{Contains}
 use Rattle.std.specs.List.{IsAmong}

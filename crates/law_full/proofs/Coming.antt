@@ -50,7 +50,8 @@ use Rattle.pg_run.proofs.Transfers.{KeepsTransfers, delta_keeps, harbinger_keeps
 use Rattle.law_full.proofs.Losing.{few_kept, fill_kept}
 use Rattle.law_full.proofs.Pieces.{AreKept, begin_kept, entry_kept, flags_kept, link_kept, place_kept, taken_kept, unlink_kept, version_kept}
 
--- what a message from a server may bring one that holds this, and that where its replica goes with leave names keep it
+-- what a message from a server may bring one that holds this, and that where its replica goes with
+-- leave names keep it
 pub record MayCome (P : NamesValue → Type 0) (Places : FileId → Place → Type 0) (Begins : FileId → Attributes → Bool → Type 0) (Fills : FileId → Type 0) (a : Store) (from : ℕ) (m : Message) : Type 0 where
   pub cell : (ends : Ends) (tag : ℕ) (p : Place) → m ≡ message.Cell ends tag (cell.Place p) → has_birth a ends.file ends.receiver ≡ true
       → Places ends.file p

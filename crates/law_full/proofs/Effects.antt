@@ -1,5 +1,5 @@
--- What an event keeps of names: its first effect, then the house rules, and flags that are raised behind them. Intentions
--- that end and begin leave names.
+-- What an event keeps of names: its first effect, then the house rules, and flags that are raised
+-- behind them. Intentions that end and begin leave names.
 use Rattle.std.proofs.Common.{ℕ, ◌≡◌, true, Option, drop, length, sym, subst}
 use Rattle.pg_run.specs.pg_base.declared.id.FileId.{FileId}
 use Rattle.pg_run.specs.pg_register.declared.flag.Flag.{Flag}
@@ -23,7 +23,8 @@ use Rattle.pg_run.specs.pg_server.Local.{Effect, closed, effect, finished, first
 use Rattle.pg_run.proofs.theory_flood_pieces.Choices.{chosen, decided}
 use Rattle.pg_run.proofs.theory_flood_pieces.Touching.{same_names}
 
--- what the house rules keep, and a flag that comes, all of it keeps that stands behind the first effect
+-- what the house rules keep, and a flag that comes, all of it keeps that stands behind the first
+-- effect
 pub record RulesKeep (P : NamesValue → Type 0) : Type 0 where
   pub rules : (moment : ℕ) (s : NamesValue) (work : Work) → P s → P (house moment (state_of s work)).names
   pub flag : (s : NamesValue) (f : FileId) (g : Flag) → P s → P (join_flag s f g)

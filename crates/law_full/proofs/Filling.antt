@@ -1,4 +1,5 @@
--- Full replicas have places, and who is told that its replica is full holds it with one, along every run.
+-- Full replicas have places, and who is told that its replica is full holds it with one, along
+-- every run.
 use Rattle.std.proofs.Common.{ℕ, ◌≡◌, ◌≤◌, Bool, true, false, List, get_or, Option, None, Some, option_map, All, refl, sym, ap, subst, ◌∙◌, ◌⊎◌, inl, inr}
 use Rattle.std.specs.List.{IsAmong}
 use Rattle.std.proofs.lemmas.Bool.{false≢true}

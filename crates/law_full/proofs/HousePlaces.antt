@@ -1,5 +1,5 @@
--- What the house rules make of the place of one thing: it stays, becomes a greater one that is known, or a live one is
--- made.
+-- What the house rules make of the place of one thing: it stays, becomes a greater one that is
+-- known, or a live one is made.
 use Rattle.std.proofs.Common.{ℕ, ◌≡◌, ◌≤◌, ◌+◌, ◌^◌, Bool, true, false, max, min, List, [], ◌∷◌, length, Option, None, Some, All, refl, sym, ap, subst, ◌∙◌, inl, inr, ◌⊎◌, arith}
 use Rattle.std.proofs.lemmas.Bool.Decides.{nat_tests}
 use Rattle.std.proofs.lemmas.List.Elements.{All-append, All-cons, All-nil}
@@ -75,8 +75,8 @@ drawn_some moment last = some_time moment last (max (min moment (2 ^ 62)) (last 
 
 -- ---- one thing
 
--- what its place is, where these servers are removed: it stays so where it takes what is greater, and where a live place
--- is made; and what is said of updates is so of each live place that is made
+-- what its place is, where these servers are removed: it stays so where it takes what is greater,
+-- and where a live place is made; and what is said of updates is so of each live place that is made
 pub record StaysSo (d : FileId) (R : List ℕ) (Q : Place → Type 0) (M : Update → Type 0) : Type 0 where
   pub taken : (own top : Attributes) → IsUp own.place top.place → Q own.place → Q (own_taken own top (is_held_back R d own top)).place
   pub live : (p : Place) → p.live ≡ true → 1 ≤ p.stamp.time → Q p

@@ -1,4 +1,5 @@
--- What a forget keeps of names: a filling replica that is full as it is, a file that is struck out, a directory that begins anew.
+-- What a forget keeps of names: a filling replica that is full as it is, a file that is struck out,
+-- a directory that begins anew.
 use Rattle.std.proofs.Common.{ℕ, ◌≡◌, Bool, true, cond, List, [], ◌∷◌, Option, None, Some, refl}
 use Rattle.std.specs.Prelude.{nat_lt}
 use Rattle.pg_run.specs.pg_base.declared.id.FileId.{FileId}
@@ -19,7 +20,8 @@ use Rattle.pg_run.specs.pg_calls.Naming.{raised}
 use Rattle.pg_run.proofs.theory_flood_pieces.Choices.{chosen}
 use Rattle.law_full.proofs.Pieces.{AreKept, begin_kept, entry_kept, flag_kept, place_kept}
 
--- what a forget of a thing may bring: places in the root, a full replica with the place that the latest cell tells, or with none
+-- what a forget of a thing may bring: places in the root, a full replica with the place that the
+-- latest cell tells, or with none
 pub record MayLose (Places : FileId → Place → Type 0) (Begins : FileId → Attributes → Bool → Type 0) (Fills : FileId → Type 0) (a : Store) (moment : ℕ) (id : FileId)
     : Type 0 where
   pub placed : (b : Store) → Places id (root_place b moment id)

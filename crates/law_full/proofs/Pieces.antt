@@ -1,4 +1,5 @@
--- What each piece of an event keeps of names: places, flags and entries that come, replicas that begin or become full.
+-- What each piece of an event keeps of names: places, flags and entries that come, replicas that
+-- begin or become full.
 use Rattle.std.proofs.Common.{ℕ, ◌≡◌, Bool, List, [], ◌∷◌, Option, None, Some, refl}
 use Rattle.pg_run.specs.pg_base.declared.id.FileId.{FileId}
 use Rattle.pg_run.specs.pg_base.declared.policy.Policy.{Policy}
@@ -23,8 +24,8 @@ use Rattle.pg_run.specs.pg_cells.Cells.{taken}
 use Rattle.pg_run.specs.pg_pieces.Taking.{take_flags_noted}
 use Rattle.pg_run.proofs.theory_flood_pieces.Choices.{chosen}
 
--- a property of names that each piece keeps, where these places may come, such replicas begin, and these things become
--- full; and where a server is removed
+-- a property of names that each piece keeps, where these places may come, such replicas begin, and
+-- these things become full; and where a server is removed
 pub record AreKept (P : NamesValue → Type 0) (Places : FileId → Place → Type 0) (Begins : FileId → Attributes → Bool → Type 0) (Fills : FileId → Type 0) : Type 0 where
   pub place : (s : NamesValue) (f : FileId) (p : Place) → Places f p → P s → P (join_place s f p)
   pub flag : (s : NamesValue) (f : FileId) (g : Flag) → P s → P (join_flag s f g)

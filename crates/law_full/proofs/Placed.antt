@@ -1,4 +1,5 @@
--- A place with a later stamp than the first: it is never replaced by one with the first; and what becomes full.
+-- A place with a later stamp than the first: it is never replaced by one with the first; and what
+-- becomes full.
 use Rattle.std.proofs.Common.{ℕ, ◌≡◌, ◌≤◌, ◌==◌, ◌&&◌, ◌||◌, Bool, true, false, cond, not, List, Option, None, Some, is_some, refl, sym, ap, subst, ◌∙◌, inl, inr, ◌⊎◌, arith}
 use Rattle.std.specs.Prelude.{nat_lt}
 use Rattle.std.proofs.lemmas.Bool.{false≢true}

@@ -1,4 +1,5 @@
--- What comes of messages that are answered plainly: what is confirmed and told, and replicas that go.
+-- What comes of messages that are answered plainly: what is confirmed and told, and replicas that
+-- go.
 use Rattle.std.proofs.Common.{ℕ, ◌≡◌, ◌++◌, ◌∷◌, [], not, true, List, Option, None, Some, refl, sym, subst}
 use Rattle.std.specs.List.{flat_map}
 use Rattle.std.specs.Map.{keys_of}

@@ -1,4 +1,5 @@
--- What comes of messages and calls: what is noted, flags, places and versions that are made, and what is sent.
+-- What comes of messages and calls: what is noted, flags, places and versions that are made, and
+-- what is sent.
 use Rattle.std.proofs.Common.{ℕ, ◌≡◌, ◌==◌, ◌-◌, ◌/◌, ◌%◌, ◌&&◌, ◌||◌, not, true, cond, length, Option, None, Some, refl}
 use Rattle.std.specs.List.{slice_get}
 use Rattle.std.specs.Prelude.{nat_lt}
@@ -39,8 +40,8 @@ use Rattle.pg_run.proofs.Transfers.{IsAnswer, KeepsTransfers, delta_keeps, harbi
 use Rattle.law_full.proofs.Plain.{confirm_sends, leave_ok_sends, leave_sends, place_is_sends, plain_sends, tell_sends}
 use Rattle.law_full.proofs.Works.{IsClosed, is_plain, link_sends, made_sends, taken_sends}
 
--- a property of what comes of an event that grants keep, and, where a server that holds this is asked for a replica, what
--- it says is full once it has linked who asks
+-- a property of what comes of an event that grants keep, and, where a server that holds this is
+-- asked for a replica, what it says is full once it has linked who asks
 pub record MayAnswer (Q : Work → Type 0) (a : Store) (w : Work) (m : Message) : Type 0 where
   pub granted : (v : Work) (b : Store) (to : ℕ) (ends : Ends) (own : Attributes) (x : Replica) → Q v
       → Q (with_sent v (sent_to b to (message.Grant ends (granted_from ends.file own x))))

@@ -1,5 +1,5 @@
--- What is sent in an event: replies, what asks for a replica, cells of what is held before, in a tick, and behind, and
--- what intentions ask.
+-- What is sent in an event: replies, what asks for a replica, cells of what is held before, in a
+-- tick, and behind, and what intentions ask.
 use Rattle.std.proofs.Common.{ℕ, ◌≡◌, true, [], ◌++◌, get_or, All, refl, subst}
 use Rattle.std.specs.List.{flat_map}
 use Rattle.std.proofs.lemmas.List.Elements.{All-append, All-nil, All-push}
@@ -35,8 +35,8 @@ use Rattle.law_full.proofs.Called.{call_sends}
 use Rattle.law_full.proofs.Replies.{MayAnswer, receive_sends, tick_sends}
 use Rattle.law_full.proofs.Works.{IsClosed, is_plain}
 
--- a property of messages: plain ones have it, what is granted does, and, where a server that holds this is asked for a
--- replica, what it says is full once it has linked who asks
+-- a property of messages: plain ones have it, what is granted does, and, where a server that holds
+-- this is asked for a replica, what it says is full once it has linked who asks
 pub record MayReply (P : Sent → Type 0) (a : Store) (w : Work) (m : Message) : Type 0 where
   pub granted : (b : Store) (to : ℕ) (ends : Ends) (own : Attributes) (x : Replica) → P (sent_to b to (message.Grant ends (granted_from ends.file own x)))
   pub full : (file : FileId) (birth : ℕ) → m ≡ message.Fetch file birth → is_full a file ≡ true

@@ -51,7 +51,8 @@ module _ (P : Sent → Type 0) (plain : (x : Sent) → is_plain x.packet.message
       chosen (λ (m : Message). P (sent_to a e.peer m)) (nat_lt 1024 v.head.length) m (message.Cell ends tag (cell.Version v))
       (plain (sent_to a e.peer m) refl) (each ends e (cell.Version v) tag)
 
-  -- what holds of each cell that may be sent, and of what is plain, holds of all that is told of cells
+  -- what holds of each cell that may be sent, and of what is plain, holds of all that is told of
+  -- cells
   pub all_cells : (wanted : Wanted) → All P (cells_where a wanted)
   all_cells wanted =
       cells_have P a wanted

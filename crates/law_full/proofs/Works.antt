@@ -28,7 +28,8 @@ use Rattle.pg_run.specs.pg_pieces.Taking.{is_any_news, is_place_news, take_entry
 use Rattle.pg_run.proofs.pg_cells.Settled.{settle_keeps}
 use Rattle.pg_run.proofs.theory_flood_pieces.Choices.{chosen}
 
--- a message that tells of no cell, grants nothing, does not say that a replica is full, and asks nobody to confirm
+-- a message that tells of no cell, grants nothing, does not say that a replica is full, and asks
+-- nobody to confirm
 abbrev pub is_plain : Message → Bool
 is_plain (message.Cell ends tag c) = false
 is_plain (message.Grant ends granted) = false
@@ -36,8 +37,8 @@ is_plain (message.Full ends) = false
 is_plain (message.Confirm dir entry) = false
 is_plain _ = true
 
--- a property of what comes of an event that these keep: what is noted, intentions that begin, flags that are made, and plain messages, also such
--- as go last
+-- a property of what comes of an event that these keep: what is noted, intentions that begin, flags
+-- that are made, and plain messages, also such as go last
 pub record IsClosed (Q : Work → Type 0) : Type 0 where
   pub touched : (w : Work) (f : FileId) (q : Key) → Q w → Q (with_touched w f q)
   pub left : (w : Work) (d f : FileId) → Q w → Q (with_left w d f)

@@ -1,4 +1,5 @@
--- What is said of flags is said of what a server holds and sends in answer to each message of bodies on demand.
+-- What is said of flags is said of what a server holds and sends in answer to each message of
+-- bodies on demand.
 use Rattle.std.proofs.Common.{ℕ, cond, List}
 use Rattle.law_contents.specs.pg_base.declared.head.Head.{Head}
 use Rattle.law_contents.specs.pg_base.declared.id.FileId.{FileId}

@@ -1,4 +1,5 @@
--- In the midst of an event: what is known of flags is what was known before, or was made; each is up to its server's own.
+-- In the midst of an event: what is known of flags is what was known before, or was made; each is
+-- up to its server's own.
 use Rattle.std.proofs.Common.{ℕ, ◌≡◌, ◌<◌, Bool, List, Some, [], ◌∷◌, ◌++◌, All, refl, sym, ap, subst, ◌∙◌, inl, inr, ◌⊎◌, arith}
 use Rattle.std.proofs.lemmas.Option.{same_Some}
 use Rattle.law_contents.specs.pg_base.declared.id.FileId.{FileId}

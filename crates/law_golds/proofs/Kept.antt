@@ -1,5 +1,5 @@
--- What pieces of an event leave of flags: those that a server knows of things themselves, where nothing but a replica
--- begins, and a place or entries are taken.
+-- What pieces of an event leave of flags: those that a server knows of things themselves, where
+-- nothing but a replica begins, and a place or entries are taken.
 use Rattle.std.proofs.Common.{ℕ, ◌≡◌, ◌≤◌, ◌<◌, ◌⊎◌, arith, Bool, true, false, cond, List, [], ◌∷◌, Option, None, Some, is_some, inl, inr, refl, sym, ap, subst, ◌∙◌}
 use Rattle.std.specs.Option.{option_map}
 use Rattle.law_contents.specs.pg_base.declared.id.FileId.{FileId}
@@ -66,7 +66,8 @@ past_by a b f m count newly p = record {
   less = λ n h. elim (newly f n h) [ inl was ↦ p.less n was | inr new ↦ below m a.births n p.given new ];
 }
 
--- what is held is held on, with its birth, and of its flags as much is known, or more; or it goes, and its birth is past
+-- what is held is held on, with its birth, and of its flags as much is known, or more; or it goes,
+-- and its birth is past
 pub record GoesOn (a b : Store) : Type 0 where
   pub goes : (f : FileId) (n : ℕ) → birth_at a f ≡ Some n
       → ((birth_at b f ≡ Some n) × AreFlagsUpTo (flags_at a.names f) (flags_at b.names f)) ⊎ IsPast b f n

@@ -1,4 +1,5 @@
--- A server's own flag of a thing: what is known of its flags is up to it, and the next one is later than all of them.
+-- A server's own flag of a thing: what is known of its flags is up to it, and the next one is later
+-- than all of them.
 use Rattle.std.proofs.Common.{ℕ, ◌≡◌, ◌≤◌, ◌<◌, ◌==◌, ◌+◌, ◌||◌, ◌&&◌, Bool, true, false, cond, List, Option, None, Some, eq-eqb, refl, sym, ap, subst, ◌∙◌, inl, inr, ◌⊎◌, arith}
 use Rattle.std.specs.Prelude.{nat_lt}
 use Rattle.std.proofs.lemmas.Bool.Decides.{nat_tests}
@@ -25,7 +26,8 @@ use Rattle.law_births.proofs.Pieces.{flag_stays}
 use Rattle.law_contents.proofs.pg_store.Over.{moves_as_before}
 use Rattle.law_golds.proofs.Kept.{GoesOn, IsPast, flags_at, newly_of, past_by}
 
--- a flag of server s, which has this store, is up to its own flag of the thing, of the birth that its replica has
+-- a flag of server s, which has this store, is up to its own flag of the thing, of the birth that
+-- its replica has
 pub record IsOwn (s : ℕ) (b : Store) (f : FileId) (g : Flag) : Type 0 where
   pub birth : birth_at b f ≡ Some g.birth
   pub own : Flag
@@ -71,7 +73,8 @@ birth_same g x (inr up) = up.0
 
 -- ---- a server goes on
 
--- where two of its flags with one number are one, and each is of the birth of the replica, or of an earlier one
+-- where two of its flags with one number are one, and each is of the birth of the replica, or of an
+-- earlier one
 module _ (s : ℕ) (b c : Store) (on : GoesOn b c) (f : FileId) (g : Flag) (k : IsOwn s b f g)
     (born : (y : Flag) → flag_of (flags_at c.names f) s ≡ Some y → (g.birth ≡ y.birth) ⊎ (y.birth < g.birth))
     (one : (y : Flag) → flag_of (flags_at c.names f) s ≡ Some y → k.own.birth ≡ y.birth → k.own.number ≡ y.number

@@ -1,4 +1,5 @@
--- What is said of flags is said of what a server holds and sends in answer to each message that raises none.
+-- What is said of flags is said of what a server holds and sends in answer to each message that
+-- raises none.
 use Rattle.std.proofs.Common.{ℕ, ◌==◌, ◌-◌, ◌/◌, ◌%◌, Bool, true, false, cond, not, List, length, slice_get, Option, None, Some, All}
 use Rattle.law_contents.specs.pg_base.declared.id.FileId.{FileId}
 use Rattle.law_contents.specs.pg_base.declared.stamp.Stamp.{Stamp}

@@ -1,4 +1,5 @@
--- What is said of flags is said of what a server holds and sends in answer to a message that raises none.
+-- What is said of flags is said of what a server holds and sends in answer to a message that raises
+-- none.
 use Rattle.std.proofs.Common.{ℕ, ◌≡◌, ◌||◌, Bool, true, false, cond, List, [], ◌∷◌, All, sym, subst, ◌∙◌}
 use Rattle.std.proofs.lemmas.List.Elements.{All-head, All-push, All-tail}
 use Rattle.law_contents.specs.pg_base.declared.id.FileId.{FileId}

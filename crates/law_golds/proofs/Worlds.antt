@@ -1,4 +1,5 @@
--- In every run each flag that is known is up to its server's own, and no two flags of one server have one number.
+-- In every run each flag that is known is up to its server's own, and no two flags of one server
+-- have one number.
 use Rattle.std.proofs.Common.{ℕ, ◌≡◌, ◌==◌, zero, suc, Bool, true, false, cond, List, [], ◌∷◌, Option, None, Some, All, eq-eqb, refl, sym, ap, subst, ◌∙◌, inl, inr, ◌⊎◌}
 use Rattle.std.specs.Option.{option_map}
 use Rattle.std.proofs.lemmas.Bool.{eqb-true}

@@ -1,4 +1,5 @@
--- What holds in the midst of an event: who is asked is another server, and Patches and what was noted are of held things.
+-- What holds in the midst of an event: who is asked is another server, and Patches and what was
+-- noted are of held things.
 use Rattle.std.proofs.Common.{ℕ, ◌≡◌, ◌≢◌, ◌⊎◌, Bool, true, false, cond, not, ◌&&◌, List, [], ◌∷◌, Option, None, Some, All, inl, inr, refl, sym, ap, subst, ◌∙◌}
 use Rattle.std.specs.Option.{option_map}
 use Rattle.std.proofs.lemmas.Bool.{false≢true}

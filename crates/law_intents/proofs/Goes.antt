@@ -1,4 +1,5 @@
--- From one moment of an event to a later one: what is held stays, places go to later ones, and of live ones that is noted.
+-- From one moment of an event to a later one: what is held stays, places go to later ones, and of
+-- live ones that is noted.
 use Rattle.std.proofs.Common.{ℕ, ◌≡◌, ◌⊎◌, Bool, true, false, cond, List, Option, None, Some, is_some, inl, inr, refl, sym, ap, subst, ◌∙◌}
 use Rattle.std.proofs.lemmas.Option.{none-some, same_Some}
 use Rattle.law_order.specs.pg_base.declared.id.FileId.{FileId}
@@ -41,8 +42,8 @@ abbrev pub GoesTo : List Slot → FileId → Place → Place → Type 0
 GoesTo left file old new =
     (new ≡ old) ⊎ ((is_before old.stamp new.stamp ≡ true) × (is_root file ≡ false → old.live ≡ true → IsLeftIn left old.parent file))
 
--- a place that was told to a directory, and the one that the child has: a later one, and where the told one is live in
--- the directory it is noted that it was replaced
+-- a place that was told to a directory, and the one that the child has: a later one, and where the
+-- told one is live in the directory it is noted that it was replaced
 abbrev pub IsToldOf : List Slot → FileId → FileId → Place → Place → Type 0
 IsToldOf left dir child told own =
     (own ≡ told) ⊎ ((is_before told.stamp own.stamp ≡ true) × (told.live ≡ true → told.parent ≡ dir → IsLeftIn left dir child))

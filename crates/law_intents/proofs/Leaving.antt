@@ -1,4 +1,5 @@
--- Replicas that leave, in the midst of an event: who is told of it is another server, and Patches are of what stays.
+-- Replicas that leave, in the midst of an event: who is told of it is another server, and Patches
+-- are of what stays.
 use Rattle.std.proofs.Common.{ℕ, ◌≡◌, ◌≢◌, ◌==◌, ◌||◌, Bool, true, false, cond, not, List, [], ◌∷◌, Option, None, Some, is_some, All, get_or, refl, sym, ap, subst, ◌∙◌}
 use Rattle.std.specs.List.{IsAmong, find}
 use Rattle.std.proofs.lemmas.Bool.{and_parts, eqb-true, false≢true}

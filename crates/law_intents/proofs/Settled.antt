@@ -1,4 +1,5 @@
--- The house rules run behind the first effect: places go to later ones, and that is noted. Then golds are raised.
+-- The house rules run behind the first effect: places go to later ones, and that is noted. Then
+-- golds are raised.
 use Rattle.std.proofs.Common.{ℕ, ◌≡◌, ◌⊎◌, true, false, drop, length, List, [], ◌∷◌, Option, None, Some, inl, inr, refl, sym, ap, subst, ◌∙◌, arith}
 use Rattle.std.proofs.lemmas.Bool.Decides.{nat_tests}
 use Rattle.std.proofs.lemmas.Option.{none-some, same_Some}

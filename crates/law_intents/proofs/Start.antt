@@ -1,4 +1,5 @@
--- At the start nothing seeks: each server's replica of the root is gold, and has an edge to each other one.
+-- At the start nothing seeks: each server's replica of the root is gold, and has an edge to each
+-- other one.
 use Rattle.std.proofs.Common.{ℕ, zero, suc, ◌≡◌, ◌≤◌, ◌<◌, ◌==◌, ◌&&◌, ◌||◌, ◌⊎◌, Bool, true, false, cond, not, is_some, List, [], ◌∷◌, Option, None, Some, All, inl, inr, refl, sym, ap, subst, ◌∙◌, arith}
 use Rattle.std.specs.List.{list_any}
 use Rattle.std.proofs.lemmas.Bool.{eqb-true}

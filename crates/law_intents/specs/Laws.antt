@@ -11,7 +11,8 @@ use Rattle.law_order.specs.pg_intentions.Requests.{request}
 use Rattle.law_order.specs.pg_server.Local.{without_sources, without_volatile}
 use Rattle.law_order.specs.pg_run.Laws.{AtEach, store_after}
 
--- no intention ends or begins, where no place was replaced, no doubtful cell came and no edge was made
+-- no intention ends or begins, where no place was replaced, no doubtful cell came and no edge was
+-- made
 abbrev pub StaysIntended : Store → Type 0
 StaysIntended a = (work : Work) → work.left ≡ [] → work.unsure ≡ [] → work.linked ≡ []
     → begin_end a work ≡ idle a work

@@ -1,4 +1,5 @@
--- Edges that are heard of are known at their other ends; and births of which a Bye was sent, or heard, are over.
+-- Edges that are heard of are known at their other ends; and births of which a Bye was sent, or
+-- heard, are over.
 use Rattle.std.proofs.Common.{ℕ, ◌≡◌, ◌≤◌, ◌⊎◌, true, false, cond, is_some, List, Option, None, Some, option_map, refl, sym, ap, subst, ◌∙◌, inl, inr}
 use Rattle.std.specs.Prelude.{Contains}
 use Rattle.std.specs.List.{IsAmong}

@@ -15,7 +15,8 @@ module _ {A : Type 0} where
   along P step before (e ∷ es) k =
       subst P (append_assoc before (e ∷ []) es) (along P step (before ++ e ∷ []) es (step before e k))
 
-  -- where a list with one more is split at an entry: that is the last one, or the list was split there
+  -- where a list with one more is split at an entry: that is the last one, or the list was split
+  -- there
   pub record IsLast (xs : List A) (e : A) (ys : List A) (d : A) (zs : List A) : Type 0 where
     pub before : ys ≡ xs
     pub entry : d ≡ e

@@ -1,4 +1,5 @@
--- Who sends an answer to a cell accepted it, who sends an answer to a Bye heard it, and a Bye is sent where it is owed.
+-- Who sends an answer to a cell accepted it, who sends an answer to a Bye heard it, and a Bye is
+-- sent where it is owed.
 use Rattle.std.proofs.Common.{ℕ, ◌≡◌, ◌⊎◌, ◌++◌, ◌∷◌, [], true, false, List, Option, Some, refl, sym, ap, subst, ◌∙◌, inl, inr, All}
 use Rattle.std.specs.Prelude.{Contains}
 use Rattle.std.proofs.lemmas.Bool.{and_parts, false≢true}

@@ -1,5 +1,5 @@
--- Behind a Bye there is no edge to the replica that went: the first effect takes it away, and the house rules and
--- the intentions make none.
+-- Behind a Bye there is no edge to the replica that went: the first effect takes it away, and the
+-- house rules and the intentions make none.
 use Rattle.std.proofs.Common.{ℕ, ◌≡◌, ◌==◌, true, false, cond, List, [], ◌∷◌, length, drop, Option, None, Some, is_some, eq-eqb, refl, sym, ap, subst, ◌∙◌}
 use Rattle.std.proofs.lemmas.Bool.{false≢true, and_from}
 use Rattle.law_births.specs.pg_base.declared.id.FileId.{FileId}

@@ -1,5 +1,5 @@
--- Who answers accepted what came: a cell, the harbinger of a version, or its body. A statement on all
--- runs.
+-- Who answers accepted what came: a cell, the harbinger of a version, or its body. A statement on
+-- all runs.
 use Rattle.std.specs.Prelude.{ℕ, ◌≡◌, ◌⊎◌, true, false, Contains}
 use Rattle.law_births.specs.pg_base.declared.head.Head.{Head}
 use Rattle.law_births.specs.pg_edges.declared.key.Key.{Key}

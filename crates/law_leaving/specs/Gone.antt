@@ -9,7 +9,8 @@ use Rattle.law_births.specs.pg_replica.declared.replica.Replica.{Replica}
 use Rattle.law_births.specs.pg_run.Laws.{store_after}
 use Rattle.law_births.specs.pg_run.Leaving.{Went}
 
--- a server's replica of this birth went in one of these events, and this is how it was seen before that
+-- a server's replica of this birth went in one of these events, and this is how it was seen before
+-- that
 pub record WentAs (servers : ℕ) (file : FileId) (events : List Event) (s birth : ℕ) (y : Seen Cell)
     : Type 0 where
   pub replica : Replica

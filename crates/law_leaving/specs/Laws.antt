@@ -10,15 +10,16 @@ use Rattle.law_births.specs.pg_run.Leaving.{Goes, HasEachCell}
 use Rattle.law_births.specs.pg_run.Run.{World, run}
 use Rattle.law_leaving.specs.Taken.{IsTaken}
 
--- server t holds the thing with this birth, is not removed in the view of server s, and has every cell
--- that s has of it, or one that tells more, and took what it tells of places, flags and entries
+-- server t holds the thing with this birth, is not removed in the view of server s, and has every
+-- cell that s has of it, or one that tells more, and took what it tells of places, flags and
+-- entries
 pub record HasAllOf (w : World) (s : ℕ) (file : FileId) (t birth : ℕ) : Type 0 where
   pub there : is_removed (w.stores s).names.removed t ≡ false
   pub cells : HasEachCell w s file t birth
   pub took : (k : Key) (c : Cell) → cell_at (w.stores s) file k ≡ Some c → IsTaken (w.took t) file c
 
--- WHOEVER GOES LEAVES ALL: whenever a replica goes, the one that gave it leave has every cell of it, and
--- took what it tells
+-- WHOEVER GOES LEAVES ALL: whenever a replica goes, the one that gave it leave has every cell of
+-- it, and took what it tells
 abbrev pub DropsLeaveAll : ℕ → Type 0
 DropsLeaveAll servers = (events : List Event) (event : Event) (s from : ℕ) (file : FileId)
     → Goes servers events event s file from

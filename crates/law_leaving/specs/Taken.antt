@@ -20,8 +20,9 @@ abbrev pub IsPlaceTaken : Taker → FileId → List Take → Place → Type 0
 IsPlaceTaken by thing takes place =
     is_update place ≡ true → Contains (places_taken by thing takes) place
 
--- what a cell tells was taken: of an entry the place and the flags of the child. Of versions nothing is
--- asked here: who holds a cell that tells more than a version's, took that version with its ancestors
+-- what a cell tells was taken: of an entry the place and the flags of the child. Of versions
+-- nothing is asked here: who holds a cell that tells more than a version's, took that version with
+-- its ancestors
 abbrev pub IsTaken : List Take → FileId → Cell → Type 0
 IsTaken takes file (cell.Place place) = IsPlaceTaken Itself file takes place
 IsTaken takes file (cell.Flag flag) = Contains (flags_taken Itself file takes) flag

@@ -1,5 +1,5 @@
--- Stores that directories see alike: places, cells and Patches are the same, and Confirms go on. A first
--- part of a step may begin and end with such a change.
+-- Stores that directories see alike: places, cells and Patches are the same, and Confirms go on. A
+-- first part of a step may begin and end with such a change.
 use Rattle.std.proofs.Common.{ℕ, ◌≡◌, ◌<◌, ◌≤◌, List, length, refl, sym, ap, subst, ◌∙◌, inl, inr}
 use Rattle.law_places.specs.pg_base.declared.id.FileId.{FileId}
 use Rattle.law_places.specs.pg_base.declared.stamp.Stamp.{Stamp}

@@ -1,5 +1,5 @@
--- The first part of a step in which a server enters a removal: whatever a directory lists, and is not held, is asked
--- after.
+-- The first part of a step in which a server enters a removal: whatever a directory lists, and is
+-- not held, is asked after.
 use Rattle.std.proofs.Common.{ℕ, ◌≡◌, ◌≤◌, ◌+◌, ◌&&◌, ◌||◌, not, Bool, true, false, cond, length, map, List, [], ◌∷◌, ◌++◌, Option, None, Some, is_some, refl, sym, ap, subst, ◌∙◌, inl, inr, ◌⊎◌, arith}
 use Rattle.std.specs.BTreeMap.{is_at}
 use Rattle.std.specs.List.{flat_map}

@@ -58,7 +58,8 @@ module _ (a : Store) (dir : FileId) (e : Entry) where
       chosen (λ (b : Store). ((d ≡ dir) × (c ≡ e.child)) ⊎ (of_places.cell b d c ≡ of_places.cell a d c)) (is_newer_entry a dir e) (put_entry a dir e) a
       (others_by d c (bool_cases (is_same_file dir d)) (bool_cases (is_same_file c e.child))) (inr refl)
 
-  -- the cell of the child is as it was, or it has the place that came, or it has its old place, which is no earlier one
+  -- the cell of the child is as it was, or it has the place that came, or it has its old place,
+  -- which is no earlier one
   abbrev pub IsAt : Store → Type 0
   IsAt b = (of_places.cell b dir e.child ≡ of_places.cell a dir e.child)
       ⊎ ((of_places.cell b dir e.child ≡ Some e.place) × ((q : Place) → of_places.cell a dir e.child ≡ Some q → IsUpTo of_places q e.place)

@@ -1,4 +1,5 @@
--- The first part of a step in which a replica is to go, gives leave, or goes, and its peers hear of it.
+-- The first part of a step in which a replica is to go, gives leave, or goes, and its peers hear of
+-- it.
 use Rattle.std.proofs.Common.{ℕ, ◌≡◌, true, false, cond, List, None, Some, is_some, refl, sym, ap, ◌∙◌, inl, inr, ◌⊎◌}
 use Rattle.std.proofs.lemmas.Option.{none-some, same_Some}
 use Rattle.law_places.specs.pg_base.declared.id.FileId.{FileId}

@@ -1,5 +1,5 @@
--- Places alone, of servers of which births are not seen: what a handler does to them is the first part of a
--- step, where the births go on too.
+-- Places alone, of servers of which births are not seen: what a handler does to them is the first
+-- part of a step, where the births go on too.
 use Rattle.std.proofs.Common.{ℕ, ◌≡◌, None}
 use Rattle.law_places.specs.pg_base.declared.id.FileId.{FileId}
 use Rattle.law_places.specs.pg_base.declared.stamp.Stamp.{Stamp}

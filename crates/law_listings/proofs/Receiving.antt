@@ -70,8 +70,8 @@ use Rattle.law_listings.proofs.Placed.{IsNoted, noted_on, place_first, place_not
 use Rattle.law_listings.proofs.Starting.{started, started_first, started_noted}
 use Rattle.law_listings.proofs.Unseen.{accept_alike, aimed_alike, fill_alike, flag_alike, flags_alike, flags_left, invite_alike, link_alike, link_left, turn_fill_alike, turn_wish_alike, unlink_alike, version_alike}
 
--- what PlaceIs says is the place that the directory has with that stamp, and the place in a LeaveOk of a server that held
--- this is that of the thing, if it has its stamp
+-- what PlaceIs says is the place that the directory has with that stamp, and the place in a LeaveOk
+-- of a server that held this is that of the thing, if it has its stamp
 abbrev pub IsOne : Store → Store → Message → Type 0
 IsOne a z (message.PlaceIs dir e) = (q : Place) → of_places.cell a dir e.child ≡ Some q → q.stamp ≡ e.place.stamp → q ≡ e.place
 IsOne a z (message.LeaveOk ends stamp) = (q : Place) → of_places.own a ends.file ≡ Some q → q.stamp ≡ stamp → q ≡ place_of z ends.file

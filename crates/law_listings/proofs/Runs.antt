@@ -187,8 +187,8 @@ module _ (n : ℕ) (k : ListingsStandOn n) where
       abbrev Last : ℕ
       Last = length (removals Ran.journal)
 
-      good : IsGood Last sent s A behind order (k.away events s least most).fresh (own_children n k.order events s) (old.kept.settled s) (first_effect A asked) E
-      good = record {
+      good : (last : ℕ) → IsGood last sent s A behind order (k.away events s least most).fresh (own_children n k.order events s) (old.kept.settled s) (first_effect A asked) E
+      good last = record {
         sound = k.sound events event s asked takes;
         next_order = next_order;
         next_children = subst (λ (a : Store). HaveChildren a.names) next_store (own_children n k.order (events ++ event ∷ []) s);
@@ -208,22 +208,23 @@ module _ (n : ℕ) (k : ListingsStandOn n) where
           k.own events ends.file q (place_of l.store ends.file) (subst (IsPlaceOf Ran ends.file) o.2 (known ends.file o.0 o.1)) p.1 (same ∙ sym p.0)
       one_by packet l m is came = tt
 
-      asked_is : (x : Input) → HasCome Ran s x → IsAsked Last sent s A behind order (k.away events s least most).fresh (own_children n k.order events s) (old.kept.settled s) x
-      asked_is (input.Call moment c) came = tt
-      asked_is (input.Tick moment word) came =
+      asked_is : (last : ℕ) (x : Input) → HasCome Ran s x → IsAsked last sent s A behind order (k.away events s least most).fresh (own_children n k.order events s) (old.kept.settled s) x
+      asked_is last (input.Call moment c) came = tt
+      asked_is last (input.Tick moment word) came =
           let tick = happening.Tick s moment word in
           let t : Taking = record { server = s; asked = input.Tick moment word } in
           let here : taking_in n Ran tick ≡ Some t = ap (λ b. cond b (Some t) None) there in
           let e = effect A (input.Tick moment word) in
           λ time. sym (after_itself Ran.stores s e.store) ∙ sym (ap (λ (z : Step). z.stores s) (next_is n Ran tick t here)) ∙ (k.ticks events s moment word there).loses time
-      asked_is (input.Arrival packet) came =
+      asked_is last (input.Arrival packet) came =
           let l = all_among (HasLetter Ran sent) (mail Ran.journal) (record { to = s; packet = packet }) old.mailed (contained_among (mail Ran.journal) (record { to = s; packet = packet }) came) in
           record { store = l.store; among = l.among; one = one_by packet l packet.message refl came }
-      asked_is input.Restart came = tt
+      asked_is last input.Restart came = tt
 
-      by_rule : HasCome Ran s asked → IsStepBy Last sent s asked A E
-      by_rule came =
-          input_step Last sent s A behind order (k.away events s least most).fresh (own_children n k.order events s) (old.kept.settled s) asked (asked_is asked came) good
+      -- BY THE RULE, whichever view is asked after
+      pub by_rule : (last : ℕ) → HasCome Ran s asked → IsStepBy last sent s asked A E
+      by_rule last came =
+          input_step last sent s A behind order (k.away events s least most).fresh (own_children n k.order events s) (old.kept.settled s) asked (asked_is last asked came) (good last)
 
       -- all that it sends is from it
       all_from : All (IsFrom s (view_of E.store)) E.out.sent
@@ -247,7 +248,7 @@ module _ (n : ℕ) (k : ListingsStandOn n) where
       step_kept : HasCome Ran s asked → Keeps Next (map (letter A) E.out.sent ++ sent)
       step_kept came =
           let w = listings n Ran sent in
-          let r = by_rule came in
+          let r = by_rule Last came in
           let next = stepped of_stores w s E.store (SaysOf A E.out.sent) in
           let step : IsStep of_stores w s E.store r.heard (SaysOf A E.out.sent) = record {
             live = there;
@@ -327,7 +328,7 @@ module _ (n : ℕ) (k : ListingsStandOn n) where
       subst (λ (v : World). Keeps v (letters n (before ++ event ∷ []))) (sym more) (subst (Keeps (world_after w (next n w event))) (sym told) then) in
       subst (λ (v : World). P v (letters_by w (taking_in n w event) ++ letters n before)) more (subst (P (run n (before ++ event ∷ []))) told (kept_on (before ++ event ∷ []) events there))
 
-  all_kept : (events : List Event) → Keeps (run n events) (letters n events)
+  pub all_kept : (events : List Event) → Keeps (run n events) (letters n events)
   all_kept events = kept_on [] events (record { kept = start_kept n; views = λ j. (let h : 0 ≤ 0 = omega arith in h); mailed = All-nil (HasLetter (start n) []) })
 
   -- IN EVERY RUN

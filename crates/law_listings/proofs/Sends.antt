@@ -1,5 +1,5 @@
--- What a server sends at the end of an event, and at a tick, it may send: present cells, and the messages
--- of its intentions.
+-- What a server sends at the end of an event, and at a tick, it may send: present cells, and the
+-- messages of its intentions.
 use Rattle.std.proofs.Common.{ℕ, ◌≡◌, ◌==◌, not, Bool, true, false, List, [], ◌∷◌, filter, get_or, Option, None, Some, is_some, refl, sym, ap, subst, ◌∙◌, All}
 use Rattle.std.specs.List.{AllByRecursion, flat_map}
 use Rattle.std.specs.Prelude.{nat_lt}

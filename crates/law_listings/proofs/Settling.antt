@@ -60,7 +60,8 @@ patch_found (Some (intent.Fill f b t)) q h = absurd (none-some q h)
 patch_found (Some (intent.Confirm d c t)) q h = absurd (none-some q h)
 patch_found (Some (intent.Leave f p b)) q h = absurd (none-some q h)
 
--- the newer of a place and a later one than this is later, and the newer of it and another no earlier
+-- the newer of a place and a later one than this is later, and the newer of it and another no
+-- earlier
 later_by : (q x y : Place) (t : Bool) → is_before x.stamp y.stamp ≡ t → is_before q.stamp y.stamp ≡ true → is_before q.stamp (cond t y x).stamp ≡ true
 later_by q x y true s low = low
 later_by q x y false s low = elim (at_most y.stamp x.stamp (is_before-false x.stamp y.stamp s)) [

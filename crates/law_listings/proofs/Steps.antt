@@ -44,8 +44,8 @@ use Rattle.law_listings.proofs.Plain.{IsOther, IsSentStamped, Others, SendsOther
 use Rattle.law_listings.proofs.Sends.{AllMay, MaySent, begun_may, cells_may}
 use Rattle.law_listings.proofs.Views.{away_none, holds_held, none_away, ordered, told_earlier}
 
--- a place that is told is known in the end: it is the own one, and the directory has a cell for the child, or none is
--- known of it that is later and that it takes
+-- a place that is told is known in the end: it is the own one, and the directory has a cell for the
+-- child, or none is known of it that is later and that it takes
 abbrev pub IsToldWell : Store → FileId → FileId → Place → Type 0
 IsToldWell m d c q = IsIn of_stores d c q → (of_stores.own m c ≡ Some q) × (HasCell of_stores m d c ⊎ NoneLater of_stores m c q)
 

@@ -1,4 +1,5 @@
--- Changes that directories do not see: edges, flags, versions, birth numbers, whom an intention asks.
+-- Changes that directories do not see: edges, flags, versions, birth numbers, whom an intention
+-- asks.
 use Rattle.std.proofs.Common.{ℕ, ◌≡◌, ◌||◌, Bool, true, false, cond, List, [], ◌∷◌, Option, None, Some, is_some, refl, sym, ap, ◌∙◌, inl, inr, ◌⊎◌}
 use Rattle.std.specs.Option.{option_map}
 use Rattle.std.specs.Prelude.{nat_lt}

@@ -50,10 +50,9 @@ RootIsUnlisted servers = (events : List Event) → AtEach servers (λ s. (dir : 
 
 -- order, house, away, ticks: servers are in order, begin only what is away, and send what is owed
 -- one, made, own: places come from the journal, and two of a thing with one stamp are one place
--- sound, unlisted: what the house rules ask for
--- moves, stay, ends: births move one way, and what is held stays, or goes by leave
--- givers: who gives leave to go has all cells of what goes
--- views, mailed, sent: servers enter removals in their order, and messages are of the views of those that
+-- sound, unlisted: what the house rules ask for moves, stay, ends: births move one way, and what is
+-- held stays, or goes by leave givers: who gives leave to go has all cells of what goes views,
+-- mailed, sent: servers enter removals in their order, and messages are of the views of those that
 --   send them
 pub record ListingsStandOn (servers : ℕ) : Type 0 where
   pub order : IntentionsAreInOrder servers
@@ -75,14 +74,15 @@ pub record ListingsStandOn (servers : ℕ) : Type 0 where
 
 -- ---- listings
 
--- LISTED: a child that a directory of a current server lists, and that is not held beside it, is asked
--- after, or known with that place at a current server; and all letters of the last view keep their
--- promises
+-- LISTED: a child that a directory of a current server lists, and that is not held beside it, is
+-- asked after, or known with that place at a current server; and all letters of the last view keep
+-- their promises
 abbrev pub ListingsAreKept : ℕ → Type 0
 ListingsAreKept servers = (events : List Event)
     → Kept of_stores (listings servers (run servers events) (letters servers events))
 
--- among: a message has a letter among these, by what its sender held before the event in which it was
+-- among: a message has a letter among these, by what its sender held before the event in which it
+-- was
 --   sent
 -- place: of a LeaveOk the letter has a place that was made, with the stamp that the message tells
 pub record HasLetter (w : World) (sent : List Letter) (m : Sent) : Type 0 where

@@ -32,8 +32,8 @@ abbrev pub patch_place : Option Intent → Option Place
 patch_place (Some (intent.Patch dir entry target)) = Some entry.place
 patch_place _ = None
 
--- What a server keeps beside names: the births of its replicas, of which those that are over are past,
--- its intentions, and how many removals it has entered
+-- What a server keeps beside names: the births of its replicas, of which those that are over are
+-- past, its intentions, and how many removals it has entered
 abbrev pub beside : Beside Store
 beside = record {
   birth = λ a file. birth_of a file;
@@ -58,9 +58,9 @@ told_by dir _ = Other
 abbrev pub place_of : Store → FileId → Place
 place_of a file = (own_or_blank a.names file).place
 
--- What a message tells where things stand, of a server that held this before the event in which it was
--- sent. A LeaveOk tells a stamp alone: its place is the sender's own, which no event changes in which
--- leave is given
+-- What a message tells where things stand, of a server that held this before the event in which it
+-- was sent. A LeaveOk tells a stamp alone: its place is the sender's own, which no event changes in
+-- which leave is given
 abbrev pub says : Store → Message → Saying
 says a (message.Cell ends tag c) = told_by ends.file c
 says a (message.PlaceIs dir entry) = Told PlaceIs dir entry.child entry.place
@@ -93,8 +93,8 @@ letters_from servers w earlier (event ∷ events) =
 abbrev pub letters : ℕ → List Event → List Letter
 letters servers events = letters_from servers (start servers) [] events
 
--- all servers of a run, of which those that are not removed are live, and these letters. Who has entered
--- as many removals as there were is current
+-- all servers of a run, of which those that are not removed are live, and these letters. Who has
+-- entered as many removals as there were is current
 abbrev pub listings : ℕ → World → List Letter → listing.World Store FileId Place Stamp
 listings servers w sent = record {
   nodes = w.stores;

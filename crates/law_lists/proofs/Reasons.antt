@@ -1,4 +1,5 @@
--- Updates of places, each of which has its reason in what was taken by then: who comes back lists a child.
+-- Updates of places, each of which has its reason in what was taken by then: who comes back lists a
+-- child.
 use Rattle.std.proofs.Common.{ℕ, ◌≡◌, ◌++◌, false, List, [], ◌∷◌, take, zero, suc, Some, All, sym, subst, ◌∙◌}
 use Rattle.std.specs.Prelude.{slice_get}
 use Rattle.std.proofs.lemmas.List.Elements.{All-head, All-tail}

@@ -1,4 +1,5 @@
--- Names in which one directory was removed, and nothing else changed: the house rules make no place of it.
+-- Names in which one directory was removed, and nothing else changed: the house rules make no place
+-- of it.
 use Rattle.std.proofs.Common.{ℕ, ◌≡◌, ◌&&◌, not, Bool, true, false, List, [], ◌∷◌, ◌++◌, length, Option, None, Some, All, refl, sym, ap, subst, ◌∙◌, inl, inr}
 use Rattle.std.specs.List.{filter}
 use Rattle.std.proofs.lemmas.Bool.{false≢true, and_parts, or_left, or_right}

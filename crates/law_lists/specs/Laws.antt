@@ -26,8 +26,8 @@ pub record ListsChild (takes : List Take) (dir : FileId) : Type 0 where
   pub own : is_root child ≡ false → is_held child takes ≡ true
       → own_place child takes ≡ place_in (InDir dir) child takes
 
--- WHO RETURNS LISTS A CHILD: where the house rules make a place of a thing whose own place is dead by
--- then, the thing lists a child at that moment
+-- WHO RETURNS LISTS A CHILD: where the house rules make a place of a thing whose own place is dead
+-- by then, the thing lists a child at that moment
 abbrev pub ReturnsList : ℕ → Type 0
 ReturnsList servers = (events : List Event) (last : Event) (s : ℕ) (asked : Input)
     → let w = run servers events in TakesIn servers w last s asked

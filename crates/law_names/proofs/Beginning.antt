@@ -1,4 +1,5 @@
--- A replica begins: with what it is granted, or with nothing; and a directory takes the entries of its Patches.
+-- A replica begins: with what it is granted, or with nothing; and a directory takes the entries of
+-- its Patches.
 use Rattle.std.proofs.Common.{ℕ, ◌≡◌, Bool, true, false, cond, List, [], ◌∷◌, ◌++◌, Option, None, Some, refl, sym, ap, subst, ◌∙◌, inl, inr, ◌⊎◌}
 use Rattle.std.proofs.lemmas.Bool.{false≢true, or_parts}
 use Rattle.law_passing.specs.pg_base.declared.id.FileId.{FileId}

@@ -1,4 +1,5 @@
--- A harbinger comes, a Want, a Delta, a Piece or a Later: at most a version is taken, which is nothing to names.
+-- A harbinger comes, a Want, a Delta, a Piece or a Later: at most a version is taken, which is
+-- nothing to names.
 use Rattle.std.proofs.Common.{ℕ, ◌≡◌, Bool, true, false, cond, List, [], ◌∷◌, ◌++◌, refl, ◌∙◌}
 use Rattle.law_passing.specs.pg_base.declared.head.Head.{Head}
 use Rattle.law_passing.specs.pg_base.declared.id.FileId.{FileId}

@@ -1,4 +1,5 @@
--- What was lost is given up: what a forget makes, and what begins or is struck out, is what the server knows more then.
+-- What was lost is given up: what a forget makes, and what begins or is struck out, is what the
+-- server knows more then.
 use Rattle.std.proofs.Common.{ℕ, ◌≡◌, ◌&&◌, ◌||◌, Bool, true, false, cond, not, List, [], ◌∷◌, ◌++◌, map, Option, None, Some, Result, Ok, Err, refl, sym, ap, subst, ◌∙◌, inl, inr}
 use Rattle.std.specs.List.{flat_map}
 use Rattle.std.specs.Map.{keys_of}

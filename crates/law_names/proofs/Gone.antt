@@ -1,4 +1,5 @@
--- A replica goes, with all that it took: what is known then is what the replicas that are left took.
+-- A replica goes, with all that it took: what is known then is what the replicas that are left
+-- took.
 use Rattle.std.proofs.Common.{ℕ, ◌≡◌, Bool, true, false, not, List, Option, None, Some, refl, sym, ap, subst, ◌∙◌, inl, inr}
 use Rattle.std.proofs.lemmas.Bool.{false≢true, not-true}
 use Rattle.law_passing.specs.pg_base.declared.id.FileId.{FileId}

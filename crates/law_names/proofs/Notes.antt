@@ -1,4 +1,5 @@
--- What the pieces of handlers make, and what names they leave: most make nothing, and leave names as they were.
+-- What the pieces of handlers make, and what names they leave: most make nothing, and leave names
+-- as they were.
 use Rattle.std.proofs.Common.{ℕ, ◌≡◌, ◌==◌, ◌-◌, ◌/◌, ◌%◌, ◌||◌, Bool, true, false, cond, not, List, [], ◌∷◌, length, Option, None, Some, refl, ◌∙◌}
 use Rattle.std.specs.List.{slice_get}
 use Rattle.law_passing.specs.pg_base.declared.id.FileId.{FileId}

@@ -1,4 +1,5 @@
--- A directory that begins takes the entries of its Patches: in whatever order, it knows just these then.
+-- A directory that begins takes the entries of its Patches: in whatever order, it knows just these
+-- then.
 use Rattle.std.proofs.Common.{ℕ, ◌≡◌, Bool, true, false, cond, List, [], ◌∷◌, ◌++◌, map, None, Some, refl, sym, ap, subst, ◌∙◌, inl, inr}
 use Rattle.std.specs.List.{AllByRecursion, IsDistinct, flat_map}
 use Rattle.law_passing.specs.pg_base.declared.id.FileId.{FileId}

@@ -1,5 +1,5 @@
--- Behind the first effect the house rules run, and behind each flag that is raised they run again: what a server knows then is
--- what all of this comes to.
+-- Behind the first effect the house rules run, and behind each flag that is raised they run again:
+-- what a server knows then is what all of this comes to.
 use Rattle.std.proofs.Common.{ℕ, ◌≡◌, true, List, [], ◌∷◌, ◌++◌, map, drop, length, refl, sym, ap, subst, ◌∙◌, inl, inr}
 use Rattle.std.proofs.lemmas.List.{append-nil, append_assoc}
 use Rattle.law_passing.specs.pg_base.declared.id.FileId.{FileId}
@@ -105,8 +105,8 @@ module _ (gone : List ℕ) (takes : List Take) (a : Store) (w : Work) (k : Goes 
 
 -- ---- in the midst of it
 
--- before the rules run: these updates were made behind the first ones, and with what the rules make more the names will be
--- what all of it comes to
+-- before the rules run: these updates were made behind the first ones, and with what the rules make
+-- more the names will be what all of it comes to
 pub record IsBefore (gone : List ℕ) (base : List Update) (now : List Take) (d : Done) : Type 0 where
   pub takes : List Take
   pub goes : Goes gone d.store.names takes

@@ -1,5 +1,5 @@
--- What replicas take was made in the run, or was there at the start: so places are told apart by stamps, and flags by server,
--- birth and number.
+-- What replicas take was made in the run, or was there at the start: so places are told apart by
+-- stamps, and flags by server, birth and number.
 use Rattle.std.proofs.Common.{ℕ, ◌≡◌, ◌==◌, ◌&&◌, ◌||◌, nat_lt, Bool, true, false, cond, List, [], ◌∷◌, ◌++◌, map, Option, None, Some, Result, Ok, Err, refl, sym, subst, ◌∙◌, inl, inr, ◌⊎◌, arith}
 use Rattle.std.proofs.lemmas.Bool.Decides.{nat_tests}
 use Rattle.law_passing.specs.pg_base.declared.id.FileId.{FileId}
@@ -215,7 +215,8 @@ struck_made a moment id dir =
 
 -- ---- any input
 
--- what was told before, in the words of p, is told then, in those of q; and so is what the event makes
+-- what was told before, in the words of p, is told then, in those of q; and so is what the event
+-- makes
 module _ (p q : Told) (later : (xs : List Take) → AreTakesTold p xs → AreTakesTold q xs) (a : Store)
     (patches : (dir : FileId) (e : ChildEntry) (target : ℕ) → Among (intent.Patch dir e target) a.intents → IsEntryTold p e)
     (cells : (dir child : FileId) (e : ChildEntry) → cell_at a.names dir child ≡ Some e → p.IsPlace child e.place) where

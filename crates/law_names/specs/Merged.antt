@@ -21,8 +21,8 @@ use Rattle.law_names.specs.Goes.{Goes}
 
 -- ---- what it stands on, besides what `pg_run` has words for
 
--- a server knows nothing of the id that it gives out next: it does not hold the thing, and is not to
--- tell anyone of a child of it
+-- a server knows nothing of the id that it gives out next: it does not hold the thing, and is not
+-- to tell anyone of a child of it
 pub record IsNewId (a : Store) (file : FileId) : Type 0 where
   pub away : is_held a file ≡ false
   pub untold : patches_of file a.intents ≡ []

@@ -1,4 +1,5 @@
--- Intentions begin and end behind the house rules with births that were given out, and no two have one key.
+-- Intentions begin and end behind the house rules with births that were given out, and no two have
+-- one key.
 use Rattle.std.proofs.Common.{ℕ, ◌≡◌, ◌≤◌, ◌+◌, Bool, true, false, not, cond, is_some, Option, None, Some, option_map, refl, sym, ap, ◌∙◌, arith}
 use Rattle.std.proofs.lemmas.Bool.{false≢true}
 use Rattle.std.proofs.lemmas.Option.{none-some}

@@ -1,4 +1,5 @@
--- An event behind its first effect: the house rules run, intentions begin and end, and what is touched is sent.
+-- An event behind its first effect: the house rules run, intentions begin and end, and what is
+-- touched is sent.
 use Rattle.std.proofs.Common.{ℕ, ◌++◌, sym, subst}
 use Rattle.std.proofs.lemmas.List.Elements.{All-append}
 use Rattle.pg_run.specs.pg_call.declared.reply.Reply.{Reply}
@@ -25,7 +26,8 @@ use Rattle.law_order.proofs.Settled.{settled}
 use Rattle.law_order.proofs.Sounding.{Sound, sound_alike}
 use Rattle.law_order.proofs.Taking.{IsMember, SoFar, so_raised, so_rules}
 
--- behind an event: Fills stand of just what is to be filled, and names are as the house rules leave them
+-- behind an event: Fills stand of just what is to be filled, and names are as the house rules leave
+-- them
 pub record IsAtRest (p : Saying) (n s : ℕ) (a : Store) : Type 0 where
   pub sound : Sound p n s a
   pub fills : FillsFit a

@@ -1,4 +1,5 @@
--- What a call is about: where its checks find something, it is held, and a new name is one that a client may give.
+-- What a call is about: where its checks find something, it is held, and a new name is one that a
+-- client may give.
 use Rattle.std.proofs.Common.{ℕ, ◌≡◌, ◌≢◌, not, length, Bool, true, false, if◌then◌else◌, List, Option, None, Some, Ok, All, refl, sym, ap, subst, ◌∙◌}
 use Rattle.std.proofs.lemmas.Bool.{false≢true}
 use Rattle.std.proofs.lemmas.List.Elements.{All-weaker}

@@ -1,4 +1,5 @@
--- The house rules remove no server, and leave who sent the message of the event, and what is sent in it.
+-- The house rules remove no server, and leave who sent the message of the event, and what is sent
+-- in it.
 use Rattle.std.proofs.Common.{ℕ, ◌≡◌, ◌&&◌, Bool, cond, not, List, [], ◌∷◌, length, Option, None, Some, refl, ◌∙◌}
 use Rattle.pg_run.specs.pg_base.declared.id.FileId.{FileId}
 use Rattle.pg_run.specs.pg_edges.declared.key.Key.TheVariants as key

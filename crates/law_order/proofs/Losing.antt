@@ -1,5 +1,5 @@
--- What was lost is given up: the server stays sound. A directory that begins anew is one that was made, and it stands where
--- it was known to be live, or in the root.
+-- What was lost is given up: the server stays sound. A directory that begins anew is one that was
+-- made, and it stands where it was known to be live, or in the root.
 use Rattle.std.proofs.Common.{ℕ, ◌≡◌, ◌==◌, ◌||◌, not, length, Bool, true, false, cond, List, [], ◌∷◌, Option, None, Some, is_some, inl, inr, refl, sym, ap, subst, ◌∙◌}
 use Rattle.std.specs.List.{filter, list_any}
 use Rattle.std.specs.Map.{keys_of}

@@ -1,4 +1,5 @@
--- What is said of ids, names, parents and flags: the house rules keep it, and it stays so as ids are given out.
+-- What is said of ids, names, parents and flags: the house rules keep it, and it stays so as ids
+-- are given out.
 use Rattle.std.proofs.Common.{ℕ, ◌≡◌, ◌≤◌, ◌≢◌, false, List, All, get_or, refl, sym, ap, subst, ◌∙◌, inl, inr, ◌⊎◌, arith}
 use Rattle.std.proofs.lemmas.Bool.{false≢true}
 use Rattle.pg_run.specs.pg_base.declared.id.FileId.{FileId}

@@ -1,4 +1,5 @@
--- The pieces of an event at a server: what is said of all that it knows and intends is said of it again.
+-- The pieces of an event at a server: what is said of all that it knows and intends is said of it
+-- again.
 use Rattle.std.proofs.Common.{ℕ, drop, length, not, ◌≡◌, Bool, true, false, cond, is_some, List, [], ◌∷◌, Option, None, Some, All, refl, sym, subst}
 use Rattle.std.specs.List.{filter}
 use Rattle.std.proofs.lemmas.List.Elements.{All-filter, All-head, All-tail}

@@ -1,5 +1,6 @@
--- In every run each server is sound, and all that is known, intended and sent is said: ids were given out, parents are
--- directories, names are those that clients give or are made of ids, and flags are of the run's servers.
+-- In every run each server is sound, and all that is known, intended and sent is said: ids were
+-- given out, parents are directories, names are those that clients give or are made of ids, and
+-- flags are of the run's servers.
 use Rattle.std.proofs.Common.{ℕ, ◌≡◌, ◌≤◌, ◌<◌, ◌+◌, ◌^◌, Bool, true, false, List, Option, None, Some, is_some, refl, sym, ap, subst, ◌∙◌, inl, inr, arith}
 use Rattle.std.proofs.lemmas.List.Elements.{All-append, All-contains, All-nil}
 use Rattle.pg_run.specs.pg_base.declared.id.FileId.{FileId}

@@ -48,7 +48,8 @@ use Rattle.law_order.proofs.Sounding.{Sound}
 abbrev pub AreSaidOf : Saying → List Sent → Type 0
 AreSaidOf p ms = All (λ (m : Sent). IsSaidOfMessage p m.packet.message) ms
 
--- in the midst of an event: it is said of what is known, of the places that were replaced, and of what is sent
+-- in the midst of an event: it is said of what is known, of the places that were replaced, and of
+-- what is sent
 pub record IsSoundSoFar (p : Saying) (c : IsClosed p) (n s : ℕ) (d : Done) : Type 0 where
   pub store : Sound p n s d.store
   pub left : AreLeft p c d.work.left

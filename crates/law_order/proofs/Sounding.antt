@@ -1,4 +1,5 @@
--- The pieces of an event leave a server sound: whole, with births that were given out, and all that is known said.
+-- The pieces of an event leave a server sound: whole, with births that were given out, and all that
+-- is known said.
 use Rattle.std.proofs.Common.{ℕ, drop, length, ◌≡◌, Bool, true, not, List, [], ◌∷◌, Option, None, Some, is_some, refl, sym, ap, subst, ◌∙◌}
 use Rattle.std.specs.List.{IsAmong}
 use Rattle.pg_run.specs.pg_base.declared.id.FileId.{FileId}

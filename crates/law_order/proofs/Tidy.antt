@@ -1,4 +1,5 @@
--- Things and entries stay in order, and the root held and full, whatever comes and whatever the house rules do.
+-- Things and entries stay in order, and the root held and full, whatever comes and whatever the
+-- house rules do.
 use Rattle.std.proofs.Common.{ℕ, ◌≡◌, Bool, true, false, cond, List, [], Option, None, Some, refl, sym, ap, subst, ◌∙◌}
 use Rattle.std.specs.List.Sorted.{IsStrictlySortedBy}
 use Rattle.std.specs.Map.{keys_of}

@@ -88,9 +88,9 @@ NamesAreDistinct servers = servers < 2 ^ 32 → (events : List Event)
 abbrev pub files_of : (ℕ → Store) → ℕ → ℕ
 files_of stores k = (stores k).files
 
--- of what servers know and intend, and of all messages ever sent: all ids were given out, all parents
--- are directories, all names are a client's or made of an id, all flags are of the run's servers, and
--- walks begin at these
+-- of what servers know and intend, and of all messages ever sent: all ids were given out, all
+-- parents are directories, all names are a client's or made of an id, all flags are of the run's
+-- servers, and walks begin at these
 pub record IsAllNamed (servers : ℕ) (w : World) : Type 0 where
   pub names : AtEach servers (λ s.
       IsSaidOf (naming servers (files_of w.stores)) (w.stores s).names)

@@ -18,8 +18,8 @@ pub record IsBorn (servers : ℕ) (files : ℕ → ℕ) (file : FileId) : Type 0
 abbrev pub IsMade : ℕ → (ℕ → ℕ) → FileId → Type 0
 IsMade servers files file = (file ≡ root) ⊎ IsBorn servers files file
 
--- a place of a thing: its parent was made, and is a directory; the root has its first place, and any
--- other thing a client's name or the one that is made of its id
+-- a place of a thing: its parent was made, and is a directory; the root has its first place, and
+-- any other thing a client's name or the one that is made of its id
 pub record IsWell (servers : ℕ) (files : ℕ → ℕ) (file : FileId) (place : Place) : Type 0 where
   pub parent : IsMade servers files place.parent
   pub dir : is_dir place.parent ≡ true

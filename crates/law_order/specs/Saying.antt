@@ -1,5 +1,6 @@
--- What is said of all that a server knows of names: of each thing, of each place and flag of a thing,
--- of each child of a directory, and of servers that are named; and of the messages that bring these.
+-- What is said of all that a server knows of names: of each thing, of each place and flag of a
+-- thing, of each child of a directory, and of servers that are named; and of the messages that
+-- bring these.
 use Rattle.std.specs.Prelude.{ℕ, ◌≡◌, ◌≢◌, true, false, All, List, Some}
 use Rattle.pg_run.specs.pg_base.declared.id.FileId.{FileId}
 use Rattle.pg_run.specs.pg_base.Id.{is_same_file}

@@ -57,7 +57,8 @@ module _ (f : FileId) (own top : Attributes) (back : Bool) where
 
 -- ---- what comes of a thing
 
--- the thing has what it takes, each held directory that is to have a cell has the greatest, and no other has one
+-- the thing has what it takes, each held directory that is to have a cell has the greatest, and no
+-- other has one
 pub record ComesTo (s t : NamesValue) (ds : List FileId) (f : FileId) (own top : Attributes) (back : Bool) : Type 0 where
   pub own_is : own_at t f ≡ Some (own_taken own top back)
   pub gives : (q : FileId) → IsHeld s q → is_among q ds ≡ true → wants s f own top back q ≡ true → cell_at t q f ≡ Some (cell_for f top)

@@ -1,4 +1,5 @@
--- Passing gives a directory no dead place, unless its maker is removed; nor does a live place that is made, nor a flag.
+-- Passing gives a directory no dead place, unless its maker is removed; nor does a live place that
+-- is made, nor a flag.
 use Rattle.std.proofs.Common.{ℕ, ◌≡◌, ◌&&◌, not, Bool, true, false, cond, List, [], ◌∷◌, ◌++◌, map, refl, sym, ap, subst, ◌∙◌, inl, inr, ◌⊎◌}
 use Rattle.std.proofs.lemmas.Bool.{false≢true}
 use Rattle.pg_run.specs.pg_base.declared.id.FileId.{FileId}

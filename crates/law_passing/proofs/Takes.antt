@@ -1,4 +1,5 @@
--- What is found in a list of takes: the places and flags of a thing, by one replica and by any, and all that is held.
+-- What is found in a list of takes: the places and flags of a thing, by one replica and by any, and
+-- all that is held.
 use Rattle.std.proofs.Common.{◌≡◌, ◌&&◌, Bool, true, false, cond, List, [], ◌∷◌, flat_map, refl, sym, ap, subst, inl, inr, ◌⊎◌}
 use Rattle.std.proofs.lemmas.Bool.{false≢true, and_parts, and_from}
 use Rattle.pg_run.specs.pg_base.declared.id.FileId.{FileId}

@@ -1,4 +1,5 @@
--- No place that is known is later than a server's greatest time, so one with a later stamp is the latest of all.
+-- No place that is known is later than a server's greatest time, so one with a later stamp is the
+-- latest of all.
 use Rattle.std.proofs.Common.{ℕ, ◌≡◌, ◌≤◌, ◌<◌, true, List, ◌∷◌, Option, None, Some, refl, sym, ap, subst, ◌∙◌, inl, inr, arith}
 use Rattle.std.proofs.lemmas.Bool.Decides.{nat_tests}
 use Rattle.pg_run.specs.pg_base.declared.id.FileId.{FileId}

@@ -1,4 +1,5 @@
--- What is known of a thing at a server, the greatest of which is the greatest of what its replicas took.
+-- What is known of a thing at a server, the greatest of which is the greatest of what its replicas
+-- took.
 use Rattle.std.proofs.Common.{ℕ, ◌≡◌, ◌&&◌, ◌||◌, true, false, List, [], ◌∷◌, Option, None, Some, refl, sym, ap, subst, ◌∙◌, inl, inr, ◌⊎◌}
 use Rattle.std.proofs.lemmas.Bool.{false≢true}
 use Rattle.pg_run.specs.pg_base.declared.id.FileId.{FileId}

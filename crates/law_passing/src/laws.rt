@@ -2,8 +2,8 @@
 
 ghost use Rattle.law_passing.specs.Passing.{RulesArePassing};
 
-/// Where a server knows of names just what its replicas took, it does behind the house rules too: all that it holds passes,
-/// and again behind each place that a rule makes.
+/// Where a server knows of names just what its replicas took, it does behind the house rules too:
+/// all that it holds passes, and again behind each place that a rule makes.
 pub fn rules_are_passing()
     ensures { RulesArePassing }
 {}

@@ -1,5 +1,5 @@
--- What stands behind an event: the house rules, intentions, and what is sent at the end. Each place that
--- is known then, and each that is told, may stand, where those that the rules make may.
+-- What stands behind an event: the house rules, intentions, and what is sent at the end. Each place
+-- that is known then, and each that is told, may stand, where those that the rules make may.
 use Rattle.std.proofs.Common.{ℕ, ◌≡◌, ◌==◌, Bool, true, false, List, [], ◌∷◌, ◌++◌, drop, length, filter, get_or, Option, None, Some, is_some, refl, sym, ap, subst, ◌∙◌, inl, inr, All, arith}
 use Rattle.std.specs.List.{flat_map}
 use Rattle.std.proofs.lemmas.List.Elements.{All-append, All-cons, All-nil}

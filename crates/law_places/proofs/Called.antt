@@ -1,5 +1,5 @@
--- What comes of each call: each place that is known then, and each that is told, may stand, where the one
--- that it makes may. It makes at most one, with the stamp that the server draws.
+-- What comes of each call: each place that is known then, and each that is told, may stand, where
+-- the one that it makes may. It makes at most one, with the stamp that the server draws.
 use Rattle.std.proofs.Common.{ℕ, ◌≡◌, ◌≤◌, ◌<◌, ◌==◌, Bool, true, false, if◌then◌else◌, List, [], ◌∷◌, ◌++◌, Option, None, Some, Result, Ok, Err, refl, sym, ap, subst, ◌∙◌, inl, arith}
 use Rattle.pg_run.specs.pg_base.declared.id.FileId.{FileId}
 use Rattle.pg_run.specs.pg_base.declared.id.Kind.{Kind}

@@ -1,5 +1,5 @@
--- What an event does at a server: each place that is known then, and each that is told, may stand, where
--- those that it makes may; and what these are.
+-- What an event does at a server: each place that is known then, and each that is told, may stand,
+-- where those that it makes may; and what these are.
 use Rattle.std.proofs.Common.{ℕ, ◌≡◌, ◌≤◌, false, Option, refl, sym, subst, All, arith}
 use Rattle.std.proofs.lemmas.List.Elements.{All-nil}
 use Rattle.pg_run.specs.pg_base.declared.id.FileId.{FileId}

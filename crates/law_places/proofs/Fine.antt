@@ -1,5 +1,5 @@
--- In the midst of an event: each place that a server knows, is to tell, or has told may stand. What the
--- pieces of handlers do keeps it.
+-- In the midst of an event: each place that a server knows, is to tell, or has told may stand. What
+-- the pieces of handlers do keeps it.
 use Rattle.std.proofs.Common.{ℕ, ◌≡◌, ◌≤◌, ◌<◌, max, Bool, true, false, cond, ◌&&◌, not, List, [], ◌∷◌, ◌++◌, Option, Some, refl, sym, ap, subst, ◌∙◌, inl, inr, arith, All}
 use Rattle.std.proofs.lemmas.Bool.Decides.{nat_tests}
 use Rattle.std.proofs.lemmas.List.Elements.{All-append, All-cons, All-nil}
@@ -292,7 +292,8 @@ module _ (P : FileId → Place → Type 0) where
     pub raised_flag : (f : FileId) (d : Done) → Fine d → Fine (raise_flag d.store f d.work)
     raised_flag f d k = made_flag f (own_next d.store f true) d k
 
-    -- a place is made, and taken. Its stamp was drawn at an earlier state, since which none was made
+    -- a place is made, and taken. Its stamp was drawn at an earlier state, since which none was
+    -- made
     pub made_place : (o d : Done) (f : FileId) (place : Place) (own : Attributes) → own_at d.store.names f ≡ Some own → own.place.stamp.time < place.stamp.time
         → IsDrawn s least (At o) → d.work.made ≡ o.work.made → place.stamp.server ≡ s → o.store.names.last < place.stamp.time
         → P f place → Fine d → Fine (make_place f place d)

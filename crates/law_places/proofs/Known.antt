@@ -1,5 +1,5 @@
--- What is known at a server: each place of a thing may stand. Each change of names and of intentions
--- keeps it, where what comes may stand too.
+-- What is known at a server: each place of a thing may stand. Each change of names and of
+-- intentions keeps it, where what comes may stand too.
 use Rattle.std.proofs.Common.{ℕ, ◌≡◌, Bool, true, false, cond, ◌&&◌, List, [], ◌∷◌, ◌++◌, Option, None, Some, filter, refl, sym, ap, subst, ◌∙◌, inl, inr, ◌⊎◌}
 use Rattle.std.proofs.lemmas.Option.{none-some, same_Some}
 use Rattle.std.proofs.lemmas.Bool.{and_parts}

@@ -1,5 +1,5 @@
--- What was lost is given up: each place that is known then may stand, where the one that is made may. It makes at most one,
--- with the stamp that the server draws.
+-- What was lost is given up: each place that is known then may stand, where the one that is made
+-- may. It makes at most one, with the stamp that the server draws.
 use Rattle.std.proofs.Common.{ℕ, ◌≡◌, ◌≤◌, ◌<◌, ◌||◌, max, Bool, true, false, cond, List, [], ◌∷◌, Option, None, Some, is_some, refl, sym, ap, subst, ◌∙◌, inl, inr, All, arith}
 use Rattle.std.specs.Prelude.{nat_lt}
 use Rattle.std.proofs.lemmas.Bool.{false≢true}

@@ -13,7 +13,8 @@ use Rattle.pg_run.specs.pg_register.Place.{blank_place, root, root_place}
 use Rattle.pg_run.specs.Known.{WasMade}
 use Rattle.pg_run.specs.Took.{first_place}
 
--- the place that is known of a thing before any is made: the root has its own, any other the blank one
+-- the place that is known of a thing before any is made: the root has its own, any other the blank
+-- one
 abbrev pub IsFirstPlace : FileId → Place → Type 0
 IsFirstPlace file place = ((is_same_file file root ≡ true) × (place ≡ root_place))
     ⊎ ((is_same_file file root ≡ false) × (place ≡ blank_place file))

@@ -1,4 +1,5 @@
--- What making a place and a flag makes; and that a thing that begins has the place and flags with which it begins.
+-- What making a place and a flag makes; and that a thing that begins has the place and flags with
+-- which it begins.
 use Rattle.std.proofs.Common.{ℕ, ◌≡◌, Bool, true, List, [], ◌∷◌, ◌++◌, Option, None, Some, refl, ap, ◌∙◌}
 use Rattle.pg_run.specs.pg_base.declared.id.FileId.{FileId}
 use Rattle.pg_run.specs.pg_base.declared.policy.Policy.{Policy}

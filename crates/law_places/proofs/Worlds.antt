@@ -1,5 +1,5 @@
--- In every world that a run reaches each place that is known or told was made, or there from the start on,
--- and no two that were made have one stamp.
+-- In every world that a run reaches each place that is known or told was made, or there from the
+-- start on, and no two that were made have one stamp.
 use Rattle.std.proofs.Common.{[], ℕ, ◌≡◌, ◌≢◌, ◌≤◌, ◌&&◌, not, Bool, true, false, cond, List, ◌++◌, Option, None, Some, refl, sym, ap, subst, ◌∙◌, inl, inr, ◌⊎◌, arith, All}
 use Rattle.std.proofs.lemmas.Bool.{false≢true}
 use Rattle.std.proofs.lemmas.List.Elements.{All-append, All-contains, All-nil}

@@ -67,8 +67,8 @@ IsKnown w file place = ((s : ℕ) × KnowsPlace (w.stores s).names file place)
 
 -- ---- where they come from
 
--- PLACES COME FROM THE JOURNAL: each is one that was made, or the one that is known of a thing before
--- any is made. None comes from nowhere
+-- PLACES COME FROM THE JOURNAL: each is one that was made, or the one that is known of a thing
+-- before any is made. None comes from nowhere
 abbrev pub PlacesWereMade : ℕ → Type 0
 PlacesWereMade servers = (events : List Event) (file : FileId) (place : Place)
     → IsKnown (run servers events) file place → IsPlaceOf (run servers events) file place

@@ -1,4 +1,5 @@
--- What stands behind the first effect of an event suits: what the house rules leave, and which intentions begin.
+-- What stands behind the first effect of an event suits: what the house rules leave, and which
+-- intentions begin.
 use Rattle.std.proofs.Common.{not, Bool, List, [], ◌∷◌, Option, None, Some, All, drop, length, is_some, subst}
 use Rattle.std.specs.BTreeMap.{insert_entry}
 use Rattle.std.specs.List.{filter}

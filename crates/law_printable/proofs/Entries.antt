@@ -1,4 +1,5 @@
--- What is told of one event suits, and what all servers hold and what is under way behind it; and so of any run.
+-- What is told of one event suits, and what all servers hold and what is under way behind it; and
+-- so of any run.
 use Rattle.std.proofs.Common.{ℕ, ◌≡◌, ◌==◌, Bool, true, false, cond, List, Option, None, Some, All, refl, sym, subst, ◌∙◌}
 use Rattle.std.specs.List.{AllByRecursion, flat_map}
 use Rattle.std.proofs.lemmas.Option.{none-some, same_Some}

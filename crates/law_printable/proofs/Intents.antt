@@ -1,5 +1,5 @@
--- Intentions that suit: of a Patch the entry is one that a directory may have, and directories are named where there are
--- children.
+-- Intentions that suit: of a Patch the entry is one that a directory may have, and directories are
+-- named where there are children.
 use Rattle.std.proofs.Common.{ℕ, ◌≡◌, Bool, true, false, cond, List, [], ◌∷◌, ◌++◌, Some, All, refl, sym, subst}
 use Rattle.std.specs.List.{filter}
 use Rattle.std.proofs.lemmas.Bool.{and_parts}

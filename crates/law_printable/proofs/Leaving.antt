@@ -1,4 +1,5 @@
--- A replica asks for leave and goes, and its peers hear of it: places that suit stay, and what is told suits.
+-- A replica asks for leave and goes, and its peers hear of it: places that suit stay, and what is
+-- told suits.
 use Rattle.std.proofs.Common.{ℕ, List, [], ◌∷◌}
 use Rattle.pg_run.specs.pg_base.declared.id.FileId.{FileId}
 use Rattle.pg_run.specs.pg_base.declared.stamp.Stamp.{Stamp}

@@ -1,5 +1,5 @@
--- Messages that suit: what is told of them goes by their kinds, and the places that they carry are ones that their things
--- may have.
+-- Messages that suit: what is told of them goes by their kinds, and the places that they carry are
+-- ones that their things may have.
 use Rattle.std.proofs.Common.{ℕ, ◌≡◌, List, All}
 use Rattle.pg_run.specs.pg_base.declared.id.FileId.{FileId}
 use Rattle.pg_run.specs.pg_base.declared.id.Kind.TheVariants.{Dir}

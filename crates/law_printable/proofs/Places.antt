@@ -1,5 +1,5 @@
--- The places of what is known of names: each stands in a directory, by a name that its thing may have. What changes
--- names keeps that.
+-- The places of what is known of names: each stands in a directory, by a name that its thing may
+-- have. What changes names keeps that.
 use Rattle.std.proofs.Common.{ℕ, ◌≡◌, ◌⊎◌, inl, inr, Bool, true, false, cond, List, [], ◌∷◌, Option, None, Some, All, Equal, refl, sym, subst, ◌∙◌}
 use Rattle.std.specs.BTreeMap.{insert_entry, is_at}
 use Rattle.std.specs.Map.{lookup}

@@ -1,4 +1,5 @@
--- Where a server owes nothing, each server to which it has an edge for a thing holds what it holds of that thing, or more.
+-- Where a server owes nothing, each server to which it has an edge for a thing holds what it holds
+-- of that thing, or more.
 use Rattle.std.proofs.Common.{[], ℕ, ◌≡◌, ◌⊎◌, Bool, List, ◌∷◌, Option, None, Some, refl, sym, ap, subst, ◌∙◌, All, eq-eqb, inl, inr}
 use Rattle.std.specs.List.{IsAmong, flat_map}
 use Rattle.std.proofs.lemmas.Bool.{false≢true}

@@ -1,4 +1,5 @@
--- Wherever no message is under way and nothing is owed, servers that are joined for a thing hold the same of it.
+-- Wherever no message is under way and nothing is owed, servers that are joined for a thing hold
+-- the same of it.
 use Rattle.std.proofs.Common.{[], ℕ, ◌≡◌, ◌≤◌, not, true, false, length, List, ◌∷◌, Option, None, Some, is_some, refl, sym, ap, subst, ◌∙◌, arith}
 use Rattle.std.proofs.lemmas.Bool.{false≢true, and_from}
 use Rattle.std.proofs.lemmas.Bool.Decides.{nat_tests}

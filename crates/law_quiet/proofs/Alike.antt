@@ -1,5 +1,5 @@
--- Things that are up to each other are the same, where no two places of one thing have one stamp and
--- no two flags of one server have one birth and number.
+-- Things that are up to each other are the same, where no two places of one thing have one stamp
+-- and no two flags of one server have one birth and number.
 use Rattle.std.proofs.Common.{ℕ, ◌≡◌, ◌==◌, ◌&&◌, ◌||◌, nat_lt, false, List, Option, None, Some, refl, ap, arith}
 use Rattle.std.proofs.lemmas.Bool.Decides.{nat_tests}
 use Rattle.law_listings.proofs.pg_base.Orders.{UpTo-same}

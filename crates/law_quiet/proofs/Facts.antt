@@ -1,5 +1,5 @@
--- What is known of a quiet world whose things are connected: each server, and that servers which hold a thing hold the
--- same of it.
+-- What is known of a quiet world whose things are connected: each server, and that servers which
+-- hold a thing hold the same of it.
 use Rattle.std.proofs.Common.{ℕ, ◌≡◌, Bool, true, false, List, [], Option, None, Some, is_some, refl, sym, ap, subst, ◌∙◌, inl, inr}
 use Rattle.std.proofs.lemmas.Bool.{false≢true}
 use Rattle.law_listings.specs.pg_base.declared.id.FileId.{FileId}

@@ -1,4 +1,5 @@
--- Wherever a run is quiet servers agree, where what they hold is what they took; and their names form a tree.
+-- Wherever a run is quiet servers agree, where what they hold is what they took; and their names
+-- form a tree.
 use Rattle.std.proofs.Common.{[], ℕ, ◌≡◌, List, ◌∷◌, Option, refl, sym, ap, subst, ◌∙◌, inl, inr}
 use Rattle.law_listings.specs.pg_base.declared.id.FileId.{FileId}
 use Rattle.law_listings.specs.pg_replica.declared.replica.Replica.{Replica}

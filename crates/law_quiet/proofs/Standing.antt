@@ -1,4 +1,5 @@
--- Where a run is quiet, no place is held back, and each thing has the place that its parent has of it.
+-- Where a run is quiet, no place is held back, and each thing has the place that its parent has of
+-- it.
 use Rattle.std.proofs.Common.{ℕ, ◌≡◌, ◌&&◌, not, Bool, true, false, List, [], Option, Some, refl, sym, ap, subst, ◌∙◌, inl, inr}
 use Rattle.std.specs.Map.{keys_of}
 use Rattle.std.proofs.lemmas.Bool.{false≢true, and_from, and_left, not_from_false}

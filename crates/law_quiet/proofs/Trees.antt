@@ -1,4 +1,5 @@
--- Where a run is quiet and its things are connected, names form a tree, and no dead directory holds what survives.
+-- Where a run is quiet and its things are connected, names form a tree, and no dead directory holds
+-- what survives.
 use Rattle.std.proofs.Common.{ℕ, zero, suc, ◌≡◌, ◌+◌, not, Bool, true, false, length, Option, Some, refl, sym, ap, ◌∙◌}
 use Rattle.std.proofs.lemmas.Bool.{false≢true, and_from, not_from_false}
 use Rattle.law_listings.specs.pg_base.declared.id.FileId.{FileId}

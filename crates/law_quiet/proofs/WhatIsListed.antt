@@ -1,4 +1,5 @@
--- Where a run is quiet and its things are connected, each thing is listed where it stands, and nowhere else.
+-- Where a run is quiet and its things are connected, each thing is listed where it stands, and
+-- nowhere else.
 use Rattle.std.proofs.Common.{ℕ, ◌≡◌, ◌≢◌, Bool, true, false, List, Option, None, Some, refl, sym, ap, subst, ◌∙◌, arith}
 use Rattle.std.proofs.lemmas.Bool.{false≢true, and_parts}
 use Rattle.std.proofs.lemmas.Bool.Decides.{nat_tests}

@@ -28,8 +28,8 @@ ServersAreWhole servers = (events : List Event)
     → AtEach servers (λ s. IsWhole servers s (store_after servers events s))
 
 -- for agreement: what is acknowledged is there, one stamp is one place, one birth and number of a
--- server is one flag, and contents are what was taken; and edges lead to servers that are not removed in
--- the view of who has them
+-- server is one flag, and contents are what was taken; and edges lead to servers that are not
+-- removed in the view of who has them
 pub record AgreementIsGiven (servers : ℕ) : Type 0 where
   pub acknowledged : AcknowledgedKeysAreHad servers
   pub known : CarriedIsKnown servers

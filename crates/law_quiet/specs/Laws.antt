@@ -13,8 +13,9 @@ pub record HoldTheSame (a b : Store) (file : FileId) : Type 0 where
   pub entries : (child : FileId) → cell_at a.names file child ≡ cell_at b.names file child
   pub content : content_of a file ≡ content_of b file
 
--- AGREEMENT WHEN QUIET: wherever no message is under way, each live server has entered the last removal,
--- and none owes anything, two of them that are joined by edges for a thing hold the same of it
+-- AGREEMENT WHEN QUIET: wherever no message is under way, each live server has entered the last
+-- removal, and none owes anything, two of them that are joined by edges for a thing hold the same
+-- of it
 abbrev pub QuietStoresAgree : ℕ → Type 0
 QuietStoresAgree servers = WhereQuiet servers (λ w. (file : FileId) → AtLive servers w (λ s.
     AtLive servers w (λ t. AreJoined w file s t → HoldTheSame (w.stores s) (w.stores t) file)))

@@ -1,4 +1,5 @@
--- What a refused call leaves before the house rules: all as it was, or what it came to is asked for.
+-- What a refused call leaves before the house rules: all as it was, or what it came to is asked
+-- for.
 use Rattle.std.proofs.Common.{ℕ, ◌≡◌, ◌∙◌, ◌⊎◌, Bool, true, false, inl, inr, List, Option, None, Some, Result, Ok, Err, refl, sym, ap}
 use Rattle.std.proofs.lemmas.Bool.{false≢true}
 use Rattle.pg_run.specs.pg_base.declared.id.FileId.{FileId}

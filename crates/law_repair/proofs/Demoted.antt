@@ -1,4 +1,5 @@
--- A full gold thing is demoted where another live gold one is seen on a clean edge: that one is seen on.
+-- A full gold thing is demoted where another live gold one is seen on a clean edge: that one is
+-- seen on.
 use Rattle.std.proofs.Common.{ℕ, ◌≡◌, ◌≢◌, not, true, false, cond, List, [], ◌∷◌, ◌++◌, Option, None, Some, All, refl, sym, ap, subst, ◌∙◌, inl, inr}
 use Rattle.std.proofs.lemmas.Bool.{and_parts, ne_eqb, not-true}
 use Rattle.std.proofs.lemmas.Option.{same_Some}

@@ -1,4 +1,5 @@
--- Where a run is quiet, and all full replicas of a thing know the present flag of one gold replica, its graph is connected.
+-- Where a run is quiet, and all full replicas of a thing know the present flag of one gold replica,
+-- its graph is connected.
 use Rattle.std.proofs.Common.{ℕ, ◌≡◌, ◌≢◌, ◌==◌, not, Bool, true, false, List, Option, None, Some, is_some, refl, sym, ap, subst, ◌∙◌, inl, inr}
 use Rattle.std.specs.Prelude.{Contains}
 use Rattle.std.specs.List.{IsAmong}

@@ -1,5 +1,5 @@
--- Two replicas of a thing that are apart where all is quiet: what is asked of a world for this is one word, which is
--- computed in one walk over the events of a run.
+-- Two replicas of a thing that are apart where all is quiet: what is asked of a world for this is
+-- one word, which is computed in one walk over the events of a run.
 use Rattle.std.proofs.Common.{ℕ, ◌≡◌, ◌&&◌, not, Bool, true, false, List, [], ◌∷◌, Option, None, Some, is_some, refl, sym, ap, ◌∙◌, inl, inr}
 use Rattle.std.proofs.lemmas.Bool.{and_parts, false≢true, not-true}
 use Rattle.law_full.specs.pg_base.declared.id.FileId.{FileId}
@@ -36,8 +36,8 @@ abbrev is_in : FileId → Option Attributes → Bool
 is_in dir None = false
 is_in dir (Some own) = is_same_file own.place.parent dir
 
--- all is quiet; and of two live servers that hold the thing one has no edge for it, and has it in this directory, and the
--- other does not
+-- all is quiet; and of two live servers that hold the thing one has no edge for it, and has it in
+-- this directory, and the other does not
 abbrev is_parted : ℕ → World → FileId → ℕ → ℕ → FileId → Bool
 is_parted n w file s t dir = not (waits n w) && (is_live n w s && (is_live n w t
     && (is_alone (replica_at (w.stores s) file) && (is_some (replica_at (w.stores t) file)

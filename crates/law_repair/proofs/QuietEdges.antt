@@ -1,4 +1,5 @@
--- Where a run is quiet, live servers have no key on any edge, know all removals, and each edge of theirs is named back.
+-- Where a run is quiet, live servers have no key on any edge, know all removals, and each edge of
+-- theirs is named back.
 use Rattle.std.proofs.Common.{ℕ, ◌≡◌, ◌≤◌, ◌==◌, not, Bool, true, false, cond, List, [], ◌∷◌, Option, None, Some, is_some, length, All, refl, sym, ap, subst, ◌∙◌, inl, inr, arith}
 use Rattle.std.specs.List.{IsAmong, flat_map}
 use Rattle.std.proofs.lemmas.Bool.{and_from, eqb-true, false≢true}

@@ -1,4 +1,5 @@
--- Of a full gold replica no raised flag is made: it is lowered only where another live gold one is seen.
+-- Of a full gold replica no raised flag is made: it is lowered only where another live gold one is
+-- seen.
 use Rattle.std.proofs.Common.{ℕ, ◌≡◌, ◌≢◌, ◌<◌, not, Bool, true, false, cond, List, [], ◌∷◌, ◌++◌, Option, Some, Result, refl, sym, ap, subst, ◌∙◌, inl, inr, ◌⊎◌}
 use Rattle.std.specs.Prelude.{Contains}
 use Rattle.std.proofs.lemmas.Bool.{and_parts, false≢true}

@@ -1,4 +1,5 @@
--- As long as a thing is seen to have a live gold replica, house rules and the raising of flags raise none of it.
+-- As long as a thing is seen to have a live gold replica, house rules and the raising of flags
+-- raise none of it.
 use Rattle.std.proofs.Common.{ℕ, ◌≡◌, ◌&&◌, not, Bool, true, false, List, [], ◌∷◌, drop, length, Option, None, Some, is_some, refl, sym, ap, subst, ◌∙◌, inl, inr, ◌⊎◌}
 use Rattle.std.proofs.lemmas.Bool.{and_from, false≢true}
 use Rattle.law_full.specs.pg_base.declared.id.FileId.{FileId}

@@ -1,4 +1,5 @@
--- The first moment of a thing: only its maker holds it, or it is the root, of which all servers know the same at the start.
+-- The first moment of a thing: only its maker holds it, or it is the root, of which all servers
+-- know the same at the start.
 use Rattle.std.proofs.Common.{ℕ, ◌≡◌, ◌≤◌, ◌<◌, ◌==◌, ◌||◌, zero, suc, Bool, true, false, cond, List, [], ◌∷◌, ◌++◌, Option, None, Some, is_some, option_map, refl, sym, ap, subst, ◌∙◌, inl, inr, ◌⊎◌, arith}
 use Rattle.std.specs.Prelude.{Contains}
 use Rattle.std.proofs.lemmas.Bool.{eqb-true, false≢true, or_parts}

@@ -1,5 +1,5 @@
--- Why a thing was not kept: from one quiet moment to the next no gold replica stayed. What is asked of a run for this is
--- a few words, each of which is computed in one walk over its events.
+-- Why a thing was not kept: from one quiet moment to the next no gold replica stayed. What is asked
+-- of a run for this is a few words, each of which is computed in one walk over its events.
 use Rattle.std.proofs.Common.{ℕ, ◌≡◌, ◌≤◌, ◌||◌, ◌&&◌, zero, suc, Bool, true, false, List, [], ◌∷◌, ◌++◌, append_assoc, refl, sym, ap, subst, ◌∙◌, inl, inr, arith}
 use Rattle.std.proofs.lemmas.Bool.{and_from, and_parts, false≢true, or_parts}
 use Rattle.std.proofs.lemmas.List.{append-nil}
@@ -70,8 +70,8 @@ run_on n w (x ∷ xs) ys = run_on n (world_after w (next n w x)) xs ys
 
 -- ---- so it was not kept
 
--- it was held behind the first of these events, all is quiet behind the next ones, then no more until behind the last ones;
--- and who was gold at that quiet moment is not live at the next
+-- it was held behind the first of these events, all is quiet behind the next ones, then no more
+-- until behind the last ones; and who was gold at that quiet moment is not live at the next
 module _ (n : ℕ) (file : FileId) (made : List Event) (d : Event) (heard : List Event) (e : Event) (more : List Event) where
   abbrev First : List Event
   First = made ++ d ∷ heard

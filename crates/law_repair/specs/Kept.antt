@@ -67,8 +67,8 @@ pub record Forgets (servers : ℕ) (w : World) (file : FileId) (e : Event) : Typ
   pub is : e ≡ event.Call server moment (call.Forget file)
   pub done : (next servers w e).entry.reply ≡ Some reply.Done
 
--- one replica is live and gold from one moment to the other, behind each event, and none forgets the
--- thing
+-- one replica is live and gold from one moment to the other, behind each event, and none forgets
+-- the thing
 pub record StaysGold (servers : ℕ) (file : FileId) (first more : List Event) : Type 0 where
   pub server : ℕ
   pub birth : ℕ

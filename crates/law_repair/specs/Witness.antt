@@ -1,5 +1,6 @@
--- Runs by which the definitions are tried: one in which a thing is kept though a server is removed, one in which the one
--- gold replica of each of two things goes between two moments, and one in which replicas are parted by such a loss.
+-- Runs by which the definitions are tried: one in which a thing is kept though a server is removed,
+-- one in which the one gold replica of each of two things goes between two moments, and one in
+-- which replicas are parted by such a loss.
 use Rattle.std.specs.Prelude.{ℕ, ◌≡◌, ◌+◌, zero, suc, List, [], ◌∷◌, ◌++◌}
 use Rattle.law_full.specs.pg_base.declared.id.FileId.{FileId}
 use Rattle.law_full.specs.pg_base.declared.id.Kind.TheVariants.{Dir, File}
@@ -66,12 +67,14 @@ pub record LossIsNotKept : Type 0 where
 abbrev pub moved : FileId
 moved = record { kind = File; server = 1; number = 3 }
 
--- two directories, `/d` and `/e`, and the file `/e/x`: one of the other servers hears of each directory
+-- two directories, `/d` and `/e`, and the file `/e/x`: one of the other servers hears of each
+-- directory
 abbrev pub begun : List Event
 begun = Call 1 10 (Mkdir (47 ∷ 100 ∷ [])) ∷ Call 1 12 (Mkdir (47 ∷ 101 ∷ []))
     ∷ Call 1 14 (Create (47 ∷ 101 ∷ 47 ∷ 120 ∷ []) Last) ∷ Deliver 1 ∷ Deliver 3 ∷ []
 
--- what is asked for comes: a Fetch, a Grant and three cells, their answers, a Fetch again and a Full
+-- what is asked for comes: a Fetch, a Grant and three cells, their answers, a Fetch again and a
+-- Full
 abbrev pub fetched : ℕ → List Event
 fetched n = Deliver n ∷ Deliver n ∷ Deliver n ∷ Deliver n ∷ Deliver n
     ∷ Deliver (n + 3) ∷ Deliver (n + 3) ∷ Deliver (n + 3) ∷ Deliver (n + 2) ∷ Deliver (n + 3) ∷ []
@@ -111,8 +114,8 @@ pub record ArePartedBy (servers : ℕ) (file : FileId) (events : List Event) : T
   pub differ : own_at ((run servers events).stores here).names file
       ≡ own_at ((run servers events).stores there).names file → ⊥
 
--- so it is with the file, of which no gold replica stayed: that a thing was kept is a premise that is
--- needed
+-- so it is with the file, of which no gold replica stayed: that a thing was kept is a premise that
+-- is needed
 abbrev pub LossParts : Type 0
 LossParts = ArePartedBy 3 moved parting
 

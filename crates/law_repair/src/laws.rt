@@ -1,4 +1,5 @@
-//! What holds of things that are kept, along every run. Each law is a clause of a function that does nothing.
+//! What holds of things that are kept, along every run. Each law is a clause of a function that
+//! does nothing.
 
 ghost use Rattle.std.specs.Prelude.{ℕ};
 ghost use Rattle.law_golds.specs.law_contents.Together.{HoldBoth};
@@ -16,8 +17,8 @@ ghost use Rattle.law_repair.specs.Given.{StandOn};
 ghost use Rattle.law_repair.specs.Witness.{LossIsNotKept, LossParts, RemovalKeepsTheRoot, StartIsConnected};
 ghost use Rattle.law_repair.specs.Kept.{KeptDirectoriesAreBroughtBack, KeptNamesFormATree, KeptServersAgree, KeptThingsAreConnected, KeptThingsAreListedOnlyWhereTheyStand, MadeThingsAreCreated};
 
-/// What becomes full in an event is told so, or made, or forgotten; and only what was full says that another is, to a peer that
-/// had acknowledged all.
+/// What becomes full in an event is told so, or made, or forgotten; and only what was full says
+/// that another is, to a peer that had acknowledged all.
 pub fn full_replicas_come()
     ensures begins { (servers : ℕ) → FullBegins servers }
     ensures said { (servers : ℕ) → FullIsSaid servers }
@@ -38,20 +39,22 @@ pub fn golds_raise_none()
         → HouseIsInOrder servers → GoldsRaiseNone servers }
 {}
 
-/// A thing is created where a client is told that it was made: some server holds it then, and none did before.
+/// A thing is created where a client is told that it was made: some server holds it then, and none
+/// did before.
 pub fn made_things_are_created()
     ensures { (servers : ℕ) → AllIsNamed servers → ServersAreWhole servers
         → MadeThingsAreCreated servers }
 {}
 
-/// Wherever a run is quiet, the graph of each thing is connected that was kept: where between each two neighbouring moments of
-/// its life, its creation and the quiet ends of events, one replica of a live server stayed gold, and none forgot the thing.
+/// Wherever a run is quiet, the graph of each thing is connected that was kept: where between each
+/// two neighbouring moments of its life, its creation and the quiet ends of events, one replica of
+/// a live server stayed gold, and none forgot the thing.
 pub fn kept_things_are_connected()
     ensures { (servers : ℕ) → StandOn servers → KeptThingsAreConnected servers }
 {}
 
-/// So, where all things that live servers hold were kept, quiet servers agree, and their names form a tree, with no premise
-/// on graphs.
+/// Where all things that live servers hold were kept, quiet servers agree, and their names form a
+/// tree, with no premise on graphs.
 pub fn kept_runs_are_repaired()
     ensures agree { (servers : ℕ) → StandOn servers → QuietServersAgree servers
         → KeptServersAgree servers }
@@ -64,8 +67,8 @@ pub fn kept_runs_are_repaired()
         → KeptDirectoriesAreBroughtBack servers }
 {}
 
-/// The definitions, tried on runs: where a server is removed and the others give it up, the root was
-/// kept; where the one gold replica of a file, and that of a directory, went with their server,
+/// The definitions, tried on runs: where a server is removed and the others give it up, the root
+/// was kept; where the one gold replica of a file, and that of a directory, went with their server,
 /// neither was. And where a file moves while all its gold replicas go, all gets quiet and the file
 /// is not connected: that a thing was kept is a premise that is needed.
 pub fn some_things_are_kept()

@@ -6,8 +6,8 @@
 //! is so of a number of which there is no server. The statements stand in `specs/Rests`: the
 //! clauses `rests` and `none_to_removed` of `run`.
 //!
-//! - What a removed server had, as where it gave leave for a drop, may be read at any later moment of
-//!   the run: it is as at the removal.
+//! - What a removed server had, as where it gave leave for a drop, may be read at any later moment
+//!   of the run: it is as at the removal.
 //! - `proofs/Resting` is the frame of an event (`framed` of `pg_run`), read at a server that takes
 //!   no input, and one event after another. `proofs/Under` is of the messages under way, over what
 //!   each event does to them.

@@ -46,8 +46,8 @@ use Rattle.law_returns.specs.Gate.{Brings, IsMindful, IsStillThere, place_at}
 use Rattle.law_returns.proofs.Lasting.{before_by, house_removed, more_removed}
 use Rattle.law_full.specs.pg_calls.Forgetting.{root_place}
 
--- a dead place is the one that the directory had, or has the stamp that is drawn now, or the message, which is heard, brings it
--- to the replica that is here
+-- a dead place is the one that the directory had, or has the stamp that is drawn now, or the
+-- message, which is heard, brings it to the replica that is here
 abbrev pub IsCaused : Store → Input → FileId → Place → Type 0
 IsCaused a (input.Call moment c) d p = (p ≡ place_at a.names d) ⊎ (p.stamp ≡ drawn a moment)
 IsCaused a (input.Tick moment word) d p = p ≡ place_at a.names d

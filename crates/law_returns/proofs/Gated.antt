@@ -1,4 +1,5 @@
--- The gate stands along a run: a removal comes to a server only with all that its remover knew of the directory's children.
+-- The gate stands along a run: a removal comes to a server only with all that its remover knew of
+-- the directory's children.
 use Rattle.std.proofs.Common.{ℕ, ◌≡◌, ◌≤◌, ◌<◌, arith, true, false, List, get_or, Option, None, Some, All, refl, sym, ap, subst, ◌∙◌, inl, inr}
 use Rattle.std.proofs.lemmas.Bool.{false≢true}
 use Rattle.std.proofs.lemmas.List.Elements.{All-append, All-contains, All-nil, All-weaker}
@@ -125,7 +126,8 @@ module _ (n : ℕ) (dir : FileId) (is : is_dir dir ≡ true) (removal : Place) (
     pub hears : HearsMindful asked
     hears = hears_by asked came
 
-    -- the removal is there behind the event: it was there, or is the server's own, or came in a message
+    -- the removal is there behind the event: it was there, or is the server's own, or came in a
+    -- message
     pub caused : IsStillThere Then.names.removed removal → place_at Then.names dir ≡ removal → IsCaused Here asked dir removal
     caused there at = effect_dead dir is removal dead late Here asked hears there at
 
@@ -146,7 +148,8 @@ module _ (n : ℕ) (dir : FileId) (is : is_dir dir ≡ true) (removal : Place) (
           subst (λ (x : Store). All P (cells_where x wanted)) itself
           (All-weaker Behind P each (cells_where (Later s) wanted) (guarded n Next next.acked next.whole s least most dir is removal dead wanted))
 
-      -- what follows for messages that bring the removal from cells before the event, and behind it, holds of all that is sent
+      -- what follows for messages that bring the removal from cells before the event, and behind
+      -- it, holds of all that is sent
       pub all_sent : (P : Sent → Type 0) → ((m : Sent) → ¬ (Brings dir removal m.packet.message) → P m) → ((m : Sent) → Before m → P m) → ((m : Sent) → Behind m → P m) → All P (effect Here asked).out.sent
       all_sent P none before behind =
           effect_sends P Here asked (record {

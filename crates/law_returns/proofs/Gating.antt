@@ -1,4 +1,5 @@
--- Where the dead place of a directory is sent, the peer knows all entries of the directory that the sender does.
+-- Where the dead place of a directory is sent, the peer knows all entries of the directory that the
+-- sender does.
 use Rattle.std.proofs.Common.{ℕ, ◌≡◌, ◌≤◌, ◌&&◌, not, cond, Bool, true, false, List, [], ◌∷◌, get_or, Option, None, Some, option_map, All, refl, sym, ap, subst, ◌∙◌, inl, inr}
 use Rattle.std.specs.Prelude.{Contains}
 use Rattle.std.specs.List.{IsAmong, list_any}

@@ -131,7 +131,8 @@ pub before_by : (b c : Bool) → (b ≡ true → c ≡ true) → c ≡ false →
 before_by true c up h = absurd (false≢true (sym h ∙ up refl))
 before_by false c up h = refl
 
--- who is not removed in the view behind an event, or behind its first effect, was not removed before it
+-- who is not removed in the view behind an event, or behind its first effect, was not removed
+-- before it
 pub still_first : (a : Store) (asked : Input) (p : Place) → IsStillThere (first_effect a asked).store.names.removed p → IsStillThere a.names.removed p
 still_first a asked p h = before_by (is_removed a.names.removed p.stamp.server) _ (removed_first p.stamp.server a asked) h
 

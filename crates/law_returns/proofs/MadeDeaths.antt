@@ -1,4 +1,5 @@
--- Which dead places are made: those of things that go in a call. The house rules make live places alone, and of directories.
+-- Which dead places are made: those of things that go in a call. The house rules make live places
+-- alone, and of directories.
 use Rattle.std.proofs.Common.{ℕ, ◌≡◌, true, false, List, Option, All, refl, sym, ap, subst, ◌∙◌, inl, inr}
 use Rattle.std.proofs.lemmas.Bool.{false≢true}
 use Rattle.std.proofs.lemmas.List.Elements.{All-nil, All-push}

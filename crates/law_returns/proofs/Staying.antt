@@ -1,4 +1,5 @@
--- In the event in which a directory comes back its replica does not go: what it took of its children is still there.
+-- In the event in which a directory comes back its replica does not go: what it took of its
+-- children is still there.
 use Rattle.std.proofs.Common.{ℕ, ◌≡◌, ◌≤◌, ◌<◌, arith, ◌&&◌, Bool, true, false, cond, not, is_some, List, [], ◌∷◌, drop, length, Option, None, Some, refl, sym, ap, subst, ◌∙◌}
 use Rattle.std.proofs.lemmas.Option.{none-some, same_Some}
 use Rattle.law_full.specs.pg_base.declared.id.FileId.{FileId}

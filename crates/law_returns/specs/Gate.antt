@@ -35,9 +35,9 @@ use Rattle.law_full.specs.pg_run.Views.{ViewsArePrefixes, removed_by}
 
 -- ---- what it stands on
 
--- peers have what they acknowledged, servers lose nothing that they hold unless a replica goes, births
--- move one way, each server is as it should be, Confirms stand only where the child is listed, the time
--- of what was made is past, and views are fronts of the removals
+-- peers have what they acknowledged, servers lose nothing that they hold unless a replica goes,
+-- births move one way, each server is as it should be, Confirms stand only where the child is
+-- listed, the time of what was made is past, and views are fronts of the removals
 pub record EdgesAreKept (servers : ℕ) : Type 0 where
   pub acknowledged : AcknowledgedKeysAreHad servers
   pub grow : EventsGrow servers
@@ -92,8 +92,8 @@ pub record Removes (servers : ℕ) (before : List Event) (removing : Event) (dir
 abbrev pub IsStillThere : List ℕ → Place → Type 0
 IsStillThere removed place = is_removed removed place.stamp.server ≡ false
 
--- THE GATE: wherever a directory has this dead place later on, all is known that its remover knew of
--- its children, unless the remover is removed in the server's view
+-- THE GATE: wherever a directory has this dead place later on, all is known that its remover knew
+-- of its children, unless the remover is removed in the server's view
 abbrev pub GateStands : ℕ → Type 0
 GateStands servers = (before : List Event) (removing : Event) (between : List Event)
     (dir : FileId) (removal : Place) → Removes servers before removing dir removal
@@ -113,9 +113,9 @@ RemovedAreEmpty servers = (before : List Event) (removing : Event) (dir : FileId
 
 -- ---- return
 
--- JUSTIFIED RETURN: where the house rules find a directory removed, by a server that is not removed in
--- the view behind the first effect, each child that it lists, in whatever its entries have grown to by
--- then, has another place than the remover knew, and no earlier one
+-- JUSTIFIED RETURN: where the house rules find a directory removed, by a server that is not removed
+-- in the view behind the first effect, each child that it lists, in whatever its entries have grown
+-- to by then, has another place than the remover knew, and no earlier one
 abbrev pub ReturnsFindNewPlaces : ℕ → Type 0
 ReturnsFindNewPlaces servers = (before : List Event) (removing : Event) (between : List Event)
     (last : Event) (dir : FileId) (removal : Place) → Removes servers before removing dir removal
@@ -158,8 +158,8 @@ pub record IsGated (servers : ℕ) (known : NamesValue) (dir : FileId) (removal 
       × (IsStillThere (removed_by w m.packet.view) removal → 1 ≤ m.to → m.to ≤ servers
       → KnowsOrOver dir known (w.stores m.to) b.ends.receiver)) (mail w.journal)
 
--- no server knows this place of the directory, and no message ever brought it; unless its maker is removed
--- in the view
+-- no server knows this place of the directory, and no message ever brought it; unless its maker is
+-- removed in the view
 pub record IsUnknown (servers : ℕ) (dir : FileId) (place : Place) (w : World) : Type 0 where
   pub there : AtEach servers (λ s. IsStillThere (w.stores s).names.removed place
       → place_at (w.stores s).names dir ≢ place)

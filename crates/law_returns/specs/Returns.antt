@@ -26,8 +26,8 @@ TakesHaveOwnStamps servers = (events : List Event) → AtEach servers (λ s.
 
 -- ---- in the midst of an event
 
--- where a directory's own place is a dead one while the house rules make updates, and its maker is not
--- removed in the view behind the first effect, it had this place behind the first effect
+-- where a directory's own place is a dead one while the house rules make updates, and its maker is
+-- not removed in the view behind the first effect, it had this place behind the first effect
 abbrev pub DeadPlacesStay : ℕ → Type 0
 DeadPlacesStay servers = (events : List Event) (last : Event) (s : ℕ) (asked : Input)
     → let w = run servers events in TakesIn servers w last s asked

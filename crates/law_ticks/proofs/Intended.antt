@@ -1,5 +1,5 @@
--- What the end of an event does to a server's store: what each piece keeps, the intentions that end and begin keep, and the
--- house rules.
+-- What the end of an event does to a server's store: what each piece keeps, the intentions that end
+-- and begin keep, and the house rules.
 use Rattle.std.proofs.Common.{◌≡◌, true, Option, None, Some, is_some, refl}
 use Rattle.pg_run.specs.pg_base.declared.id.FileId.{FileId}
 use Rattle.pg_run.specs.pg_intent.declared.intent.Intent.{Intent}

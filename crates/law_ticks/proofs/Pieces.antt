@@ -1,4 +1,5 @@
--- What an event does to a server's store, piece by piece: what each piece keeps, every message keeps.
+-- What an event does to a server's store, piece by piece: what each piece keeps, every message
+-- keeps.
 use Rattle.std.proofs.Common.{ℕ, ◌≡◌, ◌==◌, ◌&&◌, not, nat_lt, Bool, true, false, cond, List, [], ◌∷◌, refl}
 use Rattle.pg_run.specs.pg_base.declared.id.FileId.{FileId}
 use Rattle.pg_run.specs.pg_base.declared.policy.Policy.{Policy}

@@ -26,7 +26,8 @@ abbrev pub ThingsAreOrdered : ℕ → Type 0
 ThingsAreOrdered servers = (events : List Event)
     → AtEach servers (λ s. IsStrictlySortedBy file_cmp (keys_of (names_after servers events s).held))
 
--- no intention ends or begins, where no place was replaced, no doubtful cell came and no edge was made
+-- no intention ends or begins, where no place was replaced, no doubtful cell came and no edge was
+-- made
 abbrev pub StaysIntended : Store → Type 0
 StaysIntended a = (work : Work) → work.left ≡ [] → work.unsure ≡ [] → work.linked ≡ []
     → begin_end a work ≡ idle a work

@@ -22,14 +22,15 @@ pub fn ticks_send_what_is_owed()
     ensures { (servers : ℕ) → TidinessIsGiven servers → TicksSendWhatIsOwed servers }
 {}
 
-/// A restart loses the wishes of its server and what is noted of versions there, and changes nothing else.
+/// A restart loses the wishes of its server and what is noted of versions there, and changes
+/// nothing else.
 pub fn restarts_lose_wishes()
     ensures { (servers : ℕ) → TidinessIsGiven servers → RestartsLoseWishes servers }
 {}
 
 /// What a world is told to wait for is the first message under way; where there is none the view of
-/// the least live server that has not entered the last removal; and where all have what the least live
-/// server that owes something owes first.
+/// the least live server that has not entered the last removal; and where all have what the least
+/// live server that owes something owes first.
 pub fn first_cause_is_told()
     ensures { FirstCauseIsTold }
 {}

@@ -1,9 +1,8 @@
 //! What a tick sends in a run and what a restart does, and what a run waits for.
 //!
-//! Of the laws comes the clause `owed` of `run`. What a world is told to wait for is the first of its
-//! causes; each key that is owed has a cell; and no house rule applies after any
-//! events: these are laws of their own. The statements stand in `specs/Laws` and
-//! `pg_run/specs/Ticks`.
+//! Of the laws comes the clause `owed` of `run`. What a world is told to wait for is the first of
+//! its causes; each key that is owed has a cell; and no house rule applies after any events: these
+//! are laws of their own. The statements stand in `specs/Laws` and `pg_run/specs/Ticks`.
 //!
 //! - `AllHaveCells` (`proofs/KeysCells`) is the invariant of one server: each key on an edge has a
 //!   cell. `KeysLinks`, `KeysVersions` and `KeysRuns` have it of edges that are made, of versions,

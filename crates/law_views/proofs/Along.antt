@@ -1,19 +1,14 @@
 -- Messages along edges: who is linked is not removed. And replicas that go.
-use Rattle.std.proofs.Common.{[], ℕ, ◌≡◌, ◌==◌, ◌&&◌, ◌||◌, ◌-◌, ◌/◌, ◌%◌, cond, not, List, ◌∷◌}
+use Rattle.std.proofs.Common.{[], ℕ, ◌||◌, cond, List, ◌∷◌}
 use Rattle.pg_run.specs.pg_base.declared.id.FileId.{FileId}
 use Rattle.pg_run.specs.pg_base.declared.stamp.Stamp.{Stamp}
 use Rattle.pg_run.specs.pg_edges.declared.edge.Edge.{Edge}
-use Rattle.pg_run.specs.pg_edges.declared.key.Key.TheVariants as key
-use Rattle.pg_run.specs.pg_entries.declared.cell.Cell.TheVariants as cells
 use Rattle.pg_run.specs.pg_intent.declared.key.IntentKey.TheVariants as intent_key
 use Rattle.pg_run.specs.pg_intent.Intents.{ended}
-use Rattle.pg_run.specs.pg_msg.declared.message.Ask.{Ask}
-use Rattle.pg_run.specs.pg_msg.declared.message.Ask.TheVariants as ask
 use Rattle.pg_run.specs.pg_msg.declared.message.Ends.{Ends}
 use Rattle.pg_run.specs.pg_msg.declared.message.Message.{Message}
 use Rattle.pg_run.specs.pg_msg.declared.message.Message.TheVariants as message
 use Rattle.pg_run.specs.pg_msg.declared.work.Work.{Work}
-use Rattle.pg_run.specs.pg_names.Names as names
 use Rattle.pg_run.specs.pg_store.Births.{has_birth, is_pending}
 use Rattle.pg_run.specs.pg_store.Links.{knows_later, unlink}
 use Rattle.pg_run.specs.pg_pieces.declared.accepting.EdgeUse.{EdgeUse}

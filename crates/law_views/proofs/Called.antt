@@ -1,7 +1,7 @@
 -- What comes of each call but one: wishes that ask live servers, and messages in the server's view.
-use Rattle.std.proofs.Common.{[], ℕ, ◌≡◌, ◌==◌, ◌&&◌, ◌||◌, Bool, true, false, cond, List, ◌∷◌, Option, None, Some, refl, sym}
+use Rattle.std.proofs.Common.{[], ℕ, ◌≡◌, ◌==◌, Bool, true, false, cond, List, ◌∷◌, Option, None, Some, refl, sym}
 use Rattle.std.specs.List.{filter}
-use Rattle.std.specs.Prelude.{Err, Ok, Result, not}
+use Rattle.std.specs.Prelude.{Err, Ok, Result}
 use Rattle.std.proofs.lemmas.Bool.{false≢true}
 use Rattle.pg_run.specs.pg_base.declared.id.FileId.{FileId}
 use Rattle.pg_run.specs.pg_base.declared.id.Kind.TheVariants.{Dir, File}

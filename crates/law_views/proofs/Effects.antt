@@ -1,5 +1,5 @@
--- What an event does at a server: what is seen of it then, in the view in which it is then, and that all
--- that it sends is from it and of that view.
+-- What an event does at a server: what is seen of it then, in the view in which it is then, and
+-- that all that it sends is from it and of that view.
 use Rattle.std.proofs.Common.{[], ℕ, ◌≡◌, ◌==◌, ◌&&◌, Bool, true, false, not, List, ◌∷◌, ◌++◌, get_or, Option, None, Some, ◌⊎◌, inl, inr, refl, sym, ap, subst, ◌∙◌, All}
 use Rattle.std.specs.Prelude.{Err, Ok, Result, nat_lt}
 use Rattle.std.specs.Map.{keys_of}

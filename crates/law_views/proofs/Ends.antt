@@ -1,6 +1,6 @@
--- What stands behind the first effect of an event keeps what is seen of the server: the house rules, and
--- the intentions that end and begin.
-use Rattle.std.proofs.Common.{[], ℕ, ◌≡◌, true, List, ◌∷◌, drop, length, Option, None, Some, is_some, ◌∙◌}
+-- What stands behind the first effect of an event keeps what is seen of the server: the house
+-- rules, and the intentions that end and begin.
+use Rattle.std.proofs.Common.{[], ℕ, true, List, ◌∷◌, drop, length, Option, None, Some, is_some}
 use Rattle.pg_run.specs.pg_base.declared.id.FileId.{FileId}
 use Rattle.pg_run.specs.pg_house.House.{house}
 use Rattle.pg_run.specs.pg_house.Work.{state_of}

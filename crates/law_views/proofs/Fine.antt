@@ -1,5 +1,5 @@
--- In the midst of an event: what is seen of the server, and that what it has sent is from it and in its
--- view.
+-- In the midst of an event: what is seen of the server, and that what it has sent is from it and in
+-- its view.
 use Rattle.std.proofs.Common.{[], ℕ, ◌≡◌, ◌&&◌, Bool, true, false, not, List, ◌∷◌, length, refl, sym, ap, subst, ◌∙◌, All}
 use Rattle.std.proofs.lemmas.List.Elements.{All-append, All-cons, All-nil}
 use Rattle.pg_run.specs.pg_base.declared.id.FileId.{FileId}

@@ -1,6 +1,6 @@
 -- What comes of each message: edges to its sender, and to the origin of a walk, and messages in the
 -- server's view.
-use Rattle.std.proofs.Common.{[], ℕ, ◌≡◌, ◌==◌, ◌&&◌, ◌||◌, ◌-◌, ◌/◌, ◌%◌, true, false, cond, not, List, ◌∷◌, length, slice_get, Option, None, Some, refl}
+use Rattle.std.proofs.Common.{ℕ, ◌≡◌, ◌==◌, ◌&&◌, ◌-◌, ◌/◌, ◌%◌, true, false, cond, not, List, length, slice_get, Option, None, Some, refl}
 use Rattle.std.specs.Prelude.{nat_lt}
 use Rattle.pg_run.specs.pg_base.declared.id.FileId.{FileId}
 use Rattle.pg_run.specs.pg_base.declared.stamp.Stamp.{Stamp}
@@ -40,7 +40,6 @@ use Rattle.pg_run.specs.pg_pieces.Making.{own_next, raise_flag}
 use Rattle.pg_run.specs.pg_pieces.Posting.{reply}
 use Rattle.pg_run.specs.pg_pieces.Taking.{take_entry_noted, take_place_noted, with_news}
 use Rattle.pg_run.specs.pg_house.Work.{is_root}
-use Rattle.pg_run.specs.pg_graph.Leaving.{goes}
 use Rattle.pg_run.specs.pg_graph.Seeking.{answered_seek, seek}
 use Rattle.pg_run.specs.pg_graph.Walks.{goes_on, meet_origin, onward, walk, walk_along, walk_on, walked}
 use Rattle.pg_run.specs.pg_repair.Confirming.{confirm, confirmed, is_confirmed, own_entry, place_is, place_told, take_told_flags, take_told_place}

@@ -1,5 +1,5 @@
 -- Edges to peers of which something holds, and views that grow.
-use Rattle.std.proofs.Common.{[], ℕ, zero, suc, ◌≡◌, ◌≢◌, ◌≤◌, ◌<◌, ◌==◌, ◌+◌, ◌&&◌, ◌||◌, Bool, true, false, cond, not, List, ◌∷◌, ◌++◌, take, slice_get, Option, None, Some, nat_eq, eq-eqb, Less, Equal, Greater, refl, sym, ap, subst, ◌∙◌, arith, All}
+use Rattle.std.proofs.Common.{[], ℕ, zero, suc, ◌≡◌, ◌≢◌, ◌==◌, ◌+◌, ◌||◌, Bool, true, false, cond, not, List, ◌∷◌, ◌++◌, take, slice_get, Option, None, Some, nat_eq, eq-eqb, Less, Equal, Greater, refl, sym, ap, subst, ◌∙◌, arith, All}
 use Rattle.std.specs.List.{IsAmong}
 use Rattle.std.specs.Option.{option_eq}
 use Rattle.std.specs.Ordering.{match_ordering, nat_cmp}

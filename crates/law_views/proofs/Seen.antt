@@ -1,6 +1,6 @@
--- What is seen of a server that is in a view: the removals that it knows, whom its edges lead to, and whom
--- its wishes ask. What the pieces of an event do keeps it.
-use Rattle.std.proofs.Common.{[], ℕ, ◌≡◌, ◌≢◌, ◌==◌, Bool, true, false, cond, not, List, ◌∷◌, Option, None, Some, refl, sym, ap, subst, ◌∙◌, inl, inr}
+-- What is seen of a server that is in a view: the removals that it knows, whom its edges lead to,
+-- and whom its wishes ask. What the pieces of an event do keeps it.
+use Rattle.std.proofs.Common.{[], ℕ, ◌≡◌, ◌≢◌, Bool, true, false, cond, not, List, ◌∷◌, Option, None, Some, refl, sym, ap, subst, ◌∙◌, inl, inr}
 use Rattle.std.proofs.lemmas.List.Elements.{All-nil}
 use Rattle.std.proofs.lemmas.Option.{none-some, same_Some}
 use Rattle.pg_run.specs.pg_base.declared.id.FileId.{FileId}

@@ -1,5 +1,5 @@
 -- The laws of views.
-use Rattle.std.proofs.Common.{[], ℕ, ◌≡◌, ◌≤◌, true, List, ◌∷◌, ◌++◌, length, take, Option, None, Some, inl, inr, refl, sym, ap, subst, ◌∙◌}
+use Rattle.std.proofs.Common.{[], ℕ, ◌≡◌, true, List, ◌∷◌, ◌++◌, length, take, Option, None, Some, inl, inr, refl, sym, ap, subst, ◌∙◌}
 use Rattle.std.proofs.lemmas.List.{append-nil, append_assoc}
 use Rattle.std.proofs.lemmas.List.Elements.{All-contains}
 use Rattle.pg_run.specs.pg_event.declared.event.Event.{Event}

@@ -1,6 +1,6 @@
--- Views along runs: each server is in a view that is a front of the removals, and all messages are of
--- views that their senders had.
-use Rattle.std.proofs.Common.{[], ℕ, ◌≡◌, ◌≢◌, ◌≤◌, ◌+◌, ◌==◌, ◌&&◌, true, false, List, ◌∷◌, ◌++◌, length, take, slice_get, suc, Option, None, Some, ◌⊎◌, inl, inr, refl, sym, ap, subst, ◌∙◌, arith, All}
+-- Views along runs: each server is in a view that is a front of the removals, and all messages are
+-- of views that their senders had.
+use Rattle.std.proofs.Common.{[], ℕ, ◌≡◌, ◌≤◌, ◌+◌, ◌==◌, ◌&&◌, true, false, List, ◌∷◌, ◌++◌, length, take, slice_get, suc, Option, None, Some, ◌⊎◌, inl, inr, refl, sym, ap, subst, ◌∙◌, arith, All}
 use Rattle.std.proofs.lemmas.Bool.{and_parts, eqb-true, ne_eqb}
 use Rattle.std.proofs.lemmas.List.{append-nil, length-append, take-append-le}
 use Rattle.std.proofs.lemmas.List.Elements.{All-append, All-contains, All-nil, All-weaker}
@@ -12,7 +12,6 @@ use Rattle.pg_run.specs.pg_event.declared.event.Event.{Event}
 use Rattle.pg_run.specs.theory_flood.World.{after}
 use Rattle.pg_run.proofs.theory_flood.Flood.{after_itself, here}
 use Rattle.pg_run.proofs.pg_intent.Above.{still_apart}
-use Rattle.pg_run.specs.pg_msg.declared.message.Message.TheVariants as message
 use Rattle.pg_run.specs.pg_msg.declared.message.Packet.{Packet}
 use Rattle.pg_run.specs.pg_msg.declared.message.Sent.{Sent}
 use Rattle.pg_run.specs.pg_msg.Numbers.{is_in_range}

@@ -1,3 +1,3 @@
 pub mod Lines
-pub mod Asking
 pub mod Dispatch
+pub mod Outside

@@ -1,4 +1,4 @@
 pub mod Ending
 pub mod Laws
+pub mod Outside
 pub mod Written
-pub mod Words

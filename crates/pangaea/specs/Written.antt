@@ -4,8 +4,8 @@ use Rattle.std.specs.Io.KnownBytes.{Appends}
 use Rattle.pg_sched.specs.declared.line.Line.{Line}
 use Rattle.pg_sched.specs.Schedule.{spelling, IsCount, AreLines}
 use Rattle.pangaea.specs.declared.replay.TheConstants.{LIMIT}
-use Rattle.pangaea.specs.declared.grammar.Command.{Command}
-use Rattle.pangaea.specs.declared.grammar.Command.TheVariants.{Replay, Make, Soak}
+use Rattle.pg_command.specs.declared.command.Command.{Command}
+use Rattle.pg_command.specs.declared.command.Command.TheVariants.{Replay, Make, Soak, Node, Call}
 use Rattle.pg_make.specs.Made.{made_text}
 use Rattle.pg_meter.specs.declared.meter.Reading.{Reading}
 use Rattle.pg_replay.specs.Soaking.{soak_text}
@@ -51,7 +51,7 @@ abbrev pub handed : Bool → List Reading → List Reading
 handed true meters = meters
 handed false meters = []
 
--- what is behind what the sink held, when the command is done
+-- What is behind what the sink held, when the command is done. Of nodes and calls `Does` says it.
 abbrev pub Writes : Command → List Reading → Option (List ℕ) → Option (List ℕ) → Option (List ℕ)
     → Type 0
 Writes (Replay metered) meters input before after =
@@ -60,6 +60,8 @@ Writes (Make numbers) meters input before after =
     Appends before after (made_text numbers.seed numbers.servers numbers.events)
 Writes (Soak numbers) meters input before after =
     Appends before after (soak_text numbers.seed numbers.servers numbers.events)
+Writes (Node server servers port name turns) meters input before after = Unit {0}
+Writes (Call server port request) meters input before after = Unit {0}
 
 -- a prefix of that
 abbrev pub WritesFront : Command → List Reading → Option (List ℕ) → Option (List ℕ)
@@ -70,3 +72,5 @@ WritesFront (Make numbers) meters input before after =
     AppendsPrefix before after (made_text numbers.seed numbers.servers numbers.events)
 WritesFront (Soak numbers) meters input before after =
     AppendsPrefix before after (soak_text numbers.seed numbers.servers numbers.events)
+WritesFront (Node server servers port name turns) meters input before after = Unit {0}
+WritesFront (Call server port request) meters input before after = Unit {0}

@@ -1,30 +1,35 @@
-//! Pangaea: what its servers do, replayed from a schedule.
+//! Pangaea: what its servers do, replayed from a schedule, and done by nodes that run.
 //!
-//! `grammar` finds what the words ask for, `command` has `run`, with all that is promised;
-//! `replay`, `make` and `soak` are the commands, one module each, and `laws` ties the lines of a
-//! schedule to the events of its run.
+//! `command` has `run`, with all that is promised; `replay`, `make`, `soak`, `node` and `call` are
+//! the commands, one module each, and `laws` ties the lines of a schedule to the events of its run.
+//! What words ask for, and which is at fault, `pg_command` says; `advice` says what to do about it.
 //!
-//! `main` alone touches the system: it gathers the words, hands in the streams and one meter of
-//! each kind, and ends with the status.
+//! `main` alone touches the system: it gathers the words, hands in the streams, the net of this
+//! machine, its clock and one meter of each kind, and ends with the status.
 //!
-//! Definitions: `specs/Words` (what words ask for, and which is at fault), `Written` (what each
-//! command writes), `Ending`. A further command: its words and slots in `Words`, an arm of
-//! `Writes`, and a module of its own.
+//! Definitions: `specs/Written` (what each command writes), `Outside` (what it does on a net and a
+//! clock), `Ending`. A further command: its words and slots in `pg_command`, an arm of `Writes` and
+//! of `Does`, and a module of its own.
 #![tactic(auto)]
 
+mod advice;
+mod call;
 mod command;
-mod grammar;
 mod laws;
 mod make;
+mod node;
 mod replay;
 mod soak;
 
+use advice::{advice, port};
+pub use call::call;
 pub use command::run;
-pub use grammar::{Command, Numbers};
 pub use make::make;
+pub use node::node;
 use pg_event::{MeterKind, Status};
 use pg_io::{Reading, Writing};
 use pg_meter::{Counter, Meter};
+use pg_net::{SystemClock, UdpNet};
 pub use replay::{LIMIT, replay};
 pub use soak::soak;
 use std::alloc::AllocError;
@@ -49,7 +54,7 @@ fn wordless(error: &io::Error) -> Status {
     }
 }
 
-/// Does what the words ask for, with one meter of each kind.
+/// Does what the words ask for, on this machine's net, with its clock and one meter of each kind.
 fn obey(rt: &HostRuntime, words: &Vec<String>) -> Result<Status, AllocError> {
     let alloc = rt.alloc();
     let mut meters: Vec<Box<dyn Meter>> = Vec::new(alloc);
@@ -58,22 +63,54 @@ fn obey(rt: &HostRuntime, words: &Vec<String>) -> Result<Status, AllocError> {
     }
     let mut source = Reading::new(rt.stdin());
     let mut sink = Writing::new(rt.stdout());
-    Ok(run(alloc, words, &mut source, &mut sink, meters))
+    let mut net = UdpNet::new(rt);
+    let mut clock = SystemClock::new(rt);
+    Ok(run(
+        alloc,
+        words,
+        &mut source,
+        &mut sink,
+        &mut net,
+        &mut clock,
+        meters,
+    ))
 }
 
-fn main(rt: HostRuntime) -> ExitCode {
-    let status = match words(&rt) {
-        Ok(words) => obey(&rt, &words).unwrap_or(Status::OutOfMemory),
-        Err(error) => wordless(&error),
-    };
+/// Says on standard error how these words ended, and what to do about it.
+fn tell(rt: &HostRuntime, words: &Vec<String>, status: Status) {
     if status != Status::Done {
         let _ = eprintln!(rt; "pangaea: {status}");
+    }
+    if status == Status::NetFault {
+        if let Some(port) = port(words) {
+            let _ = eprintln!(rt; "at port {port} of 127.0.0.1");
+        }
+    }
+    if let Some(advice) = advice(words, status) {
+        let _ = eprintln!(rt; "{advice}");
     }
     if let Status::Usage(_) = status {
         let _ = eprintln!(rt; "usage: pangaea replay [--meters] < SCHEDULE");
         let _ = eprintln!(rt; "       pangaea make SEED SERVERS EVENTS");
         let _ = eprintln!(rt; "       pangaea soak SEED SERVERS EVENTS");
+        let _ = eprintln!(rt; "       pangaea node SERVER SERVERS PORT NAME TURNS");
+        let _ = eprintln!(rt; "       pangaea call SERVER PORT ASKED ..");
     }
+}
+
+fn main(rt: HostRuntime) -> ExitCode {
+    let status = match words(&rt) {
+        Ok(words) => {
+            let status = obey(&rt, &words).unwrap_or(Status::OutOfMemory);
+            tell(&rt, &words, status);
+            status
+        }
+        Err(error) => {
+            let status = wordless(&error);
+            tell(&rt, &Vec::new(rt.alloc()), status);
+            status
+        }
+    };
     ExitCode::from(status.number())
 }
 

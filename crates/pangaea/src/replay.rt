@@ -4,6 +4,7 @@ ghost use Rattle.std.specs.Prelude.{◌≡◌, ◌≢◌, ◌≤◌, ◌^◌, �
 ghost use Rattle.std.specs.Io.KnownBytes.{IsAtEnd};
 ghost use Rattle.law_all.specs.Laws.{LawsOfRuns};
 ghost use Rattle.pangaea.specs.Ending.{EndsOnly, FirstBadIs};
+ghost use Rattle.pangaea.specs.Outside.{IsFileEnd};
 ghost use Rattle.pangaea.specs.Written.{IsGoodInput, IsTooLong, WritesAll, WritesPrefix, most_input};
 ghost use Rattle.pg_call.specs.declared.fault.Fault.{Fault};
 ghost use Rattle.pg_io.specs.Causes.{Rose};
@@ -30,8 +31,8 @@ pub fn replay<S: Source, K: Sink>(
     sink: &mut K,
     meters: Vec<Box<dyn Meter>>,
 ) -> Status
-    // What is written: the spelling of the lines of the run, each of them a line of a journal; so it
-    // is read again.
+    // What is written: the spelling of the lines of the run, each of them a line of a journal; so
+    // it is read again.
     ensures done { result ≡ Status.Done
         → WritesAll (map (λ m. reading (counts m) (counted m)) meters.items)
         (S.remaining source.old) (K.contents sink.old) (K.contents sink.new) }
@@ -45,7 +46,8 @@ pub fn replay<S: Source, K: Sink>(
     // And what holds of every run: all laws of runs.
     ensures laws { (servers : ℕ) → LawsOfRuns servers }
 
-    // Meters change nothing of the journal but their own lines, and which lines are void for want of one.
+    // Meters change nothing of the journal but their own lines, and which lines are void for want
+    // of one.
     ensures alike { (servers : ℕ) → JournalsAreAlike servers }
 
     // When it ends how.
@@ -65,6 +67,7 @@ pub fn replay<S: Source, K: Sink>(
         → ¬ (Rose (S.faults source.old) (S.faults source.new))
         → EndsOnly result (Status.BadLine n f) }
     ensures usage { (n : ℕ) → result ≢ Status.Usage n }
+    ensures ends { IsFileEnd result }
     ensures complete { IsGoodInput (S.remaining source.old)
         → ¬ (Rose (S.faults source.old) (S.faults source.new))
         → ¬ (Rose (K.faults sink.old) (K.faults sink.new))

@@ -1,16 +1,18 @@
-//! Meters that are handed in, and sinks that fail in mid-stream.
+//! Meters that are handed in, sinks that fail in mid-stream, and nodes and calls over nets in
+//! memory.
 
 use super::*;
 use pg_call::Fault;
 use pg_event::MeterKind;
 use pg_io::{MemorySink, MemorySource};
 use pg_meter::{Counter, Note};
+use pg_net::{Datagram, MemoryClock, MemoryNet};
 use std::alloc::Global;
 use std::cell::Cell;
 use std::rc::Rc;
 use std::test::Fail;
 
-/// These words behind the program's name.
+/// The program's name, and these words behind it.
 fn command(alloc: Global, words: &[&str]) -> Result<Vec<String>, Fail> {
     let mut all = Vec::new(alloc);
     all.push(String::from_str(alloc, "pangaea")?)?;
@@ -63,7 +65,7 @@ impl Meter for Counted {
 #[test]
 fn drops_each_meter_once(rt: HostRuntime) -> Result<(), Fail> {
     let alloc = rt.alloc();
-    let rows: [(&[&str], &[u8], &[u64], Status); 9] = [
+    let rows: [(&[&str], &[u8], &[u64], Status); 11] = [
         (&[], METERED, &[], Status::Usage(1)),
         (&["replay"], METERED, &[], Status::Done),
         (&["replay", "--meters"], METERED, &[], Status::Done),
@@ -78,6 +80,18 @@ fn drops_each_meter_once(rt: HostRuntime) -> Result<(), Fail> {
         (&["make", "7", "2", "0"], b"", &[], Status::Done),
         (&["soak", "7", "2", "0"], b"", &[], Status::Done),
         (&["soak", "7", "2", "0"], b"", &[0], Status::WriteFault),
+        (
+            &["node", "1", "1", "9000", "one", "0"],
+            b"",
+            &[],
+            Status::TurnsSpent,
+        ),
+        (
+            &["call", "1", "9000", "status"],
+            b"",
+            &[],
+            Status::TurnsSpent,
+        ),
     ];
     for (words, input, failing, status) in rows {
         let words = command(alloc, words)?;
@@ -92,8 +106,147 @@ fn drops_each_meter_once(rt: HostRuntime) -> Result<(), Fail> {
             };
             meters.push(Box::new(alloc, meter)?)?;
         }
-        assert_eq!(rt; run(alloc, &words, &mut source, &mut sink, meters), status);
-        assert_eq!(rt; drops.get(), 3);
+        let mut net = MemoryNet::new(alloc, Vec::new(alloc), Vec::new(alloc));
+        let mut clock = MemoryClock::new(Vec::new(alloc), Vec::new(alloc));
+        let ended = run(
+            alloc,
+            &words,
+            &mut source,
+            &mut sink,
+            &mut net,
+            &mut clock,
+            meters,
+        );
+        assert!(rt; ended == status);
+        assert!(rt; drops.get() == 3);
+    }
+    Ok(())
+}
+
+/// How every packet of a client begins: the mark, the code, no server, no view, and number 1.
+const CALL: &[u8] = b"PG\x01\x1b\0\0\0\0\0\0\0\0\0\0\0\0\0\0\0\0\0\0\0\x01";
+
+/// How a reply of server 1 in view 0 begins: the mark, the code, the server, the view.
+const REPLY: &[u8] = b"PG\x01\x1c\0\0\0\x01\0\0\0\0\0\0\0\0";
+
+const MKDIR: &[u8] = b"\x01\0\x02/a";
+
+/// Numbers 1 and 2 of replies, that d1.1 was made, and that a path is bad in its first name.
+const FIRST: &[u8] = b"\0\0\0\0\0\0\0\x01";
+
+const SECOND: &[u8] = b"\0\0\0\0\0\0\0\x02";
+
+const MADE: &[u8] = b"\x02d\0\0\0\x01\0\0\0\0\0\0\0\x01";
+
+const BAD_PATH: &[u8] = b"\x09\x01\x01";
+
+/// A net that gives one packet of these parts, from port 700, and whose calls with these numbers
+/// fail.
+fn net_with(alloc: Global, parts: &[&[u8]], fails: &[u64]) -> Result<MemoryNet, Fail> {
+    let mut packets = Vec::new(alloc);
+    packets.push(Datagram::new(700, joined(alloc, parts)?))?;
+    Ok(MemoryNet::new(alloc, packets, fails.to_vec(alloc)?))
+}
+
+fn joined(alloc: Global, parts: &[&[u8]]) -> Result<Vec<u8>, Fail> {
+    let mut bytes = Vec::new(alloc);
+    for part in parts {
+        bytes.extend_from_slice(part)?;
+    }
+    Ok(bytes)
+}
+
+/// Whether just one packet was sent, to this port, of these parts.
+fn sent(alloc: Global, net: &MemoryNet, port: u16, parts: &[&[u8]]) -> Result<bool, Fail> {
+    let bytes = joined(alloc, parts)?;
+    let [packet] = net.sent() else {
+        return Ok(false);
+    };
+    Ok(packet.port() == port && packet.bytes() == bytes.as_slice())
+}
+
+/// How the words end over this net, at moment 10, and whether just this was written.
+fn ends(
+    alloc: Global,
+    words: &[&str],
+    net: &mut MemoryNet,
+    written: &[u8],
+) -> Result<(Status, bool), Fail> {
+    let words = command(alloc, words)?;
+    let mut source = MemorySource::new(Vec::new(alloc), Vec::new(alloc));
+    let mut sink = MemorySink::new(alloc, Vec::new(alloc));
+    let mut moments = Vec::new(alloc);
+    moments.push(10u64)?;
+    let mut clock = MemoryClock::new(moments, Vec::new(alloc));
+    let status = run(
+        alloc,
+        &words,
+        &mut source,
+        &mut sink,
+        net,
+        &mut clock,
+        Vec::new(alloc),
+    );
+    Ok((status, sink.bytes() == written))
+}
+
+/// A node answers the one call that comes, and ends behind two takes; the calls of the net that
+/// fail end it.
+#[test]
+fn a_node_answers(rt: HostRuntime) -> Result<(), Fail> {
+    let alloc = rt.alloc();
+    let words: &[&str] = &["node", "1", "1", "9000", "n", "2"];
+    let mut net = net_with(alloc, &[CALL, MKDIR], &[])?;
+    assert!(rt; ends(alloc, words, &mut net, b"")? == (Status::TurnsSpent, true));
+    assert!(rt; net.bound() == Some(9001) && net.takes() == 2);
+    assert!(rt; sent(alloc, &net, 700, &[REPLY, FIRST, MADE])?);
+    for failing in 0..3u64 {
+        let mut net = net_with(alloc, &[CALL, MKDIR], &[failing])?;
+        assert!(rt; ends(alloc, words, &mut net, b"")? == (Status::NetFault, true));
+        assert!(rt; net.sent().is_empty());
+    }
+    Ok(())
+}
+
+/// A call writes the reply of its number, and ends by it.
+#[test]
+fn a_call_is_answered(rt: HostRuntime) -> Result<(), Fail> {
+    let alloc = rt.alloc();
+    let words: &[&str] = &["call", "1", "9000", "mkdir", "/a"];
+    let rows: [(&[&[u8]], &[u8], Status); 3] = [
+        (&[REPLY, FIRST, MADE], b"made d1.1\n", Status::Done),
+        (&[REPLY, SECOND, MADE], b"", Status::TurnsSpent),
+        (
+            &[REPLY, FIRST, BAD_PATH],
+            b"refused 1 BadPath 1\n",
+            Status::Refused(1),
+        ),
+    ];
+    for (parts, written, status) in rows {
+        let mut net = net_with(alloc, parts, &[])?;
+        assert!(rt; ends(alloc, words, &mut net, written)? == (status, true));
+        assert!(rt; sent(alloc, &net, 9001, &[CALL, MKDIR])?);
+    }
+    Ok(())
+}
+
+/// Words at fault touch no net and write nothing.
+#[test]
+fn words_at_fault(rt: HostRuntime) -> Result<(), Fail> {
+    let alloc = rt.alloc();
+    let rows: [(&[&str], u64); 7] = [
+        (&["replay", "x"], 2),
+        (&["make", "7", "2"], 4),
+        (&["make", "7", "0", "5"], 3),
+        (&[], 1),
+        (&["node", "2", "1", "9000", "one", "1"], 2),
+        (&["node", "1", "1", "9000", "One", "1"], 5),
+        (&["call", "1", "9000", "mkdir"], 5),
+    ];
+    for (words, place) in rows {
+        let mut net = net_with(alloc, &[CALL, MKDIR], &[])?;
+        assert!(rt; ends(alloc, words, &mut net, b"")? == (Status::Usage(place), true));
+        assert!(rt; net.bound() == None && net.takes() == 0);
     }
     Ok(())
 }

@@ -11,10 +11,12 @@ use std::marker::Model;
 /// A block is given no further item when it has so many.
 const FULL: usize = 512;
 
-/// Items in order. They lie in blocks of at most 512, in order too, so that taking one from the middle moves at most 256
-/// others, and adding one moves none: a block has memory for as many from the first on. To find an item the lengths of the blocks before it are read: two
-/// for each thousand items, where none were taken from the middle. A block that becomes empty goes. One that has items
-/// left stays as it is, so there are never more blocks than one for each 512 items that were added since the bag was empty.
+/// Items in order. They lie in blocks of at most 512, in order too, so that taking one from the
+/// middle moves at most 256 others, and adding one moves none: a block has memory for as many from
+/// the first on. To find an item the lengths of the blocks before it are read: two for each
+/// thousand items, where none were taken from the middle. A block that becomes empty goes. One that
+/// has items left stays as it is, so there are never more blocks than one for each 512 items that
+/// were added since the bag was empty.
 #[derive(Debug, Drop)]
 pub struct Bag<T> {
     alloc: Global,

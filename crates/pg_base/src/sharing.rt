@@ -35,7 +35,7 @@ impl<T: Drop> Shared<T> {
         &self.shared
     }
 
-    /// The same value again. Nothing is moved, however large it is.
+    /// Copies the value. Nothing is moved, however large it is.
     pub fn copy(&self) -> Result<Self, AllocError>
         ensures { IfOk result (λ s. s ≡ self.now) }
     {

@@ -32,7 +32,7 @@ pub enum Call {
         path: SharedBytes,
         policy: Policy,
     },
-    /// These bytes stand at the offset from then on, over what stood there.
+    /// Bytes stand at the offset from then on, over what stood there.
     Write {
         path: SharedBytes,
         offset: u32,
@@ -121,7 +121,7 @@ pub enum CallKind {
 }
 
 impl Target {
-    /// The same target again. A path's text is shared.
+    /// Copies the target. A path's text is shared.
     pub fn copy(&self) -> Result<Target, AllocError>
         ensures { IfOk result (λ t. t ≡ self.now) }
     {
@@ -157,7 +157,7 @@ impl Call {
         }
     }
 
-    /// The same call again. Bytes and the texts of paths are shared.
+    /// Copies the call. Bytes and the texts of paths are shared.
     pub fn copy(&self) -> Result<Call, AllocError>
         ensures { IfOk result (λ c. c ≡ self.now) }
     {

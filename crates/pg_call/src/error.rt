@@ -12,7 +12,7 @@ use thiserror::Error;
 pub enum WordsError {
     #[error("out of memory")]
     OutOfMemory,
-    /// They are outside the grammar, for this cause.
+    /// The words are outside the grammar, for this cause.
     #[error("{0}")]
     Bad(Fault),
 }

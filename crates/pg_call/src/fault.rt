@@ -5,18 +5,18 @@ use std::fmt;
 /// Why a line is outside the grammar: the first of these that holds of it.
 #[derive(Clone, Copy, Debug, PartialEq, Eq)]
 pub enum Fault {
-    /// It has a byte that is no printable ASCII, which goes from 0x20 to 0x7E.
+    /// The line has a byte that is no printable ASCII, which goes from 0x20 to 0x7E.
     Byte,
-    /// It has more than 70,000 bytes, its line feed not counted.
+    /// The line has more than 70,000 bytes, its line feed not counted.
     Long,
     /// The text ends where its line feed should stand. A text of no byte has no line that could be
     /// ended.
     End,
-    /// It is the first line, and does not name the format and from 1 to 64 servers.
+    /// The line is the first, and does not name the format and from 1 to 64 servers.
     Header,
-    /// Its first word is no verb.
+    /// The first word is no verb.
     Verb,
-    /// Its words are not as many as the verb's, or one of them is empty.
+    /// The words are not as many as the verb's, or one of them is empty.
     Words,
     /// The leftmost bad word is to be a number: not decimal, with a zero in front, or too great.
     Number,

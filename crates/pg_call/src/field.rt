@@ -80,7 +80,7 @@ pub fn bytes_of(alloc: Global, word: &[u8]) -> Result<SharedBytes, WordsError>
     }
 }
 
-/// The same, as the bytes of one write.
+/// The payload of one write that the word spells.
 pub fn payload_of(alloc: Global, word: &[u8]) -> Result<Payload, WordsError>
     ensures found { IfOk result (λ b. IsPayload b × (word.now ≡ hex_word b)) }
     ensures bad { IfErr result (λ e. (f : Fault) → e ≡ Bad f → f ≡ fault.Hex) }

@@ -45,7 +45,7 @@ impl Payload {
         &self.bytes
     }
 
-    /// The same bytes again. Nothing is moved.
+    /// Copies the bytes. Nothing is moved.
     pub fn copy(&self) -> Result<Payload, AllocError>
         ensures { IfOk result (λ p. p ≡ self.now) }
     {
@@ -74,7 +74,7 @@ impl Model for ReadCount {
 }
 
 impl ReadCount {
-    /// So many, where they are not too many.
+    /// The number of bytes to read, where it is not above the limit.
     pub fn new(count: u32) -> Option<ReadCount>
         ensures found { IfSome result (λ c. c ≡ count) }
         ensures none { IsNone result ↔ (32768 < count) }

@@ -41,15 +41,15 @@ pub enum Refusal {
     /// The server's clock is at its end: its greatest time, a counter, or a number of its own in
     /// the file, is 2^62 or more.
     ClockEnd,
-    /// This is not held here, or is held and not full.
+    /// The thing with this id is not held here, or is held and not full.
     NotYet(FileId),
     /// The directory does not show the component with this number.
     NoName(u8),
     /// The component with this number is a file where a directory is needed.
     NotDir(u8),
-    /// It is a directory where a file is needed.
+    /// The call's thing is a directory where a file is needed.
     IsDir,
-    /// It is the root.
+    /// The call's thing is the root.
     Root,
     /// The new name is shown by this.
     Exists(FileId),
@@ -67,7 +67,7 @@ pub enum Refusal {
     IsGold,
     /// No other gold replica is known to have all that this one has.
     LastGold,
-    /// This has a live place in the directory.
+    /// The thing with this id has a live place in the directory.
     HasChild(FileId),
     /// Something about this is not settled with the peer: an intention with its target, or a cell.
     Unsettled {
@@ -75,7 +75,7 @@ pub enum Refusal {
         id: FileId,
         peer: NodeId,
     },
-    /// It is held here, and full.
+    /// The call's thing is held here, and full.
     Held,
     /// The server is in this view, and the one asked for is not the next, or not of another live
     /// server.

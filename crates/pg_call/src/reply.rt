@@ -46,21 +46,21 @@ pub struct Counts {
 /// one.
 #[derive(Debug, Drop)]
 pub enum Reply {
-    /// It was done.
+    /// The call was done.
     Done,
-    /// This was made.
+    /// The thing with this id was made.
     Made(FileId),
     /// The version with this stamp was made.
     Wrote(Stamp),
-    /// These bytes are shown.
+    /// The bytes that are shown.
     Bytes(SharedBytes),
-    /// So many names are shown in all, and these are some of them, at most 100.
+    /// The number of all names that are shown, and some of them, at most 100.
     Names { total: u32, rows: Items<Row> },
     Stat(Shared<Stat>),
     /// The replica goes once this server has given leave.
     Leaving(NodeId),
     Status(Shared<Counts>),
-    /// It was not done, and this is why.
+    /// The call was not done, and this is why.
     Refused(Refusal),
 }
 
@@ -79,7 +79,7 @@ pub enum ReplyKind {
 }
 
 impl Reply {
-    /// The same reply again. What is large is shared.
+    /// Copies the reply. What is large is shared.
     pub fn copy(&self, alloc: Global) -> Result<Reply, AllocError>
         ensures { IfOk result (λ r. r ≡ self.now) }
     {
@@ -100,7 +100,7 @@ impl Reply {
     }
 }
 
-/// The same rows again.
+/// Copies the rows.
 fn copy_rows(alloc: Global, rows: &Items<Row>) -> Result<Items<Row>, AllocError>
     ensures { IfOk result (λ v. v ≡ rows.now) }
 {

@@ -1,4 +1,5 @@
--- Which directories have a cell for a thing; and that the latest place, where it is live, is that of a cell.
+-- Which directories have a cell for a thing; and that the latest place, where it is live, is that
+-- of a cell.
 use Rattle.std.proofs.Common.{◌≡◌, Bool, true, false, cond, Option, None, Some, is_some, refl, sym, ap, ◌∙◌}
 use Rattle.std.proofs.lemmas.Bool.{false≢true}
 use Rattle.std.proofs.lemmas.Option.{none-some}

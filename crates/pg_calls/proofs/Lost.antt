@@ -1,4 +1,5 @@
--- What is lost: the directory by whose cell a file is struck out, and the clock; and the view that comes next.
+-- What is lost: the directory by whose cell a file is struck out, and the clock; and the view that
+-- comes next.
 use Rattle.std.proofs.Common.{ℕ, zero, suc, ◌≡◌, ◌==◌, ◌+◌, ◌-◌, Bool, true, false, cond, List, ◌∷◌, Option, Ok, filter, refl, sym, arith}
 use Rattle.std.proofs.lemmas.Bool.{eq-eqb, eqb-false, eqb-true, ne_eqb}
 use Rattle.pg_base.specs.declared.id.FileId.{FileId}

@@ -1,5 +1,5 @@
--- What walks and checks of things lead to: it is held and full, and a directory or a file where that
--- was asked.
+-- What walks and checks of things lead to: it is held and full, and a directory or a file where
+-- that was asked.
 use Rattle.std.proofs.Common.{ℕ, ◌≡◌, ◌+◌, ◌||◌, not, Bool, true, false, if◌then◌else◌, List, [], ◌∷◌, Option, None, Some, Ok, Err, refl, sym, ap, subst, ◌∙◌}
 use Rattle.std.proofs.lemmas.Bool.{false≢true}
 use Rattle.std.specs.Option.{is_some}

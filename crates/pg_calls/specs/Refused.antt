@@ -45,8 +45,8 @@ abbrev pub LateDoesNothing : Store → Call → Work → Type 0
 LateDoesNothing store call work = is_before_clock_end store ≡ false
     → ((do_call store call work).store ≡ store) × ((do_call store call work).work ≡ work)
 
--- what a call came to and is filling is asked for as its Fill asks: where that stands no wish is kept,
--- and no birth is given out
+-- what a call came to and is filling is asked for as its Fill asks: where that stands no wish is
+-- kept, and no birth is given out
 abbrev pub FilledKeepsNoWish : Store → Call → Work → FileId → Type 0
 FilledKeepsNoWish store call work file = stands store.intents (key.Fill file) ≡ true
     → (do_call store call work).reply ≡ Refused (NotYet file)

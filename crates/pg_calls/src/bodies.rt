@@ -15,8 +15,8 @@ use pg_patch::{RangeError, Ranges, cut as cut_to, make};
 use pg_store::Store;
 use std::alloc::{AllocError, Global};
 
-/// The bytes stand at the offset from then on, over what stood there. Where that is refused nothing changes. After out of
-/// memory a part may be done.
+/// The bytes stand at the offset from then on, over what stood there. Where that is refused nothing
+/// changes. After out of memory a part may be done.
 pub(crate) fn write(
     store: &mut Store,
     text: &[u8],
@@ -36,8 +36,8 @@ pub(crate) fn write(
     Ok(reply)
 }
 
-/// The body has this length from then on: it is cut, or has zeros behind it. Where that is refused nothing changes. After
-/// out of memory a part may be done.
+/// The body has this length from then on: it is cut, or has zeros behind it. Where that is refused
+/// nothing changes. After out of memory a part may be done.
 pub(crate) fn cut(
     store: &mut Store,
     text: &[u8],
@@ -92,7 +92,8 @@ fn shown_part(
     }
 }
 
-/// The ranges of these bytes at the offset. They are too long where they would make every body too long.
+/// The ranges of these bytes at the offset. They are too long where they would make every body too
+/// long.
 fn write_ranges(alloc: Global, offset: u32, bytes: &Payload) -> Result<Ranges, RangeError>
     ensures { Makes result (written offset bytes.now) }
 {
@@ -106,8 +107,8 @@ fn cut_ranges(alloc: Global, length: u32) -> Result<Ranges, RangeError>
     cut_to(alloc, length)
 }
 
-/// A version of the file that the path leads to is made with these ranges. What refuses the path comes before what refuses
-/// the ranges.
+/// A version of the file that the path leads to is made with these ranges. What refuses the path
+/// comes before what refuses the ranges.
 #[tactic(auto, using(crate::proofs::Denials::store_is, crate::proofs::Denials::work_is, crate::proofs::Denials::reply_is))]
 fn change(
     store: &mut Store,
@@ -128,7 +129,7 @@ fn change(
     }
 }
 
-/// The same of a file that is there.
+/// A version of a file that is there is made with these ranges.
 fn change_file(
     store: &mut Store,
     file: FileId,
@@ -150,8 +151,9 @@ fn change_file(
     }
 }
 
-/// The same of ranges that are made: the new body is not too long, and then the new vector has not too many actors. What is
-/// held has a replica: where it had none it is as if memory ran out.
+/// A version is made with ranges that are made: the new body is not too long, and then the new
+/// vector has not too many actors. What is held has a replica: where it had none it is as if memory
+/// ran out.
 fn change_where_fit(
     store: &mut Store,
     file: FileId,

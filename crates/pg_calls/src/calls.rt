@@ -15,8 +15,8 @@ use pg_msg::Work;
 use pg_store::Store;
 use std::alloc::AllocError;
 
-/// A client calls the server. A call that is refused changes nothing, but that what is not here yet is asked for. Where
-/// memory ran out a part may be done.
+/// A client calls the server. A call that is refused changes nothing, but that what is not here yet
+/// is asked for. Where memory ran out a part may be done.
 pub fn do_call(store: &mut Store, call: &Call, work: &mut Work) -> Result<Reply, AllocError>
     ensures store { OnOk result (store.new ≡ (do_call store.old call.now work.old).store) }
     ensures work { OnOk result (work.new ≡ (do_call store.old call.now work.old).work) }

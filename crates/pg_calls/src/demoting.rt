@@ -14,7 +14,8 @@ use pg_register::Flag;
 use pg_store::Store;
 use std::alloc::AllocError;
 
-/// Whether this is the flag of a live gold replica to which there is an edge with nothing unacknowledged.
+/// Whether this is the flag of a live gold replica to which there is an edge with nothing
+/// unacknowledged.
 pub(crate) fn is_clean_gold(store: &Store, file: &FileId, flag: &Flag) -> bool
     ensures { result ≡ is_clean_gold store.now file.now flag.now }
 {
@@ -56,7 +57,8 @@ fn unless_last(store: &Store, file: FileId) -> Result<FileId, CallError>
     Ok(file)
 }
 
-/// What is to be bronze, also where it is not gold: no root, and not without a clean edge to a live gold replica.
+/// What is to be bronze, also where it is not gold: no root, and not without a clean edge to a live
+/// gold replica.
 fn demoted_at(store: &Store, target: &Target) -> Result<FileId, CallError>
     ensures { Tells result (demoted_at store.now target.now) }
 {
@@ -64,7 +66,8 @@ fn demoted_at(store: &Store, target: &Target) -> Result<FileId, CallError>
     unless_last(store, file)
 }
 
-/// The server lowers its flag of a held thing, where it is raised. After out of memory a part may be done.
+/// The server lowers its flag of a held thing, where it is raised. After out of memory a part may
+/// be done.
 fn lower(store: &mut Store, file: FileId, work: &mut Work) -> Result<(), AllocError>
     ensures store { OnOk result (store.new ≡ (lowered store.old file work.old).store) }
     ensures work { OnOk result (work.new ≡ (lowered store.old file work.old).work) }
@@ -75,8 +78,8 @@ fn lower(store: &mut Store, file: FileId, work: &mut Work) -> Result<(), AllocEr
     Ok(())
 }
 
-/// A replica is to be bronze. Where that is refused nothing changes, but that what is not here yet is asked for. After out
-/// of memory a part may be done.
+/// A replica is to be bronze. Where that is refused nothing changes, but that what is not here yet
+/// is asked for. After out of memory a part may be done.
 #[tactic(auto, using(crate::proofs::Denials::store_is, crate::proofs::Denials::work_is, crate::proofs::Denials::reply_is))]
 pub(crate) fn demote(
     store: &mut Store,

@@ -53,7 +53,7 @@ fn clean_gold(store: &Store, file: &FileId) -> Option<Flag>
     }
 }
 
-/// It is asked for leave.
+/// Asks the least live gold to which a clean edge leads for leave.
 fn leave(store: &mut Store, file: FileId, work: &mut Work) -> Result<Reply, AllocError>
     ensures store { OnOk result (store.new
         ≡ (leaving store.old file work.old (clean_gold store.old file)).store) }
@@ -74,8 +74,9 @@ fn leave(store: &mut Store, file: FileId, work: &mut Work) -> Result<Reply, Allo
     Ok(Reply::Leaving(flag.server))
 }
 
-/// A replica is to go: the least live gold to which a clean edge leads is asked for leave. Where that is refused nothing
-/// changes, but that what is not here yet is asked for. After out of memory a part may be done.
+/// A replica is to go: the least live gold to which a clean edge leads is asked for leave. Where
+/// that is refused nothing changes, but that what is not here yet is asked for. After out of memory
+/// a part may be done.
 #[tactic(auto, using(crate::proofs::Denials::store_is, crate::proofs::Denials::work_is, crate::proofs::Denials::reply_is))]
 pub(crate) fn drop(store: &mut Store, target: &Target, work: &mut Work) -> Result<Reply, AllocError>
     ensures store { OnOk result (store.new ≡ (drop store.old target.now work.old).store) }

@@ -136,7 +136,8 @@ fn later(names: &Names, id: FileId, first: Option<FileId>, dir: &FileId) -> Opti
     first
 }
 
-/// The same, where this one lists the thing.
+/// Picks of a directory so far and this one the one whose cell for a thing has the later place,
+/// where this one lists the thing.
 fn later_listing(names: &Names, id: FileId, first: Option<FileId>, dir: &FileId) -> Option<FileId>
     ensures { result ≡ later_listing names.now id first dir.now }
 {
@@ -146,7 +147,7 @@ fn later_listing(names: &Names, id: FileId, first: Option<FileId>, dir: &FileId)
     first
 }
 
-/// Of these directories the one whose cell for the thing has the latest place, of those that list it.
+/// The directory among these whose cell for the thing has the latest place, of those that list it.
 fn last_listing(names: &Names, id: FileId, dirs: &[FileId]) -> Option<FileId>
     ensures { result ≡ last_listing names.now id dirs.now }
 {
@@ -157,7 +158,7 @@ fn last_listing(names: &Names, id: FileId, dirs: &[FileId]) -> Option<FileId>
     latest
 }
 
-/// Of these directories the one whose cell for the thing has the latest place.
+/// The directory among these whose cell for the thing has the latest place.
 fn last_cell(names: &Names, id: FileId, dirs: &[FileId]) -> Option<FileId>
     ensures { result ≡ latest names.now id None dirs.now }
 {
@@ -188,7 +189,7 @@ fn mark(
     Ok(())
 }
 
-/// So of these directories, one behind another.
+/// The cells of these directories for a thing that is not held take a place, one behind another.
 fn mark_each(
     store: &mut Store,
     id: FileId,
@@ -224,7 +225,8 @@ fn dead_at(store: &Store, moment: u64, id: FileId, dir: FileId) -> Result<Place,
     })
 }
 
-/// Of a file that is not held the cells in these directories take a dead place, which is made. The wish for it ends.
+/// Of a file that is not held the cells in these directories take a dead place, which is made. The
+/// wish for it ends.
 fn strike_from(
     store: &mut Store,
     id: FileId,
@@ -248,7 +250,8 @@ fn strike_from(
     mark_each(store, id, &place, dirs, work)
 }
 
-/// A file that is not held, and that a held directory lists, has a dead place from then on, wherever it is known.
+/// A file that is not held, and that a held directory lists, has a dead place from then on,
+/// wherever it is known.
 fn strike_out(store: &mut Store, id: FileId, work: &mut Work) -> Result<(), AllocError>
     requires { store.old.names.last < 2 ^ 63 }
     ensures store { OnOk result (store.new ≡ (strike_out store.old id work.old).store) }
@@ -278,7 +281,8 @@ fn has_patch_to(intents: &Intents, id: FileId) -> bool
     intents.iter().any(|intent| is_patch_to(intent, id))
 }
 
-/// Whether a held cell, a Fill or a Patch names a directory. These are the held directories that have a cell for it.
+/// Whether a held cell, a Fill or a Patch names a directory. These are the held directories that
+/// have a cell for it.
 fn is_wanted(store: &Store, id: FileId, dirs: &[FileId]) -> bool
     ensures { result ≡ is_wanted_by store.now id dirs.now }
 {
@@ -315,12 +319,14 @@ fn begin_with(store: &mut Store, id: FileId, own: Attributes) -> Result<(), Allo
     ensures { OnOk result (store.new ≡ begun_with store.old id own) }
 {
     let birth = store.draw_birth()?;
-    // A Fill of the directory has another birth: it ends, as a wish does, and its birth never begins.
+    // A Fill of the directory has another birth: it ends, as a wish does, and its birth never
+    // begins.
     store.intents.end(&IntentKey::Fill { file: id });
     store.begin(id, birth, Policy::Last, own, true)
 }
 
-/// It begins in the root. Where a stamp was told that is later than any that is drawn, it is as if memory ran out.
+/// A directory begins anew in the root. Where a stamp was told that is later than any that is
+/// drawn, it is as if memory ran out.
 fn begin_in_root(store: &mut Store, id: FileId, work: &mut Work) -> Result<(), AllocError>
     ensures store { OnOk result (store.new ≡ (begun_at store.old id work.old None).store) }
     ensures work { OnOk result (work.new ≡ (begun_at store.old id work.old None).work) }
@@ -333,7 +339,7 @@ fn begin_in_root(store: &mut Store, id: FileId, work: &mut Work) -> Result<(), A
     place_in_root(store, id, work)
 }
 
-/// It begins where it is known to be live, and else in the root.
+/// A directory begins anew where it is known to be live, and else in the root.
 fn begin_at(
     store: &mut Store,
     id: FileId,
@@ -352,8 +358,8 @@ fn begin_at(
     }
 }
 
-/// A directory that is not held, and that is wanted, begins anew, full and gold: where it is known to be live, and else in
-/// the root.
+/// A directory that is not held, and that is wanted, begins anew, full and gold: where it is known
+/// to be live, and else in the root.
 fn begin_lost(store: &mut Store, id: FileId, work: &mut Work) -> Result<(), AllocError>
     ensures store { OnOk result (store.new ≡ (begin_lost store.old id work.old).store) }
     ensures work { OnOk result (work.new ≡ (begin_lost store.old id work.old).work) }
@@ -383,9 +389,9 @@ fn forget_lost(store: &mut Store, id: FileId, work: &mut Work) -> Result<(), All
     }
 }
 
-/// What was lost is given up: a filling replica is full as it is, a file that is not held and is listed is taken away, and
-/// a directory that is not held and is wanted begins anew. Where it is refused nothing changes. After out of memory a part
-/// may be done.
+/// What was lost is given up: a filling replica is full as it is, a file that is not held and is
+/// listed is taken away, and a directory that is not held and is wanted begins anew. Where it is
+/// refused nothing changes. After out of memory a part may be done.
 #[tactic(auto, using(crate::proofs::Denials::store_is, crate::proofs::Denials::work_is, crate::proofs::Denials::reply_is))]
 pub(crate) fn forget(store: &mut Store, id: FileId, work: &mut Work) -> Result<Reply, AllocError>
     ensures store { OnOk result (store.new ≡ (forget store.old id work.old).store) }

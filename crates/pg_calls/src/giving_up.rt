@@ -54,7 +54,7 @@ fn add_cells(names: &Names, dir: FileId, slots: &mut Items<Slot>) -> Result<(), 
     push_slots(held, dir, slots)
 }
 
-/// Those of what is held of it.
+/// Adds the cells of a directory that is held, by child.
 fn push_slots(held: &Inode, dir: FileId, slots: &mut Items<Slot>) -> Result<(), AllocError>
     ensures { OnOk result
         (slots.new ≡ slots.old ++ slots_to dir (keys_of held.now.entries)) }
@@ -65,7 +65,7 @@ fn push_slots(held: &Inode, dir: FileId, slots: &mut Items<Slot>) -> Result<(), 
     Ok(())
 }
 
-/// Those of these directories, one behind another.
+/// Adds the cells of these directories, one behind another.
 fn push_cells(names: &Names, dirs: &[FileId], slots: &mut Items<Slot>) -> Result<(), AllocError>
     ensures { OnOk result (slots.new ≡ slots.old ++ flat_map (cells_of names.now) dirs.now) }
 {
@@ -83,7 +83,8 @@ fn doubt_all(store: &Store, work: &mut Work) -> Result<(), AllocError>
     push_cells(&store.names, dirs.as_slice(), &mut work.unsure)
 }
 
-/// The server enters the next view, in which this one is removed. After out of memory a part may be done.
+/// The server enters the next view, in which this one is removed. After out of memory a part may be
+/// done.
 fn enter_view(store: &mut Store, server: NodeId, work: &mut Work) -> Result<(), AllocError>
     ensures store { OnOk result (store.new ≡ (enter_view store.old server work.old).store) }
     ensures work { OnOk result (work.new ≡ (enter_view store.old server work.old).work) }
@@ -93,7 +94,8 @@ fn enter_view(store: &mut Store, server: NodeId, work: &mut Work) -> Result<(), 
     invite_all(store, work)
 }
 
-/// The server gives another one up: it enters the next view. After out of memory a part may be done.
+/// The server gives another one up: it enters the next view. After out of memory a part may be
+/// done.
 #[tactic(auto, using(crate::proofs::Denials::store_is, crate::proofs::Denials::work_is, crate::proofs::Denials::reply_is))]
 pub(crate) fn giveup(
     store: &mut Store,

@@ -7,8 +7,8 @@ ghost use Rattle.pg_call.specs.declared.refusal.Refusal.{Refusal};
 ghost use Rattle.pg_store.specs.declared.store.Store.{Store};
 ghost use Rattle.pg_calls.specs.Refused.{FilledKeepsNoWish, LateDoesNothing, RefusedOnlyAsks};
 
-/// A call that is refused changes nothing. Where it came to what is not held and full, and for that reason alone, one fetch may
-/// be sent, and a wish with a fresh birth be kept.
+/// A call that is refused changes nothing. Where it came to what is not held and full, and for that
+/// reason alone, one fetch may be sent, and a wish with a fresh birth be kept.
 pub fn refused_calls_only_ask()
     ensures { (store : Store) (call : Call) (work : Work) (why : Refusal)
         → RefusedOnlyAsks store call work why }

@@ -20,7 +20,8 @@ use std::alloc::AllocError;
 /// The most names that one reply has.
 const MOST_NAMES: usize = 100;
 
-/// The names in a directory from this position on, at most 100 of them, and how many there are in all.
+/// The names in a directory from this position on, at most 100 of them, and how many there are in
+/// all.
 #[tactic(auto, using(crate::proofs::Denials::store_is, crate::proofs::Denials::work_is, crate::proofs::Denials::reply_is))]
 pub(crate) fn ls(
     store: &mut Store,
@@ -47,7 +48,8 @@ fn listing(store: &Store, dir: FileId) -> Result<Items<Row>, AllocError>
     }
 }
 
-/// So many names in all, and those from a position on. More than a reply can count are as if memory ran out.
+/// The number of all names, and the names from a position on. More than a reply can count are as if
+/// memory ran out.
 fn page(rows: Items<Row>, from: u32) -> Result<Reply, AllocError>
     ensures { IfOk result (λ r. r ≡ page rows from) }
 {
@@ -69,7 +71,8 @@ fn rows_from(rows: Items<Row>, from: u32) -> Result<Items<Row>, AllocError>
     Ok(Items::from_vec(page))
 }
 
-/// Done, where every version of a file that was announced is here; else the least of the others is told.
+/// Done, where every version of a file that was announced is here; else the least of the others is
+/// told.
 fn freshness(first: Option<Stamp>) -> Reply
     ensures { result ≡ freshness first }
 {

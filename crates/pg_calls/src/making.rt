@@ -16,7 +16,8 @@ use pg_register::Place;
 use pg_store::Store;
 use std::alloc::{AllocError, Global};
 
-/// The stamp that the server draws next, at this moment. The clock does not move before what has the stamp is taken.
+/// The stamp that the server draws next, at this moment. The clock does not move before what has
+/// the stamp is taken.
 pub(crate) fn next_stamp(store: &Store, moment: u64) -> Stamp
     requires { store.now.names.last < 2 ^ 63 }
     ensures { result ≡ drawn store.now moment }
@@ -52,8 +53,9 @@ pub(crate) fn make_place(
     Ok(())
 }
 
-/// A version of what the ranges make of what is shown of the file is made on all heads, and is the only head from then on.
-/// Where that is refused nothing changes. After out of memory a part may be done.
+/// A version of what the ranges make of what is shown of the file is made on all heads, and is the
+/// only head from then on. Where that is refused nothing changes. After out of memory a part may be
+/// done.
 pub(crate) fn make_version(
     store: &mut Store,
     file: FileId,

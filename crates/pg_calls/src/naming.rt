@@ -19,8 +19,8 @@ use pg_register::Place;
 use pg_store::{COUNTER_LIMIT, Store};
 use std::alloc::AllocError;
 
-/// A new directory. Where it is refused nothing changes, but that what is not here yet is asked for. After out of memory
-/// a part may be done.
+/// A new directory. Where it is refused nothing changes, but that what is not here yet is asked
+/// for. After out of memory a part may be done.
 #[tactic(auto, using(crate::proofs::Denials::store_is, crate::proofs::Denials::work_is, crate::proofs::Denials::reply_is))]
 pub(crate) fn mkdir(store: &mut Store, text: &[u8], work: &mut Work) -> Result<Reply, AllocError>
     ensures store { OnOk result (store.new ≡ (mkdir store.old text.now work.old).store) }
@@ -37,8 +37,8 @@ pub(crate) fn mkdir(store: &mut Store, text: &[u8], work: &mut Work) -> Result<R
     }
 }
 
-/// A new file with this policy and an empty version. Where it is refused nothing changes, but that what is not here yet is
-/// asked for. After out of memory a part may be done.
+/// A new file with this policy and an empty version. Where it is refused nothing changes, but that
+/// what is not here yet is asked for. After out of memory a part may be done.
 #[tactic(auto, using(crate::proofs::Denials::store_is, crate::proofs::Denials::work_is, crate::proofs::Denials::reply_is))]
 pub(crate) fn create(
     store: &mut Store,
@@ -62,8 +62,8 @@ pub(crate) fn create(
     }
 }
 
-/// A thing gets a new place. Where that is refused nothing changes, but that what is not here yet is asked for. After out
-/// of memory a part may be done.
+/// A thing gets a new place. Where that is refused nothing changes, but that what is not here yet
+/// is asked for. After out of memory a part may be done.
 #[tactic(auto, using(crate::proofs::Denials::store_is, crate::proofs::Denials::work_is, crate::proofs::Denials::reply_is))]
 pub(crate) fn rename(
     store: &mut Store,
@@ -84,8 +84,8 @@ pub(crate) fn rename(
     }
 }
 
-/// A file is taken away. Where that is refused nothing changes, but that what is not here yet is asked for. After out of
-/// memory a part may be done.
+/// A file is taken away. Where that is refused nothing changes, but that what is not here yet is
+/// asked for. After out of memory a part may be done.
 #[tactic(auto, using(crate::proofs::Denials::store_is, crate::proofs::Denials::work_is, crate::proofs::Denials::reply_is))]
 pub(crate) fn unlink(store: &mut Store, text: &[u8], work: &mut Work) -> Result<Reply, AllocError>
     ensures store { OnOk result (store.new ≡ (unlink store.old text.now work.old).store) }
@@ -101,8 +101,8 @@ pub(crate) fn unlink(store: &mut Store, text: &[u8], work: &mut Work) -> Result<
     }
 }
 
-/// A directory that shows no name is taken away. Where it is refused nothing changes, but that what is not here yet is
-/// asked for. After out of memory a part may be done.
+/// A directory that shows no name is taken away. Where it is refused nothing changes, but that what
+/// is not here yet is asked for. After out of memory a part may be done.
 #[tactic(auto, using(crate::proofs::Denials::store_is, crate::proofs::Denials::work_is, crate::proofs::Denials::reply_is))]
 pub(crate) fn rmdir(store: &mut Store, text: &[u8], work: &mut Work) -> Result<Reply, AllocError>
     ensures store { OnOk result (store.new ≡ (rmdir store.old text.now work.old).store) }
@@ -118,8 +118,9 @@ pub(crate) fn rmdir(store: &mut Store, text: &[u8], work: &mut Work) -> Result<R
     }
 }
 
-/// The directory and the name of a thing that is to be made, under the id that the server gives out next. Where ids are at
-/// their end the clock is too, so that the call is refused whatever the id is.
+/// The directory and the name of a thing that is to be made, under the id that the server gives out
+/// next. Where ids are at their end the clock is too, so that the call is refused whatever the id
+/// is.
 fn name_for_new(store: &Store, kind: Kind, text: &[u8]) -> Result<NewName, CallError>
     ensures { Tells result (new_name store.now (next_id store.now kind) text.now) }
 {
@@ -158,7 +159,8 @@ fn place_in(store: &Store, moment: u64, new: NewName) -> Place
     }
 }
 
-/// A full replica of a new thing with this id begins, under a fresh birth. It has a place, and the server's raised flag.
+/// A full replica of a new thing with this id begins, under a fresh birth. It has a place, and the
+/// server's raised flag.
 fn make_thing(
     store: &mut Store,
     id: FileId,
@@ -190,8 +192,9 @@ fn begin_thing(store: &mut Store, id: FileId, policy: Policy) -> Result<(), Allo
     Ok(())
 }
 
-/// The content of a file begins with an empty version, which is never refused: it has no byte, and its vector one actor.
-/// Where more tags were given out than memory has room for, or a stamp that late was taken, it is as if memory ran out.
+/// The content of a file begins with an empty version, which is never refused: it has no byte, and
+/// its vector one actor. Where more tags were given out than memory has room for, or a stamp that
+/// late was taken, it is as if memory ran out.
 fn make_first_version(store: &mut Store, id: FileId, work: &mut Work) -> Result<(), AllocError>
     requires { HasNoVersion store.old id }
     ensures store { OnOk result

@@ -1,4 +1,5 @@
--- Behind settling names are calm, and every full thing sees a live gold: settled again nothing changes.
+-- Behind settling names are calm, and every full thing sees a live gold: settled again nothing
+-- changes.
 use Rattle.std.proofs.Common.{◌≡◌, Bool, true, false, if◌then◌else◌, List, [], ◌∷◌, drop, length, refl, sym, ap, ◌∙◌, subst, inl, inr}
 use Rattle.std.specs.List.{filter}
 use Rattle.std.specs.Map.{keys_of}

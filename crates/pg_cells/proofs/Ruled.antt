@@ -1,4 +1,5 @@
--- A flag that the server makes, and the rules behind it: where names are calm nothing but flags changes.
+-- A flag that the server makes, and the rules behind it: where names are calm nothing but flags
+-- changes.
 use Rattle.std.proofs.Common.{◌≡◌, Bool, true, false, List, [], ◌∷◌, ◌++◌, drop, length, Option, refl, sym, ap, ◌∙◌, subst, inl, inr, if◌then◌else◌, arith}
 use Rattle.std.specs.List.{All}
 use Rattle.std.specs.Map.{keys_of}

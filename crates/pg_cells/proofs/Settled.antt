@@ -13,7 +13,8 @@ chosen : (P : Done → Type 0) (b : Bool) (x y : Done) → (b ≡ true → P x) 
 chosen P true x y t f = t refl
 chosen P false x y t f = f
 
--- P holds behind each run of the rules, and Q in the midst of an event: before the first, and where a flag was raised
+-- P holds behind each run of the rules, and Q in the midst of an event: before the first, and where
+-- a flag was raised
 module _ (Q P : Done → Type 0) (ruling : (d : Done) → Q d → P (ruled d))
     (raising : (d : Done) (file : FileId) → P d → is_goldless d.store file ≡ true → Q (raise_flag d.store file d.work)) where
   one_gives : (d : Done) (file : FileId) → P d → P (raise_gold d.store file d.work)

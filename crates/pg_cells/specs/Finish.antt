@@ -4,8 +4,8 @@ use Rattle.pg_msg.specs.declared.work.Work.{Work}
 use Rattle.pg_store.specs.declared.store.Store.{Store}
 use Rattle.pg_cells.specs.Sending.{cells_where, is_chosen}
 
--- each key with a new tag on an edge is sent: its present cell to that peer, once and under its
--- present tag, but for those that wait
+-- each key with a new tag on an edge is sent: what tells of its present cell to that peer, once and
+-- under its present tag, but for those that wait
 abbrev pub finish : Store → Work → Work
 finish store work = record work {
   sent = work.sent ++ cells_where store (is_chosen work.touched work.linked);

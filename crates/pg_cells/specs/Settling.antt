@@ -32,8 +32,8 @@ ruled done = rules done.store done.work
 
 -- ---- golds
 
--- where a thing sees no live gold the server raises its flag of it, and the rules run again, by which
--- the flag passes to the cells for the thing
+-- where a thing sees no live gold the server raises its flag of it, and the rules run again, by
+-- which the flag passes to the cells for the thing
 abbrev pub raise_gold : Store → FileId → Work → Done
 raise_gold store file work =
     if is_goldless store file then ruled (raise_flag store file work) else idle store work
@@ -46,6 +46,7 @@ raise_golds (file ∷ files) done = raise_golds files (raise_gold done.store fil
 abbrev pub golds_raised : Done → Done
 golds_raised done = raise_golds (goldless done.store) done
 
--- the house rules run until none applies, and then each thing that sees no live gold becomes one, by id
+-- the house rules run until none applies, and then each thing that sees no live gold becomes one,
+-- by id
 abbrev pub settle : Store → Work → Done
 settle store work = golds_raised (rules store work)

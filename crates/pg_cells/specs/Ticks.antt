@@ -4,6 +4,6 @@ use Rattle.pg_msg.specs.declared.work.Work.{Work}
 use Rattle.pg_store.specs.declared.store.Store.{Store}
 use Rattle.pg_cells.specs.Sending.{cells_where, is_any}
 
--- the cell of each unacknowledged key is sent again, but for those that wait
+-- what tells of the cell of each unacknowledged key is sent again, but for those that wait
 abbrev pub tick : Store → Work → Work
 tick store work = record work { sent = work.sent ++ cells_where store is_any }

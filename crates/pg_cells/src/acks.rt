@@ -8,8 +8,8 @@ use pg_msg::{Ends, Work};
 use pg_pieces::link_of;
 use pg_store::Store;
 
-/// Takes the key off the sender's edge where the tag is the present one there, if the message is accepted. It takes no
-/// memory, and nothing comes of it.
+/// Takes the key off the sender's edge where the tag is the present one there, if the message is
+/// accepted. It takes no memory, and nothing comes of it.
 pub fn ack(store: &mut Store, ends: Ends, key: Key, tag: u64, work: &mut Work)
     ensures store { store.new ≡ (ack store.old ends key tag work.old).store }
     ensures work { work.new ≡ (ack store.old ends key tag work.old).work }

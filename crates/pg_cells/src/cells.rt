@@ -37,7 +37,7 @@ fn take(store: &mut Store, file: FileId, received: Cell, work: &mut Work) -> Res
     }
 }
 
-/// The same, and answers it.
+/// Takes the cell, and answers it.
 fn take_and_answer(
     store: &mut Store,
     ends: Ends,
@@ -61,8 +61,9 @@ fn take_and_answer(
     Ok(())
 }
 
-/// Takes a cell that came along an edge under this tag, where the thing can have such a cell and the message is
-/// accepted, and answers it. What is news goes to every peer, the sender too. After out of memory a part may be done.
+/// Takes a cell that came along an edge under this tag, where the thing can have such a cell and
+/// the message is accepted, and answers it. What is news goes to every peer, the sender too. After
+/// out of memory a part may be done.
 pub fn cell(
     store: &mut Store,
     ends: Ends,

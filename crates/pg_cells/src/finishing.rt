@@ -39,8 +39,9 @@ fn add_linked(files: &mut Files, linked: &[Linked]) -> Result<(), AllocError>
     Ok(())
 }
 
-/// Sends the present cell of each key that was touched, once to each peer that has not acknowledged it, and of each key
-/// on an edge that was made, under its present tag, but for those that wait: by file, peer and key.
+/// Sends what tells of the present cell of each key that was touched, once to each peer that has
+/// not acknowledged it, and of each key on an edge that was made, under its present tag, but for
+/// those that wait: by file, peer and key.
 pub fn finish(store: &Store, work: &mut Work) -> Result<(), AllocError>
     ensures { OnOk result (work.new ≡ finish store.now work.old) }
 {

@@ -10,11 +10,11 @@ use pg_base::{FileId, NodeId};
 use pg_edges::Key;
 use pg_msg::{Linked, Touched};
 
-/// Which of the unacknowledged keys are sent.
+/// The filter of unacknowledged keys: which of them are sent.
 #[derive(Clone, Copy, Debug)]
 pub(crate) enum KeyFilter<'a> {
     All,
-    /// Those that were touched on every edge, and on the edges that were made all.
+    /// The keys that were touched on every edge, and all keys on the edges that were made.
     Changed {
         touched: &'a [Touched],
         linked: &'a [Linked],

@@ -1,4 +1,5 @@
-//! What holds behind the house rules and the raising of golds. Each law is a clause of a function that does nothing.
+//! What holds behind the house rules and the raising of golds. Each law is a clause of a function
+//! that does nothing.
 
 ghost use Rattle.std.specs.Prelude.{◌≡◌, false};
 ghost use Rattle.pg_base.specs.declared.id.FileId.{FileId};
@@ -25,7 +26,8 @@ pub fn golds_change_flags_alone()
         → DiffersByGolds (rules store work) (settle store work) }
 {}
 
-/// Behind settling every full thing sees a live gold, but where the server has a flag of it that is of a later birth.
+/// Behind settling every full thing sees a live gold, but where the server has a flag of it that is
+/// of a later birth.
 pub fn every_full_thing_sees_a_gold()
     ensures { (store : Store) (work : Work) → IsOfDirs store.names → AreByServer store.names
         → IsLast store.names → AreOrdered store.names

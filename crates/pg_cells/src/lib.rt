@@ -2,20 +2,20 @@
 //! house rules behind the first effect of an event, and what is sent of the keys that were touched.
 //!
 //! It stands on the pieces of `pg_pieces` and the rules of `pg_house`, and touches what they touch:
-//! the server's `Store` and the event's `Work`. It knows one kind of message and its answer; all
-//! others have their handlers above.
+//! the server's `Store` and the event's `Work`. It sends cells, and harbingers of long versions,
+//! and hears cells and their answers; all other messages have their handlers elsewhere.
 //!
 //! What holds here:
 //! - a cell that is accepted is taken and then answered, whether it was news or not;
 //! - behind `settle` no house rule applies, and each full thing sees a live gold (`laws`); what the
 //!   rules change is touched, in their order;
 //! - `finish` and `tick` send by file, peer and key, each key once, under its present tag and with
-//!   its present cell; the dead place of a directory waits while the key of an entry is on the
-//!   edge;
+//!   its present cell, or the head alone of a long version; the dead place of a directory waits
+//!   while the key of an entry is on the edge;
 //! - sending changes nothing that the server holds.
 //!
 //! The definitions: `specs/Cells`, `Acks`, `Ticks`, `Settling` (with `Raised`), `Sending` and
-//! `Finish` (with `Choice`), `Counts`. The rules: docs/RULES.md, "Cells, answers and ticks".
+//! `Finish` (with `KeyFilter`), `Counts`. The rules: docs/RULES.md, "Cells, answers and ticks".
 //!
 //! A kind of cell more: a case in `specs/Cells` and `src/cells.rt`, over a piece that takes it
 //! (`pg_pieces`). One thing more that the end of an event does stands in `pg_server`, behind

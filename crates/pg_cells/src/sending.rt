@@ -85,7 +85,8 @@ fn has_dead_place(store: &Store, file: &FileId) -> bool
     }
 }
 
-/// Whether the key is not sent yet: the dead place of a directory waits while the key of an entry is on the edge.
+/// Whether the key is not sent yet: the dead place of a directory waits while the key of an entry
+/// is on the edge.
 fn waits(store: &Store, file: &FileId, edge: &Edge, key: &Key) -> bool
     ensures { result ≡ waits store.now file.now edge.now key.now }
 {
@@ -114,7 +115,7 @@ fn send_key(
     Ok(())
 }
 
-/// The same, where it is chosen.
+/// The cell of a key that is on the edge under this tag, where it is chosen, unless it waits.
 fn send_chosen(
     store: &Store,
     choice: &KeyFilter<'_>,

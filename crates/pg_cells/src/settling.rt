@@ -21,7 +21,8 @@ fn touch_all(store: &mut Store, touched: &[Touched]) -> Result<(), AllocError>
     Ok(())
 }
 
-/// Runs the house rules until none applies, and touches what they change. After out of memory a part may be done.
+/// Runs the house rules until none applies, and touches what they change. After out of memory a
+/// part may be done.
 fn rules(store: &mut Store, work: &mut Work) -> Result<(), AllocError>
     requires { store.old.names.last ≤ 2 ^ 62 + 2 ^ 40 }
     ensures store { OnOk result (store.new ≡ (rules store.old work.old).store) }
@@ -48,8 +49,8 @@ fn rules_again(store: &mut Store, work: &mut Work) -> Result<(), AllocError>
     Ok(())
 }
 
-/// Where a thing sees no live gold the server raises its flag of it, and the rules run again, by which the flag passes to
-/// the cells for the thing.
+/// Where a thing sees no live gold the server raises its flag of it, and the rules run again, by
+/// which the flag passes to the cells for the thing.
 fn raise_gold(store: &mut Store, file: FileId, work: &mut Work) -> Result<(), AllocError>
     ensures store { OnOk result (store.new ≡ (raise_gold store.old file work.old).store) }
     ensures work { OnOk result (work.new ≡ (raise_gold store.old file work.old).work) }
@@ -62,7 +63,7 @@ fn raise_gold(store: &mut Store, file: FileId, work: &mut Work) -> Result<(), Al
     Ok(())
 }
 
-/// And so of each of these, in their order.
+/// Raises the server's flag of each of these things that sees no live gold, in their order.
 fn raise_golds(store: &mut Store, files: &[FileId], work: &mut Work) -> Result<(), AllocError>
     ensures store { OnOk result
         (store.new ≡ (raise_golds files.now (idle store.old work.old)).store) }
@@ -75,8 +76,8 @@ fn raise_golds(store: &mut Store, files: &[FileId], work: &mut Work) -> Result<(
     Ok(())
 }
 
-/// Runs the house rules until none applies. Then each thing that sees no live gold becomes one, by id. After out of memory
-/// a part may be done.
+/// Runs the house rules until none applies. Then each thing that sees no live gold becomes one, by
+/// id. After out of memory a part may be done.
 pub fn settle(store: &mut Store, work: &mut Work) -> Result<(), AllocError>
     requires { store.old.names.last ≤ 2 ^ 62 + 2 ^ 40 }
     ensures store { OnOk result (store.new ≡ (settle store.old work.old).store) }

@@ -9,7 +9,8 @@ use pg_msg::Work;
 use pg_store::Store;
 use std::alloc::AllocError;
 
-/// Sends the cell of each unacknowledged key again, by file, peer and key, but for those that wait.
+/// Sends what tells of the cell of each unacknowledged key again, by file, peer and key, but for
+/// those that wait.
 pub fn tick(store: &Store, work: &mut Work) -> Result<(), AllocError>
     ensures { OnOk result (work.new ≡ tick store.now work.old) }
 {

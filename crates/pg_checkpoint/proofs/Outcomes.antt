@@ -1,35 +1,14 @@
 -- What saving makes of both slots.
-use Rattle.std.proofs.Common.{◌≡◌, ◌⊎◌, inl, inr, ℕ, zero, suc, ◌+◌, ◌-◌, ◌<◌, ◌≤◌, ◌^◌, Bool, true, false, if◌then◌else◌, List, [], ◌∷◌, length, drop, Option, Some, Result, refl, sym, ◌∙◌, ap, subst, arith}
-use Rattle.std.proofs.lemmas.List.{drop-drop}
+use Rattle.std.proofs.Common.{◌≡◌, ◌⊎◌, inl, inr, ℕ, ◌+◌, ◌-◌, ◌<◌, ◌≤◌, ◌^◌, List, length, drop, Option, Some, Result, refl, sym, ◌∙◌, ap, subst, arith}
 use Rattle.pg_disk.specs.Disk.{Step, contents, IsImage, IsSettled}
 use Rattle.pg_disk.specs.Told.{Event, Told, steps_of, steps, given}
 use Rattle.pg_disk.specs.Synced.{KeepsOthers}
+use Rattle.pg_disk.proofs.Growing.{later-none, same_between}
 use Rattle.pg_checkpoint.specs.Slots.{Slot, IsSlot, IsEmpty}
 use Rattle.pg_checkpoint.specs.Loads.{LoadsTo, number_of, next, LoadsOldOrNew}
 use Rattle.pg_checkpoint.specs.Saves.{Loads, AreSettled, SlotsLeave, IsFull, KeepsRest}
 use Rattle.pg_checkpoint.specs.Heads.{CountsAs, Goes, IsReplaced}
 use Rattle.pg_checkpoint.proofs.Counts.{is_number, number_first, number_second, some_was, first_new, second_new, first_written, second_written}
-
-step_more : (test : Bool) (step : Step) (was rest : List Step) → (was ≡ rest) ⊎ (length was < length rest)
-    → (was ≡ (if test then step ∷ rest else rest)) ⊎ (length was < length (if test then step ∷ rest else rest))
-step_more true step was rest (inl same) = inr (let n = ap length same in omega arith)
-step_more true step was rest (inr fewer) = inr (omega (arith, fewer))
-step_more false step was rest so_far = so_far
-
-same_or_fewer : (name : List ℕ) (file k : ℕ) (h : List Event) → (steps_of name file (drop k h) ≡ steps_of name file h) ⊎ (length (steps_of name file (drop k h)) < length (steps_of name file h))
-same_or_fewer name file zero h = inl refl
-same_or_fewer name file (suc k) [] = inl refl
-same_or_fewer name file (suc k) (event ∷ h) = step_more _ event.step (steps_of name file (drop k h)) (steps_of name file h) (same_or_fewer name file k h)
-
--- a file that has the same steps at two moments has them at each between
-between : (name : List ℕ) (file a b : ℕ) (h : List Event) → steps_of name file (drop b (drop a h)) ≡ steps_of name file h → steps_of name file (drop a h) ≡ steps_of name file h
-between name file a b h same = elim (same_or_fewer name file a h) [
-  | inl is ↦ is
-  | inr fewer ↦ elim (same_or_fewer name file b (drop a h)) [
-    | inl is ↦ sym is ∙ same
-    | inr fewer_still ↦ absurd (let n = ap length same in omega (arith, fewer, fewer_still))
-  ]
-]
 
 module _ (file other : ℕ) (old new : Told) (keeps : KeepsOthers file old new) (another : other ≡ file → ⊥) where
   abbrev steps_then : List Event → List Step
@@ -44,19 +23,14 @@ module _ (file other : ℕ) (old new : Told) (keeps : KeepsOthers file old new) 
   other_settled : IsSettled (steps old other) → IsSettled (steps new other)
   other_settled settled = subst IsSettled (sym (ap (λ (name : List ℕ). steps_of name other new.history) keeps.chosen ∙ steps_stay)) settled
 
-  other_stays : length old.history ≤ length new.history → drop (length new.history - length old.history) new.history ≡ old.history
-      → (ago : ℕ) → ago + length old.history ≤ length new.history → steps_then (drop ago new.history) ≡ steps_then old.history
-  other_stays no_fewer later ago fewer =
-      let since : ℕ = length new.history - length old.history - ago in
-      let all : ago + since ≡ length new.history - length old.history = omega (arith, fewer, no_fewer) in
-      let back : drop since (drop ago new.history) ≡ old.history = drop-drop since ago new.history ∙ ap (λ (k : ℕ). drop k new.history) all ∙ later in
-      between old.chosen other ago since new.history (ap steps_then back ∙ sym steps_stay) ∙ steps_stay
+  other_stays : (ago : ℕ) → ago + length old.history ≤ length new.history → steps_then (drop ago new.history) ≡ steps_then old.history
+  other_stays = same_between old.chosen other old.history new.history keeps.no_fewer keeps.later steps_stay
 
 -- nothing was written
 pub slots_started : (old : Told) (P : List ℕ → List ℕ → Type 0) → AreSettled old → P (given old 1) (given old 2) → SlotsLeave old old P
 slots_started old P settled here = record {
   no_fewer = omega arith;
-  later = let none : length old.history - length old.history ≡ 0 = omega arith in ap (λ (k : ℕ). drop k old.history) none;
+  later = later-none old.history;
   each = λ ago fewer first second is_first is_second.
       let none : ago ≡ 0 = omega (arith, fewer) in
       let now : (file : ℕ) (image : List ℕ) → IsImage (steps_of old.chosen file (drop ago old.history)) image → IsImage (steps old file) image =
@@ -76,7 +50,7 @@ module _ {E : Type 0} (result : Result (Unit {0}) E) (slot : Slot) (old new : To
         no_fewer = leaves.no_fewer;
         later = leaves.later;
         each = λ ago fewer first second is_first is_second.
-            let stays = other_stays 1 2 old new keeps (λ (e : 2 ≡ 1). omega arith) leaves.no_fewer leaves.later ago fewer in
+            let stays = other_stays 1 2 old new keeps (λ (e : 2 ≡ 1). omega arith) ago fewer in
             let is : second ≡ given old 2 = settled.second second (subst (λ (s : List Step). IsImage s second) stays is_second) in
             subst (λ (l : List ℕ). P first l) (sym is) (each first (leaves.each ago fewer first is_first));
       }
@@ -88,7 +62,7 @@ module _ {E : Type 0} (result : Result (Unit {0}) E) (slot : Slot) (old new : To
         no_fewer = leaves.no_fewer;
         later = leaves.later;
         each = λ ago fewer first second is_first is_second.
-            let stays = other_stays 2 1 old new keeps (λ (e : 1 ≡ 2). omega arith) leaves.no_fewer leaves.later ago fewer in
+            let stays = other_stays 2 1 old new keeps (λ (e : 1 ≡ 2). omega arith) ago fewer in
             let is : first ≡ given old 1 = settled.first first (subst (λ (s : List Step). IsImage s first) stays is_first) in
             subst (λ (l : List ℕ). P l second) (sym is) (each second (leaves.each ago fewer second is_second));
       }
@@ -97,15 +71,19 @@ module _ {E : Type 0} (result : Result (Unit {0}) E) (slot : Slot) (old new : To
 pub keeps_rest : (old new : Told) (m n file number : ℕ) → Goes m n file number → KeepsOthers file old new → KeepsRest old new
 keeps_rest old new m n file number (inl goes) keeps = record {
   chosen = keeps.chosen;
+  no_fewer = keeps.no_fewer;
+  later = keeps.later;
   others = λ name other outside. keeps.others name other (λ is. outside (is.0, inr (is.1 ∙ goes.1)));
 }
 keeps_rest old new m n file number (inr goes) keeps = record {
   chosen = keeps.chosen;
+  no_fewer = keeps.no_fewer;
+  later = keeps.later;
   others = λ name other outside. keeps.others name other (λ is. outside (is.0, inl (is.1 ∙ goes.1)));
 }
 
 pub keeps_all : (old : Told) → KeepsRest old old
-keeps_all old = record { chosen = refl; others = λ name file outside. refl }
+keeps_all old = record { chosen = refl; no_fewer = omega arith; later = later-none old.history; others = λ name file outside. refl }
 
 pub now_settled : (old new : Told) (m n file number : ℕ) → Goes m n file number → KeepsOthers file old new → IsSettled (steps new file) → AreSettled old → AreSettled new
 now_settled old new m n file number (inl goes) keeps here settled =

@@ -6,17 +6,11 @@ use Rattle.std.proofs.lemmas.List.{drop-drop}
 use Rattle.pg_disk.specs.Disk.{Write, Sync, IsTorn, MayMake, written, changed, IsSettled}
 use Rattle.pg_disk.specs.Told.{Told, steps, given}
 use Rattle.pg_disk.specs.Moments.{LeavesOnly}
-use Rattle.pg_disk.specs.Synced.{IsSynced, KeepsOthers}
+use Rattle.pg_disk.specs.Synced.{IsSynced}
 use Rattle.pg_disk.proofs.Moments.{leaves_then, leaves_weaker}
 use Rattle.pg_checkpoint.specs.Slots.{Slot, Fits, behind_gate, IsSlot, IsEmpty}
 use Rattle.pg_checkpoint.specs.Heads.{gate_of, closing, IsReplaced}
 use Rattle.pg_checkpoint.proofs.Slots.{short_empty, closed_empty}
-
-pub keeps_then : (file : ℕ) (old mid new : Told) → KeepsOthers file old mid → KeepsOthers file mid new → KeepsOthers file old new
-keeps_then file old mid new first second = record {
-  chosen = second.chosen ∙ first.chosen;
-  others = λ name other another. second.others name other (λ is. another (is.0 ∙ first.chosen, is.1)) ∙ first.others name other another;
-}
 
 -- a closed gate, and anything behind it
 pub record IsClosed (file : List ℕ) : Type 0 where

@@ -29,9 +29,12 @@ abbrev pub IsFull : Told → Type 0
 IsFull told = (slot : Slot) × (IsSlot (given told 1) slot ⊎ IsSlot (given told 2) slot)
     × (slot.number ≡ 2 ^ 64 - 1)
 
--- the same name is chosen, and only files 1 and 2 of it may have changed
+-- the same name is chosen, only files 1 and 2 of it may have changed, and what was done before
+-- stands there
 pub record KeepsRest (old new : Told) : Type 0 where
   pub chosen : new.chosen ≡ old.chosen
+  pub no_fewer : length old.history ≤ length new.history
+  pub later : drop (length new.history - length old.history) new.history ≡ old.history
   pub others : (name : List ℕ) (file : ℕ)
       → ((name ≡ old.chosen) × ((file ≡ 1) ⊎ (file ≡ 2)) → ⊥)
       → steps_of name file new.history ≡ steps_of name file old.history

@@ -31,7 +31,7 @@ pub fn deny(store: &mut Store, why: CallError, work: &mut Work) -> Result<Reply,
     }
 }
 
-/// The same of what stops a call for another reason than want of memory.
+/// What the client is told whose call stops for another reason than want of memory.
 fn refuse(store: &mut Store, why: LookupError, work: &mut Work) -> Result<Reply, AllocError>
     ensures store { OnOk result (store.new ≡ (deny store.old why work.old).store) }
     ensures work { OnOk result (work.new ≡ (deny store.old why work.old).work) }
@@ -46,8 +46,8 @@ fn refuse(store: &mut Store, why: LookupError, work: &mut Work) -> Result<Reply,
     }
 }
 
-/// Asks for a replica of what a call came to: as its Fill asks, else as the wish for it, else by a new wish. After out of
-/// memory a part may be done.
+/// Asks for a replica of what a call came to: as its Fill asks, else as the wish for it, else by a
+/// new wish. After out of memory a part may be done.
 fn ask_for(store: &mut Store, found: Found, work: &mut Work) -> Result<(), AllocError>
     ensures store { OnOk result (store.new ≡ (ask_for store.old found work.old).store) }
     ensures work { OnOk result (work.new ≡ (ask_for store.old found work.old).work) }
@@ -121,8 +121,8 @@ fn fill_of(store: &Store, file: FileId) -> Option<Wish>
     }
 }
 
-/// The server that is asked first for a thing: the least other live gold that the entry tells of by which the call came to
-/// it; where there is none the next behind this server.
+/// The server that is asked first for a thing: the least other live gold that the entry tells of by
+/// which the call came to it; where there is none the next behind this server.
 fn holder(store: &Store, found: &Found) -> NodeId
     ensures { result ≡ holder store.now found.now }
 {
@@ -145,7 +145,8 @@ fn gold_in(names: &Names, file: FileId, dir: Option<FileId>) -> Option<NodeId>
     }
 }
 
-/// The directory by whose entry a call came to a thing: for an id it is the one with the latest place.
+/// The directory by whose entry a call came to a thing: for an id it is the one with the latest
+/// place.
 fn dir_by(names: &Names, file: FileId, way: Way) -> Option<FileId>
     ensures { result ≡ dir_by names.now file way }
 {
@@ -156,7 +157,8 @@ fn dir_by(names: &Names, file: FileId, way: Way) -> Option<FileId>
     }
 }
 
-/// Of all that is held the directory whose entry for a thing has the latest place; of equal ones the least.
+/// The directory whose entry for a thing has the latest place, of all that is held; of equal ones
+/// the least.
 fn latest_dir(names: &Names, file: FileId) -> Option<FileId>
     ensures { result ≡ dir_by names.now file Way.Id }
 {
@@ -169,8 +171,8 @@ fn latest_dir(names: &Names, file: FileId) -> Option<FileId>
     latest
 }
 
-/// Whether a directory has an entry for a thing, and a later place in it than the first directory's entry for it has, or
-/// that has none.
+/// Whether a directory has an entry for a thing, and a later place in it than the first directory's
+/// entry for it has, or that has none.
 pub fn is_later(names: &Names, file: FileId, first: Option<FileId>, dir: &FileId) -> bool
     ensures { result
         ≡ is_later (cell_in names.now file first) (cell_at names.now dir.now file) }

@@ -19,7 +19,7 @@ use std::alloc::AllocError;
 /// The directory in which a new name is to be, and the name.
 #[derive(Debug, Drop)]
 pub struct NewName {
-    /// It is held here, and full.
+    /// The directory, which is held here, and full.
     pub dir: FileId,
     /// A name that a client may give.
     pub name: SharedBytes,
@@ -93,8 +93,9 @@ fn id_at(store: &Store, id: FileId) -> Result<FileId, CallError>
     Ok(reached(&store.names, found)?)
 }
 
-/// Where the last component of the path is to be a new name, for this child. `Exists` where its directory shows it
-/// already, as the root does its own path; `DirFull` where there is no room for a cell of the child.
+/// Where the last component of the path is to be a new name, for this child. `Exists` where its
+/// directory shows it already, as the root does its own path; `DirFull` where there is no room for
+/// a cell of the child.
 pub fn new_name(store: &Store, child: FileId, text: &[u8]) -> Result<NewName, CallError>
     ensures { Tells result (new_name store.now child text.now) }
 {
@@ -129,8 +130,8 @@ fn when_free(names: &Names, child: FileId, dir: FileId, name: &[u8]) -> Result<N
     Ok(NewName { dir, name })
 }
 
-/// What the first path leads to, and the last component of the second as its new name. Both texts are looked at before
-/// either is walked. `Root` and `Loop` where it cannot go there.
+/// What the first path leads to, and the last component of the second as its new name. Both texts
+/// are looked at before either is walked. `Root` and `Loop` where it cannot go there.
 pub fn move_of(store: &Store, from: &[u8], to: &[u8]) -> Result<Move, CallError>
     ensures { Tells result (move_of store.now from.now to.now) }
 {
@@ -139,7 +140,8 @@ pub fn move_of(store: &Store, from: &[u8], to: &[u8]) -> Result<Move, CallError>
     move_along(store, &paths)
 }
 
-/// The same along these paths.
+/// What the first of these paths leads to, and the last component of the second as its new name.
+/// `Root` and `Loop` where it cannot go there.
 fn move_along(store: &Store, paths: &Paths) -> Result<Move, CallError>
     ensures { Tells result (move_along store.now paths.now) }
 {
@@ -148,7 +150,8 @@ fn move_along(store: &Store, paths: &Paths) -> Result<Move, CallError>
     move_to(&store.names, thing, &paths.to, dir)
 }
 
-/// The thing as it is to go into this directory: the root does not move, and a directory not below itself.
+/// The thing as it is to go into this directory: the root does not move, and a directory not below
+/// itself.
 fn move_to(names: &Names, thing: FileId, path: &Path, dir: FileId) -> Result<Move, CallError>
     ensures { Tells result (move_to names.now thing path.now dir) }
 {
@@ -162,7 +165,8 @@ fn move_to(names: &Names, thing: FileId, path: &Path, dir: FileId) -> Result<Mov
     Ok(Move { thing, to })
 }
 
-/// A directory other than the root, which shows no name: else `NotEmpty` with the first child that it shows.
+/// A directory other than the root, which shows no name: else `NotEmpty` with the first child that
+/// it shows.
 pub fn empty_dir_at(store: &Store, text: &[u8]) -> Result<FileId, CallError>
     ensures { Tells result (empty_dir_at store.now text.now) }
 {

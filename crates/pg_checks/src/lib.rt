@@ -1,4 +1,5 @@
-//! What comes before a call is done: what it is about, why it is refused, and how what is not here yet is asked for.
+//! What comes before a call is done: what it is about, why it is refused, and how what is not here
+//! yet is asked for.
 #![tactic(auto)]
 
 mod asking;

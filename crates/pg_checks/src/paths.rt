@@ -10,7 +10,8 @@ use pg_call::Refusal;
 use pg_path::{BadPath, Path, is_client_name};
 use std::alloc::Global;
 
-/// The paths of a move. The first is walked to its end, the second to the parent of its last component.
+/// The paths of a move. The first is walked to its end, the second to the parent of its last
+/// component.
 #[derive(Debug, Drop)]
 pub struct Paths {
     /// Where the thing stands.
@@ -35,7 +36,8 @@ pub(crate) fn path_of(alloc: Global, text: &[u8]) -> Result<Path, CallError>
     }
 }
 
-/// The path of a text, whose last component is to be a new name: it has to be one that a client may give.
+/// The path of a text, whose last component is to be a new name: it has to be one that a client may
+/// give.
 pub(crate) fn new_path_of(alloc: Global, text: &[u8]) -> Result<Path, CallError>
     ensures { Tells result (new_path_of text.now) }
 {

@@ -14,8 +14,8 @@ pub record Takes (from : Unread) (bytes : List ℕ) (to : Unread) : Type 0 where
   pub place : to.place ≡ from.place + length bytes
   pub width : AreBytes to.rest
 
--- What is read is a value that fits, and its one spelling was taken. A value that fits is read again
--- from its spelling, whatever follows.
+-- What is read is a value that fits, and its one spelling was taken. A value that fits is read
+-- again from its spelling, whatever follows.
 pub record IsField {X E : Type 0} (Fits : X → Type 0) (spelling : X → List ℕ)
     (read : Field E X) : Type 0 where
   pub takes : (from : Unread) (x : X × Unread) → AreBytes from.rest → read from ≡ Ok x

@@ -74,7 +74,8 @@ long_by : (b : Bool) (n keep least : ℕ) → 1048576 < max (cond b (min n 18446
 long_by true n keep least h = omega arith
 long_by false n keep least h = omega arith
 
--- where the length was cut at the greatest number, a result that is short enough has the length all the same
+-- where the length was cut at the greatest number, a result that is short enough has the length all
+-- the same
 pub short_is : (body : List ℕ) (r : RangesValue) (n m : ℕ) → n ≡ min (length body) (2 ^ 64 - 1) → m ≡ length_of n r → m ≤ body_limit → m ≡ length (applied body r)
 short_is body r n m cut e h =
     let f : m ≡ length_of (min (length body) (2 ^ 64 - 1)) r = e ∙ ap (λ k. length_of k r) cut in

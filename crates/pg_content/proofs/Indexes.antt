@@ -1,4 +1,5 @@
--- Indexes of heads: what all heads know, whether an entry covers one of them, and what a version more makes of the index.
+-- Indexes of heads: what all heads know, whether an entry covers one of them, and what a version
+-- more makes of the index.
 use Rattle.std.proofs.Common.{◌≡◌, ℕ, ◌+◌, ◌<◌, ◌≤◌, max, min, Bool, true, false, cond, not, nat_le, ◌||◌, ◌&&◌, None, Some, Option, IfSome, Result, Ok, Err, IfOk, List, [], ◌∷◌, ◌++◌, length, take, drop, inl, inr, refl, sym, ap, subst, ◌∙◌, arith}
 use Rattle.std.specs.declared.alloc.AllocError.{AllocError}
 use Rattle.std.specs.List.{All, filter, list_any, position_or_len, slice_get}
@@ -45,7 +46,8 @@ module _ (v : VersionValue) where
   any_between test [] back = refl
   any_between test (w ∷ front) back = ap (λ b. test w || b) (any_between test front back) ∙ first_second (test w) (test v) (list_any test (front ++ back))
 
--- the index of some versions, raised to what one more knows and lowered to its number, is that of all of these
+-- the index of some versions, raised to what one more knows and lowered to its number, is that of
+-- all of these
 added : (old new : IndexValue) (v : VersionValue) (front back : List VersionValue) → IsSound v → new.known ≡ joined v.head.vector old.known → ((e : Entry) → covers_least new.least e ≡ (covers_by_entry e v || covers_least old.least e))
     → IsIndex old (front ++ back) → IsIndex new (front ++ v ∷ back)
 added old new v front back one knows lowers is =
@@ -150,7 +152,8 @@ entry_by : (t : Bool) (n m k : ℕ) (rest : Bool) → 0 < n → (t ≡ true → 
 entry_by true n m k rest some none same = let e = none refl in let f : rest ≡ false = same ∙ grind (arith, nat_tests) in ap (λ b. nat_le n m || b) f ∙ or_false (nat_le n m)
 entry_by false n m k rest some none same = same
 
--- an entry of the vector is the actor's and has the number, exactly where the vector covers the number
+-- an entry of the vector is the actor's and has the number, exactly where the vector covers the
+-- number
 covered_entry : (es : List Entry) (b : Actor) (n : ℕ) → IsVector es → 0 < n → list_any (is_from b n) es ≡ nat_le n (number_at es b)
 covered_entry [] b n is some = let none : number_at [] b ≡ 0 = refl in grind (arith, nat_tests)
 covered_entry (e ∷ es) b n is some =

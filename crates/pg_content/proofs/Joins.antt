@@ -1,4 +1,5 @@
--- Joins of several vectors: at each actor the greatest of their numbers, and how many actors there are.
+-- Joins of several vectors: at each actor the greatest of their numbers, and how many actors there
+-- are.
 use Rattle.std.proofs.Common.{◌≡◌, ℕ, ◌+◌, ◌-◌, ◌<◌, ◌≤◌, ◌^◌, take, max, min, Bool, true, false, cond, not, nat_le, nat_lt, ◌||◌, List, [], ◌∷◌, ◌++◌, length, get_or, map, ◌⊎◌, inl, inr, refl, sym, ap, subst, ◌∙◌, arith}
 use Rattle.std.specs.List.{All, fold, count_by}
 use Rattle.std.proofs.lemmas.Bool.{cases_lt}

@@ -144,8 +144,8 @@ impl Content {
         Ok(true)
     }
 
-    /// The same without the test: the heads that the version's vector covers go, and the version is
-    /// a head, whatever is known of it.
+    /// Brings in a version without asking whether it is covered: the heads that its vector covers
+    /// go, and the version is a head, whatever is known of it.
     pub fn put_head(&mut self, v: Version) -> Result<(), AllocError>
         ensures put { OnOk result (self.new ≡ with_heads self.old (put_version self.old.heads v)) }
         ensures err { OnErr result (self.new ≡ self.old) }
@@ -257,7 +257,7 @@ impl Content {
         Ok(Bytes::from_vec(out))
     }
 
-    /// The same content again. The bodies are shared.
+    /// Copies the content. The bodies are shared.
     pub fn copy(&self) -> Result<Content, AllocError>
         ensures { IfOk result (λ c. c ≡ self.now) }
     {
@@ -325,7 +325,7 @@ impl Content {
         Ok(self.version_with(actor, stamp, ranges, length)?)
     }
 
-    /// The same where nothing refuses it. Its body has that length.
+    /// The version that a write makes, where nothing refuses it. Its body has that length.
     fn version_with(
         &self,
         actor: Actor,

@@ -39,7 +39,7 @@ impl Index {
         }
     }
 
-    /// Of these versions.
+    /// The index of these versions.
     pub(crate) fn of(alloc: Global, heads: &[Version]) -> Result<Index, AllocError>
         ensures { IfOk result (λ i. IsIndex i heads.now) }
     {
@@ -89,7 +89,7 @@ impl Index {
         }
     }
 
-    /// The same index again.
+    /// Copies the index.
     pub(crate) fn copy(&self) -> Result<Index, AllocError>
         ensures { IfOk result (λ i. i ≡ self.now) }
     {
@@ -100,7 +100,7 @@ impl Index {
     }
 }
 
-/// So many heads are gone over without an index.
+/// The most heads that are gone over without an index.
 const FEW: usize = 8;
 
 /// The index of these versions where they are many, if there is memory for it.

@@ -19,8 +19,8 @@
 //!
 //! Definitions: what is to be sent is a relation in the words of the rule (`IsDelta`) and a
 //! function that computes (`delta_of`); `specs/Kept`, `Chain`, `Leading`, `Taking`, `Whole`.
-//! docs/RULES.md: "Kept deltas", "What the program does not use yet". Another way to choose which
-//! deltas stay is another `keep`; the laws speak of any list.
+//! docs/RULES.md: "Kept deltas". Another way to choose which deltas stay is another `keep`; the
+//! laws speak of any list.
 #![tactic(auto)]
 
 mod delta;

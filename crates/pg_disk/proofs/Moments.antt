@@ -3,8 +3,10 @@ use Rattle.std.proofs.Common.{◌≡◌, inl, inr, ℕ, zero, suc, ◌+◌, ◌-
 use Rattle.std.proofs.lemmas.Bool.{cases_lt}
 use Rattle.std.proofs.lemmas.List.{drop-drop}
 use Rattle.pg_disk.specs.Disk.{IsImage}
-use Rattle.pg_disk.specs.Told.{Event, steps_of}
-use Rattle.pg_disk.specs.Moments.{LeavesOnly}
+use Rattle.pg_disk.specs.Told.{Event, Told, steps_of, steps}
+use Rattle.pg_disk.specs.Moments.{LeavesOnly, LeavesSince}
+use Rattle.pg_disk.specs.Synced.{KeepsOthers}
+use Rattle.pg_disk.proofs.Growing.{later-none, later-more, later-then, untouched_leaves}
 
 module _ (name : List ℕ) (file : ℕ) (P : List ℕ → Type 0) where
   abbrev Leaves : List Event → List Event → Type 0
@@ -21,7 +23,7 @@ module _ (name : List ℕ) (file : ℕ) (P : List ℕ → Type 0) where
   pub leaves_started : (old : List Event) → HasImages old → Leaves old old
   leaves_started old here = record {
     no_fewer = omega arith;
-    later = let none : length old - length old ≡ 0 = omega arith in ap (λ (k : ℕ). drop k old) none;
+    later = later-none old;
     each = here_only old here;
   }
 
@@ -33,10 +35,7 @@ module _ (name : List ℕ) (file : ℕ) (P : List ℕ → Type 0) where
   pub leaves_more : (old mid : List Event) (event : Event) → Leaves old mid → HasImages (event ∷ mid) → Leaves old (event ∷ mid)
   leaves_more old mid event so_far here = record {
     no_fewer = omega (arith, so_far.no_fewer);
-    later =
-        let before = so_far.no_fewer in
-        let more : length (event ∷ mid) - length old ≡ suc (length mid - length old) = omega arith in
-        ap (λ (k : ℕ). drop k (event ∷ mid)) more ∙ so_far.later;
+    later = later-more old mid event so_far.no_fewer so_far.later;
     each = one_more old mid event so_far here;
   }
 
@@ -44,7 +43,7 @@ module _ (name : List ℕ) (file : ℕ) (P : List ℕ → Type 0) where
 pub leaves_then : (name : List ℕ) (file : ℕ) (P : List ℕ → Type 0) (old mid new : List Event) → LeavesOnly name file old mid P → LeavesOnly name file mid new P → LeavesOnly name file old new P
 leaves_then name file P old mid new first second = record {
   no_fewer = omega (arith, first.no_fewer, second.no_fewer);
-  later = ap (λ (k : ℕ). drop k new) all ∙ earlier (length mid - length old) ∙ first.later;
+  later = later-then old mid new first.no_fewer first.later second.no_fewer second.later;
   each = λ ago fewer. elim (cases_lt (length new) (ago + length mid)) [
     | inl before ↦
         let shift : ago ≡ behind + (ago - behind) = omega (arith, before, second.no_fewer) in
@@ -58,9 +57,6 @@ leaves_then name file P old mid new first second = record {
     behind : ℕ
     behind = length new - length mid
 
-    all : length new - length old ≡ behind + (length mid - length old)
-    all = omega (arith, first.no_fewer, second.no_fewer)
-
     earlier : (k : ℕ) → drop (behind + k) new ≡ drop k mid
     earlier k = sym (drop-drop k behind new) ∙ ap (λ (h : List Event). drop k h) second.later
 
@@ -70,4 +66,24 @@ leaves_weaker name file P Q old new weaker leaves = record {
   no_fewer = leaves.no_fewer;
   later = leaves.later;
   each = λ ago fewer image is. weaker image (leaves.each ago fewer image is);
+}
+
+-- Two runs of calls on the same chosen name, of which the second leaves what the first left.
+pub leaves_since_then : (file changed : ℕ) (P : List ℕ → Type 0) (old mid new : Told) → KeepsOthers changed old mid → LeavesSince file old mid P → LeavesSince file mid new P → LeavesSince file old new P
+leaves_since_then file changed P old mid new keeps first second =
+    leaves_then old.chosen file P old.history mid.history new.history first
+    (subst (λ (name : List ℕ). LeavesOnly name file mid.history new.history P) keeps.chosen second)
+
+-- a run of calls on another file
+pub leaves_others : (file changed : ℕ) (P : List ℕ → Type 0) (old new : Told) → KeepsOthers changed old new → (file ≡ changed → ⊥) → ((image : List ℕ) → IsImage (steps old file) image → P image)
+    → LeavesSince file old new P
+leaves_others file changed P old new keeps another here =
+    untouched_leaves old.chosen file P old.history new.history keeps.no_fewer keeps.later (keeps.others old.chosen file (λ is. another is.1)) here
+
+pub keeps_then : (file : ℕ) (old mid new : Told) → KeepsOthers file old mid → KeepsOthers file mid new → KeepsOthers file old new
+keeps_then file old mid new first second = record {
+  chosen = second.chosen ∙ first.chosen;
+  no_fewer = omega (arith, first.no_fewer, second.no_fewer);
+  later = later-then old.history mid.history new.history first.no_fewer first.later second.no_fewer second.later;
+  others = λ name other another. second.others name other (λ is. another (is.0 ∙ first.chosen, is.1)) ∙ first.others name other another;
 }

@@ -1,5 +1,5 @@
 -- What a call that changes a file, and a sync behind it, do to what is told.
-use Rattle.std.proofs.Common.{◌≡◌, inl, inr, ℕ, ◌==◌, ◌&&◌, Bool, true, false, true≢false, List, ◌∷◌, Result, Ok, Err, IsErr, refl, sym, ◌∙◌, ap, subst, bytes_eq, if◌then◌else◌}
+use Rattle.std.proofs.Common.{◌≡◌, inl, inr, ℕ, ◌==◌, ◌&&◌, Bool, true, false, true≢false, List, ◌∷◌, Result, Ok, Err, IsErr, refl, sym, ◌∙◌, ap, subst, bytes_eq, if◌then◌else◌, arith}
 use Rattle.std.specs.Cmp.Lexicographic.{same_text}
 use Rattle.std.specs.Cmp.{unsigned_Decides}
 use Rattle.std.proofs.lemmas.Cmp.{nat_list_eq_equiv}
@@ -8,6 +8,7 @@ use Rattle.pg_disk.specs.Told.{Told, steps_of, steps, given, with_step, IsTried}
 use Rattle.pg_disk.specs.Moments.{LeavesOnly}
 use Rattle.pg_disk.specs.Synced.{IsAnother, KeepsOthers, IsSynced}
 use Rattle.pg_disk.specs.Images.{done_is_made, none_is_made}
+use Rattle.pg_disk.proofs.Growing.{later-none, later-more}
 use Rattle.pg_disk.proofs.Moments.{leaves_started, leaves_more}
 
 true_and : (a b : Bool) → a ≡ true → b ≡ true → (a && b) ≡ true
@@ -41,11 +42,13 @@ other_step told file step name other another =
     another (sym (same_text told.chosen name (sym parts.0)), sym ((unsigned_Decides file other).0 parts.1)))
 
 pub keeps_none : (file : ℕ) (told : Told) → KeepsOthers file told told
-keeps_none file told = record { chosen = refl; others = λ name other another. refl }
+keeps_none file told = record { chosen = refl; no_fewer = omega arith; later = later-none told.history; others = λ name other another. refl }
 
 pub keeps_step : (file : ℕ) (old mid : Told) (step : Step) → KeepsOthers file old mid → KeepsOthers file old (with_step mid file step)
 keeps_step file old mid step so_far = record {
   chosen = so_far.chosen;
+  no_fewer = omega (arith, so_far.no_fewer);
+  later = later-more old.history mid.history (record { name = mid.chosen; file = file; step = step }) so_far.no_fewer so_far.later;
   others = λ name other another. other_step mid file step name other (λ is. another (is.0 ∙ so_far.chosen, is.1)) ∙ so_far.others name other another;
 }
 

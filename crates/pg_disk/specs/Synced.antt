@@ -1,5 +1,5 @@
 -- A change of a file, and a sync behind it.
-use Rattle.std.specs.Prelude.{ℕ, ◌≡◌, List, Result, OnOk}
+use Rattle.std.specs.Prelude.{ℕ, ◌≡◌, ◌-◌, ◌≤◌, List, length, drop, Result, OnOk}
 use Rattle.pg_disk.specs.Disk.{Change, changed, MayMake, IsSettled}
 use Rattle.pg_disk.specs.Told.{Told, steps_of, steps, given}
 use Rattle.pg_disk.specs.Moments.{LeavesSince}
@@ -8,9 +8,11 @@ use Rattle.pg_disk.specs.Moments.{LeavesSince}
 abbrev pub IsAnother : List ℕ → ℕ → List ℕ → ℕ → Type 0
 IsAnother name file own_name own_file = (name ≡ own_name) × (file ≡ own_file) → ⊥
 
--- the same name is chosen, and only this file of it was changed
+-- the same name is chosen, only this file of it was changed, and what was done before stands there
 pub record KeepsOthers (file : ℕ) (old new : Told) : Type 0 where
   pub chosen : new.chosen ≡ old.chosen
+  pub no_fewer : length old.history ≤ length new.history
+  pub later : drop (length new.history - length old.history) new.history ≡ old.history
   pub others : (name : List ℕ) (other : ℕ) → IsAnother name other old.chosen file
       → steps_of name other new.history ≡ steps_of name other old.history
 

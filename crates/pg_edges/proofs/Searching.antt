@@ -1,4 +1,5 @@
--- Entries in the order of their keys, searched by halves: what is found at an index, and what an edit there leaves.
+-- Entries in the order of their keys, searched by halves: what is found at an index, and what an
+-- edit there leaves.
 use Rattle.std.proofs.Common.{ℕ, zero, suc, ◌≡◌, ◌<◌, ◌≤◌, ◌+◌, Bool, true, false, not, cond, List, [], ◌∷◌, length, get_or, set, insert, remove, None, Some, refl, sym, ap, ◌∙◌, arith, filter, Less, Equal, Greater, Result, Ok, Err, IfOk, IfErr, subst}
 use Rattle.std.specs.declared.cmp.Ordering.{Ordering}
 use Rattle.std.specs.Ordering.{is_eq, is_lt, ordering_index, ordering_reverse}

@@ -97,7 +97,7 @@ impl Many {
         self.tags.as_slice()
     }
 
-    /// The same keys and tags again.
+    /// Copies the keys and tags.
     pub(crate) fn copy(&self) -> Result<Self, AllocError>
         ensures { IfOk result (λ k. k ≡ self.now) }
     {

@@ -20,7 +20,7 @@ pub enum Cell {
 }
 
 impl Cell {
-    /// The same cell again. Nothing is moved.
+    /// Copies the cell. Nothing is moved.
     pub fn copy(&self) -> Result<Cell, AllocError>
         ensures { IfOk result (λ cell. cell ≡ self.now) }
     {

@@ -155,7 +155,7 @@ impl Entries {
         }
     }
 
-    /// The same entries again.
+    /// Copies the entries.
     pub fn copy(&self) -> Result<Entries, AllocError>
         ensures { IfOk result (λ entries. entries ≡ self.now) }
     {

@@ -44,7 +44,7 @@ impl Entry {
         Ok(moved || flagged)
     }
 
-    /// The same entry again.
+    /// Copies the entry.
     pub fn copy(&self) -> Result<Entry, AllocError>
         ensures { IfOk result (λ entry. entry ≡ self.now) }
     {

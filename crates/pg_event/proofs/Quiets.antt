@@ -1,4 +1,5 @@
--- Answers to whether all is done, as words: no two with the same words, which bytes these lack, and how many they are.
+-- Answers to whether all is done, as words: no two with the same words, which bytes these lack, and
+-- how many they are.
 use Rattle.std.proofs.Common.{rules, ℕ, ◌≡◌, ◌<◌, Option, None, Some, length, refl, sym, ap, arith, codes}
 use Rattle.std.specs.List.{AllByRecursion}
 use Rattle.std.proofs.lemmas.Fmt.{decimal_injective}

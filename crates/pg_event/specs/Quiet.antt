@@ -19,8 +19,8 @@ abbrev pub child_word : Option FileId → List ℕ
 child_word None = codes "-"
 child_word (Some child) = spelling child
 
--- an intention: the server, the kind, the file, the child if it is about one, and the server that is
--- asked
+-- an intention: the server, the kind, the file, the child if it is about one, and the server that
+-- is asked
 abbrev pub intent_words : OwedIntent → List (List ℕ)
 intent_words o =
     codes "intent" ∷ decimal o.server ∷ intent_word o.kind ∷ spelling o.file

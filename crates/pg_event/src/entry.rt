@@ -21,9 +21,9 @@ pub enum VoidCause {
     Removed,
     /// The server was not the one whose removal has that number.
     Unremoved,
-    /// It is the last live server.
+    /// The server is the last live one.
     Last,
-    /// There is no such meter.
+    /// The run has no such meter.
     NoMeter,
 }
 

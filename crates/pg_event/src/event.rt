@@ -25,9 +25,9 @@ pub enum Event {
     /// The message with this number in the bag arrives. Messages are counted from 1, in order of
     /// sending.
     Deliver(u64),
-    /// It is lost.
+    /// The message with this number is lost.
     Lose(u64),
-    /// It is copied to the bag's end.
+    /// The message with this number is copied to the bag's end.
     Repeat(u64),
     /// A server loses what it keeps in memory alone.
     Restart(NodeId),
@@ -36,7 +36,7 @@ pub enum Event {
 }
 
 impl Event {
-    /// The same event again.
+    /// Copies the event.
     pub fn copy(&self) -> Result<Event, AllocError>
         ensures { IfOk result (λ e. e ≡ self.now) }
     {

@@ -9,11 +9,11 @@ use std::fmt;
 /// The kinds of meters.
 #[derive(Clone, Copy, Debug, PartialEq, Eq)]
 pub enum MeterKind {
-    /// It counts the messages that are sent.
+    /// The meter that counts the messages that are sent.
     Packets,
-    /// It counts the bytes of bodies in them.
+    /// The meter that counts the bytes of bodies in the messages that are sent.
     Bodies,
-    /// It counts the bodies that came where they were known.
+    /// The meter that counts the bodies that came where they were known.
     Repeats,
 }
 

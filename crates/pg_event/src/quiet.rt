@@ -20,10 +20,10 @@ use std::fmt;
 pub struct OwedIntent {
     pub server: NodeId,
     pub kind: IntentKind,
-    /// What it is about: the directory, where it is about a child of one.
+    /// The file that the intention is about, or the directory, where it is about a child of one.
     pub file: FileId,
     pub child: Option<FileId>,
-    /// Which server is asked: 0 for none.
+    /// The server that is asked: 0 for none.
     pub target: NodeId,
 }
 
@@ -114,7 +114,7 @@ impl fmt::Display for Owing {
 /// What a run waits for.
 #[derive(Clone, Copy, Debug, PartialEq, Eq)]
 pub enum Cause {
-    /// This message is under way.
+    /// A message is under way.
     Message(Summary),
     /// A server is in this view, and more servers are removed.
     View { server: NodeId, view: u64 },
@@ -141,7 +141,7 @@ impl fmt::Display for Cause {
 #[derive(Clone, Copy, Debug, PartialEq, Eq)]
 pub enum Quiet {
     Quiet,
-    /// It is not, and this is the first thing that it waits for.
+    /// The run is not quiet, and this is the first thing that it waits for.
     Waits(Cause),
 }
 

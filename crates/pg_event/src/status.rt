@@ -17,11 +17,18 @@ pub enum Status {
     ReadFault,
     /// A write failed.
     WriteFault,
+    /// A call on the net failed.
+    NetFault,
     /// The input has more than 2^26 bytes.
     InputLong,
     /// The line with this number is the first outside the grammar, for this cause. The first line
     /// has number 1.
     BadLine(u64, Fault),
+    /// A server made as many takes as it was to make, or a client ten with no reply.
+    TurnsSpent,
+    /// The reply to a call is the refusal with this number.
+    Refused(u8),
+    /// Memory was refused.
     OutOfMemory,
 }
 
@@ -35,8 +42,11 @@ impl Status {
             Status::Usage(_) => 2,
             Status::ReadFault => 3,
             Status::WriteFault => 4,
+            Status::NetFault => 5,
             Status::InputLong => 8,
             Status::BadLine(_, _) => 9,
+            Status::TurnsSpent => 11,
+            Status::Refused(_) => 12,
             Status::OutOfMemory => 13,
         }
     }
@@ -54,8 +64,11 @@ impl fmt::Display for Status {
             Status::Usage(word) => write!(f, "usage at word {word}"),
             Status::ReadFault => write!(f, "read fault"),
             Status::WriteFault => write!(f, "write fault"),
+            Status::NetFault => write!(f, "net fault"),
             Status::InputLong => write!(f, "input too long"),
             Status::BadLine(line, fault) => write!(f, "line {line}: {fault}"),
+            Status::TurnsSpent => write!(f, "turns spent"),
+            Status::Refused(number) => write!(f, "refused {number}"),
             Status::OutOfMemory => write!(f, "out of memory"),
         }
     }

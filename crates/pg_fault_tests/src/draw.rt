@@ -113,7 +113,8 @@ fn tells_why_there_is_no_picture(rt: HostRuntime) -> Result<(), Fail> {
         (b"begin quiet\n", Ending::BadLine(1, Fault::Verb)),
         (b"", Ending::Lacks(1, Lack::End)),
         (b"event 3 quiet\nquiet quiet\n", Ending::Lacks(3, Lack::End)),
-        // Short form from the start, from the second event on, and where only what is under way tells it.
+        // Short form from the start, from the second event on, and where only what is under way
+        // tells it.
         (
             b"call 1 write -> wrote 10@1\nend quiet\n",
             Ending::Lacks(1, Lack::Full),

@@ -17,8 +17,8 @@ abbrev pub answered_seek : FileId → ℕ → Done → Done
 answered_seek file birth done =
     idle done.store (reply done.store (message.Here (ends_to done.store file birth)) done.work)
 
--- a replica, gold or not, full or filling, links who seeks, and answers; but for a birth that is not
--- the sender's latest. Who has none says so
+-- a replica, gold or not, full or filling, links who seeks, and answers; but for a birth that is
+-- not the sender's latest. Who has none says so
 abbrev pub seek : Store → FileId → ℕ → Work → Done
 seek store file birth work =
     if is_held store file

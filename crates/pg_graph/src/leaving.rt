@@ -36,8 +36,8 @@ fn gives_leave(store: &Store, file: &FileId, stamp: Stamp) -> bool
     store.names.is_full(file) && is_gold(store, file) && has_place_stamp(store, file, stamp)
 }
 
-/// A replica asks for leave to go. It is linked, and gets leave where the replica here is full and gold, and has the place
-/// of this stamp. After out of memory a part may be done.
+/// A replica asks for leave to go. It is linked, and gets leave where the replica here is full and
+/// gold, and has the place of this stamp. After out of memory a part may be done.
 pub fn leave(store: &mut Store, ends: Ends, stamp: Stamp, work: &mut Work) -> Result<(), AllocError>
     ensures store { OnOk result (store.new ≡ (leave store.old ends stamp work.old).store) }
     ensures work { OnOk result (work.new ≡ (leave store.old ends stamp work.old).work) }
@@ -160,8 +160,8 @@ fn go_or_stay(store: &mut Store, file: FileId, work: &mut Work) -> Result<(), Al
     }
 }
 
-/// Leave was given. Where it is to what was asked, and nothing keeps the replica here, it goes; where something does, it
-/// stays. After out of memory a part may be done.
+/// Leave was given. Where it is to what was asked, and nothing keeps the replica here, it goes;
+/// where something does, it stays. After out of memory a part may be done.
 pub fn leave_ok(
     store: &mut Store,
     ends: Ends,

@@ -9,9 +9,9 @@ use pg_pieces::{EdgeUse, accept, ends_to, link_peer, post};
 use pg_store::Store;
 use std::alloc::AllocError;
 
-/// A replica of this birth seeks a gold one. The replica here, gold or not, full or filling, links it and answers; from
-/// a birth that is not the sender's latest nothing comes. Where there is none the sender is told. After out of memory a
-/// part may be done.
+/// A replica of this birth seeks a gold one. The replica here, gold or not, full or filling, links
+/// it and answers; from a birth that is not the sender's latest nothing comes. Where there is none
+/// the sender is told. After out of memory a part may be done.
 pub fn seek(store: &mut Store, file: FileId, birth: u64, work: &mut Work) -> Result<(), AllocError>
     ensures store { OnOk result (store.new ≡ (seek store.old file birth work.old).store) }
     ensures work { OnOk result (work.new ≡ (seek store.old file birth work.old).work) }
@@ -33,8 +33,8 @@ pub fn seek(store: &mut Store, file: FileId, birth: u64, work: &mut Work) -> Res
     Ok(())
 }
 
-/// The sender's replica is here in answer to a Seek, or was met by a walk, and is linked. After out of memory a part may
-/// be done.
+/// The sender's replica is here in answer to a Seek, or was met by a walk, and is linked. After out
+/// of memory a part may be done.
 pub fn here(store: &mut Store, ends: Ends, work: &mut Work) -> Result<(), AllocError>
     ensures store { OnOk result (store.new ≡ (here store.old ends work.old).store) }
     ensures work { OnOk result (work.new ≡ (here store.old ends work.old).work) }

@@ -18,8 +18,8 @@ const MOST_HOPS: u8 = 3;
 /// A replica with fewer edges than this, and some, sends walks.
 const FEW_EDGES: usize = 3;
 
-/// A walk: the server of the replica from which it comes, and that replica's birth, how many steps are left, and a
-/// random word for them.
+/// A walk: the server of the replica from which it comes, and that replica's birth, how many steps
+/// are left, and a random word for them.
 #[derive(Clone, Copy, Debug, PartialEq, Eq)]
 struct Walking {
     origin: NodeId,
@@ -28,7 +28,7 @@ struct Walking {
     word: u64,
 }
 
-/// It goes last in the event, along an edge of the replica here.
+/// A walk goes last in the event, along an edge of the replica here.
 fn walk_along(
     store: &Store,
     file: FileId,
@@ -74,7 +74,8 @@ fn with_few_edges(store: &Store) -> Result<Items<FileId>, AllocError>
     ))
 }
 
-/// A walk begins at a replica, by a random word: it goes to one of its peers, and has the rest of the word.
+/// A walk begins at a replica, by a random word: it goes to one of its peers, and has the rest of
+/// the word.
 fn walk_from(store: &Store, word: u64, file: FileId, work: &mut Work) -> Result<(), AllocError>
     ensures { OnOk result (work.new ≡ walk_from store.now word work.old (Some file)) }
 {
@@ -111,8 +112,8 @@ fn walk_of(store: &Store, word: u64, files: &[FileId], work: &mut Work) -> Resul
     Ok(())
 }
 
-/// The walk that a tick sends by its random word, where that is not 0: from one of the full replicas other than the
-/// root's that have one edge or two, to one of its peers.
+/// The walk that a tick sends by its random word, where that is not 0: from one of the full
+/// replicas other than the root's that have one edge or two, to one of its peers.
 pub fn walk_of_tick(store: &Store, word: u64, work: &mut Work) -> Result<(), AllocError>
     ensures { OnOk result (work.new ≡ walk_of_tick store.now word work.old) }
 {
@@ -157,7 +158,7 @@ fn onward_at(edges: &[Edge], from: NodeId, origin: NodeId, index: usize) -> Opti
     None
 }
 
-/// It ends at the replica here, which links its origin and tells that.
+/// A walk ends at the replica here, which links its origin and tells that.
 fn meet_origin(
     store: &mut Store,
     file: FileId,
@@ -185,7 +186,7 @@ fn onward_count_of(store: &Store, file: &FileId, from: NodeId, origin: NodeId) -
     }
 }
 
-/// It goes on, by its word, along one of the edges to others than its sender and its origin.
+/// A walk goes on, by its word, along one of the edges to others than its sender and its origin.
 fn walk_on(
     store: &Store,
     file: FileId,
@@ -216,7 +217,7 @@ fn walk_on(
     Ok(())
 }
 
-/// It goes on where steps are left and there is an edge to go on, and else ends here.
+/// A walk goes on where steps are left and there is an edge to go on, and else ends here.
 fn walked(store: &mut Store, ends: Ends, walk: Walking, work: &mut Work) -> Result<(), AllocError>
     ensures store { OnOk result (store.new
         ≡ (walked store.old ends walk.origin walk.birth walk.hops walk.word
@@ -233,9 +234,10 @@ fn walked(store: &mut Store, ends: Ends, walk: Walking, work: &mut Work) -> Resu
     Ok(())
 }
 
-/// A walk comes along an edge that is there. At its origin nothing comes of it. Where steps are left it goes on, last in
-/// the event, by its word to one of the peers other than its sender and its origin. Else, or where there is none, it ends
-/// here: the replica links its origin, and tells that. After out of memory a part may be done.
+/// A walk comes along an edge that is there. At its origin nothing comes of it. Where steps are
+/// left it goes on, last in the event, by its word to one of the peers other than its sender and
+/// its origin. Else, or where there is none, it ends here: the replica links its origin, and tells
+/// that. After out of memory a part may be done.
 pub fn walk(
     store: &mut Store,
     ends: Ends,

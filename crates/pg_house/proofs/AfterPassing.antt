@@ -22,7 +22,8 @@ use Rattle.pg_house.proofs.Taking.{taking_cell, taking_frame, taking_other, taki
 use Rattle.pg_house.proofs.Spreading.{spread_own, spread_frame, spread_child, spread_cell, spread_gives, spread_new}
 use Rattle.pg_house.proofs.Greatest.{AllAre, cell_held, greatest_cases, greatest_same, greatest_meets, greatest_sorted, joined_same}
 
--- every directory is among these: those with a cell, and those that are held. The flags of all that is held are by server
+-- every directory is among these: those with a cell, and those that are held. The flags of all that
+-- is held are by server
 pub record AreDirs (s : NamesValue) (ds : List FileId) : Type 0 where
   pub cells : (q g : FileId) (c : Entry) → cell_at s q g ≡ Some c → is_among q ds ≡ true
   pub held : (q : FileId) (b : Attributes) → own_at s q ≡ Some b → is_dir q ≡ true → is_among q ds ≡ true

@@ -94,7 +94,8 @@ module _ (moment : ℕ) (st : State) (of_dirs : IsOfDirs st.names) (sorted : Are
     pub two_all : KeepsAll moment Ds Two
     two_all = let two = all_returned moment Ds One (one_settled, one_last) in (two.0.0, two.0.1, no_dead_lists Ds Two.names two.0.0 two.1)
 
-    -- no dead directory lists a child, no live ones stand in a cycle, and no stamp is later than the greatest time
+    -- no dead directory lists a child, no live ones stand in a cycle, and no stamp is later than
+    -- the greatest time
     pub end_all : KeepsAll moment Ds (house moment st)
     end_all = (all_broken moment Ds Two two_all).0
 

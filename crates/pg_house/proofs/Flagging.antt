@@ -87,8 +87,8 @@ module _ (s : NamesValue) (f : FileId) (flag : Flag) where
 
 -- ---- the greatest of what is known
 
--- where the cells for a thing have these flags, and more of them came to the thing itself: the greatest has the same place,
--- and what the thing has
+-- where the cells for a thing have these flags, and more of them came to the thing itself: the
+-- greatest has the same place, and what the thing has
 module _ (s t : NamesValue) (f : FileId) (flags more : List Flag) (again : join_flags more flags ≡ more)
     (same : (d : FileId) → cell_at t d f ≡ cell_at s d f) (all : (d : FileId) (c : Entry) → cell_at s d f ≡ Some c → c.flags ≡ flags) where
   abbrev pub IsBeside : Attributes → Attributes → Type 0

@@ -1,4 +1,5 @@
--- A flag that comes to a thing of calm names passes to the cells for the thing, and nothing else changes.
+-- A flag that comes to a thing of calm names passes to the cells for the thing, and nothing else
+-- changes.
 use Rattle.std.proofs.Common.{◌≡◌, ℕ, Bool, true, false, ◌&&◌, ◌||◌, not, List, length, Option, None, Some, refl, sym, ap, ◌∙◌, subst, inl, inr}
 use Rattle.std.specs.List.{filter}
 use Rattle.std.specs.Map.{keys_of}

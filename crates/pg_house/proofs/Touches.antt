@@ -11,7 +11,8 @@ pub use Rattle.pg_house.specs.Facts.{IsHeld}
 use Rattle.pg_house.specs.Facts.{IsPassed, HasOwnParent, HasPassed}
 use Rattle.pg_house.proofs.Truths.{bool_cases}
 
--- the second differs from the first in nothing but the own place and flag of this file, and the cells for it
+-- the second differs from the first in nothing but the own place and flag of this file, and the
+-- cells for it
 pub record Touches (f : FileId) (s t : NamesValue) : Type 0 where
   pub own : (q : FileId) → is_same_file f q ≡ false → own_at t q ≡ own_at s q
   pub cells : (q g : FileId) → is_same_file f g ≡ false → cell_at t q g ≡ cell_at s q g

@@ -137,8 +137,8 @@ IsOneOf a (x ∷ xs) = (x ≡ a) ⊎ IsOneOf a xs
 abbrev pub IsLeft : Work → FileId → FileId → Type 0
 IsLeft work dir child = IsOneOf {A = Slot} (record { dir = dir; child = child }) work.left
 
--- what was held with this place is held in the end, with the same place, or, where it was a live one
--- and the thing is not the root, it is noted that it was replaced
+-- what was held with this place is held in the end, with the same place, or, where it was a live
+-- one and the thing is not the root, it is noted that it was replaced
 abbrev pub IsKeptOrLeft : State → FileId → Attributes → Type 0
 IsKeptOrLeft after file own =
     (new : Attributes) × (own_at after.names file ≡ Some new)

@@ -1,4 +1,5 @@
--- Places that are held back: directories whose death is known by a cell, and that have not taken it.
+-- Places that are held back: directories whose death is known by a cell, and that have not taken
+-- it.
 use Rattle.std.specs.Prelude.{Bool, false, ◌&&◌, ◌||◌, not, ℕ, List, [], ◌∷◌, Option, None, Some}
 use Rattle.std.specs.List.{filter}
 use Rattle.std.specs.Map.{values_of}

@@ -38,7 +38,7 @@ fn mark(marks: &mut Marks, names: &Names, child: &FileId, cell: &Entry) -> Resul
     Ok(())
 }
 
-/// And so of each of these cells.
+/// Marks the child of each of these cells that is apart.
 fn mark_by(marks: &mut Marks, names: &Names, entries: &Entries) -> Result<(), AllocError>
     ensures { OnOk result
         (marks.new.entries ≡ marked_by names.now marks.old.entries entries.now) }

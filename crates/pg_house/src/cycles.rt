@@ -72,7 +72,7 @@ fn above(names: &Names, dir: &FileId) -> FileId
     }
 }
 
-/// So many steps up.
+/// The directory that stands so many steps above this one.
 fn climb(names: &Names, steps: usize, dir: &FileId) -> FileId
     ensures { result ≡ climb names.now steps dir.now }
 {

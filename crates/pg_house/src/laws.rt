@@ -63,15 +63,17 @@ pub fn none_applies()
         → AreOrdered st.names → house moment (house moment st) ≡ house moment st }
 {}
 
-/// Behind the rules names are calm, and no rule applies to calm names, whatever else comes of the event.
+/// Behind the rules names are calm, and no rule applies to calm names, whatever else comes of the
+/// event.
 pub fn calm_names_stay()
     ensures behind { (moment : ℕ) (st : State) → IsOfDirs st.names → AreByServer st.names
         → IsLast st.names → AreOrdered st.names → IsCalm (house moment st).names }
     ensures stay { (moment : ℕ) (st : State) → IsCalm st.names → house moment st ≡ st }
 {}
 
-/// A flag that comes to a thing of calm names passes to the cells for the thing that are there. Nothing
-/// else changes: no place, no other cell and no own flag. Nothing is made, and no place is replaced.
+/// A flag that comes to a thing of calm names passes to the cells for the thing that are there.
+/// Nothing else changes: no place, no other cell and no own flag. Nothing is made, and no place is
+/// replaced.
 pub fn a_flag_passes()
     ensures differs { (moment : ℕ) (st : State) (file : FileId) (flag : Flag) → IsCalm st.names
         → DiffersByFlags file (flagged st file flag) (house moment (flagged st file flag)) }
@@ -102,9 +104,9 @@ pub fn all_is_told()
         → IsTold st.names (house moment st).names (house moment st).work }
 {}
 
-/// What is held stays held. Of each live place of a held thing, other than the root, that is another
-/// in the end it is noted that it was replaced. Nothing else is noted but such a place, or a live one
-/// that a thing had in between: it came by a cell, or the rules made it.
+/// What is held stays held. Of each live place of a held thing, other than the root, that is
+/// another in the end it is noted that it was replaced. Nothing else is noted but such a place, or
+/// a live one that a thing had in between: it came by a cell, or the rules made it.
 pub fn replaced_places_are_noted()
     ensures { (moment : ℕ) (st : State) → IsNoted st (house moment st) }
 {}

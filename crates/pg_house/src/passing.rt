@@ -42,7 +42,8 @@ fn raise(top: &mut Attributes, cell: &Entry) -> Result<(), AllocError>
     Ok(())
 }
 
-/// The same with a directory's cell for a thing, where it has one.
+/// Takes what is newer of a directory's cell for a thing, where it has one. After out of memory a
+/// part may be taken.
 fn raise_by(
     top: &mut Attributes,
     names: &Names,
@@ -182,7 +183,7 @@ fn offer(
     Ok(())
 }
 
-/// And so each of these directories.
+/// Gives the cell to each of these directories that is to have it and has it not.
 fn spread(
     names: &mut Names,
     work: &mut Work,
@@ -288,7 +289,7 @@ pub(crate) fn pass(
     Ok(())
 }
 
-/// And for each of these.
+/// Passing for each of these things, where these are the held directories.
 pub(crate) fn pass_all(
     names: &mut Names,
     work: &mut Work,

@@ -16,9 +16,9 @@ use std::alloc::AllocError;
 /// More directories than this are not held: memory ends before.
 const MOST: usize = 1 << 40;
 
-/// Runs the house rules until none applies: all things pass, dead directories that list a child come
-/// back, and cycles break. `moment` is the clock at this event. After out of memory a part may be
-/// done.
+/// Runs the house rules until none applies: all things pass, dead directories that list a child
+/// come back, and cycles break. `moment` is the clock at this event. After out of memory a part may
+/// be done.
 pub fn house(names: &mut Names, work: &mut Work, moment: u64) -> Result<(), AllocError>
     requires { names.old.last ≤ 2 ^ 62 + 2 ^ 40 }
     ensures { OnOk result (state_of names.new work.new
@@ -33,7 +33,7 @@ pub fn house(names: &mut Names, work: &mut Work, moment: u64) -> Result<(), Allo
     Ok(())
 }
 
-/// The same, where these are the held directories, and these things are to pass.
+/// Runs the house rules, where these are the held directories, and these things are to pass.
 fn run(
     names: &mut Names,
     work: &mut Work,

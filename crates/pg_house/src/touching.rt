@@ -73,7 +73,7 @@ fn touch_flag(
     Ok(())
 }
 
-/// And so each of these flags.
+/// Notes each of these flags that is not held so.
 fn touch_flags(
     work: &mut Work,
     file: FileId,

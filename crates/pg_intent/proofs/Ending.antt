@@ -1,4 +1,5 @@
--- Many intentions end: where those end that do not pass a test, those that pass it are left, in their order.
+-- Many intentions end: where those end that do not pass a test, those that pass it are left, in
+-- their order.
 use Rattle.std.proofs.Common.{◌≡◌, ◌∙◌, Bool, true, false, not, cond, List, [], ◌∷◌, map, filter, refl, ap}
 use Rattle.std.specs.List.{AllByRecursion, IsDistinct}
 use Rattle.pg_intent.specs.declared.key.IntentKey.{IntentKey}

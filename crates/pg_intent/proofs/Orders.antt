@@ -1,4 +1,5 @@
--- The order in which one event begins intentions: the derived one is it, it is total, and only one key ties with a key.
+-- The order in which one event begins intentions: the derived one is it, it is total, and only one
+-- key ties with a key.
 use Rattle.std.proofs.Common.{ℕ, ◌≡◌, ◌∙◌, ◌&&◌, eqb, refl, sym, ap, subst, arith, Less, Equal, Greater}
 use Rattle.std.specs.declared.cmp.Ordering.{Ordering}
 use Rattle.std.specs.Ordering.{is_eq, nat_cmp, ordering_then}

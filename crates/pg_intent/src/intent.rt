@@ -9,11 +9,12 @@ use pg_call::IntentKind;
 use pg_entries::Entry;
 use std::alloc::AllocError;
 
-/// What a server intends until others have answered. A target is the server that is asked: 0 for none. A Bye and a
-/// Leave are for their peer alone.
+/// What a server intends until others have answered. A target is the server that is asked: 0 for
+/// none. A Bye and a Leave are for their peer alone.
 #[derive(Debug, Drop)]
 pub enum Intent {
-    /// To tell a peer that the replica with this birth is gone. `peer_birth` is the birth of the peer's replica.
+    /// To tell a peer that the replica with this birth is gone. `peer_birth` is the birth of the
+    /// peer's replica.
     Bye {
         file: FileId,
         birth: u64,
@@ -43,7 +44,8 @@ pub enum Intent {
         child: FileId,
         target: NodeId,
     },
-    /// To ask a gold peer for leave to drop the replica. `peer_birth` is the birth of the peer's replica.
+    /// To ask a gold peer for leave to drop the replica. `peer_birth` is the birth of the peer's
+    /// replica.
     Leave {
         file: FileId,
         peer: NodeId,
@@ -93,7 +95,7 @@ impl Intent {
         }
     }
 
-    /// What it is about: the directory, where it is about a child of one.
+    /// The file that an intention is about, or the directory, where it is about a child of one.
     pub fn file(&self) -> FileId
         ensures { result ≡ file_of self.now }
     {
@@ -118,7 +120,7 @@ impl Intent {
         }
     }
 
-    /// Which server is asked: 0 for none.
+    /// The server that is asked: 0 for none.
     pub fn target(&self) -> NodeId
         ensures { result ≡ target_of self.now }
     {
@@ -159,8 +161,8 @@ impl Intent {
         }
     }
 
-    /// Begins again, as the other of the same key. A Patch joins the other's entry and keeps its target. Of the other
-    /// kinds nothing changes.
+    /// Begins again, as the other of the same key. A Patch joins the other's entry and keeps its
+    /// target. Of the other kinds nothing changes.
     pub(crate) fn rejoin(&mut self, other: Intent) -> Result<(), AllocError>
         ensures ok { OnOk result (self.new ≡ rejoined self.old other) }
         ensures err { OnErr result (self.new ≡ self.old) }
@@ -175,7 +177,7 @@ impl Intent {
         Ok(())
     }
 
-    /// The same intention again.
+    /// Copies the intention.
     pub fn copy(&self) -> Result<Intent, AllocError>
         ensures { IfOk result (λ intent. intent ≡ self.now) }
     {

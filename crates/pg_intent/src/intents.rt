@@ -87,15 +87,16 @@ impl Intents {
         self.by_key.get(key)
     }
 
-    /// The first intention that is about this file or directory, or about this child of a directory.
+    /// The first intention that is about this file or directory, or about this child of a
+    /// directory.
     pub fn first_about(&self, id: FileId) -> Option<&Intent>
         ensures { option_copied result ≡ find (is_about id) self.now }
     {
         self.iter().find(|intent| intent.is_about(id))
     }
 
-    /// Begins the intention, behind the others. Where one with its key stands it stays in its place, and a Patch
-    /// joins the entry. Tells whether none stood.
+    /// Begins the intention, behind the others. Where one with its key stands it stays in its
+    /// place, and a Patch joins the entry. Tells whether none stood.
     pub fn begin(&mut self, intent: Intent) -> Result<bool, AllocError>
         ensures begun { OnOk result (self.new ≡ begun self.old intent) }
         ensures news { IfOk result (λ news. news ≡ not (stands self.old (key_of intent))) }
@@ -130,7 +131,8 @@ impl Intents {
         self.take(key).is_some()
     }
 
-    /// Asks this server from now on, where the intention with this key stands. A Bye and a Leave stay with their peer.
+    /// Asks this server from now on, where the intention with this key stands. A Bye and a Leave
+    /// stay with their peer.
     pub fn aim(&mut self, key: &IntentKey, target: NodeId)
         ensures { self.new ≡ aimed self.old key.now target }
     {
@@ -151,7 +153,8 @@ impl Intents {
         Ok(keys)
     }
 
-    /// An intention that asks a server which is removed asks this one from now on; a Bye and a Leave end.
+    /// An intention that asks a server which is removed asks this one from now on; a Bye and a
+    /// Leave end.
     fn turn(&mut self, key: &IntentKey, to: NodeId)
         ensures { self.new ≡ turned self.old key.now to }
     {
@@ -162,7 +165,8 @@ impl Intents {
         }
     }
 
-    /// The same of the intentions with these keys, one behind another.
+    /// The intentions with these keys that ask a server which is removed ask this one from now on,
+    /// one behind another; a Bye and a Leave end.
     pub fn turn_each(&mut self, keys: &[IntentKey], to: NodeId)
         ensures { self.new ≡ turned_each self.old keys.now to }
     {

@@ -55,8 +55,9 @@ impl IntentKey {
         }
     }
 
-    /// Which of two begins first, where one event begins both. Kinds stand in the order in which they are listed
-    /// here; of one kind the lesser file or directory comes first, then the lesser child, or birth and peer.
+    /// Compares two keys by which begins first, where one event begins both. Kinds stand in the
+    /// order in which they are listed here; of one kind the lesser file or directory comes first,
+    /// then the lesser child, or birth and peer.
     pub fn compare(&self, other: &IntentKey) -> Ordering
         ensures { result ≡ key_cmp self.now other.now }
     {

@@ -8,8 +8,8 @@ ghost use Rattle.pg_intent.specs.Intents.{AimedIsFound, BegunIsFound, EndedIsFou
 ghost use Rattle.pg_intent.specs.declared.intent.Intent.{Intent};
 ghost use Rattle.pg_intent.specs.declared.key.IntentKey.{IntentKey};
 
-/// What is found behind a beginning: with its key the intention, or the two in one, and with each other key what was
-/// found.
+/// What is found behind a beginning: with its key the intention, or the two in one, and with each
+/// other key what was found.
 pub fn begun_intents_are_found()
     ensures { (is : List Intent) (i : Intent) (k : IntentKey) → BegunIsFound is i k }
 {}
@@ -19,7 +19,8 @@ pub fn ended_intents_are_gone()
     ensures { (is : List Intent) (gone k : IntentKey) → EndedIsFound is gone k }
 {}
 
-/// What is found behind an aim: with its key the intention with the new target, and with each other key what was found.
+/// What is found behind an aim: with its key the intention with the new target, and with each other
+/// key what was found.
 pub fn aims_change_targets_only()
     ensures found { (is : List Intent) (one : IntentKey) (target : ℕ) (k : IntentKey)
         → AimedIsFound is one target k }
@@ -27,8 +28,8 @@ pub fn aims_change_targets_only()
         → length (aimed is one target) ≡ length is }
 {}
 
-/// What is found where a server is removed: what asked it asks another one, a Bye and a Leave that were for it are none
-/// any more, and with each other key what was found.
+/// What is found where a server is removed: what asked it asks another one, a Bye and a Leave that
+/// were for it are none any more, and with each other key what was found.
 pub fn turned_intents_are_found()
     ensures found { (is : List Intent) (server to : ℕ) (k : IntentKey)
         → HaveOwnKeys is → TurnedIsFound is server to k }

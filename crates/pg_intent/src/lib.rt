@@ -1,5 +1,5 @@
-//! What a server intends until others have answered: its intentions, in the order in which they began, and which
-//! server is asked next.
+//! What a server intends until others have answered: its intentions, in the order in which they
+//! began, and which server is asked next.
 #![tactic(auto)]
 
 mod intent;

@@ -6,8 +6,8 @@ ghost use Rattle.pg_intent.specs.Target.{IsNextTarget, first_above, is_live_othe
 use pg_base::NodeId;
 use pg_register::is_removed;
 
-/// The least live other server above the target, else the least live other server, else 0. The servers are numbered
-/// from 1 to `servers`; `server` is the one that asks.
+/// The least live other server above the target, else the least live other server, else 0. The
+/// servers are numbered from 1 to `servers`; `server` is the one that asks.
 pub fn next_target(servers: u32, server: NodeId, removed: &[NodeId], target: NodeId) -> NodeId
     ensures next { result ≡ next_target servers server removed.now target }
     ensures least { IsNextTarget servers server removed.now target result }

@@ -1,4 +1,5 @@
--- What Invites leave of the work: where a message more at the end keeps what is said of it, all of them do.
+-- What Invites leave of the work: where a message more at the end keeps what is said of it, all of
+-- them do.
 use Rattle.std.proofs.Common.{Bool, true, false, cond, Option, None, Some, List, [], ◌∷◌}
 use Rattle.std.specs.Map.{keys_of}
 use Rattle.pg_base.specs.declared.id.FileId.{FileId}

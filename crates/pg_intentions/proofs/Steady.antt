@@ -1,4 +1,5 @@
--- What the end of an event leaves as it is: intentions alone begin and end, births are given out, and wishes end.
+-- What the end of an event leaves as it is: intentions alone begin and end, births are given out,
+-- and wishes end.
 use Rattle.std.proofs.Common.{◌≡◌, ◌≤◌, Bool, true, false, cond, is_some, List, [], ◌∷◌, Option, None, Some, refl, ap, ◌∙◌, arith}
 use Rattle.pg_base.specs.declared.id.FileId.{FileId}
 use Rattle.pg_intent.specs.declared.intent.Intent.{Intent}

@@ -16,9 +16,9 @@ use Rattle.pg_intentions.specs.Patches.{begin_patches}
 use Rattle.pg_graph.specs.Leaving.{may_still_leave}
 use Rattle.pg_intentions.specs.Seeks.{begin_seeks, is_seeking, to_seek}
 
--- the condition of an intention holds, if it has one: a Seek is of what seeks, a Fill of what is to be
--- filled, a Confirm of a child that is listed and not held, a Leave to a peer that is listed with the
--- birth and whose flag of that birth is raised. The others end by answers
+-- the condition of an intention holds, if it has one: a Seek is of what seeks, a Fill of what is to
+-- be filled, a Confirm of a child that is listed and not held, a Leave to a peer that is listed
+-- with the birth and whose flag of that birth is raised. The others end by answers
 abbrev pub still_stands : Store → Files → Intent → Bool
 still_stands store files (intent.Bye file birth peer peer_birth) = true
 still_stands store files (intent.Seek file target) = is_seeking store file

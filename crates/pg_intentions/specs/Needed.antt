@@ -65,8 +65,8 @@ IsPatched store work dir child =
 abbrev pub HasItsSeek : Store → Work → FileId → Type 0
 HasItsSeek store work file = has_seek (begin_end store work).store file ≡ is_seeking store file
 
--- and nothing is left to do: where no place was replaced since then, no doubtful cell came and no edge
--- was made, the end of a further event changes nothing
+-- and nothing is left to do: where no place was replaced since then, no doubtful cell came and no
+-- edge was made, the end of a further event changes nothing
 abbrev pub LeavesNothing : Store → Work → Type 0
 LeavesNothing store work = (later : Work) → later.left ≡ [] → later.unsure ≡ []
     → later.linked ≡ []

@@ -52,8 +52,8 @@ seeks server removed flags birth edges = if is_raised flags server birth
     then list_any (is_apart server removed edges) flags
     else not (list_any (matches removed flags) edges)
 
--- a gold replica seeks where it sees a live gold of another server to which it has no edge, a bronze
--- one where it has no edge to a live gold that it sees
+-- a gold replica seeks where it sees a live gold of another server to which it has no edge, a
+-- bronze one where it has no edge to a live gold that it sees
 abbrev pub is_seeking : Store → FileId → Bool
 is_seeking store file = is_held store file
     && (if is_gold store file then has_gold_apart store file else not (has_gold_edge store file))

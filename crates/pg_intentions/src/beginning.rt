@@ -17,9 +17,9 @@ use pg_msg::Work;
 use pg_store::Store;
 use std::alloc::AllocError;
 
-/// Each intention ends whose condition does not hold any more, and those begin for which there is a cause: Patches by
-/// directory and child, then Fills by file, then Seeks by file, then Confirms by directory and child. After out of memory
-/// a part may be done.
+/// Each intention ends whose condition does not hold any more, and those begin for which there is a
+/// cause: Patches by directory and child, then Fills by file, then Seeks by file, then Confirms by
+/// directory and child. After out of memory a part may be done.
 pub fn begin_end(store: &mut Store, work: &mut Work) -> Result<(), AllocError>
     ensures store { OnOk result (store.new ≡ (begin_end store.old work.old).store) }
     ensures work { OnOk result (work.new ≡ (begin_end store.old work.old).work) }
@@ -34,9 +34,9 @@ pub fn begin_end(store: &mut Store, work: &mut Work) -> Result<(), AllocError>
     Ok(())
 }
 
-/// Whether the condition of an intention holds, if it has one: a Seek is of what seeks, a Fill of what is to be filled, a
-/// Confirm of a child that is listed and not held, a Leave to a peer that is listed with the birth, and whose flag of that
-/// birth is raised.
+/// Whether the condition of an intention holds, if it has one: a Seek is of what seeks, a Fill of
+/// what is to be filled, a Confirm of a child that is listed and not held, a Leave to a peer that
+/// is listed with the birth, and whose flag of that birth is raised.
 fn still_stands(store: &Store, files: &Files, intent: &Intent) -> bool
     ensures { result ≡ still_stands store.now files.now.entries intent.now }
 {
@@ -71,7 +71,7 @@ fn add_ended(
     Ok(())
 }
 
-/// Its key comes to these, unless it stays.
+/// Puts an intention's key behind these, unless it stays.
 fn add_key(stays: bool, intent: &Intent, keys: &mut Items<IntentKey>) -> Result<(), AllocError>
     ensures { OnOk result (keys.new ≡ keys.old ++ ended_key stays intent.now) }
 {
@@ -105,7 +105,7 @@ fn end_each(intents: &mut Intents, keys: &[IntentKey])
     }
 }
 
-/// Those end whose condition does not hold.
+/// The intentions end whose condition does not hold.
 #[tactic(auto, using(crate::proofs::Ending::others_end))]
 fn end_others(store: &mut Store, files: &Files) -> Result<(), AllocError>
     ensures { OnOk result (store.new ≡ end_others store.old files.now.entries) }

@@ -21,8 +21,8 @@ pub(crate) fn is_doubtful(store: &Store, dir: &FileId, child: &FileId) -> bool
     }
 }
 
-/// Of each cell whose place came from a server that is not sure of it, a Confirm begins, where the directory lists the
-/// child and that is not held. One that stands stays as it is.
+/// Of each cell whose place came from a server that is not sure of it, a Confirm begins, where the
+/// directory lists the child and that is not held. One that stands stays as it is.
 pub(crate) fn begin_confirms(store: &mut Store, work: &mut Work) -> Result<(), AllocError>
     ensures store { OnOk result (store.new ≡ (begin_confirms store.old work.old).store) }
     ensures work { OnOk result (work.new ≡ (begin_confirms store.old work.old).work) }
@@ -34,7 +34,7 @@ pub(crate) fn begin_confirms(store: &mut Store, work: &mut Work) -> Result<(), A
     Ok(())
 }
 
-/// Of one of them.
+/// A Confirm begins of one cell, where the directory lists the child and that is not held.
 fn begin_confirm(store: &mut Store, slot: Slot, work: &mut Work) -> Result<(), AllocError>
     ensures store { OnOk result (store.new ≡ (begin_confirm store.old slot work.old).store) }
     ensures work { OnOk result (work.new ≡ (begin_confirm store.old slot work.old).work) }
@@ -51,7 +51,8 @@ fn begin_confirm(store: &mut Store, slot: Slot, work: &mut Work) -> Result<(), A
     Ok(())
 }
 
-/// The server that is asked first: the least other live gold of the child, else the next behind this server.
+/// The server that is asked first: the least other live gold of the child, else the next behind
+/// this server.
 fn holder(store: &Store, dir: &FileId, child: &FileId) -> NodeId
     ensures { result ≡ holder store.now dir.now child.now }
 {

@@ -38,7 +38,7 @@ fn lacks_parent(names: &Names, file: &FileId, held: &Inode) -> bool
     !is_root(file) && place.live && !names.is_held(&place.parent)
 }
 
-/// That parent.
+/// Adds the parent in the live place of a held thing, where that is not held.
 fn add_parent(
     names: &Names,
     files: &mut Files,
@@ -64,8 +64,8 @@ fn add_held(names: &Names, files: &mut Files, file: &FileId, held: &Inode) -> Re
     Ok(())
 }
 
-/// All that is to be filled: what is held and filling, and what is not held and is the parent in the live place of
-/// something that is.
+/// All that is to be filled: what is held and filling, and what is not held and is the parent in
+/// the live place of something that is.
 pub(crate) fn to_fill(names: &Names) -> Result<Files, AllocError>
     ensures { IfOk result (λ files. files.entries ≡ files_to_fill names.now) }
 {
@@ -100,7 +100,7 @@ fn has_fill(store: &Store, file: FileId) -> bool
     store.intents.get(&IntentKey::Fill { file }).is_some()
 }
 
-/// Of one of them. It asks the sender of the event's message first.
+/// A Fill begins of one thing. It asks the sender of the event's message first.
 fn begin_fill(store: &mut Store, file: FileId, work: &mut Work) -> Result<(), AllocError>
     ensures store { OnOk result (store.new ≡ (begin_fill store.old file work.old).store) }
     ensures work { OnOk result (work.new ≡ (begin_fill store.old file work.old).work) }
@@ -119,7 +119,8 @@ fn begin_fill(store: &mut Store, file: FileId, work: &mut Work) -> Result<(), Al
     Ok(())
 }
 
-/// The birth of a replica that is to be filled: its own, or that of the wish for it, which ends, or a fresh one.
+/// The birth of a replica that is to be filled: its own, or that of the wish for it, which ends, or
+/// a fresh one.
 fn birth_to_fill(store: &mut Store, file: &FileId) -> Result<u64, AllocError>
     ensures birth { IfOk result (λ birth. birth ≡ fill_birth store.old file.now) }
     ensures store { OnOk result (store.new ≡ with_fill_birth store.old file.now) }

@@ -11,7 +11,7 @@ use std::collections::BTreeMap;
 /// Slots in order, each once.
 pub(crate) type Slots = BTreeMap<Slot, ()>;
 
-/// These, by directory and then by child.
+/// Sorts these slots by directory and then by child, each once.
 pub(crate) fn slots_of(alloc: Global, some: &Items<Slot>) -> Result<Slots, AllocError>
     ensures { IfOk result (λ slots. slots.entries ≡ add_slots [] some.now) }
 {

@@ -72,7 +72,7 @@ fn invite(store: &Store, file: FileId, work: &mut Work) -> Result<(), AllocError
     Ok(())
 }
 
-/// The same of these things, one behind another.
+/// Sends the invitations of these things, one behind another.
 fn invite_each(store: &Store, files: &[FileId], work: &mut Work) -> Result<(), AllocError>
     ensures { OnOk result (work.new ≡ invite_each store.now files.now work.old) }
 {
@@ -82,7 +82,7 @@ fn invite_each(store: &Store, files: &[FileId], work: &mut Work) -> Result<(), A
     Ok(())
 }
 
-/// The same of all that is held, by id.
+/// Sends the invitations of all that is held, by id.
 pub fn invite_all(store: &Store, work: &mut Work) -> Result<(), AllocError>
     ensures { OnOk result (work.new ≡ invite_all store.now work.old) }
 {

@@ -11,8 +11,8 @@ use pg_repair::own_entry;
 use pg_store::Store;
 use std::alloc::AllocError;
 
-/// Of each live place that was replaced, a Patch begins where its directory is not held. One that stands joins the
-/// place and flags that the child has now, and asks whom it asked.
+/// Of each live place that was replaced, a Patch begins where its directory is not held. One that
+/// stands joins the place and flags that the child has now, and asks whom it asked.
 pub(crate) fn begin_patches(store: &mut Store, work: &mut Work) -> Result<(), AllocError>
     ensures store { OnOk result (store.new ≡ (begin_patches store.old work.old).store) }
     ensures work { OnOk result (work.new ≡ (begin_patches store.old work.old).work) }
@@ -24,7 +24,7 @@ pub(crate) fn begin_patches(store: &mut Store, work: &mut Work) -> Result<(), Al
     Ok(())
 }
 
-/// Of one of them.
+/// A Patch begins of one place that was replaced, where its directory is not held.
 fn begin_patch(store: &mut Store, slot: Slot, work: &mut Work) -> Result<(), AllocError>
     ensures store { OnOk result (store.new ≡ (begin_patch store.old slot work.old).store) }
     ensures work { OnOk result (work.new ≡ (begin_patch store.old slot work.old).work) }

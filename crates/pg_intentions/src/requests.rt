@@ -14,7 +14,8 @@ use pg_msg::{Ends, Message, Sent, Work};
 use pg_store::Store;
 use std::alloc::AllocError;
 
-/// What the server asks for by an intention. None where what it is about is not held: then it does not stand.
+/// What the server asks for by an intention. None where what it is about is not held: then it does
+/// not stand.
 fn request(store: &Store, intent: &Intent) -> Result<Option<Message>, AllocError>
     ensures { IfOk result (λ message. message ≡ request store.now intent.now) }
 {

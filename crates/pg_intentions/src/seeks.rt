@@ -47,7 +47,8 @@ fn first_apart<'a>(store: &Store, edges: &Edges, flags: &'a [Flag]) -> Option<&'
     flags.iter().find(|flag| is_apart(store, edges, flag))
 }
 
-/// Whether the flag of the edge's peer is raised with the birth that the edge names, and the peer is not removed.
+/// Whether the flag of the edge's peer is raised with the birth that the edge names, and the peer
+/// is not removed.
 pub fn matches(store: &Store, flags: &GoldFlags, edge: &Edge) -> bool
     ensures { result ≡ matches store.now.names.removed flags.now edge.now }
 {
@@ -61,8 +62,9 @@ fn has_match(store: &Store, flags: &GoldFlags, edges: &[Edge]) -> bool
     edges.iter().any(|edge| matches(store, flags, edge))
 }
 
-/// Whether a replica with these flags, this birth and these edges seeks: a gold one where it sees a live gold of another
-/// server to which it has no edge, a bronze one where it has no edge to a live gold that it sees.
+/// Whether a replica with these flags, this birth and these edges seeks: a gold one where it sees a
+/// live gold of another server to which it has no edge, a bronze one where it has no edge to a live
+/// gold that it sees.
 fn seeks(store: &Store, flags: &GoldFlags, birth: u64, edges: &Edges) -> bool
     ensures { result
         ≡ seeks store.now.names.server store.now.names.removed flags.now birth edges.now }
@@ -102,8 +104,8 @@ pub fn to_seek(store: &Store) -> Result<Items<FileId>, AllocError>
     ))
 }
 
-/// The server that a Seek asks: the least live other server whose flag is raised, and to which there is no edge, else
-/// the next behind this server.
+/// The server that a Seek asks: the least live other server whose flag is raised, and to which
+/// there is no edge, else the next behind this server.
 fn seek_target(store: &Store, file: &FileId) -> NodeId
     ensures { result ≡ seek_target store.now file.now }
 {
@@ -146,7 +148,8 @@ fn has_seek(store: &Store, file: FileId) -> bool
     store.intents.get(&IntentKey::Seek { file }).is_some()
 }
 
-/// Of one thing that seeks.
+/// A Seek begins of one thing of which none stands; one that stands asks anew where an edge of the
+/// thing was made in this event.
 fn begin_seek(store: &mut Store, file: FileId, work: &mut Work) -> Result<(), AllocError>
     ensures store { OnOk result (store.new ≡ (begin_seek store.old file work.old).store) }
     ensures work { OnOk result (work.new ≡ (begin_seek store.old file work.old).work) }
@@ -163,8 +166,8 @@ fn begin_seek(store: &mut Store, file: FileId, work: &mut Work) -> Result<(), Al
     Ok(())
 }
 
-/// A Seek begins of each of these of which none stands, and one that stands asks anew where an edge of its thing was
-/// made in this event.
+/// A Seek begins of each of these of which none stands, and one that stands asks anew where an edge
+/// of its thing was made in this event.
 pub fn begin_seeks(store: &mut Store, files: &[FileId], work: &mut Work) -> Result<(), AllocError>
     ensures store { OnOk result
         (store.new ≡ (begin_seeks store.old files.now work.old).store) }

@@ -15,11 +15,13 @@ pub record LacksPrinted (text : List ℕ) : Type 0 where
 abbrev pub HasEnd : List ℕ → Type 0
 HasEnd text = (line : List ℕ) × (rest : List ℕ) × (text ≡ line ++ 10 ∷ rest)
 
--- what is wrong with the first line of the text: no line feed ends it, or it is no line of a journal
+-- what is wrong with the first line of the text: no line feed ends it, or it is no line of a
+-- journal
 abbrev pub IsOtherFault : List ℕ → Fault → Type 0
 IsOtherFault text fault = ((HasEnd text → ⊥) × (fault ≡ End)) ⊎ (HasEnd text × (fault ≡ Verb))
 
--- the line with this number is the first that is none of a journal, for this fault; the text's first line has number 1
+-- the line with this number is the first that is none of a journal, for this fault; the text's
+-- first line has number 1
 pub record IsFirstOther (text : List ℕ) (number : ℕ) (fault : Fault) : Type 0 where
   pub good : List JournalLine
   pub rest : List ℕ

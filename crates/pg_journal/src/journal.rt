@@ -20,7 +20,7 @@ use std::alloc::{AllocError, Global};
 #[derive(Clone, Copy, Debug, PartialEq, Eq)]
 enum Stop {
     OutOfMemory,
-    /// It is none of a journal.
+    /// The line is none of a journal, for this fault.
     Other(Fault),
 }
 

@@ -65,7 +65,7 @@ fn tick_of(alloc: Global, words: &[&[u8]]) -> Result<Option<JournalLine>, AllocE
     Ok(Some(JournalLine::Tick { server, reply }))
 }
 
-/// Which event changes nothing, from the words behind `void`.
+/// The line of an event that changes nothing, from the words behind `void`.
 fn nothing_of(words: &[&[u8]]) -> Option<JournalLine>
     ensures found { IfSome result (Reads verb.Void (map (λ w. w.now) words.now)) }
     ensures none { IfNone result ((p : JournalLine)
@@ -79,7 +79,7 @@ fn nothing_of(words: &[&[u8]]) -> Option<JournalLine>
     Some(JournalLine::Void { line, cause })
 }
 
-/// Which version was made, from the words behind `made`.
+/// The line of a version that was made, from the words behind `made`.
 fn made_of(alloc: Global, words: &[&[u8]]) -> Result<Option<JournalLine>, AllocError>
     ensures found { IfOk result (λ o. IfSome o (Reads verb.Made (map (λ w. w.now) words.now))) }
     ensures none { IfOk result (λ o. IfNone o ((p : JournalLine)
@@ -91,7 +91,7 @@ fn made_of(alloc: Global, words: &[&[u8]]) -> Result<Option<JournalLine>, AllocE
     }
 }
 
-/// Which message was sent, from the words behind `sent`.
+/// The line of a message that was sent, from the words behind `sent`.
 fn sent_of(words: &[&[u8]]) -> Option<JournalLine>
     ensures found { IfSome result (Reads verb.Sent (map (λ w. w.now) words.now)) }
     ensures none { IfNone result ((p : JournalLine)

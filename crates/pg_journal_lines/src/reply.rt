@@ -216,7 +216,7 @@ fn stat_of(alloc: Global, words: &[&[u8]]) -> Result<Option<Stat>, AllocError>
     }))
 }
 
-/// The same as a reply.
+/// The reply of a stat, from its words.
 fn told_stat(alloc: Global, words: &[&[u8]]) -> Result<Option<Reply>, AllocError>
     ensures found { IfOk result (λ o. IfSome o (λ r. IsReply r
         × (codes "stat" ∷ map (λ w. w.now) words.now ≡ reply_words r))) }

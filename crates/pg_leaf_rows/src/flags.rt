@@ -26,7 +26,7 @@ fn show_flag(flag: &Flag, out: &mut Answer) {
     out.push(if flag.raised { b'+' } else { b'-' });
 }
 
-/// All of them, by index.
+/// Shows all flags, by index.
 fn show(flags: &GoldFlags, out: &mut Answer) {
     write!(out, "{}:", flags.len());
     for index in 0..flags.len() {

@@ -83,7 +83,7 @@ impl Intended {
         }
     }
 
-    /// All of them, by index.
+    /// Shows all intentions, by index.
     fn show(&self, out: &mut Answer) {
         write!(out, "{}", self.intents.len());
         if self.intents.is_empty() {

@@ -7,3 +7,4 @@ pub mod Bad
 pub mod Lengths
 pub mod Entries
 pub mod Refusals
+pub mod Standing

@@ -25,5 +25,5 @@ mod log;
 mod reading;
 
 pub use error::LogError;
-pub use laws::files_open_once;
+pub use laws::{files_open_once, standing_logs_open};
 pub use log::{Log, Records};

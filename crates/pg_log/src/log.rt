@@ -1,12 +1,12 @@
 //! The log.
 
-ghost use Rattle.std.specs.Prelude.{◌≡◌, ◌≤◌, ◌<◌, ◌+◌, ◌-◌, ◌^◌, ◌↔◌, ◌⊎◌, [], ◌∷◌, ◌++◌, List, ℕ, length, None, IsSome, IfOk, IfErr, OnOk, OnErr, IsErrOf, IsErrAnd, MatchResult};
+ghost use Rattle.std.specs.Prelude.{◌≡◌, ◌≤◌, ◌<◌, ◌+◌, ◌-◌, ◌^◌, ◌↔◌, ◌⊎◌, [], ◌∷◌, ◌++◌, List, ℕ, length, None, Some, IsSome, IfOk, IfErr, OnOk, OnErr, IsErrOf, IsErrAnd, MatchResult};
 ghost use Rattle.pg_io.specs.Causes.{Rose};
 ghost use Rattle.pg_disk.specs.Disk.{IsSettled};
 ghost use Rattle.pg_disk.specs.Told.{given, steps};
 ghost use Rattle.pg_disk.specs.Moments.{LeavesSince};
 ghost use Rattle.pg_disk.specs.Synced.{KeepsOthers};
-ghost use Rattle.pg_log.specs.Bytes.{front, OpensTo, IsBadAt};
+ghost use Rattle.pg_log.specs.Bytes.{front, AllFit, OpensTo, IsBadAt};
 ghost use Rattle.pg_log.specs.Log.{Stands, OpensWithOrWithout};
 
 use crate::block::{START, read_entries, written_block};
@@ -49,6 +49,10 @@ impl Log {
         ensures opened { IfOk result (λ log. D.tells → OpensTo (given (D.told disk.old) 0) log.1) }
         ensures stands { IfOk result (λ log. D.tells → Stands log.0 (D.told disk.new) log.1) }
         ensures ready { IfOk result (λ log. IsSome log.0) }
+
+        // Whatever the disk tells, the log knows the place of the gate behind these entries.
+        ensures place { IfOk result (λ log. log.0 ≡ Some (length (front log.1))) }
+        ensures fit { IfOk result (λ log. AllFit log.1) }
 
         // Where a crash left just what a read gives, at each moment since it leaves a file that
         // opens to the same entries.

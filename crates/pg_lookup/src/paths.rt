@@ -21,7 +21,7 @@ const MOST_CELLS: usize = 4096;
 /// How a call came to a thing.
 #[derive(Clone, Copy, Debug, PartialEq, Eq)]
 pub enum Way {
-    /// It is the root, at which every walk begins.
+    /// The call begins at the root, as every walk does.
     Start,
     /// By the entry for it in this directory.
     Entry(FileId),
@@ -46,7 +46,7 @@ const START: Found = Found {
 #[derive(Clone, Copy, Debug, PartialEq, Eq)]
 pub enum LookupError {
     Refused(Refusal),
-    /// It came to this, which is not held here, or is filling.
+    /// The walk came to this thing, which is not held here, or is filling.
     NotYet(Found),
 }
 
@@ -54,8 +54,8 @@ pub enum LookupError {
 /// Each but the last has to be a directory, and the last where `needs_dir` asks for it.
 ///
 /// It stops at the first component at which one of these holds, tried in this order: `NotYet`, the
-/// directory in which it is looked up is not held and full; `NoName`, that does not show it; `NotDir`,
-/// a directory is needed, and it is a file.
+/// directory in which it is looked up is not held and full; `NoName`, that does not show it;
+/// `NotDir`, a directory is needed, and it is a file.
 pub fn walk(names: &Names, path: &Path, count: usize, needs_dir: bool) -> Result<Found, LookupError>
     ensures { result ≡ walk names.now needs_dir (take count path.now) }
 {

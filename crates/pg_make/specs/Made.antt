@@ -29,7 +29,8 @@ first_lines servers (suc count) words =
     let more = numbered_lines servers (suc count) before.1 in
     (before.0 ++ more.0, more.1)
 
--- all lines behind the header: those of the events, a settling, and the question whether all is done
+-- all lines behind the header: those of the events, a settling, and the question whether all is
+-- done
 abbrev pub made_lines : ℕ → ℕ → ℕ → List Line
 made_lines seed servers events =
     (first_lines servers events (first_words seed)).0

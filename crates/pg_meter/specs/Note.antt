@@ -50,8 +50,8 @@ note_of entry repeats = record {
   repeats = repeats;
 }
 
--- ---- meters that are handed in, in their order: of each what it counts and what it has counted, and
--- none from when it was taken off
+-- ---- meters that are handed in, in their order: of each what it counts and what it has counted,
+-- and none from when it was taken off
 
 abbrev pub reading : MeterKind → ℕ → Reading
 reading kind value = record { kind = kind; value = value }

@@ -10,10 +10,10 @@ use std::alloc::{AllocError, Global};
 
 /// A meter counts one thing of the events that it is shown. Its count stops at the greatest `u64`.
 pub trait Meter: Drop {
-    /// What it has counted.
+    /// The number that the meter has counted.
     ghost counted: { Self → ℕ };
 
-    /// What it counts.
+    /// The kind of what the meter counts.
     ghost counts: { Self → MeterKind };
 
     /// Adds what an event had of the thing. It takes no memory.
@@ -38,7 +38,7 @@ pub struct Reading {
 /// Meters in the order in which they were handed in, each until it is taken off.
 pub type Meters = Vec<Option<Box<dyn Meter>>>;
 
-/// These meters, none of which is taken off.
+/// Hands in these meters, none of which is taken off.
 pub fn hand_in(alloc: Global, meters: Vec<Box<dyn Meter>>) -> Result<Meters, AllocError>
     ensures { IfOk result (λ slots.
         map (λ o. option_map (λ m. reading (counts m) (counted m)) o) slots.items

@@ -1,4 +1,5 @@
--- Ranges as words: their parts one by one, cut at their colon, and no two lists of parts with one spelling.
+-- Ranges as words: their parts one by one, cut at their colon, and no two lists of parts with one
+-- spelling.
 use Rattle.std.proofs.Common.{ℕ, ◌≡◌, ◌≢◌, ◌<◌, ◌≤◌, ◌^◌, ◌+◌, ◌==◌, List, [], ◌∷◌, ◌++◌, cond, ◌⊎◌, inl, inr, length, refl, sym, ap, ◌∙◌, subst, arith, codes, decimal, All}
 use Rattle.std.specs.List.{AllByRecursion}
 use Rattle.std.proofs.lemmas.Bool.Decides.{eqb_tells}

@@ -28,15 +28,15 @@ part_word p = decimal p.offset ++ 58 ∷ hex_word p.bytes
 abbrev pub parts_word : List Part → List ℕ
 parts_word parts = list_word (map part_word parts)
 
--- a version that was made, with these words for the file, the stamp, the bases, what stays, the least length and
--- the parts
+-- a version that was made, with these words for the file, the stamp, the bases, what stays, the
+-- least length and the parts
 abbrev pub version_words : List ℕ → List ℕ → List ℕ → List ℕ → List ℕ → List ℕ → List (List ℕ)
 version_words file stamp bases keep least parts =
     codes "version" ∷ file ∷ stamp ∷ codes "from" ∷ bases ∷ codes "keep" ∷ keep ∷ codes "least"
     ∷ least ∷ codes "parts" ∷ parts ∷ []
 
--- its file, its stamp, the stamps of its bases, and its ranges: what stays of what they show, how long the body is
--- at least, and what is laid over it
+-- its file, its stamp, the stamps of its bases, and its ranges: what stays of what they show, how
+-- long the body is at least, and what is laid over it
 abbrev pub version_spelling : MadeVersion → List (List ℕ)
 version_spelling u =
     version_words (id.spelling u.file) (stamp_text u.stamp) (stamps_word u.bases)
@@ -53,7 +53,8 @@ update_spelling (update.Version made) = version_spelling made
 update_spelling (update.Place file place) = codes "place" ∷ id.spelling file ∷ place_words place
 update_spelling (update.Flag file flag) = codes "flag" ∷ id.spelling file ∷ flag_words flag
 
--- a part of ranges: an offset of 32 bits, and bytes, one at least and no more than have offsets of 32 bits
+-- a part of ranges: an offset of 32 bits, and bytes, one at least and no more than have offsets of
+-- 32 bits
 pub record IsPart (part : Part) : Type 0 where
   pub offset : part.offset < 2 ^ 32
   pub holds : AreBytes 4294967295 part.bytes

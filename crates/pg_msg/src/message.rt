@@ -23,7 +23,7 @@ pub struct Ends {
 }
 
 impl Ends {
-    /// The same edge, the other way: for an answer.
+    /// The same edge the other way, for an answer.
     pub fn back(&self) -> Ends
         ensures { result ≡ back self.now }
     {
@@ -35,7 +35,7 @@ impl Ends {
     }
 }
 
-/// Which version a server asks for, from which byte on, and which heads it has.
+/// The version that a server asks for, the byte from which on, and the heads that it has.
 #[derive(Debug, Drop)]
 pub struct Wanted {
     pub stamp: Stamp,
@@ -193,7 +193,7 @@ pub enum Message {
         ends: Ends,
         stamp: Stamp,
     },
-    /// It may go while its place has this stamp.
+    /// The receiver's replica may go while its place has this stamp.
     LeaveOk {
         ends: Ends,
         stamp: Stamp,
@@ -320,7 +320,7 @@ impl Message {
         }
     }
 
-    /// The same message again. What is large is shared.
+    /// Copies the message. What is large is shared.
     pub fn copy(&self) -> Result<Message, AllocError>
         ensures { IfOk result (λ m. m ≡ self.now) }
     {
@@ -466,7 +466,7 @@ pub struct Packet {
 }
 
 impl Packet {
-    /// The same packet again.
+    /// Copies the packet.
     pub fn copy(&self) -> Result<Packet, AllocError>
         ensures { IfOk result (λ p. p ≡ self.now) }
     {
@@ -486,7 +486,7 @@ pub struct Sent {
 }
 
 impl Sent {
-    /// The same packet on its way again.
+    /// Copies the packet on its way.
     pub fn copy(&self) -> Result<Sent, AllocError>
         ensures { IfOk result (λ s. s ≡ self.now) }
     {

@@ -44,7 +44,7 @@ pub enum Update {
 }
 
 impl Update {
-    /// The same update again. The bytes are shared.
+    /// Copies the update. The bytes are shared.
     pub fn copy(&self) -> Result<Update, AllocError>
         ensures { IfOk result (λ u. u ≡ self.now) }
     {
@@ -88,7 +88,7 @@ impl fmt::Display for Update {
 }
 
 impl MadeVersion {
-    /// The same version again. The bytes are shared.
+    /// Copies the version. The bytes are shared.
     pub fn copy(&self) -> Result<MadeVersion, AllocError>
         ensures { IfOk result (λ u. u ≡ self.now) }
     {

@@ -1,4 +1,5 @@
--- What the writes of the program are in the definitions. R is the derived order of ids, which is theirs.
+-- What the writes of the program are in the definitions. R is the derived order of ids, which is
+-- theirs.
 use Rattle.std.proofs.Common.{◌≡◌, ℕ, Bool, List, Some, None, sym, ap, ◌∙◌, subst}
 use Rattle.std.specs.declared.cmp.Ordering.{Ordering}
 use Rattle.std.specs.Map.{lookup, set_value}

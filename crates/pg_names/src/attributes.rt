@@ -25,7 +25,7 @@ impl Attributes {
         })
     }
 
-    /// The same again. The name is shared.
+    /// Copies the place and the flags. The name is shared.
     pub fn copy(&self) -> Result<Attributes, AllocError>
         ensures { IfOk result (λ own. own ≡ self.now) }
     {

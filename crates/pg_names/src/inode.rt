@@ -17,8 +17,8 @@ use std::marker::Model;
 /// The own place and flags of a thing, and the entries of a directory.
 #[derive(Debug, Drop)]
 pub struct Inode {
-    /// Whether it is full: it has all that the replica had from which it was filled. Else it is filling, and no call is
-    /// answered from it.
+    /// Whether it is full: it has all that the replica had from which it was filled. Else it is
+    /// filling, and no call is answered from it.
     full: bool,
     own: Attributes,
     entries: Entries,
@@ -51,7 +51,7 @@ impl Inode {
         self.full
     }
 
-    /// It is full from now on.
+    /// The inode is full from now on.
     pub(crate) fn fill(&mut self)
         ensures { self.new ≡ filled self.old }
     {

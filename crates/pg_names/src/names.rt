@@ -140,7 +140,8 @@ impl Names {
         }
     }
 
-    /// A copy of the own place and flags of a thing: where it is not held the blank place, and no flag.
+    /// A copy of the own place and flags of a thing: where it is not held the blank place, and no
+    /// flag.
     pub fn own_or_blank(&self, file: FileId) -> Result<Attributes, AllocError>
         ensures { IfOk result (λ own. own ≡ own_or_blank self.now file) }
     {
@@ -224,7 +225,7 @@ impl Names {
         held.set_own(own);
     }
 
-    /// This is the cell for its child in a held directory from now on, whole.
+    /// A held directory's cell for a child is this one from now on, whole.
     pub fn set_entry(&mut self, dir: &FileId, entry: Entry) -> Result<(), AllocError>
         ensures { OnOk result (self.new ≡ set_entry self.old dir.now entry) }
     {

@@ -1,15 +1,15 @@
 -- What a clock tells, and clocks in memory.
-use Rattle.std.specs.Prelude.{ℕ, zero, suc, ◌≡◌, ◌+◌, ◌-◌, ◌^◌, ◌<◌, ◌≤◌, min, List, [], ◌∷◌, ◌++◌, length, get_or}
+use Rattle.std.specs.Prelude.{ℕ, zero, suc, ◌≡◌, ◌+◌, ◌-◌, ◌^◌, min, List, [], ◌∷◌, ◌++◌, length, take, get_or}
 
 -- the moments and the words that it gave, the first of them first
 pub record Told : Type 0 where
   pub moments : List ℕ
   pub words : List ℕ
 
--- One number more was given. From 2^64 - 1 numbers on the list stays as it is.
-pub record IsNoted (old new : List ℕ) (number : ℕ) : Type 0 where
-  pub one_more : length old < 2 ^ 64 - 1 → new ≡ old ++ number ∷ []
-  pub full : 2 ^ 64 - 1 ≤ length old → new ≡ old
+-- These numbers more were given, in this order. The list takes them up to 2^64 - 1 numbers in all, and
+-- then stays as it is: so all of them, where the list has room for them.
+abbrev pub AreNoted : List ℕ → List ℕ → List ℕ → Type 0
+AreNoted old new numbers = new ≡ old ++ take (2 ^ 64 - 1 - length old) numbers
 
 -- numbers that are given in order, and how many were given
 pub record Numbers : Type 0 where

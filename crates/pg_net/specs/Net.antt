@@ -1,5 +1,5 @@
 -- What a net tells.
-use Rattle.std.specs.Prelude.{ℕ, ◌≡◌, ◌≤◌, Some, None, List, [], ◌∷◌, ◌++◌, take, drop}
+use Rattle.std.specs.Prelude.{ℕ, ◌≡◌, ◌+◌, ◌-◌, ◌^◌, ◌≤◌, min, Some, None, List, [], ◌∷◌, ◌++◌, take, drop}
 use Rattle.std.specs.declared.option.Option.{Option}
 use Rattle.pg_net.specs.declared.net.Taken.{Taken}
 use Rattle.pg_net.specs.declared.net.Taken.TheVariants.{Packet, Idle}
@@ -49,6 +49,10 @@ pub record IsTake (most : ℕ) (answer : Taken) (buf : List ℕ) (old new : Told
   pub given : new.given ≡ old.given ++ given_by answer buf ∷ []
   pub sent : new.sent ≡ old.sent
   pub bound : new.bound ≡ old.bound
+
+-- So many takes more answered Ok. The count stops at the greatest u64.
+abbrev pub IsTaken : ℕ → ℕ → ℕ → Type 0
+IsTaken count old new = new ≡ old + min count (2 ^ 64 - 1 - old)
 
 abbrev pub with_bound : Told → ℕ → Told
 with_bound told port = record { bound = Some port; left = told.left; given = told.given; sent = told.sent }

@@ -1,7 +1,7 @@
 //! What tells the time.
 
-ghost use Rattle.std.specs.Prelude.{◌≡◌};
-ghost use Rattle.pg_net.specs.Clock.{Told, IsNoted};
+ghost use Rattle.std.specs.Prelude.{◌≡◌, [], ◌∷◌};
+ghost use Rattle.pg_net.specs.Clock.{Told, AreNoted};
 
 /// What gives moments, in milliseconds, and words that choose at random. Its calls do not fail.
 pub trait Clock {
@@ -13,11 +13,11 @@ pub trait Clock {
 
     /// This moment. A clock may go back.
     fn now(&mut self) -> u64
-        ensures given { tells → IsNoted (told self.old).moments (told self.new).moments result }
+        ensures given { tells → AreNoted (told self.old).moments (told self.new).moments (result ∷ []) }
         ensures words { tells → (told self.new).words ≡ (told self.old).words };
 
     /// A word, of which nothing is promised.
     fn word(&mut self) -> u64
-        ensures given { tells → IsNoted (told self.old).words (told self.new).words result }
+        ensures given { tells → AreNoted (told self.old).words (told self.new).words (result ∷ []) }
         ensures moments { tells → (told self.new).moments ≡ (told self.old).moments };
 }

@@ -1,7 +1,7 @@
 //! A clock in memory.
 
-ghost use Rattle.std.specs.Prelude.{◌≡◌, ◌<◌, ◌^◌};
-ghost use Rattle.pg_net.specs.Clock.{IsNoted, fresh, item_at, moved, told_of};
+ghost use Rattle.std.specs.Prelude.{◌≡◌, ◌<◌, ◌^◌, [], ◌∷◌};
+ghost use Rattle.pg_net.specs.Clock.{AreNoted, fresh, item_at, moved, told_of};
 
 use crate::clock::Clock;
 use std::marker::Model;
@@ -78,7 +78,7 @@ impl Clock for MemoryClock {
 
     fn now(&mut self) -> u64
         ensures given { Unit {0}
-            → IsNoted (told_of self.old).moments (told_of self.new).moments result }
+            → AreNoted (told_of self.old).moments (told_of self.new).moments (result ∷ []) }
         ensures words { Unit {0} → (told_of self.new).words ≡ (told_of self.old).words }
         ensures exact { result ≡ item_at self.old.moments.items self.old.moments.made }
         ensures moved { self.new.moments ≡ moved self.old.moments }
@@ -89,7 +89,7 @@ impl Clock for MemoryClock {
 
     fn word(&mut self) -> u64
         ensures given { Unit {0}
-            → IsNoted (told_of self.old).words (told_of self.new).words result }
+            → AreNoted (told_of self.old).words (told_of self.new).words (result ∷ []) }
         ensures moments { Unit {0} → (told_of self.new).moments ≡ (told_of self.old).moments }
         ensures exact { result ≡ item_at self.old.words.items self.old.words.made }
         ensures moved { self.new.words ≡ moved self.old.words }

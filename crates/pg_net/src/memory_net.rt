@@ -3,7 +3,7 @@
 ghost use Rattle.std.specs.Prelude.{◌≡◌, ◌≤◌, ◌↔◌, ◌+◌, ◌-◌, ◌^◌, [], min, length, Contains, IfOk, IsErr, OnOk, OnErr};
 ghost use Rattle.pg_io.specs.Causes.{HasCause};
 ghost use Rattle.pg_net.specs.Counts.{IsCounted};
-ghost use Rattle.pg_net.specs.Net.{IsWithin, IsTake, with_bound, with_sent};
+ghost use Rattle.pg_net.specs.Net.{IsWithin, IsTake, IsTaken, with_bound, with_sent};
 ghost use Rattle.pg_net.specs.MemoryNet.{fresh};
 ghost use Rattle.pg_net.specs.declared.net.Taken.TheVariants.{Idle};
 
@@ -116,7 +116,7 @@ impl Net for MemoryNet {
         ensures taken { IfOk result (λ answer.
             Unit {0} → IsTake 40_001 answer buf.new self.old.told self.new.told) }
         ensures same { OnErr result (Unit {0} → self.new.told ≡ self.old.told) }
-        ensures takes { OnOk result (self.new.takes ≡ min (self.old.takes + 1) (2 ^ 64 - 1)) }
+        ensures takes { OnOk result (IsTaken 1 self.old.takes self.new.takes) }
         ensures failed { OnErr result (self.new.takes ≡ self.old.takes) }
         ensures cause { HasCause self.old.counts.faults self.new.counts.faults result }
         ensures idle { IfOk result (λ answer. answer ≡ Idle ↔ self.old.told.left ≡ []) }

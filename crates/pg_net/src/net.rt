@@ -2,7 +2,7 @@
 
 ghost use Rattle.std.specs.Prelude.{◌≡◌, ◌≤◌, ◌+◌, ◌-◌, ◌^◌, ℕ, min, length, IfOk, OnOk, OnErr};
 ghost use Rattle.pg_io.specs.Causes.{HasCause};
-ghost use Rattle.pg_net.specs.Net.{Told, IsWithin, IsTake, with_bound, with_sent};
+ghost use Rattle.pg_net.specs.Net.{Told, IsWithin, IsTake, IsTaken, with_bound, with_sent};
 
 use pg_io::Failed;
 
@@ -44,7 +44,7 @@ pub trait Net {
         ensures taken { IfOk result (λ answer.
             tells → IsTake 40_001 answer buf.new (told self.old) (told self.new)) }
         ensures same { OnErr result (tells → told self.new ≡ told self.old) }
-        ensures takes { OnOk result (takes self.new ≡ min (takes self.old + 1) (2 ^ 64 - 1)) }
+        ensures takes { OnOk result (IsTaken 1 (takes self.old) (takes self.new)) }
         ensures failed { OnErr result (takes self.new ≡ takes self.old) }
         ensures cause { HasCause (faults self.old) (faults self.new) result };
 

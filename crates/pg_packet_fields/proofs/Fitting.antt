@@ -2,6 +2,7 @@
 use Rattle.std.proofs.Common.{◌≡◌, ℕ, ◌≤◌, ◌<◌, ◌^◌, List, [], ◌∷◌, length, Some, None, arith}
 use Rattle.std.specs.List.{AllByRecursion}
 use Rattle.pg_base.specs.Version.{VersionValue}
+use Rattle.pg_base.specs.declared.head.Head.{Head}
 use Rattle.pg_base.specs.declared.stamp.Stamp.{Stamp}
 use Rattle.pg_base.specs.declared.vector.Actor.{Actor}
 use Rattle.pg_edges.specs.declared.key.Key.{Key}
@@ -9,13 +10,13 @@ use Rattle.pg_edges.specs.declared.key.Key.TheVariants as key
 use Rattle.pg_entries.specs.declared.cell.Cell.{Cell}
 use Rattle.pg_entries.specs.declared.cell.Cell.TheVariants as cell
 use Rattle.pg_entries.specs.declared.entry.Entry.{Entry}
-use Rattle.pg_packet_write.specs.Fits.{FitGolds, FitStamps, FitsCell, FitsEntry, FitsKey, FitsRanges, FitsVector, FitsVersion, IsServer, Rise, RiseBehind, laid}
+use Rattle.pg_packet_write.specs.Fits.{FitGolds, FitStamps, FitsCell, FitsEntry, FitsHead, FitsKey, FitsRanges, FitsVector, FitsVersion, IsServer, Rise, RiseBehind, laid}
 use Rattle.pg_patch.specs.Ranges.{RangesValue}
 use Rattle.pg_patch.specs.declared.part.Part.{Part}
 use Rattle.pg_register.specs.declared.flag.Flag.{Flag}
 use Rattle.pg_register.specs.declared.place.Place.{Place}
 use Rattle.pg_packet_fields.specs.Cells.{IsWholeCell}
-use Rattle.pg_packet_fields.specs.Heads.{AreKnown, IsKnown, IsWholeVersion, to_actor}
+use Rattle.pg_packet_fields.specs.Heads.{AreKnown, IsFront, IsHead, IsKnown, IsWholeVersion, to_actor}
 use Rattle.pg_packet_fields.specs.Lists.{AreStamps, Chain, IsLater, to_last}
 use Rattle.pg_packet_fields.specs.Patches.{IsPartIn, IsWholeRanges, Room, to_room}
 use Rattle.pg_packet_fields.specs.Places.{AreGolds, IsGold, IsWholeEntry, IsWholePlace, to_server}
@@ -48,8 +49,14 @@ each_known last (v ∷ vs) chain = (chain.0.server.range, each_known v.0 vs chai
 pub fits_vector : (vs : List (Actor × ℕ)) → AreKnown vs → FitsVector vs
 fits_vector vs w = record { few = w.few; each = each_known (record { server = 0; birth = 0 }) vs w.chain }
 
+pub fits_head : (h : Head) → IsHead h → FitsHead h
+fits_head h w = record { number = w.number.least; vector = fits_vector h.vector w.vector }
+
+fits_front : (h : Head) → IsFront h → FitsHead h
+fits_front h w = record { number = w.number.least; vector = fits_vector h.vector w.vector }
+
 pub fits_version : (v : VersionValue) → IsWholeVersion v → FitsVersion v
-fits_version v w = record { vector = fits_vector v.head.vector w.head.vector; short = w.head.long }
+fits_version v w = record { head = fits_front v.head w.head; short = w.head.long; body = w.long }
 
 room_left : (least : ℕ) (room : Room) (ps : List Part) → Chain (IsPartIn least) to_room room ps → laid ps ≤ room.left
 room_left least room [] chain = omega arith

@@ -17,7 +17,7 @@ use Rattle.pg_packet_write.specs.Datagrams.{content_bytes, kind_of, mark, packet
 use Rattle.pg_packet_write.specs.Messages.{code_of}
 use Rattle.pg_packet_write.specs.declared.datagram.Content.{Content}
 use Rattle.pg_packet_write.specs.declared.datagram.Content.TheVariants as content
-use Rattle.pg_packet_write.specs.declared.datagram.Datagram.{Datagram}
+use Rattle.pg_packet_write.specs.DatagramValue.{DatagramValue}
 use Rattle.pg_packet_write.specs.declared.datagram.Request.{Request}
 use Rattle.pg_call.specs.declared.reply.Reply.{Reply}
 use Rattle.pg_packet_fields.specs.Faults.{of_packet}
@@ -182,7 +182,7 @@ told_is : (k : PacketKind) → IsField (IsTold k) (told_bytes k) (behind_kind_at
 unfolding behind_kind_at
 told_is k = then_is narrow_is (then_is wide_is (content_is k))
 
-abbrev datagram_view : ℕ × (PacketKind × (ℕ × (ℕ × Content))) → Datagram
+abbrev datagram_view : ℕ × (PacketKind × (ℕ × (ℕ × Content))) → DatagramValue
 datagram_view x = record { from = x.1.1.0; view = x.1.1.1.0; content = x.1.1.1.1 }
 
 datagram_spelled : (k : PacketKind) (from view : ℕ) (c : Content) → content_kind c ≡ k

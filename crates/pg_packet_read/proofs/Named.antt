@@ -14,11 +14,11 @@ use Rattle.pg_call.specs.declared.call.Target.TheVariants as target
 use Rattle.pg_codec.specs.Laws.{AreBytes, IsField}
 use Rattle.pg_entries.specs.Names.{same_name}
 use Rattle.pg_entries.proofs.Claims.{same_name-true, same_name-is}
-use Rattle.pg_packet_write.specs.Calls.{text_bytes}
+use Rattle.pg_packet_write.specs.Calls.{SpellsNone, text_bytes}
 use Rattle.pg_packet_fields.specs.Values.{IsShortText}
 use Rattle.pg_packet_fields.proofs.Joining.{view_is}
 use Rattle.pg_packet_fields.proofs.Plain.{text_field}
-use Rattle.pg_packet_read.specs.Targets.{IsWholeTarget, SpellsNone, either_of, found_below, id_of, id_or_path, spelled_by, target_at, target_of}
+use Rattle.pg_packet_read.specs.Targets.{IsWholeTarget, either_of, found_below, id_of, id_or_path, spelled_by, target_at, target_of}
 use Rattle.pg_words.proofs.WordBytes.{IsWordByte, spelling_word}
 
 one_of : {X : Type 0} (x y : X) → Some x ≡ Some y → x ≡ y

@@ -1,14 +1,13 @@
 -- Calls and replies that can be read can be written again.
 use Rattle.std.proofs.Common.{List, [], ◌∷◌}
 use Rattle.std.specs.List.{AllByRecursion}
-use Rattle.pg_call.specs.Call.{target_word}
 use Rattle.pg_call.specs.declared.call.Call.{Call}
 use Rattle.pg_call.specs.declared.call.Call.TheVariants as call
 use Rattle.pg_call.specs.declared.call.Target.{Target}
 use Rattle.pg_call.specs.declared.call.Target.TheVariants as target
 use Rattle.pg_call.specs.declared.reply.Reply.{Reply}
 use Rattle.pg_call.specs.declared.reply.Reply.TheVariants as reply
-use Rattle.pg_packet_write.specs.Calls.{FitRows, FitsCall, FitsReply, FitsText}
+use Rattle.pg_packet_write.specs.Calls.{FitRows, FitsCall, FitsReply, FitsTarget, FitsText}
 use Rattle.pg_packet_write.specs.Datagrams.{FitsRequest}
 use Rattle.pg_packet_write.specs.declared.datagram.Request.{Request}
 use Rattle.pg_packet_write.specs.declared.datagram.Request.TheVariants as request
@@ -18,11 +17,10 @@ use Rattle.pg_packet_fields.proofs.Fitting.{fits_place}
 use Rattle.pg_packet_read.specs.Calls.{IsWholeCall, IsWholeRequest}
 use Rattle.pg_packet_read.specs.Replies.{AreRows, IsWholeReply, IsWholeRow, unchanged}
 use Rattle.pg_packet_read.specs.Targets.{IsWholeTarget}
-use Rattle.pg_packet_read.proofs.Named.{id_short}
 
-fits_target : (t : Target) → IsWholeTarget t → FitsText (target_word t)
-fits_target (target.Path text) w = w.0.short
-fits_target (target.Id id) w = (id_short id w).short
+fits_target : (t : Target) → IsWholeTarget t → FitsTarget t
+fits_target (target.Path text) w = (w.0.short, w.1)
+fits_target (target.Id id) w = tt
 
 fits_call : (c : Call) → IsWholeCall c → FitsCall c
 fits_call (call.Mkdir path) w = w.short

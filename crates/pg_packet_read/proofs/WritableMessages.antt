@@ -5,7 +5,7 @@ use Rattle.pg_msg.specs.declared.message.Message.{Message}
 use Rattle.pg_msg.specs.declared.message.Message.TheVariants as message
 use Rattle.pg_packet_write.specs.Messages.{FitsMessage, FitsTold}
 use Rattle.pg_packet_fields.specs.Places.{IsWholeEntry}
-use Rattle.pg_packet_fields.proofs.Fitting.{fits_cell, fits_entry, fits_golds, fits_key, fits_place, fits_ranges, fits_stamps, fits_vector}
+use Rattle.pg_packet_fields.proofs.Fitting.{fits_cell, fits_entry, fits_golds, fits_head, fits_key, fits_place, fits_ranges, fits_stamps}
 use Rattle.pg_packet_read.specs.Messages.{IsWholeMessage}
 use Rattle.pg_words.specs.FileWord.{IsDirectory}
 
@@ -15,14 +15,14 @@ fits_told dir entry is w = record { dir = is; entry = fits_entry entry w }
 pub fits_message : (m : Message) → IsWholeMessage m → FitsMessage m
 fits_message (message.Cell ends tag cell) w = fits_cell cell w.1.1
 fits_message (message.Ack ends key tag) w = fits_key key w.1.0
-fits_message (message.Harbinger ends tag head) w = fits_vector head.vector w.1.1.vector
+fits_message (message.Harbinger ends tag head) w = fits_head head w.1.1
 fits_message (message.Want ends wanted) w = fits_stamps wanted.heads w.1.heads
 fits_message (message.Delta ends delta) w = record {
-  head = fits_vector delta.head.vector w.1.head.vector;
+  head = fits_head delta.head w.1.head;
   from = fits_stamps delta.from w.1.from;
   ranges = fits_ranges delta.ranges w.1.ranges;
 }
-fits_message (message.Piece ends piece) w = record { head = fits_vector piece.head.vector w.1.head.vector; short = w.1.bytes.most }
+fits_message (message.Piece ends piece) w = record { head = fits_head piece.head w.1.head; short = w.1.bytes.most }
 fits_message (message.Later ends stamp) w = tt
 fits_message (message.Fetch file birth) w = tt
 fits_message (message.Grant ends granted) w = record { place = fits_place granted.place w.1.place; flags = fits_golds granted.flags w.1.flags }

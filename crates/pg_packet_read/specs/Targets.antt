@@ -1,5 +1,5 @@
 -- What a call is about: an id where the text spells one, and else a path.
-use Rattle.std.specs.Prelude.{ℕ, ◌≡◌, zero, suc, ◌^◌, List, Option, Some, None, if◌then◌else◌}
+use Rattle.std.specs.Prelude.{ℕ, zero, suc, ◌^◌, List, Option, Some, None, if◌then◌else◌}
 use Rattle.pg_base.specs.Id.{Fits, spelling}
 use Rattle.pg_base.specs.declared.id.FileId.{FileId}
 use Rattle.pg_base.specs.declared.id.Kind.{Kind}
@@ -8,6 +8,7 @@ use Rattle.pg_call.specs.declared.call.Target.{Target}
 use Rattle.pg_call.specs.declared.call.Target.TheVariants as target
 use Rattle.pg_codec.specs.Reading.{Field, seen_as}
 use Rattle.pg_entries.specs.Names.{same_name}
+use Rattle.pg_packet_write.specs.Calls.{SpellsNone}
 use Rattle.pg_packet_fields.specs.Reading.{text_at}
 use Rattle.pg_packet_fields.specs.Values.{IsShortText}
 use Rattle.pg_packet_fields.specs.declared.error.PacketError.{PacketError}
@@ -42,9 +43,6 @@ unfoldable pub target_at : Field PacketError Target
 target_at from = seen_as target_of text_at from
 
 -- what can be read: an id, or any other text
-abbrev pub SpellsNone : List ℕ → Type 0
-SpellsNone text = (id : FileId) → Fits id → text ≡ spelling id → ⊥
-
 abbrev pub IsWholeTarget : Target → Type 0
 IsWholeTarget (target.Path text) = IsShortText text × SpellsNone text
 IsWholeTarget (target.Id id) = Fits id

@@ -8,7 +8,7 @@ use Rattle.pg_packet_read.specs.declared.kinds.PacketKind.TheVariants as packet
 use Rattle.pg_msg.specs.declared.summary.MessageKind.TheVariants as kind
 use Rattle.pg_packet_write.specs.declared.datagram.Content.{Content}
 use Rattle.pg_packet_write.specs.declared.datagram.Content.TheVariants as content
-use Rattle.pg_packet_write.specs.declared.datagram.Datagram.{Datagram}
+use Rattle.pg_packet_write.specs.DatagramValue.{DatagramValue}
 use Rattle.pg_packet_fields.specs.Faults.{of_packet}
 use Rattle.pg_packet_fields.specs.declared.error.PacketError.{PacketError}
 use Rattle.pg_packet_fields.specs.declared.error.PacketError.TheVariants.{OutOfMemory, Short, BadTag, TooLong, Tail}
@@ -54,18 +54,21 @@ unfoldable pub behind_kind_at : PacketKind → Field PacketError (ℕ × (ℕ ×
 behind_kind_at kind from = followed_by (of_packet (number_at 4))
     (λ sender. followed_by (of_packet (number_at 8)) (λ view. content_at kind)) from
 
+-- of the sender, the view, and what the kind says
+abbrev pub datagram_with : ℕ × (ℕ × Content) → DatagramValue
+datagram_with x = record { from = x.0; view = x.1.0; content = x.1.1 }
+
 -- the mark, the kind, and what stands behind the kind
-unfoldable pub datagram_at : Field PacketError Datagram
-datagram_at from = seen_as
-    (λ x. record { from = x.1.1.0; view = x.1.1.1.0; content = x.1.1.1.1 })
+unfoldable pub datagram_at : Field PacketError DatagramValue
+datagram_at from = seen_as (λ x. datagram_with x.1.1)
     (followed_by mark_at (λ mark. followed_by (item_at packet_kinds) (λ kind. behind_kind_at kind))) from
 
 -- nothing stands behind it
-abbrev pub ended : Datagram × Unread → Result Datagram PacketError
+abbrev pub ended : DatagramValue × Unread → Result DatagramValue PacketError
 ended x = if length x.1.rest == 0 then Ok x.0 else Err (Tail x.1.place)
 
 -- the packet that the bytes are
-unfoldable pub whole : List ℕ → Result Datagram PacketError
+unfoldable pub whole : List ℕ → Result DatagramValue PacketError
 whole bytes = datagram_at (unread bytes) >>= ended
 
 -- what is wrong with too many bytes, of which the most were read: what is wrong with these, and
@@ -77,17 +80,17 @@ cut_fault most (BadTag place) = BadTag place
 cut_fault most (TooLong place) = TooLong place
 cut_fault most (Tail place) = Tail place
 
-abbrev pub cut_off : ℕ → Result Datagram PacketError → Result Datagram PacketError
+abbrev pub cut_off : ℕ → Result DatagramValue PacketError → Result DatagramValue PacketError
 cut_off most (Ok d) = Err (TooLong most)
 cut_off most (Err e) = Err (cut_fault most e)
 
 -- the packet that the bytes are, of which there are at most so many
-unfoldable pub packet_within : ℕ → List ℕ → Result Datagram PacketError
+unfoldable pub packet_within : ℕ → List ℕ → Result DatagramValue PacketError
 packet_within most bytes = if nat_lt most (length bytes) then cut_off most (whole (take most bytes))
     else whole bytes
 
 -- a packet has at most 40,000 bytes
-abbrev pub packet_of : List ℕ → Result Datagram PacketError
+abbrev pub packet_of : List ℕ → Result DatagramValue PacketError
 packet_of bytes = packet_within 40000 bytes
 
 -- ---- what can be read
@@ -97,7 +100,7 @@ IsWholeContent (content.Message message) = IsWholeMessage message
 IsWholeContent (content.Call number asked) = HasWidth 8 number × IsWholeRequest asked
 IsWholeContent (content.Reply number reply) = HasWidth 8 number × IsWholeReply reply
 
-pub record IsWholeDatagram (d : Datagram) : Type 0 where
+pub record IsWholeDatagram (d : DatagramValue) : Type 0 where
   pub from : d.from < 2 ^ 32
   pub view : d.view < 2 ^ 64
   pub content : IsWholeContent d.content

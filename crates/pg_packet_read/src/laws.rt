@@ -9,7 +9,7 @@ ghost use Rattle.pg_msg.specs.declared.summary.MessageKind.{MessageKind};
 ghost use Rattle.pg_packet_write.specs.Calls.{reply_bytes};
 ghost use Rattle.pg_packet_write.specs.Datagrams.{packet_bytes, request_bytes};
 ghost use Rattle.pg_packet_write.specs.Messages.{message_bytes};
-ghost use Rattle.pg_packet_write.specs.declared.datagram.Datagram.{Datagram};
+ghost use Rattle.pg_packet_write.specs.DatagramValue.{DatagramValue};
 ghost use Rattle.pg_packet_read.specs.Calls.{IsWholeRequest, request_at};
 ghost use Rattle.pg_packet_read.specs.Replies.{IsWholeReply, reply_at};
 ghost use Rattle.pg_packet_read.specs.Messages.{IsWholeMessage, message_at};
@@ -31,12 +31,12 @@ pub fn calls_read_back()
 /// Bytes are read exactly where they are a packet's spelling of at most 40,000 bytes, and then to
 /// this packet. No packet's spelling begins another's.
 pub fn packets_read_back()
-    ensures written { (d : Datagram) → IsWholeDatagram d → length (packet_bytes d) ≤ 40000
+    ensures written { (d : DatagramValue) → IsWholeDatagram d → length (packet_bytes d) ≤ 40000
         → packet_of (packet_bytes d) ≡ Ok d }
-    ensures spelled { (bytes : List ℕ) (d : Datagram) → AreBytes bytes → packet_of bytes ≡ Ok d
+    ensures spelled { (bytes : List ℕ) (d : DatagramValue) → AreBytes bytes → packet_of bytes ≡ Ok d
         → IsWholeDatagram d × (bytes ≡ packet_bytes d) }
-    ensures short { (bytes : List ℕ) (d : Datagram) → packet_of bytes ≡ Ok d
+    ensures short { (bytes : List ℕ) (d : DatagramValue) → packet_of bytes ≡ Ok d
         → length bytes ≤ 40000 }
-    ensures apart { (a b : Datagram) (rest : List ℕ) → IsWholeDatagram a → IsWholeDatagram b
+    ensures apart { (a b : DatagramValue) (rest : List ℕ) → IsWholeDatagram a → IsWholeDatagram b
         → packet_bytes a ++ rest ≡ packet_bytes b → (a ≡ b) × (rest ≡ []) }
 {}

@@ -1,7 +1,7 @@
 //! Packets, read.
 
 ghost use Rattle.std.specs.Prelude.{◌≡◌, IfOk};
-ghost use Rattle.pg_packet_read.specs.Whole.{byte_at, content_at, cut_fault, cut_off, datagram_at, mark_at, packet_of, packet_within, behind_kind_at, whole};
+ghost use Rattle.pg_packet_read.specs.Whole.{byte_at, content_at, cut_fault, cut_off, datagram_at, datagram_with, mark_at, packet_of, packet_within, behind_kind_at, whole};
 ghost use Rattle.pg_packet_write.specs.Datagrams.{FitsContent};
 ghost use Rattle.pg_packet_fields.specs.Faults.{Gives};
 
@@ -18,19 +18,37 @@ use std::alloc::Global;
 /// The most bytes that a packet has.
 const MOST: usize = 40_000;
 
+/// Who sends a packet, in which view, and what it is for.
+type Parts = (u32, (u64, Content));
+
 /// The packet that the bytes are. Where they are none, the place is that of the first field that is
 /// not read, or where the packet should have ended.
 pub fn read_packet(alloc: Global, bytes: &[u8]) -> Result<Datagram, PacketError>
     ensures read { Gives (λ d. d) result (packet_of bytes.now) }
     ensures fits { IfOk result (λ d. FitsContent d.content) }
 {
-    read_within(alloc, MOST, bytes)
+    let parts = read_within(alloc, MOST, bytes)?;
+    Ok(packet_with(parts))
+}
+
+/// The packet with these parts.
+fn packet_with(parts: Parts) -> Datagram
+    requires { FitsContent parts.1.1 }
+    ensures packet { result ≡ datagram_with parts }
+    ensures fits { FitsContent result.content }
+{
+    let (from, (view, content)) = parts;
+    Datagram {
+        from,
+        view,
+        content,
+    }
 }
 
 /// The packet that the bytes are, of which there are at most so many.
 #[tactic(auto, unfolding(crate::specs::Whole::packet_within))]
-fn read_within(alloc: Global, most: usize, bytes: &[u8]) -> Result<Datagram, PacketError>
-    ensures { Gives (λ d. d) result (packet_within most bytes.now) }
+fn read_within(alloc: Global, most: usize, bytes: &[u8]) -> Result<Parts, PacketError>
+    ensures { Gives datagram_with result (packet_within most bytes.now) }
 {
     if most < bytes.len() {
         read_cut(alloc, most, &bytes[..most])
@@ -40,8 +58,8 @@ fn read_within(alloc: Global, most: usize, bytes: &[u8]) -> Result<Datagram, Pac
 }
 
 /// What is wrong with too many bytes, of which these were read.
-fn read_cut(alloc: Global, most: usize, bytes: &[u8]) -> Result<Datagram, PacketError>
-    ensures { Gives (λ d. d) result (cut_off most (whole bytes.now)) }
+fn read_cut(alloc: Global, most: usize, bytes: &[u8]) -> Result<Parts, PacketError>
+    ensures { Gives datagram_with result (cut_off most (whole bytes.now)) }
 {
     match read_whole(alloc, bytes) {
         Ok(_) => Err(PacketError::TooLong(most)),
@@ -64,8 +82,8 @@ fn cut_fault(most: usize, error: PacketError) -> PacketError
 
 /// The packet that the bytes are, however many.
 #[tactic(auto, unfolding(crate::specs::Whole::whole))]
-fn read_whole(alloc: Global, bytes: &[u8]) -> Result<Datagram, PacketError>
-    ensures { Gives (λ d. d) result (whole bytes.now) }
+fn read_whole(alloc: Global, bytes: &[u8]) -> Result<Parts, PacketError>
+    ensures { Gives datagram_with result (whole bytes.now) }
 {
     let mut reader = Reader::new(bytes);
     let packet = read_datagram(alloc, &mut reader)?;
@@ -78,17 +96,13 @@ fn read_whole(alloc: Global, bytes: &[u8]) -> Result<Datagram, PacketError>
 
 /// A packet, whatever stands behind it.
 #[tactic(auto, unfolding(crate::specs::Whole::datagram_at))]
-fn read_datagram(alloc: Global, reader: &mut Reader<'_>) -> Result<Datagram, PacketError>
-    ensures { Gives (λ d. (d, reader.new)) result (datagram_at reader.old) }
+fn read_datagram(alloc: Global, reader: &mut Reader<'_>) -> Result<Parts, PacketError>
+    ensures { Gives (λ d. (datagram_with d, reader.new)) result (datagram_at reader.old) }
 {
     read_mark(reader)?;
     let kind = read_item(&PACKET_KINDS, reader)?;
     let (from, (view, content)) = read_behind_kind(alloc, kind, reader)?;
-    Ok(Datagram {
-        from,
-        view,
-        content,
-    })
+    Ok((from, (view, content)))
 }
 
 /// The sender, its view, and what a packet of the kind says.
@@ -97,7 +111,7 @@ fn read_behind_kind(
     alloc: Global,
     kind: PacketKind,
     reader: &mut Reader<'_>,
-) -> Result<(u32, (u64, Content)), PacketError>
+) -> Result<Parts, PacketError>
     ensures { Gives (λ t. (t, reader.new)) result (behind_kind_at kind reader.old) }
 {
     let from = reader.u32()?;

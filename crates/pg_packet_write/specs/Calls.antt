@@ -1,9 +1,13 @@
 -- How calls and replies are spelled.
-use Rattle.std.specs.Prelude.{ℕ, ◌<◌, ◌≤◌, ◌^◌, List, ◌++◌, length}
+use Rattle.std.specs.Prelude.{ℕ, ◌≡◌, ◌<◌, ◌≤◌, ◌^◌, List, ◌++◌, length}
 use Rattle.std.specs.List.{AllByRecursion}
+use Rattle.pg_base.specs.Id.{Fits, spelling}
+use Rattle.pg_base.specs.declared.id.FileId.{FileId}
 use Rattle.pg_call.specs.Call.{target_word}
 use Rattle.pg_call.specs.declared.call.Call.{Call}
 use Rattle.pg_call.specs.declared.call.Call.TheVariants as call
+use Rattle.pg_call.specs.declared.call.Target.{Target}
+use Rattle.pg_call.specs.declared.call.Target.TheVariants as target
 use Rattle.pg_call.specs.declared.refusal.IntentKind.{IntentKind}
 use Rattle.pg_call.specs.declared.refusal.IntentKind.TheVariants as intent
 use Rattle.pg_call.specs.declared.refusal.Refusal.{Refusal}
@@ -116,6 +120,15 @@ reply_bytes (reply.Refused why) = number_bytes 1 9 ++ refusal_bytes why
 abbrev pub FitsText : List ℕ → Type 0
 FitsText text = length text < 2 ^ 16
 
+-- no id is spelled so
+abbrev pub SpellsNone : List ℕ → Type 0
+SpellsNone text = (id : FileId) → Fits id → text ≡ spelling id → ⊥
+
+-- any id, and a path that is spelled as no id
+abbrev pub FitsTarget : Target → Type 0
+FitsTarget (target.Path text) = FitsText text × SpellsNone text
+FitsTarget (target.Id id) = Unit {0}
+
 -- what has a spelling
 abbrev pub FitsCall : Call → Type 0
 FitsCall (call.Mkdir path) = FitsText path
@@ -125,13 +138,13 @@ FitsCall (call.Cut path n) = FitsText path
 FitsCall (call.Read path offset count) = FitsText path
 FitsCall (call.Fresh path) = FitsText path
 FitsCall (call.Ls path from) = FitsText path
-FitsCall (call.Stat what) = FitsText (target_word what)
+FitsCall (call.Stat what) = FitsTarget what
 FitsCall (call.Rename from to) = FitsText from × FitsText to
 FitsCall (call.Unlink path) = FitsText path
 FitsCall (call.Rmdir path) = FitsText path
 FitsCall (call.Forget id) = Unit {0}
-FitsCall (call.Demote what) = FitsText (target_word what)
-FitsCall (call.Drop what) = FitsText (target_word what)
+FitsCall (call.Demote what) = FitsTarget what
+FitsCall (call.Drop what) = FitsTarget what
 FitsCall (call.Giveup view server) = Unit {0}
 FitsCall call.Status = Unit {0}
 FitsCall call.Stop = Unit {0}

@@ -3,9 +3,9 @@ use Rattle.std.specs.Prelude.{ℕ, List, [], ◌∷◌, ◌++◌}
 use Rattle.pg_codec.specs.Spelling.{number_bytes}
 use Rattle.pg_packet_write.specs.declared.datagram.Content.{Content}
 use Rattle.pg_packet_write.specs.declared.datagram.Content.TheVariants as content
-use Rattle.pg_packet_write.specs.declared.datagram.Datagram.{Datagram}
 use Rattle.pg_packet_write.specs.declared.datagram.Request.{Request}
 use Rattle.pg_packet_write.specs.declared.datagram.Request.TheVariants as request
+use Rattle.pg_packet_write.specs.DatagramValue.{DatagramValue}
 use Rattle.pg_packet_write.specs.Calls.{FitsCall, FitsReply, call_bytes, reply_bytes}
 use Rattle.pg_packet_write.specs.Messages.{FitsMessage, code_of, message_bytes}
 
@@ -30,7 +30,7 @@ content_bytes (content.Call number asked) = number_bytes 8 number ++ request_byt
 content_bytes (content.Reply number reply) = number_bytes 8 number ++ reply_bytes reply
 
 -- the mark, the kind, the sender, the view, and what the kind says
-unfoldable pub packet_bytes : Datagram → List ℕ
+unfoldable pub packet_bytes : DatagramValue → List ℕ
 packet_bytes d = mark ++ (number_bytes 1 (kind_of d.content) ++ (number_bytes 4 d.from
     ++ (number_bytes 8 d.view ++ content_bytes d.content)))
 

@@ -1,6 +1,7 @@
 -- What has a spelling in a packet. Numbers have their widths by their types.
-use Rattle.std.specs.Prelude.{ℕ, ◌+◌, ◌^◌, ◌<◌, ◌≤◌, List, [], ◌∷◌, length}
+use Rattle.std.specs.Prelude.{ℕ, ◌≡◌, ◌+◌, ◌^◌, ◌<◌, ◌≤◌, List, [], ◌∷◌, length}
 use Rattle.std.specs.List.{AllByRecursion}
+use Rattle.pg_base.specs.declared.head.Head.{Head}
 use Rattle.pg_base.specs.declared.stamp.Stamp.{Stamp}
 use Rattle.pg_base.specs.declared.vector.Actor.{Actor}
 use Rattle.pg_base.specs.Stamp.{IsBefore}
@@ -34,10 +35,16 @@ pub record FitsVector (vector : List (Actor × ℕ)) : Type 0 where
   pub few : length vector ≤ 256
   pub each : AllByRecursion (λ (known : Actor × ℕ). IsServer known.0.server) vector
 
--- a body of at most 1,024 bytes
+-- versions of an actor are numbered from 1 on
+pub record FitsHead (h : Head) : Type 0 where
+  pub number : 1 ≤ h.number
+  pub vector : FitsVector h.vector
+
+-- a body of at most 1,024 bytes, of the length that the head names
 pub record FitsVersion (v : VersionValue) : Type 0 where
-  pub vector : FitsVector v.head.vector
+  pub head : FitsHead v.head
   pub short : v.head.length ≤ 1024
+  pub body : length v.body ≡ v.head.length
 
 -- how many bytes the parts have together
 abbrev pub laid : List Part → ℕ

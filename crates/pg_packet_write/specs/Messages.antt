@@ -12,7 +12,7 @@ use Rattle.pg_msg.specs.declared.message.Wanted.{Wanted}
 use Rattle.pg_words.specs.FileWord.{IsDirectory}
 use Rattle.pg_words.specs.PlaceWords.{IsPlace}
 use Rattle.pg_packet_write.specs.Fields.{ask_bytes, cell_bytes, counted, ends_bytes, entry_bytes, golds_bytes, head_bytes, key_bytes, place_bytes, policy_bytes, ranges_bytes, stamps_bytes}
-use Rattle.pg_packet_write.specs.Fits.{FitGolds, FitStamps, FitsCell, FitsEntry, FitsKey, FitsRanges, FitsVector, IsServer}
+use Rattle.pg_packet_write.specs.Fits.{FitGolds, FitStamps, FitsCell, FitsEntry, FitsHead, FitsKey, FitsRanges, IsServer}
 
 -- the kinds of messages by number
 abbrev pub code_of : Message → ℕ
@@ -104,13 +104,13 @@ message_bytes (message.Walk ends origin birth hops word) =
 message_bytes (message.Meet ends) = ends_bytes ends
 
 pub record FitsDelta (d : Delta) : Type 0 where
-  pub head : FitsVector d.head.vector
+  pub head : FitsHead d.head
   pub from : FitStamps d.from
   pub ranges : FitsRanges d.ranges
 
 -- at most 32,768 bytes
 pub record FitsPiece (p : Piece) : Type 0 where
-  pub head : FitsVector p.head.vector
+  pub head : FitsHead p.head
   pub short : length p.bytes ≤ 32768
 
 pub record FitsGranted (g : Granted) : Type 0 where
@@ -131,7 +131,7 @@ pub record FitsWalk (server hops : ℕ) : Type 0 where
 abbrev pub FitsMessage : Message → Type 0
 FitsMessage (message.Cell ends tag cell) = FitsCell cell
 FitsMessage (message.Ack ends key tag) = FitsKey key
-FitsMessage (message.Harbinger ends tag head) = FitsVector head.vector
+FitsMessage (message.Harbinger ends tag head) = FitsHead head
 FitsMessage (message.Want ends wanted) = FitStamps wanted.heads
 FitsMessage (message.Delta ends delta) = FitsDelta delta
 FitsMessage (message.Piece ends piece) = FitsPiece piece

@@ -1,9 +1,9 @@
 //! Calls, written.
 
-ghost use Rattle.std.specs.Prelude.{◌≡◌, ◌≤◌, ◌++◌, OnOk, decimal, length};
+ghost use Rattle.std.specs.Prelude.{◌≡◌, ◌≤◌, ◌↔◌, ◌++◌, IsTrue, OnOk, decimal, length};
 ghost use Rattle.pg_base.specs.Id.{spelling};
 ghost use Rattle.pg_call.specs.Call.{target_word};
-ghost use Rattle.pg_packet_write.specs.Calls.{FitsCall, FitsText, call_bytes, text_bytes};
+ghost use Rattle.pg_packet_write.specs.Calls.{FitsCall, FitsTarget, FitsText, SpellsNone, call_bytes, text_bytes};
 
 use crate::fields::{write_block, write_policy, write_text};
 use pg_base::{Bytes, FileId, SharedBytes};
@@ -36,7 +36,8 @@ fn digits(number: u64) -> usize
 
 /// How many bytes the text of an id has.
 fn id_length(id: FileId) -> usize
-    ensures { result ≡ length (spelling id) }
+    ensures count { result ≡ length (spelling id) }
+    ensures few { result ≤ 42 }
 {
     2 + digits(u64::from(id.server)) + digits(id.number)
 }
@@ -44,7 +45,7 @@ fn id_length(id: FileId) -> usize
 /// The text of a path or an id.
 #[tactic(auto, unfolding(crate::specs::Calls::text_bytes, crate::specs::Fields::counted))]
 fn write_target(target: &Target, out: &mut Bytes) -> Result<(), AllocError>
-    requires { FitsText (target_word target.now) }
+    requires { FitsTarget target.now }
     ensures { OnOk result (out.new ≡ out.old ++ text_bytes (target_word target.now)) }
 {
     match target {
@@ -53,6 +54,55 @@ fn write_target(target: &Target, out: &mut Bytes) -> Result<(), AllocError>
             write_u16(id_length(*id) as u16, out)?;
             id.write(out)
         }
+    }
+}
+
+/// Whether the text's length takes two bytes.
+fn fits_text(text: &SharedBytes) -> bool
+    ensures { IsTrue result ↔ FitsText text.now }
+{
+    text.len() <= usize::from(u16::MAX)
+}
+
+/// Whether the text spells no id.
+fn spells_none(text: &SharedBytes) -> bool
+    ensures { IsTrue result ↔ SpellsNone text.now }
+{
+    FileId::read(text.as_slice()).is_err()
+}
+
+/// Whether what a call is about has a spelling.
+fn fits_target(target: &Target) -> bool
+    ensures { IsTrue result ↔ FitsTarget target.now }
+{
+    match target {
+        Target::Path(path) => fits_text(path) && spells_none(path),
+        Target::Id(_) => true,
+    }
+}
+
+/// Whether the call has a spelling.
+pub fn fits_call(call: &Call) -> bool
+    ensures { IsTrue result ↔ FitsCall call.now }
+{
+    match call {
+        Call::Mkdir { path } => fits_text(path),
+        Call::Create { path, .. } => fits_text(path),
+        Call::Write { path, .. } => fits_text(path),
+        Call::Cut { path, .. } => fits_text(path),
+        Call::Read { path, .. } => fits_text(path),
+        Call::Fresh { path } => fits_text(path),
+        Call::Ls { path, .. } => fits_text(path),
+        Call::Stat { target } => fits_target(target),
+        Call::Rename { from, to } => fits_text(from) && fits_text(to),
+        Call::Unlink { path } => fits_text(path),
+        Call::Rmdir { path } => fits_text(path),
+        Call::Forget { .. } => true,
+        Call::Demote { target } => fits_target(target),
+        Call::Drop { target } => fits_target(target),
+        Call::Giveup { .. } => true,
+        Call::Status => true,
+        Call::Stop => true,
     }
 }
 

@@ -4,7 +4,7 @@ ghost use Rattle.std.specs.Prelude.{◌≡◌, ◌≤◌, ◌<◌, ◌^◌, ◌+
 ghost use Rattle.std.specs.List.{flat_map};
 ghost use Rattle.pg_codec.specs.Spelling.{number_bytes, stamp_bytes};
 ghost use Rattle.pg_packet_write.specs.Fields.{ask_bytes, cell_bytes, counted, ends_bytes, entry_bytes, gold_bytes, golds_bytes, head_bytes, key_bytes, known_bytes, part_bytes, place_bytes, policy_bytes, ranges_bytes, stamps_bytes, vector_bytes, version_bytes};
-ghost use Rattle.pg_packet_write.specs.Fits.{FitGolds, FitStamps, FitsCell, FitsEntry, FitsRanges, FitsVector, FitsVersion, laid};
+ghost use Rattle.pg_packet_write.specs.Fits.{FitGolds, FitStamps, FitsCell, FitsEntry, FitsHead, FitsRanges, FitsVector, FitsVersion, laid};
 ghost use Rattle.pg_words.specs.PlaceWords.{IsPlace};
 
 use pg_base::{Actor, Bytes, Head, Policy, Stamp, Vector, Version};
@@ -126,7 +126,7 @@ pub fn write_vector(vector: &Vector, out: &mut Bytes) -> Result<(), AllocError>
 
 #[tactic(auto, unfolding(crate::specs::Fields::head_bytes))]
 pub fn write_head(head: &Head, out: &mut Bytes) -> Result<(), AllocError>
-    requires { FitsVector head.now.vector }
+    requires { FitsHead head.now }
     ensures { OnOk result (out.new ≡ out.old ++ head_bytes head.now) }
 {
     write_stamp(head.stamp, out)?;

@@ -8,10 +8,10 @@
 //! calls, ticks and replies are packets and no messages; a tick is asked for like a call. Sender
 //! and view may be any numbers: whoever takes a packet looks.
 //!
-//! `write_packet` asks that what is written has a spelling (`FitsContent`), and not that the whole
-//! is short: that no message has over 40,000 bytes is for whoever makes it. The text of a call's
-//! target is an id where it spells one, and else a path, so a path that spells an id has no
-//! spelling.
+//! Each value of `Datagram` has a spelling (`FitsContent`): whoever makes one sees to it, so
+//! `write_packet` asks nothing. That the whole is short is not among it: that no message has over
+//! 40,000 bytes is for whoever makes it. The text of a call's target is an id where it spells one,
+//! and else a path, so a path that spells an id has no spelling; `fits_request` tells.
 //!
 //! Definitions: `specs/Datagrams`, `Messages`, `Calls`, `Fields` (how each is spelled), `Fits`
 //! (what has a spelling; numbers have their widths by their types). docs/FORMATS.md, "Packets". A
@@ -24,4 +24,4 @@ mod fields;
 mod messages;
 mod replies;
 
-pub use datagram::{Content, Datagram, Request, write_packet};
+pub use datagram::{Content, Datagram, Request, fits_request, write_packet};

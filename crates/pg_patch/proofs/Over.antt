@@ -103,8 +103,8 @@ between_stop old cur new others parts j p from at until lt is k m o h f le =
     let e : reached at until p ≡ max from until = omega arith in
     between_from old new others parts j p from (max from until) lt is (subst P e here)
 
--- ---- all the upper parts
--- up to the index, what was laid is the upper parts over the lower ones, and behind it the rest of the lower parts has all that they have
+-- ---- all the upper parts up to the index, what was laid is the upper parts over the lower ones,
+-- and behind it the rest of the lower parts has all that they have
 pub record Over (lower upper new rest : List Part) (limit at : ℕ) : Type 0 where
   pub bytes : (i d : ℕ) → i < at → byte_or new i d ≡ byte_or upper i (cond (ltb i limit) (byte_or lower i d) d)
   pub rest_holds : (i d : ℕ) → at ≤ i → byte_or lower i d ≡ byte_or rest i d

@@ -14,7 +14,7 @@ pub struct Part {
 }
 
 impl Part {
-    /// The same part again. Its bytes are shared.
+    /// Copies the part. Its bytes are shared.
     pub fn copy(&self) -> Result<Part, AllocError>
         ensures { IfOk result (λ p. p ≡ self.now) }
     {

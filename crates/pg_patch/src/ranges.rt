@@ -65,7 +65,7 @@ impl Ranges {
         bytes_of(self.parts())
     }
 
-    /// The same ranges again. The bytes of the parts are shared.
+    /// Copies the ranges. The bytes of the parts are shared.
     pub fn copy(&self) -> Result<Ranges, AllocError>
         ensures { IfOk result (λ r. r ≡ self.now) }
     {

@@ -83,7 +83,7 @@ impl Name {
         &self.text
     }
 
-    /// The same name again. Its bytes are shared.
+    /// Copies the name. Its bytes are shared.
     pub fn copy(&self) -> Result<Name, AllocError>
         ensures { IfOk result (λ n. n ≡ self.now) }
     {

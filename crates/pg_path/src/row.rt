@@ -13,7 +13,7 @@ pub struct Row {
 }
 
 impl Row {
-    /// The same row again. The name's bytes are shared.
+    /// Copies the row. The name's bytes are shared.
     pub fn copy(&self) -> Result<Row, AllocError>
         ensures { IfOk result (λ r. r ≡ self.now) }
     {

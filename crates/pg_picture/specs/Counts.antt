@@ -1,4 +1,5 @@
--- What a journal says of events and messages, told without a picture; and that what is drawn is that.
+-- What a journal says of events and messages, told without a picture; and that what is drawn is
+-- that.
 use Rattle.std.specs.Prelude.{ℕ, ◌≡◌, ◌+◌, ◌==◌, ◌&&◌, Bool, true, false, not, List, [], ◌∷◌, ◌++◌, Option, None, Some, if◌then◌else◌, filter, length, map, slice_get}
 use Rattle.std.specs.List.{flat_map}
 use Rattle.pg_event.specs.declared.event.Event.{Event}
@@ -87,8 +88,8 @@ abbrev pub listed : Option Summary → List Summary
 listed None = []
 listed (Some m) = m ∷ []
 
--- the message that an event delivers, loses or repeats, or those to the server that it removes, by the
--- ending that is asked for
+-- the message that an event delivers, loses or repeats, or those to the server that it removes, by
+-- the ending that is asked for
 abbrev pub ended_by : LegEnd → List Summary → Event → List Summary
 ended_by ending.Delivered bag (event.Deliver number) = listed (message_at bag number)
 ended_by ending.Lost bag (event.Lose number) = listed (message_at bag number)
@@ -116,8 +117,8 @@ abbrev pub left_over : LegEnd → List Summary → List Summary
 left_over ending.UnderWay bag = bag
 left_over end bag = []
 
--- all messages that end so, in order, from a line on in front of which these servers are removed, and
--- these messages are under way
+-- all messages that end so, in order, from a line on in front of which these servers are removed,
+-- and these messages are under way
 abbrev pub ended_from : LegEnd → List ℕ → List Summary → List JournalLine → List Summary
 ended_from end removed bag [] = left_over end bag
 ended_from end removed bag (line ∷ rest) =
@@ -155,10 +156,10 @@ way end leg = if is_same_end end leg.end then leg.message.summary ∷ [] else []
 abbrev pub ways : LegEnd → List Leg → List Summary
 ways end legs = flat_map (way end) legs
 
--- One mark for each event, in order. One arrow for each message that was delivered, one cross for each
--- that was lost, one more for each whose receiver is removed, when it is or before it was sent, one fork
--- for each that was repeated, one open end for each that is still under way, and no other; and as many
--- arrows, crosses of lost messages and forks as the journal has such events.
+-- One mark for each event, in order. One arrow for each message that was delivered, one cross for
+-- each that was lost, one more for each whose receiver is removed, when it is or before it was
+-- sent, one fork for each that was repeated, one open end for each that is still under way, and no
+-- other; and as many arrows, crosses of lost messages and forks as the journal has such events.
 pub record IsWholePicture (journal : List JournalLine) (s : Sketch) : Type 0 where
   pub marks : map (λ m. m.line) s.marks ≡ numbers_of journal
   pub arrows : ways ending.Delivered s.legs ≡ ended ending.Delivered journal

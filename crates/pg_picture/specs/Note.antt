@@ -47,7 +47,8 @@ abbrev pub asked_answer : AskedAt → Quiet → List ℕ
 asked_answer word.Quiet state = codes " -> " ++ quiet_body state
 asked_answer _ state = []
 
--- what the line behind an event's own tells of it: the reply, why it is void, or whether all is done
+-- what the line behind an event's own tells of it: the reply, why it is void, or whether all is
+-- done
 abbrev pub line_answer : JournalLine → List ℕ
 line_answer (printed.Call kind server reply) = codes " -> " ++ reply_body reply
 line_answer (printed.Tick server reply) = codes " -> " ++ reply_body reply

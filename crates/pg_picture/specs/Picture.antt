@@ -11,8 +11,8 @@ use Rattle.pg_picture.specs.declared.mark.LegEnd.TheVariants as ending
 use Rattle.pg_picture.specs.declared.part.Part.TheVariants as part
 use Rattle.pg_picture.specs.declared.sketch.Sketch.{Sketch}
 
--- before the first line of a full journal, which is of the schedule's third line: its second asks for
--- the form. At most 2,000 events are drawn
+-- before the first line of a full journal, which is of the schedule's third line: its second asks
+-- for the form. At most 2,000 events are drawn
 abbrev pub start : Course
 start = record { line = 2; settles = false; before = part.Outside; left = 2000 }
 
@@ -25,7 +25,8 @@ abbrev pub hung : Sketch → Sketch
 hung s = record s
     { height = s.height + 1 + length s.bag; legs = s.legs ++ hanging ending.UnderWay (s.height + 1) s.bag }
 
--- what comes of a journal: its picture, or the number of the first line that lacks something, and what
+-- what comes of a journal: its picture, or the number of the first line that lacks something, and
+-- what
 pub data Drawing : Type 0 where
   Drawn : Sketch → Drawing
   Lacking : ℕ → Lack → Drawing

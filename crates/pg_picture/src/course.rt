@@ -86,7 +86,7 @@ fn line_server(what: &Line) -> NodeId
     }
 }
 
-/// The same of an event that went so.
+/// The server of an event that went so: 0 where it was void.
 pub(crate) fn event_server(what: &Line, outcome: Outcome) -> NodeId
     ensures { result ≡ event_server what.now outcome }
 {

@@ -18,7 +18,7 @@ pub enum Lack {
     Server,
     /// The journal is over, and does not say whether all is done.
     End,
-    /// It has more events than are drawn.
+    /// The run has more events than are drawn.
     Events,
 }
 

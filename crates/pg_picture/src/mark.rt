@@ -9,11 +9,11 @@ pub enum LegEnd {
     /// At the receiver.
     Delivered,
     Lost,
-    /// It goes on, and so does a copy.
+    /// The message goes on, and so does a copy.
     Copied,
     /// The receiver is removed.
     Fallen,
-    /// It is still under way at the end of the run.
+    /// The message is still under way at the end of the run.
     UnderWay,
 }
 
@@ -39,9 +39,9 @@ pub enum MarkKind {
     Repeat,
     Restart,
     Remove,
-    /// It changes nothing.
+    /// The event changes nothing.
     Void,
-    /// It is asked whether all is done, what is shown, and the like.
+    /// The line asks whether all is done, what is shown, and the like.
     Asked,
 }
 

@@ -32,7 +32,7 @@ impl Model for Messages {
     ghost view = { λ m. m.values.items };
 }
 
-/// The same message, whose way goes on in front of the receiver's line from this height on.
+/// A message, whose way goes on in front of the receiver's line from this height on.
 fn split(message: Message, height: u32) -> Message
     ensures { result ≡ split message height }
 {

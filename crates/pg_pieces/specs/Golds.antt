@@ -28,8 +28,8 @@ abbrev pub is_of_later : ℕ → Option Flag → Bool
 is_of_later birth None = false
 is_of_later birth (Some flag) = nat_lt birth flag.birth
 
--- what is held is full and sees no live gold; and the server has no flag of it that is of a later birth
--- than its replica, which no run makes
+-- what is held is full and sees no live gold; and the server has no flag of it that is of a later
+-- birth than its replica, which no run makes
 abbrev pub is_goldless_held : List ℕ → ℕ → ℕ → Option InodeValue → Bool
 is_goldless_held removed server birth None = false
 is_goldless_held removed server birth (Some x) = x.full

@@ -14,13 +14,14 @@ use std::alloc::AllocError;
 /// How a message along an edge is met.
 #[derive(Clone, Copy, Debug, PartialEq, Eq)]
 pub enum EdgeUse {
-    /// It links its sender. Where its replica is not here the sender is told: so cells, harbingers, grants, greetings
-    /// and leaves.
+    /// The message links its sender. Where its replica is not here the sender is told: so cells,
+    /// harbingers, grants, greetings and leaves.
     Makes,
-    /// It has to come along an edge that is there. Where its replica is not here the sender is told: so wants,
-    /// invitations and walks.
+    /// The message has to come along an edge that is there. Where its replica is not here the
+    /// sender is told: so wants, invitations and walks.
     Needs,
-    /// It has to come along an edge that is there, and else nothing comes of it: so all answers.
+    /// The message has to come along an edge that is there, and else nothing comes of it: so all
+    /// answers.
     Answers,
 }
 
@@ -56,8 +57,8 @@ fn note_link(news: bool, work: &mut Work, file: FileId, peer: NodeId) -> Result<
     Ok(())
 }
 
-/// Links a birth of a peer to the replica of a thing. Where that made an edge it is noted. After out of memory a part
-/// may be done.
+/// Links a birth of a peer to the replica of a thing. Where that made an edge it is noted. After
+/// out of memory a part may be done.
 pub fn link_peer(
     store: &mut Store,
     file: FileId,
@@ -104,8 +105,9 @@ fn meets(store: &Store, from: NodeId, manner: EdgeUse, ends: &Ends) -> bool
     }
 }
 
-/// Whether a message along an edge is accepted. It is not where its replica is not here, nor where its sender is listed
-/// with a later birth, nor, but for those that link, where its sender is not listed.
+/// Whether a message along an edge is accepted. It is not where its replica is not here, nor where
+/// its sender is listed with a later birth, nor, but for those that link, where its sender is not
+/// listed.
 pub fn is_accepted(store: &Store, from: NodeId, manner: EdgeUse, ends: &Ends) -> bool
     ensures { result ≡ is_accepted store.now from manner ends.now }
 {
@@ -127,8 +129,8 @@ fn meet(store: &mut Store, ends: &Ends, manner: EdgeUse, work: &mut Work) -> Res
     }
 }
 
-/// Whether a message along an edge is accepted. Whoever is to be linked, or told that the replica is not here, is.
-/// After out of memory a part may be done.
+/// Whether a message along an edge is accepted. Whoever is to be linked, or told that the replica
+/// is not here, is. After out of memory a part may be done.
 pub fn accept(
     store: &mut Store,
     ends: &Ends,
@@ -152,7 +154,8 @@ pub fn accept(
     Ok(accepted)
 }
 
-/// Tells the sender of a message, which is no answer, that its replica is not here, unless that is still to come.
+/// Tells the sender of a message, which is no answer, that its replica is not here, unless that is
+/// still to come.
 fn tell_gone(store: &Store, ends: &Ends, manner: EdgeUse, work: &mut Work) -> Result<(), AllocError>
     ensures { OnOk result (work.new ≡ with_gone store.now ends.now manner work.old) }
 {

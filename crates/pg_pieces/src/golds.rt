@@ -10,7 +10,8 @@ use pg_register::{GoldFlags, is_removed};
 use pg_store::Store;
 use std::alloc::AllocError;
 
-/// Whether the server's own replica of a thing is gold: its flag is raised, with the replica's birth.
+/// Whether the server's own replica of a thing is gold: its flag is raised, with the replica's
+/// birth.
 pub fn is_gold(store: &Store, file: &FileId) -> bool
     ensures { result ≡ is_gold store.now file.now }
 {
@@ -40,8 +41,8 @@ fn is_of_later(birth: u64, flags: &GoldFlags, server: NodeId) -> bool
     }
 }
 
-/// Whether what is held is full and sees no live gold, and the server has no flag of it that is of a later birth than
-/// this one of its replica.
+/// Whether what is held is full and sees no live gold, and the server has no flag of it that is of
+/// a later birth than this one of its replica.
 fn is_goldless_held(names: &Names, birth: u64, held: &Inode) -> bool
     ensures { result ≡ is_goldless_held names.now.removed names.now.server birth (Some held.now) }
 {
@@ -58,8 +59,8 @@ fn has_goldless(names: &Names) -> bool
         && !sees_gold(names.removed(), &held.own().flags))
 }
 
-/// Whether a thing is full and sees no live gold, and the server has no flag of it that is of a later birth than its
-/// replica.
+/// Whether a thing is full and sees no live gold, and the server has no flag of it that is of a
+/// later birth than its replica.
 pub fn is_goldless(store: &Store, file: &FileId) -> bool
     ensures { result ≡ is_goldless store.now file.now }
 {
@@ -69,7 +70,8 @@ pub fn is_goldless(store: &Store, file: &FileId) -> bool
     }
 }
 
-/// The full things that see no live gold, by id. Where every full thing sees one none is looked for.
+/// The full things that see no live gold, by id. Where every full thing sees one none is looked
+/// for.
 #[tactic(auto, using(crate::proofs::SeenGolds::none_is_goldless))]
 pub fn goldless(store: &Store) -> Result<Items<FileId>, AllocError>
     ensures { IfOk result (λ files. files ≡ goldless store.now) }

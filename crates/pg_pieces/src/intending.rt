@@ -18,8 +18,8 @@ fn note_begun(news: bool, work: &mut Work, key: IntentKey) -> Result<(), AllocEr
     Ok(())
 }
 
-/// An intention begins, behind the others. Where one with its key stands that stays in its place, and a Patch joins its
-/// entry. After out of memory a part may be done.
+/// An intention begins, behind the others. Where one with its key stands that stays in its place,
+/// and a Patch joins its entry. After out of memory a part may be done.
 pub fn begin_intent(store: &mut Store, intent: Intent, work: &mut Work) -> Result<(), AllocError>
     ensures store { OnOk result (store.new ≡ (begin_intent store.old intent work.old).store) }
     ensures work { OnOk result (work.new ≡ (begin_intent store.old intent work.old).work) }

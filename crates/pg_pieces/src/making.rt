@@ -10,8 +10,8 @@ use pg_register::Flag;
 use pg_store::Store;
 use std::alloc::AllocError;
 
-/// The next flag of the server's replica of a thing. Where that is not held it has no flag, and its birth is 0. A
-/// number at the end of the clock has none behind it: memory ends before.
+/// The next flag of the server's replica of a thing. Where that is not held it has no flag, and its
+/// birth is 0. A number at the end of the clock has none behind it: memory ends before.
 fn next_flag(store: &Store, file: FileId, raised: bool) -> Result<Flag, AllocError>
     ensures { IfOk result (λ flag. flag ≡ own_next store.now file raised) }
 {

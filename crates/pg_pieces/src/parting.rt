@@ -87,8 +87,9 @@ fn unsettled_by(store: &Store, file: &FileId) -> Option<Refusal>
     }
 }
 
-/// Why a replica may not go: it is gold, or a held thing has a live place in it, the least of which is told, or something
-/// about it is not settled: the first intention, else the first edge with an unacknowledged key.
+/// Why a replica may not go: it is gold, or a held thing has a live place in it, the least of which
+/// is told, or something about it is not settled: the first intention, else the first edge with an
+/// unacknowledged key.
 pub fn stays_for(store: &Store, file: &FileId) -> Option<Refusal>
     ensures { result ≡ stays_for store.now file.now }
 {

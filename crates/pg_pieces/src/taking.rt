@@ -33,8 +33,8 @@ fn note_left_if(news: bool, work: &mut Work, file: FileId, old: &Place) -> Resul
     Ok(())
 }
 
-/// A held thing takes a place where it is newer. Where that replaces a live place the directory of the latter is noted.
-/// After out of memory a part may be done.
+/// A held thing takes a place where it is newer. Where that replaces a live place the directory of
+/// the latter is noted. After out of memory a part may be done.
 pub fn take_place(
     store: &mut Store,
     file: FileId,
@@ -106,7 +106,8 @@ fn is_place_news(news: EntryNews) -> bool
     }
 }
 
-/// A held directory takes what is newer in an entry. Tells what is. After out of memory a part may be done.
+/// A held directory takes what is newer in an entry. Tells what is. After out of memory a part may
+/// be done.
 pub fn take_entry(
     store: &mut Store,
     dir: FileId,
@@ -135,8 +136,9 @@ fn note_doubt(doubt: bool, work: &mut Work, dir: FileId, child: FileId) -> Resul
     Ok(())
 }
 
-/// A held directory takes what is newer in the entry of a cell. Where its sender is not sure of it, and the place is
-/// news, it is noted as one to be confirmed. After out of memory a part may be done.
+/// A held directory takes what is newer in the entry of a cell. Where its sender is not sure of it,
+/// and the place is news, it is noted as one to be confirmed. After out of memory a part may be
+/// done.
 pub fn take_entry_cell(
     store: &mut Store,
     dir: FileId,

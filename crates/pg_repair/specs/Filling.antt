@@ -49,8 +49,8 @@ full store ends work =
 abbrev pub is_bronze : Store → FileId → Bool
 is_bronze store file = is_full store file && not (is_gold store file)
 
--- few golds are seen: where the message is accepted, a full bronze replica that sees few of them too
--- raises its flag
+-- few golds are seen: where the message is accepted, a full bronze replica that sees few of them
+-- too raises its flag
 abbrev pub invited : Ends → Done → Done
 invited ends done = if is_bronze done.store ends.file
     then raise_if_few done.store ends.file done.work

@@ -13,9 +13,9 @@ use pg_pieces::{post, take_entry, take_flags, take_place};
 use pg_store::Store;
 use std::alloc::AllocError;
 
-/// The place and flags of a child are asked for, which the sender lists as told in the entry. A held child takes what
-/// is newer in that, and answers with what it has then. Where it is not held the sender is told. After out of memory a
-/// part may be done.
+/// The place and flags of a child are asked for, which the sender lists as told in the entry. A
+/// held child takes what is newer in that, and answers with what it has then. Where it is not held
+/// the sender is told. After out of memory a part may be done.
 pub fn confirm(
     store: &mut Store,
     dir: FileId,
@@ -73,8 +73,9 @@ pub fn own_entry(store: &Store, file: FileId) -> Result<Entry, AllocError>
     })
 }
 
-/// The place of a child comes from a holder. A held directory takes what is newer in it. Nothing is to be confirmed any
-/// more where it has just this place then, or does not list the child. After out of memory a part may be done.
+/// The place of a child comes from a holder. A held directory takes what is newer in it. Nothing is
+/// to be confirmed any more where it has just this place then, or does not list the child. After
+/// out of memory a part may be done.
 pub fn place_is(
     store: &mut Store,
     dir: FileId,

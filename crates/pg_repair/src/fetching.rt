@@ -12,9 +12,10 @@ use pg_replica::Replica;
 use pg_store::Store;
 use std::alloc::{AllocError, Global};
 
-/// A replica of this birth is to be filled from the one here. Where there is a full one here it links the asker, and is
-/// granted, or told full where that edge is clean; from a birth that is not the asker's latest nothing comes. Else the
-/// asker is told that it is not granted. After out of memory a part may be done.
+/// A replica of this birth is to be filled from the one here. Where there is a full one here it
+/// links the asker, and is granted, or told full where that edge is clean; from a birth that is not
+/// the asker's latest nothing comes. Else the asker is told that it is not granted. After out of
+/// memory a part may be done.
 pub fn fetch(store: &mut Store, file: FileId, birth: u64, work: &mut Work) -> Result<(), AllocError>
     ensures store { OnOk result (store.new ≡ (fetch store.old file birth work.old).store) }
     ensures work { OnOk result (work.new ≡ (fetch store.old file birth work.old).work) }
@@ -56,7 +57,8 @@ fn give(store: &Store, ends: Ends, work: &mut Work) -> Result<(), AllocError>
     Ok(())
 }
 
-/// What a new replica begins with: the policy, the place and the flags of the one from which it is filled.
+/// What a new replica begins with: the policy, the place and the flags of the one from which it is
+/// filled.
 fn granted_from(
     alloc: Global,
     file: FileId,
@@ -73,8 +75,8 @@ fn granted_from(
     })
 }
 
-/// The place that a new replica begins with. Of a dead directory it is the blank one: its death comes behind its
-/// entries.
+/// The place that a new replica begins with. Of a dead directory it is the blank one: its death
+/// comes behind its entries.
 fn place_to_grant(alloc: Global, file: FileId, place: Place) -> Result<Place, AllocError>
     ensures { IfOk result (λ granted. granted ≡ place_to_grant file place) }
 {

@@ -12,8 +12,8 @@ use std::alloc::AllocError;
 /// A replica that sees fewer live golds than this becomes one when it is full.
 pub const FEW_GOLDS: u32 = 3;
 
-/// The sender has nothing that the replica here does not have: it is full from then on, where the message is accepted.
-/// After out of memory a part may be done.
+/// The sender has nothing that the replica here does not have: it is full from then on, where the
+/// message is accepted. After out of memory a part may be done.
 pub fn full(store: &mut Store, ends: Ends, work: &mut Work) -> Result<(), AllocError>
     ensures store { OnOk result (store.new ≡ (full store.old ends work.old).store) }
     ensures work { OnOk result (work.new ≡ (full store.old ends work.old).work) }
@@ -24,8 +24,8 @@ pub fn full(store: &mut Store, ends: Ends, work: &mut Work) -> Result<(), AllocE
     Ok(())
 }
 
-/// Few golds are seen: a bronze replica that is full, and sees few of them too, raises its flag, where the message is
-/// accepted. After out of memory a part may be done.
+/// Few golds are seen: a bronze replica that is full, and sees few of them too, raises its flag,
+/// where the message is accepted. After out of memory a part may be done.
 pub fn invite(store: &mut Store, ends: Ends, work: &mut Work) -> Result<(), AllocError>
     ensures store { OnOk result (store.new ≡ (invite store.old ends work.old).store) }
     ensures work { OnOk result (work.new ≡ (invite store.old ends work.old).work) }
@@ -44,8 +44,8 @@ fn is_bronze(store: &Store, file: &FileId) -> bool
     store.names.is_full(file) && !is_gold(store, file)
 }
 
-/// A filling replica is full from now on, and raises its flag where it sees fewer than three live golds. After out of
-/// memory a part may be done.
+/// A filling replica is full from now on, and raises its flag where it sees fewer than three live
+/// golds. After out of memory a part may be done.
 pub fn fill(store: &mut Store, file: FileId, work: &mut Work) -> Result<(), AllocError>
     ensures store { OnOk result (store.new ≡ (fill store.old file work.old).store) }
     ensures work { OnOk result (work.new ≡ (fill store.old file work.old).work) }

@@ -12,9 +12,9 @@ use pg_pieces::{EdgeUse, accept, link_peer};
 use pg_store::Store;
 use std::alloc::AllocError;
 
-/// A replica begins, filling, where its birth is pending: it has the place and the flags that it was granted, and links
-/// who granted it, of whom a Fill of it asks the rest. Where it is here already it links the sender alone. After out of
-/// memory a part may be done.
+/// A replica begins, filling, where its birth is pending: it has the place and the flags that it
+/// was granted, and links who granted it, of whom a Fill of it asks the rest. Where it is here
+/// already it links the sender alone. After out of memory a part may be done.
 pub fn grant(
     store: &mut Store,
     ends: Ends,
@@ -56,7 +56,7 @@ fn aim_fill(store: &mut Store, file: FileId, target: NodeId)
     store.intents.aim(&IntentKey::Fill { file }, target);
 }
 
-/// And it links who granted it, and asks it for the rest.
+/// The replica that was granted begins, links who granted it, and asks it for the rest.
 fn begin_granted(
     store: &mut Store,
     ends: Ends,
@@ -74,7 +74,8 @@ fn begin_granted(
     Ok(())
 }
 
-/// Another server is asked for a replica of this birth, where the sender is asked: by the wish, and by the Fill.
+/// Another server is asked for a replica of this birth, where the sender is asked: by the wish, and
+/// by the Fill.
 pub fn no_grant(store: &mut Store, file: FileId, birth: u64, work: &Work)
     ensures { store.new ≡ (no_grant store.old file birth work.entry.now).store }
 {
@@ -83,7 +84,8 @@ pub fn no_grant(store: &mut Store, file: FileId, birth: u64, work: &Work)
     turn_fill(store, file, birth, work.from, next);
 }
 
-/// The wish for a thing with this birth that asks a server asks the next one from now on, if there is one.
+/// The wish for a thing with this birth that asks a server asks the next one from now on, if there
+/// is one.
 fn turn_wish(store: &mut Store, file: FileId, birth: u64, from: NodeId, next: NodeId)
     ensures { store.new ≡ turn_wish store.old file birth from next }
 {
@@ -92,7 +94,8 @@ fn turn_wish(store: &mut Store, file: FileId, birth: u64, from: NodeId, next: No
     }
 }
 
-/// And so the Fill.
+/// The Fill of a thing with this birth that asks a server asks the next one from now on, if there
+/// is one.
 fn turn_fill(store: &mut Store, file: FileId, birth: u64, from: NodeId, next: NodeId)
     ensures { store.new ≡ turn_fill store.old file birth from next }
 {

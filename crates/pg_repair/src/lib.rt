@@ -1,6 +1,6 @@
-//! How replicas come to be and are filled, and how directories hear of children that moved. There is
-//! one function for each message that asks for a replica, gives one, fills one, tells of a child or
-//! confirms one, or says that nothing is here.
+//! How replicas come to be and are filled, and how directories hear of children that moved. There
+//! is one function for each message that asks for a replica, gives one, fills one, tells of a child
+//! or confirms one, or says that nothing is here.
 //!
 //! A handler is made of the pieces of `pg_pieces` alone, and touches what they touch: the server's
 //! `Store` and the event's `Work`. It may end an intention that its message answers, or have it ask

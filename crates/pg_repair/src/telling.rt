@@ -13,9 +13,9 @@ use pg_pieces::{post, take_entry};
 use pg_store::Store;
 use std::alloc::AllocError;
 
-/// A directory is told of a newer place and newer flags of a child. A held one takes what is newer in them, and answers
-/// with the stamp of the place that was told. Where it is not held the sender is told. After out of memory a part may
-/// be done.
+/// A directory is told of a newer place and newer flags of a child. A held one takes what is newer
+/// in them, and answers with the stamp of the place that was told. Where it is not held the sender
+/// is told. After out of memory a part may be done.
 pub fn tell(
     store: &mut Store,
     dir: FileId,
@@ -44,7 +44,8 @@ pub fn tell(
     Ok(())
 }
 
-/// The place of this stamp was told. The Patch ends where it asks the sender and carries just that place.
+/// The place of this stamp was told. The Patch ends where it asks the sender and carries just that
+/// place.
 pub fn tell_ok(store: &mut Store, dir: FileId, child: FileId, stamp: Stamp, work: &Work)
     ensures { store.new ≡ (tell_ok store.old dir child stamp work.entry.now).store }
 {

@@ -1,4 +1,5 @@
--- How a replay went on, one piece behind the other. a, b, c and end: the replay at one moment and at later ones.
+-- How a replay went on, one piece behind the other. a, b, c and end: the replay at one moment and
+-- at later ones.
 use Rattle.std.proofs.Common.{ℕ, if◌then◌else◌, ◌≡◌, ◌<◌, ◌+◌, ◌-◌, ◌++◌, Bool, true, false, List, [], ◌∷◌, refl, sym, ap, subst, ◌∙◌, append-nil, append_assoc, arith, suc}
 use Rattle.pg_event.specs.declared.event.Event.{Event}
 use Rattle.pg_event.specs.declared.event.Event.TheVariants.{Deliver, Tick}

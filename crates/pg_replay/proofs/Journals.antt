@@ -44,8 +44,8 @@ settled a b c es x y =
     let P : List Event → Type 0 = (λ fs. Reaches a c fs (own ++ last)) in
     subst P (append-nil es) (then_reaches a b c es [] own last x told)
 
--- what is left to write makes this text, where the meters have counted this, and each line of the whole
--- journal is one of a journal if those that are left are
+-- what is left to write makes this text, where the meters have counted this, and each line of the
+-- whole journal is one of a journal if those that are left are
 pub record IsLeft (servers : ℕ) (replay : Replay) (readings : Readings) (number : ℕ)
     (lines : List Line) (text : List ℕ) (whole : List JournalLine) : Type 0 where
   pub so_far : replay.out

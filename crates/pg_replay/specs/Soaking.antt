@@ -26,8 +26,8 @@ with_outcome outcome.Refused t = record t { refused = added t.refused 1 }
 with_outcome outcome.Void t = record t { voids = added t.voids 1 }
 with_outcome outcome.Other t = t
 
--- of an event: whether it was void, whether a client was refused or told, and how many messages were
--- sent
+-- of an event: whether it was void, whether a client was refused or told, and how many messages
+-- were sent
 abbrev pub with_mark : Mark → Tally → Tally
 with_mark mark t = with_outcome mark.outcome (record t { sent = added t.sent mark.note.packets })
 

@@ -71,8 +71,8 @@ abbrev pub off_lines : ℕ → Option Reading → List JournalLine
 off_lines number (Some reading) = reading_line reading ∷ []
 off_lines number None = printed.Void number NoMeter ∷ []
 
--- what a line asks for, where this is its number, and it takes off the meter with this reading. Of a
--- settling its events, and whether all is done behind them
+-- what a line asks for, where this is its number, and it takes off the meter with this reading. Of
+-- a settling its events, and whether all is done behind them
 abbrev pub output_lines : ℕ → ℕ → Form → World → Option Reading → Line → List JournalLine
 output_lines servers number form w off (line.Happens event) =
     event_lines servers number form w event
@@ -147,8 +147,8 @@ journal_lines servers number form readings w (line ∷ lines) =
     ++ journal_lines servers (number + 1) (form_from form line)
     (readings_behind servers w readings line) (after_line servers w line) lines
 
--- the journal of a schedule: its first line has number 1, the form is short at first, and these meters
--- are handed in
+-- the journal of a schedule: its first line has number 1, the form is short at first, and these
+-- meters are handed in
 abbrev pub journal_of : List Reading → ℕ → List Line → List JournalLine
 journal_of meters servers lines =
     journal_lines servers 2 Short (map Some meters) (start servers) lines
@@ -157,8 +157,8 @@ journal_of meters servers lines =
 abbrev pub text_of : List Reading → ℕ → List Line → List ℕ
 text_of meters servers lines = journal_spelling (journal_of meters servers lines)
 
--- the input spells a schedule, each line of the journal of the schedule's run is a line of a journal, and P
--- holds of the text of that journal, where these meters are handed in
+-- the input spells a schedule, each line of the journal of the schedule's run is a line of a
+-- journal, and P holds of the text of that journal, where these meters are handed in
 pub record IsTextOf (meters : List Reading) (input : List ℕ) (P : List ℕ → Type 0) : Type 0 where
   pub servers : ℕ
   pub lines : List Line

@@ -84,7 +84,8 @@ impl Replay {
         }
     }
 
-    /// The same of an event of a settling: in full form its line stands in front.
+    /// Steps the world by an event of a settling, and writes its entry: in full form the event's
+    /// line stands in front.
     fn happen_within(&mut self, event: Event) -> Result<(), AllocError>
         requires going { self.old.world.failed ≡ false }
         requires line { IsLine (Line.Happens event) }
@@ -206,7 +207,8 @@ impl Replay {
         }
     }
 
-    /// The same of a server whether it is live or not.
+    /// Writes what a server shows of a thing, whether it is live or not, and says whether it holds
+    /// it.
     fn show_live(&mut self, server: NodeId, id: &FileId) -> Result<bool, AllocError>
         requires going { self.old.world.failed ≡ false }
         requires server { (1 ≤ server) × (server ≤ self.old.world.servers) }

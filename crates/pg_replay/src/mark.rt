@@ -10,13 +10,13 @@ use pg_meter::Note;
 /// What came of an event.
 #[derive(Clone, Copy, Debug, PartialEq, Eq)]
 pub enum Outcome {
-    /// It was void.
+    /// A void event.
     Void,
     /// A client was told what it asked for.
     Answered,
     /// A client was refused.
     Refused,
-    /// There is no client.
+    /// An event with no client.
     Other,
 }
 

@@ -86,7 +86,7 @@ fn contents_of(alloc: Global, content: &Content) -> Result<ShownContent, AllocEr
     })
 }
 
-/// The same of a content with no head.
+/// The content that has no head: no stamp, and no byte.
 fn no_contents(alloc: Global) -> Result<ShownContent, AllocError>
     ensures { IfOk result (λ shown. shown ≡ no_content) }
 {

@@ -1,4 +1,5 @@
--- What a join and a write do to the edges and cells, as the flooding sees it: for each head the cell at its key.
+-- What a join and a write do to the edges and cells, as the flooding sees it: for each head the
+-- cell at its key.
 use Rattle.std.proofs.Common.{ℕ, ◌≡◌, ◌+◌, Bool, true, false, cond, List, [], ◌∷◌, length, Option, None, refl, sym, ap, subst, ◌∙◌}
 use Rattle.pg_base.specs.declared.stamp.Stamp.{Stamp}
 use Rattle.pg_base.specs.declared.vector.Actor.{Actor}

@@ -1,5 +1,5 @@
--- Which replicas a server need not look at: those whose peers have acknowledged every key, and those
--- that know no number at its end.
+-- Which replicas a server need not look at: those whose peers have acknowledged every key, and
+-- those that know no number at its end.
 use Rattle.std.specs.Prelude.{◌≡◌, if◌then◌else◌, All, true, false, nat_lt, List, length, None, Some}
 use Rattle.std.specs.Ordering.{eq_by_cmp}
 use Rattle.std.specs.BTreeMap.{insert_entry, is_at}

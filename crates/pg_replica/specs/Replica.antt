@@ -1,5 +1,5 @@
--- A replica with its heads, kept deltas and edges: which keys and cells it has, and what a version, a
--- write and an answer make of it.
+-- A replica with its heads, kept deltas and edges: which keys and cells it has, and what a version,
+-- a write and an answer make of it.
 use Rattle.std.specs.Prelude.{ℕ, ◌+◌, ◌==◌, ◌&&◌, Bool, false, if◌then◌else◌, List, [], ◌∷◌, filter, length, map, nat_le, nat_lt, not, Option, None, Some}
 use Rattle.std.specs.List.{list_any}
 use Rattle.pg_base.specs.declared.stamp.Stamp.{Stamp}
@@ -90,8 +90,8 @@ with_touch x k tags = record x { edges = touched x.edges k tags }
 
 -- ---- a write
 
--- the version is the only head, and the delta that made it is kept: the keys of all heads leave every
--- edge, and its own key is touched on every edge, from this tag on
+-- the version is the only head, and the delta that made it is kept: the keys of all heads leave
+-- every edge, and its own key is touched on every edge, from this tag on
 abbrev pub with_only : Replica → VersionValue → KeptDelta → ℕ → Replica
 with_only x v delta tags = record x {
   content = with_heads x.content (v ∷ []);

@@ -10,8 +10,8 @@ ghost use Rattle.pg_replica.specs.declared.replica.Replica.{Replica};
 ghost use Rattle.pg_replica.specs.Replica.{with_ack, with_version, with_write};
 ghost use Rattle.pg_replica.specs.Laws.{KeysAreHeads};
 
-/// No key stands on an edge but a head's: so it is where no key stands on an edge at all, and joins, writes and answers
-/// keep it so.
+/// No key stands on an edge but a head's: so it is where no key stands on an edge at all, and
+/// joins, writes and answers keep it so.
 pub fn keys_are_heads()
     ensures start { (x : Replica) → All (λ e. e.keys ≡ []) x.edges → KeysAreHeads x }
     ensures join { (x : Replica) → KeysAreHeads x → (v : VersionValue) (tags : ℕ)

@@ -1,5 +1,5 @@
-//! The replicas of a server, each of a file whose versions may stand side by side, or of a directory, with the edges along
-//! which it floods its cells.
+//! The replicas of a server, each of a file whose versions may stand side by side, or of a
+//! directory, with the edges along which it floods its cells.
 #![tactic(auto)]
 
 mod laws;

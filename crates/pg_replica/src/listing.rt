@@ -22,9 +22,9 @@ pub(crate) type Files = BTreeMap<FileId, ()>;
 /// The files to look at, of those that a server holds.
 #[derive(Debug, Drop)]
 pub(crate) struct Lists {
-    /// Those with unacknowledged keys.
+    /// The files with unacknowledged keys.
     pub unacknowledged: Files,
-    /// Those with a head that knows a number of 2^62 or more, of whichever actor.
+    /// The files with a head that knows a number of 2^62 or more, of whichever actor.
     pub ended: Files,
 }
 
@@ -52,7 +52,8 @@ fn list_end(ended: &mut Files, file: FileId, version: &Version) -> Result<(), Al
     Ok(())
 }
 
-/// Lists the file, if the replica has an edge, on which a key that is touched stays until it is acknowledged.
+/// Lists the file, if the replica has an edge, on which a key that is touched stays until it is
+/// acknowledged.
 fn list_keys(unacknowledged: &mut Files, file: FileId, replica: &Replica) -> Result<(), AllocError>
     ensures ok { OnOk result (unacknowledged.new.entries
         ≡ with_keys unacknowledged.old.entries file replica.now) }
@@ -64,7 +65,8 @@ fn list_keys(unacknowledged: &mut Files, file: FileId, replica: &Replica) -> Res
     Ok(())
 }
 
-/// Takes a version, and tells whether it is a head from then on: where it is not covered. `tags` is the next tag to give.
+/// Takes a version, and tells whether it is a head from then on: where it is not covered. `tags` is
+/// the next tag to give.
 pub(crate) fn take_listed(
     replica: &mut Replica,
     lists: &mut Lists,
@@ -92,8 +94,8 @@ pub(crate) fn take_listed(
     Ok(true)
 }
 
-/// Makes a version of what the ranges make of what is shown, and answers the stamps of the heads that it is based on. It
-/// is the only head then. `tags` is the next tag to give.
+/// Makes a version of what the ranges make of what is shown, and answers the stamps of the heads
+/// that it is based on. It is the only head then. `tags` is the next tag to give.
 pub(crate) fn write_listed(
     replica: &mut Replica,
     lists: &mut Lists,
@@ -154,8 +156,8 @@ pub(crate) fn touch_listed(
     Ok(())
 }
 
-/// Links a birth of a peer, and tells whether that made an edge, on which each of these keys has a fresh tag. `tags` is
-/// the next tag to give.
+/// Links a birth of a peer, and tells whether that made an edge, on which each of these keys has a
+/// fresh tag. `tags` is the next tag to give.
 pub(crate) fn link_listed(
     replica: &mut Replica,
     lists: &mut Lists,

@@ -20,7 +20,7 @@ use std::alloc::{AllocError, Global};
 /// A replica of a file.
 #[derive(Debug, Drop)]
 pub struct Replica {
-    /// Which of the server's replicas of this file it is.
+    /// The birth of the replica: which of the server's replicas of this file it is.
     pub birth: u64,
     /// The versions that stand side by side. Each is a cell, and its key is its stamp.
     pub content: Content,
@@ -106,9 +106,9 @@ impl Replica {
         self.edges.are_clean()
     }
 
-    /// Brings in a version that is not covered, with all that its vector covers, and touches its key on every edge.
-    /// `tags` is the next tag to give. After a refusal the content is as before, but edges and tags may be changed in
-    /// part.
+    /// Brings in a version that is not covered, with all that its vector covers, and touches its
+    /// key on every edge. `tags` is the next tag to give. After a refusal the content is as before,
+    /// but edges and tags may be changed in part.
     pub(crate) fn put_head(&mut self, version: Version, tags: &mut u64) -> Result<(), AllocError>
         requires tags { tags.old + length self.old.edges < 2 ^ 64 }
         requires news { covers self.old version ≡ false }
@@ -123,8 +123,8 @@ impl Replica {
         Ok(())
     }
 
-    /// Touches the key on every edge. `tags` is the next tag to give. After a refusal edges and tags may be changed in
-    /// part.
+    /// Touches the key on every edge. `tags` is the next tag to give. After a refusal edges and
+    /// tags may be changed in part.
     pub(crate) fn touch(&mut self, key: Key, tags: &mut u64) -> Result<(), AllocError>
         requires { tags.old + length self.old.edges < 2 ^ 64 }
         ensures replica { OnOk result (self.new ≡ with_touch self.old key tags.old) }
@@ -135,8 +135,8 @@ impl Replica {
         touch_edges(&mut self.edges, key, tags)
     }
 
-    /// Links a birth of a peer that makes an edge, and tells that it did. Each of the keys has a fresh tag there. `tags` is
-    /// the next tag to give. After out of memory nothing has changed.
+    /// Links a birth of a peer that makes an edge, and tells that it did. Each of the keys has a
+    /// fresh tag there. `tags` is the next tag to give. After out of memory nothing has changed.
     pub(crate) fn link(
         &mut self,
         peer: NodeId,
@@ -165,8 +165,8 @@ impl Replica {
         self.kept.keep(delta)
     }
 
-    /// The version that the server makes of what the ranges make of what is shown, with all heads as its bases. Nothing
-    /// changes.
+    /// The version that the server makes of what the ranges make of what is shown, with all heads
+    /// as its bases. Nothing changes.
     pub(crate) fn next_version(&self, stamp: Stamp, ranges: &Ranges) -> Result<Version, WriteError>
         requires { has_room self.now stamp.server ≡ true }
         ensures next { IfOk result (λ v.
@@ -181,8 +181,9 @@ impl Replica {
         self.content.next_version(actor, stamp, ranges)
     }
 
-    /// The version is the only head, the delta that made it is kept, and its key is touched on every edge. `tags` is the
-    /// next tag to give. After a refusal the content is as before, but all else may be changed in part.
+    /// The version is the only head, the delta that made it is kept, and its key is touched on
+    /// every edge. `tags` is the next tag to give. After a refusal the content is as before, but
+    /// all else may be changed in part.
     pub(crate) fn put_alone(
         &mut self,
         version: Version,
@@ -213,8 +214,8 @@ impl Replica {
         Ok(stamps)
     }
 
-    /// An answer that came along an edge takes the key off where the tag is the present one there, and says whether it
-    /// did.
+    /// An answer that came along an edge takes the key off where the tag is the present one there,
+    /// and says whether it did.
     pub(crate) fn acknowledge(&mut self, link: &Link, key: Key, tag: u64) -> bool
         ensures replica { self.new ≡ with_ack_along self.old link.now key tag }
         ensures same { result ≡ false → self.new ≡ self.old }

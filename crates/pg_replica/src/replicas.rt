@@ -25,8 +25,8 @@ use std::alloc::{AllocError, Global};
 use std::collections::{BTreeMap, HashMap};
 use std::marker::Model;
 
-/// Replicas by file. The lists have every file that they are to have, and no other but where memory ran out or where a
-/// number at its end went.
+/// Replicas by file. The lists have every file that they are to have, and no other but where memory
+/// ran out or where a number at its end went.
 #[derive(Debug, Drop)]
 pub struct Replicas {
     alloc: Global,
@@ -72,15 +72,16 @@ impl Replicas {
         self.by_file.get(file)
     }
 
-    /// The files with unacknowledged keys, to go through them by file: no replica of another file has one.
+    /// The files with unacknowledged keys, to go through them by file: no replica of another file
+    /// has one.
     pub fn unacknowledged(&self) -> &BTreeMap<FileId, ()>
         ensures { IsIndex result.now.entries self.now }
     {
         &self.lists.unacknowledged
     }
 
-    /// Whether some replica knows a number of 2^62 or more of one of the server's actors. The files that may are listed, so
-    /// that nothing is gone over where there is no such number.
+    /// Whether some replica knows a number of 2^62 or more of one of the server's actors. The files
+    /// that may are listed, so that nothing is gone over where there is no such number.
     pub fn have_own_end(&self, server: NodeId) -> bool
         ensures { result ≡ have_own_end self.now server }
     {
@@ -101,7 +102,8 @@ impl Replicas {
         }
     }
 
-    /// A replica begins, which has no version and no unacknowledged key. Where there is one of the file it goes.
+    /// A replica begins, which has no version and no unacknowledged key. Where there is one of the
+    /// file it goes.
     pub fn add(&mut self, file: FileId, replica: Replica) -> Result<(), AllocError>
         requires clean { are_clean replica.edges ≡ true }
         requires no_head { replica.content.heads ≡ [] }
@@ -122,8 +124,9 @@ impl Replicas {
         self.by_file.remove(file)
     }
 
-    /// Links a birth of a peer to the replica of a file, and tells whether that made an edge, on which each of these keys
-    /// has a fresh tag. `tags` is the next tag to give. After out of memory a part may be done.
+    /// Links a birth of a peer to the replica of a file, and tells whether that made an edge, on
+    /// which each of these keys has a fresh tag. `tags` is the next tag to give. After out of
+    /// memory a part may be done.
     pub fn link(
         &mut self,
         file: FileId,
@@ -162,8 +165,8 @@ impl Replicas {
         unlink_listed(replica, &mut self.lists, file, peer, birth);
     }
 
-    /// Touches a key of the replica of a file on every edge. `tags` is the next tag to give. After out of memory a part
-    /// may be done.
+    /// Touches a key of the replica of a file on every edge. `tags` is the next tag to give. After
+    /// out of memory a part may be done.
     pub fn touch(&mut self, file: FileId, key: Key, tags: &mut u64) -> Result<(), AllocError>
         requires { tags.old ≤ 2 ^ 63 }
         ensures replicas { OnOk result (self.new
@@ -177,8 +180,9 @@ impl Replicas {
         touch_listed(replica, &mut self.lists, file, key, tags)
     }
 
-    /// Takes a version, and tells whether it is a head from then on: where there is a replica of the file, and the version
-    /// is not covered. `tags` is the next tag to give. After out of memory a part may be done.
+    /// Takes a version, and tells whether it is a head from then on: where there is a replica of
+    /// the file, and the version is not covered. `tags` is the next tag to give. After out of
+    /// memory a part may be done.
     pub fn take_version(
         &mut self,
         file: FileId,
@@ -203,9 +207,10 @@ impl Replicas {
         take_listed(replica, &mut self.lists, file, version, tags)
     }
 
-    /// Makes a version of what the ranges make of what is shown of a file that has a replica, and answers the stamps of the
-    /// heads that it is based on. It is the only head then. Where that is refused nothing changes. Where memory ran out a
-    /// part may be done. `tags` is the next tag to give.
+    /// Makes a version of what the ranges make of what is shown of a file that has a replica, and
+    /// answers the stamps of the heads that it is based on. It is the only head then. Where that is
+    /// refused nothing changes. Where memory ran out a part may be done. `tags` is the next tag to
+    /// give.
     pub fn write(
         &mut self,
         file: FileId,
@@ -244,7 +249,8 @@ impl Replicas {
         )
     }
 
-    /// The replica of a file keeps one more delta, if there is one. After out of memory all is as before.
+    /// The replica of a file keeps one more delta, if there is one. After out of memory all is as
+    /// before.
     pub fn keep_delta(&mut self, file: FileId, delta: KeptDelta) -> Result<(), AllocError>
         ensures { OnOk result (self.new
             ≡ replicas_keeping self.old file delta (replica_in self.old file)) }
@@ -255,8 +261,8 @@ impl Replicas {
         replica.keep(delta)
     }
 
-    /// An answer that came along an edge takes the key off where the tag is the present one there. The file is listed no
-    /// longer where its last key went.
+    /// An answer that came along an edge takes the key off where the tag is the present one there.
+    /// The file is listed no longer where its last key went.
     pub fn acknowledge(&mut self, file: FileId, link: &Link, key: Key, tag: u64)
         ensures { self.new
             ≡ replicas_acked self.old file link.now key tag (replica_in self.old file) }

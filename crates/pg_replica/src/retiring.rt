@@ -26,8 +26,8 @@ pub(crate) fn retire_all(edges: &mut Edges, heads: &[Version])
     }
 }
 
-/// The keys of those heads that the version's vector covers leave every edge. No edge goes. Where it covers none the
-/// heads are not looked at.
+/// The keys of those heads that the version's vector covers leave every edge. No edge goes. Where
+/// it covers none the heads are not looked at.
 pub(crate) fn retire_replaced(edges: &mut Edges, content: &Content, version: &Version)
     ensures edges { edges.new
         ≡ without_keys edges.old (keys (covered_heads content.now.heads version.now)) }
@@ -38,7 +38,7 @@ pub(crate) fn retire_replaced(edges: &mut Edges, content: &Content, version: &Ve
     }
 }
 
-/// The same, of these heads.
+/// The keys of those of these heads that the version's vector covers leave every edge.
 fn retire_covered(edges: &mut Edges, heads: &[Version], version: &Version)
     ensures edges { edges.new
         ≡ without_keys edges.old (keys (covered_heads heads.now version.now)) }

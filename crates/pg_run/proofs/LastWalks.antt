@@ -1,5 +1,5 @@
--- What an input puts last: nothing but walks, and invites. A tick begins a walk, and one that comes may
--- be passed on; and a server that gives another one up invites.
+-- What an input puts last: nothing but walks, and invites. A tick begins a walk, and one that comes
+-- may be passed on; and a server that gives another one up invites.
 use Rattle.std.proofs.Common.{[], ℕ, ◌≡◌, ◌==◌, ◌/◌, ◌-◌, ◌%◌, Bool, true, false, cond, List, ◌∷◌, ◌++◌, length, slice_get, Option, Some, None, ◌⊎◌, inl, inr, refl, sym, subst, All}
 use Rattle.std.specs.Prelude.{Contains, Err, Ok, Result, not}
 use Rattle.std.specs.List.{filter, find}
@@ -88,8 +88,8 @@ IsInvited a (call.Giveup view server) m =
     (removal_at a view server ≡ Ok (tt {0})) × IsInvite (enter a server) m
 IsInvited a _ m = ⊥
 
--- what goes last is an invite, or a walk: a tick begins one of a replica with few edges, which names that
--- as its origin, and one that comes is passed on
+-- what goes last is an invite, or a walk: a tick begins one of a replica with few edges, which
+-- names that as its origin, and one that comes is passed on
 abbrev pub GoesLast : Store → Input → Sent → Type 0
 GoesLast a (input.Call moment call) m = IsInvited a call m
 GoesLast a (input.Tick moment word) m =

@@ -1,4 +1,5 @@
--- Along a run removals grow at their end; and an event in which a server takes an input removes none.
+-- Along a run removals grow at their end; and an event in which a server takes an input removes
+-- none.
 use Rattle.std.proofs.Common.{[], ℕ, ◌≡◌, List, ◌∷◌, ◌++◌, Option, None, Some, refl, sym}
 use Rattle.std.proofs.lemmas.List.{append-nil}
 use Rattle.std.proofs.lemmas.Option.{none-some}

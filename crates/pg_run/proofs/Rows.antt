@@ -1,5 +1,6 @@
 -- A run by computation: a directory is made at one server, and another hears of it by its entry and
--- does not hold it; a call there fetches it; and then its death comes by its entry, and is held back.
+-- does not hold it; a call there fetches it; and then its death comes by its entry, and is held
+-- back.
 use Rattle.std.proofs.Common.{[], ◌≡◌, ◌++◌, true, false, List, ◌∷◌, length, None, Some, refl}
 use Rattle.pg_base.specs.declared.id.Kind.TheVariants.{Dir}
 use Rattle.pg_base.specs.declared.id.FileId.{FileId}

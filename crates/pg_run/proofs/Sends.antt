@@ -1,5 +1,5 @@
--- WHICH MESSAGES A HANDLER SENDS: what holds of each message that tells nothing of what is held, holds
--- of all that is sent, where it holds of the answers to what comes that tell of it.
+-- WHICH MESSAGES A HANDLER SENDS: what holds of each message that tells nothing of what is held,
+-- holds of all that is sent, where it holds of the answers to what comes that tell of it.
 use Rattle.std.proofs.Common.{ℕ, ◌≡◌, ◌==◌, ◌-◌, ◌/◌, ◌%◌, ◌&&◌, ◌||◌, not, Bool, true, false, List, [], ◌∷◌, length, slice_get, Option, None, Some, refl, sym, ap, subst, ◌∙◌, All}
 use Rattle.std.specs.Prelude.{nat_lt}
 use Rattle.std.proofs.lemmas.List.Elements.{All-push}
@@ -58,8 +58,8 @@ use Rattle.pg_run.proofs.Holders.{IsBy, accept_names, taken_by}
 use Rattle.pg_run.proofs.SendsLeaving.{leave_ok_fits}
 use Rattle.pg_run.proofs.SendsBodies.{AnswersBody, AnswersHarbinger, AnswersWant, delta_fits, harbinger_fits, later_fits, piece_fits, want_fits}
 
--- what is asked for and granted, that something is gone, not here or not to be had now, walks and those
--- who are met
+-- what is asked for and granted, that something is gone, not here or not to be had now, walks and
+-- those who are met
 abbrev pub is_plain : Message → Bool
 is_plain (message.Fetch file birth) = true
 is_plain (message.Grant ends granted) = true
@@ -308,8 +308,8 @@ module _ (Q : Sent → Type 0) (plain : (m : Sent) → is_plain m.packet.message
 
   -- ---- EVERY MESSAGE
 
-  -- so are the answers to a cell, a Bye, a Confirm, a Tell and a Leave, and what a Harbinger, a Want, a
-  -- Delta and a Piece make it send
+  -- so are the answers to a cell, a Bye, a Confirm, a Tell and a Leave, and what a Harbinger, a
+  -- Want, a Delta and a Piece make it send
   abbrev pub AnswersHave : Store → ℕ → Message → Type 0
   AnswersHave a asker (message.Cell ends tag c) = AnswerHas a ends tag c asker
   AnswersHave a asker (message.Bye ends) = Q (sent_to a asker (message.ByeOk ends.file ends.sender))

@@ -1,5 +1,5 @@
--- What is sent where a Harbinger, a Want, a Delta or a Piece comes: what holds of its answers, and of
--- what others hear, holds of all that is sent.
+-- What is sent where a Harbinger, a Want, a Delta or a Piece comes: what holds of its answers, and
+-- of what others hear, holds of all that is sent.
 use Rattle.std.proofs.Common.{ℕ, ◌≡◌, ◌==◌, ◌+◌, true, false, List, [], drop, length, refl, sym, ap, subst, ◌∙◌, Some, All}
 use Rattle.std.specs.Prelude.{take}
 use Rattle.std.specs.List.{flat_map}

@@ -1,4 +1,5 @@
--- What is sent where what was lost is given up, and where a server is removed in a view: no answers.
+-- What is sent where what was lost is given up, and where a server is removed in a view: no
+-- answers.
 use Rattle.std.proofs.Common.{ℕ, ◌≡◌, true, cond, List, [], ◌∷◌, Option, None, Some, refl}
 use Rattle.std.specs.Map.{keys_of}
 use Rattle.std.proofs.lemmas.List.Elements.{All-push}

@@ -1,4 +1,5 @@
--- Of what a handler does to a work this sends nothing more, and makes nothing: what is touched, left, linked, doubted, begun.
+-- Of what a handler does to a work this sends nothing more, and makes nothing: what is touched,
+-- left, linked, doubted, begun.
 use Rattle.std.proofs.Common.{ℕ, ◌≡◌, ◌∙◌, ◌&&◌, Bool, not, refl}
 use Rattle.pg_base.specs.declared.id.FileId.{FileId}
 use Rattle.pg_base.specs.Version.{VersionValue}

@@ -1,5 +1,5 @@
--- What the first effect of an event made is told by what it brought, also where a forget strikes out a
--- file that is not held: no replica of the file takes the dead place, but the directories do.
+-- What the first effect of an event made is told by what it brought, also where a forget strikes
+-- out a file that is not held: no replica of the file takes the dead place, but the directories do.
 use Rattle.std.proofs.Common.{◌≡◌, ℕ, Bool, true, false, cond, List, [], ◌∷◌, ◌++◌, map, ◌⊎◌, inl, inr, Option, None, Some, refl, sym, subst, ◌∙◌}
 use Rattle.std.specs.Prelude.{◌&&◌, not, Result, Err, Ok}
 use Rattle.std.specs.List.{filter}

@@ -1,5 +1,5 @@
--- What calls leave of what goes last in an event: all of it, but for the invites of a server that gives
--- another one up.
+-- What calls leave of what goes last in an event: all of it, but for the invites of a server that
+-- gives another one up.
 use Rattle.std.proofs.Common.{[], ℕ, ◌≡◌, ◌==◌, Bool, true, false, cond, List, ◌∷◌, Option, Some, None, refl, ◌∙◌}
 use Rattle.std.specs.Prelude.{Err, Ok, Result}
 use Rattle.std.specs.List.{filter}

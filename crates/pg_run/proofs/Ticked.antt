@@ -1,4 +1,5 @@
--- A tick first forgets of whom versions were asked. What it sends is what it would have sent before: nothing of that is read.
+-- A tick first forgets of whom versions were asked. What it sends is what it would have sent
+-- before: nothing of that is read.
 use Rattle.std.proofs.Common.{ℕ, ◌≡◌, ◌==◌, ◌++◌, ◌/◌, ◌%◌, cond, true, List, [], length, slice_get, Option, None, Some, refl, ap, sym, subst, ◌∙◌}
 use Rattle.std.specs.List.{filter, flat_map}
 use mathlib.Core.Path.{fun_ext}

@@ -1,5 +1,5 @@
--- What comes of a tick and of a restart, where a server is as each event leaves it: the house rules and
--- the intentions behind them find nothing to do.
+-- What comes of a tick and of a restart, where a server is as each event leaves it: the house rules
+-- and the intentions behind them find nothing to do.
 use Rattle.std.proofs.Common.{[], ℕ, ◌≡◌, ◌&&◌, Bool, true, false, cond, not, Option, Some, None, List, ◌∷◌, ◌++◌, drop, length, inl, inr, refl, sym, ap, subst, ◌∙◌, All}
 use Rattle.std.specs.Prelude.{Contains}
 use Rattle.std.specs.List.Sorted.{IsStrictlySortedBy}
@@ -52,18 +52,16 @@ use Rattle.pg_run.proofs.Requests.{HasRequest, requests_sent}
 use Rattle.pg_run.proofs.StillRules.{house_still}
 use Rattle.pg_run.proofs.Walks.{again_is, are_walks, tick_walks}
 
--- no intention ends or begins, where no place was replaced, no doubtful cell came and no edge was made
+-- no intention ends or begins, where no place was replaced, no doubtful cell came and no edge was
+-- made
 abbrev pub StaysIntended : Store → Type 0
 StaysIntended a = (work : Work) → work.left ≡ [] → work.unsure ≡ [] → work.linked ≡ []
     → begin_end a work ≡ idle a work
 
--- order, ordered: what the house rules leave
--- golds: what is full sees a gold
--- still, still_released, still_without: the intentions are as what is held asks; so they are where of no
--- version anybody is asked, and without wishes
--- asked: each has a message
--- by_id: things are by id
--- whole, cells: what the edges leave
+-- order, ordered: what the house rules leave golds: what is full sees a gold still, still_released,
+-- still_without: the intentions are as what is held asks; so they are where of no version anybody
+-- is asked, and without wishes asked: each has a message by_id: things are by id whole, cells: what
+-- the edges leave
 pub record IsTidy (n s : ℕ) (a : Store) : Type 0 where
   pub order : IsInOrder a.names
   pub ordered : AreOrdered a.names

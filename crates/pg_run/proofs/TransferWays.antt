@@ -1,6 +1,6 @@
--- WHICH WAYS A MESSAGE OF BODIES ON DEMAND GOES: a Harbinger, a Want, a Delta, a Piece or a Later. Each
--- is looked at only of a file, and first it is accepted, or not; behind that each way comes with what
--- the handler found.
+-- WHICH WAYS A MESSAGE OF BODIES ON DEMAND GOES: a Harbinger, a Want, a Delta, a Piece or a Later.
+-- Each is looked at only of a file, and first it is accepted, or not; behind that each way comes
+-- with what the handler found.
 use Rattle.std.proofs.Common.{ℕ, ◌≡◌, ◌==◌, ◌+◌, true, false, cond, [], ◌∷◌, length, Option, None, Some, refl, sym, subst, All}
 use Rattle.std.specs.Prelude.{Contains}
 use Rattle.std.specs.List.{flat_map}
@@ -45,8 +45,8 @@ use Rattle.theory_flood_pieces.proofs.Choices.{All-flat_map, chosen, decided}
 
 module _ (P : Done → Type 0) where
   -- P holds of what a message leaves that comes along an edge of a file, where it holds of what its
-  -- acceptance leaves, and of what it leaves where it is accepted. Of a directory there is no version,
-  -- and nothing is done
+  -- acceptance leaves, and of what it leaves where it is accepted. Of a directory there is no
+  -- version, and nothing is done
   module _ (a : Store) (ends : Ends) (work : Work) (still : P (idle a work)) where
     by_acceptance : (way : EdgeUse) (d : Done) → P (accept a ends way work)
         → (is_dir ends.file ≡ false → is_accepted a work.from way ends ≡ true → P d)

@@ -1,7 +1,7 @@
--- WHAT OUTLIVES EACH STEP OF A MESSAGE OF BODIES ON DEMAND OUTLIVES THE MESSAGE. Behind its acceptance
--- come a few steps: a version is asked for, given, put off or acknowledged, others hear of it, what is
--- noted changes, a delta is kept, or the version is taken, just as when it comes in a cell. Only a
--- Harbinger links its sender, and that by its acceptance.
+-- WHAT OUTLIVES EACH STEP OF A MESSAGE OF BODIES ON DEMAND OUTLIVES THE MESSAGE. Behind its
+-- acceptance come a few steps: a version is asked for, given, put off or acknowledged, others hear
+-- of it, what is noted changes, a delta is kept, or the version is taken, just as when it comes in
+-- a cell. Only a Harbinger links its sender, and that by its acceptance.
 use Rattle.std.proofs.Common.{ℕ, ◌==◌, ◌+◌, true, List, [], length, Some}
 use Rattle.pg_announced.specs.Announced.{NotesValue, aimed, change_note, emptied, key_at, longer, lose_note, new_note, put_note, without_note}
 use Rattle.pg_base.specs.declared.head.Head.{Head}

@@ -1,5 +1,5 @@
--- What outlives each message about bodies that is sent outlives the handlers: answers to the sender of
--- what came are one case, and so are the harbingers along the edges of the file's replica.
+-- What outlives each message about bodies that is sent outlives the handlers: answers to the sender
+-- of what came are one case, and so are the harbingers along the edges of the file's replica.
 use Rattle.std.proofs.Common.{ℕ, ◌≡◌, ◌==◌, ◌++◌, List, [], ◌∷◌, All, refl, sym, subst}
 use Rattle.std.specs.Prelude.{Contains}
 use Rattle.std.specs.List.{flat_map}
@@ -42,8 +42,8 @@ use Rattle.pg_run.proofs.Transferring.{OutlivesSteps, delta_has, harbinger_has, 
 abbrev pub IsOfVersion : Key → Type 0
 IsOfVersion q = (stamp : Stamp) × (q ≡ key.Version stamp)
 
--- what a message that came along these ends may be answered with here: a Want, a body or a part of it,
--- that there is none now, and that a version was taken
+-- what a message that came along these ends may be answered with here: a Want, a body or a part of
+-- it, that there is none now, and that a version was taken
 abbrev pub IsAnswer : Ends → Message → Type 0
 IsAnswer ends (message.Want e wanted) = e ≡ back ends
 IsAnswer ends (message.Delta e d) = e ≡ back ends

@@ -1,4 +1,5 @@
--- The walk of a tick: all that it changes of the work is the tail, and it is the walk that the word chooses.
+-- The walk of a tick: all that it changes of the work is the tail, and it is the walk that the word
+-- chooses.
 use Rattle.std.proofs.Common.{[], ℕ, ◌≡◌, ◌≢◌, ◌≤◌, ◌<◌, ◌==◌, ◌&&◌, ◌/◌, ◌%◌, ◌⊎◌, Bool, true, false, cond, not, nat_lt, List, ◌∷◌, ◌++◌, length, get_or, slice_get, zero, suc, Option, Some, None, inl, inr, refl, sym, ap, ◌∙◌, arith}
 use Rattle.std.specs.List.Sorted.{IsStrictlySortedBy}
 use Rattle.std.specs.Map.{keys_of}

@@ -25,8 +25,8 @@ pub record IsHadThere (w : World) (file : FileId) (e : Edge) (c : Cell) : Type 0
   pub had : Holds IsUpTo (cell_at (w.stores e.peer) file) c
 
 -- ACKNOWLEDGED KEYS ARE HAD: of each key that is not on an edge any more, the peer's replica of the
--- edge's birth has the present cell, at any time, or that birth is over. So a key goes off an edge only
--- where its peer has what it stands for
+-- edge's birth has the present cell, at any time, or that birth is over. So a key goes off an edge
+-- only where its peer has what it stands for
 abbrev pub AcknowledgedKeysAreHad : ℕ → Type 0
 AcknowledgedKeysAreHad servers = (events : List Event) → AtEach servers (λ s.
     (file : FileId) (x : Replica) (e : Edge) (k : Key) (c : Cell)

@@ -39,9 +39,9 @@ abbrev pub IsBirthAt : Store → FileId → ℕ → Type 0
 IsBirthAt a file birth = ((x : Replica) × (replica_at a file ≡ Some x) × (x.birth ≡ birth))
     ⊎ (is_pending a file birth ≡ true)
 
--- the server gave out the birth for the thing: at some time of the run its replica had it, or was to
--- have it. A birth may come to nothing: a wish is lost, or a parent is not wanted any more; and the
--- replica may go
+-- the server gave out the birth for the thing: at some time of the run its replica had it, or was
+-- to have it. A birth may come to nothing: a wish is lost, or a parent is not wanted any more; and
+-- the replica may go
 pub record WasGivenOut (servers : ℕ) (events : List Event) (file : FileId) (s birth : ℕ)
     : Type 0 where
   pub before : List Event
@@ -85,8 +85,8 @@ AllNamed P from to (message.Walk ends origin birth hops word) =
     ends_named P from to ends × P ends.file origin birth
 AllNamed P from to (message.Meet ends) = ends_named P from to ends
 
--- every birth that an edge, a flag or a message ever sent names was given out by its server for that
--- thing, and so was the birth of each version's maker
+-- every birth that an edge, a flag or a message ever sent names was given out by its server for
+-- that thing, and so was the birth of each version's maker
 pub record BirthsWereGivenOut (servers : ℕ) (events : List Event) : Type 0 where
   pub edges : AtEach servers (λ s. (file : FileId) (x : Replica) (e : Edge)
       → replica_at (store_after servers events s) file ≡ Some x → IsAmong x.edges e
@@ -175,8 +175,8 @@ pub record EdgesGoUp (a b : Store) : Type 0 where
       → ((y : Replica) × (replica_at b file ≡ Some y) × (y.birth ≡ x.birth))
       ⊎ IsOver b file x.birth
 
--- what is held stays held with its birth, or the birth is over; and of two births of a peer the greater
--- has the edge
+-- what is held stays held with its birth, or the birth is over; and of two births of a peer the
+-- greater has the edge
 abbrev pub GreaterBirthsReplaceEdges : ℕ → Type 0
 GreaterBirthsReplaceEdges servers = (events : List Event) (event : Event)
     → AtEach servers (λ s. EdgesGoUp ((run servers events).stores s)
@@ -192,8 +192,8 @@ linking (message.Meet ends) = Some ends
 linking (message.Leave ends stamp) = Some ends
 linking _ = None
 
--- who hears one and accepts it lists the sender from then on, with the birth that the message names:
--- it takes the place of a lesser one
+-- who hears one and accepts it lists the sender from then on, with the birth that the message
+-- names: it takes the place of a lesser one
 abbrev pub LinksNameTheSender : ℕ → Type 0
 LinksNameTheSender servers = (events : List Event) (event : Event) (s : ℕ) (packet : Packet)
     (ends : Ends) (y : Replica)
@@ -207,8 +207,8 @@ LinksNameTheSender servers = (events : List Event) (event : Event) (s : ℕ) (pa
 
 -- ---- births that are gone
 
--- a birth that a server says is gone was given out by it for the thing, and it does not have it now. So it
--- never has it again, as the message stays among what was sent
+-- a birth that a server says is gone was given out by it for the thing, and it does not have it
+-- now. So it never has it again, as the message stays among what was sent
 abbrev pub GoneSays : ℕ → Type 0
 GoneSays servers = (events : List Event) (m : Sent) (file : FileId) (birth : ℕ)
     → Contains (mail (run servers events).journal) m → m.packet.message ≡ message.Gone file birth

@@ -46,8 +46,8 @@ NoneLeaves servers w [] s Of = Unit {0}
 NoneLeaves servers w (event ∷ events) s Of = ¬ (Leaves servers w event s Of)
     × NoneLeaves servers (world_after w (next servers w event)) events s Of
 
--- one of these events brings it, in a run that goes on from a world, and behind it no replica of these
--- things goes
+-- one of these events brings it, in a run that goes on from a world, and behind it no replica of
+-- these things goes
 abbrev pub CameFrom : ℕ → World → List Event → ℕ → (FileId → Type 0) → (List Take → Type 0) → Type 0
 CameFrom servers w [] s Of P = ⊥
 CameFrom servers w (event ∷ events) s Of P =
@@ -55,8 +55,8 @@ CameFrom servers w (event ∷ events) s Of P =
     × NoneLeaves servers (world_after w (next servers w event)) events s Of)
     ⊎ CameFrom servers (world_after w (next servers w event)) events s Of P
 
--- it was there from the start on, or one of the events brought it, and since then no replica of these
--- things went
+-- it was there from the start on, or one of the events brought it, and since then no replica of
+-- these things went
 abbrev pub CameSince : ℕ → List Event → ℕ → (FileId → Type 0) → (List Take → Type 0) → Type 0
 CameSince servers events s Of P =
     (P (first_takes (first_flags servers)) × NoneLeaves servers (start servers) events s Of)
@@ -66,10 +66,10 @@ CameSince servers events s Of P =
 abbrev pub Came : ℕ → List Event → ℕ → (List Take → Type 0) → Type 0
 Came servers events s P = CameSince servers events s (λ file. ⊥) P
 
--- What a server holds, and the versions of a file that came to it, are those that it made, that were
--- delivered to it, or that were there from the start on, since the thing's replica last went there. The
--- places and flags that it knows of a thing came so too; and each that came it knows, as long as no
--- replica goes
+-- What a server holds, and the versions of a file that came to it, are those that it made, that
+-- were delivered to it, or that were there from the start on, since the thing's replica last went
+-- there. The places and flags that it knows of a thing came so too; and each that came it knows, as
+-- long as no replica goes
 pub record TookWhatCame (servers : ℕ) (events : List Event) (s : ℕ) : Type 0 where
   pub began : (file : FileId)
       → is_held file ((run servers events).took s) ≡ true

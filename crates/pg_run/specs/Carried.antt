@@ -66,7 +66,7 @@ delta_carried store wants from ends d = if answers_here store from ends
     && are_same_stamps (stamps_of (content_of store ends.file)) d.from)
     then TookVersion ends.file d.head.stamp ∷ [] else []
 
--- from who was asked for the version from this byte on, all that lacks of its body
+-- from who was asked for the version from this byte on, all that is still missing of its body
 abbrev pub piece_carried : Store → Asked → ℕ → Ends → Piece → List Take
 piece_carried store wants from ends p = if answers_here store from ends
     && (is_asked_at from p.offset (wants ends.file p.head.stamp)

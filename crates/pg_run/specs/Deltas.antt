@@ -1,5 +1,5 @@
 -- Deltas: which a replica made or took along a run, that it keeps the latest of these, and that a
--- Want is answered by the shortest change that they lead to.
+-- Want is answered by the change that they lead to.
 use Rattle.std.specs.Prelude.{ℕ, ◌≡◌, ◌==◌, ◌&&◌, Bool, true, false, not, if◌then◌else◌, List, [], ◌∷◌, ◌++◌, map, take, Option, None, Some}
 use Rattle.std.specs.List.{filter}
 use Rattle.pg_base.specs.declared.id.FileId.{FileId}
@@ -105,7 +105,7 @@ KeepsWhatItMadeOrTook servers = (events : List Event) (file : FileId) → AtEach
     (x : Replica) → replica_at (store_after servers events s) file ≡ Some x
     → x.kept ≡ kept_deltas (deltas_after servers events s file))
 
--- ---- the shortest change
+-- ---- the change in place of a body
 
 -- a Want for a version from its first byte on comes to server s and is accepted, and the version is
 -- a head there
@@ -130,10 +130,10 @@ change_or_bytes None ends wanted v = message.Piece (back ends)
 change_or_bytes (Some ranges) ends wanted v = message.Delta (back ends)
     (record { head = v.head; from = wanted.heads; ranges = ranges })
 
--- THE SHORTEST CHANGE: it is answered by a Delta exactly where a chain of the deltas that the
--- replica keeps leads from just the heads that it names, of which there is one at least, and its
--- ranges in one have at most 30,000 bytes in at most 200 parts, and fewer than the body; and the
--- Delta holds these ranges. Nothing else is sent
+-- THE CHANGE IN PLACE OF A BODY: it is answered by a Delta exactly where a chain of the deltas that
+-- the replica keeps leads from just the heads that it names, of which there is one at least, and
+-- its ranges in one have at most 30,000 bytes in at most 200 parts, and fewer than the body; and
+-- the Delta holds these ranges. Nothing else is sent
 abbrev pub WantsGetTheShortestChange : ℕ → Type 0
 WantsGetTheShortestChange servers = (events : List Event) (event : Event) (s from : ℕ) (ends : Ends)
     (wanted : Wanted) (v : VersionValue) → let w = run servers events in

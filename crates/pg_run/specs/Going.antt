@@ -53,8 +53,8 @@ pub record SaysItWent (a : Store) (asked : Input) (file : FileId) (peer birth : 
 abbrev pub IsRemovedBehind : Store → Input → ℕ → Type 0
 IsRemovedBehind a asked server = is_removed (behind a asked).names.removed server ≡ true
 
--- an edge stays, or gives way to a greater birth, or its peer said that its replica is not there; or its
--- peer is removed
+-- an edge stays, or gives way to a greater birth, or its peer said that its replica is not there;
+-- or its peer is removed
 abbrev pub EdgesGoByWord : ℕ → Type 0
 EdgesGoByWord servers = InEvents servers (λ s a asked.
     (file : FileId) (x y : Replica) (peer birth : ℕ) → replica_at a file ≡ Some x

@@ -87,8 +87,8 @@ StateIsItsHeads servers = (events : List Event) (server : ℕ) (file : FileId)
     → StandsFor (content_after servers events server file) (versions_after servers events file)
     (taken_after servers events server file)
 
--- two servers that took the same versions of a file come to the same content of it, in whatever order
--- these came
+-- two servers that took the same versions of a file come to the same content of it, in whatever
+-- order these came
 abbrev pub StateIsDetermined : ℕ → Type 0
 StateIsDetermined servers = (events : List Event) (file : FileId) (s t : ℕ)
     → ((x : Stamp)
@@ -139,9 +139,9 @@ CarriesHistory servers = (events : List Event) (m : Sent)
 
 -- ---- clocks
 
--- no server comes to the end of the numbers of its versions before it comes to the end of its stamps,
--- tags, ids or births: so its clock is at its end exactly where one of these is, or the number of one
--- of its flags
+-- no server comes to the end of the numbers of its versions before it comes to the end of its
+-- stamps, tags, ids or births: so its clock is at its end exactly where one of these is, or the
+-- number of one of its flags
 abbrev pub ClockEndsFirst : ℕ → Type 0
 ClockEndsFirst servers = (events : List Event) (server : ℕ) → 1 ≤ server → server ≤ servers
     → let a = (run servers events).stores server in

@@ -70,8 +70,8 @@ ConfirmsStand a = (dir child : FileId) → stands a.intents (key.Confirm dir chi
     → (cell : Entry) × (cell_at a.names dir child ≡ Some cell) × (is_listed dir cell ≡ true)
     × (is_held a child ≡ false)
 
--- A Patch is of a held child, for a directory that is not held. The child's own place is that of the
--- Patch or a later one; it is just that where the Patch's place is live in the directory
+-- A Patch is of a held child, for a directory that is not held. The child's own place is that of
+-- the Patch or a later one; it is just that where the Patch's place is live in the directory
 pub record IsPatchOf (a : Store) (dir : FileId) (entry : Entry) : Type 0 where
   pub away : is_held a dir ≡ false
   pub own : Attributes
@@ -86,15 +86,15 @@ PatchesStand a = (dir child : FileId) (entry : Entry) (target : ℕ)
 
 -- ---- Seeks
 
--- a Seek stands of just what seeks: a gold replica that sees a live gold of another server to which it
--- has no edge, and a bronze one that has no edge to a live gold which it sees
+-- a Seek stands of just what seeks: a gold replica that sees a live gold of another server to which
+-- it has no edge, and a bronze one that has no edge to a live gold which it sees
 abbrev pub SeeksStand : Store → Type 0
 SeeksStand a = (file : FileId) → stands a.intents (key.Seek file) ≡ is_seeking a file
 
 -- ---- Leaves
 
--- a Leave is of what is held, and is not the root, to a peer that is listed with the birth, and whose
--- flag of that birth is raised
+-- a Leave is of what is held, and is not the root, to a peer that is listed with the birth, and
+-- whose flag of that birth is raised
 abbrev pub LeavesStand : Store → Type 0
 LeavesStand a = (file : FileId) (peer birth : ℕ)
     → intent_at a.intents (key.Leave file) ≡ Some (intent.Leave file peer birth)

@@ -1,5 +1,5 @@
--- Which places and flags are known in a run: all that was ever made, and what was there at the start;
--- and what servers hold and messages bring of them.
+-- Which places and flags are known in a run: all that was ever made, and what was there at the
+-- start; and what servers hold and messages bring of them.
 use Rattle.std.specs.Prelude.{ℕ, ◌≡◌, ◌⊎◌, ◌<◌, ◌≤◌, true, Contains, List, [], ◌∷◌, Some}
 use Rattle.pg_base.specs.declared.id.FileId.{FileId}
 use Rattle.pg_content.specs.Content.{Among}

@@ -57,8 +57,8 @@ HoldsWhatItTook servers = (events : List Event) (file : FileId) → AtEach serve
     (x : Replica) → replica_at (store_after servers events s) file ≡ Some x
     → x.content ≡ content_taken (run servers events) file s)
 
--- a server holds the things of which a replica began there, and knows of names what its replicas took:
--- of each thing its place and its flags, and of each directory the entries of its children
+-- a server holds the things of which a replica began there, and knows of names what its replicas
+-- took: of each thing its place and its flags, and of each directory the entries of its children
 pub record KnowsWhatItTook (servers : ℕ) (events : List Event) (s : ℕ) : Type 0 where
   pub held : (file : FileId)
       → is_held file ((run servers events).took s) ≡ true
@@ -149,7 +149,8 @@ pub record Lists (servers : ℕ) (w : World) (dir file : FileId) (cell : Cell) :
   pub held : cell_at (w.stores server).names dir file ≡ Some cell
   pub listed : is_listed dir cell ≡ true
 
--- there: each survivor but the root is listed by every held replica of its parent, with its place and
+-- there: each survivor but the root is listed by every held replica of its parent, with its place
+-- and
 --   with exactly its flags
 -- only: whatever is listed stands there, be it held where it is listed or not
 -- nowhere_else: and a survivor is listed by no other directory, and with no other place

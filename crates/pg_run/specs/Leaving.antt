@@ -56,8 +56,8 @@ pub record OwesBye (w : World) (s : ℕ) (file : FileId) (x : Replica) (e : Edge
   pub over : IsOver (w.stores e.peer) file e.birth
   pub owed : IsAmong (w.stores e.peer).intents (intent.Bye file e.birth s x.birth)
 
--- HEARD EDGES ARE KNOWN: a heard edge is named back, or its peer's replica went and a Bye is owed; but
--- where the server is removed in its peer's view
+-- HEARD EDGES ARE KNOWN: a heard edge is named back, or its peer's replica went and a Bye is owed;
+-- but where the server is removed in its peer's view
 abbrev pub HeardEdgesAreKnown : ℕ → Type 0
 HeardEdgesAreKnown servers = (events : List Event) → AtEach servers (λ s.
     (file : FileId) (x : Replica) (e : Edge)
@@ -114,8 +114,8 @@ pub record TookAllOf (w : World) (s t : ℕ) (by : Taker) (thing : FileId) : Typ
   pub flags : (flag : Flag) → Contains (flags_in by thing (w.took s)) flag
       → Contains (flags_taken by thing (w.took t)) flag
 
--- the replica of server t took every update of the state of that of server s: place, flags, the entries
--- that it has, and the versions with their ancestors
+-- the replica of server t took every update of the state of that of server s: place, flags, the
+-- entries that it has, and the versions with their ancestors
 pub record TookTheState (w : World) (file : FileId) (s t : ℕ) : Type 0 where
   pub own : TookAllOf w s t Itself file
   pub entries : (child : FileId) → has_cell file child (w.took s) ≡ true
@@ -124,8 +124,8 @@ pub record TookTheState (w : World) (file : FileId) (s t : ℕ) : Type 0 where
       → Among stamp (versions_taken file w.history (w.took t))
 
 -- SAFE DROP: where a replica goes, who gave it leave is not removed in the server's view, holds the
--- thing, and took all that its state comes to. What a removed server holds and took is as it was at its
--- removal
+-- thing, and took all that its state comes to. What a removed server holds and took is as it was at
+-- its removal
 abbrev pub DropsAreSafe : ℕ → Type 0
 DropsAreSafe servers = (events : List Event) (event : Event) (s from : ℕ) (file : FileId)
     → Goes servers events event s file from
@@ -142,8 +142,8 @@ pub record HasEachCell (w : World) (s : ℕ) (file : FileId) (t birth : ℕ) : T
   pub all : (k : Key) (c : Cell) → cell_at (w.stores s) file k ≡ Some c
       → flooding.Holds IsUpTo (cell_at (w.stores t) file) c
 
--- WHO GIVES LEAVE HAS EACH CELL: where a replica goes, who gave it leave is another server of the run,
--- holds the thing with the birth that it named, and has every cell of the replica that goes
+-- WHO GIVES LEAVE HAS EACH CELL: where a replica goes, who gave it leave is another server of the
+-- run, holds the thing with the birth that it named, and has every cell of the replica that goes
 abbrev pub GiversHaveEachCell : ℕ → Type 0
 GiversHaveEachCell servers = (events : List Event) (event : Event) (s from : ℕ) (file : FileId)
     (ends : Ends) (stamp : Stamp) → (goes : Goes servers events event s file from)

@@ -10,8 +10,8 @@ use Rattle.pg_server.specs.Owing.{owed}
 use Rattle.pg_store.specs.Servers.{view_of}
 use Rattle.pg_run.specs.Run.{World, is_live}
 
--- no message is under way, each live server has entered the last removal, and none owes anything: no
--- intention, no key, and no place that it holds back
+-- no message is under way, each live server has entered the last removal, and none owes anything:
+-- no intention, no key, and no place that it holds back
 pub record IsQuiet (servers : ℕ) (w : World) : Type 0 where
   pub silent : bag w.journal ≡ []
   pub views : (server : ℕ) → is_live servers w server ≡ true
@@ -29,8 +29,8 @@ abbrev pub lag : World → ℕ → List Cause
 lag w server = if view_of (w.stores server) == length (removals w.journal) then []
     else View server (view_of (w.stores server)) ∷ []
 
--- all that a run waits for: first the messages, the oldest first, then, by server, the views that lag
--- behind, then what is owed
+-- all that a run waits for: first the messages, the oldest first, then, by server, the views that
+-- lag behind, then what is owed
 abbrev pub causes : ℕ → World → List Cause
 causes servers w = map (λ m. Message (summary m)) (bag w.journal)
     ++ (of_live servers w (lag w) servers

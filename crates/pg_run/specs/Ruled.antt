@@ -34,8 +34,8 @@ abbrev pub said_late : Message → Saying Slot Cell → List (Saying Slot Cell)
 said_late (message.Harbinger ends tag head) said = said ∷ []
 said_late _ said = []
 
--- a body comes later than its harbinger: so an event may answer what any harbinger said that was ever
--- sent
+-- a body comes later than its harbinger: so an event may answer what any harbinger said that was
+-- ever sent
 abbrev pub late_in : List Sent → List (Saying Slot Cell)
 late_in mail = flat_map (λ m. said_late m.packet.message (says m)) mail
 

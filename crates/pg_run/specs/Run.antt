@@ -67,8 +67,8 @@ brought store wants asked = made_takes store asked ++ came store wants asked
 abbrev pub made_behind : Store → Input → List Update
 made_behind store asked = drop (length (first_made store asked)) (effect store asked).out.made
 
--- what a server's replicas took then, before anything passes: what its first effect brings, and what
--- they had, but for the replica that goes
+-- what a server's replicas took then, before anything passes: what its first effect brings, and
+-- what they had, but for the replica that goes
 abbrev pub took_first : Store → Asked → List Take → Input → List Take
 took_first store wants takes asked =
     brought store wants asked ++ without_gone (gone_in store asked) takes

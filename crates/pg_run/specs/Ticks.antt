@@ -117,8 +117,8 @@ asking a = filter (λ i. not (target_of i == 0)) a.intents
 
 -- The message of an intention. A Seek names the replica that seeks, a Fill fetches a replica of its
 -- birth, a Patch tells its entry, and a Confirm asks for the place and flags of a child as the
--- directory has them now. A Bye names the birth that is over, and a Leave the place that the replica
--- has now
+-- directory has them now. A Bye names the birth that is over, and a Leave the place that the
+-- replica has now
 abbrev pub IsAskedBy : Store → Intent → Message → Type 0
 IsAskedBy a (intent.Bye file birth peer peer_birth) m =
     m ≡ message.Bye (record { file = file; sender = birth; receiver = peer_birth })
@@ -153,8 +153,8 @@ pub record HasFewEdges (a : Store) (file : FileId) : Type 0 where
   pub least : 1 ≤ length (edges_of a file)
   pub most : length (edges_of a file) ≤ 2
 
--- The walk that a word chooses: it begins at one of these replicas, and goes along one of its edges,
--- with three steps to make. It names its origin, and what is left of the word goes with it
+-- The walk that a word chooses: it begins at one of these replicas, and goes along one of its
+-- edges, with three steps to make. It names its origin, and what is left of the word goes with it
 pub record IsWalk (a : Store) (files : List FileId) (word : ℕ) (m : Sent) : Type 0 where
   pub file : FileId
   pub chosen : slice_get files (word % length files) ≡ Some file

@@ -137,8 +137,8 @@ begun_by (TookPlace by thing place) = []
 begun_by (TookFlag by thing flag) = []
 begun_by (Began file) = file ∷ []
 
--- a server holds the things of which a replica began there: what a directory lists need not be held,
--- nor the parent of what is held. What a replica took goes with it
+-- a server holds the things of which a replica began there: what a directory lists need not be
+-- held, nor the parent of what is held. What a replica took goes with it
 abbrev pub held : List Take → List FileId
 held takes = flat_map begun_by takes
 

@@ -45,8 +45,8 @@ ViewsArePrefixes servers = (events : List Event)
 abbrev pub removed_by : World → ℕ → List ℕ
 removed_by w view = take view (removals w.journal)
 
--- who sent a message had its view then, and knows no less now; and it is not removed in that view, nor
--- is a walk's origin
+-- who sent a message had its view then, and knows no less now; and it is not removed in that view,
+-- nor is a walk's origin
 pub record IsOfView (w : World) (m : Sent) : Type 0 where
   pub view : m.packet.view ≤ view_of (w.stores m.packet.from)
   pub sender : is_removed (removed_by w m.packet.view) m.packet.from ≡ false

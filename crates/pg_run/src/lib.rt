@@ -1,5 +1,5 @@
-//! Runs over servers that hold what was touched: what each event does, what replicas took, what that comes to, and what is
-//! to hold of all runs.
+//! Runs over servers that hold what was touched: what each event does, what replicas took, what
+//! that comes to, and what is to hold of all runs.
 #![tactic(auto)]
 
 mod laws;

@@ -1,4 +1,5 @@
--- What a reader answers that is right in what it refuses, where a text has one first bad line at most.
+-- What a reader answers that is right in what it refuses, where a text has one first bad line at
+-- most.
 use Rattle.std.proofs.Common.{ℕ, ◌≡◌, ◌⊎◌, inl, inr, refl}
 use Rattle.pg_call.specs.declared.fault.Fault.{Fault}
 use Rattle.pg_sched.specs.declared.error.ReadError.{ReadError}

@@ -1,4 +1,5 @@
--- Each line's words are those that the table asks for, of a verb or of a call, and words that are those have no fault.
+-- Each line's words are those that the table asks for, of a verb or of a call, and words that are
+-- those have no fault.
 use Rattle.std.proofs.Common.{rules, ℕ, ◌≡◌, ◌⊎◌, List, ◌∷◌, refl, sym, ap, ◌∙◌, inl, inr, subst, cond, ◌==◌, codes}
 use Rattle.pg_call.specs.Call as call
 use Rattle.pg_call.specs.Fields.{Field, AreWordsOf}

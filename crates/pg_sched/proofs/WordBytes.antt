@@ -1,4 +1,5 @@
--- The bytes of a line's words: that each is printable and no space, and how many there are, but in the words of a call.
+-- The bytes of a line's words: that each is printable and no space, and how many there are, but in
+-- the words of a call.
 use Rattle.std.proofs.Common.{ℕ, ◌<◌, ◌≤◌, ◌^◌, List, length, sym, arith, codes, decimal, All, inl, inr, subst}
 use Rattle.std.specs.List.{AllByRecursion}
 use Rattle.std.proofs.lemmas.List.Elements.{All-from_recursion, All-weaker}

@@ -1,4 +1,5 @@
--- The words of a line have no space, so a line is cut into its words again; and a line is printable, and not long.
+-- The words of a line have no space, so a line is cut into its words again; and a line is
+-- printable, and not long.
 use Rattle.std.proofs.Common.{rules, ℕ, ◌≡◌, ◌<◌, ◌≤◌, ◌^◌, ◌+◌, Bor, List, [], ◌∷◌, eqb, refl, sym, ap, ◌∙◌, arith, All, inl, inr, take, drop, length, subst, ◌-◌, length-append, take_all, codes}
 use Rattle.std.specs.List.{AllByRecursion, join_with_byte, slice_split}
 use Rattle.std.proofs.lemmas.List.Elements.{All-append, All-cons, All-weaker, All-nil}

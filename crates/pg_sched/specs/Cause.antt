@@ -55,7 +55,8 @@ IsWordsCause (word ∷ words) fault =
     ⊎ (((v : verb.Verb) × (word ≡ verb_word v) × IsRestCause (fields v) words fault)
     ⊎ ((word ≡ codes "call") × IsCalledCause words fault))
 
--- why the first line of the text is bad, which has this number in the schedule; the header has number 1
+-- why the first line of the text is bad, which has this number in the schedule; the header has
+-- number 1
 abbrev pub IsCause : ℕ → List ℕ → Fault → Type 0
 IsCause number text fault =
     Unless (All IsPrintable (first_line text)) (fault ≡ Byte)

@@ -115,8 +115,8 @@ receive store (message.Meet ends) work = here store ends work
 abbrev pub done_of : Answer → Done
 done_of a = record { store = a.store; work = a.work }
 
--- what is not acknowledged is sent again, behind it the messages of all intentions, and last a walk, if
--- the word chooses one
+-- what is not acknowledged is sent again, behind it the messages of all intentions, and last a
+-- walk, if the word chooses one
 abbrev pub sent_again : Store → ℕ → Work → Work
 sent_again store word work = walk_of_tick store word (ask_all store (tick store work))
 

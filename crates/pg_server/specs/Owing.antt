@@ -1,5 +1,5 @@
--- What a server owes: its intentions, the keys that peers have not acknowledged, and the places that
--- it holds back. A wish is owed to nobody.
+-- What a server owes: its intentions, the keys that peers have not acknowledged, and the places
+-- that it holds back. A wish is owed to nobody.
 use Rattle.std.specs.Prelude.{ℕ, List, [], ◌++◌, map, Option, None, Some}
 use Rattle.std.specs.List.{flat_map}
 use Rattle.pg_base.specs.declared.id.FileId.{FileId}

@@ -13,12 +13,12 @@ pub enum Input {
     Tick { moment: u64, word: u64 },
     /// A packet arrives.
     Arrival(Packet),
-    /// It starts again, and has lost what it keeps in memory alone.
+    /// The server starts again, and has lost what it keeps in memory alone.
     Restart,
 }
 
-/// What comes of an input: the reply to a client, the updates that were made, and the messages that were sent, in their
-/// order.
+/// What comes of an input: the reply to a client, the updates that were made, and the messages that
+/// were sent, in their order.
 #[derive(Debug, Drop)]
 pub struct Out {
     pub reply: Option<Reply>,

@@ -39,7 +39,7 @@ fn first_of_replica(server: NodeId, file: FileId, replica: &Replica) -> Option<O
     None
 }
 
-/// The same of a file.
+/// The first unacknowledged key of a file's replica.
 fn first_of_file(store: &Store, file: &FileId) -> Option<OwedKey>
     ensures { result
         ≡ slice_get (file_owes store.now.names.server file.now (replica_at store.now file.now)) 0 }
@@ -50,7 +50,8 @@ fn first_of_file(store: &Store, file: &FileId) -> Option<OwedKey>
     }
 }
 
-/// The same of all files, by file: those with unacknowledged keys are gone over.
+/// The first unacknowledged key of all files, by file: those with unacknowledged keys are gone
+/// over.
 fn first_key(store: &Store) -> Option<OwedKey>
     ensures { result ≡ slice_get (owed_keys store.now) 0 }
 {
@@ -101,7 +102,8 @@ fn first_key_or_place(store: &Store) -> Option<Owing>
     }
 }
 
-/// The first that a server owes: an intention, or else a key, or else a place that it holds back. It takes no memory.
+/// The first that a server owes: an intention, or else a key, or else a place that it holds back.
+/// It takes no memory.
 pub(crate) fn first_owed(store: &Store) -> Option<Owing>
     ensures { result ≡ slice_get (owed store.now) 0 }
 {

@@ -19,7 +19,7 @@ use pg_store::{LATEST_TIME, Store};
 use pg_transfer::{delta, harbinger, later, piece, want};
 use std::alloc::AllocError;
 
-/// These messages, and the others behind them.
+/// Puts the others behind these messages.
 fn joined(sent: Items<Sent>, others: Items<Sent>) -> Result<Items<Sent>, AllocError>
     ensures { IfOk result (λ all. all ≡ sent ++ others) }
 {
@@ -43,7 +43,8 @@ fn out_of(reply: Option<Reply>, work: Work) -> Result<Out, AllocError>
     Ok(Out { reply, made, sent })
 }
 
-/// Takes an input, and says what comes of it. Where memory ran out the store may be changed in part.
+/// Takes an input, and says what comes of it. Where memory ran out the store may be changed in
+/// part.
 pub(crate) fn effect(store: &mut Store, input: Input) -> Result<Out, AllocError>
     ensures store { OnOk result (store.new ≡ (effect_of store.old input).store) }
     ensures out { IfOk result (λ out. out ≡ (effect_of store.old input).out) }
@@ -65,8 +66,8 @@ fn finished(reply: Option<Reply>, store: &Store, mut work: Work) -> Result<Out, 
     out_of(reply, work)
 }
 
-/// The end of an event: the house rules run, intentions end and begin, and what was touched is sent, and the messages of the
-/// intentions that began behind it.
+/// The end of an event: the house rules run, intentions end and begin, and what was touched is
+/// sent, and the messages of the intentions that began behind it.
 fn closed(reply: Option<Reply>, store: &mut Store, mut work: Work) -> Result<Out, AllocError>
     ensures store { OnOk result (store.new ≡ (closed reply (idle store.old work)).store) }
     ensures out { IfOk result (λ out. out ≡ (closed reply (idle store.old work)).out) }
@@ -94,8 +95,8 @@ fn call_effect(store: &mut Store, moment: u64, call: &Call) -> Result<Out, Alloc
     }
 }
 
-/// No server is asked for any version any more. What is not acknowledged is sent again, and last a walk, if the word chooses
-/// one. At the end of the clock it is refused.
+/// No server is asked for any version any more. What is not acknowledged is sent again, and last a
+/// walk, if the word chooses one. At the end of the clock it is refused.
 fn tick_effect(store: &mut Store, moment: u64, word: u64) -> Result<Out, AllocError>
     ensures store { OnOk result (store.new ≡ (effect store.old (Input.Tick moment word)).store) }
     ensures out { IfOk result (λ out. out ≡ (effect store.old (Input.Tick moment word)).out) }
@@ -120,8 +121,8 @@ fn lose_sources(store: &mut Store)
     store.announced.release();
 }
 
-/// It has lost its wishes and what it noted of versions, and nothing else: there is no reply, nothing is made, and nothing
-/// begins. At the end of the clock no house rule runs.
+/// A restart loses the wishes and what is noted of versions, and nothing else: there is no reply,
+/// nothing is made, and nothing begins. At the end of the clock no house rule runs.
 fn restart_effect(store: &mut Store) -> Result<Out, AllocError>
     ensures store { OnOk result (store.new ≡ (effect store.old Input.Restart).store) }
     ensures out { IfOk result (λ out. out ≡ (effect store.old Input.Restart).out) }
@@ -144,8 +145,8 @@ fn lose_volatile(store: &mut Store)
     store.wishes.clear();
 }
 
-/// Whether a message is heard: it comes from another live server in the same view, has no number out of range, and the
-/// clock is not at its end.
+/// Whether a message is heard: it comes from another live server in the same view, has no number
+/// out of range, and the clock is not at its end.
 fn is_heard(store: &Store, packet: &Packet) -> bool
     ensures { result ≡ is_heard store.now packet.now }
 {

@@ -40,8 +40,8 @@ impl Server {
         self.failed
     }
 
-    /// Takes an input, and says what comes of it. Where memory ran out the server has failed, may be changed in part,
-    /// and takes nothing more.
+    /// Takes an input, and says what comes of it. Where memory ran out the server has failed, may
+    /// be changed in part, and takes nothing more.
     pub fn step(&mut self, input: Input) -> Result<Out, StepError>
         ensures store { OnOk result (self.new.store ≡ (effect self.old.store input).store) }
         ensures out { IfOk result (λ out. out ≡ (effect self.old.store input).out) }
@@ -58,8 +58,9 @@ impl Server {
         Ok(out)
     }
 
-    /// The first that the server owes: an intention, in the order in which they began, or else a key that a peer has not
-    /// acknowledged, by file, peer and key, or else a place that it holds back, by id. It takes no memory.
+    /// The first that the server owes: an intention, in the order in which they began, or else a
+    /// key that a peer has not acknowledged, by file, peer and key, or else a place that it holds
+    /// back, by id. It takes no memory.
     pub fn owed(&self) -> Option<Owing>
         ensures { result ≡ slice_get (owed self.now.store) 0 }
     {

@@ -1,4 +1,5 @@
--- What is said of births stays so where an intention or a wish asks another server, and where wishes end.
+-- What is said of births stays so where an intention or a wish asks another server, and where
+-- wishes end.
 use Rattle.std.proofs.Common.{ℕ, ◌≡◌, ◌≤◌, arith, Bool, true, false, cond, not, List, [], Option, None, Some, refl, sym, ap, subst, ◌∙◌}
 use Rattle.std.specs.Cmp.{eq_by_cmp_equiv}
 use Rattle.std.specs.Option.{IsSome, option_map}

@@ -60,8 +60,8 @@ is_pending store file birth = is_with_birth (wish_at store file) birth
 
 -- ---- births that are over
 
--- it was given out, and neither has the thing's replica it nor is one to come that has it. A birth that
--- was given out for another thing counts as over for this one
+-- it was given out, and neither has the thing's replica it nor is one to come that has it. A birth
+-- that was given out for another thing counts as over for this one
 abbrev pub is_over : Store → FileId → ℕ → Bool
 is_over store file birth = nat_le birth store.births
     && (not (has_birth store file birth) && not (is_pending store file birth))

@@ -1,4 +1,5 @@
--- What a server holds at the start of a run: the root, of which every server has a full gold replica.
+-- What a server holds at the start of a run: the root, of which every server has a full gold
+-- replica.
 use Rattle.std.specs.Prelude.{ℕ, true, List, [], zero, suc}
 use Rattle.pg_register.specs.declared.flag.Flag.{Flag}
 use Rattle.pg_register.specs.Flag.{join_flag}

@@ -73,8 +73,8 @@ pub record IsOver (store : Store) (file : FileId) (birth : ℕ) : Type 0 where
   pub away : has_birth store file birth ≡ false
   pub unasked : is_pending store file birth ≡ false
 
--- Births move one way: no birth that was given out is forgotten, and what has a birth, or is to come
--- with one, had it before, or it was given out meanwhile. So a birth that is over stays over
+-- Births move one way: no birth that was given out is forgotten, and what has a birth, or is to
+-- come with one, had it before, or it was given out meanwhile. So a birth that is over stays over
 pub record BirthsMove (a b : Store) : Type 0 where
   pub given : a.births ≤ b.births
   pub held : (file : FileId) (birth : ℕ) → has_birth b file birth ≡ true

@@ -54,8 +54,8 @@ abbrev pub with_removed : Store → ℕ → Store
 with_removed store server =
     record store { names = remove_server store.names server; announced = [] }
 
--- the server is removed in this view: no version is noted, no edge leads to the server, what was for it
--- alone has ended, and whoever asked it asks the next one
+-- the server is removed in this view: no version is noted, no edge leads to the server, what was
+-- for it alone has ended, and whoever asked it asks the next one
 abbrev pub enter : Store → ℕ → Store
 enter store server =
     let b = cut_each server (with_removed store server) (keys_of store.names.held) in

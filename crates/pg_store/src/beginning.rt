@@ -14,7 +14,8 @@ use pg_replica::Replica;
 use std::alloc::AllocError;
 
 impl Store {
-    /// The server gives out its next birth. Where it gave out more than 2^63 memory ends before, and nothing changes.
+    /// The server gives out its next birth. Where it gave out more than 2^63 memory ends before,
+    /// and nothing changes.
     pub fn draw_birth(&mut self) -> Result<u64, AllocError>
         ensures birth { IfOk result (λ birth. birth ≡ draw_birth self.old) }
         ensures store { OnOk result (self.new ≡ with_birth self.old) }
@@ -27,8 +28,8 @@ impl Store {
         Ok(self.births)
     }
 
-    /// Whether the birth was given out for a replica that is not here yet: it is that of the wish for the thing, or of a
-    /// Fill of it where it is not held.
+    /// Whether the birth was given out for a replica that is not here yet: it is that of the wish
+    /// for the thing, or of a Fill of it where it is not held.
     pub fn is_pending(&self, file: FileId, birth: u64) -> bool
         ensures { result ≡ is_pending self.now file birth }
     {
@@ -55,8 +56,9 @@ impl Store {
         }
     }
 
-    /// A replica of this birth begins, full or filling, with this place and these flags, no version and no edge. The wish
-    /// for the thing ends. Of a directory, the entries of its Patches are taken, and these end.
+    /// A replica of this birth begins, full or filling, with this place and these flags, no version
+    /// and no edge. The wish for the thing ends. Of a directory, the entries of its Patches are
+    /// taken, and these end.
     pub fn begin(
         &mut self,
         file: FileId,

@@ -3,7 +3,8 @@
 ghost use Rattle.pg_store.specs.Together.{AsBeforeIsAMove, GoingsEndBirths, OverIsTested, OverStaysOver};
 ghost use Rattle.pg_store.specs.Views.{EdgesAreCut, EnteringIsTogether, EnteringKeepsBirths, EnteringMoves, NamesStay, WishesAreAimed};
 
-/// Births move one way: one that is over stays over, and with a replica about which nothing is intended its birth is over.
+/// Births move one way: one that is over stays over, and with a replica about which nothing is
+/// intended its birth is over.
 pub fn births_move()
     ensures tested { OverIsTested }
     ensures over { OverStaysOver }
@@ -11,8 +12,8 @@ pub fn births_move()
     ensures goings { GoingsEndBirths }
 {}
 
-/// Where a server is removed in a view, the edges to it are gone, and that is all that is gone: what was held is held, with the
-/// births that it had, and of names only the removals change.
+/// Where a server is removed in a view, the edges to it are gone, and that is all that is gone:
+/// what was held is held, with the births that it had, and of names only the removals change.
 pub fn views_are_entered()
     ensures edges { EdgesAreCut }
     ensures names { NamesStay }

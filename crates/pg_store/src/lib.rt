@@ -1,5 +1,5 @@
-//! What a server holds: what it knows of names, and beside that a replica of each file and directory with its edges, and
-//! the content of a file.
+//! What a server holds: what it knows of names, and beside that a replica of each file and
+//! directory with its edges, and the content of a file.
 #![tactic(auto)]
 
 mod beginning;

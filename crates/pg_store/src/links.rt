@@ -15,9 +15,9 @@ use pg_register::Flag;
 use std::alloc::AllocError;
 
 impl Store {
-    /// Links a birth of a peer to the replica of a thing, and tells whether that made an edge: where the peer is listed
-    /// with this birth or a greater one nothing changes. On a new edge each key of the replica has a fresh tag. After out
-    /// of memory a part may be done.
+    /// Links a birth of a peer to the replica of a thing, and tells whether that made an edge:
+    /// where the peer is listed with this birth or a greater one nothing changes. On a new edge
+    /// each key of the replica has a fresh tag. After out of memory a part may be done.
     pub fn link(&mut self, file: FileId, peer: NodeId, birth: u64) -> Result<bool, AllocError>
         ensures store { OnOk result (self.new ≡ link self.old file peer birth) }
         ensures news { IfOk result (λ news. news ≡ is_new_link self.old file peer birth) }
@@ -29,8 +29,8 @@ impl Store {
         Ok(true)
     }
 
-    /// Whether a link to this birth of a peer makes an edge: the thing is held, and the peer is not listed, or with a lesser
-    /// birth.
+    /// Whether a link to this birth of a peer makes an edge: the thing is held, and the peer is not
+    /// listed, or with a lesser birth.
     fn is_new_link(&self, file: &FileId, peer: NodeId, birth: u64) -> bool
         ensures { result ≡ is_new_link self.now file.now peer birth }
     {
@@ -40,8 +40,8 @@ impl Store {
         }
     }
 
-    /// The edge to a birth of a peer is made, on which each key of the replica has a fresh tag. After out of memory a part
-    /// may be done.
+    /// The edge to a birth of a peer is made, on which each key of the replica has a fresh tag.
+    /// After out of memory a part may be done.
     fn put_link(&mut self, file: FileId, peer: NodeId, birth: u64) -> Result<(), AllocError>
         requires { is_new_link self.old file peer birth ≡ true }
         ensures { OnOk result (self.new ≡ put_link self.old file peer birth) }
@@ -82,7 +82,8 @@ impl Store {
         }
     }
 
-    /// The keys of the cells of a replica: its place, its flags by server, its entries by child, its heads by stamp.
+    /// The keys of the cells of a replica: its place, its flags by server, its entries by child,
+    /// its heads by stamp.
     fn keys(&self, file: &FileId) -> Result<Items<Key>, AllocError>
         ensures { IfOk result (λ ks. ks ≡ keys self.now file.now) }
     {
@@ -92,7 +93,7 @@ impl Store {
         Ok(keys)
     }
 
-    /// Those of the place, the flags and the entries.
+    /// Puts the keys of the place, the flags and the entries behind these.
     fn push_name_keys(&self, file: &FileId, keys: &mut Items<Key>) -> Result<(), AllocError>
         ensures { OnOk result (keys.new ≡ keys.old ++ name_keys (known self.now.names file.now)) }
     {
@@ -104,7 +105,7 @@ impl Store {
         push_entry_keys(held, keys)
     }
 
-    /// And those of the heads.
+    /// Puts the keys of the heads behind these.
     fn push_head_keys(&self, file: &FileId, keys: &mut Items<Key>) -> Result<(), AllocError>
         ensures { OnOk result
             (keys.new ≡ keys.old ++ head_keys (content_of self.now file.now).heads) }

@@ -25,15 +25,16 @@ impl Store {
             && !self.names.is_removed(server)
     }
 
-    /// The server that is asked behind this one: the least live other server above it, else the least live other server,
-    /// else 0.
+    /// The server that is asked behind this one: the least live other server above it, else the
+    /// least live other server, else 0.
     pub fn next_target(&self, target: NodeId) -> NodeId
         ensures { result ≡ next_target self.now target }
     {
         next_target(self.servers, self.server(), self.names.removed(), target)
     }
 
-    /// The server that is asked first in an event: the sender of its message, else the next behind this server.
+    /// The server that is asked first in an event: the sender of its message, else the next behind
+    /// this server.
     pub fn first_target(&self, from: NodeId) -> NodeId
         ensures { result ≡ first_target self.now from }
     {

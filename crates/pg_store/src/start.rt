@@ -48,7 +48,8 @@ fn root_own(alloc: Global, servers: u32) -> Result<Attributes, AllocError>
     })
 }
 
-/// What a server knows of names at the start of a run with so many servers: the root, and it is full.
+/// What a server knows of names at the start of a run with so many servers: the root, and it is
+/// full.
 pub(crate) fn first_names(alloc: Global, server: NodeId, servers: u32) -> Result<Names, AllocError>
     ensures { IfOk result (λ names. names ≡ first_names servers server) }
 {
@@ -57,7 +58,8 @@ pub(crate) fn first_names(alloc: Global, server: NodeId, servers: u32) -> Result
     Ok(names)
 }
 
-/// And the replicas: that of the root, with a clean edge to each other server.
+/// The replicas of a server at the start of a run: that of the root, with a clean edge to each
+/// other server.
 pub(crate) fn first_replicas(
     alloc: Global,
     server: NodeId,

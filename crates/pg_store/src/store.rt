@@ -27,23 +27,25 @@ pub struct Store {
     pub files: u64,
     /// The latest birth that it gave out. The first is that of the root's replica.
     pub births: u64,
-    /// What it knows of names: by id, all that it holds.
+    /// The names that the server knows: by id, all that it holds.
     pub names: Names,
     /// The replicas of all that it holds, with their edges and contents.
     pub replicas: Replicas,
     /// The versions that it heard of and does not cover. A restart loses them.
     pub announced: Announcements,
-    /// What it intends until others have answered.
+    /// The intentions of the server, until others have answered.
     pub intents: Intents,
     /// What its clients asked for that it does not hold. A restart loses them.
     pub wishes: Wishes,
 }
 
-/// Where more tags than this were given out, no version is made and no key is touched: memory ends before.
+/// Where more tags than this were given out, no version is made and no key is touched: memory ends
+/// before.
 pub const COUNTER_LIMIT: u64 = 1 << 63;
 
-/// From a greatest time behind this no house rule draws a stamp: memory ends before. A call draws two stamps at most from a
-/// clock that is not at its end, and no message with a later time is heard.
+/// From a greatest time behind this no house rule draws a stamp: memory ends before. A call draws
+/// two stamps at most from a clock that is not at its end, and no message with a later time is
+/// heard.
 pub const LATEST_TIME: u64 = (1 << 62) + (1 << 40);
 
 impl Store {
@@ -68,15 +70,16 @@ impl Store {
         self.replicas.allocator()
     }
 
-    /// Which server it is.
+    /// The number of this server.
     pub fn server(&self) -> NodeId
         ensures { result ≡ self.now.names.server }
     {
         self.names.server()
     }
 
-    /// Whether the clock is not at its end: no stamp that was taken, no tag, no id and no birth that was given out, and no
-    /// number of one of the server's own actors or flags that is known here, has come to 2^62.
+    /// Whether the clock is not at its end: no stamp that was taken, no tag, no id and no birth
+    /// that was given out, and no number of one of the server's own actors or flags that is known
+    /// here, has come to 2^62.
     pub fn is_before_clock_end(&self) -> bool
         ensures { result ≡ is_before_clock_end self.now }
     {
@@ -152,7 +155,8 @@ impl Store {
         }
     }
 
-    /// Puts a fresh tag at the key on each edge of the replica, by peers. After out of memory a part may be done.
+    /// Puts a fresh tag at the key on each edge of the replica, by peers. After out of memory a
+    /// part may be done.
     pub fn touch(&mut self, file: FileId, key: Key) -> Result<(), AllocError>
         ensures { OnOk result (self.new ≡ touch self.old file key) }
     {

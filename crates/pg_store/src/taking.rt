@@ -35,8 +35,8 @@ impl EntryNews {
 }
 
 impl Store {
-    /// A held thing takes the place where it is newer than its own: then its key is touched. Tells whether it is. After out
-    /// of memory a part may be done.
+    /// A held thing takes the place where it is newer than its own: then its key is touched. Tells
+    /// whether it is. After out of memory a part may be done.
     pub fn take_place(&mut self, file: FileId, place: Place) -> Result<bool, AllocError>
         ensures store { OnOk result (self.new ≡ take_place self.old file place) }
         ensures news { IfOk result (λ news. news ≡ is_newer_place self.old file place) }
@@ -50,7 +50,8 @@ impl Store {
         Ok(true)
     }
 
-    /// The same of a flag.
+    /// A held thing takes the flag where it is newer than its own: then its key is touched. Tells
+    /// whether it is. After out of memory a part may be done.
     pub fn take_flag(&mut self, file: FileId, flag: Flag) -> Result<bool, AllocError>
         ensures store { OnOk result (self.new ≡ take_flag self.old file flag) }
         ensures news { IfOk result (λ news. news ≡ is_newer_flag self.old file flag) }
@@ -62,7 +63,8 @@ impl Store {
         Ok(true)
     }
 
-    /// The same of an entry of a held directory. Tells what is news in it.
+    /// A held directory takes what is newer in an entry: then its key is touched. Tells what is
+    /// news in it.
     pub fn take_entry(&mut self, dir: FileId, entry: Entry) -> Result<EntryNews, AllocError>
         ensures store { OnOk result (self.new ≡ take_entry self.old dir entry) }
         ensures news { IfOk result (λ news. news ≡ entry_news self.old dir entry) }

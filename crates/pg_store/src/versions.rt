@@ -13,9 +13,9 @@ use pg_patch::Ranges;
 use std::alloc::AllocError;
 
 impl Store {
-    /// A held file takes a version: it is a head from then on, if it is not covered, and of what is covered then nothing is
-    /// noted any more. Tells whether it is. After out of
-    /// memory a part may be done.
+    /// A held file takes a version: it is a head from then on, if it is not covered, and of what is
+    /// covered then nothing is noted any more. Tells whether it is. After out of memory a part may
+    /// be done.
     pub fn take_version(&mut self, file: FileId, version: Version) -> Result<bool, AllocError>
         ensures store { OnOk result (self.new ≡ take_version self.old file version) }
         ensures news { IfOk result (λ news. news ≡ is_new_version self.old file version) }
@@ -32,9 +32,10 @@ impl Store {
         Ok(news)
     }
 
-    /// Makes a version of what the ranges make of what is shown of a held file, and answers the stamps of the heads that
-    /// it is based on. It is the only head then, and of what it covers nothing is noted any more. Where that is refused nothing changes. Where memory ran out a part may be
-    /// done.
+    /// Makes a version of what the ranges make of what is shown of a held file, and answers the
+    /// stamps of the heads that it is based on. It is the only head then, and of what it covers
+    /// nothing is noted any more. Where that is refused nothing changes. Where memory ran out a
+    /// part may be done.
     pub fn write(
         &mut self,
         file: FileId,

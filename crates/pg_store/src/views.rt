@@ -10,8 +10,9 @@ use pg_base::{FileId, Items, NodeId};
 use std::alloc::AllocError;
 
 impl Store {
-    /// This server is removed in the next view: no version is noted any more, no edge leads to it from then on, each Bye and Leave that is for it ends,
-    /// and what else asked it asks the next server. After out of memory a part may be done.
+    /// Removes a server in the next view: no version is noted any more, no edge leads to it from
+    /// then on, each Bye and Leave that is for it ends, and what else asked it asks the next
+    /// server. After out of memory a part may be done.
     pub fn enter(&mut self, server: NodeId) -> Result<(), AllocError>
         ensures { OnOk result (self.new ≡ enter self.old server) }
     {
@@ -52,7 +53,7 @@ impl Store {
         }
     }
 
-    /// The same of these things, one behind another.
+    /// The edges of these things to the server go, one behind another.
     fn cut_each(&mut self, server: NodeId, files: &[FileId])
         ensures { self.new ≡ cut_each server self.old files.now }
     {
@@ -61,7 +62,7 @@ impl Store {
         }
     }
 
-    /// Who asked the server asks the next one.
+    /// Turns what asked the server to the next one.
     fn turn(&mut self, server: NodeId) -> Result<(), AllocError>
         ensures { OnOk result (self.new ≡ turn server (next_target self.old server) self.old) }
     {

@@ -8,8 +8,8 @@ use std::alloc::{AllocError, Global};
 use std::collections::BTreeMap;
 use std::marker::Model;
 
-/// A thing is to be fetched, since a client asked for it: the birth that its replica will have, and the server that is
-/// asked.
+/// A thing is to be fetched, since a client asked for it: the birth that its replica will have, and
+/// the server that is asked.
 #[derive(Clone, Copy, Debug, PartialEq, Eq)]
 pub struct Wish {
     pub birth: u64,
@@ -63,7 +63,7 @@ impl Wishes {
         self.by_file.get(file)
     }
 
-    /// This is the wish for the thing from now on.
+    /// The wish for the thing is this one from now on.
     pub fn put(&mut self, file: FileId, wish: Wish) -> Result<(), AllocError>
         ensures ok { OnOk result (self.new ≡ put_wish self.old file wish) }
         ensures err { OnErr result (self.new ≡ self.old) }

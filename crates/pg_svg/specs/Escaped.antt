@@ -2,8 +2,8 @@
 use Rattle.std.specs.Prelude.{ℕ, ◌≡◌, ◌≢◌, ◌≤◌, ◌⊎◌, ◌==◌, ◌&&◌, List, [], ◌∷◌, ◌++◌, codes, nat_le, if◌then◌else◌}
 use Rattle.std.specs.List.{AllByRecursion, flat_map}
 
--- how a byte stands in XML: what XML takes for its own is told by name, and a byte that is no printable
--- ASCII is a question mark
+-- how a byte stands in XML: what XML takes for its own is told by name, and a byte that is no
+-- printable ASCII is a question mark
 abbrev pub escaped_byte : ℕ → List ℕ
 escaped_byte b =
     if b == 60 then codes "&lt;"
@@ -15,7 +15,8 @@ escaped_byte b =
 abbrev pub escaped : List ℕ → List ℕ
 escaped text = flat_map escaped_byte text
 
--- a byte that stands for itself between two tags: printable ASCII, and neither `<`, `>`, `"` nor `&`
+-- a byte that stands for itself between two tags: printable ASCII, and neither `<`, `>`, `"` nor
+-- `&`
 pub record IsPlainByte (b : ℕ) : Type 0 where
   pub least : 32 ≤ b
   pub most : b ≤ 126

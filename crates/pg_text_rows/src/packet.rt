@@ -1,7 +1,5 @@
 //! Packets.
 
-ghost use Rattle.pg_packet_write.specs.Datagrams.{FitsContent};
-
 use crate::row::{put, text};
 use pg_base::Bytes;
 use pg_msg::{Message, Packet, Sent};
@@ -57,9 +55,7 @@ fn show_again(
     bytes: &[u8],
     packet: &Datagram,
     out: &mut Answer,
-) -> Result<(), AllocError>
-    requires { FitsContent packet.now.content }
-{
+) -> Result<(), AllocError> {
     let mut written = Bytes::new(alloc);
     write_packet(packet, &mut written)?;
     if written.as_slice() == bytes {

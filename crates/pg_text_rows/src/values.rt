@@ -10,13 +10,16 @@ use pg_words::{first_words, read_id};
 use std::alloc::Global;
 
 /// How a command may end.
-const STATUSES: [Status; 7] = [
+const STATUSES: [Status; 10] = [
     Status::Done,
     Status::Usage(2),
     Status::ReadFault,
     Status::WriteFault,
+    Status::NetFault,
     Status::InputLong,
     Status::BadLine(7, Fault::Verb),
+    Status::TurnsSpent,
+    Status::Refused(3),
     Status::OutOfMemory,
 ];
 

@@ -29,8 +29,8 @@ asked_word word.Settle = codes "settle"
 asked_word word.Quiet = codes "quiet"
 asked_word word.End = codes "end"
 
--- what a file shows: the stamps of its heads, how many bytes are shown, and the first of them; what a
--- directory shows: how many names
+-- what a file shows: the stamps of its heads, how many bytes are shown, and the first of them; what
+-- a directory shows: how many names
 abbrev pub contents_words : ShownContent → List (List ℕ)
 contents_words (contents.File heads count bytes) =
     codes "heads" ∷ stamps_word heads ∷ codes "shown" ∷ decimal count ∷ hex_word bytes ∷ []

@@ -34,7 +34,8 @@ use Rattle.pg_trace.specs.declared.replica.ShownContent.TheVariants as contents
 use Rattle.pg_trace.specs.declared.replica.ShownReplica.{ShownReplica}
 use Rattle.pg_words.specs.StampWord.{IsStamp}
 
--- a thing stands in a directory, and has no name, a client's name, or the one that is made of its id
+-- a thing stands in a directory, and has no name, a client's name, or the one that is made of its
+-- id
 pub record SuitsPlace (file : FileId) (place : Place) : Type 0 where
   pub parent : place.parent.kind ≡ Dir
   pub name : (place.name ≡ []) ⊎ (IsClientName place.name ⊎ (place.name ≡ tilde_name file))
@@ -87,8 +88,8 @@ DetailFits (detail.Stamp stamp) = IsStamp stamp
 DetailFits (detail.Child child) = Fits child
 DetailFits detail.Nothing = Unit {0}
 
--- with numbers in their ranges, what is told of a message goes by its kind: which sort of detail, and
--- that it is about a directory where it is about a directory's child
+-- with numbers in their ranges, what is told of a message goes by its kind: which sort of detail,
+-- and that it is about a directory where it is about a directory's child
 pub record SuitsKind (s : Summary) : Type 0 where
   pub about : Fits s.file → IsAbout s.kind s.file
   pub told : DetailFits s.detail → IsDetail (sort_of s.kind) s.detail

@@ -98,7 +98,7 @@ fn copy_line(line: &Line) -> Result<Line, AllocError>
 }
 
 impl JournalLine {
-    /// The same line again. Bodies are shared, not moved.
+    /// Copies the line. Bodies are shared, not moved.
     pub fn copy(&self, alloc: Global) -> Result<JournalLine, AllocError>
         ensures { IfOk result (λ p. p ≡ self.now) }
     {

@@ -36,7 +36,7 @@ pub struct ShownReplica {
 }
 
 impl ShownContent {
-    /// The same again. Bytes are shared.
+    /// Copies the content that is shown. Bytes are shared.
     pub fn copy(&self) -> Result<ShownContent, AllocError>
         ensures { IfOk result (λ c. c ≡ self.now) }
     {
@@ -56,7 +56,7 @@ impl ShownContent {
 }
 
 impl ShownReplica {
-    /// The same again. Bytes are shared.
+    /// Copies the replica that is shown. Bytes are shared.
     pub fn copy(&self) -> Result<ShownReplica, AllocError>
         ensures { IfOk result (λ h. h ≡ self.now) }
     {

@@ -1,9 +1,10 @@
 -- What a server asks for of versions that it does not cover, and whom it tells of them.
-use Rattle.std.specs.Prelude.{ℕ, ◌==◌, nat_le, if◌then◌else◌, List, [], ◌∷◌, ◌++◌, length, map, min, Option}
+use Rattle.std.specs.Prelude.{ℕ, ◌==◌, ◌&&◌, nat_le, if◌then◌else◌, Bool, true, List, [], ◌∷◌, ◌++◌, length, map, min, Option}
 use Rattle.std.specs.List.{flat_map}
 use Rattle.pg_base.specs.declared.head.Head.{Head}
 use Rattle.pg_base.specs.declared.id.FileId.{FileId}
 use Rattle.pg_base.specs.declared.stamp.Stamp.{Stamp}
+use Rattle.pg_base.specs.Stamp.{is_before}
 use Rattle.pg_base.specs.Version.{stamp_of}
 use Rattle.pg_edges.specs.declared.edge.Edge.{Edge}
 use Rattle.pg_edges.specs.declared.key.Key.TheVariants as key
@@ -31,9 +32,18 @@ with_notes store notes = record store { announced = notes }
 
 -- ---- what is sent
 
--- the stamps of the heads, where they are few enough to be told
+-- each of the stamps is before the next: they are in order, and no two are equal
+abbrev pub rise_behind : Stamp → List Stamp → Bool
+rise_behind stamp [] = true
+rise_behind stamp (next ∷ stamps) = is_before stamp next && rise_behind next stamps
+
+abbrev pub rise : List Stamp → Bool
+rise [] = true
+rise (stamp ∷ stamps) = rise_behind stamp stamps
+
+-- the stamps of the heads, where they are few enough to be told and no two are equal
 abbrev pub few : List Stamp → List Stamp
-few stamps = if nat_le (length stamps) 256 then stamps else []
+few stamps = if nat_le (length stamps) 256 && rise stamps then stamps else []
 
 abbrev pub listed : Store → FileId → List Stamp
 listed store file = few (map stamp_of (content_of store file).heads)

@@ -3,7 +3,7 @@
 ghost use Rattle.std.specs.Prelude.{◌≡◌, ◌++◌, IfOk, OnOk, map};
 ghost use Rattle.std.specs.List.{flat_map};
 ghost use Rattle.pg_base.specs.Version.{stamp_of};
-ghost use Rattle.pg_transfer.specs.Asking.{acknowledged, ask, heard_by, listed, offset_of, put_off, told_others};
+ghost use Rattle.pg_transfer.specs.Asking.{acknowledged, ask, heard_by, listed, offset_of, put_off, rise, told_others};
 
 use pg_base::{FileId, Head, Items, NodeId, Shared, Stamp, Version};
 use pg_edges::{Edge, Key};
@@ -26,7 +26,24 @@ fn stamps_of(alloc: Global, versions: &[Version]) -> Result<Items<Stamp>, AllocE
     Ok(stamps)
 }
 
-/// The stamps of the heads of a file, where they are few enough to be told.
+/// Whether each of the stamps is before the next.
+fn rise(stamps: &[Stamp]) -> bool
+    ensures { result ≡ rise stamps.now }
+{
+    let [first, rest @ ..] = stamps else {
+        return true;
+    };
+    let mut last = *first;
+    for stamp in rest {
+        if !last.is_before(*stamp) {
+            return false;
+        }
+        last = *stamp;
+    }
+    true
+}
+
+/// The stamps of the heads of a file, where they are few enough to be told and no two are equal.
 pub(crate) fn listed(store: &Store, file: &FileId) -> Result<Items<Stamp>, AllocError>
     ensures { IfOk result (λ ss. ss ≡ listed store.now file.now) }
 {
@@ -34,8 +51,12 @@ pub(crate) fn listed(store: &Store, file: &FileId) -> Result<Items<Stamp>, Alloc
     match store.replica(file) {
         Some(replica) => {
             let heads = replica.content.heads();
-            if heads.len() <= MOST_HEADS {
-                Ok(stamps_of(alloc, heads)?)
+            if heads.len() > MOST_HEADS {
+                return Ok(Items::new(alloc));
+            }
+            let stamps = stamps_of(alloc, heads)?;
+            if rise(stamps.as_slice()) {
+                Ok(stamps)
             } else {
                 Ok(Items::new(alloc))
             }
@@ -142,7 +163,7 @@ fn tell_peer(
     Ok(())
 }
 
-/// Each of these peers hears of a version, unless it told of it itself.
+/// Tells each of these peers of a version, but the one that told of it itself.
 fn tell_peers(
     store: &Store,
     file: FileId,

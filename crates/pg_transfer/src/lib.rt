@@ -2,8 +2,8 @@
 //! deltas, pieces and laters.
 //!
 //! A harbinger tells of a version without its body. Who does not cover the version notes it
-//! (`pg_announced`), asks the sender for the body, and passes the harbinger on under the tag 0: the
-//! tag of an edge is for its own server to acknowledge. A body comes as a delta of what the asker's
+//! (`pg_announced`), asks the sender for the body, and passes the harbinger on under the tag 0: it
+//! has no key of the version on an edge, and so no tag. A body comes as a delta of what the asker's
 //! heads show, where the deltas that the giver's replica keeps lead there, or in pieces, one for
 //! each want. One peer is asked at a time: others are put off, and told so again when they repeat
 //! themselves.
@@ -11,10 +11,10 @@
 //! It stands on the pieces of `pg_pieces`, and touches what they touch: the server's `Store` and
 //! the event's `Work`. What holds here:
 //! - of a directory there is no version, so such a message does nothing at all;
-//! - a harbinger links its sender; all others have to come along an edge that is there, and only a
-//!   want is answered where its replica is not here;
+//! - a harbinger links its sender, and the others have to come along an edge that is there; where
+//!   its replica is not here a harbinger or a want is answered, and the others are not;
 //! - a want names the heads where they are at most 256; that no two of their stamps are alike needs
-//!   no test, since what a server holds has them in strict order;
+//!   no test, since no two versions of a run have one stamp;
 //! - bytes are joined to the head that is noted, never to the message's;
 //! - the bytes that are here are not copied where the last ones come;
 //! - a version that is taken ends the notes of all that it covers (`Store::take_version`);

@@ -1,4 +1,5 @@
--- A text that is lines, each with a line feed behind its body: it is so in one way only, and stops being so at one place only.
+-- A text that is lines, each with a line feed behind its body: it is so in one way only, and stops
+-- being so at one place only.
 use Rattle.std.proofs.Common.{ℕ, ◌≡◌, ◌≢◌, List, [], ◌∷◌, ◌++◌, length, refl, sym, ap, ◌∙◌, arith, append_assoc, length-append, suc}
 use Rattle.std.specs.List.{AllByRecursion, flat_map}
 use Rattle.pg_base.proofs.Parts.{cut_same}

@@ -1,4 +1,5 @@
--- One server was given an input: it holds what the input makes of what it held, and the others are as they were.
+-- One server was given an input: it holds what the input makes of what it held, and the others are
+-- as they were.
 use Rattle.std.proofs.Common.{ℕ, ◌≡◌, ◌≤◌, ◌<◌, ◌+◌, ◌-◌, List, length, true, slice_index_or, slice_set, sym, ap, subst, ◌∙◌, inl, inr, arith}
 use Rattle.std.proofs.lemmas.Bool.Decides.{nat_tests}
 use Rattle.std.proofs.lemmas.List.{get_or-set_other, get_or-set_same, length-set}

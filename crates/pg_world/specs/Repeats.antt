@@ -65,8 +65,8 @@ taken_repeats servers w (Some m) = sent_repeats servers w m
 abbrev pub one_if : Bool → ℕ
 one_if test = if test then 1 else 0
 
--- how many versions an event brings that were covered before: a delivery one, or none, and all other
--- events none
+-- how many versions an event brings that were covered before: a delivery one, or none, and all
+-- other events none
 abbrev pub repeats : ℕ → World → Event → ℕ
 repeats servers w (event.Deliver number) =
     one_if (taken_repeats servers w (message_at (bag w.journal) number))

@@ -13,7 +13,8 @@ use std::marker::Model;
 enum Item {
     /// Deliveries of the message with this number, so many.
     Deliveries { count: u32, number: u64 },
-    /// Ticks of so many servers at this moment, each with the word 0: of this server, the next one, and so on.
+    /// Ticks of so many servers at this moment, each with the word 0: of this server, the next one,
+    /// and so on.
     Ticks { count: u8, first: u32, moment: u64 },
     /// A loss.
     Lose(u64),

@@ -20,7 +20,8 @@ use pg_server::{Input, Out, Server};
 use pg_store::Store;
 use std::alloc::{AllocError, Global};
 
-/// The servers 1 to n, those that were removed, in that order, and the messages under way, in order of sending.
+/// The servers 1 to n, those that were removed, in that order, and the messages under way, in order
+/// of sending.
 #[derive(Drop)]
 pub struct Machine {
     pub alloc: Global,
@@ -231,7 +232,8 @@ impl Machine {
         Some(VoidCause::Unremoved)
     }
 
-    /// Why a call is void: nothing happens at the server, or it is to give up one that is not the one of that removal.
+    /// Why a call is void: nothing happens at the server, or it is to give up one that is not the
+    /// one of that removal.
     fn void_call(&self, server: NodeId, call: &Call) -> Option<VoidCause>
         ensures { result
             ≡ void_call (length self.now.servers.items) self.now.removed server call.now }
@@ -382,7 +384,8 @@ impl Machine {
         Ok(self.idle_entry(Event::Remove(server), None))
     }
 
-    /// A server is gone for good: it takes no further event, and no message goes to it. The last one stays.
+    /// A server is gone for good: it takes no further event, and no message goes to it. The last
+    /// one stays.
     fn remove(&mut self, server: NodeId) -> Result<Entry, AllocError>
         ensures state { OnOk result (StandsBehind self.old self.new (Event.Remove server)) }
         ensures entry { IfOk result (IsEntryOf self.old (Event.Remove server)) }
@@ -442,7 +445,8 @@ impl Machine {
         &self.servers[server as usize - 1]
     }
 
-    /// The first that a live server owes: of its intentions first, then keys, and then places that it holds back.
+    /// The first that a live server owes: of its intentions first, then keys, and then places that
+    /// it holds back.
     fn owed_at(&self, server: NodeId) -> Option<Cause>
         ensures { (w : World) → Stands self.now w → result
             ≡ slice_get (of_one (length self.now.servers.items) w
@@ -478,7 +482,7 @@ impl Machine {
         view == self.removed.len() as u64
     }
 
-    /// That a live server has not entered the last removal, and its view.
+    /// The cause that a live server has not entered the last removal, with its view.
     fn lag_at(&self, server: NodeId) -> Option<Cause>
         ensures { (w : World) → Stands self.now w → result
             ≡ slice_get (of_one (length self.now.servers.items) w (lag w) server) 0 }
@@ -493,7 +497,7 @@ impl Machine {
         Some(Cause::View { server, view })
     }
 
-    /// That of the least such server.
+    /// The cause of the least live server that has not entered the last removal.
     fn lagging(&self) -> Option<Cause>
         requires { length self.now.servers.items ≤ 64 }
         ensures { (w : World) → Stands self.now w

@@ -50,7 +50,8 @@ module _ {N M : Type 0} (p : Protocol N M) where
 
 -- ---- what is sent of kept deltas
 
--- WHERE SOMETHING IS COMPUTED TO BE SENT of kept deltas, whose ranges are ranges, they lead there by it
+-- WHERE SOMETHING IS COMPUTED TO BE SENT of kept deltas, whose ranges are ranges, they lead there
+-- by it
 abbrev pub SentDeltasLead : Type 0
 SentDeltasLead = (kept : List KeptDelta) → ((d : KeptDelta) → Among d kept → IsRanges d.ranges)
     → (from : List Stamp) (to : Stamp) (len : ℕ) (c : RangesValue)

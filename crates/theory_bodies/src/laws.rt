@@ -37,7 +37,8 @@ pub fn sent_deltas_lead()
     ensures { SentDeltasLead }
 {}
 
-/// Who is asked for a version announced it to this server, under the tag that will be acknowledged.
+/// A server that is asked for a version announced it to the one that asks, under the tag that will
+/// be acknowledged.
 pub fn the_tag_is_a_harbingers<B: Bodies>()
     ensures { TheTagIsAHarbingers B.protocol }
 {}

@@ -66,7 +66,8 @@ module _ {N M C : Type 0} (p : Protocol N M C) where
   abbrev pub with_answered : Replica C → ℕ → ℕ → Key → ℕ → Replica C
   with_answered x peer birth key g = record { birth = x.birth; edges = acked x.edges peer birth key g; cells = x.cells }
 
-  -- two states of a server, where in the second the key was taken off this replica, if the tag is the present one
+  -- two states of a server, where in the second the key was taken off this replica, if the tag is
+  -- the present one
   pub record Answers (a b : N) (file : FileId) (x : Replica C) (peer birth : ℕ) (key : Key) (g : ℕ) : Type 0 where
     pub old : (p.see a).replicas file ≡ Some x
     pub new : (p.see b).replicas file ≡ Some (with_answered x peer birth key g)
@@ -127,7 +128,8 @@ module _ {N M C : Type 0} (p : Protocol N M C) where
       elim (keeps_or_brings (Ack peer birth key g) x.edges q.peer q.birth q.key j (sym new ∙ now)) [ inl z ↦ old ∙ z | inr z ↦ absurd z ]
   answered_stood a b file x peer birth key g q j (inr w) now = sym (ap (λ o. tag_on o q) w) ∙ now
 
-  -- THE RULE, for an answer to the replica that is held, whether its tag is the present one or an old one
+  -- THE RULE, for an answer to the replica that is held, whether its tag is the present one or an
+  -- old one
   pub answer_rule : (s : ℕ) (a b : N) (file : FileId) (x : Replica C) (peer birth : ℕ) (key : Key) (g : ℕ) → Answers a b file x peer birth key g
       → NotesFrom p a b (AckTo s (slot file x.birth peer birth key) g) → Rule p s a b (AckTo s (slot file x.birth peer birth key) g) []
   answer_rule s a b file x peer birth key g k notes =

@@ -10,8 +10,9 @@ use Rattle.theory_flood.proofs.Servers.{has_none, has_parts, there_parts}
 use Rattle.theory_flood.proofs.Steps.{IsSamePlace, HasSoundTags, OverStays, Steps}
 
 module _ {N M C : Type 0} (p : Protocol N M C) where
-  -- A replica before and after, where the tags from t on and below u are given out: each key that has a cell has such a
-  -- tag, or is as it was, and no other tags are new. It holds no less than before
+  -- A replica before and after, where the tags from t on and below u are given out: each key that
+  -- has a cell has such a tag, or is as it was, and no other tags are new. It holds no less than
+  -- before
   pub record Goes (t u : ℕ) (x y : Replica C) : Type 0 where
     pub birth : y.birth ≡ x.birth
     pub brings : (peer birth : ℕ) (key : Key) (g : ℕ) → tag_at y.edges peer birth key ≡ Some g → (tag_at x.edges peer birth key ≡ Some g) ⊎ ((t ≤ g) × (g < u))

@@ -1,4 +1,5 @@
--- What a change does to one replica's edges and cells, whichever file it is of and whoever holds it.
+-- What a change does to one replica's edges and cells, whichever file it is of and whoever holds
+-- it.
 use Rattle.std.proofs.Common.{ℕ, ◌≡◌, ◌<◌, ◌≤◌, true, List, Some, refl, sym, ap, ◌∙◌, inl, inr, arith, ◌⊎◌}
 use Rattle.pg_edges.specs.declared.key.Key.{Key}
 use Rattle.pg_edges.specs.declared.edge.Edge.{Edge}
@@ -15,8 +16,9 @@ module _ {C : Type 0} where
   abbrev pub IsAsBefore : Replica C → Replica C → ℕ → ℕ → Key → C → Type 0
   IsAsBefore x y peer birth key c = (is_listed x.edges peer birth ≡ true) × (x.cells key ≡ Some c) × (tag_at y.edges peer birth key ≡ tag_at x.edges peer birth key)
 
-  -- A change in which the tags from t on and below u are given out, and no answer is heard. On each edge, each key that
-  -- has a cell has such a tag, or is as it was; no other tags are new, and each stands once
+  -- A change in which the tags from t on and below u are given out, and no answer is heard. On each
+  -- edge, each key that has a cell has such a tag, or is as it was; no other tags are new, and each
+  -- stands once
   pub record Draws (t : ℕ) (x : Replica C) (u : ℕ) (y : Replica C) : Type 0 where
     pub birth : y.birth ≡ x.birth
     pub up : t ≤ u

@@ -1,7 +1,8 @@
--- Edges that keep what they promise, whatever servers hold and send.
--- A protocol says what its servers have and cover, what tags stand, and what its messages say. Then it proves of each
--- handler that it keeps the rule for one server, `Local`, mostly by a chain of `Moves`; `step_keeps` gives the invariant
--- of all servers after it. For a message lost or copied only the list of promises changes.
+-- Edges that keep what they promise, whatever servers hold and send. A protocol says what its
+-- servers have and cover, what tags stand, and what its messages say. Then it proves of each
+-- handler that it keeps the rule for one server, `Local`, mostly by a chain of `Moves`;
+-- `step_keeps` gives the invariant of all servers after it. For a message lost or copied only the
+-- list of promises changes.
 use Rattle.std.proofs.Common.{ℕ, ◌≡◌, ◌<◌, ◌≤◌, ◌≢◌, cond, Option, None, Some, List, [], ◌++◌, refl, sym, subst, inl, inr, All, arith, ◌⊎◌, ap, ◌∙◌}
 use Rattle.std.proofs.lemmas.List.Elements.{All-append, All-weaker}
 use Rattle.std.proofs.lemmas.Bool.Decides.{eqb_tells}
@@ -96,7 +97,8 @@ module _ {N S C M : Type 0} (says : M → Saying S C) (tags : N → ℕ) (tag : 
     | inr f ↦ let P : Saying S C → Type 0 = Promised nodes in (on (peer q)).covers q c ((subst P f.2 p).1 c (free q c h t).0 f.1)
   ]
 
-  -- WHAT ONE SERVER DOES BY THE RULE KEEPS ALL PROMISES, with those that are left of the messages under way
+  -- WHAT ONE SERVER DOES BY THE RULE KEEPS ALL PROMISES, with those that are left of the messages
+  -- under way
   pub step_keeps : (nodes : ℕ → N) (s : ℕ) (b : N) (heard : Saying S C) (sent bag rest : List M) → AllKept nodes bag → Local s (nodes s) b heard sent
       → Promised nodes heard → All (λ m. Promised nodes (says m)) rest → AllKept (after nodes s b) (rest ++ sent)
   step_keeps nodes s b heard sent bag rest k l p r =
@@ -124,8 +126,8 @@ module _ {N S C M : Type 0} (says : M → Saying S C) (tags : N → ℕ) (tag : 
         ];
       }
 
-  -- A step in which no answer is heard: afterwards each slot has a tag given out in it, or it has the tag and the cell that
-  -- it had. What a server does in an event is a chain of these
+  -- A step in which no answer is heard: afterwards each slot has a tag given out in it, or it has
+  -- the tag and the cell that it had. What a server does in an event is a chain of these
   pub record Moves (a b : N) : Type 0 where
     pub tags_up : tags a ≤ tags b
     pub covers : (q : S) (c : C) → Covers a q c → Covers b q c

@@ -45,8 +45,8 @@ module _ {C : Type 0} where
   link_slot t x peer birth keys all p b k c false m listed cell =
       inr (stays x (with_link x peer birth keys t) p b k c (ap (λ (es : List Edge). slot_at es p b k) (not_made x.edges peer birth keys t m)) refl listed cell)
 
-  -- A link that makes an edge, also in place of one to an older birth, puts a fresh tag at each key that has a cell. One
-  -- that makes none changes nothing
+  -- A link that makes an edge, also in place of one to an older birth, puts a fresh tag at each key
+  -- that has a cell. One that makes none changes nothing
   pub link_draws : (t : ℕ) (x : Replica C) (peer birth : ℕ) (keys : List Key) → AreKeysOf keys x.cells → Draws t x (t + drawn x.edges peer birth keys) (with_link x peer birth keys t)
   link_draws t x peer birth keys all = record {
     birth = refl;

@@ -1,4 +1,5 @@
--- The premises of the laws can be met: servers 1 and 2 hold one cell of every file, with clean edges to each other.
+-- The premises of the laws can be met: servers 1 and 2 hold one cell of every file, with clean
+-- edges to each other.
 use Rattle.std.proofs.Common.{ℕ, ◌≡◌, subst, ◌≤◌, ◌==◌, Bool, true, false, cond, List, [], ◌∷◌, None, Some, is_some, refl, inl, arith}
 use Rattle.std.proofs.lemmas.List.Elements.{All-nil, All-cons}
 use Rattle.pg_base.specs.declared.id.FileId.{FileId}

@@ -20,7 +20,8 @@ module _ {C : Type 0} where
   abbrev pub OthersStay : Server C → Server C → FileId → Type 0
   OthersStay a b file = (f : FileId) → is_same_file f file ≡ false → b.replicas f ≡ a.replicas f
 
-  -- a file is the one that changed, and these are its replicas before and after; or its replica stayed
+  -- a file is the one that changed, and these are its replicas before and after; or its replica
+  -- stayed
   abbrev pub AtFile : Server C → Server C → FileId → Option (Replica C) → Option (Replica C) → FileId → Type 0
   AtFile a b file o n f = ((f ≡ file) × (a.replicas f ≡ o) × (b.replicas f ≡ n)) ⊎ (b.replicas f ≡ a.replicas f)
 

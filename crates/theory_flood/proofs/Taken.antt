@@ -1,4 +1,5 @@
--- Who keeps the rule for covering keeps it with what was taken, where that stays taken, and what is answered was.
+-- Who keeps the rule for covering keeps it with what was taken, where that stays taken, and what is
+-- answered was.
 use Rattle.std.proofs.Common.{ℕ, ◌≡◌, List, get_or, inl, inr, ◌⊎◌, refl}
 use Rattle.std.specs.Prelude.{Contains}
 use Rattle.std.proofs.lemmas.List.Elements.{All-contains_itself}

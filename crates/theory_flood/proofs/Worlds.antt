@@ -1,4 +1,5 @@
--- All servers and the messages under way: what an event keeps, and what follows where nothing is owed.
+-- All servers and the messages under way: what an event keeps, and what follows where nothing is
+-- owed.
 use Rattle.std.proofs.Common.{ℕ, ◌≡◌, ◌==◌, Bool, true, false, cond, List, [], ◌∷◌, ◌++◌, Option, None, Some, option_map, refl, sym, ap, ◌∙◌, inl, inr, All}
 use Rattle.std.proofs.lemmas.List.Elements.{All-nil, All-head, All-tail}
 use Rattle.pg_base.specs.declared.id.FileId.{FileId}
@@ -32,7 +33,8 @@ clean_tags (e ∷ es) p b k clean =
     clean_by e es p b k (e.peer == p) (e.birth == b) refl refl (All-head (λ (x : Edge). x.keys ≡ []) e es clean) (clean_tags es p b k (All-tail (λ (x : Edge). x.keys ≡ []) e es clean))
 
 module _ {N M C : Type 0} (p : Protocol N M C) where
-  -- WHAT ONE SERVER DOES BY THE RULE IS KEPT: these are left of the messages under way, and these are sent
+  -- WHAT ONE SERVER DOES BY THE RULE IS KEPT: these are left of the messages under way, and these
+  -- are sent
   pub event_keeps : (nodes : ℕ → N) (s : ℕ) (b : N) (heard : Saying Slot C) (sent bag rest : List M) → KeepsEdges p nodes bag → Rule p s (nodes s) b heard sent → Promised p nodes heard
       → All (λ m. Promised p nodes (p.says m)) rest → KeepsEdges p (after nodes s b) (rest ++ sent)
   event_keeps nodes s b heard sent bag rest k l heard_kept rest_kept = step_keeps p.says (tags_of p) (tag p) (Has p) (Covers p) peer_of p.Noted nodes s b heard sent bag rest k l heard_kept rest_kept
@@ -41,7 +43,8 @@ module _ {N M C : Type 0} (p : Protocol N M C) where
   pub bag_keeps : (nodes : ℕ → N) (bag rest : List M) → KeepsEdges p nodes bag → All (λ m. Promised p nodes (p.says m)) rest → KeepsEdges p nodes rest
   bag_keeps nodes bag rest k h = record { edges = k.edges; promises = h; notes = k.notes }
 
-  -- a world in which no message is under way or noted, and of each edge with an acknowledged key the other end covers the cell
+  -- a world in which no message is under way or noted, and of each edge with an acknowledged key
+  -- the other end covers the cell
   pub start_keeps : (nodes : ℕ → N) → ((s : ℕ) (q : Slot) (c : C) → Has p (nodes s) q c → tag p (nodes s) q ≡ None → Covers p (nodes q.peer) q c) → ((s : ℕ) (x : Saying Slot C) → p.Noted (nodes s) x → ⊥)
       → KeepsEdges p nodes []
   start_keeps nodes edges none = record { edges = edges; promises = All-nil (λ m. Promised p nodes (p.says m)); notes = λ s x h. absurd (none s x h) }
@@ -57,7 +60,8 @@ module _ {N M C : Type 0} (p : Protocol N M C) where
     single = λ q r g h i. absurd (no_tag a clean q g ((p.see a).replicas q.file) refl h);
   }
 
-  -- ACROSS AN EDGE without unacknowledged keys, to a replica that is held, the other end holds all that this end holds
+  -- ACROSS AN EDGE without unacknowledged keys, to a replica that is held, the other end holds all
+  -- that this end holds
   pub across : IsSound p → (nodes : ℕ → N) (bag : List M) → KeepsEdges p nodes bag → (file : FileId) (s t : ℕ) (x y : Replica C) → (p.see (nodes s)).replicas file ≡ Some x → (p.see (nodes t)).replicas file ≡ Some y
       → is_listed x.edges t y.birth ≡ true → ((key : Key) → tag_at x.edges t y.birth key ≡ None) → HoldsAll p.IsUpTo x.cells y.cells
   across sound nodes bag k file s t x y one two there clean key c is =

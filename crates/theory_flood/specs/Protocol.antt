@@ -43,8 +43,8 @@ module _ {N M C : Type 0} (p : Protocol N M C) where
   abbrev pub Has : N → Slot → C → Type 0
   Has a q c = HasCell (p.see a) q c
 
-  -- the replica at the other end of the slot's edge holds this cell or more and took what it tells, or
-  -- is over
+  -- the replica at the other end of the slot's edge holds this cell or more and took what it tells,
+  -- or is over
   abbrev pub Covers : N → Slot → C → Type 0
   Covers a q c =
       (HoldsThere p.IsUpTo (p.see a) q c × p.Took a q.file q.birth c) ⊎ p.IsOver a q.file q.birth c

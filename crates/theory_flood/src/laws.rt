@@ -23,7 +23,8 @@ pub fn linked_agree<F: Flooding>()
     ensures { LinkedAgree F.protocol }
 {}
 
-/// The same of two replicas that a chain of such pairs joins.
+/// Where no message is under way and no key is unacknowledged, two replicas hold the same, up to
+/// what the protocol takes for the same, if a chain joins them of replicas that name each other.
 pub fn connected_agree<F: Flooding>()
     ensures { ConnectedAgree F.protocol }
 {}
@@ -34,7 +35,7 @@ pub fn late_answers_keep<F: Flooding>()
     ensures { LateAnswersKeep F.protocol }
 {}
 
-/// Who answers what it heard at once keeps the rule of late answers too.
+/// A server that answers at once what it heard keeps the rule of late answers too.
 pub fn early_is_late<F: Flooding>()
     ensures { EarlyIsLate F.protocol }
 {}

@@ -1,5 +1,5 @@
--- Births that count as over for one event: what a server does without letting a replica go are steps whichever do, and in
--- the end it is what stores say of births.
+-- Births that count as over for one event: what a server does without letting a replica go are
+-- steps whichever do, and in the end it is what stores say of births.
 use Rattle.std.proofs.Common.{ℕ, ◌≡◌, true, false, List, Option, None, Some, option_map, sym, ap, ◌∙◌, eq-eqb, inl, inr}
 use Rattle.std.proofs.lemmas.Bool.{false≢true}
 use Rattle.std.proofs.lemmas.List.Elements.{All-weaker}

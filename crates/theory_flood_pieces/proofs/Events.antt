@@ -31,8 +31,8 @@ use Rattle.theory_flood_pieces.proofs.Stores.{plain_at}
 
 -- ---- an event under way
 
--- Server s of n came from a to b so far, having heard this. What it sends so far it may send now, and whatever it does
--- after that
+-- Server s of n came from a to b so far, having heard this. What it sends so far it may send now,
+-- and whatever it does after that
 pub record IsUnderWay (n s : ℕ) (a : Store) (heard : Hearing) (b : Store) (sent : List Sent) : Type 0 where
   pub steps : Steps (cells_in heard.along) a b
   pub whole : IsWhole n s b
@@ -90,8 +90,8 @@ plain_upto (cell.Version a) (cell.Entry b t) h = absurd h
 pub holds_plain : (b : Store) (file : FileId) (c : Cell) → Holds IsUpTo (cell_at b file) c → Holds IsUpTo (plain_at b file) (plain c)
 holds_plain b file c h = record { key = h.key; cell = plain h.cell; is = ap (option_map plain) h.is; upto = plain_upto c h.cell h.upto }
 
--- A server s took a cell into the replica with the birth that the message names, so that it holds it: it may answer, from
--- then on
+-- A server s took a cell into the replica with the birth that the message names, so that it holds
+-- it: it may answer, from then on
 module _ (along : Along) (s : ℕ) (a b : Store) (from : ℕ) (ends : Ends) (tag : ℕ) (c : Cell) where
   abbrev Heard : Saying Slot Cell
   Heard = saying from s (message.Cell ends tag c)

@@ -1,4 +1,5 @@
--- What was touched before the house rules run stays in front, and makes no difference to them; nor does what was sent.
+-- What was touched before the house rules run stays in front, and makes no difference to them; nor
+-- does what was sent.
 use Rattle.std.proofs.Common.{ℕ, zero, suc, ◌≡◌, Bool, true, false, ◌&&◌, cond, not, List, [], ◌∷◌, ◌++◌, drop, length, Option, None, Some, refl, sym, ap, subst, ◌∙◌}
 use Rattle.std.proofs.lemmas.List.{append-nil, append_assoc}
 use Rattle.std.proofs.Math.Seq.{drop-append_seam}

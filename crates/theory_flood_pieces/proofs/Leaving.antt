@@ -1,4 +1,5 @@
--- A replica goes, whose birth counts as over: what edges promise is kept, and the server stays whole.
+-- A replica goes, whose birth counts as over: what edges promise is kept, and the server stays
+-- whole.
 use Rattle.std.proofs.Common.{ℕ, ◌≡◌, ◌≤◌, true, false, cond, not, Option, None, Some, option_map, refl, ap, ◌∙◌, arith}
 use Rattle.std.specs.BTreeMap.{is_at}
 use Rattle.std.proofs.lemmas.List.Elements.{All-filter}

@@ -1,4 +1,5 @@
--- Edges are made and go, and what stands beside names and replicas changes: what edges promise is kept.
+-- Edges are made and go, and what stands beside names and replicas changes: what edges promise is
+-- kept.
 use Rattle.std.proofs.Common.{ℕ, ◌≡◌, ◌+◌, Bool, true, cond, List, length, Option, None, Some, refl, sym, ap, subst, ◌∙◌, arith}
 use mathlib.Core.Path.{fun_ext}
 use Rattle.pg_base.specs.declared.id.FileId.{FileId}

@@ -10,8 +10,8 @@ use Rattle.pg_edges.proofs.Orders.{is_same_key-true}
 use Rattle.pg_edges.proofs.Tags.{keeps_or_brings}
 use Rattle.theory_flood.proofs.Draws.{IsFreshAt}
 
--- The edges after a change in which the tags from t on and below u are given out, and no key goes: each key has such a
--- tag or its own
+-- The edges after a change in which the tags from t on and below u are given out, and no key goes:
+-- each key has such a tag or its own
 pub record Moved (t u : ℕ) (es fs : List Edge) : Type 0 where
   pub up : t ≤ u
   pub listed : (peer birth : ℕ) → is_listed fs peer birth ≡ is_listed es peer birth

@@ -1,4 +1,5 @@
--- A place, a flag or an entry comes to a thing that is held: what edges promise is kept, and what came is held.
+-- A place, a flag or an entry comes to a thing that is held: what edges promise is kept, and what
+-- came is held.
 use Rattle.std.proofs.Common.{ℕ, ◌≡◌, Bool, false, List, [], ◌∷◌, Option, None, Some, refl, sym, ap, subst, ◌∙◌}
 use Rattle.std.proofs.lemmas.Option.{none-some}
 use Rattle.pg_base.specs.declared.id.FileId.{FileId}

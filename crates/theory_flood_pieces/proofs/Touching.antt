@@ -72,8 +72,8 @@ stood_before t u (Some x) (Some y) k z e = (x, refl, subst (IsStill t u x) (same
 
 -- ---- keys are touched
 
--- From one server to another these keys were touched: each replica stayed but for its tags, and a touched key has a fresh
--- one on each edge
+-- From one server to another these keys were touched: each replica stayed but for its tags, and a
+-- touched key has a fresh one on each edge
 pub record IsTouchedBy (ts : List Touched) (a b : Store) : Type 0 where
   pub up : a.tags ≤ b.tags
   pub stays : (f : FileId) → StaysIf a.tags b.tags (replica_at a f) (replica_at b f)

@@ -1,4 +1,5 @@
--- A version comes to a server, or is made there: what edges promise is kept, and the version is held.
+-- A version comes to a server, or is made there: what edges promise is kept, and the version is
+-- held.
 use Rattle.std.proofs.Common.{ℕ, ◌≡◌, ◌+◌, Bool, true, false, not, cond, List, [], ◌∷◌, length, Option, None, Some, option_map, refl, sym, ap, subst, ◌∙◌, arith, inl, inr, ◌⊎◌}
 use Rattle.std.proofs.lemmas.Bool.Decides.{nat_tests}
 use Rattle.std.proofs.lemmas.Bool.{not-true, not-false}
@@ -101,8 +102,8 @@ module _ (b : Store) (file : FileId) (order : InStrictOrder (content_of b file).
 
 -- ---- a replica has news
 
--- The replica's edges have lost the keys of the heads that went, and the key of the version is touched on each. Of its
--- heads the edges tell
+-- The replica's edges have lost the keys of the heads that went, and the key of the version is
+-- touched on each. Of its heads the edges tell
 pub record IsNews (t : ℕ) (x y : Replica) (gone : List VersionValue) (v : VersionValue) : Type 0 where
   pub birth : y.birth ≡ x.birth
   pub edges : y.edges ≡ touched (without_keys x.edges (keys gone)) (key_of v) t

@@ -1,5 +1,5 @@
--- A view is entered: edges to the server go, and intentions and wishes change; what edges promise is kept, and the server stays
--- whole.
+-- A view is entered: edges to the server go, and intentions and wishes change; what edges promise
+-- is kept, and the server stays whole.
 use Rattle.std.proofs.Common.{ℕ, ◌≡◌, Bool, true, false, cond, List, [], ◌∷◌, Option, None, Some, refl}
 use Rattle.std.specs.Map.{keys_of}
 use Rattle.pg_base.specs.declared.id.FileId.{FileId}
@@ -23,8 +23,8 @@ use Rattle.theory_flood_pieces.proofs.Single.{same_steps}
 use Rattle.theory_flood_pieces.proofs.Stores.{cell_same}
 use Rattle.theory_flood_pieces.proofs.Whole.{whole_alike, whole_names, whole_unlink}
 
--- WHAT THE PIECES OF A VIEW KEEP, it keeps: one server more is removed, edges go, and what stands beside names and replicas
--- changes
+-- WHAT THE PIECES OF A VIEW KEEP, it keeps: one server more is removed, edges go, and what stands
+-- beside names and replicas changes
 module _ (P : Store → Type 0) (removed : (b : Store) (server : ℕ) → P b → P (with_removed b server))
     (unlinked : (b : Store) (file : FileId) (peer birth : ℕ) → P b → P (unlink b file peer birth))
     (beside : (b c : Store) → c.names ≡ b.names → c.replicas ≡ b.replicas → P b → P c) where

@@ -1,4 +1,5 @@
--- Each piece of an event leaves edges to other servers, names as the house rules ask, and just what is held with a replica.
+-- Each piece of an event leaves edges to other servers, names as the house rules ask, and just what
+-- is held with a replica.
 use Rattle.std.proofs.Common.{ℕ, ◌≡◌, Bool, true, false, cond, is_some, List, [], ◌∷◌, Option, None, Some, refl, sym, ap, subst, ◌∙◌, All}
 use Rattle.std.specs.List.Sorted.{IsStrictlySortedBy}
 use Rattle.std.specs.Map.{keys_of}

@@ -1,4 +1,5 @@
--- A replica that begins, of what was not held, leaves a server whole; and so does a replica that is full.
+-- A replica that begins, of what was not held, leaves a server whole; and so does a replica that is
+-- full.
 use Rattle.std.proofs.Common.{ℕ, ◌≡◌, Bool, true, false, cond, not, List, [], ◌∷◌, ◌++◌, get_or, Option, None, Some, is_some, refl, sym, ap, subst, ◌∙◌, All}
 use Rattle.std.specs.List.{IsAmong, filter}
 use Rattle.std.proofs.lemmas.List.{get_or_default}

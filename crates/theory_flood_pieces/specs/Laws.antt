@@ -52,8 +52,8 @@ CellsAreSound = IsSound cells
 abbrev pub StepsOn : Store → Store → Type 0
 StepsOn a b = (along : Along) → Steps (cells_in along) a b
 
--- at the end of an event those count as over that are over then, if births moved one way; and this may
--- be answered late
+-- at the end of an event those count as over that are over then, if births moved one way; and this
+-- may be answered late
 abbrev pub EventsAreByTheRule : Type 0
 EventsAreByTheRule = (s : ℕ) (a b : Store) (late : List (Saying Slot Cell)) (heard : Saying Slot Cell)
     (sent : List Sent) → BirthsMove a b → Rule (cells_in (in_the_end b late)) s a b heard sent

@@ -68,8 +68,8 @@ says m = saying m.packet.from m.to m.packet.message
 abbrev pub Overs : Type 0
 Overs = FileId → ℕ → Bool
 
--- All along one event: these births count as over, and this was heard of earlier and may be answered
--- now
+-- All along one event: these births count as over, and this was heard of earlier and may be
+-- answered now
 pub record Along : Type 0 where
   pub over : Overs
   pub late : List (Saying Slot Cell)
@@ -97,8 +97,8 @@ cells_in along = record {
 abbrev pub standing : Protocol Store Sent Cell
 standing = cells_in (at_once (λ file birth. false))
 
--- Between events: which births are over is read off the store, whatever cells the replica had. What a
--- replica took, beside what it covers, is told by the run, and not by a store
+-- Between events: which births are over is read off the store, whatever cells the replica had. What
+-- a replica took, beside what it covers, is told by the run, and not by a store
 abbrev pub cells : Protocol Store Sent Cell
 cells = record {
   see = see;

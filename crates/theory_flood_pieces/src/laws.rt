@@ -1,6 +1,7 @@
 //! What each piece of an event leaves of the promises of the edges. A server that goes on by steps
 //! goes on to cover what it covers, and a key that is acknowledged behind them was so before, with
-//! the same cell; so all promises outlive them. Each law is a clause of a function that does nothing.
+//! the same cell; so all promises outlive them. Each law is a clause of a function that does
+//! nothing.
 
 ghost use Rattle.theory_flood_pieces.specs.Laws.{AnswersAreTaken, AnswersLeaveWhole, BeginningsAreSteps, BeginningsLeaveWhole, CellsAreSound, EndsMaySend, EntriesAreTaken, EntriesLeaveWhole, EventsAreByTheRule, FillingIsUnseen, FillingLeavesWhole, FlagsAreTaken, FlagsLeaveWhole, GoingsAreSteps, GoingsLeaveWhole, KeysAreAll, KeysAreTouched, LinksAreSteps, LinksLeaveWhole, NamesAreTold, OthersMayBeSent, PlacesAreTaken, PlacesLeaveWhole, RulesAreSettled, RulesLeaveWhole, StartKeepsEdges, StartsWhole, TicksMaySend, UnlinksAreSteps, UnlinksLeaveWhole, VersionsAreMade, VersionsAreTaken, VersionsLeaveWhole, ViewsAreSteps, ViewsLeaveWhole, WhatIsBesideIsUnseen, WhatIsBesideLeavesWhole, WritesLeaveWhole};
 
@@ -24,9 +25,9 @@ pub fn what_comes_is_taken()
     ensures versions { VersionsAreTaken }
 {}
 
-/// A version that is made on all heads, keys that are touched, names that grow with the keys touched
-/// that tell of it, and the house rules, whatever they change: nothing that is covered is lost, and
-/// no acknowledged key has another cell.
+/// A version that is made on all heads, keys that are touched, names that grow with the keys
+/// touched that tell of it, and the house rules, whatever they change: nothing that is covered is
+/// lost, and no acknowledged key has another cell.
 pub fn changes_are_steps()
     ensures writes { VersionsAreMade }
     ensures touches { KeysAreTouched }
@@ -34,9 +35,10 @@ pub fn changes_are_steps()
     ensures rules { RulesAreSettled }
 {}
 
-/// An edge that is made has all keys, and one that goes has none any more; a replica that begins has
-/// no edge, and one goes only when its birth counts as over. What stands beside names, replicas and tags, and that a replica is full, the edges do
-/// not see; nor which servers are removed, where a view is entered.
+/// An edge that is made has all keys, and one that goes has none any more; a replica that begins
+/// has no edge, and one goes only when its birth counts as over. What stands beside names, replicas
+/// and tags, and that a replica is full, the edges do not see; nor which servers are removed, where
+/// a view is entered.
 pub fn links_are_steps()
     ensures keys { KeysAreAll }
     ensures links { LinksAreSteps }
@@ -53,8 +55,8 @@ pub fn answers_are_taken()
     ensures { AnswersAreTaken }
 {}
 
-/// What a tick sends, and what is sent at the end of an event, are present cells under tags that stand
-/// nowhere else. What the edges do not read may always be sent.
+/// What a tick sends, and what is sent at the end of an event, tells of present cells under tags
+/// that stand nowhere else. What the edges do not read may always be sent.
 pub fn cells_may_be_sent()
     ensures ticks { TicksMaySend }
     ensures ends { EndsMaySend }
@@ -73,7 +75,7 @@ pub fn servers_stay_whole()
     ensures rules { RulesLeaveWhole }
 {}
 
-/// The same of edges and replicas that come and go, and of what the edges do not see.
+/// Edges and replicas that come and go, and what the edges do not see, leave whole what was whole.
 pub fn links_leave_whole()
     ensures links { LinksLeaveWhole }
     ensures unlinks { UnlinksLeaveWhole }

@@ -1,4 +1,5 @@
--- The last own flag of a replica that went, at edges to it that are heard of; and who may be relied on.
+-- The last own flag of a replica that went, at edges to it that are heard of; and who may be relied
+-- on.
 use Rattle.std.proofs.Common.{ℕ, ◌≡◌, ◌≢◌, true, false, Option, None, Some, sym, ap, subst, ◌∙◌, inl, inr, ◌⊎◌, arith}
 use Rattle.pg_edges.specs.declared.key.Key.{Key}
 use Rattle.pg_edges.specs.Edges.{is_listed, tag_at}
@@ -118,8 +119,8 @@ module _ {W N M C : Type 0} (p : Protocol W N M C) (sound : IsSound p) where
         (λ real. own_last own t n x y g) (λ i other real. other_last i real other own t n x y g) j
 
   module _ (w : W) (o : IsInOrder p w) (k : IsKept p w) where
-    -- NO FLAG OF A REPLICA THAT WENT IS RAISED, at an edge to it that is heard of: it is not later than the last
-    -- one, which was not raised, and not earlier
+    -- NO FLAG OF A REPLICA THAT WENT IS RAISED, at an edge to it that is heard of: it is not later
+    -- than the last one, which was not raised, and not earlier
     past_gold : (s own t n : ℕ) (x y : Replica C) (g : Flag) → p.IsServer s → Holds p (p.nodes w s) own x → IsHeard p (p.mail w) s (p.nodes w s) own t n → p.Went w t n y → p.flag x.cells t ≡ Some g → g.birth ≡ n
         → p.Removed (p.nodes w t) s ⊎ (g.raised ≡ false)
     past_gold s own t n x y g real held h went is born =

@@ -57,8 +57,8 @@ module _ {W N M C : Type 0} (p : Protocol W N M C) where
         let Q : N → Type 0 = (λ z. Has p z x.0) in
         after.apart s n x.0 (subst Q (sym f.own) x.1.0) (subst P e x.2)
 
-    -- AN EDGE DOES NOT BECOME HEARD OF BY WHAT ITS OWNER DOES: new tags match no old answer, and an answer
-    -- takes its key off
+    -- AN EDGE DOES NOT BECOME HEARD OF BY WHAT ITS OWNER DOES: new tags match no old answer, and an
+    -- answer takes its key off
     pub owner_back : (own t n : ℕ) → IsHeard p (p.mail v) s b own t n → IsHeard p (p.mail w) s a own t n
     owner_back own t n h = elim h.free [
       | inl none ↦

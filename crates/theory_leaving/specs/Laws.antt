@@ -9,8 +9,8 @@ use Rattle.theory_leaving.specs.Moment.{IsKept, IsInOrder, IsNamedBack}
 use Rattle.theory_leaving.specs.Rule.{Turn, Acts, Hears}
 
 module _ {W N M C : Type 0} (p : Protocol W N M C) where
-  -- servers to begin with: nothing was sent, no replica went, no Bye is owed, and each edge is named
-  -- back
+  -- servers to begin with: nothing was sent, no replica went, no Bye is owed, and each edge is
+  -- named back
   pub record IsStart (w : W) : Type 0 where
     pub silent : p.mail w ≡ []
     pub none : (t birth : ℕ) (y : Replica C) → p.Went w t birth y → ⊥
@@ -45,9 +45,9 @@ module _ {W N M C : Type 0} (p : Protocol W N M C) where
     pub all : HoldsAll p.edges.IsUpTo x.cells replica.cells
     pub took : (key : Key) (c : C) → x.cells key ≡ Some c → p.edges.Took a p.file birth c
 
-  -- WHO MAY BE RELIED ON: a server that nobody knows to be removed has a clean edge to a birth whose
-  -- flag it sees raised. Then that birth is held, with every cell. This holds at any time, with or
-  -- without a leave
+  -- WHO MAY BE RELIED ON: a server that nobody knows to be removed has a clean edge to a birth
+  -- whose flag it sees raised. Then that birth is held, with every cell. This holds at any time,
+  -- with or without a leave
   abbrev pub GoldsAreReliable : Type 0
   GoldsAreReliable =
       IsSound p → (w : W) → IsInOrder p w → IsKept p w

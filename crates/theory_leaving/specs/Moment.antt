@@ -1,4 +1,5 @@
--- What is kept of edges and replicas that went, and what other laws give, whenever an event is over.
+-- What is kept of edges and replicas that went, and what other laws give, whenever an event is
+-- over.
 use Rattle.std.specs.Prelude.{ℕ, ◌≡◌, ◌⊎◌, ◌<◌, ◌≤◌, true, false, Contains, List, Option, None, Some}
 use Rattle.pg_edges.specs.declared.key.Key.{Key}
 use Rattle.pg_edges.specs.Edges.{is_listed}
@@ -21,8 +22,8 @@ module _ {W N M C : Type 0} (p : Protocol W N M C) where
   abbrev pub at : ℕ → ℕ → ℕ → Key → Slot
   at own peer birth key = slot p.file own peer birth key
 
-  -- AN EDGE IS HEARD OF, by its peer, where some key is not on it any more, or an answer was ever sent
-  -- under the tag that its key has now
+  -- AN EDGE IS HEARD OF, by its peer, where some key is not on it any more, or an answer was ever
+  -- sent under the tag that its key has now
   pub record IsHeard (mail : List M) (s : ℕ) (a : N) (own peer birth : ℕ) : Type 0 where
     pub key : Key
     pub cell : C
@@ -56,10 +57,9 @@ module _ {W N M C : Type 0} (p : Protocol W N M C) where
     IsKnown t a birth s own =
         p.Removed a s ⊎ (IsNamedBack a birth s own ⊎ IsToBeTold t a birth s own)
 
-    -- owes: who owes a Bye has no such replica any more
-    -- heard: an edge that is heard of is known at its other end
-    -- bye, bye_ok: what a Bye and its answer promise
-    -- last: who has an edge that is heard of, to a replica that went, has the last own flag that this
+    -- owes: who owes a Bye has no such replica any more heard: an edge that is heard of is known at
+    -- its other end bye, bye_ok: what a Bye and its answer promise last: who has an edge that is
+    -- heard of, to a replica that went, has the last own flag that this
     --   had, or a later one
     -- lowered: and that flag was not raised
     pub record IsKept : Type 0 where

@@ -24,17 +24,17 @@ pub fn starts_are_known<L: Leaving>()
     ensures { StartsHold L.protocol }
 {}
 
-/// Whatever one server does by the rule, an edge that its peer has heard of stays known at its other
-/// end: it is named back there, or the replica there went and a Bye is owed. At such an edge to a
-/// replica that went, its last own flag is known, and it was not raised. Lost, repeated and late
-/// messages make no difference.
+/// Whatever one server does by the rule, an edge that its peer has heard of stays known at its
+/// other end: it is named back there, or the replica there went and a Bye is owed. At such an edge
+/// to a replica that went, its last own flag is known, and it was not raised. Lost, repeated and
+/// late messages make no difference.
 pub fn replicas_are_known<L: Leaving>()
     ensures acts { ActsKeep L.protocol }
     ensures idles { IdlesKeep L.protocol }
 {}
 
-/// Across a clean edge to a replica whose flag is seen raised, that replica is held, and has and took
-/// every cell.
+/// Across a clean edge to a replica whose flag is seen raised, that replica is held, and has and
+/// took every cell.
 pub fn gold_can_be_relied_on<L: Leaving>()
     ensures { GoldsAreReliable L.protocol }
 {}

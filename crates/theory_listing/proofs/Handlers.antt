@@ -48,8 +48,8 @@ module _ {N F P S : Type 0} (p : Protocol N F P S) (least : ℕ) (a m : N) (hear
   not_entered : p.view m ≡ p.view a → p.view a < least → least ≤ p.view m → ⊥
   not_entered e low up = omega (arith, e)
 
-  -- NO PLACE, CELL OR PATCH CHANGES: most messages, a tick, a restart, a call that only reads or writes a body. Confirms go
-  -- on, or end by what was heard
+  -- NO PLACE, CELL OR PATCH CHANGES: most messages, a tick, a restart, a call that only reads or
+  -- writes a body. Confirms go on, or end by what was heard
   pub record IsCalm : Type 0 where
     pub hears : Hears
     pub view : p.view m ≡ p.view a
@@ -76,8 +76,8 @@ module _ {N F P S : Type 0} (p : Protocol N F P S) (least : ℕ) (a m : N) (hear
     enters = λ low up d c q l none. absurd (not_entered k.view low up);
   }
 
-  -- CELLS GROW, and nothing else changes; where one lists a child that is not held, it was so before, or a Confirm stands, or
-  -- it is just what was told
+  -- CELLS GROW, and nothing else changes; where one lists a child that is not held, it was so
+  -- before, or a Confirm stands, or it is just what was told
   pub record AreCellsGrown : Type 0 where
     pub hears : Hears
     pub view : p.view m ≡ p.view a
@@ -105,8 +105,8 @@ module _ {N F P S : Type 0} (p : Protocol N F P S) (least : ℕ) (a m : N) (hear
     enters = λ low up d c q l none. absurd (not_entered k.view low up);
   }
 
-  -- ONE CELL IS JOINED: an entry Cell, PlaceIs, Tell. It grows; and where it lists a child that is not held, it was so
-  -- before, or a Confirm stands, or it is just what was told
+  -- ONE CELL IS JOINED: an entry Cell, PlaceIs, Tell. It grows; and where it lists a child that is
+  -- not held, it was so before, or a Confirm stands, or it is just what was told
   pub record IsCellJoined (dir child : F) (place : P) : Type 0 where
     pub hears : Hears
     pub view : p.view m ≡ p.view a
@@ -193,8 +193,9 @@ module _ {N F P S : Type 0} (p : Protocol N F P S) (least : ℕ) (a m : N) (hear
     enters = λ low up d c q l none. absurd (not_entered k.view low up);
   }
 
-  -- A THING BECOMES HELD: Grant, mkdir, create, forget of a directory. A directory takes the places of its Patches as cells,
-  -- for children that are held; no cell stood for a held child that was later than its own place, but one held back
+  -- A THING BECOMES HELD: Grant, mkdir, create, forget of a directory. A directory takes the places
+  -- of its Patches as cells, for children that are held; no cell stood for a held child that was
+  -- later than its own place, but one held back
   pub record IsBegun (thing : F) : Type 0 where
     pub hears : Hears
     pub view : p.view m ≡ p.view a
@@ -304,7 +305,8 @@ module _ {N F P S : Type 0} (p : Protocol N F P S) (least : ℕ) (a m : N) (hear
       enters = λ low up d c q l none. absurd (not_entered k.view low up);
     }
 
-  -- A VIEW IS ENTERED: of a removal, where each child that is listed and not held is asked after, or of another change
+  -- A VIEW IS ENTERED: of a removal, where each child that is listed and not held is asked after,
+  -- or of another change
   pub record IsEntered : Type 0 where
     pub hears : Hears
     pub view : p.view a ≤ p.view m

@@ -1,6 +1,7 @@
--- The premises can be met: two servers, the root and one child. Server 1 makes the child and tells it, server 2 lists it,
--- holds it, and drops it with the leave of server 1. Then server 3 is removed, server 2 asks after the child, and server 1
--- answers. Then nothing is owed, and the child is listed at both, though only server 1 holds it.
+-- The premises can be met: two servers, the root and one child. Server 1 makes the child and tells
+-- it, server 2 lists it, holds it, and drops it with the leave of server 1. Then server 3 is
+-- removed, server 2 asks after the child, and server 1 answers. Then nothing is owed, and the child
+-- is listed at both, though only server 1 holds it.
 use Rattle.std.proofs.Common.{ℕ, ◌≡◌, ◌≤◌, ◌<◌, ◌==◌, ◌||◌, ◌⊎◌, cond, Bool, true, false, List, [], ◌∷◌, take, All, None, Some, refl, sym, subst, ap, ◌∙◌, inl, inr, arith}
 use Rattle.std.proofs.lemmas.List.Elements.{All-nil, All-cons}
 use Rattle.std.proofs.lemmas.Bool.Decides.{eqb_tells}
@@ -48,7 +49,8 @@ events =
 off : false ≡ true → ⊥
 off h = cc
 
--- a change of a server that lets nothing go, newly lists nothing that it does not hold, and ends no Confirm
+-- a change of a server that lets nothing go, newly lists nothing that it does not hold, and ends no
+-- Confirm
 calm : (least : ℕ) (a b : Node) → IsFine b → a.view ≤ b.view → (a.lists ≡ true → b.lists ≡ true) → (a.past ≡ true → b.past ≡ true) → (a.has ≡ true → b.has ≡ true) → a.asks ≡ false
     → (b.lists ≡ true → b.has ≡ false → (a.lists ≡ true) ⊎ (b.asks ≡ true)) → (a.view < least → b.lists ≡ true → b.has ≡ false → b.asks ≡ true) → IsChange least a b silence
 calm least a b fine views lists past has asks new enters = record {

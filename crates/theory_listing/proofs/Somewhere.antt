@@ -37,7 +37,8 @@ module _ {N F P S : Type 0} (p : Protocol N F P S) where
   most_then o a b c (inl e) k = let Q : S → Type 0 = (λ z. AtMost p z c) in subst Q (sym e) k
   most_then o a b c (inr h) k = inr (below_then o a b c h k)
 
-  -- where a place was replaced, a later one is left behind in the directory, or in a Patch where that is not held
+  -- where a place was replaced, a later one is left behind in the directory, or in a Patch where
+  -- that is not held
   left_by : IsOrdered p → (b : N) → IsSettled p b → (d c : F) (q r : P) → c ≢ p.root → p.own b c ≡ Some r → p.IsBelow (p.stamp q) (p.stamp r) → (own : Option P) → p.own b d ≡ own
       → ((x : P) → p.own b d ≡ Some x → HasCell p b d c) → (p.own b d ≡ None → Above p (p.stamp q) (p.patch b d c)) → IsSupersededAt p b d c q
   left_by o b k d c q r inner now low None is cell patch = inr (patch is)

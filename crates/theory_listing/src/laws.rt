@@ -35,7 +35,8 @@ pub fn quiet_lists<F: Listing>()
     ensures { QuietLists F.protocol }
 {}
 
-/// The same at each quiet moment of each run.
+/// At each quiet moment of each run, each survivor is listed by its parent, with its place, and by
+/// no other directory, and nothing else is listed.
 pub fn runs_list<F: Listing>()
     ensures { RunsList F.protocol }
 {}

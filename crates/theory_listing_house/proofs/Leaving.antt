@@ -1,5 +1,5 @@
--- A held directory has in the end a cell for each held child that was live in it at the start, unless a later place was
--- there that the child takes.
+-- A held directory has in the end a cell for each held child that was live in it at the start,
+-- unless a later place was there that the child takes.
 use Rattle.std.proofs.Common.{◌≡◌, if◌then◌else◌, ℕ, Bool, true, false, List, [], ◌∷◌, length, Option, None, Some, refl, sym, ap, ◌∙◌, subst, inl, inr, ◌⊎◌}
 use Rattle.std.proofs.lemmas.Bool.{false≢true, or_left}
 use Rattle.pg_base.specs.declared.id.FileId.{FileId}

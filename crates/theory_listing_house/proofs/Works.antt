@@ -1,4 +1,5 @@
--- What the house rules leave of the work of an event: all but what they touch, make and note as left.
+-- What the house rules leave of the work of an event: all but what they touch, make and note as
+-- left.
 use Rattle.std.proofs.Common.{◌≡◌, ℕ, zero, suc, Bool, ◌&&◌, not, List, [], ◌∷◌, length, Option, None, Some, refl, ◌∙◌}
 use Rattle.pg_base.specs.declared.id.FileId.{FileId}
 use Rattle.pg_edges.specs.declared.key.Key.{Key}

@@ -61,7 +61,8 @@ nothing = record {
 abbrev pub listing : Protocol NamesValue FileId Place Stamp
 listing = listing_of (λ names. names) nothing
 
--- the second knows of the same places as the first: of its things, and of children of its directories
+-- the second knows of the same places as the first: of its things, and of children of its
+-- directories
 pub record HaveSamePlaces (s t : NamesValue) : Type 0 where
   pub own : (file : FileId) → listing.own t file ≡ listing.own s file
   pub cells : (dir child : FileId) → listing.cell t dir child ≡ listing.cell s dir child

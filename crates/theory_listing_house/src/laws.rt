@@ -1,5 +1,5 @@
-//! What the house rules give to the listings of `theory_listing`. Each law is a clause of a function
-//! that does nothing.
+//! What the house rules give to the listings of `theory_listing`. Each law is a clause of a
+//! function that does nothing.
 
 ghost use Rattle.theory_listing_house.specs.Laws.{CellsGrow, ClimbsComeOut, NothingBegins, OwnPlacesGrow, ParentsAtStart, ReplacedAreNoted, SettledBehind, UnheldStay};
 ghost use Rattle.theory_listing_house.specs.Second.{RulesAreSecondParts};
@@ -49,8 +49,8 @@ pub fn unheld_stay()
     ensures none { NothingBegins }
 {}
 
-/// Where the place of a thing becomes a later one it is noted that it left the directory in which it
-/// was live at the start, held or not: none is forgotten. Asks for nothing.
+/// Where the place of a thing becomes a later one it is noted that it left the directory in which
+/// it was live at the start, held or not: none is forgotten. Asks for nothing.
 pub fn replaced_are_noted()
     ensures { ReplacedAreNoted }
 {}
@@ -62,8 +62,8 @@ pub fn climbs_come_out()
 {}
 
 /// Where places in the end are those behind the rules, they are the second part of a step, as
-/// `parts_are_steps` of `theory_listing` wants it, but for what the intentions give: births, Patches
-/// and Confirms.
+/// `parts_are_steps` of `theory_listing` wants it, but for what the intentions give: births,
+/// Patches and Confirms.
 pub fn rules_are_second_parts<K: Keeping>()
     ensures { RulesAreSecondParts K.see K.beside }
 {}

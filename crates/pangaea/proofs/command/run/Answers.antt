@@ -53,6 +53,9 @@ returns-clause-first_harbingers g c = λ n. (c.laws_of_runs.ensures n).first_har
 pub returns-clause-one_asked : goal.returns-clause-one_asked
 returns-clause-one_asked g c = λ n. (c.laws_of_runs.ensures n).one_asked
 
+pub returns-clause-one_in_each : goal.returns-clause-one_in_each
+returns-clause-one_in_each g c = λ n. (c.laws_of_runs.ensures n).one_in_each
+
 pub returns-clause-kept_deltas : goal.returns-clause-kept_deltas
 returns-clause-kept_deltas g c = λ n. (c.laws_of_runs.ensures n).kept_deltas
 
@@ -64,6 +67,9 @@ returns-clause-order g c = λ n. (c.laws_of_runs.ensures n).order
 
 pub returns-clause-intends : goal.returns-clause-intends
 returns-clause-intends g c = λ n. (c.laws_of_runs.ensures n).intends
+
+pub returns-clause-confirms : goal.returns-clause-confirms
+returns-clause-confirms g c = λ n. (c.laws_of_runs.ensures n).confirms
 
 pub returns-clause-owed : goal.returns-clause-owed
 returns-clause-owed g c = λ n. (c.laws_of_runs.ensures n).owed
@@ -103,6 +109,9 @@ returns-clause-edges g c = λ n. (c.laws_of_runs.ensures n).edges
 
 pub returns-clause-linked : goal.returns-clause-linked
 returns-clause-linked g c = λ n. (c.laws_of_runs.ensures n).linked
+
+pub returns-clause-asked_linked : goal.returns-clause-asked_linked
+returns-clause-asked_linked g c = λ n. (c.laws_of_runs.ensures n).asked_linked
 
 pub returns-clause-acked_is_had : goal.returns-clause-acked_is_had
 returns-clause-acked_is_had g c = λ n. (c.laws_of_runs.ensures n).acked_is_had
@@ -163,3 +172,6 @@ returns-clause-returns_list g c = λ n. (c.laws_of_runs.ensures n).returns_list
 
 pub returns-clause-removal_stays : goal.returns-clause-removal_stays
 returns-clause-removal_stays g c = λ n. (c.laws_of_runs.ensures n).removal_stays
+
+pub returns-clause-forget_stays : goal.returns-clause-forget_stays
+returns-clause-forget_stays g c = λ n. (c.laws_of_runs.ensures n).forget_stays

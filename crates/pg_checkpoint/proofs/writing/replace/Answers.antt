@@ -1,5 +1,6 @@
 use Rattle.std.proofs.Common.{rules}
-use Rattle.pg_checkpoint.proofs.Replacing.{keeps_then, closing_refused, writing_refused, replaced}
+use Rattle.pg_disk.proofs.Moments.{keeps_then}
+use Rattle.pg_checkpoint.proofs.Replacing.{closing_refused, writing_refused, replaced}
 use Rattle.pg_checkpoint.proofs.writing.replace.Goals as goal
 
 pub returns-in_err-close-clause-replaced : goal.returns-in_err-close-clause-replaced

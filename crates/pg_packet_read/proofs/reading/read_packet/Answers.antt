@@ -1,6 +1,7 @@
 use Rattle.std.proofs.Common.{arith}
-use Rattle.pg_packet_read.proofs.Spelled.{fits_given}
+use Rattle.pg_packet_read.specs.Whole.{datagram_with}
+use Rattle.pg_packet_read.proofs.Spelled.{fits}
 use Rattle.pg_packet_read.proofs.reading.read_packet.Goals as goal
 
-pub returns-clause-fits : goal.returns-clause-fits
-returns-clause-fits c = fits_given 40000 c.args.bytes.now c.read_within.result (λ i. omega (arith, c.type_inv.bytes i)) c.read_within.ensures
+pub packet_with-requires : goal.packet_with-requires
+packet_with-requires c = fits 40000 c.args.bytes.now (datagram_with c.in_ok-parts.parts) (λ i. omega (arith, c.type_inv.bytes i)) c.in_ok-parts.ensures

@@ -1,5 +1,5 @@
 use Rattle.std.proofs.Common.{rules, arith, ◌≡◌, ◌+◌, ◌∙◌, length}
-use Rattle.pg_disk.proofs.Moments.{leaves_started}
+use Rattle.pg_disk.proofs.Moments.{leaves_started, keeps_then}
 use Rattle.pg_log.specs.Bytes.{front}
 use Rattle.pg_log.specs.Log.{OpensWithOrWithout}
 use Rattle.pg_log.proofs.Crash.{unchanged, moments_behind, moments_opening, stands_with}
@@ -41,3 +41,13 @@ returns-clause-appended g c =
     stands_with c.args.bytes.now (search rules) _ (g.D.Disk.told c.args.disk.now) (g.D.Disk.told c.write_synced.new.disk) (g.D.Disk.told c.write_synced-2.new.disk)
     entries (c.in-Some.gate + 1) c.in-Some.gate (c.in-Some.gate + c.len.result) c.deref.result.now stands (omega (arith, place)) place size (c.deref.ensures.value ∙ c.in_ok-block.ensures)
     (c.in_ok-write_synced.ensures.synced tells) (c.in_ok-write_synced-2.ensures.synced tells)
+
+pub returns-in_err-write_synced-2-clause-others : goal.returns-in_err-write_synced-2-clause-others
+returns-in_err-write_synced-2-clause-others g c = λ tells.
+    keeps_then 0 (g.D.Disk.told c.args.disk.now) (g.D.Disk.told c.write_synced.new.disk) (g.D.Disk.told c.write_synced-2.new.disk)
+    (c.write_synced.ensures.synced tells).keeps (c.write_synced-2.ensures.synced tells).keeps
+
+pub returns-clause-others : goal.returns-clause-others
+returns-clause-others g c = λ tells.
+    keeps_then 0 (g.D.Disk.told c.args.disk.now) (g.D.Disk.told c.write_synced.new.disk) (g.D.Disk.told c.write_synced-2.new.disk)
+    (c.write_synced.ensures.synced tells).keeps (c.write_synced-2.ensures.synced tells).keeps

@@ -5,6 +5,7 @@ use Rattle.std.proofs.Common.{arith, ◌≡◌, ◌≤◌, ◌+◌, ◌∙◌, s
 use Rattle.pg_disk.specs.Disk.{Write, Cut, written}
 use Rattle.pg_disk.specs.Told.{Told, given}
 use Rattle.pg_disk.specs.Synced.{IsSynced}
+use Rattle.pg_log.specs.Bytes.{front, AllFit}
 use Rattle.pg_log.specs.Log.{Stands}
 use Rattle.pg_log.proofs.Opening.{empty_log, moments_anew, stands_anew, moments_cut, stands_cut, opens_whole}
 use Rattle.pg_log.proofs.log.Log.open.Goals as goal
@@ -86,3 +87,15 @@ returns-clause-whole g c = λ tells entries opens. opens_once (given (g.D.Disk.t
 
 pub returns-clause-first : goal.returns-clause-first
 returns-clause-first g c = λ tells place bad. never_both (given (g.D.Disk.told c.args.disk.now) 0) c.in_ok-records.records place (returns-clause-opened g c tells) bad
+
+pub returns-then-len-le17-clause-place : goal.returns-then-len-le17-clause-place
+returns-then-len-le17-clause-place g c = ap (λ (es : List (List ℕ)). Some (length (front es))) (sym c.new.ensures)
+
+pub returns-then-len-le17-clause-fit : goal.returns-then-len-le17-clause-fit
+returns-then-len-le17-clause-fit g c = subst AllFit (sym c.new.ensures) tt
+
+pub returns-clause-place : goal.returns-clause-place
+returns-clause-place g c = ap Some c.in_ok-records.ensures.ok.1
+
+pub returns-clause-fit : goal.returns-clause-fit
+returns-clause-fit g c = c.in_ok-records.ensures.ok.0

@@ -1,0 +1,6 @@
+mod Fields
+mod Messages
+mod Replies
+mod Rows
+mod Calls
+mod Steps

@@ -1,0 +1,15 @@
+pub mod Telling
+pub mod Sure
+pub mod Atoms
+pub mod Checks
+pub mod Plain
+pub mod Tested
+pub mod Names
+pub mod Stamps
+pub mod Lists
+pub mod Opened
+pub mod Items
+pub mod Parts
+pub mod Fields
+pub mod EachKind
+pub mod Grammar

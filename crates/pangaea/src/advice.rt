@@ -1,0 +1,69 @@
+//! What to do where a command did not end well: sentences for standard error, of which no clause
+//! speaks.
+
+use pg_base::number;
+use pg_event::Status;
+
+const PORT: &str = "PORT is a number from 1 to 65471: each server is at PORT and its number";
+
+/// What the word of a node with this number has to be.
+fn of_node(place: u64) -> Option<&'static str> {
+    match place {
+        2 => Some("SERVER is a number from 1 to SERVERS"),
+        3 => Some("SERVERS is a number from 1 to 64"),
+        4 => Some(PORT),
+        5 => Some("NAME has 1 to 64 bytes, each a lower case letter or a digit"),
+        6 => Some("TURNS is a number: of packets, and of seconds without one, until the node ends"),
+        _ => None,
+    }
+}
+
+/// What the word of a call with this number has to be.
+fn of_call(place: u64) -> Option<&'static str> {
+    match place {
+        2 => Some("SERVER is a number from 1 to 64"),
+        3 => Some(PORT),
+        4 => Some(
+            "ASKED is mkdir, create, write, cut, read, fresh, ls, stat, rename, unlink, rmdir, \
+             forget, demote, drop, giveup, status, tick or stop",
+        ),
+        _ => Some(
+            "behind it stand the words of a schedule's call: a path has at most 5000 bytes, and \
+             bytes are pairs of lower case hexadecimal digits, or - for none",
+        ),
+    }
+}
+
+/// What to do about a word at fault.
+fn of_word(verb: &[u8], place: u64) -> Option<&'static str> {
+    match verb {
+        b"node" => of_node(place),
+        b"call" => of_call(place),
+        _ => None,
+    }
+}
+
+/// What to do about this end of a command, where there is something to be said.
+pub(crate) fn advice(words: &Vec<String>, status: Status) -> Option<&'static str> {
+    let verb = words.get(1)?.as_bytes();
+    match status {
+        Status::Usage(place) => of_word(verb, place),
+        Status::NetFault => Some("another program may have the port: choose another PORT"),
+        Status::TurnsSpent if verb == b"call".as_slice() => {
+            Some("no reply came: see that the node runs, and that SERVER and PORT are its own")
+        }
+        _ => None,
+    }
+}
+
+/// The port at which the server of a node or a call stands, by the words' own numbers.
+pub(crate) fn port(words: &Vec<String>) -> Option<u64> {
+    let place = match words.get(1)?.as_bytes() {
+        b"node" => 4,
+        b"call" => 3,
+        _ => return None,
+    };
+    let server = number(words.get(2)?.as_bytes())?;
+    let port = number(words.get(place)?.as_bytes())?;
+    Some(port.saturating_add(server))
+}

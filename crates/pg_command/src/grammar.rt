@@ -1,0 +1,145 @@
+//! What the words ask for.
+
+ghost use Rattle.std.specs.Prelude.{ℕ, ◌≡◌, ◌≢◌, ◌∷◌, ◌⊎◌, IfErr, IfOk, Ok, Err, codes, map};
+ghost use Rattle.std.specs.String.{string_bytes};
+ghost use Rattle.pg_command.specs.Slots.{IsFirstWrong};
+ghost use Rattle.pg_command.specs.Verb.{verb_word};
+ghost use Rattle.pg_command.specs.Words.{AreNumbers, Asks, IsCommand, IsFault, IsFaultOf, command_words, number_slots, number_words, replay_slots};
+ghost use Rattle.pg_command.specs.declared.command.Command.{Command};
+ghost use Rattle.pg_command.specs.declared.command.Command.TheVariants.{Replay};
+ghost use Rattle.pg_command.specs.declared.error.CommandError.TheVariants as wrong;
+
+use crate::calling::calling_of;
+use crate::command::{Command, Numbers};
+use crate::error::CommandError;
+use crate::node::node_of;
+use crate::slots::number_before;
+use crate::verb::Verb;
+use std::alloc::Global;
+
+/// The most events that a made schedule has.
+const MOST_EVENTS: u64 = 1_000_000;
+
+/// Whether a replay has meters, by the words behind its own.
+fn is_metered(words: &[String]) -> Result<bool, u64>
+    ensures found { IfOk result (λ metered. command_words (Replay metered)
+        ≡ codes "replay" ∷ map (λ w. string_bytes w) words.now) }
+    ensures wrong { IfErr result (λ k. let behind = map (λ w. string_bytes w) words.now in
+        IsFirstWrong 2 (replay_slots behind) behind k) }
+{
+    let [word, rest @ ..] = words else {
+        return Ok(false);
+    };
+    if word.as_bytes() != b"--meters".as_slice() {
+        return Err(2);
+    }
+    if !rest.is_empty() {
+        return Err(3);
+    }
+    Ok(true)
+}
+
+/// The replay that the words behind `replay` ask for.
+fn replay_of(words: &[String]) -> Result<Command, CommandError>
+    ensures fits { IfOk result (λ c. IsCommand c) }
+    ensures found { IfOk result (λ c. command_words c
+        ≡ codes "replay" ∷ map (λ w. string_bytes w) words.now) }
+    ensures wrong { IfErr result (λ e. (k : ℕ) → e ≡ wrong.Usage k
+        → let behind = map (λ w. string_bytes w) words.now in
+        IsFirstWrong 2 (replay_slots behind) behind k) }
+    ensures memory { IfErr result (λ e. e ≢ wrong.OutOfMemory) }
+{
+    match is_metered(words) {
+        Ok(metered) => Ok(Command::Replay { metered }),
+        Err(place) => Err(CommandError::Usage(place)),
+    }
+}
+
+/// The three numbers from which a schedule is made, by the words behind a command's own.
+fn numbers_in(words: &[String]) -> Result<Numbers, u64>
+    ensures fits { IfOk result AreNumbers }
+    ensures found { IfOk result (λ numbers. number_words numbers
+        ≡ map (λ w. string_bytes w) words.now) }
+    ensures wrong { IfErr result
+        (λ k. IsFirstWrong 2 number_slots (map (λ w. string_bytes w) words.now) k) }
+{
+    let (seed, words) = number_before(words, 2, 0, u64::MAX)?;
+    let (servers, words) = number_before(words, 3, 1, 64)?;
+    let (events, words) = number_before(words, 4, 0, MOST_EVENTS)?;
+    if !words.is_empty() {
+        return Err(5);
+    }
+    Ok(Numbers {
+        seed,
+        servers: servers as u32,
+        events,
+    })
+}
+
+/// The same, or which word is at fault.
+fn numbers_of(words: &[String]) -> Result<Numbers, CommandError>
+    ensures fits { IfOk result AreNumbers }
+    ensures found { IfOk result (λ numbers. number_words numbers
+        ≡ map (λ w. string_bytes w) words.now) }
+    ensures wrong { IfErr result (λ e. (k : ℕ) → e ≡ wrong.Usage k
+        → IsFirstWrong 2 number_slots (map (λ w. string_bytes w) words.now) k) }
+    ensures memory { IfErr result (λ e. e ≢ wrong.OutOfMemory) }
+{
+    match numbers_in(words) {
+        Ok(numbers) => Ok(numbers),
+        Err(place) => Err(CommandError::Usage(place)),
+    }
+}
+
+/// The command of this verb, by the words behind it.
+fn command_with(alloc: Global, verb: Verb, words: &[String]) -> Result<Command, CommandError>
+    ensures fits { IfOk result (λ c. IsCommand c) }
+    ensures found { IfOk result (λ c. command_words c
+        ≡ verb_word verb ∷ map (λ w. string_bytes w) words.now) }
+    ensures wrong { IfErr result (λ e. (k : ℕ) → e ≡ wrong.Usage k
+        → IsFaultOf verb (map (λ w. string_bytes w) words.now) k) }
+    ensures memory { IfErr result (λ e. e ≡ wrong.OutOfMemory → (k : ℕ)
+        → IsFaultOf verb (map (λ w. string_bytes w) words.now) k → ⊥) }
+{
+    match verb {
+        Verb::Replay => replay_of(words),
+        Verb::Make => match numbers_of(words) {
+            Ok(numbers) => Ok(Command::Make(numbers)),
+            Err(error) => Err(error),
+        },
+        Verb::Soak => match numbers_of(words) {
+            Ok(numbers) => Ok(Command::Soak(numbers)),
+            Err(error) => Err(error),
+        },
+        Verb::Node => node_of(alloc, words),
+        Verb::Call => calling_of(alloc, words),
+    }
+}
+
+/// What the words ask for, or which of them is at fault.
+fn command_in(alloc: Global, words: &Vec<String>) -> Result<Command, CommandError>
+    ensures found { IfOk result (λ command. Asks words.now command) }
+    ensures wrong { IfErr result (λ e. (k : ℕ) → e ≡ wrong.Usage k → IsFault words.now k) }
+    ensures memory { IfErr result (λ e. e ≡ wrong.OutOfMemory → (k : ℕ)
+        → IsFault words.now k → ⊥) }
+{
+    let [_, word, rest @ ..] = words.as_slice() else {
+        return Err(CommandError::Usage(1));
+    };
+    match Verb::read(word.as_bytes()) {
+        Some(verb) => command_with(alloc, verb, rest),
+        None => Err(CommandError::Usage(1)),
+    }
+}
+
+/// What the words ask for. Word 0 is the program's name. Else the number of the first word that no
+/// command has in its place, or of the one that is missing; want of memory never stands for it.
+pub fn command_of(alloc: Global, words: &Vec<String>) -> Result<Command, CommandError>
+    ensures found { IfOk result (λ command. Asks words.now command) }
+    ensures wrong { (k : ℕ) → result ≡ Err (wrong.Usage k) → IsFault words.now k }
+    ensures complete { (command : Command) → Asks words.now command
+        → (result ≡ Ok command) ⊎ (result ≡ Err wrong.OutOfMemory) }
+    ensures first { (k : ℕ) → IsFault words.now k → result ≡ Err (wrong.Usage k) }
+{
+    command_in(alloc, words)
+}
