@@ -11,7 +11,7 @@
 //!   world: servers are whole, tags are sound, edges and all that was ever sent keep their promise.
 //! - A birth that goes counts as over all along its event (`Counts`, `proofs/Gone`).
 //! - Premises: `StandOn` (`specs/Laws`), of contents (`HaveHistories`, `specs/Histories`), of who
-//!   is asked for versions, of what begins, and of births. No crate of laws is cited: `law_all`
+//!   is asked for versions, of what begins, and of births. No crate of laws is cited: `pangaea`
 //!   joins them.
 //! - A harbinger is answered at once, where its version is covered (`proofs/Told`), or when the
 //!   body comes (`proofs/Came`): its sender announced the version (`proofs/Sources`). Of what comes

@@ -122,7 +122,7 @@ asked_sure : (k : RequestKind) → IsSure SameBut (asked_at k)
 asked_sure (asked.Call k) = seen_sure _ (call_sure k)
 asked_sure asked.Tick = nothing_sure request.Tick
 
-request_sure : IsSure SameBut request_at
+pub request_sure : IsSure SameBut request_at
 unfolding request_at
 request_sure = bound_sure SameBut (item_at request_kinds) asked_at same (item_sure _ _) asked_sure
 

@@ -9,7 +9,7 @@
 //!   sent; `IsIn` and `IsOf` (`proofs/Worlds`) tie servers and messages to the run's removals, and
 //!   `Holds` is both, of a world. `proofs/Told` reads the laws off it.
 //! - Premises: `StandOn` (`specs/Premises`), that servers are whole and flags in cells are of the
-//!   run's servers; `law_order` gives both, and `law_all` joins them. No other law is cited here,
+//!   run's servers; `law_order` gives both, and `pangaea` joins them. No other law is cited here,
 //!   and nearly all others may cite this one.
 //! - A new kind of message gets its line in `receive_fine` (`proofs/Handled`), with a lemma
 //!   `.._fine` for its handler: edges that are made lead to servers that are not removed, and who

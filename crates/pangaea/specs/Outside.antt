@@ -30,11 +30,14 @@ IsFileEnd (status.Usage word) = ⊥
 IsFileEnd status.ReadFault = Unit {0}
 IsFileEnd status.WriteFault = Unit {0}
 IsFileEnd status.NetFault = ⊥
+IsFileEnd status.DiskFault = ⊥
 IsFileEnd status.InputLong = Unit {0}
 IsFileEnd (status.BadLine line fault) = Unit {0}
+IsFileEnd (status.BadLog place) = ⊥
 IsFileEnd status.TurnsSpent = ⊥
 IsFileEnd (status.Refused number) = ⊥
 IsFileEnd status.OutOfMemory = Unit {0}
+IsFileEnd (status.OtherLog server servers) = ⊥
 
 -- how a node ends
 abbrev pub IsNodeEnd : Status → Type 0
@@ -43,11 +46,14 @@ IsNodeEnd (status.Usage word) = ⊥
 IsNodeEnd status.ReadFault = ⊥
 IsNodeEnd status.WriteFault = ⊥
 IsNodeEnd status.NetFault = Unit {0}
+IsNodeEnd status.DiskFault = ⊥
 IsNodeEnd status.InputLong = ⊥
 IsNodeEnd (status.BadLine line fault) = ⊥
+IsNodeEnd (status.BadLog place) = ⊥
 IsNodeEnd status.TurnsSpent = Unit {0}
 IsNodeEnd (status.Refused number) = ⊥
 IsNodeEnd status.OutOfMemory = Unit {0}
+IsNodeEnd (status.OtherLog server servers) = ⊥
 
 -- how a call ends
 abbrev pub IsCallEnd : Status → Type 0
@@ -56,8 +62,11 @@ IsCallEnd (status.Usage word) = ⊥
 IsCallEnd status.ReadFault = ⊥
 IsCallEnd status.WriteFault = Unit {0}
 IsCallEnd status.NetFault = Unit {0}
+IsCallEnd status.DiskFault = ⊥
 IsCallEnd status.InputLong = ⊥
 IsCallEnd (status.BadLine line fault) = ⊥
+IsCallEnd (status.BadLog place) = ⊥
 IsCallEnd status.TurnsSpent = Unit {0}
 IsCallEnd (status.Refused number) = Unit {0}
 IsCallEnd status.OutOfMemory = Unit {0}
+IsCallEnd (status.OtherLog server servers) = ⊥

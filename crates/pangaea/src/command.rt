@@ -5,18 +5,23 @@ ghost use Rattle.std.specs.Io.KnownBytes.{IsAtEnd};
 ghost use Rattle.pg_io.specs.Causes.{Rose};
 ghost use Rattle.pg_sched.specs.Schedule.{IsFirstBad};
 ghost use Rattle.pg_call.specs.declared.fault.Fault.{Fault};
-ghost use Rattle.law_all.specs.Laws.{LawsOfRuns};
-ghost use Rattle.law_all.specs.law_confirms.Confirms.{ConfirmsBeginAndStay};
-ghost use Rattle.law_all.specs.law_determined.Determined.{NamesAreDetermined};
-ghost use Rattle.law_all.specs.law_forgotten.Forgets.{ForgetsStay};
-ghost use Rattle.law_all.specs.law_links.Links.{AsksLinkTheAsker};
-ghost use Rattle.law_all.specs.law_lists.Laws.{RemovalsStay, ReturnsList};
-ghost use Rattle.law_all.specs.law_places.Laws.{OnePlaceAStamp};
-ghost use Rattle.law_all.specs.law_refused.Refusals.{RefusalsChangeNothing};
-ghost use Rattle.law_all.specs.law_repair.Kept.{KeptDirectoriesAreBroughtBack, KeptNamesFormATree, KeptServersAgree, KeptThingsAreConnected, KeptThingsAreListedOnlyWhereTheyStand};
-ghost use Rattle.law_all.specs.law_rests.Rests.{NoneIsUnderWayToRemoved, RemovedServersRest};
-ghost use Rattle.law_all.specs.law_wants.Wants.{AnEventAsksOne};
-ghost use Rattle.law_all.specs.law_stamps.Stamps.{OneStampEach};
+ghost use Rattle.pangaea.specs.AllLaws.{LawsOfRuns};
+ghost use Rattle.pangaea.specs.law_confirms.Confirms.{ConfirmsBeginAndStay};
+ghost use Rattle.pangaea.specs.law_determined.Determined.{NamesAreDetermined};
+ghost use Rattle.pangaea.specs.law_forgotten.Forgets.{ForgetsStay};
+ghost use Rattle.pangaea.specs.law_links.Links.{AsksLinkTheAsker};
+ghost use Rattle.pangaea.specs.law_lists.Laws.{RemovalsStay, ReturnsList};
+ghost use Rattle.pangaea.specs.law_places.Laws.{OnePlaceAStamp};
+ghost use Rattle.pangaea.specs.law_refused.Refusals.{RefusalsChangeNothing};
+ghost use Rattle.pangaea.specs.law_repair.Kept.{KeptDirectoriesAreBroughtBack, KeptNamesFormATree, KeptServersAgree, KeptThingsAreConnected, KeptThingsAreListedOnlyWhereTheyStand};
+ghost use Rattle.pangaea.specs.law_rests.Rests.{NoneIsUnderWayToRemoved, RemovedServersRest};
+ghost use Rattle.pangaea.specs.law_wants.Wants.{AnEventAsksOne};
+ghost use Rattle.pangaea.specs.law_stamps.Stamps.{OneStampEach};
+ghost use Rattle.pangaea.specs.law_took.Takers.{ReplicasTookWhatCame};
+ghost use Rattle.pangaea.specs.law_house.Runs.{RulesGoBySteps};
+ghost use Rattle.pangaea.specs.law_turns.law_begins.Confirms.{ConfirmsBeginOnly};
+ghost use Rattle.pangaea.specs.law_turns.Turns.{IntentionsBeginInTurn};
+ghost use Rattle.law_steps.specs.Refused.{RefusedStepsChangeNothing};
 ghost use Rattle.law_printable.specs.pg_run.Acknowledged.{AcknowledgedKeysAreHad};
 ghost use Rattle.law_printable.specs.pg_run.Births.{BirthsAreAlone, BirthsAreKnown, BirthsAreOfOneThing, GreaterBirthsReplaceEdges, LinksNameTheSender};
 ghost use Rattle.law_printable.specs.pg_run.Came.{TakesWhatCame};
@@ -43,13 +48,14 @@ ghost use Rattle.pg_host.specs.Causes.{IsEnd};
 ghost use Rattle.pg_replay.specs.Apart.{JournalsAreAlike};
 
 use crate::call::call;
+use crate::citing::laws_of_runs;
 use crate::laws::lines_are_events;
 use crate::make::make;
 use crate::node::node;
 use crate::replay::replay;
 use crate::soak::soak;
-use law_all::laws_of_runs;
 use law_shows::shows_are_states;
+use law_steps::refused_steps_change_nothing;
 use pg_command::{Command, CommandError, command_of};
 use pg_event::Status;
 use pg_io::{Sink, Source};
@@ -261,9 +267,10 @@ pub fn run<S: Source, K: Sink, N: Net, C: Clock>(
     ensures alike { (servers : ℕ) → JournalsAreAlike servers }
 
     // What each server took is what it made, what was delivered to it, and what was there from the
-    // start on. What it holds is the state of exactly that: contents, and names. And so is what it
-    // shows.
+    // start on; places and flags are so by replica. What it holds is the state of exactly that:
+    // contents, and names. And so is what it shows.
     ensures took { (servers : ℕ) → TakesWhatCame servers }
+    ensures took_by { (servers : ℕ) → ReplicasTookWhatCame servers }
     ensures merge { (servers : ℕ) → servers < 2 ^ 32 → HoldsWhatItTook servers }
     ensures names { (servers : ℕ) → servers < 2 ^ 32 → NamesMerge servers }
     ensures shows { (servers : ℕ) → servers < 2 ^ 32 → ShowsAreStates servers }
@@ -296,13 +303,17 @@ pub fn run<S: Source, K: Sink, N: Net, C: Clock>(
     // Each line is events of the run, those of a settling among them. A tick sends what is owed and
     // the walk that its word chooses, and is refused exactly at the clock's end.
     ensures order { (servers : ℕ) → HouseIsInOrder servers }
+    ensures by_steps { (servers : ℕ) → RulesGoBySteps servers }
     ensures events { (servers : ℕ) → LinesAreEvents servers }
     ensures intends { (servers : ℕ) → IntentionsAreInOrder servers }
     ensures confirms { (servers : ℕ) → servers < 2 ^ 32 → ConfirmsBeginAndStay servers }
+    ensures confirms_only { (servers : ℕ) → ConfirmsBeginOnly servers }
+    ensures in_turn { (servers : ℕ) → IntentionsBeginInTurn servers }
     ensures owed { (servers : ℕ) → TicksSendWhatIsOwed servers }
     // A refused call changes nothing, but that what is not here yet is asked for: a wish may be
     // kept, and its Fetch be sent.
     ensures refused { (servers : ℕ) → RefusalsChangeNothing servers }
+    ensures refused_steps { RefusedStepsChangeNothing }
 
     // What a server knows of removals is the first of them, in their order, and never its own; it
     // has no edge to who is removed so. A message is of a view that its sender had, and in which it
@@ -407,6 +418,7 @@ pub fn run<S: Source, K: Sink, N: Net, C: Clock>(
 {
     // The laws of every run: these calls say what holds, and do nothing.
     laws_of_runs();
+    refused_steps_change_nothing();
     lines_are_events();
     journals_are_alike();
     shows_are_states();

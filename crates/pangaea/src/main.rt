@@ -2,6 +2,7 @@
 //!
 //! `command` has `run`, with all that is promised; `replay`, `make`, `soak`, `node` and `call` are
 //! the commands, one module each, and `laws` ties the lines of a schedule to the events of its run.
+//! `citing` joins the laws of all runs: what each stands on the others say.
 //! What words ask for, and which is at fault, `pg_command` says; `advice` says what to do about it.
 //!
 //! `main` alone touches the system: it gathers the words, hands in the streams, the net of this
@@ -14,6 +15,7 @@
 
 mod advice;
 mod call;
+mod citing;
 mod command;
 mod laws;
 mod make;

@@ -2,7 +2,7 @@
 
 ghost use Rattle.std.specs.Prelude.{◌≡◌, ◌≢◌, ◌≤◌, ◌^◌, ℕ, List, IfSome, Some, length, map};
 ghost use Rattle.std.specs.Io.KnownBytes.{IsAtEnd};
-ghost use Rattle.law_all.specs.Laws.{LawsOfRuns};
+ghost use Rattle.pangaea.specs.AllLaws.{LawsOfRuns};
 ghost use Rattle.pangaea.specs.Ending.{EndsOnly, FirstBadIs};
 ghost use Rattle.pangaea.specs.Outside.{IsFileEnd};
 ghost use Rattle.pangaea.specs.Written.{IsGoodInput, IsTooLong, WritesAll, WritesPrefix, most_input};
@@ -12,7 +12,7 @@ ghost use Rattle.pg_meter.specs.Note.{reading};
 ghost use Rattle.pg_replay.specs.Apart.{JournalsAreAlike};
 ghost use Rattle.pg_sched.specs.Schedule.{IsFirstBad};
 
-use law_all::laws_of_runs;
+use crate::citing::laws_of_runs;
 use pg_event::Status;
 use pg_io::{ReadAllError, Sink, Source, read_all, write_all};
 use pg_meter::Meter;

@@ -1,4 +1,15 @@
 //! A run as a picture.
+//!
+//! The program reads a journal in full form from standard input and writes an SVG picture of the
+//! run to standard output: a line for each server, time downwards, an arrow for each message that
+//! arrived. What is drawn, and with which statuses it ends, stands in `pg_draw`, whose `run` has
+//! the contract; `pg_picture` says what a picture shows of a journal, `pg_svg` how it is written.
+//!
+//! Here stands `main` alone: it gathers the words, hands in the streams of the system, tells a
+//! fault on standard error, and ends with the status. It takes no word.
+//!
+//! docs/FORMATS.md, "Pictures", has the statuses and what is drawn; `docs/pictures` has pictures of
+//! the examples, which `examples/pictures` compares.
 #![tactic(auto)]
 
 use pg_draw::{Ending, run};

@@ -1,7 +1,7 @@
 //! Versions that a server heard of and does not cover.
 
 ghost use Rattle.std.specs.Prelude.{◌≡◌, [], IfOk, OnErr, OnOk, option_copied};
-ghost use Rattle.pg_announced.specs.Announced.{aimed, change_note, covers_for_other, emptied, first_of, is_asked_of, is_awaited, is_over, longer, lose_note, new_note, note_at, put_note, released, unasked, without_covered, without_file, without_note};
+ghost use Rattle.pg_announced.specs.Announced.{AreSorted, aimed, change_note, covers_for_other, emptied, first_of, is_asked_of, is_awaited, is_over, longer, lose_note, new_note, note_at, put_note, released, unasked, without_covered, without_file, without_note};
 
 use pg_base::{Bytes, FileId, Head, NodeId, Shared, Stamp};
 use pg_content::Content;
@@ -94,6 +94,14 @@ impl Announcements {
             alloc,
             by_version: BTreeMap::new(alloc),
         }
+    }
+
+    /// The notes, to go through them by file and then by stamp.
+    pub fn as_map(&self) -> &BTreeMap<NoteKey, Announced>
+        ensures notes { result.now.entries ≡ self.now }
+        ensures sorted { AreSorted self.now }
+    {
+        &self.by_version
     }
 
     /// What is noted of a version.

@@ -1,4 +1,22 @@
 //! What a server does where a client calls it: one module for each family of calls.
+//!
+//! `calls` has `do_call`, a match over the kinds of calls; `making` (`mkdir`, `create`), `naming`
+//! (`rename`, `unlink`, `rmdir`), `bodies` (`write`, `cut`, `read`, `fresh`), `looks` (`ls`,
+//! `stat`, `status`), `demoting`, `dropping`, `giving_up` and `forgetting` do them. Why a call is
+//! refused is seen before, in `pg_checks`; what it makes it makes by the pieces of `pg_pieces`.
+//!
+//! It touches the server's `Store` and the event's `Work`. It runs no house rule and sends no cell:
+//! both come behind it, at the end of the event (`pg_server`).
+//!
+//! What holds here (`laws`): a refused call changes nothing but that what is not here yet is asked
+//! for; a call at the end of the clock does nothing; what is filling is not wished for.
+//!
+//! The definitions: one in `specs/` beside each module, and `specs/Calls`, `Refused`. The rules:
+//! docs/RULES.md, "Client calls", "Replicas that go", "Servers are given up: views", "What was lost
+//! is forgotten".
+//!
+//! A call more: its variant in `pg_call`, its checks in `pg_checks`, its definition and module
+//! here, and a case of `do_call`.
 #![tactic(auto)]
 
 mod bodies;

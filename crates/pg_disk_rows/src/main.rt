@@ -1,11 +1,18 @@
 //! Rows: each line of the input is calls of things in memory that stand for the outside (bytes that
 //! are read and written, disks, logs and checkpoints on them, nets, clocks and programs), and each
-//! line of the output is what they answer. The things in memory are told which of their calls are
-//! to fail: the first call has number 0.
+//! line of the output is what they answer.
 //!
-//! A row is a verb and pieces, with a bar between two of them, that are done one after another. The
+//! The things in memory are told which of their calls are to fail: the first call has number 0. A
+//! row is a verb and pieces, with a bar between two of them, that are done one after another. The
 //! answers are those of docs/FORMATS.md and of what a file may hold after a crash, and never this
 //! program's own. The real things behind the same traits are tried in `pg_fault_tests`.
+//!
+//! `streams`, `disk`, `log`, `slots` and `nets` have the verbs, a module for each thing; `main`
+//! reads lines and calls them.
+//!
+//! A verb more: a case of `answer`, and a module that plays its pieces (`pg_rows`); its rows with
+//! what they must give join `stdin` and `stdout`. The rules: docs/RULES.md, "Sources and sinks",
+//! "Disks", "Logs", "Checkpoints", "Nets, clocks and programs that are started".
 #![tactic(auto)]
 
 mod disk;

@@ -1,5 +1,23 @@
 //! What a server intends until others have answered: its intentions, in the order in which they
 //! began, and which server is asked next.
+//!
+//! `intent` has the kinds (`Intent`), `key` what tells two of them apart (`IntentKey`), `intents`
+//! the list of those that stand, and `target` the server that is asked next. The list is a map in
+//! the order of insertion (`indexmap`), so one is found by its key without going over the others,
+//! and the order in which they began stays.
+//!
+//! It knows nothing of what an intention is for: when one begins and ends, and with which message
+//! it asks, stands in `pg_intentions`.
+//!
+//! What holds (the invariant of `Intents`): each intention stands at its own key, and no key twice.
+//! The laws (`laws`): one that begins is found, one that ended is not, aiming changes targets
+//! alone, and the keys are ordered.
+//!
+//! The definitions: `specs/Intent`, `Key`, `Intents`, `Target`. The rules: docs/RULES.md,
+//! "Intentions and wishes".
+//!
+//! A kind more: a variant of `Intent` and of `IntentKey`, its place in the order of keys, and a
+//! case in `pg_intentions`.
 #![tactic(auto)]
 
 mod intent;

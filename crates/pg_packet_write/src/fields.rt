@@ -38,7 +38,7 @@ pub fn write_text(text: &[u8], out: &mut Bytes) -> Result<(), AllocError>
     write_bytes(text, out)
 }
 
-/// Bytes behind their length.
+/// Writes bytes behind their length.
 #[tactic(auto, unfolding(crate::specs::Fields::counted))]
 pub fn write_block(block: &[u8], out: &mut Bytes) -> Result<(), AllocError>
     requires { length block.now < 2 ^ 32 }
@@ -48,6 +48,7 @@ pub fn write_block(block: &[u8], out: &mut Bytes) -> Result<(), AllocError>
     write_bytes(block, out)
 }
 
+/// Writes a place: its stamp, its parent, whether it is live, and its name behind its length.
 #[tactic(auto, unfolding(crate::specs::Fields::place_bytes))]
 pub fn write_place(place: &Place, out: &mut Bytes) -> Result<(), AllocError>
     requires { IsPlace place.now }
@@ -78,6 +79,7 @@ fn write_each_gold(flags: &[Flag], out: &mut Bytes) -> Result<(), AllocError>
     Ok(())
 }
 
+/// Writes flags behind their number, by server.
 #[tactic(auto, unfolding(crate::specs::Fields::golds_bytes, crate::specs::Fields::listed))]
 pub fn write_golds(flags: &GoldFlags, out: &mut Bytes) -> Result<(), AllocError>
     requires { FitGolds flags.now }
@@ -87,6 +89,7 @@ pub fn write_golds(flags: &GoldFlags, out: &mut Bytes) -> Result<(), AllocError>
     write_each_gold(flags.as_slice(), out)
 }
 
+/// Writes an entry of a directory: the child, its place and its flags.
 #[tactic(auto, unfolding(crate::specs::Fields::entry_bytes))]
 pub fn write_entry(entry: &Entry, out: &mut Bytes) -> Result<(), AllocError>
     requires { FitsEntry entry.now }
@@ -124,6 +127,7 @@ pub fn write_vector(vector: &Vector, out: &mut Bytes) -> Result<(), AllocError>
     write_each_known(vector.entries(), out)
 }
 
+/// Writes a head of a version: its stamp, birth, number, vector and length.
 #[tactic(auto, unfolding(crate::specs::Fields::head_bytes))]
 pub fn write_head(head: &Head, out: &mut Bytes) -> Result<(), AllocError>
     requires { FitsHead head.now }
@@ -136,6 +140,7 @@ pub fn write_head(head: &Head, out: &mut Bytes) -> Result<(), AllocError>
     write_u32(head.length, out)
 }
 
+/// Writes a version: its head, and its body, as long as the head says.
 #[tactic(auto, unfolding(crate::specs::Fields::version_bytes))]
 pub fn write_version(version: &Version, out: &mut Bytes) -> Result<(), AllocError>
     requires { FitsVersion version.now }
@@ -164,6 +169,7 @@ fn write_each_part(parts: &[Part], out: &mut Bytes) -> Result<(), AllocError>
     Ok(())
 }
 
+/// Writes ranges: how much is kept, the least length, and the parts behind their number.
 #[tactic(auto, unfolding(crate::specs::Fields::ranges_bytes, crate::specs::Fields::listed))]
 pub fn write_ranges(ranges: &Ranges, out: &mut Bytes) -> Result<(), AllocError>
     requires { FitsRanges ranges.now }
@@ -184,6 +190,7 @@ fn write_each_stamp(stamps: &[Stamp], out: &mut Bytes) -> Result<(), AllocError>
     Ok(())
 }
 
+/// Writes a list of stamps behind their number.
 #[tactic(auto, unfolding(crate::specs::Fields::stamps_bytes, crate::specs::Fields::listed))]
 pub fn write_stamps(stamps: &[Stamp], out: &mut Bytes) -> Result<(), AllocError>
     requires { FitStamps stamps.now }
@@ -193,6 +200,7 @@ pub fn write_stamps(stamps: &[Stamp], out: &mut Bytes) -> Result<(), AllocError>
     write_each_stamp(stamps, out)
 }
 
+/// Writes a key of a cell: its kind, and what it names.
 #[tactic(auto, unfolding(crate::specs::Fields::key_bytes))]
 pub fn write_key(key: &Key, out: &mut Bytes) -> Result<(), AllocError>
     ensures { OnOk result (out.new ≡ out.old ++ key_bytes key.now) }
@@ -240,6 +248,7 @@ pub fn write_cell(cell: &Cell, out: &mut Bytes) -> Result<(), AllocError>
     }
 }
 
+/// Writes the policy of a file: 1 for the last version, 2 for all that stand side by side.
 #[tactic(auto, unfolding(crate::specs::Fields::policy_bytes))]
 pub fn write_policy(policy: Policy, out: &mut Bytes) -> Result<(), AllocError>
     ensures { OnOk result (out.new ≡ out.old ++ policy_bytes policy) }

@@ -25,3 +25,7 @@ mod messages;
 mod replies;
 
 pub use datagram::{Content, Datagram, Request, fits_request, write_packet};
+pub use fields::{
+    write_block, write_entry, write_golds, write_head, write_key, write_place, write_policy,
+    write_ranges, write_stamps, write_version,
+};

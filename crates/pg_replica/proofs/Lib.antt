@@ -8,8 +8,10 @@ pub mod Lists
 pub mod Clean
 pub mod Merging
 mod Relisting
+mod Putting
 pub mod Ends
 mod Takings
 mod Refusals
 mod InOrder
+mod Counting
 pub mod Going

@@ -16,7 +16,7 @@ use Rattle.pg_replica.specs.Index.{Files, IsAllClean, IsIndexBy, ListsOthers, Re
 use Rattle.pg_replica.proofs.Clean.{clean_none}
 
 -- the program's order of files, which is that of the definitions
-abbrev Order : Type 0
+abbrev pub Order : Type 0
 Order = FileId → FileId → Ordering
 
 no_length : (n : ℕ) → nat_lt 0 n ≡ false → n ≡ 0
@@ -31,11 +31,11 @@ relists_same {P} us vs file x y same still =
     let Q : Files → Type 0 = λ zs. Relists P us zs file x y in
     subst Q (sym same) (record { others = λ q other none. none; own = λ none was. still (was none) })
 
-more_by : (t : Bool) (u : Option (Unit {0})) → cond t (Some tt) u ≡ None → u ≡ None
+pub more_by : (t : Bool) (u : Option (Unit {0})) → cond t (Some tt) u ≡ None → u ≡ None
 more_by true u h = cc
 more_by false u h = h
 
-own_by : (t : Bool) (u : Option (Unit {0})) → cond t (Some tt) u ≡ None → t ≡ false
+pub own_by : (t : Bool) (u : Option (Unit {0})) → cond t (Some tt) u ≡ None → t ≡ false
 own_by true u h = cc
 own_by false u h = refl
 
@@ -105,7 +105,7 @@ keys_same us vs file x is = keys_listed us vs file x x is (λ none. none)
 
 -- ---- the index then
 
-same_value : (w y : Replica) → ◌≡◌ {A = Option Replica} (Some w) (Some y) → w ≡ y
+pub same_value : (w y : Replica) → ◌≡◌ {A = Option Replica} (Some w) (Some y) → w ≡ y
 same_value w y h = cc
 
 module _ {P : Replica → Type 0} {us vs : Files} {file : FileId} {x w : Replica} (es : ByFile) (index : IsIndexBy P us es) (listed : Relists P us vs file x w) where

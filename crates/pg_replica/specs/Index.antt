@@ -1,6 +1,7 @@
 -- Which replicas a server need not look at: those whose peers have acknowledged every key, and
 -- those that know no number at its end.
-use Rattle.std.specs.Prelude.{◌≡◌, if◌then◌else◌, All, true, false, nat_lt, List, length, None, Some}
+use Rattle.std.specs.Prelude.{◌≡◌, if◌then◌else◌, All, Bool, true, false, nat_lt, List, length, None, Some}
+use Rattle.std.specs.List.{list_any}
 use Rattle.std.specs.Ordering.{eq_by_cmp}
 use Rattle.std.specs.BTreeMap.{insert_entry, is_at}
 use Rattle.std.specs.List.Sorted.{IsStrictlySortedBy}
@@ -35,6 +36,15 @@ pub record Relists (P : Replica → Type 0) (listed new : Files) (file : FileId)
   pub own : lookup (is_at (file_cmp file)) new ≡ None
       → (lookup (is_at (file_cmp file)) listed ≡ None → P x) → P y
 
+-- no file is taken off
+abbrev pub ListsNoFewer : Files → Files → Type 0
+ListsNoFewer listed new = (q : FileId)
+    → lookup (is_at (file_cmp q)) new ≡ None → lookup (is_at (file_cmp q)) listed ≡ None
+
+-- the file is listed, or the replica has P
+abbrev pub ListsUnless : Type 0 → Files → FileId → Type 0
+ListsUnless P listed file = lookup (is_at (file_cmp file)) listed ≡ None → P
+
 -- ---- unacknowledged keys
 
 abbrev pub IsAllClean : Replica → Type 0
@@ -55,6 +65,10 @@ with_keys listed file x =
 -- no head knows a number at its end, of whichever actor
 abbrev pub KnowsNoEnd : Replica → Type 0
 KnowsNoEnd x = All (λ v. has_end v.head.vector ≡ false) x.content.heads
+
+-- some head does
+abbrev pub knows_end : Replica → Bool
+knows_end x = list_any (λ v. has_end v.head.vector) x.content.heads
 
 -- the files that are listed with this one, if the version knows a number at its end
 abbrev pub with_end : Files → FileId → VersionValue → Files

@@ -1,5 +1,24 @@
 //! The replicas of a server, each of a file whose versions may stand side by side, or of a
 //! directory, with the edges along which it floods its cells.
+//!
+//! `replica` has `Replica` (birth, content, kept deltas, edges) and how a version comes, is written
+//! and touches its key; `retiring` takes the keys of replaced heads off the edges; `root` makes the
+//! replica of the root that each server begins with. `replicas` has `Replicas`, by file; `listing`
+//! and `numbers` keep, for each change, two lists beside it: the files with unacknowledged keys,
+//! and those that know a number at its end.
+//!
+//! It stands on contents, deltas and edges. Places, flags and entries stand beside it (`pg_names`),
+//! and who is told what stands above.
+//!
+//! What holds (the invariant of `Replicas`): every replica with an unacknowledged key, or with a
+//! number at its end, is listed, also after memory ran out. The laws (`laws`): of versions no key
+//! stands on an edge but a head's.
+//!
+//! The definitions: `specs/Replica`, `Replicas`, `Root`, `Index` (what lists promise), `InOrder` (a
+//! hash map seen in order), `Laws`. The rules: docs/RULES.md, "Replicas, edges, keys and tags".
+//!
+//! A change more: on `Replica`, then as a function of `listing` that says how both lists went, then
+//! on `Replicas`.
 #![tactic(auto)]
 
 mod laws;

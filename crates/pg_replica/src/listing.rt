@@ -4,10 +4,10 @@ ghost use Rattle.std.specs.Prelude.{[], ◌≡◌, ◌≢◌, ◌≤◌, ◌+◌
 ghost use Rattle.pg_base.specs.Version.{stamp_of};
 ghost use Rattle.pg_edges.specs.Edges.{drawn, makes_edge};
 ghost use Rattle.pg_replica.specs.Replica.{covers, has_room, own_actor, refusal_of, tags_after, with_ack_along, with_link, with_touch, with_unlink, with_version, with_write};
-ghost use Rattle.pg_replica.specs.Index.{IsAllClean, KnowsNoEnd, Relists, with_end, with_keys};
+ghost use Rattle.pg_replica.specs.Index.{IsAllClean, KnowsNoEnd, ListsNoFewer, ListsUnless, Relists, with_end, with_keys};
 
 use crate::link::Link;
-use crate::numbers::has_end;
+use crate::numbers::{has_end, knows_end};
 use crate::replica::Replica;
 use pg_base::{FileId, Items, NodeId, Stamp, Version};
 use pg_content::WriteError;
@@ -62,6 +62,53 @@ fn list_keys(unacknowledged: &mut Files, file: FileId, replica: &Replica) -> Res
     if replica.edges.len() > 0 {
         unacknowledged.insert(file, ())?;
     }
+    Ok(())
+}
+
+/// Lists the file, if the replica has an unacknowledged key.
+fn list_unclean(
+    unacknowledged: &mut Files,
+    file: FileId,
+    replica: &Replica,
+) -> Result<(), AllocError>
+    ensures listed { OnOk result
+        (ListsUnless (IsAllClean replica.now) unacknowledged.new.entries file) }
+    ensures more { ListsNoFewer unacknowledged.old.entries unacknowledged.new.entries }
+{
+    if replica.is_clean() {
+        return Ok(());
+    }
+    unacknowledged.insert(file, ())?;
+    Ok(())
+}
+
+/// Lists the file, if a head of the replica knows a number of 2^62 or more.
+fn list_ended(ended: &mut Files, file: FileId, replica: &Replica) -> Result<(), AllocError>
+    ensures listed { OnOk result (ListsUnless (KnowsNoEnd replica.now) ended.new.entries file) }
+    ensures more { ListsNoFewer ended.old.entries ended.new.entries }
+{
+    if !knows_end(replica) {
+        return Ok(());
+    }
+    ended.insert(file, ())?;
+    Ok(())
+}
+
+/// Lists the file of a replica wherever it is to be listed. After out of memory a part may be done.
+pub(crate) fn list_replica(
+    lists: &mut Lists,
+    file: FileId,
+    replica: &Replica,
+) -> Result<(), AllocError>
+    ensures unacknowledged { OnOk result
+        (ListsUnless (IsAllClean replica.now) lists.new.unacknowledged.entries file) }
+    ensures ended { OnOk result
+        (ListsUnless (KnowsNoEnd replica.now) lists.new.ended.entries file) }
+    ensures more { ListsNoFewer lists.old.unacknowledged.entries lists.new.unacknowledged.entries }
+    ensures more_ended { ListsNoFewer lists.old.ended.entries lists.new.ended.entries }
+{
+    list_unclean(&mut lists.unacknowledged, file, replica)?;
+    list_ended(&mut lists.ended, file, replica)?;
     Ok(())
 }
 

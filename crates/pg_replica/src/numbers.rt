@@ -2,6 +2,7 @@
 
 ghost use Rattle.std.specs.Prelude.{◌≡◌, ◌==◌, ◌&&◌, nat_le};
 ghost use Rattle.pg_base.specs.Stamp.{clock_end};
+ghost use Rattle.pg_replica.specs.Index.{knows_end};
 ghost use Rattle.pg_replica.specs.Replica.{has_end, has_own_end, knows_own_end};
 
 use crate::replica::Replica;
@@ -35,6 +36,17 @@ fn has_own_end(server: NodeId, version: &Version) -> bool
         .entries()
         .iter()
         .any(|entry| is_own_end(server, entry))
+}
+
+/// Whether some head of a replica knows a number of 2^62 or more, of whichever actor.
+pub(crate) fn knows_end(replica: &Replica) -> bool
+    ensures { result ≡ knows_end replica.now }
+{
+    replica
+        .content
+        .heads()
+        .iter()
+        .any(|version| has_end(&version.head().vector))
 }
 
 /// Whether some head of a replica does.

@@ -12,7 +12,8 @@ ghost use Rattle.pg_replica.specs.Index.{IsIndex};
 
 use crate::link::Link;
 use crate::listing::{
-    Lists, acknowledge_listed, link_listed, take_listed, touch_listed, unlink_listed, write_listed,
+    Lists, acknowledge_listed, link_listed, list_replica, take_listed, touch_listed, unlink_listed,
+    write_listed,
 };
 use crate::numbers::knows_own_end;
 use crate::replica::Replica;
@@ -64,6 +65,14 @@ impl Replicas {
         self.alloc
     }
 
+    /// How many replicas there are.
+    pub fn len(&self) -> usize
+        ensures len { result ≡ length self.now }
+        ensures by_file { IsStrictlySortedBy file_cmp (keys_of self.now) }
+    {
+        self.by_file.len()
+    }
+
     /// The replica of a file, if there is one.
     pub fn get(&self, file: &FileId) -> Option<&Replica>
         ensures replica { option_copied result ≡ replica_in self.now file.now }
@@ -110,6 +119,17 @@ impl Replicas {
         ensures ok { OnOk result (self.new ≡ put_replica self.old file replica) }
         ensures err { OnErr result (self.new ≡ self.old) }
     {
+        self.by_file.insert(file, replica)?;
+        Ok(())
+    }
+
+    /// The replica of a file is this one from now on, with the versions and the unacknowledged keys
+    /// that it has. After out of memory all is as before.
+    pub fn put(&mut self, file: FileId, replica: Replica) -> Result<(), AllocError>
+        ensures ok { OnOk result (self.new ≡ put_replica self.old file replica) }
+        ensures err { OnErr result (self.new ≡ self.old) }
+    {
+        list_replica(&mut self.lists, file, &replica)?;
         self.by_file.insert(file, replica)?;
         Ok(())
     }

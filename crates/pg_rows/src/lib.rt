@@ -5,6 +5,14 @@
 //! Words are read with good will: where one lacks, or is none of its kind, a number is 0, a text is
 //! empty and an id is the root. So a row stays a line that can be read at sight, and the functions
 //! here have no case to refuse.
+//!
+//! `words` reads the words of a row, `pieces` plays its pieces on one thing (`Stage`), `answer`
+//! writes what comes of them. The programs are `pg_leaf_rows`, `pg_content_rows`, `pg_text_rows`
+//! and `pg_disk_rows`; the rows and what they must give are their files `stdin` and `stdout`, which
+//! the gate compares.
+//!
+//! A kind of row more: a verb in one of these programs. What a row says is true of the library as
+//! it was proved; a row shows that it is what the documents say.
 #![tactic(auto)]
 
 mod answer;

@@ -1,6 +1,9 @@
 //! What clients asked for that is not held.
 
 ghost use Rattle.std.specs.Prelude.{◌≡◌, ◌++◌, [], IfOk, OnErr, OnOk, option_copied};
+ghost use Rattle.std.specs.List.Sorted.{IsStrictlySortedBy};
+ghost use Rattle.std.specs.Map.{keys_of};
+ghost use Rattle.pg_base.specs.Id.{file_cmp};
 ghost use Rattle.pg_store.specs.Wishes.{aim_each, aim_wish, aimed_at, put_wish, wish_in, wished_at, wished_of, without_wish};
 
 use pg_base::{FileId, Items, NodeId};
@@ -54,6 +57,14 @@ impl Wishes {
             alloc,
             by_file: BTreeMap::new(alloc),
         }
+    }
+
+    /// The wishes, to go through them by file.
+    pub fn as_map(&self) -> &BTreeMap<FileId, Wish>
+        ensures wishes { result.now.entries ≡ self.now }
+        ensures by_file { IsStrictlySortedBy file_cmp (keys_of self.now) }
+    {
+        &self.by_file
     }
 
     /// The wish for a thing.

@@ -3,6 +3,9 @@ use Rattle.pangaea.proofs.command.run.Goals as goal
 pub returns-clause-took : goal.returns-clause-took
 returns-clause-took g c = λ n. (c.laws_of_runs.ensures n).took
 
+pub returns-clause-took_by : goal.returns-clause-took_by
+returns-clause-took_by g c = λ n. (c.laws_of_runs.ensures n).took_by
+
 pub returns-clause-merge : goal.returns-clause-merge
 returns-clause-merge g c = λ n. (c.laws_of_runs.ensures n).merge
 
@@ -65,17 +68,29 @@ returns-clause-given g c = λ n. (c.laws_of_runs.ensures n).given
 pub returns-clause-order : goal.returns-clause-order
 returns-clause-order g c = λ n. (c.laws_of_runs.ensures n).order
 
+pub returns-clause-by_steps : goal.returns-clause-by_steps
+returns-clause-by_steps g c = λ n. (c.laws_of_runs.ensures n).by_steps
+
 pub returns-clause-intends : goal.returns-clause-intends
 returns-clause-intends g c = λ n. (c.laws_of_runs.ensures n).intends
 
 pub returns-clause-confirms : goal.returns-clause-confirms
 returns-clause-confirms g c = λ n. (c.laws_of_runs.ensures n).confirms
 
+pub returns-clause-confirms_only : goal.returns-clause-confirms_only
+returns-clause-confirms_only g c = λ n. (c.laws_of_runs.ensures n).confirms_only
+
+pub returns-clause-in_turn : goal.returns-clause-in_turn
+returns-clause-in_turn g c = λ n. (c.laws_of_runs.ensures n).in_turn
+
 pub returns-clause-owed : goal.returns-clause-owed
 returns-clause-owed g c = λ n. (c.laws_of_runs.ensures n).owed
 
 pub returns-clause-refused : goal.returns-clause-refused
 returns-clause-refused g c = λ n. (c.laws_of_runs.ensures n).refused
+
+pub returns-clause-refused_steps : goal.returns-clause-refused_steps
+returns-clause-refused_steps g c = c.refused_steps_change_nothing.ensures (λ n. (c.laws_of_runs.ensures n).refused)
 
 pub returns-clause-views : goal.returns-clause-views
 returns-clause-views g c = λ n. (c.laws_of_runs.ensures n).views

@@ -1,0 +1,9 @@
+pub mod Climbing
+pub mod Moving
+pub mod Deciding
+pub mod Walking
+pub mod Placing
+pub mod Returning
+pub mod Breaking
+pub mod Ending
+pub mod Running

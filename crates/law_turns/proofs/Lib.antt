@@ -1,0 +1,6 @@
+mod Shapes
+mod Sorting
+mod EachKind
+mod Whole
+mod Firsts
+mod Told

@@ -1,0 +1,2 @@
+pub mod Turns
+pub use Rattle.law_begins.specs as law_begins

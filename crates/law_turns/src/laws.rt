@@ -1,0 +1,15 @@
+//! In which order intentions begin, in all runs. Each law is a clause of a function that does
+//! nothing.
+
+ghost use Rattle.std.specs.Prelude.{ℕ};
+ghost use Rattle.law_order.specs.Laws.{NamesAreById};
+ghost use Rattle.law_turns.specs.Turns.{IntentionsBeginInTurn};
+
+/// Behind each event the intentions that began stand behind the others, and behind the Byes and the
+/// Leave that began: Patches, Fills, Seeks, Confirms, each kind by file, or by directory and child.
+/// A Patch and a Fill ask who sent the event's message, a Seek the least other live gold that is
+/// known and to which no edge leads, a Confirm the least other live gold that the directory's entry
+/// of the child names; and else the next server behind this one.
+pub fn intentions_begin_in_turn()
+    ensures { (servers : ℕ) → NamesAreById servers → IntentionsBeginInTurn servers }
+{}

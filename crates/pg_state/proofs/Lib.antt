@@ -1,0 +1,3 @@
+mod Same
+mod Parts
+mod Beside

@@ -1,0 +1,11 @@
+use Rattle.std.proofs.Common.{drop}
+use Rattle.std.specs.List.{AllByRecursion}
+use Rattle.pg_register.specs.declared.flag.Flag.{Flag}
+use Rattle.pg_packet_write.specs.Fits.{IsServer}
+use Rattle.pg_state.proofs.fields.are_of_servers.Given as goal
+
+abbrev pub invariant-loop-flag : goal.invariant-loop-flag
+invariant-loop-flag l = record {
+  there : AllByRecursion (λ (flag : Flag). IsServer flag.server) l.flags → AllByRecursion (λ (flag : Flag). IsServer flag.server) (drop l.flag-index l.flags);
+  back : AllByRecursion (λ (flag : Flag). IsServer flag.server) (drop l.flag-index l.flags) → AllByRecursion (λ (flag : Flag). IsServer flag.server) l.flags;
+}
