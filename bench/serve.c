@@ -1,11 +1,13 @@
 /* A plain echo server over UDP, and a client that asks a server one question after the other.
  *
  *     serve echo PORT             answers each packet with its own bytes, until one begins with the byte 0
+ *     serve keep PORT FILE        the same, but puts each packet behind the file first, as a log does: its bytes, a sync, a byte, a sync
  *     serve load PORT KIND COUNT  asks COUNT times, and prints calls a second and the 99th percentile in microseconds
  *
  * KIND is `status`, or `write`: 64 bytes at the front of the file /f. A question is a packet of a client, by docs/FORMATS.md;
  * its answer is any packet that comes back. */
 #include <arpa/inet.h>
+#include <fcntl.h>
 #include <stdint.h>
 #include <stdio.h>
 #include <stdlib.h>
@@ -38,15 +40,29 @@ static int bound(int port) {
     return s;
 }
 
-static int echo(int port) {
+/* Puts a length and bytes, with a closed gate behind them, at the place of the last gate, and then opens that: each of both is synced. */
+static off_t keep(int file, off_t gate, const unsigned char *bytes, size_t n) {
+    static unsigned char block[40006];
+    for (int i = 0; i < 4; i++) block[i] = (unsigned char)(n >> (24 - 8 * i));
+    memcpy(block + 4, bytes, n);
+    block[4 + n] = 0;
+    if (pwrite(file, block, n + 5, gate + 1) != (ssize_t)(n + 5) || fsync(file) != 0) fail("write");
+    if (pwrite(file, "\x01", 1, gate) != 1 || fsync(file) != 0) fail("write");
+    return gate + 5 + (off_t)n;
+}
+
+static int echo(int port, const char *name) {
     static unsigned char bytes[40001];
-    int s = bound(port);
+    int s = bound(port), file = -1;
+    off_t gate = 16;
+    if (name && (file = open(name, O_CREAT | O_TRUNC | O_RDWR, 0644)) < 0) fail("open");
     for (;;) {
         struct sockaddr_in from;
         socklen_t size = sizeof from;
         ssize_t n = recvfrom(s, bytes, sizeof bytes, 0, (struct sockaddr *)&from, &size);
         if (n < 0) continue;
         if (n > 0 && bytes[0] == 0) return 0;
+        if (name) gate = keep(file, gate, bytes, (size_t)n);
         sendto(s, bytes, (size_t)n, 0, (struct sockaddr *)&from, size);
     }
 }
@@ -105,8 +121,9 @@ static int load(int port, const char *kind, long count) {
 }
 
 int main(int n, char **words) {
-    if (n == 3 && strcmp(words[1], "echo") == 0) return echo(atoi(words[2]));
+    if (n == 3 && strcmp(words[1], "echo") == 0) return echo(atoi(words[2]), NULL);
+    if (n == 4 && strcmp(words[1], "keep") == 0) return echo(atoi(words[2]), words[3]);
     if (n == 5 && strcmp(words[1], "load") == 0) return load(atoi(words[2]), words[3], atol(words[4]));
-    fprintf(stderr, "serve: echo PORT, or load PORT KIND COUNT\n");
+    fprintf(stderr, "serve: echo PORT, keep PORT FILE, or load PORT KIND COUNT\n");
     return 2;
 }

@@ -10,8 +10,7 @@
 //!   `MayStep`), which each event of a run keeps (`by_rule` of `law_listings`), read without its
 //!   letters (`proofs/Told`). Nothing goes over handlers here.
 //! - Premise: `ListingsStandOn` of `law_listings`.
-//! - It is not said that nothing else makes a Confirm begin: where the place is as it was, no law
-//!   says that none begins.
+//! - That nothing else makes a Confirm begin is a law of its own (`law_begins`).
 //! - A further message that tells a place for sure: a case of `TellsPlace`, and one of `told_is`.
 #![tactic(auto)]
 

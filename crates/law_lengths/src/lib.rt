@@ -21,5 +21,7 @@
 mod laws;
 mod types;
 
+pub use law_spelled as spelled;
 pub use laws::{messages_are_short, sends_packets};
+pub use pg_server as server;
 pub use types::{call_fits, reply_fits};

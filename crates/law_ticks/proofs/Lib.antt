@@ -9,3 +9,4 @@ pub mod Intended
 pub mod KeysRuns
 pub mod Ticks
 pub mod FirstCause
+pub use Rattle.pg_run.proofs as pg_run

@@ -1,5 +1,8 @@
+pub mod Asked
+pub mod Ends
+pub mod Heeded
+pub mod Idle
 pub mod Lines
-pub mod Dispatch
-pub mod Outside
+pub mod Nodes
 pub mod Joined
 pub mod Carried

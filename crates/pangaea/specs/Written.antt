@@ -5,7 +5,7 @@ use Rattle.pg_sched.specs.declared.line.Line.{Line}
 use Rattle.pg_sched.specs.Schedule.{spelling, IsCount, AreLines}
 use Rattle.pangaea.specs.declared.replay.TheConstants.{LIMIT}
 use Rattle.pg_command.specs.declared.command.Command.{Command}
-use Rattle.pg_command.specs.declared.command.Command.TheVariants.{Replay, Make, Soak, Node, Call}
+use Rattle.pg_command.specs.declared.command.Command.TheVariants.{Replay, Make, Soak, Node, Call, Help}
 use Rattle.pg_make.specs.Made.{made_text}
 use Rattle.pg_meter.specs.declared.meter.Reading.{Reading}
 use Rattle.pg_replay.specs.Soaking.{soak_text}
@@ -51,7 +51,8 @@ abbrev pub handed : Bool → List Reading → List Reading
 handed true meters = meters
 handed false meters = []
 
--- What is behind what the sink held, when the command is done. Of nodes and calls `Does` says it.
+-- What is behind what the sink held, when the command is done: of help some text, and of nodes and
+-- calls `Does` says it.
 abbrev pub Writes : Command → List Reading → Option (List ℕ) → Option (List ℕ) → Option (List ℕ)
     → Type 0
 Writes (Replay metered) meters input before after =
@@ -62,6 +63,7 @@ Writes (Soak numbers) meters input before after =
     Appends before after (soak_text numbers.seed numbers.servers numbers.events)
 Writes (Node server servers port name turns) meters input before after = Unit {0}
 Writes (Call server port request) meters input before after = Unit {0}
+Writes (Help help) meters input before after = (text : List ℕ) × Appends before after text
 
 -- a prefix of that
 abbrev pub WritesFront : Command → List Reading → Option (List ℕ) → Option (List ℕ)
@@ -74,3 +76,5 @@ WritesFront (Soak numbers) meters input before after =
     AppendsPrefix before after (soak_text numbers.seed numbers.servers numbers.events)
 WritesFront (Node server servers port name turns) meters input before after = Unit {0}
 WritesFront (Call server port request) meters input before after = Unit {0}
+WritesFront (Help help) meters input before after =
+    (text : List ℕ) × AppendsPrefix before after text

@@ -6,15 +6,37 @@ use pg_event::Status;
 
 const PORT: &str = "PORT is a number from 1 to 65471: each server is at PORT and its number";
 
+const SERVERS: &str = "SERVERS is a number from 1 to 64";
+
+const NOTHING: &str = "no word stands behind these";
+
+/// What the word of a replay with this number has to be.
+fn of_replay(place: u64) -> Option<&'static str> {
+    match place {
+        2 => Some("behind replay stands nothing, or --meters"),
+        _ => Some(NOTHING),
+    }
+}
+
+/// What the word of a made schedule with this number has to be.
+fn of_numbers(place: u64) -> Option<&'static str> {
+    match place {
+        2 => Some("SEED is a number from 0 to 18446744073709551615"),
+        3 => Some(SERVERS),
+        4 => Some("EVENTS is a number from 0 to 1000000"),
+        _ => Some(NOTHING),
+    }
+}
+
 /// What the word of a node with this number has to be.
 fn of_node(place: u64) -> Option<&'static str> {
     match place {
         2 => Some("SERVER is a number from 1 to SERVERS"),
-        3 => Some("SERVERS is a number from 1 to 64"),
+        3 => Some(SERVERS),
         4 => Some(PORT),
         5 => Some("NAME has 1 to 64 bytes, each a lower case letter or a digit"),
         6 => Some("TURNS is a number: of packets, and of seconds without one, until the node ends"),
-        _ => None,
+        _ => Some(NOTHING),
     }
 }
 
@@ -37,23 +59,48 @@ fn of_call(place: u64) -> Option<&'static str> {
 /// What to do about a word at fault.
 fn of_word(verb: &[u8], place: u64) -> Option<&'static str> {
     match verb {
+        b"replay" => of_replay(place),
+        b"make" => of_numbers(place),
+        b"soak" => of_numbers(place),
         b"node" => of_node(place),
         b"call" => of_call(place),
-        _ => None,
+        _ => Some("the first word is replay, make, soak, node or call, or alone -h or --help"),
     }
 }
 
 /// What to do about this end of a command, where there is something to be said.
 pub(crate) fn advice(words: &Vec<String>, status: Status) -> Option<&'static str> {
-    let verb = words.get(1)?.as_bytes();
+    let verb = match words.get(1) {
+        Some(word) => word.as_bytes(),
+        None => b"".as_slice(),
+    };
     match status {
         Status::Usage(place) => of_word(verb, place),
         Status::NetFault => Some("another program may have the port: choose another PORT"),
+        Status::DiskFault => Some(
+            "see that the folder can be written and has room, and start the node again: it takes \
+             up what its log keeps",
+        ),
+        Status::BadLog(_) => Some(
+            "from this byte on it is no log of a node: put a good copy in its place; a server \
+             whose log is lost does not start anew, the others give it up",
+        ),
+        Status::OtherLog(_, _) => {
+            Some("start the server that this log names, or choose the NAME of this server's own")
+        }
         Status::TurnsSpent if verb == b"call".as_slice() => {
             Some("no reply came: see that the node runs, and that SERVER and PORT are its own")
         }
         _ => None,
     }
+}
+
+/// The name of a node's files, by the words.
+pub(crate) fn name(words: &Vec<String>) -> Option<&str> {
+    if words.get(1)?.as_bytes() != b"node".as_slice() {
+        return None;
+    }
+    Some(words.get(5)?.as_str())
 }
 
 /// The port at which the server of a node or a call stands, by the words' own numbers.

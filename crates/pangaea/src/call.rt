@@ -1,7 +1,7 @@
 //! A server is asked.
 
 ghost use Rattle.std.specs.Prelude.{◌≡◌, ◌+◌};
-ghost use Rattle.pangaea.specs.Outside.{IsCallEnd};
+ghost use Rattle.pangaea.specs.Ending as ending;
 ghost use Rattle.pg_client.specs.Asks as client;
 ghost use Rattle.pg_command.specs.Words.{IsCalling};
 ghost use Rattle.pg_io.specs.Causes.{Rose};
@@ -30,7 +30,7 @@ pub fn call<N: Net, K: Sink>(
         (K.contents sink.old) (K.contents sink.new) }
     ensures net { result ≡ Status.NetFault → Rose (N.faults net.old) (N.faults net.new) }
     ensures write { result ≡ Status.WriteFault → Rose (K.faults sink.old) (K.faults sink.new) }
-    ensures ends { IsCallEnd result }
+    ensures ends { ending.IsCallEnd result }
 {
     requests_have_packets();
     ask(alloc, net, server, port, request, sink)

@@ -21,8 +21,8 @@ ghost use Rattle.std.specs.Prelude.{ℕ};
 ghost use Rattle.law_repair.specs.law_golds.Laws.{FlagsAreKnown};
 ghost use Rattle.law_intents.specs.law_order.Laws.{AllIsNamed};
 ghost use Rattle.law_repair.specs.law_places.Laws.{PlacesWereMade};
-ghost use Rattle.pg_run.specs.Intending.{IntentionsAreInOrder};
-ghost use Rattle.pg_run.specs.Known.{CarriedIsKnown};
+ghost use Rattle.law_printable.specs.pg_run.Intending.{IntentionsAreInOrder};
+ghost use Rattle.law_printable.specs.pg_run.Known.{CarriedIsKnown};
 ghost use Rattle.pangaea.specs.Joined.{AreCited};
 ghost use Rattle.pangaea.specs.AllLaws.{LawsOfRuns};
 

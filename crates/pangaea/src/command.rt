@@ -2,53 +2,25 @@
 
 ghost use Rattle.std.specs.Prelude.{◌≡◌, ◌≢◌, ◌<◌, ◌≤◌, ◌^◌, ◌↔◌, ◌⊎◌, ℕ, List, IfSome, Some, length, map};
 ghost use Rattle.std.specs.Io.KnownBytes.{IsAtEnd};
-ghost use Rattle.pg_io.specs.Causes.{Rose};
-ghost use Rattle.pg_sched.specs.Schedule.{IsFirstBad};
+ghost use Rattle.pangaea.specs.Acts as acts;
+ghost use Rattle.pangaea.specs.Ending as ending;
+ghost use Rattle.pangaea.specs.Outside as outside;
+ghost use Rattle.pangaea.specs.Promises as laws;
+ghost use Rattle.pangaea.specs.Seen.{seen};
+ghost use Rattle.pangaea.specs.Written as written;
 ghost use Rattle.pg_call.specs.declared.fault.Fault.{Fault};
-ghost use Rattle.pangaea.specs.AllLaws.{LawsOfRuns};
-ghost use Rattle.pangaea.specs.law_confirms.Confirms.{ConfirmsBeginAndStay};
-ghost use Rattle.pangaea.specs.law_determined.Determined.{NamesAreDetermined};
-ghost use Rattle.pangaea.specs.law_forgotten.Forgets.{ForgetsStay};
-ghost use Rattle.pangaea.specs.law_links.Links.{AsksLinkTheAsker};
-ghost use Rattle.pangaea.specs.law_lists.Laws.{RemovalsStay, ReturnsList};
-ghost use Rattle.pangaea.specs.law_places.Laws.{OnePlaceAStamp};
-ghost use Rattle.pangaea.specs.law_refused.Refusals.{RefusalsChangeNothing};
-ghost use Rattle.pangaea.specs.law_repair.Kept.{KeptDirectoriesAreBroughtBack, KeptNamesFormATree, KeptServersAgree, KeptThingsAreConnected, KeptThingsAreListedOnlyWhereTheyStand};
-ghost use Rattle.pangaea.specs.law_rests.Rests.{NoneIsUnderWayToRemoved, RemovedServersRest};
-ghost use Rattle.pangaea.specs.law_wants.Wants.{AnEventAsksOne};
-ghost use Rattle.pangaea.specs.law_stamps.Stamps.{OneStampEach};
-ghost use Rattle.pangaea.specs.law_took.Takers.{ReplicasTookWhatCame};
-ghost use Rattle.pangaea.specs.law_house.Runs.{RulesGoBySteps};
-ghost use Rattle.pangaea.specs.law_turns.law_begins.Confirms.{ConfirmsBeginOnly};
-ghost use Rattle.pangaea.specs.law_turns.Turns.{IntentionsBeginInTurn};
-ghost use Rattle.law_steps.specs.Refused.{RefusedStepsChangeNothing};
-ghost use Rattle.law_printable.specs.pg_run.Acknowledged.{AcknowledgedKeysAreHad};
-ghost use Rattle.law_printable.specs.pg_run.Births.{BirthsAreAlone, BirthsAreKnown, BirthsAreOfOneThing, GreaterBirthsReplaceEdges, LinksNameTheSender};
-ghost use Rattle.law_printable.specs.pg_run.Came.{TakesWhatCame};
-ghost use Rattle.law_printable.specs.pg_run.Going.{EachPeerIsTold};
-ghost use Rattle.law_printable.specs.pg_run.Golds.{FullReplicasSeeGold, ReplicasNameGolds};
-ghost use Rattle.law_printable.specs.pg_run.Bodies.{BodiesAnswerWants, FirstHarbingersAsk, OneIsAskedAtATime};
-ghost use Rattle.law_printable.specs.pg_run.Deltas.{KeepsWhatItMadeOrTook, WantsGetTheShortestChange};
-ghost use Rattle.law_printable.specs.pg_run.Histories.{AncestryByVectors, CarriesHistory, ClockEndsFirst, MakesHistories, OneVersionAStamp, StateIsDetermined, StateIsItsHeads};
-ghost use Rattle.law_printable.specs.pg_run.Intending.{IntentionsAreInOrder};
-ghost use Rattle.law_printable.specs.pg_run.Laws.{HoldsWhatItTook, HouseIsInOrder, NamesMerge, QuietDirectoriesAreBroughtBack, QuietIsTold, QuietJoinedServersAgree, QuietNamesFormATree, QuietServersAgree, QuietThingsAreListedOnlyWhereTheyStand, ReturnsAreJustified};
-ghost use Rattle.law_printable.specs.pg_run.Leaving.{ByesAreOver, DropsAreSafe, HeardEdgesAreKnown, WhatWentIsOver};
-ghost use Rattle.law_printable.specs.pg_run.Ticks.{TicksSendWhatIsOwed};
-ghost use Rattle.law_printable.specs.pg_run.Views.{MessagesAreOfViews, ViewsArePrefixes};
-ghost use Rattle.law_shows.specs.Shows.{ShowsAreStates};
-ghost use Rattle.pangaea.specs.Ending.{EndsOnly, FirstBadIs};
-ghost use Rattle.pangaea.specs.Laws.{LinesAreEvents};
-ghost use Rattle.pangaea.specs.Outside.{Does};
-ghost use Rattle.pangaea.specs.Written.{IsGoodInput, IsTooLong, Writes, WritesFront, handed, most_input};
-ghost use Rattle.pg_command.specs.Words.{Asks, AsksForCall, AsksForNode, AsksForReplay, IsCommand, IsFault, IsOfCall, IsOfNode, IsReplay};
+ghost use Rattle.pg_command.specs.Words as wording;
 ghost use Rattle.pg_command.specs.declared.command.Command.{Command};
+ghost use Rattle.pg_command.specs.declared.command.Help.{Help};
 ghost use Rattle.pg_command.specs.declared.command.Numbers.{Numbers};
-ghost use Rattle.pg_meter.specs.Note.{reading};
 ghost use Rattle.pg_host.specs.Causes.{IsEnd};
-ghost use Rattle.pg_replay.specs.Apart.{JournalsAreAlike};
+ghost use Rattle.pg_io.specs.Causes.{Rose};
+ghost use Rattle.pg_meter.specs.Note.{reading};
+ghost use Rattle.pg_sched.specs.Schedule.{IsFirstBad};
 
 use crate::call::call;
 use crate::citing::laws_of_runs;
+use crate::help::help;
 use crate::laws::lines_are_events;
 use crate::make::make;
 use crate::node::node;
@@ -57,6 +29,7 @@ use crate::soak::soak;
 use law_shows::shows_are_states;
 use law_steps::refused_steps_change_nothing;
 use pg_command::{Command, CommandError, command_of};
+use pg_disk::Disk;
 use pg_event::Status;
 use pg_io::{Sink, Source};
 use pg_meter::Meter;
@@ -67,67 +40,33 @@ use std::alloc::Global;
 /// The meters that are handed in, where a replay has some; else none.
 fn handed(alloc: Global, metered: bool, meters: Vec<Box<dyn Meter>>) -> Vec<Box<dyn Meter>>
     ensures { map (λ m. reading (counts m) (counted m)) result.items
-        ≡ handed metered (map (λ m. reading (counts m) (counted m)) meters.items) }
+        ≡ written.handed metered (map (λ m. reading (counts m) (counted m)) meters.items) }
 {
     if metered { meters } else { Vec::new(alloc) }
 }
 
 /// Does what a command says.
-fn obey<S: Source, K: Sink, N: Net, C: Clock>(
+fn obey<S: Source, K: Sink, N: Net, D: Disk, C: Clock>(
     alloc: Global,
     command: Command,
     source: &mut S,
     sink: &mut K,
     net: &mut N,
+    disk: &mut D,
     clock: &mut C,
     meters: Vec<Box<dyn Meter>>,
 ) -> Status
-    requires { IsCommand command }
-    ensures done { result ≡ Status.Done
-        → Writes command (map (λ m. reading (counts m) (counted m)) meters.items)
-        (S.remaining source.old) (K.contents sink.old) (K.contents sink.new) }
-    ensures whole { IsReplay command → result ≡ Status.Done → IsAtEnd (S.remaining source.new) }
-    ensures whole_first { IsReplay command → result ≡ Status.WriteFault
-        → IsAtEnd (S.remaining source.new) }
-    ensures prefix { result ≡ Status.WriteFault
-        → WritesFront command (map (λ m. reading (counts m) (counted m)) meters.items)
-        (S.remaining source.old) (K.contents sink.old) (K.contents sink.new) }
-    ensures unread { ¬ (IsReplay command) → source.new ≡ source.old }
-    ensures untouched { ¬ (IsOfCall command) → result ≢ Status.Done → result ≢ Status.WriteFault
-        → sink.new ≡ sink.old }
-    ensures does { Does N.tells C.tells command result (N.told net.old) (N.told net.new)
-        (N.takes net.old) (N.takes net.new) (C.told clock.old) (C.told clock.new)
-        (K.contents sink.old) (K.contents sink.new) }
-    ensures silent { IsOfNode command → sink.new ≡ sink.old }
-    ensures same_net { ¬ (IsOfNode command) → ¬ (IsOfCall command) → net.new ≡ net.old }
-    ensures same_clock { ¬ (IsOfNode command) → clock.new ≡ clock.old }
-    ensures end { IsOfNode command → IsEnd (N.faults net.old) (N.faults net.new) result }
-    ensures net { result ≡ Status.NetFault → Rose (N.faults net.old) (N.faults net.new) }
-    ensures spent { result ≡ Status.TurnsSpent → ¬ (IsOfCall command) → IsOfNode command }
-    ensures refused_call { (n : ℕ) → result ≡ Status.Refused n → IsOfCall command }
-    ensures usage { (n : ℕ) → result ≢ Status.Usage n }
-    ensures read { result ≡ Status.ReadFault → Rose (S.faults source.old) (S.faults source.new) }
-    ensures write { result ≡ Status.WriteFault → Rose (K.faults sink.old) (K.faults sink.new) }
-    ensures long { result ≡ Status.InputLong → IfSome (S.remaining source.old) IsTooLong }
-    ensures short { (input : List ℕ) → IsReplay command → S.remaining source.old ≡ Some input
-        → IsTooLong input
-        → ¬ (Rose (S.faults source.old) (S.faults source.new))
-        → EndsOnly result Status.InputLong }
-    ensures bad { (n : ℕ) (f : Fault) → result ≡ Status.BadLine n f
-        → FirstBadIs (S.remaining source.old) n f }
-    ensures whole_bad { (n : ℕ) (f : Fault) → result ≡ Status.BadLine n f
-        → IsAtEnd (S.remaining source.new) }
-    ensures first_bad { (input : List ℕ) (n : ℕ) (f : Fault) → IsReplay command
-        → S.remaining source.old ≡ Some input → length input ≤ most_input → IsFirstBad input n f
-        → ¬ (Rose (S.faults source.old) (S.faults source.new))
-        → EndsOnly result (Status.BadLine n f) }
-    ensures complete { IsReplay command → IsGoodInput (S.remaining source.old)
-        → ¬ (Rose (S.faults source.old) (S.faults source.new))
-        → ¬ (Rose (K.faults sink.old) (K.faults sink.new))
-        → EndsOnly result Status.Done }
-    ensures complete_made { ¬ (IsReplay command) → ¬ (IsOfNode command) → ¬ (IsOfCall command)
-        → ¬ (Rose (K.faults sink.old) (K.faults sink.new))
-        → EndsOnly result Status.Done }
+    requires { wording.IsCommand command }
+    ensures { acts.Obeys N.tells C.tells D.tells command
+        (map (λ m. reading (counts m) (counted m)) meters.items) result
+        (seen (S.remaining source.old) (S.faults source.old) (K.contents sink.old)
+        (K.faults sink.old) (N.told net.old) (N.takes net.old) (N.faults net.old)
+        (D.told disk.old) (D.faults disk.old) (C.told clock.old))
+        (seen (S.remaining source.new) (S.faults source.new) (K.contents sink.new)
+        (K.faults sink.new) (N.told net.new) (N.takes net.new) (N.faults net.new)
+        (D.told disk.new) (D.faults disk.new) (C.told clock.new))
+        source.old source.new sink.old sink.new net.old net.new disk.old disk.new
+        clock.old clock.new }
 {
     match command {
         Command::Replay { metered } => {
@@ -140,81 +79,52 @@ fn obey<S: Source, K: Sink, N: Net, C: Clock>(
             server,
             servers,
             port,
+            name,
             turns,
-            ..
-        } => node(alloc, net, clock, server, servers, port, turns),
+        } => node(
+            alloc,
+            net,
+            disk,
+            clock,
+            server,
+            servers,
+            port,
+            name.as_slice(),
+            turns,
+        ),
         Command::Call {
             server,
             port,
             request,
         } => call(alloc, net, server, port, request, sink),
+        Command::Help(asked) => help(alloc, asked, sink),
     }
 }
 
 /// Does what the words ask for, or says which of them is at fault.
-fn dispatch<S: Source, K: Sink, N: Net, C: Clock>(
+fn heed<S: Source, K: Sink, N: Net, D: Disk, C: Clock>(
     alloc: Global,
     words: &Vec<String>,
     source: &mut S,
     sink: &mut K,
     net: &mut N,
+    disk: &mut D,
     clock: &mut C,
     meters: Vec<Box<dyn Meter>>,
 ) -> Status
-    ensures done { (command : Command) → Asks words.now command → result ≡ Status.Done
-        → Writes command (map (λ m. reading (counts m) (counted m)) meters.items)
-        (S.remaining source.old) (K.contents sink.old) (K.contents sink.new) }
-    ensures whole { AsksForReplay words.now → result ≡ Status.Done
-        → IsAtEnd (S.remaining source.new) }
-    ensures whole_first { AsksForReplay words.now → result ≡ Status.WriteFault
-        → IsAtEnd (S.remaining source.new) }
-    ensures prefix { (command : Command) → Asks words.now command → result ≡ Status.WriteFault
-        → WritesFront command (map (λ m. reading (counts m) (counted m)) meters.items)
-        (S.remaining source.old) (K.contents sink.old) (K.contents sink.new) }
-    ensures unread { ¬ (AsksForReplay words.now) → source.new ≡ source.old }
-    ensures untouched { ¬ (AsksForCall words.now) → result ≢ Status.Done
-        → result ≢ Status.WriteFault → sink.new ≡ sink.old }
-    ensures does { (command : Command) → Asks words.now command
-        → Does N.tells C.tells command result (N.told net.old) (N.told net.new)
-        (N.takes net.old) (N.takes net.new) (C.told clock.old) (C.told clock.new)
-        (K.contents sink.old) (K.contents sink.new) }
-    ensures silent { AsksForNode words.now → sink.new ≡ sink.old }
-    ensures same_net { ¬ (AsksForNode words.now) → ¬ (AsksForCall words.now)
-        → net.new ≡ net.old }
-    ensures same_clock { ¬ (AsksForNode words.now) → clock.new ≡ clock.old }
-    ensures end { AsksForNode words.now → IsEnd (N.faults net.old) (N.faults net.new) result }
-    ensures net { result ≡ Status.NetFault → Rose (N.faults net.old) (N.faults net.new) }
-    ensures spent { result ≡ Status.TurnsSpent → ¬ (AsksForCall words.now)
-        → AsksForNode words.now }
-    ensures refused_call { (n : ℕ) → result ≡ Status.Refused n → AsksForCall words.now }
-    ensures usage { (n : ℕ) → result ≡ Status.Usage n ↔ IsFault words.now n }
-    ensures read { result ≡ Status.ReadFault → Rose (S.faults source.old) (S.faults source.new) }
-    ensures write { result ≡ Status.WriteFault → Rose (K.faults sink.old) (K.faults sink.new) }
-    ensures limit { most_input ≡ 2 ^ 26 }
-    ensures long { result ≡ Status.InputLong → IfSome (S.remaining source.old) IsTooLong }
-    ensures short { (input : List ℕ) → AsksForReplay words.now → S.remaining source.old ≡ Some input
-        → IsTooLong input
-        → ¬ (Rose (S.faults source.old) (S.faults source.new))
-        → EndsOnly result Status.InputLong }
-    ensures bad { (n : ℕ) (f : Fault) → result ≡ Status.BadLine n f
-        → FirstBadIs (S.remaining source.old) n f }
-    ensures whole_bad { (n : ℕ) (f : Fault) → result ≡ Status.BadLine n f
-        → IsAtEnd (S.remaining source.new) }
-    ensures first_bad { (input : List ℕ) (n : ℕ) (f : Fault) → AsksForReplay words.now
-        → S.remaining source.old ≡ Some input → length input ≤ most_input → IsFirstBad input n f
-        → ¬ (Rose (S.faults source.old) (S.faults source.new))
-        → EndsOnly result (Status.BadLine n f) }
-    ensures complete { AsksForReplay words.now → IsGoodInput (S.remaining source.old)
-        → ¬ (Rose (S.faults source.old) (S.faults source.new))
-        → ¬ (Rose (K.faults sink.old) (K.faults sink.new))
-        → EndsOnly result Status.Done }
-    ensures complete_made { (numbers : Numbers)
-        → Asks words.now (Command.Make numbers) ⊎ Asks words.now (Command.Soak numbers)
-        → ¬ (Rose (K.faults sink.old) (K.faults sink.new))
-        → EndsOnly result Status.Done }
+    ensures { acts.Heeds N.tells C.tells D.tells words.now
+        (map (λ m. reading (counts m) (counted m)) meters.items) result
+        (seen (S.remaining source.old) (S.faults source.old) (K.contents sink.old)
+        (K.faults sink.old) (N.told net.old) (N.takes net.old) (N.faults net.old)
+        (D.told disk.old) (D.faults disk.old) (C.told clock.old))
+        (seen (S.remaining source.new) (S.faults source.new) (K.contents sink.new)
+        (K.faults sink.new) (N.told net.new) (N.takes net.new) (N.faults net.new)
+        (D.told disk.new) (D.faults disk.new) (C.told clock.new))
+        source.old source.new sink.old sink.new net.old net.new disk.old disk.new
+        clock.old clock.new }
 {
     match command_of(alloc, words) {
-        Ok(command) => obey(alloc, command, source, sink, net, clock, meters),
+        Ok(command) => obey(alloc, command, source, sink, net, disk, clock, meters),
         Err(error) => match error {
             CommandError::OutOfMemory => Status::OutOfMemory,
             CommandError::Usage(word) => Status::Usage(word),
@@ -223,198 +133,227 @@ fn dispatch<S: Source, K: Sink, N: Net, C: Clock>(
 }
 
 /// Does what the words ask for. Word 0 is the program's name.
-pub fn run<S: Source, K: Sink, N: Net, C: Clock>(
+pub fn run<S: Source, K: Sink, N: Net, D: Disk, C: Clock>(
     alloc: Global,
     words: &Vec<String>,
     source: &mut S,
     sink: &mut K,
     net: &mut N,
+    disk: &mut D,
     clock: &mut C,
     meters: Vec<Box<dyn Meter>>,
 ) -> Status
     // What is written: of a schedule that is read the spelling of the lines of its run, each of
     // them a line of a journal; so it is read again. Of made schedules their text, and what came of
     // their run.
-    ensures done { (command : Command) → Asks words.now command → result ≡ Status.Done
-        → Writes command (map (λ m. reading (counts m) (counted m)) meters.items)
+    ensures done { (command : Command) → wording.Asks words.now command → result ≡ Status.Done
+        → written.Writes command (map (λ m. reading (counts m) (counted m)) meters.items)
         (S.remaining source.old) (K.contents sink.old) (K.contents sink.new) }
-    ensures whole { AsksForReplay words.now → result ≡ Status.Done
+    ensures whole { wording.AsksForReplay words.now → result ≡ Status.Done
         → IsAtEnd (S.remaining source.new) }
-    ensures whole_first { AsksForReplay words.now → result ≡ Status.WriteFault
+    ensures whole_first { wording.AsksForReplay words.now → result ≡ Status.WriteFault
         → IsAtEnd (S.remaining source.new) }
-    ensures prefix { (command : Command) → Asks words.now command → result ≡ Status.WriteFault
-        → WritesFront command (map (λ m. reading (counts m) (counted m)) meters.items)
+    ensures prefix { (command : Command) → wording.Asks words.now command
+        → result ≡ Status.WriteFault
+        → written.WritesFront command (map (λ m. reading (counts m) (counted m)) meters.items)
         (S.remaining source.old) (K.contents sink.old) (K.contents sink.new) }
-    ensures unread { ¬ (AsksForReplay words.now) → source.new ≡ source.old }
-    ensures untouched { ¬ (AsksForCall words.now) → result ≢ Status.Done
+    ensures unread { ¬ (wording.AsksForReplay words.now) → source.new ≡ source.old }
+    ensures untouched { ¬ (wording.AsksForCall words.now) → result ≢ Status.Done
         → result ≢ Status.WriteFault → sink.new ≡ sink.old }
 
-    // What a node and a call do: a node sends what its server sends behind the inputs that it took,
-    // with the moments and words that the clock gave; a call sends one packet, and writes the first
-    // reply to it among ten takes. A node writes nothing; no other command touches the net, and
-    // none the clock.
-    ensures does { (command : Command) → Asks words.now command
-        → Does N.tells C.tells command result (N.told net.old) (N.told net.new)
+    // What a node and a call do: a node takes up what the log of its name keeps, and sends what its
+    // server sends behind the inputs that it took, with the moments and words that the clock gave,
+    // each appended before its packets go; a call sends one packet, and writes the first reply to
+    // it among ten takes. A node writes nothing; no other command touches the net, and none the
+    // disk or the clock.
+    ensures does { (command : Command) → wording.Asks words.now command
+        → outside.Does N.tells C.tells D.tells command result (N.told net.old) (N.told net.new)
         (N.takes net.old) (N.takes net.new) (C.told clock.old) (C.told clock.new)
-        (K.contents sink.old) (K.contents sink.new) }
-    ensures silent { AsksForNode words.now → sink.new ≡ sink.old }
-    ensures same_net { ¬ (AsksForNode words.now) → ¬ (AsksForCall words.now)
+        (D.told disk.old) (D.told disk.new) (K.contents sink.old) (K.contents sink.new) }
+    ensures silent { wording.AsksForNode words.now → sink.new ≡ sink.old }
+    ensures same_net { ¬ (wording.AsksForNode words.now) → ¬ (wording.AsksForCall words.now)
         → net.new ≡ net.old }
-    ensures same_clock { ¬ (AsksForNode words.now) → clock.new ≡ clock.old }
+    ensures same_disk { ¬ (wording.AsksForNode words.now) → disk.new ≡ disk.old }
+    ensures same_clock { ¬ (wording.AsksForNode words.now) → clock.new ≡ clock.old }
+
+    // A node that is stopped at any moment, within a write too, has all inputs of its old log and
+    // the first of its own; and as it ends, with whatever status, those of which a packet was sent.
+    ensures crash { (command : Command) → wording.Asks words.now command
+        → outside.IsSafe N.tells D.tells command (N.told net.old) (N.told net.new)
+        (D.told disk.old) (D.told disk.new) }
 
     // Meters change nothing of a journal but their own lines, and which lines are void for want of
     // one.
-    ensures alike { (servers : ℕ) → JournalsAreAlike servers }
+    ensures alike { (servers : ℕ) → laws.JournalsAreAlike servers }
 
     // What each server took is what it made, what was delivered to it, and what was there from the
     // start on; places and flags are so by replica. What it holds is the state of exactly that:
     // contents, and names. And so is what it shows.
-    ensures took { (servers : ℕ) → TakesWhatCame servers }
-    ensures took_by { (servers : ℕ) → ReplicasTookWhatCame servers }
-    ensures merge { (servers : ℕ) → servers < 2 ^ 32 → HoldsWhatItTook servers }
-    ensures names { (servers : ℕ) → servers < 2 ^ 32 → NamesMerge servers }
-    ensures shows { (servers : ℕ) → servers < 2 ^ 32 → ShowsAreStates servers }
-    ensures heads { (servers : ℕ) → servers < 2 ^ 32 → StateIsItsHeads servers }
-    ensures determined { (servers : ℕ) → servers < 2 ^ 32 → StateIsDetermined servers }
-    ensures determined_names { (servers : ℕ) → servers < 2 ^ 32 → NamesAreDetermined servers }
+    ensures took { (servers : ℕ) → laws.TakesWhatCame servers }
+    ensures took_by { (servers : ℕ) → laws.ReplicasTookWhatCame servers }
+    ensures merge { (servers : ℕ) → servers < 2 ^ 32 → laws.HoldsWhatItTook servers }
+    ensures names { (servers : ℕ) → servers < 2 ^ 32 → laws.NamesMerge servers }
+    ensures shows { (servers : ℕ) → servers < 2 ^ 32 → laws.ShowsAreStates servers }
+    ensures heads { (servers : ℕ) → servers < 2 ^ 32 → laws.StateIsItsHeads servers }
+    ensures determined { (servers : ℕ) → servers < 2 ^ 32 → laws.StateIsDetermined servers }
+    ensures determined_names { (servers : ℕ) → servers < 2 ^ 32 → laws.NamesAreDetermined servers }
 
     // The versions of a file are a history, whose ancestors vectors tell, and which messages carry.
     // Of one stamp there is one version, and one place of a thing; and no two versions or places
     // that were made have one. Clocks end before other numbers do.
-    ensures histories { (servers : ℕ) → servers < 2 ^ 32 → MakesHistories servers }
-    ensures one_version_a_stamp { (servers : ℕ) → servers < 2 ^ 32 → OneVersionAStamp servers }
-    ensures one_place { (servers : ℕ) → OnePlaceAStamp servers }
-    ensures one_stamp { (servers : ℕ) → servers < 2 ^ 32 → OneStampEach servers }
-    ensures ancestry { (servers : ℕ) → servers < 2 ^ 32 → AncestryByVectors servers }
-    ensures carried { (servers : ℕ) → servers < 2 ^ 32 → CarriesHistory servers }
-    ensures clock { (servers : ℕ) → servers < 2 ^ 32 → ClockEndsFirst servers }
+    ensures histories { (servers : ℕ) → servers < 2 ^ 32 → laws.MakesHistories servers }
+    ensures one_version_a_stamp { (servers : ℕ) → servers < 2 ^ 32 → laws.OneVersionAStamp servers }
+    ensures one_place { (servers : ℕ) → laws.OnePlaceAStamp servers }
+    ensures one_stamp { (servers : ℕ) → servers < 2 ^ 32 → laws.OneStampEach servers }
+    ensures ancestry { (servers : ℕ) → servers < 2 ^ 32 → laws.AncestryByVectors servers }
+    ensures carried { (servers : ℕ) → servers < 2 ^ 32 → laws.CarriesHistory servers }
+    ensures clock { (servers : ℕ) → servers < 2 ^ 32 → laws.ClockEndsFirst servers }
     // More than 1,024 bytes of a body go only to who asked for them; one server is asked at a time.
     // Who hears of a version first asks its sender for all of the body, and tells the peers of all
     // other edges. A replica keeps the latest of the deltas that it made or took, and a Want is
     // given the change that these lead to, where one does and is worth it.
-    ensures bodies { (servers : ℕ) → servers < 2 ^ 32 → BodiesAnswerWants servers }
-    ensures one_asked { (servers : ℕ) → servers < 2 ^ 32 → OneIsAskedAtATime servers }
-    ensures one_in_each { (servers : ℕ) → AnEventAsksOne servers }
-    ensures first_harbingers { (servers : ℕ) → FirstHarbingersAsk servers }
-    ensures kept_deltas { (servers : ℕ) → servers < 2 ^ 32 → KeepsWhatItMadeOrTook servers }
-    ensures given { (servers : ℕ) → servers < 2 ^ 32 → WantsGetTheShortestChange servers }
+    ensures bodies { (servers : ℕ) → servers < 2 ^ 32 → laws.BodiesAnswerWants servers }
+    ensures one_asked { (servers : ℕ) → servers < 2 ^ 32 → laws.OneIsAskedAtATime servers }
+    ensures one_in_each { (servers : ℕ) → laws.AnEventAsksOne servers }
+    ensures first_harbingers { (servers : ℕ) → laws.FirstHarbingersAsk servers }
+    ensures kept_deltas { (servers : ℕ) → servers < 2 ^ 32 → laws.KeepsWhatItMadeOrTook servers }
+    ensures given { (servers : ℕ) → servers < 2 ^ 32 → laws.WantsGetTheShortestChange servers }
 
-    // Behind every event names are as the house rules ask, and each server intends what it is to.
-    // Each line is events of the run, those of a settling among them. A tick sends what is owed and
-    // the walk that its word chooses, and is refused exactly at the clock's end.
-    ensures order { (servers : ℕ) → HouseIsInOrder servers }
-    ensures by_steps { (servers : ℕ) → RulesGoBySteps servers }
-    ensures events { (servers : ℕ) → LinesAreEvents servers }
-    ensures intends { (servers : ℕ) → IntentionsAreInOrder servers }
-    ensures confirms { (servers : ℕ) → servers < 2 ^ 32 → ConfirmsBeginAndStay servers }
-    ensures confirms_only { (servers : ℕ) → ConfirmsBeginOnly servers }
-    ensures in_turn { (servers : ℕ) → IntentionsBeginInTurn servers }
-    ensures owed { (servers : ℕ) → TicksSendWhatIsOwed servers }
+    // Behind every event names are as the house rules ask, which go by single steps, and each
+    // server intends what it is to; a Confirm begins where a place came of which nobody was sure,
+    // and for no other reason but a further view, and stands until it was told. Each line is events
+    // of the run, those of a settling among them. A tick sends what is owed and the walk that its
+    // word chooses, and is refused exactly at the clock's end.
+    ensures order { (servers : ℕ) → laws.HouseIsInOrder servers }
+    ensures by_steps { (servers : ℕ) → laws.RulesGoBySteps servers }
+    ensures events { (servers : ℕ) → laws.LinesAreEvents servers }
+    ensures intends { (servers : ℕ) → laws.IntentionsAreInOrder servers }
+    ensures confirms { (servers : ℕ) → servers < 2 ^ 32 → laws.ConfirmsBeginAndStay servers }
+    ensures confirms_only { (servers : ℕ) → laws.ConfirmsBeginOnly servers }
+    ensures in_turn { (servers : ℕ) → laws.IntentionsBeginInTurn servers }
+    ensures owed { (servers : ℕ) → laws.TicksSendWhatIsOwed servers }
     // A refused call changes nothing, but that what is not here yet is asked for: a wish may be
     // kept, and its Fetch be sent.
-    ensures refused { (servers : ℕ) → RefusalsChangeNothing servers }
-    ensures refused_steps { RefusedStepsChangeNothing }
+    ensures refused { (servers : ℕ) → laws.RefusalsChangeNothing servers }
+    ensures refused_steps { laws.RefusedStepsChangeNothing }
 
     // What a server knows of removals is the first of them, in their order, and never its own; it
     // has no edge to who is removed so. A message is of a view that its sender had, and in which it
     // was live.
-    ensures views { (servers : ℕ) → ViewsArePrefixes servers }
-    ensures messages_of_views { (servers : ℕ) → MessagesAreOfViews servers }
+    ensures views { (servers : ℕ) → laws.ViewsArePrefixes servers }
+    ensures messages_of_views { (servers : ℕ) → laws.MessagesAreOfViews servers }
 
     // A server that is not live takes nothing more, whatever follows: it stays as it was, and no
     // entry tells of an effect of it. No message to a removed one is under way.
-    ensures rests { (servers : ℕ) → RemovedServersRest servers }
-    ensures none_to_removed { (servers : ℕ) → NoneIsUnderWayToRemoved servers }
+    ensures rests { (servers : ℕ) → laws.RemovedServersRest servers }
+    ensures none_to_removed { (servers : ℕ) → laws.NoneIsUnderWayToRemoved servers }
 
     // After every event each full replica sees a live gold. A gold replica names with an edge each
     // other live gold that it sees, or seeks one; any other replica names one, or seeks one.
-    ensures golds { (servers : ℕ) → FullReplicasSeeGold servers }
-    ensures golds_are_linked { (servers : ℕ) → ReplicasNameGolds servers }
+    ensures golds { (servers : ℕ) → laws.FullReplicasSeeGold servers }
+    ensures golds_are_linked { (servers : ℕ) → laws.ReplicasNameGolds servers }
 
     // A server has one birth of a thing at a time, which was given out for nothing else, and
     // whoever names one names one that was given out. The greater has the edge; who accepts a
     // message that links its sender lists it; and what is acknowledged is had.
-    ensures known { (servers : ℕ) → BirthsAreKnown servers }
-    ensures one_birth_at_a_time { (servers : ℕ) → BirthsAreAlone servers }
-    ensures births_of_one_thing { (servers : ℕ) → BirthsAreOfOneThing servers }
-    ensures edges { (servers : ℕ) → GreaterBirthsReplaceEdges servers }
-    ensures linked { (servers : ℕ) → LinksNameTheSender servers }
-    ensures asked_linked { (servers : ℕ) → AsksLinkTheAsker servers }
-    ensures acked_is_had { (servers : ℕ) → servers < 2 ^ 32 → AcknowledgedKeysAreHad servers }
+    ensures known { (servers : ℕ) → laws.BirthsAreKnown servers }
+    ensures one_birth_at_a_time { (servers : ℕ) → laws.BirthsAreAlone servers }
+    ensures births_of_one_thing { (servers : ℕ) → laws.BirthsAreOfOneThing servers }
+    ensures edges { (servers : ℕ) → laws.GreaterBirthsReplaceEdges servers }
+    ensures linked { (servers : ℕ) → laws.LinksNameTheSender servers }
+    ensures asked_linked { (servers : ℕ) → laws.AsksLinkTheAsker servers }
+    ensures acked_is_had { (servers : ℕ) → servers < 2 ^ 32 → laws.AcknowledgedKeysAreHad servers }
 
     // Whoever lets a replica go leaves its whole state with another server that holds the thing,
     // and is not removed in its view. Of what went the birth is over; an edge that its peer heard
     // of is named back, or a Bye is owed, unless the edge's server is removed in the peer's view.
     // Each peer is told of a replica that goes.
-    ensures drops { (servers : ℕ) → servers < 2 ^ 32 → DropsAreSafe servers }
-    ensures gone_is_over { (servers : ℕ) → servers < 2 ^ 32 → WhatWentIsOver servers }
-    ensures heard { (servers : ℕ) → servers < 2 ^ 32 → HeardEdgesAreKnown servers }
-    ensures byes { (servers : ℕ) → servers < 2 ^ 32 → ByesAreOver servers }
-    ensures told { (servers : ℕ) → EachPeerIsTold servers }
+    ensures drops { (servers : ℕ) → servers < 2 ^ 32 → laws.DropsAreSafe servers }
+    ensures gone_is_over { (servers : ℕ) → servers < 2 ^ 32 → laws.WhatWentIsOver servers }
+    ensures heard { (servers : ℕ) → servers < 2 ^ 32 → laws.HeardEdgesAreKnown servers }
+    ensures byes { (servers : ℕ) → servers < 2 ^ 32 → laws.ByesAreOver servers }
+    ensures told { (servers : ℕ) → laws.EachPeerIsTold servers }
 
     // Quiet is told exactly where no message is under way, each live server has entered the last
     // removal, and none owes anything. There live servers that are joined agree, and where all are,
     // all do, and the names form one tree, in which each survivor is listed where it stands and
     // nowhere else, in no dead directory.
-    ensures quiet { QuietIsTold }
-    ensures joined { (servers : ℕ) → servers < 2 ^ 32 → QuietJoinedServersAgree servers }
-    ensures agree { (servers : ℕ) → servers < 2 ^ 32 → QuietServersAgree servers }
-    ensures tree { (servers : ℕ) → servers < 2 ^ 32 → QuietNamesFormATree servers }
+    ensures quiet { laws.QuietIsTold }
+    ensures joined { (servers : ℕ) → servers < 2 ^ 32 → laws.QuietJoinedServersAgree servers }
+    ensures agree { (servers : ℕ) → servers < 2 ^ 32 → laws.QuietServersAgree servers }
+    ensures tree { (servers : ℕ) → servers < 2 ^ 32 → laws.QuietNamesFormATree servers }
     ensures listed { (servers : ℕ) → servers < 2 ^ 32
-        → QuietThingsAreListedOnlyWhereTheyStand servers }
+        → laws.QuietThingsAreListedOnlyWhereTheyStand servers }
     ensures no_dead_parent { (servers : ℕ) → servers < 2 ^ 32
-        → QuietDirectoriesAreBroughtBack servers }
+        → laws.QuietDirectoriesAreBroughtBack servers }
 
     // So it is, with no premise on graphs, of what was kept: where between each two neighbouring
     // moments of a thing, its creation and the quiet ends of events, one replica of a live server
     // stayed gold, and none forgot the thing.
-    ensures kept { (servers : ℕ) → servers < 2 ^ 32 → KeptThingsAreConnected servers }
-    ensures kept_agree { (servers : ℕ) → servers < 2 ^ 32 → KeptServersAgree servers }
-    ensures kept_tree { (servers : ℕ) → servers < 2 ^ 32 → KeptNamesFormATree servers }
+    ensures kept { (servers : ℕ) → servers < 2 ^ 32 → laws.KeptThingsAreConnected servers }
+    ensures kept_agree { (servers : ℕ) → servers < 2 ^ 32 → laws.KeptServersAgree servers }
+    ensures kept_tree { (servers : ℕ) → servers < 2 ^ 32 → laws.KeptNamesFormATree servers }
     ensures kept_listed { (servers : ℕ) → servers < 2 ^ 32
-        → KeptThingsAreListedOnlyWhereTheyStand servers }
-    ensures kept_back { (servers : ℕ) → servers < 2 ^ 32 → KeptDirectoriesAreBroughtBack servers }
+        → laws.KeptThingsAreListedOnlyWhereTheyStand servers }
+    ensures kept_back { (servers : ℕ) → servers < 2 ^ 32
+        → laws.KeptDirectoriesAreBroughtBack servers }
 
     // Where a directory comes back, whoever removed it in an earlier event had not heard of the
     // places that it lists, unless it is removed in the view of who brings the directory back. It
     // lists a child then; and in the event of an rmdir or a forget no rule brings back what was
     // removed.
-    ensures justified { (servers : ℕ) → servers < 2 ^ 32 → ReturnsAreJustified servers }
-    ensures returns_list { (servers : ℕ) → servers < 2 ^ 32 → ReturnsList servers }
-    ensures removal_stays { (servers : ℕ) → RemovalsStay servers }
-    ensures forget_stays { (servers : ℕ) → ForgetsStay servers }
+    ensures justified { (servers : ℕ) → servers < 2 ^ 32 → laws.ReturnsAreJustified servers }
+    ensures returns_list { (servers : ℕ) → servers < 2 ^ 32 → laws.ReturnsList servers }
+    ensures removal_stays { (servers : ℕ) → laws.RemovalsStay servers }
+    ensures forget_stays { (servers : ℕ) → laws.ForgetsStay servers }
 
     // When it ends how.
-    ensures usage { (n : ℕ) → result ≡ Status.Usage n ↔ IsFault words.now n }
+    ensures usage { (n : ℕ) → result ≡ Status.Usage n ↔ wording.IsFault words.now n }
     ensures read { result ≡ Status.ReadFault → Rose (S.faults source.old) (S.faults source.new) }
     ensures write { result ≡ Status.WriteFault → Rose (K.faults sink.old) (K.faults sink.new) }
-    ensures end { AsksForNode words.now → IsEnd (N.faults net.old) (N.faults net.new) result }
+    ensures end { wording.AsksForNode words.now → IsEnd (N.faults net.old) (N.faults net.new)
+        (D.faults disk.old) (D.faults disk.new) result }
     ensures net { result ≡ Status.NetFault → Rose (N.faults net.old) (N.faults net.new) }
-    ensures spent { result ≡ Status.TurnsSpent → ¬ (AsksForCall words.now)
-        → AsksForNode words.now }
-    ensures refused_call { (n : ℕ) → result ≡ Status.Refused n → AsksForCall words.now }
-    ensures limit { most_input ≡ 2 ^ 26 }
-    ensures long { result ≡ Status.InputLong → IfSome (S.remaining source.old) IsTooLong }
-    ensures short { (input : List ℕ) → AsksForReplay words.now → S.remaining source.old ≡ Some input
-        → IsTooLong input
+    ensures disk { result ≡ Status.DiskFault → Rose (D.faults disk.old) (D.faults disk.new) }
+    // A node ends so by the log of its name, exactly where this is bad, or good and another's.
+    ensures log { (command : Command) → wording.Asks words.now command → D.tells
+        → outside.Answers command (N.faults net.old) (N.faults net.new) (D.faults disk.old)
+        (D.faults disk.new) (D.told disk.old) result }
+    ensures bad_log { (place : ℕ) → result ≡ Status.BadLog place → wording.AsksForNode words.now }
+    ensures other_log { (server servers : ℕ) → result ≡ Status.OtherLog server servers
+        → wording.AsksForNode words.now }
+    ensures spent { result ≡ Status.TurnsSpent → ¬ (wording.AsksForCall words.now)
+        → wording.AsksForNode words.now }
+    ensures refused_call { (n : ℕ) → result ≡ Status.Refused n → wording.AsksForCall words.now }
+    ensures limit { written.most_input ≡ 2 ^ 26 }
+    ensures long { result ≡ Status.InputLong → IfSome (S.remaining source.old) written.IsTooLong }
+    ensures short { (input : List ℕ) → wording.AsksForReplay words.now
+        → S.remaining source.old ≡ Some input
+        → written.IsTooLong input
         → ¬ (Rose (S.faults source.old) (S.faults source.new))
-        → EndsOnly result Status.InputLong }
+        → ending.EndsOnly result Status.InputLong }
     ensures bad { (n : ℕ) (f : Fault) → result ≡ Status.BadLine n f
-        → FirstBadIs (S.remaining source.old) n f }
+        → ending.FirstBadIs (S.remaining source.old) n f }
     ensures whole_bad { (n : ℕ) (f : Fault) → result ≡ Status.BadLine n f
         → IsAtEnd (S.remaining source.new) }
-    ensures first_bad { (input : List ℕ) (n : ℕ) (f : Fault) → AsksForReplay words.now
-        → S.remaining source.old ≡ Some input → length input ≤ most_input → IsFirstBad input n f
+    ensures first_bad { (input : List ℕ) (n : ℕ) (f : Fault) → wording.AsksForReplay words.now
+        → S.remaining source.old ≡ Some input → length input ≤ written.most_input
+        → IsFirstBad input n f
         → ¬ (Rose (S.faults source.old) (S.faults source.new))
-        → EndsOnly result (Status.BadLine n f) }
-    ensures complete { AsksForReplay words.now → IsGoodInput (S.remaining source.old)
+        → ending.EndsOnly result (Status.BadLine n f) }
+    ensures complete { wording.AsksForReplay words.now
+        → written.IsGoodInput (S.remaining source.old)
         → ¬ (Rose (S.faults source.old) (S.faults source.new))
         → ¬ (Rose (K.faults sink.old) (K.faults sink.new))
-        → EndsOnly result Status.Done }
+        → ending.EndsOnly result Status.Done }
     ensures complete_made { (numbers : Numbers)
-        → Asks words.now (Command.Make numbers) ⊎ Asks words.now (Command.Soak numbers)
+        → wording.Asks words.now (Command.Make numbers) ⊎ wording.Asks words.now (Command.Soak
+        numbers)
         → ¬ (Rose (K.faults sink.old) (K.faults sink.new))
-        → EndsOnly result Status.Done }
+        → ending.EndsOnly result Status.Done }
+    ensures complete_help { (help : Help) → wording.Asks words.now (Command.Help help)
+        → ¬ (Rose (K.faults sink.old) (K.faults sink.new))
+        → ending.EndsOnly result Status.Done }
 {
     // The laws of every run: these calls say what holds, and do nothing.
     laws_of_runs();
@@ -423,5 +362,5 @@ pub fn run<S: Source, K: Sink, N: Net, C: Clock>(
     journals_are_alike();
     shows_are_states();
 
-    dispatch(alloc, words, source, sink, net, clock, meters)
+    heed(alloc, words, source, sink, net, disk, clock, meters)
 }

@@ -1,33 +1,38 @@
 //! Pangaea: what its servers do, replayed from a schedule, and done by nodes that run.
 //!
-//! `command` has `run`, with all that is promised; `replay`, `make`, `soak`, `node` and `call` are
-//! the commands, one module each, and `laws` ties the lines of a schedule to the events of its run.
-//! `citing` joins the laws of all runs: what each stands on the others say.
-//! What words ask for, and which is at fault, `pg_command` says; `advice` says what to do about it.
+//! `command` has `run`, with all that is promised; `replay`, `make`, `soak`, `node`, `call` and
+//! `help` are the commands, one module each, and `laws` ties the lines of a schedule to the events
+//! of its run. `citing` joins the laws of all runs: what each stands on the others say. What words
+//! ask for, and which is at fault, `pg_command` says; `advice` says what to do about it.
 //!
 //! `main` alone touches the system: it gathers the words, hands in the streams, the net of this
-//! machine, its clock and one meter of each kind, and ends with the status.
+//! machine, its files, its clock and one meter of each kind, and ends with the status. A node's
+//! files stand in the folder where the program was called, under the node's name.
 //!
-//! Definitions: `specs/Written` (what each command writes), `Outside` (what it does on a net and a
-//! clock), `Ending`. A further command: its words and slots in `pg_command`, an arm of `Writes` and
-//! of `Does`, and a module of its own.
+//! Definitions: `specs/Written` (what each command writes), `Outside` (what it does on a net, a
+//! disk and a clock, and what a crash leaves), `Acts` (all that a command does, in one record for
+//! each kind), `Ending`, `Promises` (what holds of every run). A further command: its words and
+//! slots in `pg_command`, an arm of `Acts` and of `Keeps`, and a module of its own.
 #![tactic(auto)]
 
 mod advice;
 mod call;
 mod citing;
 mod command;
+mod help;
 mod laws;
 mod make;
 mod node;
 mod replay;
 mod soak;
 
-use advice::{advice, port};
+use advice::{advice, name, port};
 pub use call::call;
 pub use command::run;
+pub use help::help;
 pub use make::make;
 pub use node::node;
+use pg_disk::FileDisk;
 use pg_event::{MeterKind, Status};
 use pg_io::{Reading, Writing};
 use pg_meter::{Counter, Meter};
@@ -56,7 +61,8 @@ fn wordless(error: &io::Error) -> Status {
     }
 }
 
-/// Does what the words ask for, on this machine's net, with its clock and one meter of each kind.
+/// Does what the words ask for, on this machine's net and files, with its clock and one meter of
+/// each kind.
 fn obey(rt: &HostRuntime, words: &Vec<String>) -> Result<Status, AllocError> {
     let alloc = rt.alloc();
     let mut meters: Vec<Box<dyn Meter>> = Vec::new(alloc);
@@ -66,6 +72,7 @@ fn obey(rt: &HostRuntime, words: &Vec<String>) -> Result<Status, AllocError> {
     let mut source = Reading::new(rt.stdin());
     let mut sink = Writing::new(rt.stdout());
     let mut net = UdpNet::new(rt);
+    let mut disk = FileDisk::new(alloc, rt);
     let mut clock = SystemClock::new(rt);
     Ok(run(
         alloc,
@@ -73,6 +80,7 @@ fn obey(rt: &HostRuntime, words: &Vec<String>) -> Result<Status, AllocError> {
         &mut source,
         &mut sink,
         &mut net,
+        &mut disk,
         &mut clock,
         meters,
     ))
@@ -83,10 +91,18 @@ fn tell(rt: &HostRuntime, words: &Vec<String>, status: Status) {
     if status != Status::Done {
         let _ = eprintln!(rt; "pangaea: {status}");
     }
-    if status == Status::NetFault {
-        if let Some(port) = port(words) {
-            let _ = eprintln!(rt; "at port {port} of 127.0.0.1");
+    match status {
+        Status::NetFault => {
+            if let Some(port) = port(words) {
+                let _ = eprintln!(rt; "at port {port} of 127.0.0.1");
+            }
         }
+        Status::DiskFault | Status::BadLog(_) | Status::OtherLog(_, _) => {
+            if let Some(name) = name(words) {
+                let _ = eprintln!(rt; "at the file {name}.log of this folder");
+            }
+        }
+        _ => {}
     }
     if let Some(advice) = advice(words, status) {
         let _ = eprintln!(rt; "{advice}");
@@ -97,6 +113,7 @@ fn tell(rt: &HostRuntime, words: &Vec<String>, status: Status) {
         let _ = eprintln!(rt; "       pangaea soak SEED SERVERS EVENTS");
         let _ = eprintln!(rt; "       pangaea node SERVER SERVERS PORT NAME TURNS");
         let _ = eprintln!(rt; "       pangaea call SERVER PORT ASKED ..");
+        let _ = eprintln!(rt; "       pangaea [COMMAND] --help");
     }
 }
 

@@ -1,9 +1,9 @@
 //! A schedule is made and written.
 
-ghost use Rattle.std.specs.Prelude.{◌≡◌, ◌≢◌, ◌≤◌, ◌⊎◌};
+ghost use Rattle.std.specs.Prelude.{◌≡◌, ◌≢◌, ◌≤◌};
 ghost use Rattle.std.specs.Io.KnownBytes.{Appends};
-ghost use Rattle.pangaea.specs.Ending.{EndsOnly};
-ghost use Rattle.pangaea.specs.Written.{AppendsPrefix};
+ghost use Rattle.pangaea.specs.Ending as ending;
+ghost use Rattle.pangaea.specs.Written as written;
 ghost use Rattle.pg_io.specs.Causes.{Rose};
 ghost use Rattle.pg_sched.specs.Schedule.{IsCount};
 ghost use Rattle.pg_make.specs.Made.{made_text};
@@ -30,13 +30,13 @@ pub fn make<K: Sink>(
     ensures done { result ≡ Status.Done → Appends (K.contents sink.old) (K.contents sink.new)
         (made_text seed servers events) }
     ensures prefix { result ≡ Status.WriteFault
-        → AppendsPrefix (K.contents sink.old) (K.contents sink.new)
+        → written.AppendsPrefix (K.contents sink.old) (K.contents sink.new)
         (made_text seed servers events) }
     ensures untouched { result ≢ Status.Done → result ≢ Status.WriteFault → sink.new ≡ sink.old }
     ensures write { result ≡ Status.WriteFault → Rose (K.faults sink.old) (K.faults sink.new) }
-    ensures ends { (result ≡ Status.WriteFault) ⊎ EndsOnly result Status.Done }
+    ensures ends { ending.IsTextEnd result }
     ensures complete { ¬ (Rose (K.faults sink.old) (K.faults sink.new))
-        → EndsOnly result Status.Done }
+        → ending.EndsOnly result Status.Done }
 {
     let mut text = Bytes::new(alloc);
     let Ok(()) = schedule(alloc, seed, servers, events, &mut text) else {

@@ -3,9 +3,8 @@
 ghost use Rattle.std.specs.Prelude.{◌≡◌, ◌≢◌, ◌≤◌, ◌^◌, ℕ, List, IfSome, Some, length, map};
 ghost use Rattle.std.specs.Io.KnownBytes.{IsAtEnd};
 ghost use Rattle.pangaea.specs.AllLaws.{LawsOfRuns};
-ghost use Rattle.pangaea.specs.Ending.{EndsOnly, FirstBadIs};
-ghost use Rattle.pangaea.specs.Outside.{IsFileEnd};
-ghost use Rattle.pangaea.specs.Written.{IsGoodInput, IsTooLong, WritesAll, WritesPrefix, most_input};
+ghost use Rattle.pangaea.specs.Ending as ending;
+ghost use Rattle.pangaea.specs.Written as written;
 ghost use Rattle.pg_call.specs.declared.fault.Fault.{Fault};
 ghost use Rattle.pg_io.specs.Causes.{Rose};
 ghost use Rattle.pg_meter.specs.Note.{reading};
@@ -34,12 +33,12 @@ pub fn replay<S: Source, K: Sink>(
     // What is written: the spelling of the lines of the run, each of them a line of a journal; so
     // it is read again.
     ensures done { result ≡ Status.Done
-        → WritesAll (map (λ m. reading (counts m) (counted m)) meters.items)
+        → written.WritesAll (map (λ m. reading (counts m) (counted m)) meters.items)
         (S.remaining source.old) (K.contents sink.old) (K.contents sink.new) }
     ensures whole { result ≡ Status.Done → IsAtEnd (S.remaining source.new) }
     ensures whole_first { result ≡ Status.WriteFault → IsAtEnd (S.remaining source.new) }
     ensures prefix { result ≡ Status.WriteFault
-        → WritesPrefix (map (λ m. reading (counts m) (counted m)) meters.items)
+        → written.WritesPrefix (map (λ m. reading (counts m) (counted m)) meters.items)
         (S.remaining source.old) (K.contents sink.old) (K.contents sink.new) }
     ensures untouched { result ≢ Status.Done → result ≢ Status.WriteFault → sink.new ≡ sink.old }
 
@@ -53,25 +52,25 @@ pub fn replay<S: Source, K: Sink>(
     // When it ends how.
     ensures read { result ≡ Status.ReadFault → Rose (S.faults source.old) (S.faults source.new) }
     ensures write { result ≡ Status.WriteFault → Rose (K.faults sink.old) (K.faults sink.new) }
-    ensures limit { most_input ≡ 2 ^ 26 }
-    ensures long { result ≡ Status.InputLong → IfSome (S.remaining source.old) IsTooLong }
-    ensures short { (input : List ℕ) → S.remaining source.old ≡ Some input → IsTooLong input
+    ensures limit { written.most_input ≡ 2 ^ 26 }
+    ensures long { result ≡ Status.InputLong → IfSome (S.remaining source.old) written.IsTooLong }
+    ensures short { (input : List ℕ) → S.remaining source.old ≡ Some input → written.IsTooLong input
         → ¬ (Rose (S.faults source.old) (S.faults source.new))
-        → EndsOnly result Status.InputLong }
+        → ending.EndsOnly result Status.InputLong }
     ensures bad { (n : ℕ) (f : Fault) → result ≡ Status.BadLine n f
-        → FirstBadIs (S.remaining source.old) n f }
+        → ending.FirstBadIs (S.remaining source.old) n f }
     ensures whole_bad { (n : ℕ) (f : Fault) → result ≡ Status.BadLine n f
         → IsAtEnd (S.remaining source.new) }
     ensures first_bad { (input : List ℕ) (n : ℕ) (f : Fault) → S.remaining source.old ≡ Some input
-        → length input ≤ most_input → IsFirstBad input n f
+        → length input ≤ written.most_input → IsFirstBad input n f
         → ¬ (Rose (S.faults source.old) (S.faults source.new))
-        → EndsOnly result (Status.BadLine n f) }
+        → ending.EndsOnly result (Status.BadLine n f) }
     ensures usage { (n : ℕ) → result ≢ Status.Usage n }
-    ensures ends { IsFileEnd result }
-    ensures complete { IsGoodInput (S.remaining source.old)
+    ensures ends { ending.IsFileEnd result }
+    ensures complete { written.IsGoodInput (S.remaining source.old)
         → ¬ (Rose (S.faults source.old) (S.faults source.new))
         → ¬ (Rose (K.faults sink.old) (K.faults sink.new))
-        → EndsOnly result Status.Done }
+        → ending.EndsOnly result Status.Done }
 {
     laws_of_runs();
     journals_are_alike();

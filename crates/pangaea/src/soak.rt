@@ -1,9 +1,9 @@
 //! A made schedule is run, and what came of it is written.
 
-ghost use Rattle.std.specs.Prelude.{◌≡◌, ◌≢◌, ◌≤◌, ◌⊎◌};
+ghost use Rattle.std.specs.Prelude.{◌≡◌, ◌≢◌, ◌≤◌};
 ghost use Rattle.std.specs.Io.KnownBytes.{Appends};
-ghost use Rattle.pangaea.specs.Ending.{EndsOnly};
-ghost use Rattle.pangaea.specs.Written.{AppendsPrefix};
+ghost use Rattle.pangaea.specs.Ending as ending;
+ghost use Rattle.pangaea.specs.Written as written;
 ghost use Rattle.pg_io.specs.Causes.{Rose};
 ghost use Rattle.pg_sched.specs.Schedule.{IsCount};
 ghost use Rattle.pg_replay.specs.Soaking.{soak_text};
@@ -29,13 +29,13 @@ pub fn soak<K: Sink>(
     ensures done { result ≡ Status.Done → Appends (K.contents sink.old) (K.contents sink.new)
         (soak_text seed servers events) }
     ensures prefix { result ≡ Status.WriteFault
-        → AppendsPrefix (K.contents sink.old) (K.contents sink.new)
+        → written.AppendsPrefix (K.contents sink.old) (K.contents sink.new)
         (soak_text seed servers events) }
     ensures untouched { result ≢ Status.Done → result ≢ Status.WriteFault → sink.new ≡ sink.old }
     ensures write { result ≡ Status.WriteFault → Rose (K.faults sink.old) (K.faults sink.new) }
-    ensures ends { (result ≡ Status.WriteFault) ⊎ EndsOnly result Status.Done }
+    ensures ends { ending.IsTextEnd result }
     ensures complete { ¬ (Rose (K.faults sink.old) (K.faults sink.new))
-        → EndsOnly result Status.Done }
+        → ending.EndsOnly result Status.Done }
 {
     let Ok(text) = summary_of(alloc, seed, servers, events) else {
         return Status::OutOfMemory;

@@ -1,8 +1,9 @@
-//! Meters that are handed in, sinks that fail in mid-stream, and nodes and calls over nets in
-//! memory.
+//! Meters that are handed in, sinks that fail in mid-stream, help, and nodes and calls over nets
+//! and disks in memory.
 
 use super::*;
 use pg_call::Fault;
+use pg_disk::{Disk, MemoryDisk};
 use pg_event::MeterKind;
 use pg_io::{MemorySink, MemorySource};
 use pg_meter::{Counter, Note};
@@ -65,8 +66,10 @@ impl Meter for Counted {
 #[test]
 fn drops_each_meter_once(rt: HostRuntime) -> Result<(), Fail> {
     let alloc = rt.alloc();
-    let rows: [(&[&str], &[u8], &[u64], Status); 11] = [
+    let rows: [(&[&str], &[u8], &[u64], Status); 13] = [
         (&[], METERED, &[], Status::Usage(1)),
+        (&["node", "--help"], b"", &[], Status::Done),
+        (&["--help"], b"", &[3], Status::WriteFault),
         (&["replay"], METERED, &[], Status::Done),
         (&["replay", "--meters"], METERED, &[], Status::Done),
         (&["replay", "--meters"], METERED, &[3], Status::WriteFault),
@@ -107,6 +110,7 @@ fn drops_each_meter_once(rt: HostRuntime) -> Result<(), Fail> {
             meters.push(Box::new(alloc, meter)?)?;
         }
         let mut net = MemoryNet::new(alloc, Vec::new(alloc), Vec::new(alloc));
+        let mut disk = MemoryDisk::new(alloc, Vec::new(alloc));
         let mut clock = MemoryClock::new(Vec::new(alloc), Vec::new(alloc));
         let ended = run(
             alloc,
@@ -114,6 +118,7 @@ fn drops_each_meter_once(rt: HostRuntime) -> Result<(), Fail> {
             &mut source,
             &mut sink,
             &mut net,
+            &mut disk,
             &mut clock,
             meters,
         );
@@ -140,12 +145,49 @@ const MADE: &[u8] = b"\x02d\0\0\0\x01\0\0\0\0\0\0\0\x01";
 
 const BAD_PATH: &[u8] = b"\x09\x01\x01";
 
+/// How a client's packet with number 2 begins.
+const CALL_TWO: &[u8] = b"PG\x01\x1b\0\0\0\0\0\0\0\0\0\0\0\0\0\0\0\0\0\0\0\x02";
+
+const STOP: &[u8] = b"\x12";
+
+/// The root's first names.
+const LS: &[u8] = b"\x07\0\x01/\0\0\0\0";
+
+const DONE: &[u8] = b"\x01";
+
+/// One name of one, `a`, which is d1.1.
+const NAMES: &[u8] = b"\x05\0\0\0\x01\x01\0\x01ad\0\0\0\x01\0\0\0\0\0\0\0\x01";
+
 /// A net that gives one packet of these parts, from port 700, and whose calls with these numbers
 /// fail.
 fn net_with(alloc: Global, parts: &[&[u8]], fails: &[u64]) -> Result<MemoryNet, Fail> {
     let mut packets = Vec::new(alloc);
     packets.push(Datagram::new(700, joined(alloc, parts)?))?;
     Ok(MemoryNet::new(alloc, packets, fails.to_vec(alloc)?))
+}
+
+/// A net that gives a call of these parts, and then a stop.
+fn net_and_stop(alloc: Global, parts: &[&[u8]]) -> Result<MemoryNet, Fail> {
+    let mut packets = Vec::new(alloc);
+    packets.push(Datagram::new(700, joined(alloc, parts)?))?;
+    packets.push(Datagram::new(700, joined(alloc, &[CALL_TWO, STOP])?))?;
+    Ok(MemoryNet::new(alloc, packets, Vec::new(alloc)))
+}
+
+/// Whether just two packets were sent, to port 700: the first of these parts, and then that all is
+/// done.
+fn answered(alloc: Global, net: &MemoryNet, parts: &[&[u8]]) -> Result<bool, Fail> {
+    let first = joined(alloc, parts)?;
+    let second = joined(alloc, &[REPLY, SECOND, DONE])?;
+    let [one, two] = net.sent() else {
+        return Ok(false);
+    };
+    Ok(
+        one.port() == 700
+            && two.port() == 700
+            && one.bytes() == first.as_slice()
+            && two.bytes() == second.as_slice(),
+    )
 }
 
 fn joined(alloc: Global, parts: &[&[u8]]) -> Result<Vec<u8>, Fail> {
@@ -165,11 +207,24 @@ fn sent(alloc: Global, net: &MemoryNet, port: u16, parts: &[&[u8]]) -> Result<bo
     Ok(packet.port() == port && packet.bytes() == bytes.as_slice())
 }
 
-/// How the words end over this net, at moment 10, and whether just this was written.
+/// How the words end over this net and an empty disk, at moment 10, and whether just this was
+/// written.
 fn ends(
     alloc: Global,
     words: &[&str],
     net: &mut MemoryNet,
+    written: &[u8],
+) -> Result<(Status, bool), Fail> {
+    let mut disk = MemoryDisk::new(alloc, Vec::new(alloc));
+    ends_over(alloc, words, net, &mut disk, written)
+}
+
+/// The same over this disk.
+fn ends_over(
+    alloc: Global,
+    words: &[&str],
+    net: &mut MemoryNet,
+    disk: &mut MemoryDisk,
     written: &[u8],
 ) -> Result<(Status, bool), Fail> {
     let words = command(alloc, words)?;
@@ -184,6 +239,7 @@ fn ends(
         &mut source,
         &mut sink,
         net,
+        disk,
         &mut clock,
         Vec::new(alloc),
     );
@@ -248,5 +304,59 @@ fn words_at_fault(rt: HostRuntime) -> Result<(), Fail> {
         assert!(rt; ends(alloc, words, &mut net, b"")? == (Status::Usage(place), true));
         assert!(rt; net.bound() == None && net.takes() == 0);
     }
+    Ok(())
+}
+
+/// A node that starts again on its disk has what its log keeps, and sends nothing of it again.
+#[test]
+fn a_node_starts_again(rt: HostRuntime) -> Result<(), Fail> {
+    let alloc = rt.alloc();
+    let words: &[&str] = &["node", "1", "1", "9000", "n", "9"];
+    let mut disk = MemoryDisk::new(alloc, Vec::new(alloc));
+    let mut net = net_and_stop(alloc, &[CALL, MKDIR])?;
+    assert!(rt; ends_over(alloc, words, &mut net, &mut disk, b"")? == (Status::Done, true));
+    assert!(rt; answered(alloc, &net, &[REPLY, FIRST, MADE])?);
+    let mut net = net_and_stop(alloc, &[CALL, LS])?;
+    assert!(rt; ends_over(alloc, words, &mut net, &mut disk, b"")? == (Status::Done, true));
+    assert!(rt; answered(alloc, &net, &[REPLY, FIRST, NAMES])?);
+    Ok(())
+}
+
+/// A log that is another's, or none at all, is told and left as it is; under another name the node
+/// begins anew.
+#[test]
+fn logs_that_are_not_taken(rt: HostRuntime) -> Result<(), Fail> {
+    let alloc = rt.alloc();
+    let mut disk = MemoryDisk::new(alloc, Vec::new(alloc));
+    let mut net = net_with(alloc, &[CALL, MKDIR], &[])?;
+    let begun = ends_over(
+        alloc,
+        &["node", "1", "2", "9000", "n", "0"],
+        &mut net,
+        &mut disk,
+        b"",
+    )?;
+    assert!(rt; begun == (Status::TurnsSpent, true));
+    let log = disk.bytes(0)?;
+    let rows: [(&[&str], Status); 3] = [
+        (
+            &["node", "2", "2", "9000", "n", "5"],
+            Status::OtherLog(1, 2),
+        ),
+        (
+            &["node", "1", "3", "9000", "n", "5"],
+            Status::OtherLog(1, 2),
+        ),
+        (&["node", "2", "2", "9000", "m", "0"], Status::TurnsSpent),
+    ];
+    for (words, status) in rows {
+        assert!(rt; ends_over(alloc, words, &mut net, &mut disk, b"")? == (status, true));
+    }
+    disk.choose("n").map_err(|_| Fail::from("choose"))?;
+    assert!(rt; disk.bytes(0)? == log);
+    disk.write_at(0, 0, b"q").map_err(|_| Fail::from("write"))?;
+    let words: &[&str] = &["node", "1", "2", "9000", "n", "5"];
+    assert!(rt; ends_over(alloc, words, &mut net, &mut disk, b"")? == (Status::BadLog(0), true));
+    assert!(rt; net.sent().is_empty());
     Ok(())
 }

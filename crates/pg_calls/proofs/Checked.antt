@@ -2,14 +2,14 @@
 use Rattle.std.proofs.Common.{◌≡◌, Bool, true, false, Result, Ok, Err, refl, ◌∙◌}
 use Rattle.pg_base.specs.declared.id.FileId.{FileId}
 use Rattle.pg_patch.specs.Ranges.{RangesValue}
-use Rattle.pg_replica.specs.Replica.{has_many_actors, is_too_long}
-use Rattle.pg_call.specs.declared.refusal.Refusal.{Refusal}
-use Rattle.pg_call.specs.declared.refusal.Refusal.TheVariants.{ManyActors, TooLong}
-use Rattle.pg_lookup.specs.declared.paths.LookupError.{LookupError}
-use Rattle.pg_lookup.specs.declared.paths.LookupError.TheVariants as stop
-use Rattle.pg_lookup.specs.Walk.{and_then}
-use Rattle.pg_store.specs.declared.store.Store.{Store}
-use Rattle.pg_store.specs.Store.{replica_of}
+use Rattle.pg_cells.specs.pg_replica.Replica.{has_many_actors, is_too_long}
+use Rattle.pg_cells.specs.pg_call.declared.refusal.Refusal.{Refusal}
+use Rattle.pg_cells.specs.pg_call.declared.refusal.Refusal.TheVariants.{ManyActors, TooLong}
+use Rattle.pg_checks.specs.pg_lookup.declared.paths.LookupError.{LookupError}
+use Rattle.pg_checks.specs.pg_lookup.declared.paths.LookupError.TheVariants as stop
+use Rattle.pg_checks.specs.pg_lookup.Walk.{and_then}
+use Rattle.pg_cells.specs.pg_store.declared.store.Store.{Store}
+use Rattle.pg_cells.specs.pg_store.Store.{replica_of}
 use Rattle.pg_checks.specs.Answer.{unless}
 use Rattle.pg_calls.specs.Bodies.{when_fit}
 

@@ -1,9 +1,9 @@
 -- Calls whose check does not go on: what is left of them.
 use Rattle.std.proofs.Common.{◌≡◌, ◌∙◌, Result, Err, sym, ap}
-use Rattle.pg_msg.specs.declared.work.Work.{Work}
-use Rattle.pg_call.specs.declared.reply.Reply.{Reply}
-use Rattle.pg_lookup.specs.declared.paths.LookupError.{LookupError}
-use Rattle.pg_store.specs.declared.store.Store.{Store}
+use Rattle.pg_cells.specs.pg_msg.declared.work.Work.{Work}
+use Rattle.pg_cells.specs.pg_call.declared.reply.Reply.{Reply}
+use Rattle.pg_checks.specs.pg_lookup.declared.paths.LookupError.{LookupError}
+use Rattle.pg_cells.specs.pg_store.declared.store.Store.{Store}
 use Rattle.pg_checks.specs.declared.call_error.CallError.{CallError}
 use Rattle.pg_checks.specs.declared.call_error.CallError.TheVariants as denied
 use Rattle.pg_checks.specs.Answer.{Answer, Leaves, Tells, answered}

@@ -4,18 +4,18 @@ use Rattle.std.specs.Option.{option_or}
 use Rattle.std.proofs.lemmas.Bool.{false≢true}
 use Rattle.std.proofs.lemmas.Option.{none-some}
 use Rattle.pg_base.specs.declared.id.FileId.{FileId}
-use Rattle.pg_intent.specs.declared.intent.Intent.{Intent}
-use Rattle.pg_intent.specs.declared.intent.Intent.TheVariants as intent
-use Rattle.pg_intent.specs.declared.key.IntentKey.TheVariants as key
-use Rattle.pg_intent.specs.Intent.{key_of}
-use Rattle.pg_intent.specs.Intents.{has_key, intent_at, stands}
-use Rattle.pg_intent.specs.Key.{is_same_key}
-use Rattle.pg_msg.specs.declared.work.Work.{Work}
-use Rattle.pg_call.specs.declared.call.Call.{Call}
-use Rattle.pg_call.specs.declared.refusal.Refusal.TheVariants.{NotYet}
-use Rattle.pg_store.specs.declared.store.Store.{Store}
-use Rattle.pg_store.specs.declared.wishes.Wish.{Wish}
-use Rattle.pg_store.specs.Births.{wish_at}
+use Rattle.pg_cells.specs.pg_intent.declared.intent.Intent.{Intent}
+use Rattle.pg_cells.specs.pg_intent.declared.intent.Intent.TheVariants as intent
+use Rattle.pg_cells.specs.pg_intent.declared.key.IntentKey.TheVariants as key
+use Rattle.pg_cells.specs.pg_intent.Intent.{key_of}
+use Rattle.pg_cells.specs.pg_intent.Intents.{has_key, intent_at, stands}
+use Rattle.pg_cells.specs.pg_intent.Key.{is_same_key}
+use Rattle.pg_cells.specs.pg_msg.declared.work.Work.{Work}
+use Rattle.pg_cells.specs.pg_call.declared.call.Call.{Call}
+use Rattle.pg_cells.specs.pg_call.declared.refusal.Refusal.TheVariants.{NotYet}
+use Rattle.pg_cells.specs.pg_store.declared.store.Store.{Store}
+use Rattle.pg_cells.specs.pg_store.declared.wishes.Wish.{Wish}
+use Rattle.pg_cells.specs.pg_store.Births.{wish_at}
 use Rattle.pg_checks.specs.Asking.{standing, wish_by}
 use Rattle.pg_calls.specs.Refused.{FilledKeepsNoWish}
 use Rattle.pg_calls.proofs.Refused.{refused_only_asks, same_file}

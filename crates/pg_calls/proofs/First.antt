@@ -5,8 +5,8 @@ use Rattle.pg_base.specs.declared.policy.Policy.TheVariants.{Last, Join}
 use Rattle.pg_patch.specs.Ranges.{RangesValue, applied}
 use Rattle.pg_content.specs.Content.{ContentValue}
 use Rattle.pg_content.specs.declared.error.WriteError.{WriteError}
-use Rattle.pg_replica.specs.declared.replica.Replica.{Replica}
-use Rattle.pg_replica.specs.Replica.{has_room, refusal_of}
+use Rattle.pg_cells.specs.pg_replica.declared.replica.Replica.{Replica}
+use Rattle.pg_cells.specs.pg_replica.Replica.{has_room, refusal_of}
 use Rattle.pg_calls.specs.Making.{first_ranges}
 
 -- a content without a version

@@ -4,17 +4,17 @@ use Rattle.std.proofs.lemmas.Bool.{and_parts, not-true}
 use Rattle.pg_base.specs.declared.id.FileId.{FileId}
 use Rattle.pg_base.specs.declared.id.Kind.{Kind}
 use Rattle.pg_base.proofs.Orders.{file_of_parts}
-use Rattle.pg_replica.specs.Replica.{has_room}
-use Rattle.pg_replica.specs.Replicas.{have_own_end}
-use Rattle.pg_replica.proofs.Ends.{room_without_end}
-use Rattle.pg_names.specs.Names.{is_dir, known}
-use Rattle.pg_house.specs.Returning.{is_root}
-use Rattle.pg_call.specs.declared.refusal.Refusal.TheVariants.{ClockEnd, IsDir, Root}
-use Rattle.pg_lookup.specs.declared.paths.LookupError.{LookupError}
-use Rattle.pg_lookup.specs.Walk.{and_then, reach, refused}
-use Rattle.pg_store.specs.declared.store.Store.{Store}
-use Rattle.pg_store.specs.Store.{has_time, is_before_clock_end, replica_of}
-use Rattle.pg_store.proofs.InTime.{files_in_time}
+use Rattle.pg_cells.specs.pg_replica.Replica.{has_room}
+use Rattle.pg_cells.specs.pg_replica.Replicas.{have_own_end}
+use Rattle.pg_cells.proofs.pg_replica.Ends.{room_without_end}
+use Rattle.pg_cells.specs.pg_names.Names.{is_dir, known}
+use Rattle.pg_cells.specs.pg_house.Returning.{is_root}
+use Rattle.pg_cells.specs.pg_call.declared.refusal.Refusal.TheVariants.{ClockEnd, IsDir, Root}
+use Rattle.pg_checks.specs.pg_lookup.declared.paths.LookupError.{LookupError}
+use Rattle.pg_checks.specs.pg_lookup.Walk.{and_then, reach, refused}
+use Rattle.pg_cells.specs.pg_store.declared.store.Store.{Store}
+use Rattle.pg_cells.specs.pg_store.Store.{has_time, is_before_clock_end, replica_of}
+use Rattle.pg_cells.proofs.pg_store.InTime.{files_in_time}
 use Rattle.pg_checks.specs.declared.checks.Move.{Move}
 use Rattle.pg_checks.specs.declared.checks.NewName.{NewName}
 use Rattle.pg_checks.specs.Answer.{unless}

@@ -5,7 +5,7 @@ use Rattle.std.proofs.lemmas.Bool.{false≢true}
 use Rattle.std.proofs.lemmas.Option.{none-some}
 use Rattle.pg_base.specs.declared.id.FileId.{FileId}
 use Rattle.pg_entries.specs.declared.entry.Entry.{Entry}
-use Rattle.pg_names.specs.Names.{NamesValue, cell_at}
+use Rattle.pg_cells.specs.pg_names.Names.{NamesValue, cell_at}
 use Rattle.pg_register.specs.declared.place.Place.{Place}
 use Rattle.pg_checks.specs.Asking.{latest}
 use Rattle.pg_calls.specs.Forgetting.{dirs_of, has_cell_for, last_place, lists_by, lists_in, place_in, place_of}

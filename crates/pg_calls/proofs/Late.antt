@@ -3,21 +3,21 @@ use Rattle.std.proofs.Common.{◌≡◌, not, Bool, true, false, Result, Ok, Err
 use Rattle.pg_base.specs.declared.id.FileId.{FileId}
 use Rattle.pg_base.specs.declared.id.Kind.TheVariants.{Dir, File}
 use Rattle.pg_patch.specs.Ranges.{cut_to, written}
-use Rattle.pg_msg.specs.declared.work.Work.{Work}
-use Rattle.pg_call.specs.declared.call.Call.{Call}
-use Rattle.pg_call.specs.declared.call.Call.TheVariants as call
-use Rattle.pg_call.specs.declared.call.Target.{Target}
-use Rattle.pg_call.specs.declared.call.Target.TheVariants as target
-use Rattle.pg_call.specs.declared.refusal.Refusal.{Refusal}
-use Rattle.pg_call.specs.declared.refusal.Refusal.TheVariants.{ClockEnd, IsDir, Root}
-use Rattle.pg_names.specs.Names.{is_dir, known}
-use Rattle.pg_house.specs.Returning.{is_root}
-use Rattle.pg_lookup.specs.declared.paths.Found.{Found}
-use Rattle.pg_lookup.specs.declared.paths.LookupError.{LookupError}
-use Rattle.pg_lookup.specs.declared.paths.LookupError.TheVariants as stop
-use Rattle.pg_lookup.specs.Walk.{and_then, reach, refused}
-use Rattle.pg_store.specs.declared.store.Store.{Store}
-use Rattle.pg_store.specs.Store.{is_before_clock_end}
+use Rattle.pg_cells.specs.pg_msg.declared.work.Work.{Work}
+use Rattle.pg_cells.specs.pg_call.declared.call.Call.{Call}
+use Rattle.pg_cells.specs.pg_call.declared.call.Call.TheVariants as call
+use Rattle.pg_cells.specs.pg_call.declared.call.Target.{Target}
+use Rattle.pg_cells.specs.pg_call.declared.call.Target.TheVariants as target
+use Rattle.pg_cells.specs.pg_call.declared.refusal.Refusal.{Refusal}
+use Rattle.pg_cells.specs.pg_call.declared.refusal.Refusal.TheVariants.{ClockEnd, IsDir, Root}
+use Rattle.pg_cells.specs.pg_names.Names.{is_dir, known}
+use Rattle.pg_cells.specs.pg_house.Returning.{is_root}
+use Rattle.pg_checks.specs.pg_lookup.declared.paths.Found.{Found}
+use Rattle.pg_checks.specs.pg_lookup.declared.paths.LookupError.{LookupError}
+use Rattle.pg_checks.specs.pg_lookup.declared.paths.LookupError.TheVariants as stop
+use Rattle.pg_checks.specs.pg_lookup.Walk.{and_then, reach, refused}
+use Rattle.pg_cells.specs.pg_store.declared.store.Store.{Store}
+use Rattle.pg_cells.specs.pg_store.Store.{is_before_clock_end}
 use Rattle.pg_checks.specs.Answer.{Answer, answered, unless}
 use Rattle.pg_calls.specs.Bodies.{change_file}
 use Rattle.pg_checks.specs.Checks.{dir_at, empty_dir_at, file_at, first_child, in_time, move_along, move_of, new_name, target_at, thing_at, unless_child}

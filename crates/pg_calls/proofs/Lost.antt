@@ -3,10 +3,10 @@
 use Rattle.std.proofs.Common.{ℕ, zero, suc, ◌≡◌, ◌==◌, ◌+◌, ◌-◌, Bool, true, false, cond, List, ◌∷◌, Option, Ok, filter, refl, sym, arith}
 use Rattle.std.proofs.lemmas.Bool.{eq-eqb, eqb-false, eqb-true, ne_eqb}
 use Rattle.pg_base.specs.declared.id.FileId.{FileId}
-use Rattle.pg_names.specs.Names.{NamesValue}
-use Rattle.pg_store.specs.declared.store.Store.{Store}
-use Rattle.pg_store.specs.Store.{is_before_clock_end}
-use Rattle.pg_lookup.specs.Walk.{and_then}
+use Rattle.pg_cells.specs.pg_names.Names.{NamesValue}
+use Rattle.pg_cells.specs.pg_store.declared.store.Store.{Store}
+use Rattle.pg_cells.specs.pg_store.Store.{is_before_clock_end}
+use Rattle.pg_checks.specs.pg_lookup.Walk.{and_then}
 use Rattle.pg_checks.specs.Asking.{later, latest}
 use Rattle.pg_checks.specs.Checks.{in_time}
 use Rattle.pg_calls.specs.Demoting.{unless_root}

@@ -9,10 +9,10 @@ use Rattle.pg_patch.specs.Ranges.{RangesValue}
 use Rattle.pg_patch.specs.declared.error.RangeError.{RangeError}
 use Rattle.pg_patch.specs.declared.error.RangeError.TheVariants.{TooLong, OutOfMemory}
 use Rattle.pg_content.specs.Content.{body_limit}
-use Rattle.pg_msg.specs.declared.work.Work.{Work}
-use Rattle.pg_call.specs.declared.reply.Reply.TheVariants.{Made}
-use Rattle.pg_lookup.specs.declared.paths.LookupError.{LookupError}
-use Rattle.pg_store.specs.declared.store.Store.{Store}
+use Rattle.pg_cells.specs.pg_msg.declared.work.Work.{Work}
+use Rattle.pg_cells.specs.pg_call.declared.reply.Reply.TheVariants.{Made}
+use Rattle.pg_checks.specs.pg_lookup.declared.paths.LookupError.{LookupError}
+use Rattle.pg_cells.specs.pg_store.declared.store.Store.{Store}
 use Rattle.pg_cells.specs.pg_pieces.Done.{Done, idle}
 use Rattle.pg_checks.specs.declared.checks.NewName.{NewName}
 use Rattle.pg_checks.specs.Answer.{answer, answered}

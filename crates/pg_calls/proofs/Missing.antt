@@ -3,22 +3,22 @@ use Rattle.std.proofs.Common.{ℕ, ◌≡◌, ◌+◌, ◌-◌, ◌&&◌, ◌||�
 use Rattle.std.specs.List.{find}
 use Rattle.std.specs.Option.{option_map, option_or}
 use Rattle.pg_base.specs.declared.id.FileId.{FileId}
-use Rattle.pg_intent.specs.Intent.{is_about}
+use Rattle.pg_cells.specs.pg_intent.Intent.{is_about}
 use Rattle.pg_register.specs.Place.{root}
-use Rattle.pg_call.specs.declared.call.Target.{Target}
-use Rattle.pg_call.specs.declared.call.Target.TheVariants as target
-use Rattle.pg_call.specs.declared.refusal.Refusal.{Refusal}
-use Rattle.pg_call.specs.declared.refusal.Refusal.TheVariants.{DirFull, Exists, HasChild, Held, IsDir, LastGold, Loop, NotDir, Root, WrongView}
-use Rattle.pg_names.specs.Names.{NamesValue, is_dir, is_full, known}
-use Rattle.pg_house.specs.Returning.{is_root}
-use Rattle.pg_lookup.specs.declared.paths.Found.{Found}
-use Rattle.pg_lookup.specs.declared.paths.LookupError.TheVariants as stop
-use Rattle.pg_lookup.specs.declared.paths.Way.TheVariants as way
-use Rattle.pg_lookup.specs.Chain.{is_above}
-use Rattle.pg_lookup.specs.Walk.{and_then, has_more, is_dir_full, led_to, look_in, look_up, reach, reach_parent, reached, refused, shown_by, start, walk, walk_from}
-use Rattle.pg_store.specs.declared.store.Store.{Store}
-use Rattle.pg_store.specs.Servers.{view_of}
-use Rattle.pg_store.specs.Store.{replica_of}
+use Rattle.pg_cells.specs.pg_call.declared.call.Target.{Target}
+use Rattle.pg_cells.specs.pg_call.declared.call.Target.TheVariants as target
+use Rattle.pg_cells.specs.pg_call.declared.refusal.Refusal.{Refusal}
+use Rattle.pg_cells.specs.pg_call.declared.refusal.Refusal.TheVariants.{DirFull, Exists, HasChild, Held, IsDir, LastGold, Loop, NotDir, Root, WrongView}
+use Rattle.pg_cells.specs.pg_names.Names.{NamesValue, is_dir, is_full, known}
+use Rattle.pg_cells.specs.pg_house.Returning.{is_root}
+use Rattle.pg_checks.specs.pg_lookup.declared.paths.Found.{Found}
+use Rattle.pg_checks.specs.pg_lookup.declared.paths.LookupError.TheVariants as stop
+use Rattle.pg_checks.specs.pg_lookup.declared.paths.Way.TheVariants as way
+use Rattle.pg_checks.specs.pg_lookup.Chain.{is_above}
+use Rattle.pg_checks.specs.pg_lookup.Walk.{and_then, has_more, is_dir_full, led_to, look_in, look_up, reach, reach_parent, reached, refused, shown_by, start, walk, walk_from}
+use Rattle.pg_cells.specs.pg_store.declared.store.Store.{Store}
+use Rattle.pg_cells.specs.pg_store.Servers.{view_of}
+use Rattle.pg_cells.specs.pg_store.Store.{replica_of}
 use Rattle.pg_cells.specs.pg_pieces.Golds.{is_gold}
 use Rattle.pg_cells.specs.pg_pieces.Parting.{by_edge, by_intent, first_child as first_inside, has_child, if_gold, is_unclean, stays_for, unsettled_by}
 use Rattle.pg_checks.specs.declared.checks.NewName.{NewName}

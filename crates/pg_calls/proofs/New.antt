@@ -11,20 +11,20 @@ use Rattle.pg_edges.specs.declared.key.Key.TheVariants as key
 use Rattle.pg_register.specs.declared.flag.Flag.{Flag}
 use Rattle.pg_register.specs.declared.place.Place.{Place}
 use Rattle.pg_entries.specs.declared.entry.Entry.{Entry}
-use Rattle.pg_intent.specs.declared.intent.Intent.{Intent}
-use Rattle.pg_intent.specs.declared.intent.Intent.TheVariants as intent
-use Rattle.pg_intent.specs.declared.key.IntentKey.{IntentKey}
-use Rattle.pg_intent.specs.Intents.{ended, intent_at}
-use Rattle.pg_names.specs.Names.{blank_own, join_entry, join_flag, join_place, raise}
-use Rattle.pg_replica.specs.declared.replica.Replica.{Replica}
-use Rattle.pg_replica.specs.Replica.{new_replica, with_touch}
-use Rattle.pg_replica.specs.Replicas.{ByFile, or_nothing, put_replica, replica_in, replicas_touched}
-use Rattle.pg_house.proofs.Truths.{chosen}
-use Rattle.pg_msg.specs.declared.work.Work.{Work}
-use Rattle.pg_store.specs.declared.store.Store.{Store}
-use Rattle.pg_store.specs.Beginning.{patches_of, put_new, take_patch, take_patches, take_told, take_told_in, with_intents}
-use Rattle.pg_store.specs.Births.{draw_birth, with_birth}
-use Rattle.pg_store.specs.Store.{is_newer_entry, is_newer_flag, is_newer_place, put_entry, put_flag, put_place, replica_at, take_entry, take_flag, take_place, touch, with_names}
+use Rattle.pg_cells.specs.pg_intent.declared.intent.Intent.{Intent}
+use Rattle.pg_cells.specs.pg_intent.declared.intent.Intent.TheVariants as intent
+use Rattle.pg_cells.specs.pg_intent.declared.key.IntentKey.{IntentKey}
+use Rattle.pg_cells.specs.pg_intent.Intents.{ended, intent_at}
+use Rattle.pg_cells.specs.pg_names.Names.{blank_own, join_entry, join_flag, join_place, raise}
+use Rattle.pg_cells.specs.pg_replica.declared.replica.Replica.{Replica}
+use Rattle.pg_cells.specs.pg_replica.Replica.{new_replica, with_touch}
+use Rattle.pg_cells.specs.pg_replica.Replicas.{ByFile, or_nothing, put_replica, replica_in, replicas_touched}
+use Rattle.pg_cells.proofs.pg_house.Truths.{chosen}
+use Rattle.pg_cells.specs.pg_msg.declared.work.Work.{Work}
+use Rattle.pg_cells.specs.pg_store.declared.store.Store.{Store}
+use Rattle.pg_cells.specs.pg_store.Beginning.{patches_of, put_new, take_patch, take_patches, take_told, take_told_in, with_intents}
+use Rattle.pg_cells.specs.pg_store.Births.{draw_birth, with_birth}
+use Rattle.pg_cells.specs.pg_store.Store.{is_newer_entry, is_newer_flag, is_newer_place, put_entry, put_flag, put_place, replica_at, take_entry, take_flag, take_place, touch, with_names}
 use Rattle.pg_cells.specs.pg_pieces.Done.{idle}
 use Rattle.pg_cells.specs.pg_pieces.Making.{own_next}
 use Rattle.pg_checks.specs.declared.checks.NewName.{NewName}

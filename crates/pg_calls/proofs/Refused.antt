@@ -7,23 +7,23 @@ use Rattle.pg_base.specs.declared.stamp.Stamp.{Stamp}
 use Rattle.pg_announced.specs.Announced.{first_of}
 use Rattle.pg_patch.specs.Ranges.{RangesValue, cut_to, written}
 use Rattle.pg_register.specs.declared.flag.Flag.{Flag}
-use Rattle.pg_replica.specs.Replica.{has_many_actors, is_too_long}
-use Rattle.pg_msg.specs.declared.message.Message.TheVariants.{Fetch}
-use Rattle.pg_msg.specs.declared.work.Work.{Work}
-use Rattle.pg_call.specs.declared.call.Call.{Call}
-use Rattle.pg_call.specs.declared.call.Call.TheVariants as call
-use Rattle.pg_call.specs.declared.refusal.Refusal.{Refusal}
-use Rattle.pg_call.specs.declared.refusal.Refusal.TheVariants.{Behind, ManyActors, NotYet, TooLong}
-use Rattle.pg_call.specs.declared.reply.Reply.{Reply}
-use Rattle.pg_call.specs.declared.reply.Reply.TheVariants as reply
-use Rattle.pg_house.proofs.Truths.{chosen}
-use Rattle.pg_lookup.specs.declared.paths.Found.{Found}
-use Rattle.pg_lookup.specs.declared.paths.LookupError.{LookupError}
-use Rattle.pg_lookup.specs.declared.paths.LookupError.TheVariants as stop
-use Rattle.pg_store.specs.declared.store.Store.{Store}
-use Rattle.pg_store.specs.declared.wishes.Wish.{Wish}
-use Rattle.pg_store.specs.Births.{with_birth, with_wish}
-use Rattle.pg_store.specs.Store.{is_full, replica_of}
+use Rattle.pg_cells.specs.pg_replica.Replica.{has_many_actors, is_too_long}
+use Rattle.pg_cells.specs.pg_msg.declared.message.Message.TheVariants.{Fetch}
+use Rattle.pg_cells.specs.pg_msg.declared.work.Work.{Work}
+use Rattle.pg_cells.specs.pg_call.declared.call.Call.{Call}
+use Rattle.pg_cells.specs.pg_call.declared.call.Call.TheVariants as call
+use Rattle.pg_cells.specs.pg_call.declared.refusal.Refusal.{Refusal}
+use Rattle.pg_cells.specs.pg_call.declared.refusal.Refusal.TheVariants.{Behind, ManyActors, NotYet, TooLong}
+use Rattle.pg_cells.specs.pg_call.declared.reply.Reply.{Reply}
+use Rattle.pg_cells.specs.pg_call.declared.reply.Reply.TheVariants as reply
+use Rattle.pg_cells.proofs.pg_house.Truths.{chosen}
+use Rattle.pg_checks.specs.pg_lookup.declared.paths.Found.{Found}
+use Rattle.pg_checks.specs.pg_lookup.declared.paths.LookupError.{LookupError}
+use Rattle.pg_checks.specs.pg_lookup.declared.paths.LookupError.TheVariants as stop
+use Rattle.pg_cells.specs.pg_store.declared.store.Store.{Store}
+use Rattle.pg_cells.specs.pg_store.declared.wishes.Wish.{Wish}
+use Rattle.pg_cells.specs.pg_store.Births.{with_birth, with_wish}
+use Rattle.pg_cells.specs.pg_store.Store.{is_full, replica_of}
 use Rattle.pg_cells.specs.pg_pieces.Done.{Done, idle}
 use Rattle.pg_cells.specs.pg_pieces.Posting.{post}
 use Rattle.pg_checks.specs.Answer.{Answer, answer, answered, deny, replied, told, unless}

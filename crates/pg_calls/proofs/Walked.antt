@@ -4,14 +4,14 @@ use Rattle.std.proofs.Common.{ℕ, ◌≡◌, ◌+◌, ◌||◌, not, Bool, true
 use Rattle.std.proofs.lemmas.Bool.{false≢true}
 use Rattle.std.specs.Option.{is_some}
 use Rattle.pg_base.specs.declared.id.FileId.{FileId}
-use Rattle.pg_call.specs.declared.refusal.Refusal.TheVariants.{IsDir, NoName, NotDir}
-use Rattle.pg_names.specs.Names.{InodeValue, NamesValue, is_dir, is_full, is_full_of, is_held, known, own_of}
-use Rattle.pg_lookup.specs.declared.paths.Found.{Found}
-use Rattle.pg_lookup.specs.declared.paths.LookupError.TheVariants as stop
-use Rattle.pg_lookup.specs.declared.paths.Way.TheVariants as way
-use Rattle.pg_lookup.specs.Walk.{and_then, has_more, led_to, look_in, look_up, reach, reach_parent, reached, refused, shown_by, start, walk, walk_from}
-use Rattle.pg_house.specs.Facts.{IsHeld}
-use Rattle.pg_store.specs.declared.store.Store.{Store}
+use Rattle.pg_cells.specs.pg_call.declared.refusal.Refusal.TheVariants.{IsDir, NoName, NotDir}
+use Rattle.pg_cells.specs.pg_names.Names.{InodeValue, NamesValue, is_dir, is_full, is_full_of, is_held, known, own_of}
+use Rattle.pg_checks.specs.pg_lookup.declared.paths.Found.{Found}
+use Rattle.pg_checks.specs.pg_lookup.declared.paths.LookupError.TheVariants as stop
+use Rattle.pg_checks.specs.pg_lookup.declared.paths.Way.TheVariants as way
+use Rattle.pg_checks.specs.pg_lookup.Walk.{and_then, has_more, led_to, look_in, look_up, reach, reach_parent, reached, refused, shown_by, start, walk, walk_from}
+use Rattle.pg_cells.specs.pg_house.Facts.{IsHeld}
+use Rattle.pg_cells.specs.pg_store.declared.store.Store.{Store}
 use Rattle.pg_checks.specs.Answer.{unless}
 use Rattle.pg_checks.specs.Checks.{file_at, in_time, thing_at}
 use Rattle.pg_checks.specs.Paths.{path_of}

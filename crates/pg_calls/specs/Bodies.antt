@@ -5,14 +5,14 @@ use Rattle.pg_patch.specs.declared.error.RangeError.{RangeError}
 use Rattle.pg_patch.specs.declared.error.RangeError.TheVariants as ranges_error
 use Rattle.pg_patch.specs.Ranges.{RangesValue, applied, cut_to, written}
 use Rattle.pg_content.specs.Content.{body_limit, shown_bytes}
-use Rattle.pg_replica.specs.Replica.{has_many_actors, is_too_long}
-use Rattle.pg_msg.specs.declared.work.Work.{Work}
-use Rattle.pg_call.specs.declared.refusal.Refusal.TheVariants.{TooLong, ManyActors}
-use Rattle.pg_call.specs.declared.reply.Reply.TheVariants.{Bytes, Wrote}
-use Rattle.pg_lookup.specs.declared.paths.LookupError.{LookupError}
-use Rattle.pg_lookup.specs.Walk.{and_then}
-use Rattle.pg_store.specs.declared.store.Store.{Store}
-use Rattle.pg_store.specs.Store.{content_of, replica_of}
+use Rattle.pg_cells.specs.pg_replica.Replica.{has_many_actors, is_too_long}
+use Rattle.pg_cells.specs.pg_msg.declared.work.Work.{Work}
+use Rattle.pg_cells.specs.pg_call.declared.refusal.Refusal.TheVariants.{TooLong, ManyActors}
+use Rattle.pg_cells.specs.pg_call.declared.reply.Reply.TheVariants.{Bytes, Wrote}
+use Rattle.pg_checks.specs.pg_lookup.declared.paths.LookupError.{LookupError}
+use Rattle.pg_checks.specs.pg_lookup.Walk.{and_then}
+use Rattle.pg_cells.specs.pg_store.declared.store.Store.{Store}
+use Rattle.pg_cells.specs.pg_store.Store.{content_of, replica_of}
 use Rattle.pg_cells.specs.pg_pieces.Done.{idle}
 use Rattle.pg_checks.specs.Answer.{Answer, answer, answered, replied, unless}
 use Rattle.pg_checks.specs.Checks.{file_at}

@@ -1,8 +1,8 @@
 -- What a server does where a client calls it.
-use Rattle.pg_msg.specs.declared.work.Work.{Work}
-use Rattle.pg_call.specs.declared.call.Call.{Call}
-use Rattle.pg_call.specs.declared.call.Call.TheVariants as call
-use Rattle.pg_store.specs.declared.store.Store.{Store}
+use Rattle.pg_cells.specs.pg_msg.declared.work.Work.{Work}
+use Rattle.pg_cells.specs.pg_call.declared.call.Call.{Call}
+use Rattle.pg_cells.specs.pg_call.declared.call.Call.TheVariants as call
+use Rattle.pg_cells.specs.pg_store.declared.store.Store.{Store}
 use Rattle.pg_checks.specs.Answer.{Answer}
 use Rattle.pg_calls.specs.Naming.{create, mkdir, rename, rmdir, unlink}
 use Rattle.pg_calls.specs.Bodies.{cut, read, write}

@@ -4,15 +4,15 @@ use Rattle.std.specs.List.{list_any}
 use Rattle.pg_base.specs.declared.id.FileId.{FileId}
 use Rattle.pg_register.specs.declared.flag.Flag.{Flag}
 use Rattle.pg_register.specs.Flag.{is_live}
-use Rattle.pg_msg.specs.declared.work.Work.{Work}
-use Rattle.pg_house.specs.Returning.{is_root}
-use Rattle.pg_lookup.specs.declared.paths.LookupError.{LookupError}
-use Rattle.pg_lookup.specs.Walk.{and_then}
-use Rattle.pg_call.specs.declared.call.Target.{Target}
-use Rattle.pg_call.specs.declared.refusal.Refusal.TheVariants.{LastGold, Root}
-use Rattle.pg_call.specs.declared.reply.Reply.TheVariants.{Done as IsDone}
-use Rattle.pg_store.specs.declared.store.Store.{Store}
-use Rattle.pg_store.specs.Links.{is_clean}
+use Rattle.pg_cells.specs.pg_msg.declared.work.Work.{Work}
+use Rattle.pg_cells.specs.pg_house.Returning.{is_root}
+use Rattle.pg_checks.specs.pg_lookup.declared.paths.LookupError.{LookupError}
+use Rattle.pg_checks.specs.pg_lookup.Walk.{and_then}
+use Rattle.pg_cells.specs.pg_call.declared.call.Target.{Target}
+use Rattle.pg_cells.specs.pg_call.declared.refusal.Refusal.TheVariants.{LastGold, Root}
+use Rattle.pg_cells.specs.pg_call.declared.reply.Reply.TheVariants.{Done as IsDone}
+use Rattle.pg_cells.specs.pg_store.declared.store.Store.{Store}
+use Rattle.pg_cells.specs.pg_store.Links.{is_clean}
 use Rattle.pg_cells.specs.pg_pieces.Done.{Done, idle}
 use Rattle.pg_cells.specs.pg_pieces.Golds.{flags_of, is_gold}
 use Rattle.pg_cells.specs.pg_pieces.Making.{lower_flag}

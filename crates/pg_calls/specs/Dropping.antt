@@ -3,15 +3,15 @@ use Rattle.std.specs.Prelude.{ℕ, ◌==◌, ◌&&◌, if◌then◌else◌, Opti
 use Rattle.std.specs.List.{find}
 use Rattle.pg_base.specs.declared.id.FileId.{FileId}
 use Rattle.pg_register.specs.declared.flag.Flag.{Flag}
-use Rattle.pg_intent.specs.declared.intent.Intent.{Intent}
-use Rattle.pg_intent.specs.declared.intent.Intent.TheVariants as intent
-use Rattle.pg_msg.specs.declared.work.Work.{Work}
-use Rattle.pg_lookup.specs.declared.paths.LookupError.{LookupError}
-use Rattle.pg_lookup.specs.Walk.{and_then, refused}
-use Rattle.pg_call.specs.declared.call.Target.{Target}
-use Rattle.pg_call.specs.declared.refusal.Refusal.{Refusal}
-use Rattle.pg_call.specs.declared.reply.Reply.TheVariants.{Leaving}
-use Rattle.pg_store.specs.declared.store.Store.{Store}
+use Rattle.pg_cells.specs.pg_intent.declared.intent.Intent.{Intent}
+use Rattle.pg_cells.specs.pg_intent.declared.intent.Intent.TheVariants as intent
+use Rattle.pg_cells.specs.pg_msg.declared.work.Work.{Work}
+use Rattle.pg_checks.specs.pg_lookup.declared.paths.LookupError.{LookupError}
+use Rattle.pg_checks.specs.pg_lookup.Walk.{and_then, refused}
+use Rattle.pg_cells.specs.pg_call.declared.call.Target.{Target}
+use Rattle.pg_cells.specs.pg_call.declared.refusal.Refusal.{Refusal}
+use Rattle.pg_cells.specs.pg_call.declared.reply.Reply.TheVariants.{Leaving}
+use Rattle.pg_cells.specs.pg_store.declared.store.Store.{Store}
 use Rattle.pg_cells.specs.pg_pieces.Done.{Done, idle}
 use Rattle.pg_cells.specs.pg_pieces.Golds.{flags_of}
 use Rattle.pg_cells.specs.pg_pieces.Intending.{begin_intent}

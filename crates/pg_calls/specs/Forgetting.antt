@@ -5,29 +5,29 @@ use Rattle.std.specs.Map.{keys_of}
 use Rattle.pg_base.specs.declared.id.FileId.{FileId}
 use Rattle.pg_base.specs.declared.policy.Policy.TheVariants.{Last}
 use Rattle.pg_base.specs.Id.{is_same_file}
-use Rattle.pg_call.specs.declared.refusal.Refusal.TheVariants.{Held}
-use Rattle.pg_call.specs.declared.reply.Reply.TheVariants as reply
+use Rattle.pg_cells.specs.pg_call.declared.refusal.Refusal.TheVariants.{Held}
+use Rattle.pg_cells.specs.pg_call.declared.reply.Reply.TheVariants as reply
 use Rattle.pg_entries.specs.declared.entry.Entry.{Entry}
 use Rattle.pg_entries.specs.Entry.{is_listed}
-use Rattle.pg_intent.specs.declared.intent.Intent.{Intent}
-use Rattle.pg_intent.specs.declared.intent.Intent.TheVariants as intent
-use Rattle.pg_intent.specs.declared.key.IntentKey.TheVariants as intent_key
-use Rattle.pg_intent.specs.Intents.{ended}
-use Rattle.pg_msg.specs.declared.update.Update.TheVariants as update
-use Rattle.pg_msg.specs.declared.work.Work.{Work}
-use Rattle.pg_msg.specs.Work.{with_made}
-use Rattle.pg_names.specs.declared.attributes.Attributes.{Attributes}
-use Rattle.pg_names.specs.Names.{NamesValue, blank_own, cell_at, is_dir, own_or_blank}
-use Rattle.pg_names.specs.Same.{is_same_stamp}
+use Rattle.pg_cells.specs.pg_intent.declared.intent.Intent.{Intent}
+use Rattle.pg_cells.specs.pg_intent.declared.intent.Intent.TheVariants as intent
+use Rattle.pg_cells.specs.pg_intent.declared.key.IntentKey.TheVariants as intent_key
+use Rattle.pg_cells.specs.pg_intent.Intents.{ended}
+use Rattle.pg_cells.specs.pg_msg.declared.update.Update.TheVariants as update
+use Rattle.pg_cells.specs.pg_msg.declared.work.Work.{Work}
+use Rattle.pg_cells.specs.pg_msg.Work.{with_made}
+use Rattle.pg_cells.specs.pg_names.declared.attributes.Attributes.{Attributes}
+use Rattle.pg_cells.specs.pg_names.Names.{NamesValue, blank_own, cell_at, is_dir, own_or_blank}
+use Rattle.pg_cells.specs.pg_names.Same.{is_same_stamp}
 use Rattle.pg_register.specs.declared.place.Place.{Place}
 use Rattle.pg_register.specs.Place.{blank_place, root, tilde_name}
-use Rattle.pg_lookup.specs.declared.paths.LookupError.{LookupError}
-use Rattle.pg_lookup.specs.Walk.{and_then}
-use Rattle.pg_store.specs.declared.store.Store.{Store}
-use Rattle.pg_store.specs.Beginning.{begin, with_intents}
-use Rattle.pg_store.specs.Births.{draw_birth, fill_at, with_birth}
-use Rattle.pg_store.specs.Store.{is_full, is_held}
-use Rattle.pg_store.specs.Wishes.{without_wish}
+use Rattle.pg_checks.specs.pg_lookup.declared.paths.LookupError.{LookupError}
+use Rattle.pg_checks.specs.pg_lookup.Walk.{and_then}
+use Rattle.pg_cells.specs.pg_store.declared.store.Store.{Store}
+use Rattle.pg_cells.specs.pg_store.Beginning.{begin, with_intents}
+use Rattle.pg_cells.specs.pg_store.Births.{draw_birth, fill_at, with_birth}
+use Rattle.pg_cells.specs.pg_store.Store.{is_full, is_held}
+use Rattle.pg_cells.specs.pg_store.Wishes.{without_wish}
 use Rattle.pg_cells.specs.pg_pieces.Done.{Done, idle}
 use Rattle.pg_cells.specs.pg_pieces.Intending.{each}
 use Rattle.pg_cells.specs.pg_pieces.Taking.{take_entry_noted}

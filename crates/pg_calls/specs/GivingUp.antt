@@ -3,16 +3,16 @@ use Rattle.std.specs.Prelude.{ℕ, Bool, ◌==◌, ◌&&◌, ◌+◌, ◌++◌, 
 use Rattle.std.specs.List.{flat_map}
 use Rattle.std.specs.Map.{keys_of}
 use Rattle.pg_base.specs.declared.id.FileId.{FileId}
-use Rattle.pg_call.specs.declared.refusal.Refusal.TheVariants as refusal
-use Rattle.pg_call.specs.declared.reply.Reply.TheVariants as reply
-use Rattle.pg_msg.specs.declared.work.Slot.{Slot}
-use Rattle.pg_msg.specs.declared.work.Work.{Work}
-use Rattle.pg_names.specs.Names.{InodeValue, NamesValue, directories, known}
-use Rattle.pg_lookup.specs.declared.paths.LookupError.{LookupError}
-use Rattle.pg_lookup.specs.Walk.{and_then}
-use Rattle.pg_store.specs.declared.store.Store.{Store}
-use Rattle.pg_store.specs.Servers.{is_live_other, view_of}
-use Rattle.pg_store.specs.Views.{enter}
+use Rattle.pg_cells.specs.pg_call.declared.refusal.Refusal.TheVariants as refusal
+use Rattle.pg_cells.specs.pg_call.declared.reply.Reply.TheVariants as reply
+use Rattle.pg_cells.specs.pg_msg.declared.work.Slot.{Slot}
+use Rattle.pg_cells.specs.pg_msg.declared.work.Work.{Work}
+use Rattle.pg_cells.specs.pg_names.Names.{InodeValue, NamesValue, directories, known}
+use Rattle.pg_checks.specs.pg_lookup.declared.paths.LookupError.{LookupError}
+use Rattle.pg_checks.specs.pg_lookup.Walk.{and_then}
+use Rattle.pg_cells.specs.pg_store.declared.store.Store.{Store}
+use Rattle.pg_cells.specs.pg_store.Servers.{is_live_other, view_of}
+use Rattle.pg_cells.specs.pg_store.Views.{enter}
 use Rattle.pg_cells.specs.pg_pieces.Done.{Done, idle}
 use Rattle.pg_intentions.specs.Inviting.{invite_all}
 use Rattle.pg_checks.specs.Answer.{Answer, answer, answered, unless}

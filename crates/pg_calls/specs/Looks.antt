@@ -6,21 +6,21 @@ use Rattle.pg_content.specs.Content.{shown_bytes}
 use Rattle.pg_entries.specs.Shown.{listing_of}
 use Rattle.pg_path.specs.declared.row.Row.{Row}
 use Rattle.pg_register.specs.Flag.{is_live, is_raised}
-use Rattle.pg_names.specs.declared.attributes.Attributes.{Attributes}
-use Rattle.pg_names.specs.Names.{InodeValue, is_dir, known, own_or_blank}
-use Rattle.pg_house.specs.Holding.{held_back}
-use Rattle.pg_msg.specs.declared.work.Work.{Work}
+use Rattle.pg_cells.specs.pg_names.declared.attributes.Attributes.{Attributes}
+use Rattle.pg_cells.specs.pg_names.Names.{InodeValue, is_dir, known, own_or_blank}
+use Rattle.pg_cells.specs.pg_house.Holding.{held_back}
+use Rattle.pg_cells.specs.pg_msg.declared.work.Work.{Work}
 use Rattle.pg_announced.specs.Announced.{first_of}
-use Rattle.pg_call.specs.declared.call.Target.{Target}
-use Rattle.pg_call.specs.declared.refusal.Refusal.TheVariants as refusal
-use Rattle.pg_call.specs.declared.reply.Reply.{Reply}
-use Rattle.pg_call.specs.declared.reply.Reply.TheVariants as reply
-use Rattle.pg_call.specs.declared.reply.Stat.{Stat}
-use Rattle.pg_call.specs.declared.reply.Counts.{Counts}
-use Rattle.pg_store.specs.declared.store.Store.{Store}
-use Rattle.pg_store.specs.Births.{birth_of}
-use Rattle.pg_store.specs.Servers.{view_of}
-use Rattle.pg_store.specs.Store.{content_of, replica_of}
+use Rattle.pg_cells.specs.pg_call.declared.call.Target.{Target}
+use Rattle.pg_cells.specs.pg_call.declared.refusal.Refusal.TheVariants as refusal
+use Rattle.pg_cells.specs.pg_call.declared.reply.Reply.{Reply}
+use Rattle.pg_cells.specs.pg_call.declared.reply.Reply.TheVariants as reply
+use Rattle.pg_cells.specs.pg_call.declared.reply.Stat.{Stat}
+use Rattle.pg_cells.specs.pg_call.declared.reply.Counts.{Counts}
+use Rattle.pg_cells.specs.pg_store.declared.store.Store.{Store}
+use Rattle.pg_cells.specs.pg_store.Births.{birth_of}
+use Rattle.pg_cells.specs.pg_store.Servers.{view_of}
+use Rattle.pg_cells.specs.pg_store.Store.{content_of, replica_of}
 use Rattle.pg_cells.specs.Counts.{key_count}
 use Rattle.pg_checks.specs.Answer.{Answer, replied}
 use Rattle.pg_checks.specs.Checks.{dir_at, file_at, in_time, target_at}

@@ -7,12 +7,12 @@ use Rattle.pg_base.specs.Version.{stamp_of}
 use Rattle.pg_edges.specs.declared.key.Key.TheVariants as key
 use Rattle.pg_patch.specs.Ranges.{RangesValue, all}
 use Rattle.pg_register.specs.declared.place.Place.{Place}
-use Rattle.pg_msg.specs.declared.update.MadeVersion.{MadeVersion}
-use Rattle.pg_msg.specs.declared.update.Update.TheVariants as update
-use Rattle.pg_msg.specs.declared.work.Work.{Work}
-use Rattle.pg_msg.specs.Work.{with_made, with_touched}
-use Rattle.pg_store.specs.declared.store.Store.{Store}
-use Rattle.pg_store.specs.Store.{content_of, has_replica, write}
+use Rattle.pg_cells.specs.pg_msg.declared.update.MadeVersion.{MadeVersion}
+use Rattle.pg_cells.specs.pg_msg.declared.update.Update.TheVariants as update
+use Rattle.pg_cells.specs.pg_msg.declared.work.Work.{Work}
+use Rattle.pg_cells.specs.pg_msg.Work.{with_made, with_touched}
+use Rattle.pg_cells.specs.pg_store.declared.store.Store.{Store}
+use Rattle.pg_cells.specs.pg_store.Store.{content_of, has_replica, write}
 use Rattle.pg_cells.specs.pg_pieces.Done.{Done}
 use Rattle.pg_cells.specs.pg_pieces.Taking.{take_place_noted}
 

@@ -6,12 +6,12 @@ use Rattle.pg_base.specs.declared.id.Kind.TheVariants.{Dir, File}
 use Rattle.pg_base.specs.declared.policy.Policy.{Policy}
 use Rattle.pg_base.specs.declared.policy.Policy.TheVariants.{Last}
 use Rattle.pg_register.specs.declared.place.Place.{Place}
-use Rattle.pg_msg.specs.declared.work.Work.{Work}
-use Rattle.pg_names.specs.Names.{blank_own, own_or_blank}
-use Rattle.pg_call.specs.declared.reply.Reply.TheVariants.{Done as IsDone, Made}
-use Rattle.pg_store.specs.declared.store.Store.{Store}
-use Rattle.pg_store.specs.Beginning.{begin}
-use Rattle.pg_store.specs.Births.{draw_birth, with_birth}
+use Rattle.pg_cells.specs.pg_msg.declared.work.Work.{Work}
+use Rattle.pg_cells.specs.pg_names.Names.{blank_own, own_or_blank}
+use Rattle.pg_cells.specs.pg_call.declared.reply.Reply.TheVariants.{Done as IsDone, Made}
+use Rattle.pg_cells.specs.pg_store.declared.store.Store.{Store}
+use Rattle.pg_cells.specs.pg_store.Beginning.{begin}
+use Rattle.pg_cells.specs.pg_store.Births.{draw_birth, with_birth}
 use Rattle.pg_cells.specs.pg_pieces.Done.{Done, idle}
 use Rattle.pg_cells.specs.pg_pieces.Making.{raise_flag}
 use Rattle.pg_checks.specs.declared.checks.Move.{Move}

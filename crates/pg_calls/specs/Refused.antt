@@ -1,17 +1,17 @@
 -- What a refused call leaves, and a call at the end of the clock.
 use Rattle.std.specs.Prelude.{ℕ, ◌≡◌, ◌⊎◌, true, false, None}
 use Rattle.pg_base.specs.declared.id.FileId.{FileId}
-use Rattle.pg_intent.specs.declared.key.IntentKey.TheVariants as key
-use Rattle.pg_intent.specs.Intents.{stands}
-use Rattle.pg_msg.specs.declared.message.Message.TheVariants.{Fetch}
-use Rattle.pg_msg.specs.declared.work.Work.{Work}
-use Rattle.pg_call.specs.declared.call.Call.{Call}
-use Rattle.pg_call.specs.declared.refusal.Refusal.{Refusal}
-use Rattle.pg_call.specs.declared.refusal.Refusal.TheVariants.{NotYet}
-use Rattle.pg_call.specs.declared.reply.Reply.TheVariants.{Refused}
-use Rattle.pg_store.specs.declared.store.Store.{Store}
-use Rattle.pg_store.specs.Births.{with_birth, with_wish}
-use Rattle.pg_store.specs.Store.{is_full, is_before_clock_end}
+use Rattle.pg_cells.specs.pg_intent.declared.key.IntentKey.TheVariants as key
+use Rattle.pg_cells.specs.pg_intent.Intents.{stands}
+use Rattle.pg_cells.specs.pg_msg.declared.message.Message.TheVariants.{Fetch}
+use Rattle.pg_cells.specs.pg_msg.declared.work.Work.{Work}
+use Rattle.pg_cells.specs.pg_call.declared.call.Call.{Call}
+use Rattle.pg_cells.specs.pg_call.declared.refusal.Refusal.{Refusal}
+use Rattle.pg_cells.specs.pg_call.declared.refusal.Refusal.TheVariants.{NotYet}
+use Rattle.pg_cells.specs.pg_call.declared.reply.Reply.TheVariants.{Refused}
+use Rattle.pg_cells.specs.pg_store.declared.store.Store.{Store}
+use Rattle.pg_cells.specs.pg_store.Births.{with_birth, with_wish}
+use Rattle.pg_cells.specs.pg_store.Store.{is_full, is_before_clock_end}
 use Rattle.pg_cells.specs.pg_pieces.Posting.{post}
 use Rattle.pg_checks.specs.Answer.{Answer}
 use Rattle.pg_checks.specs.Asking.{fresh_wish, standing}

@@ -2,17 +2,17 @@
 
 ghost use Rattle.std.specs.Prelude.{◌≡◌, IfOk, OnOk, true};
 ghost use Rattle.pg_patch.specs.Ranges.{RangesValue, cut_to, written};
-ghost use Rattle.pg_store.specs.Store.{has_replica, is_before_clock_end};
+ghost use Rattle.pg_cells.specs.pg_store.Store.{has_replica, is_before_clock_end};
 ghost use Rattle.pg_calls.specs.Bodies.{Makes, change, change_file, cut, read, shown_part, write};
 
 use crate::making::{make_version, next_stamp};
 use pg_base::{FileId, SharedBytes};
-use pg_call::{Payload, ReadCount, Refusal, Reply};
+use pg_cells::call::{Payload, ReadCount, Refusal, Reply};
+use pg_cells::msg::Work;
+use pg_cells::store::Store;
 use pg_checks::{deny, file_at};
 use pg_content::WriteError;
-use pg_msg::Work;
 use pg_patch::{RangeError, Ranges, cut as cut_to, make};
-use pg_store::Store;
 use std::alloc::{AllocError, Global};
 
 /// The bytes stand at the offset from then on, over what stood there. Where that is refused nothing

@@ -10,9 +10,9 @@ use crate::forgetting::forget;
 use crate::giving_up::giveup;
 use crate::looks::{fresh, ls, stat, status, stop};
 use crate::naming::{create, mkdir, rename, rmdir, unlink};
-use pg_call::{Call, Reply};
-use pg_msg::Work;
-use pg_store::Store;
+use pg_cells::call::{Call, Reply};
+use pg_cells::msg::Work;
+use pg_cells::store::Store;
 use std::alloc::AllocError;
 
 /// A client calls the server. A call that is refused changes nothing, but that what is not here yet

@@ -5,13 +5,13 @@ ghost use Rattle.pg_checks.specs.Answer.{Tells};
 ghost use Rattle.pg_calls.specs.Demoting.{demote, demoted_at, has_clean_gold, is_clean_gold, lowered, unless_last, unless_root};
 
 use pg_base::FileId;
-use pg_call::{Refusal, Reply, Target};
+use pg_cells::call::{Refusal, Reply, Target};
+use pg_cells::house::is_root;
+use pg_cells::msg::Work;
 use pg_cells::pieces::{is_gold, lower_flag};
+use pg_cells::store::Store;
 use pg_checks::{CallError, deny, target_at};
-use pg_house::is_root;
-use pg_msg::Work;
 use pg_register::Flag;
-use pg_store::Store;
 use std::alloc::AllocError;
 
 /// Whether this is the flag of a live gold replica to which there is an edge with nothing

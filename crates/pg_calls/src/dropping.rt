@@ -9,13 +9,13 @@ ghost use Rattle.pg_calls.specs.Dropping.{clean_gold, drop, dropped_at, leaving,
 
 use crate::demoting::{is_clean_gold, unless_root};
 use pg_base::FileId;
-use pg_call::{Reply, Target};
+use pg_cells::call::{Reply, Target};
+use pg_cells::intent::Intent;
+use pg_cells::msg::Work;
 use pg_cells::pieces::{begin_intent, stays_for};
+use pg_cells::store::Store;
 use pg_checks::{CallError, deny, target_at};
-use pg_intent::Intent;
-use pg_msg::Work;
 use pg_register::Flag;
-use pg_store::Store;
 use std::alloc::AllocError;
 
 /// Any replica that nothing keeps here.

@@ -9,17 +9,17 @@ ghost use Rattle.pg_calls.specs.Forgetting.{begin_lost, begun_at, begun_with, de
 use crate::demoting::unless_root;
 use crate::making::{make_place, next_stamp};
 use pg_base::{FileId, Items, Policy, Stamp};
-use pg_call::{Refusal, Reply};
+use pg_cells::call::{Refusal, Reply};
+use pg_cells::intent::{Intent, IntentKey, Intents};
+use pg_cells::msg::{Update, Work};
+use pg_cells::names::{Attributes, Names, is_dir, is_same_stamp};
 use pg_cells::pieces::{raise_flag, take_entry};
+use pg_cells::store::{COUNTER_LIMIT, Store};
+use pg_checks::lookup::ROOT;
 use pg_checks::{CallError, deny, in_time, is_later};
 use pg_entries::Entry;
-use pg_intent::{Intent, IntentKey, Intents};
 use pg_intentions::repair::fill;
-use pg_lookup::ROOT;
-use pg_msg::{Update, Work};
-use pg_names::{Attributes, Names, is_dir, is_same_stamp};
 use pg_register::{GoldFlags, Place, tilde_name};
-use pg_store::{COUNTER_LIMIT, Store};
 use std::alloc::AllocError;
 
 /// Any thing that is not held and full.

@@ -7,12 +7,12 @@ ghost use Rattle.pg_checks.specs.Answer.{Tells};
 ghost use Rattle.pg_calls.specs.GivingUp.{cells_of, doubt_all, enter_view, giveup, is_next_view, may_give_up, removal_at, slots_to};
 
 use pg_base::{FileId, Items, NodeId};
-use pg_call::{Refusal, Reply};
+use pg_cells::call::{Refusal, Reply};
+use pg_cells::msg::{Slot, Work};
+use pg_cells::names::{Inode, Names};
+use pg_cells::store::Store;
 use pg_checks::{CallError, deny, in_time};
 use pg_intentions::invite_all;
-use pg_msg::{Slot, Work};
-use pg_names::{Inode, Names};
-use pg_store::Store;
 use std::alloc::AllocError;
 
 /// Whether this is the view behind the server's.

@@ -1,10 +1,10 @@
 //! What holds of all calls.
 
 ghost use Rattle.pg_base.specs.declared.id.FileId.{FileId};
-ghost use Rattle.pg_msg.specs.declared.work.Work.{Work};
-ghost use Rattle.pg_call.specs.declared.call.Call.{Call};
-ghost use Rattle.pg_call.specs.declared.refusal.Refusal.{Refusal};
-ghost use Rattle.pg_store.specs.declared.store.Store.{Store};
+ghost use Rattle.pg_cells.specs.pg_msg.declared.work.Work.{Work};
+ghost use Rattle.pg_cells.specs.pg_call.declared.call.Call.{Call};
+ghost use Rattle.pg_cells.specs.pg_call.declared.refusal.Refusal.{Refusal};
+ghost use Rattle.pg_cells.specs.pg_store.declared.store.Store.{Store};
 ghost use Rattle.pg_calls.specs.Refused.{FilledKeepsNoWish, LateDoesNothing, RefusedOnlyAsks};
 
 /// A call that is refused changes nothing. Where it came to what is not held and full, and for that

@@ -35,5 +35,6 @@ pub use laws::{late_calls_do_nothing, refused_calls_only_ask, what_is_filling_is
 
 // What the floors above name through this one.
 pub use pg_cells as cells;
+pub use pg_cells::{call, house, intent, msg, names, pieces, replica, store};
 pub use pg_intentions as intentions;
 pub use pg_intentions::{graph, repair};

@@ -1,20 +1,20 @@
 //! Calls that look. Where they go on they change nothing.
 
 ghost use Rattle.std.specs.Prelude.{◌≡◌, IfOk, OnOk, count_by};
-ghost use Rattle.pg_names.specs.Names.{known};
+ghost use Rattle.pg_cells.specs.pg_names.Names.{known};
 ghost use Rattle.pg_register.specs.Flag.{is_live};
 ghost use Rattle.pg_calls.specs.Looks.{counts, fresh, freshness, head_count, listing, ls, page, rows_from, shown_length, stat, stat_of, status, stop};
 
 use pg_base::{FileId, Items, Shared, Stamp};
-use pg_call::{Counts, Refusal, Reply, Stat, Target};
+use pg_cells::call::{Counts, Refusal, Reply, Stat, Target};
+use pg_cells::house::count_held_back;
 use pg_cells::key_count;
+use pg_cells::msg::Work;
+use pg_cells::names::{Names, is_dir};
+use pg_cells::store::Store;
 use pg_checks::{deny, dir_at, file_at, in_time, target_at};
-use pg_house::count_held_back;
-use pg_msg::Work;
-use pg_names::{Names, is_dir};
 use pg_path::Row;
 use pg_register::GoldFlags;
-use pg_store::Store;
 use std::alloc::AllocError;
 
 /// The most names that one reply has.

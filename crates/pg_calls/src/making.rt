@@ -1,19 +1,19 @@
 //! Places and versions that a server makes. It takes them as it takes what comes.
 
 ghost use Rattle.std.specs.Prelude.{◌≡◌, ◌≢◌, ◌<◌, ◌≤◌, ◌^◌, IfErr, IfOk, None, OnOk, Some, true};
-ghost use Rattle.pg_replica.specs.Replica.{has_room, refusal_of};
-ghost use Rattle.pg_store.specs.Store.{has_replica, replica_of};
+ghost use Rattle.pg_cells.specs.pg_replica.Replica.{has_room, refusal_of};
+ghost use Rattle.pg_cells.specs.pg_store.Store.{has_replica, replica_of};
 ghost use Rattle.pg_cells.specs.pg_pieces.Done.{idle};
 ghost use Rattle.pg_calls.specs.Making.{drawn, first_ranges, make_place, make_version, with_version};
 
 use pg_base::{FileId, Items, Stamp};
+use pg_cells::msg::{MadeVersion, Touched, Update, Work};
 use pg_cells::pieces::take_place;
+use pg_cells::store::Store;
 use pg_content::WriteError;
 use pg_edges::Key;
-use pg_msg::{MadeVersion, Touched, Update, Work};
 use pg_patch::{ALL, Ranges};
 use pg_register::Place;
-use pg_store::Store;
 use std::alloc::{AllocError, Global};
 
 /// The stamp that the server draws next, at this moment. The clock does not move before what has

@@ -9,14 +9,14 @@ ghost use Rattle.pg_calls.specs.Naming.{begun, create, dead_place, mkdir, moved,
 
 use crate::making::{first_ranges, make_place, make_version, next_stamp};
 use pg_base::{FileId, Kind, Policy};
-use pg_call::Reply;
+use pg_cells::call::Reply;
+use pg_cells::msg::Work;
+use pg_cells::names::Attributes;
 use pg_cells::pieces::raise_flag;
+use pg_cells::store::{COUNTER_LIMIT, Store};
 use pg_checks::{CallError, Move, NewName, deny, empty_dir_at, file_at, move_of, new_name};
 use pg_content::WriteError;
-use pg_msg::Work;
-use pg_names::Attributes;
 use pg_register::Place;
-use pg_store::{COUNTER_LIMIT, Store};
 use std::alloc::AllocError;
 
 /// A new directory. Where it is refused nothing changes, but that what is not here yet is asked

@@ -9,20 +9,20 @@ use Rattle.pg_base.specs.declared.id.FileId.{FileId}
 use Rattle.pg_base.specs.Id.{is_same_file}
 use Rattle.pg_base.proofs.Orders.{is_same_file-true}
 use Rattle.pg_register.specs.Flag.{is_removed}
-use Rattle.pg_msg.specs.declared.work.Work.{Work}
-use Rattle.pg_house.specs.Work.{State, state_of}
-use Rattle.pg_house.specs.House.{house}
-use Rattle.pg_house.specs.Calm.{IsCalm}
-use Rattle.pg_house.specs.Facts.{AreByServer, AreOrdered, IsLast, IsOfDirs, is_among}
-use Rattle.pg_house.proofs.Truths.{bool_cases, or_cases}
-use Rattle.pg_house.proofs.Counting.{among_kept}
-use Rattle.pg_house.proofs.Ends.{key_of_held}
-use Rattle.pg_house.proofs.Settling.{calm_behind, calm_stays}
-use Rattle.pg_house.proofs.Keys.{rules_by}
-use Rattle.pg_names.specs.Names.{NamesValue, known}
-use Rattle.pg_store.specs.declared.store.Store.{Store}
-use Rattle.pg_store.specs.Births.{birth_of}
-use Rattle.pg_store.specs.Store.{with_names}
+use Rattle.pg_pieces.specs.pg_msg.declared.work.Work.{Work}
+use Rattle.pg_pieces.specs.pg_house.Work.{State, state_of}
+use Rattle.pg_pieces.specs.pg_house.House.{house}
+use Rattle.pg_pieces.specs.pg_house.Calm.{IsCalm}
+use Rattle.pg_pieces.specs.pg_house.Facts.{AreByServer, AreOrdered, IsLast, IsOfDirs, is_among}
+use Rattle.pg_pieces.proofs.pg_house.Truths.{bool_cases, or_cases}
+use Rattle.pg_pieces.proofs.pg_house.Counting.{among_kept}
+use Rattle.pg_pieces.proofs.pg_house.Ends.{key_of_held}
+use Rattle.pg_pieces.proofs.pg_house.Settling.{calm_behind, calm_stays}
+use Rattle.pg_pieces.proofs.pg_house.Keys.{rules_by}
+use Rattle.pg_pieces.specs.pg_names.Names.{NamesValue, known}
+use Rattle.pg_pieces.specs.pg_store.declared.store.Store.{Store}
+use Rattle.pg_pieces.specs.pg_store.Births.{birth_of}
+use Rattle.pg_pieces.specs.pg_store.Store.{with_names}
 use Rattle.pg_pieces.specs.Done.{Done, idle}
 use Rattle.pg_pieces.proofs.SeenGolds.{filter_none}
 use Rattle.pg_pieces.specs.Golds.{goldless, is_goldless}

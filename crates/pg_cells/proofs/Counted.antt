@@ -9,11 +9,11 @@ use Rattle.pg_base.specs.Id.{file_cmp}
 use Rattle.pg_base.proofs.Orders.{file_exact, file_total}
 use Rattle.pg_edges.specs.declared.edge.Edge.{Edge}
 use Rattle.pg_edges.specs.declared.key.Key.{Key}
-use Rattle.pg_replica.specs.declared.replica.Replica.{Replica}
-use Rattle.pg_replica.specs.Index.{Files, IsIndex}
-use Rattle.pg_replica.specs.Replicas.{ByFile, replica_in}
-use Rattle.pg_replica.proofs.Clean.{clean_pieces}
-use Rattle.pg_replica.proofs.Merging.{by_index}
+use Rattle.pg_pieces.specs.pg_replica.declared.replica.Replica.{Replica}
+use Rattle.pg_pieces.specs.pg_replica.Index.{Files, IsIndex}
+use Rattle.pg_pieces.specs.pg_replica.Replicas.{ByFile, replica_in}
+use Rattle.pg_pieces.proofs.pg_replica.Clean.{clean_pieces}
+use Rattle.pg_pieces.proofs.pg_replica.Merging.{by_index}
 use Rattle.pg_cells.specs.Counts.{edge_keys, file_keys, replica_keys}
 
 -- the keys of these files, by the replicas that they have

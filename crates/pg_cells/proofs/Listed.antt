@@ -16,13 +16,13 @@ use Rattle.pg_base.proofs.Orders.{file_total, is_same_file-true, is_same_file-re
 use Rattle.pg_edges.specs.declared.edge.Edge.{Edge}
 use Rattle.pg_edges.specs.declared.key.Key.{Key}
 use Rattle.pg_edges.specs.Key.{is_same_key}
-use Rattle.pg_msg.specs.declared.work.Linked.{Linked}
-use Rattle.pg_msg.specs.declared.work.Touched.{Touched}
-use Rattle.pg_replica.specs.Index.{Files, IsIndex}
-use Rattle.pg_replica.proofs.Clean.{clean_pieces}
-use Rattle.pg_replica.proofs.Merging.{by_index}
-use Rattle.pg_store.specs.declared.store.Store.{Store}
-use Rattle.pg_store.specs.Store.{replica_at}
+use Rattle.pg_pieces.specs.pg_msg.declared.work.Linked.{Linked}
+use Rattle.pg_pieces.specs.pg_msg.declared.work.Touched.{Touched}
+use Rattle.pg_pieces.specs.pg_replica.Index.{Files, IsIndex}
+use Rattle.pg_pieces.proofs.pg_replica.Clean.{clean_pieces}
+use Rattle.pg_pieces.proofs.pg_replica.Merging.{by_index}
+use Rattle.pg_pieces.specs.pg_store.declared.store.Store.{Store}
+use Rattle.pg_pieces.specs.pg_store.Store.{replica_at}
 use Rattle.pg_cells.specs.declared.key_filter.KeyFilter.{KeyFilter}
 use Rattle.pg_cells.specs.declared.key_filter.KeyFilter.TheVariants as choice
 use Rattle.pg_cells.specs.KeyFilter.{ListsChosen, ListsLinked, ListsTouched, chosen_cells, file_cells, passes}

@@ -10,16 +10,16 @@ use Rattle.pg_base.specs.Id.{is_same_file}
 use Rattle.pg_register.specs.declared.flag.Flag.{Flag}
 use Rattle.pg_register.specs.Flag.{flag_of, is_live, is_new, is_older, is_removed, join_flag, newest, number_with}
 use Rattle.pg_register.proofs.ByServer.{flag_of-join_flag, joined_new}
-use Rattle.pg_names.specs.declared.attributes.Attributes.{Attributes}
-use Rattle.pg_names.specs.Names.{InodeValue, NamesValue, is_flag_new, is_full_of, known, or_blank, own_at, own_of, own_or_blank}
-use Rattle.pg_names.proofs.Lookups.{flag_other, flag_same, own_with_flag}
-use Rattle.pg_house.specs.Calm.{IsCalm}
-use Rattle.pg_replica.specs.declared.replica.Replica.{Replica}
-use Rattle.pg_replica.specs.Replicas.{or_nothing}
-use Rattle.pg_store.specs.declared.store.Store.{Store}
-use Rattle.pg_store.specs.Births.{birth_of}
-use Rattle.pg_store.specs.Store.{is_newer_flag, replica_at}
-use Rattle.pg_store.specs.Together.{birth_at}
+use Rattle.pg_pieces.specs.pg_names.declared.attributes.Attributes.{Attributes}
+use Rattle.pg_pieces.specs.pg_names.Names.{InodeValue, NamesValue, is_flag_new, is_full_of, known, or_blank, own_at, own_of, own_or_blank}
+use Rattle.pg_pieces.proofs.pg_names.Lookups.{flag_other, flag_same, own_with_flag}
+use Rattle.pg_pieces.specs.pg_house.Calm.{IsCalm}
+use Rattle.pg_pieces.specs.pg_replica.declared.replica.Replica.{Replica}
+use Rattle.pg_pieces.specs.pg_replica.Replicas.{or_nothing}
+use Rattle.pg_pieces.specs.pg_store.declared.store.Store.{Store}
+use Rattle.pg_pieces.specs.pg_store.Births.{birth_of}
+use Rattle.pg_pieces.specs.pg_store.Store.{is_newer_flag, replica_at}
+use Rattle.pg_pieces.specs.pg_store.Together.{birth_at}
 use Rattle.pg_pieces.specs.Done.{Done}
 use Rattle.pg_pieces.specs.Golds.{is_goldless, is_goldless_held, is_of_later, sees_gold}
 use Rattle.pg_cells.specs.Raised.{DiffersByGolds}

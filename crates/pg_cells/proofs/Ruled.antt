@@ -12,24 +12,24 @@ use Rattle.pg_base.proofs.Orders.{is_same_file-true}
 use Rattle.pg_edges.specs.declared.key.Key.TheVariants as key
 use Rattle.pg_register.specs.declared.flag.Flag.{Flag}
 use Rattle.pg_entries.specs.declared.entry.Entry.{Entry}
-use Rattle.pg_msg.specs.declared.update.Update.{Update}
-use Rattle.pg_msg.specs.declared.update.Update.TheVariants as update
-use Rattle.pg_msg.specs.declared.work.Touched.{Touched}
-use Rattle.pg_msg.specs.declared.work.Work.{Work}
-use Rattle.pg_msg.specs.Work.{with_made}
-use Rattle.pg_names.specs.Names.{NamesValue, cell_at, is_full, join_flag, own_at, with_flag}
-use Rattle.pg_names.proofs.Holding.{full_kept}
-use Rattle.pg_names.proofs.Lookups.{SameFrame, flag_cell, update_frame}
-use Rattle.pg_house.specs.Work.{State, state_of}
-use Rattle.pg_house.specs.House.{house}
-use Rattle.pg_house.specs.Calm.{DiffersByFlags, IsCalm, IsSameOrPlaced, held_place}
-use Rattle.pg_house.proofs.Flagging.{flagged_place}
-use Rattle.pg_house.proofs.Raised.{differs_not, raised_calm, raised_differs}
-use Rattle.pg_house.proofs.Settling.{calm_stays}
-use Rattle.pg_store.specs.declared.store.Store.{Store}
-use Rattle.pg_store.specs.Store.{is_newer_flag, put_flag, touch, with_names}
-use Rattle.pg_store.specs.Together.{birth_at}
-use Rattle.pg_store.proofs.Pairs.{touch_as_before}
+use Rattle.pg_pieces.specs.pg_msg.declared.update.Update.{Update}
+use Rattle.pg_pieces.specs.pg_msg.declared.update.Update.TheVariants as update
+use Rattle.pg_pieces.specs.pg_msg.declared.work.Touched.{Touched}
+use Rattle.pg_pieces.specs.pg_msg.declared.work.Work.{Work}
+use Rattle.pg_pieces.specs.pg_msg.Work.{with_made}
+use Rattle.pg_pieces.specs.pg_names.Names.{NamesValue, cell_at, is_full, join_flag, own_at, with_flag}
+use Rattle.pg_pieces.proofs.pg_names.Holding.{full_kept}
+use Rattle.pg_pieces.proofs.pg_names.Lookups.{SameFrame, flag_cell, update_frame}
+use Rattle.pg_pieces.specs.pg_house.Work.{State, state_of}
+use Rattle.pg_pieces.specs.pg_house.House.{house}
+use Rattle.pg_pieces.specs.pg_house.Calm.{DiffersByFlags, IsCalm, IsSameOrPlaced, held_place}
+use Rattle.pg_pieces.proofs.pg_house.Flagging.{flagged_place}
+use Rattle.pg_pieces.proofs.pg_house.Raised.{differs_not, raised_calm, raised_differs}
+use Rattle.pg_pieces.proofs.pg_house.Settling.{calm_stays}
+use Rattle.pg_pieces.specs.pg_store.declared.store.Store.{Store}
+use Rattle.pg_pieces.specs.pg_store.Store.{is_newer_flag, put_flag, touch, with_names}
+use Rattle.pg_pieces.specs.pg_store.Together.{birth_at}
+use Rattle.pg_pieces.proofs.pg_store.Pairs.{touch_as_before}
 use Rattle.pg_pieces.specs.Done.{Done}
 use Rattle.pg_pieces.specs.Making.{own_next, raise_flag}
 use Rattle.pg_cells.specs.Raised.{DiffersByGolds, IsFlagMade}

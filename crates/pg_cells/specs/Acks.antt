@@ -1,10 +1,10 @@
 -- An answer to a cell comes.
 use Rattle.std.specs.Prelude.{ℕ}
 use Rattle.pg_edges.specs.declared.key.Key.{Key}
-use Rattle.pg_msg.specs.declared.message.Ends.{Ends}
-use Rattle.pg_msg.specs.declared.work.Work.{Work}
-use Rattle.pg_store.specs.declared.store.Store.{Store}
-use Rattle.pg_store.specs.Store.{acknowledge}
+use Rattle.pg_pieces.specs.pg_msg.declared.message.Ends.{Ends}
+use Rattle.pg_pieces.specs.pg_msg.declared.work.Work.{Work}
+use Rattle.pg_pieces.specs.pg_store.declared.store.Store.{Store}
+use Rattle.pg_pieces.specs.pg_store.Store.{acknowledge}
 use Rattle.pg_pieces.specs.Done.{Done, link_of}
 
 -- the key goes off the sender's edge where there is that edge, and the tag is the present one there

@@ -4,13 +4,13 @@ use Rattle.pg_base.specs.declared.id.FileId.{FileId}
 use Rattle.pg_edges.specs.declared.key.Key.{Key}
 use Rattle.pg_entries.specs.declared.cell.Cell.{Cell}
 use Rattle.pg_entries.specs.declared.cell.Cell.TheVariants as cells
-use Rattle.pg_msg.specs.declared.message.Ends.{Ends}
-use Rattle.pg_msg.specs.declared.message.Message.TheVariants as message
-use Rattle.pg_msg.specs.declared.work.Work.{Work}
-use Rattle.pg_msg.specs.Ends.{back}
-use Rattle.pg_msg.specs.Sent.{cell_key}
-use Rattle.pg_names.specs.Names.{is_dir}
-use Rattle.pg_store.specs.declared.store.Store.{Store}
+use Rattle.pg_pieces.specs.pg_msg.declared.message.Ends.{Ends}
+use Rattle.pg_pieces.specs.pg_msg.declared.message.Message.TheVariants as message
+use Rattle.pg_pieces.specs.pg_msg.declared.work.Work.{Work}
+use Rattle.pg_pieces.specs.pg_msg.Ends.{back}
+use Rattle.pg_pieces.specs.pg_msg.Sent.{cell_key}
+use Rattle.pg_pieces.specs.pg_names.Names.{is_dir}
+use Rattle.pg_pieces.specs.pg_store.declared.store.Store.{Store}
 use Rattle.pg_pieces.specs.declared.accepting.EdgeUse.TheVariants as manner
 use Rattle.pg_pieces.specs.Accepting.{accept, is_accepted}
 use Rattle.pg_pieces.specs.Done.{Done, idle}

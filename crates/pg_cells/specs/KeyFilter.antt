@@ -7,13 +7,13 @@ use Rattle.pg_base.specs.declared.id.FileId.{FileId}
 use Rattle.pg_base.specs.Id.{file_cmp, is_same_file}
 use Rattle.pg_edges.specs.declared.edge.Edge.{Edge}
 use Rattle.pg_edges.specs.declared.key.Key.{Key}
-use Rattle.pg_msg.specs.declared.message.Sent.{Sent}
-use Rattle.pg_msg.specs.declared.work.Linked.{Linked}
-use Rattle.pg_msg.specs.declared.work.Touched.{Touched}
-use Rattle.pg_replica.specs.declared.replica.Replica.{Replica}
-use Rattle.pg_replica.specs.Index.{Files}
-use Rattle.pg_store.specs.declared.store.Store.{Store}
-use Rattle.pg_store.specs.Store.{replica_at}
+use Rattle.pg_pieces.specs.pg_msg.declared.message.Sent.{Sent}
+use Rattle.pg_pieces.specs.pg_msg.declared.work.Linked.{Linked}
+use Rattle.pg_pieces.specs.pg_msg.declared.work.Touched.{Touched}
+use Rattle.pg_pieces.specs.pg_replica.declared.replica.Replica.{Replica}
+use Rattle.pg_pieces.specs.pg_replica.Index.{Files}
+use Rattle.pg_pieces.specs.pg_store.declared.store.Store.{Store}
+use Rattle.pg_pieces.specs.pg_store.Store.{replica_at}
 use Rattle.pg_cells.specs.declared.key_filter.KeyFilter.{KeyFilter}
 use Rattle.pg_cells.specs.declared.key_filter.KeyFilter.TheVariants as choice
 use Rattle.pg_cells.specs.Sending.{Wanted, is_any, is_chosen, key_cell, replica_cells}

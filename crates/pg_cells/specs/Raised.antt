@@ -4,11 +4,11 @@ use Rattle.std.specs.List.{All}
 use Rattle.std.specs.Map.{keys_of}
 use Rattle.pg_base.specs.declared.id.FileId.{FileId}
 use Rattle.pg_register.specs.declared.flag.Flag.{Flag}
-use Rattle.pg_msg.specs.declared.update.Update.{Update}
-use Rattle.pg_msg.specs.declared.update.Update.TheVariants as update
-use Rattle.pg_names.specs.Names.{cell_at, is_full, own_at}
-use Rattle.pg_house.specs.Calm.{IsSameOrPlaced, held_place}
-use Rattle.pg_store.specs.Together.{birth_at}
+use Rattle.pg_pieces.specs.pg_msg.declared.update.Update.{Update}
+use Rattle.pg_pieces.specs.pg_msg.declared.update.Update.TheVariants as update
+use Rattle.pg_pieces.specs.pg_names.Names.{cell_at, is_full, own_at}
+use Rattle.pg_pieces.specs.pg_house.Calm.{IsSameOrPlaced, held_place}
+use Rattle.pg_pieces.specs.pg_store.Together.{birth_at}
 use Rattle.pg_pieces.specs.Done.{Done}
 
 -- the update is that of a flag

@@ -10,16 +10,16 @@ use Rattle.pg_edges.specs.Key.{is_same_key}
 use Rattle.pg_edges.specs.Keys.{has_entry}
 use Rattle.pg_entries.specs.declared.cell.Cell.{Cell}
 use Rattle.pg_entries.specs.declared.cell.Cell.TheVariants as cell
-use Rattle.pg_msg.specs.declared.message.Ends.{Ends}
-use Rattle.pg_msg.specs.declared.message.Message.{Message}
-use Rattle.pg_msg.specs.declared.message.Message.TheVariants as message
-use Rattle.pg_msg.specs.declared.message.Sent.{Sent}
-use Rattle.pg_msg.specs.declared.work.Linked.{Linked}
-use Rattle.pg_msg.specs.declared.work.Touched.{Touched}
-use Rattle.pg_names.specs.Names.{is_dir, own_or_blank}
-use Rattle.pg_replica.specs.declared.replica.Replica.{Replica}
-use Rattle.pg_store.specs.declared.store.Store.{Store}
-use Rattle.pg_store.specs.Cells.{cell_at}
+use Rattle.pg_pieces.specs.pg_msg.declared.message.Ends.{Ends}
+use Rattle.pg_pieces.specs.pg_msg.declared.message.Message.{Message}
+use Rattle.pg_pieces.specs.pg_msg.declared.message.Message.TheVariants as message
+use Rattle.pg_pieces.specs.pg_msg.declared.message.Sent.{Sent}
+use Rattle.pg_pieces.specs.pg_msg.declared.work.Linked.{Linked}
+use Rattle.pg_pieces.specs.pg_msg.declared.work.Touched.{Touched}
+use Rattle.pg_pieces.specs.pg_names.Names.{is_dir, own_or_blank}
+use Rattle.pg_pieces.specs.pg_replica.declared.replica.Replica.{Replica}
+use Rattle.pg_pieces.specs.pg_store.declared.store.Store.{Store}
+use Rattle.pg_pieces.specs.pg_store.Cells.{cell_at}
 use Rattle.pg_pieces.specs.Posting.{sent_to}
 
 -- ---- one cell

@@ -1,12 +1,12 @@
 -- The house rules, behind the first effect of an event.
 use Rattle.std.specs.Prelude.{if◌then◌else◌, List, [], ◌∷◌, drop, length}
 use Rattle.pg_base.specs.declared.id.FileId.{FileId}
-use Rattle.pg_msg.specs.declared.work.Touched.{Touched}
-use Rattle.pg_msg.specs.declared.work.Work.{Work}
-use Rattle.pg_house.specs.House.{house}
-use Rattle.pg_house.specs.Work.{State, state_of}
-use Rattle.pg_store.specs.declared.store.Store.{Store}
-use Rattle.pg_store.specs.Store.{touch, with_names}
+use Rattle.pg_pieces.specs.pg_msg.declared.work.Touched.{Touched}
+use Rattle.pg_pieces.specs.pg_msg.declared.work.Work.{Work}
+use Rattle.pg_pieces.specs.pg_house.House.{house}
+use Rattle.pg_pieces.specs.pg_house.Work.{State, state_of}
+use Rattle.pg_pieces.specs.pg_store.declared.store.Store.{Store}
+use Rattle.pg_pieces.specs.pg_store.Store.{touch, with_names}
 use Rattle.pg_pieces.specs.Done.{Done, idle}
 use Rattle.pg_pieces.specs.Golds.{goldless, is_goldless}
 use Rattle.pg_pieces.specs.Making.{raise_flag}

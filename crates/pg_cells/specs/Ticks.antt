@@ -1,7 +1,7 @@
 -- A tick.
 use Rattle.std.specs.Prelude.{◌++◌}
-use Rattle.pg_msg.specs.declared.work.Work.{Work}
-use Rattle.pg_store.specs.declared.store.Store.{Store}
+use Rattle.pg_pieces.specs.pg_msg.declared.work.Work.{Work}
+use Rattle.pg_pieces.specs.pg_store.declared.store.Store.{Store}
 use Rattle.pg_cells.specs.Sending.{cells_where, is_any}
 
 -- what tells of the cell of each unacknowledged key is sent again, but for those that wait

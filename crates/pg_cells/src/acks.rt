@@ -4,9 +4,9 @@ ghost use Rattle.std.specs.Prelude.{◌≡◌};
 ghost use Rattle.pg_cells.specs.Acks.{ack};
 
 use pg_edges::Key;
-use pg_msg::{Ends, Work};
 use pg_pieces::link_of;
-use pg_store::Store;
+use pg_pieces::msg::{Ends, Work};
+use pg_pieces::store::Store;
 
 /// Takes the key off the sender's edge where the tag is the present one there, if the message is
 /// accepted. It takes no memory, and nothing comes of it.

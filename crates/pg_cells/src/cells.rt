@@ -6,10 +6,10 @@ ghost use Rattle.pg_pieces.specs.Done.{idle};
 
 use pg_base::FileId;
 use pg_entries::Cell;
-use pg_msg::{Ends, Message, Work, key_of};
-use pg_names::is_dir;
+use pg_pieces::msg::{Ends, Message, Work, key_of};
+use pg_pieces::names::is_dir;
+use pg_pieces::store::Store;
 use pg_pieces::{EdgeUse, accept, post, take_entry_cell, take_flag, take_place, take_version};
-use pg_store::Store;
 use std::alloc::AllocError;
 
 /// Only directories have entries, and only files have versions.

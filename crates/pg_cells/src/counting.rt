@@ -1,13 +1,13 @@
 //! How much a server owes.
 
 ghost use Rattle.std.specs.Prelude.{◌≡◌, ◌-◌, ◌^◌, length, min};
-ghost use Rattle.pg_store.specs.Store.{replica_at};
+ghost use Rattle.pg_pieces.specs.pg_store.Store.{replica_at};
 ghost use Rattle.pg_cells.specs.Counts.{edge_keys, file_keys, key_count};
 
 use pg_base::FileId;
 use pg_edges::Edge;
-use pg_replica::Replica;
-use pg_store::Store;
+use pg_pieces::replica::Replica;
+use pg_pieces::store::Store;
 
 /// The unacknowledged keys of a replica, up to the greatest number.
 fn replica_keys(replica: &Replica) -> u64

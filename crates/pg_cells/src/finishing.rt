@@ -1,15 +1,15 @@
 //! The end of an event.
 
 ghost use Rattle.std.specs.Prelude.{◌≡◌, List, IfOk, OnOk};
-ghost use Rattle.pg_msg.specs.declared.work.Touched.{Touched};
+ghost use Rattle.pg_pieces.specs.pg_msg.declared.work.Touched.{Touched};
 ghost use Rattle.pg_cells.specs.KeyFilter.{ListsLinked, ListsTouched};
 ghost use Rattle.pg_cells.specs.Finish.{finish};
 
 use crate::key_filter::KeyFilter;
 use crate::sending::send_cells;
 use pg_base::FileId;
-use pg_msg::{Linked, Touched, Work};
-use pg_store::Store;
+use pg_pieces::msg::{Linked, Touched, Work};
+use pg_pieces::store::Store;
 use std::alloc::{AllocError, Global};
 use std::collections::BTreeMap;
 

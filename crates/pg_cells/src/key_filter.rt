@@ -8,7 +8,7 @@ ghost use Rattle.pg_cells.specs.Sending.{is_linked, is_touched};
 
 use pg_base::{FileId, NodeId};
 use pg_edges::Key;
-use pg_msg::{Linked, Touched};
+use pg_pieces::msg::{Linked, Touched};
 
 /// The filter of unacknowledged keys: which of them are sent.
 #[derive(Clone, Copy, Debug)]

@@ -4,10 +4,10 @@
 ghost use Rattle.std.specs.Prelude.{◌≡◌, false};
 ghost use Rattle.pg_base.specs.declared.id.FileId.{FileId};
 ghost use Rattle.pg_register.specs.Flag.{is_removed};
-ghost use Rattle.pg_msg.specs.declared.work.Work.{Work};
-ghost use Rattle.pg_house.specs.Calm.{IsCalm};
-ghost use Rattle.pg_house.specs.Facts.{AreByServer, AreOrdered, IsLast, IsOfDirs};
-ghost use Rattle.pg_store.specs.declared.store.Store.{Store};
+ghost use Rattle.pg_pieces.specs.pg_msg.declared.work.Work.{Work};
+ghost use Rattle.pg_pieces.specs.pg_house.Calm.{IsCalm};
+ghost use Rattle.pg_pieces.specs.pg_house.Facts.{AreByServer, AreOrdered, IsLast, IsOfDirs};
+ghost use Rattle.pg_pieces.specs.pg_store.declared.store.Store.{Store};
 ghost use Rattle.pg_pieces.specs.Done.{idle};
 ghost use Rattle.pg_pieces.specs.Golds.{is_goldless};
 ghost use Rattle.pg_cells.specs.Raised.{DiffersByGolds};

@@ -45,3 +45,4 @@ pub use ticks::tick;
 
 // What the floors above name through this one.
 pub use pg_pieces as pieces;
+pub use pg_pieces::{call, house, intent, msg, names, replica, store};

@@ -1,8 +1,8 @@
 //! Cells as they are sent, along edges on which their keys are unacknowledged.
 
 ghost use Rattle.std.specs.Prelude.{◌≡◌, ◌++◌, ◌∷◌, [], IfOk, OnOk, not};
-ghost use Rattle.pg_names.specs.Names.{is_dir, own_or_blank};
-ghost use Rattle.pg_store.specs.Store.{replica_at};
+ghost use Rattle.pg_pieces.specs.pg_names.Names.{is_dir, own_or_blank};
+ghost use Rattle.pg_pieces.specs.pg_store.Store.{replica_at};
 ghost use Rattle.pg_cells.specs.KeyFilter.{ListsChosen, chosen_cells, file_cells, passes};
 ghost use Rattle.pg_cells.specs.Sending.{cell_to, cells_where, edge_cells, is_place, key_cell, replica_cells, told_as, waits};
 
@@ -10,11 +10,11 @@ use crate::key_filter::KeyFilter;
 use pg_base::{FileId, Items, Shared, Version};
 use pg_edges::{Edge, Key};
 use pg_entries::Cell;
-use pg_msg::{Ends, Message, Sent};
-use pg_names::is_dir;
+use pg_pieces::msg::{Ends, Message, Sent};
+use pg_pieces::names::is_dir;
+use pg_pieces::replica::Replica;
 use pg_pieces::send;
-use pg_replica::Replica;
-use pg_store::Store;
+use pg_pieces::store::Store;
 use std::alloc::AllocError;
 use std::collections::BTreeMap;
 

@@ -5,10 +5,10 @@ ghost use Rattle.pg_pieces.specs.Done.{idle};
 ghost use Rattle.pg_cells.specs.Settling.{raise_gold, raise_golds, rules, settle, touch_all};
 
 use pg_base::FileId;
-use pg_house::house;
-use pg_msg::{Touched, Work};
+use pg_pieces::house::house;
+use pg_pieces::msg::{Touched, Work};
+use pg_pieces::store::{LATEST_TIME, Store};
 use pg_pieces::{goldless, is_goldless, raise_flag};
-use pg_store::{LATEST_TIME, Store};
 use std::alloc::AllocError;
 
 /// Touches each of these keys, in their order.

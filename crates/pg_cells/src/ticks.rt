@@ -5,8 +5,8 @@ ghost use Rattle.pg_cells.specs.Ticks.{tick};
 
 use crate::key_filter::KeyFilter;
 use crate::sending::send_cells;
-use pg_msg::Work;
-use pg_store::Store;
+use pg_pieces::msg::Work;
+use pg_pieces::store::Store;
 use std::alloc::AllocError;
 
 /// Sends what tells of the cell of each unacknowledged key again, by file, peer and key, but for

@@ -11,9 +11,9 @@ use Rattle.pg_path.specs.Name.{IsClientName}
 use Rattle.pg_path.specs.Path.{HasBadName, IsComponent, IsPath, parts_of, path_text}
 use Rattle.pg_path.specs.Tested.{is_client_name, is_component}
 use Rattle.pg_path.proofs.Tested.{client_name, client_name_is, component, component_is}
-use Rattle.pg_call.specs.declared.refusal.Refusal.TheVariants.{BadPath}
+use Rattle.pg_pieces.specs.pg_call.declared.refusal.Refusal.TheVariants.{BadPath}
 use Rattle.pg_lookup.specs.Walk.{refused}
-use Rattle.pg_house.proofs.Truths.{bool_cases, chosen_false}
+use Rattle.pg_pieces.proofs.pg_house.Truths.{bool_cases, chosen_false}
 use Rattle.pg_checks.specs.Paths.{all_of, checked_parts, is_none, last_of, path_of}
 
 -- ---- components and client names

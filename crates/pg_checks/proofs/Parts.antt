@@ -1,8 +1,8 @@
 -- An answer by its parts.
 use Rattle.std.proofs.Common.{◌≡◌, ◌∙◌, ap}
-use Rattle.pg_msg.specs.declared.work.Work.{Work}
-use Rattle.pg_call.specs.declared.reply.Reply.{Reply}
-use Rattle.pg_store.specs.declared.store.Store.{Store}
+use Rattle.pg_pieces.specs.pg_msg.declared.work.Work.{Work}
+use Rattle.pg_pieces.specs.pg_call.declared.reply.Reply.{Reply}
+use Rattle.pg_pieces.specs.pg_store.declared.store.Store.{Store}
 use Rattle.pg_checks.specs.Answer.{Answer}
 
 abbrev answer_of : Store → Work → Reply → Answer

@@ -4,15 +4,15 @@ use Rattle.std.specs.Prelude.{nat_lt, slice_index}
 use Rattle.std.specs.List.{position}
 use Rattle.pg_path.specs.Path.{parts_of}
 use Rattle.pg_path.specs.Tested.{is_client_name, is_component}
-use Rattle.pg_call.specs.declared.refusal.Refusal.{Refusal}
-use Rattle.pg_call.specs.declared.refusal.Refusal.TheVariants.{BadPath, ClockEnd, NotYet}
-use Rattle.pg_house.proofs.Truths.{chosen}
+use Rattle.pg_pieces.specs.pg_call.declared.refusal.Refusal.{Refusal}
+use Rattle.pg_pieces.specs.pg_call.declared.refusal.Refusal.TheVariants.{BadPath, ClockEnd, NotYet}
+use Rattle.pg_pieces.proofs.pg_house.Truths.{chosen}
 use Rattle.pg_lookup.specs.declared.paths.Found.{Found}
 use Rattle.pg_lookup.specs.declared.paths.LookupError.{LookupError}
 use Rattle.pg_lookup.specs.declared.paths.LookupError.TheVariants as stop
 use Rattle.pg_lookup.specs.Walk.{and_then, refused}
-use Rattle.pg_store.specs.declared.store.Store.{Store}
-use Rattle.pg_store.specs.Store.{is_before_clock_end}
+use Rattle.pg_pieces.specs.pg_store.declared.store.Store.{Store}
+use Rattle.pg_pieces.specs.pg_store.Store.{is_before_clock_end}
 use Rattle.pg_checks.specs.Answer.{unless}
 use Rattle.pg_checks.specs.Checks.{in_time}
 use Rattle.pg_checks.specs.Paths.{all_of, is_none, last_of, new_path_of, path_of, paths_of, with_new_name}

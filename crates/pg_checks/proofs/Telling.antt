@@ -2,7 +2,7 @@
 use Rattle.std.proofs.Common.{◌≡◌, Bool, true, false, Result, Ok, Err, refl, sym, subst, ap}
 use Rattle.std.specs.Result.{is_ok}
 use Rattle.std.proofs.lemmas.Bool.{false≢true}
-use Rattle.pg_call.specs.declared.refusal.Refusal.{Refusal}
+use Rattle.pg_pieces.specs.pg_call.declared.refusal.Refusal.{Refusal}
 use Rattle.pg_lookup.specs.declared.paths.LookupError.{LookupError}
 use Rattle.pg_lookup.specs.Walk.{and_then}
 use Rattle.pg_checks.specs.declared.call_error.CallError.{CallError}

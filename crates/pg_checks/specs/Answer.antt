@@ -1,15 +1,15 @@
 -- What comes of a call, and how a call is refused: with the first reason in the order of the
 -- refusals. Then nothing has changed, but that what is not here yet is asked for.
 use Rattle.std.specs.Prelude.{◌≡◌, Bool, if◌then◌else◌, Result, Ok, Err}
-use Rattle.pg_msg.specs.declared.work.Work.{Work}
-use Rattle.pg_call.specs.declared.refusal.Refusal.{Refusal}
-use Rattle.pg_call.specs.declared.refusal.Refusal.TheVariants as refusal
-use Rattle.pg_call.specs.declared.reply.Reply.{Reply}
-use Rattle.pg_call.specs.declared.reply.Reply.TheVariants.{Refused}
+use Rattle.pg_pieces.specs.pg_msg.declared.work.Work.{Work}
+use Rattle.pg_pieces.specs.pg_call.declared.refusal.Refusal.{Refusal}
+use Rattle.pg_pieces.specs.pg_call.declared.refusal.Refusal.TheVariants as refusal
+use Rattle.pg_pieces.specs.pg_call.declared.reply.Reply.{Reply}
+use Rattle.pg_pieces.specs.pg_call.declared.reply.Reply.TheVariants.{Refused}
 use Rattle.pg_lookup.specs.declared.paths.LookupError.{LookupError}
 use Rattle.pg_lookup.specs.declared.paths.LookupError.TheVariants as stop
 use Rattle.pg_lookup.specs.Walk.{refused}
-use Rattle.pg_store.specs.declared.store.Store.{Store}
+use Rattle.pg_pieces.specs.pg_store.declared.store.Store.{Store}
 use Rattle.pg_pieces.specs.Done.{Done}
 use Rattle.pg_checks.specs.declared.call_error.CallError.{CallError}
 use Rattle.pg_checks.specs.declared.call_error.CallError.TheVariants as denied

@@ -6,18 +6,18 @@ use Rattle.pg_base.specs.declared.id.FileId.{FileId}
 use Rattle.pg_base.specs.Stamp.{is_before}
 use Rattle.pg_register.specs.Flag.{first_other_gold}
 use Rattle.pg_entries.specs.declared.entry.Entry.{Entry}
-use Rattle.pg_intent.specs.declared.intent.Intent.{Intent}
-use Rattle.pg_intent.specs.declared.intent.Intent.TheVariants as intent
-use Rattle.pg_msg.specs.declared.message.Message.TheVariants as message
-use Rattle.pg_msg.specs.declared.work.Work.{Work}
-use Rattle.pg_names.specs.Names.{NamesValue, cell_at}
+use Rattle.pg_pieces.specs.pg_intent.declared.intent.Intent.{Intent}
+use Rattle.pg_pieces.specs.pg_intent.declared.intent.Intent.TheVariants as intent
+use Rattle.pg_pieces.specs.pg_msg.declared.message.Message.TheVariants as message
+use Rattle.pg_pieces.specs.pg_msg.declared.work.Work.{Work}
+use Rattle.pg_pieces.specs.pg_names.Names.{NamesValue, cell_at}
 use Rattle.pg_lookup.specs.declared.paths.Found.{Found}
 use Rattle.pg_lookup.specs.declared.paths.Way.{Way}
 use Rattle.pg_lookup.specs.declared.paths.Way.TheVariants as way
-use Rattle.pg_store.specs.declared.store.Store.{Store}
-use Rattle.pg_store.specs.declared.wishes.Wish.{Wish}
-use Rattle.pg_store.specs.Births.{draw_birth, fill_at, wish_at, with_birth, with_wish}
-use Rattle.pg_store.specs.Servers.{next_target}
+use Rattle.pg_pieces.specs.pg_store.declared.store.Store.{Store}
+use Rattle.pg_pieces.specs.pg_store.declared.wishes.Wish.{Wish}
+use Rattle.pg_pieces.specs.pg_store.Births.{draw_birth, fill_at, wish_at, with_birth, with_wish}
+use Rattle.pg_pieces.specs.pg_store.Servers.{next_target}
 use Rattle.pg_pieces.specs.Done.{Done, idle}
 use Rattle.pg_pieces.specs.Posting.{post}
 

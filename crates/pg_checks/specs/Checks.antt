@@ -4,17 +4,17 @@ use Rattle.pg_base.specs.declared.id.FileId.{FileId}
 use Rattle.pg_path.specs.declared.row.Row.{Row}
 use Rattle.pg_register.specs.Place.{root}
 use Rattle.pg_entries.specs.Shown.{listing_of}
-use Rattle.pg_names.specs.Names.{InodeValue, NamesValue, is_dir, known}
-use Rattle.pg_house.specs.Returning.{is_root}
+use Rattle.pg_pieces.specs.pg_names.Names.{InodeValue, NamesValue, is_dir, known}
+use Rattle.pg_pieces.specs.pg_house.Returning.{is_root}
 use Rattle.pg_lookup.specs.declared.paths.LookupError.{LookupError}
 use Rattle.pg_lookup.specs.declared.paths.Way.TheVariants.{Id}
 use Rattle.pg_lookup.specs.Chain.{is_above}
 use Rattle.pg_lookup.specs.Walk.{and_then, is_dir_full, reach, reach_parent, reached, refused, shown_by}
-use Rattle.pg_call.specs.declared.call.Target.{Target}
-use Rattle.pg_call.specs.declared.call.Target.TheVariants as target
-use Rattle.pg_call.specs.declared.refusal.Refusal.TheVariants.{ClockEnd, IsDir, Root, Exists, DirFull, NotEmpty, Loop}
-use Rattle.pg_store.specs.declared.store.Store.{Store}
-use Rattle.pg_store.specs.Store.{is_before_clock_end}
+use Rattle.pg_pieces.specs.pg_call.declared.call.Target.{Target}
+use Rattle.pg_pieces.specs.pg_call.declared.call.Target.TheVariants as target
+use Rattle.pg_pieces.specs.pg_call.declared.refusal.Refusal.TheVariants.{ClockEnd, IsDir, Root, Exists, DirFull, NotEmpty, Loop}
+use Rattle.pg_pieces.specs.pg_store.declared.store.Store.{Store}
+use Rattle.pg_pieces.specs.pg_store.Store.{is_before_clock_end}
 use Rattle.pg_checks.specs.declared.checks.Move.{Move}
 use Rattle.pg_checks.specs.declared.checks.NewName.{NewName}
 use Rattle.pg_checks.specs.declared.paths.Paths.{Paths}

@@ -2,3 +2,4 @@ pub mod Asking
 pub mod Answer
 pub mod Paths
 pub mod Checks
+pub use Rattle.pg_lookup.specs as pg_lookup

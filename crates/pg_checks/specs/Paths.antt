@@ -3,7 +3,7 @@ use Rattle.std.specs.Prelude.{ℕ, ◌+◌, ◌==◌, Bool, true, false, not, na
 use Rattle.std.specs.List.{position}
 use Rattle.pg_path.specs.Path.{parts_of}
 use Rattle.pg_path.specs.Tested.{is_client_name, is_component}
-use Rattle.pg_call.specs.declared.refusal.Refusal.TheVariants.{BadPath}
+use Rattle.pg_pieces.specs.pg_call.declared.refusal.Refusal.TheVariants.{BadPath}
 use Rattle.pg_lookup.specs.declared.paths.LookupError.{LookupError}
 use Rattle.pg_lookup.specs.Walk.{and_then, refused}
 use Rattle.pg_checks.specs.declared.paths.Paths.{Paths}

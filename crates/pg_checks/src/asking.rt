@@ -2,21 +2,21 @@
 
 ghost use Rattle.std.specs.Prelude.{◌≡◌, IfOk, OnOk};
 ghost use Rattle.std.specs.Option.{option_copied};
-ghost use Rattle.pg_names.specs.Names.{cell_at};
+ghost use Rattle.pg_pieces.specs.pg_names.Names.{cell_at};
 ghost use Rattle.pg_checks.specs.Answer.{Leaves, deny};
-ghost use Rattle.pg_store.specs.Births.{fill_at};
+ghost use Rattle.pg_pieces.specs.pg_store.Births.{fill_at};
 ghost use Rattle.pg_checks.specs.Asking.{ask_first, ask_for, cell_in, dir_by, fetch, gold_of, holder, is_later, latest, standing, wish_by};
 
 use crate::call_error::CallError;
 use pg_base::{FileId, NodeId};
-use pg_call::{Refusal, Reply};
 use pg_entries::Entry;
-use pg_intent::{Intent, IntentKey};
 use pg_lookup::{Found, LookupError, Way};
-use pg_msg::{Message, Work};
-use pg_names::Names;
+use pg_pieces::call::{Refusal, Reply};
+use pg_pieces::intent::{Intent, IntentKey};
+use pg_pieces::msg::{Message, Work};
+use pg_pieces::names::Names;
 use pg_pieces::post;
-use pg_store::{Store, Wish};
+use pg_pieces::store::{Store, Wish};
 use std::alloc::AllocError;
 
 /// What the client is told whose call does not go on. What is not here yet is fetched.

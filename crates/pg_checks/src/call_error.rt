@@ -4,8 +4,8 @@ ghost use Rattle.std.specs.Prelude.{◌≡◌};
 ghost use Rattle.pg_checks.specs.declared.call_error.CallError.TheVariants as denied;
 ghost use Rattle.pg_lookup.specs.declared.paths.LookupError.TheVariants as stop;
 
-use pg_call::Refusal;
 use pg_lookup::LookupError;
+use pg_pieces::call::Refusal;
 use std::alloc::AllocError;
 
 /// Why a call does not go on: it is refused or came to what is not here yet, or memory ran out.

@@ -1,19 +1,19 @@
 //! What a call is about, and why it is refused before anything is done.
 
 ghost use Rattle.std.specs.Prelude.{◌≡◌, IfOk};
-ghost use Rattle.pg_names.specs.Names.{known};
+ghost use Rattle.pg_pieces.specs.pg_names.Names.{known};
 ghost use Rattle.pg_checks.specs.Answer.{Tells};
 ghost use Rattle.pg_checks.specs.Checks.{dir_at, empty_dir_at, file_at, first_child, first_row, id_at, in_time, move_along, move_of, move_to, new_name, new_name_in, target_at, thing_at, when_free};
 
 use crate::call_error::CallError;
 use crate::paths::{Paths, last_of, new_path_of, path_of, paths_of};
 use pg_base::{FileId, SharedBytes};
-use pg_call::{Refusal, Target};
-use pg_house::is_root;
 use pg_lookup::{Found, ROOT, Way, is_above, is_dir_full, reach, reach_parent, reached, shown_by};
-use pg_names::{Names, is_dir};
 use pg_path::{Path, Row};
-use pg_store::Store;
+use pg_pieces::call::{Refusal, Target};
+use pg_pieces::house::is_root;
+use pg_pieces::names::{Names, is_dir};
+use pg_pieces::store::Store;
 use std::alloc::AllocError;
 
 /// The directory in which a new name is to be, and the name.

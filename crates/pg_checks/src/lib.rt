@@ -30,3 +30,4 @@ pub use checks::{
     Move, NewName, dir_at, empty_dir_at, file_at, in_time, move_of, new_name, target_at,
 };
 pub use paths::Paths;
+pub use pg_lookup as lookup;

@@ -6,8 +6,8 @@ ghost use Rattle.pg_path.specs.Tested.{is_client_name};
 ghost use Rattle.pg_checks.specs.Paths.{is_none, last_of, new_path_of, path_of, paths_of};
 
 use crate::call_error::CallError;
-use pg_call::Refusal;
 use pg_path::{BadPath, Path, is_client_name};
+use pg_pieces::call::Refusal;
 use std::alloc::Global;
 
 /// The paths of a move. The first is walked to its end, the second to the parent of its last

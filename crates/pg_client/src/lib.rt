@@ -21,7 +21,5 @@
 mod asking;
 mod hearing;
 mod telling;
-#[cfg(test)]
-mod tests;
 
 pub use asking::ask;

@@ -1,26 +1,26 @@
--- Words have one command, and then no fault.
-use Rattle.std.proofs.Common.{ℕ, ◌≡◌, ◌≤◌, ◌^◌, ◌-◌, ◌∙◌, List, [], ◌∷◌, ap, arith, decimal, inl, inr, map, refl, sym, subst, true, false}
+-- Words that have a command have no fault.
+use Rattle.std.proofs.Common.{ℕ, ◌≡◌, ◌≤◌, ◌^◌, ◌-◌, ◌∙◌, List, [], ◌∷◌, Option, Some, None, ap, arith, codes, decimal, inl, inr, map, refl, sym, subst, true, false}
 use Rattle.std.proofs.lemmas.Fmt.{decimal_injective}
-use Rattle.pg_call.proofs.CallSpelling.{one_call}
 use Rattle.pg_call.proofs.CallTable.{call_tabled}
 use Rattle.pg_call.specs.Call.{argument_words, call_kind}
 use Rattle.pg_call.specs.Fields.{AreWordsOf, Field, call_fields}
-use Rattle.pg_command.proofs.Faults.{AreFit, arguments_fit, fault_of_verb, none_wrong, not_tick, same_asked, same_verb}
+use Rattle.pg_command.proofs.Faults.{AreFit, arguments_fit, fault_of_verb, none_wrong, same_asked}
+use Rattle.pg_command.proofs.Helps.{help_spelled, with_verb}
 use Rattle.pg_command.specs.Slots.{AreArguments, AreShort, IsFirstWrong, IsNumber}
 use Rattle.pg_command.specs.Slots.Slot.{Argued}
-use Rattle.pg_command.specs.Verb.{verb_word}
-use Rattle.pg_command.specs.Words.{AreNumbers, IsCalling, IsCommand, IsFaultIn, IsFaultOf, IsFaultOfArguments, IsFaultOfAsked, IsFaultOfCall, IsFaultOfNode, IsFaultOfPort, IsNode, IsPort, IsRequest, IsServerOf, asked_fields, asked_word, command_words, node_slots, node_words, number_slots, number_words, request_words}
+use Rattle.pg_command.specs.Verb.{help_word}
+use Rattle.pg_command.specs.Words.{AreNumbers, IsCalling, IsCommand, IsFaultIn, IsFaultOf, IsFaultOfArguments, IsFaultOfAll, IsFaultOfAsked, IsFaultOfCall, IsFaultOfNode, IsFaultOfPort, IsNode, IsPort, IsRequest, IsServerOf, asked_fields, asked_word, command_words, node_slots, node_words, number_slots, number_words, request_words}
 use Rattle.pg_command.specs.declared.asked.Asked.{Asked}
 use Rattle.pg_command.specs.declared.asked.Asked.TheVariants as asked
 use Rattle.pg_command.specs.declared.command.Command.{Command}
-use Rattle.pg_command.specs.declared.command.Command.TheVariants.{Replay, Make, Soak, Node, Call}
+use Rattle.pg_command.specs.declared.command.Command.TheVariants.{Replay, Make, Soak, Node, Call, Help}
 use Rattle.pg_command.specs.declared.command.Numbers.{Numbers}
 use Rattle.pg_command.specs.declared.verb.Verb.{Verb}
 use Rattle.pg_command.specs.declared.verb.Verb.TheVariants as verb
 use Rattle.pg_packet_write.specs.declared.datagram.Request.{Request}
 use Rattle.pg_packet_write.specs.declared.datagram.Request.TheVariants as request
 use Rattle.pg_sched.specs.Schedule.{IsCount}
-use Rattle.pg_words.proofs.Splitting.{behind, word_at}
+use Rattle.pg_words.proofs.Splitting.{behind}
 
 -- ---- no fault
 
@@ -133,171 +133,73 @@ arguments_of_request request.Tick h = tt
 
 -- ---- the command's own words
 
-abbrev pub verb_of : Command → Verb
-verb_of (Replay metered) = verb.Replay
-verb_of (Make numbers) = verb.Make
-verb_of (Soak numbers) = verb.Soak
-verb_of (Node server servers port name turns) = verb.Node
-verb_of (Call server port request) = verb.Call
+abbrev pub verb_of : Command → Option Verb
+verb_of (Replay metered) = Some verb.Replay
+verb_of (Make numbers) = Some verb.Make
+verb_of (Soak numbers) = Some verb.Soak
+verb_of (Node server servers port name turns) = Some verb.Node
+verb_of (Call server port request) = Some verb.Call
+verb_of (Help help) = help.of
 
-abbrev pub words_behind_verb : Command → List (List ℕ)
-words_behind_verb command = behind (command_words command)
+-- what stands behind the verb's word, where there is one
+abbrev pub rest_of : Command → List (List ℕ)
+rest_of (Replay metered) = behind (command_words (Replay metered))
+rest_of (Make numbers) = number_words numbers
+rest_of (Soak numbers) = number_words numbers
+rest_of (Node server servers port name turns) = node_words server servers port name turns
+rest_of (Call server port request) = decimal server ∷ decimal port ∷ request_words request
+rest_of (Help help) = help_word help.long ∷ []
 
-command_spelled : (c : Command) → command_words c ≡ verb_word (verb_of c) ∷ words_behind_verb c
+pub command_spelled : (c : Command) → command_words c ≡ with_verb (verb_of c) (rest_of c)
 command_spelled (Replay false) = refl
 command_spelled (Replay true) = refl
 command_spelled (Make numbers) = refl
 command_spelled (Soak numbers) = refl
 command_spelled (Node server servers port name turns) = refl
 command_spelled (Call server port request) = refl
+command_spelled (Help help) = help_spelled help.of help.long
 
-no_fault_of : (c : Command) (k : ℕ) → IsCommand c → IsFaultOf (verb_of c) (words_behind_verb c) k → ⊥
-no_fault_of (Replay false) k h f = f
-no_fault_of (Replay true) k h (inl f) = f.0 refl
-no_fault_of (Replay true) k h (inr f) = f.1
-no_fault_of (Make n) k h f = none_wrong 2 number_slots (number_words n) k (numbers_fit n h) f
-no_fault_of (Soak n) k h f = none_wrong 2 number_slots (number_words n) k (numbers_fit n h) f
-no_fault_of (Node server servers port name turns) k h f =
-    no_fault_of_node server servers port name turns k h f
-no_fault_of (Call server port request) k h f =
+-- a fault of a command's words stands behind its verb's word
+fault_behind : (words : List (List ℕ)) (c : Command) (v : Verb) (k : ℕ) → verb_of c ≡ Some v
+    → words ≡ command_words c
+    → IsFaultIn words k
+    → IsFaultOf v (rest_of c) k
+fault_behind words c v k is e f =
+    let P : List (List ℕ) → Type 0 = λ ws. IsFaultIn ws k in
+    let same = e ∙ command_spelled c ∙ ap (λ o. with_verb o (rest_of c)) is in
+    fault_of_verb v (rest_of c) k (subst P same f)
+
+no_fault_of_call_words : (server port : ℕ) (r : Request) (k : ℕ) → IsCalling server port r
+    → IsFaultOfCall (decimal server ∷ decimal port ∷ request_words r) k
+    → ⊥
+no_fault_of_call_words server port r k h f =
     let P : List (List ℕ) → Type 0 = λ ws. IsFaultOfCall (decimal server ∷ decimal port ∷ ws) k in
-    no_fault_of_call server port (asked_of request) (words_of request) k h.count h.ports
-    (arguments_of_request request h.fits)
-    (subst P (request_spelled request) f)
+    no_fault_of_call server port (asked_of r) (words_of r) k h.count h.ports
+    (arguments_of_request r h.fits)
+    (subst P (request_spelled r) f)
+
+no_fault_of_metered : (k : ℕ) → IsFaultOf verb.Replay (codes "--meters" ∷ []) k → ⊥
+no_fault_of_metered k (inl f) = f.0 refl
+no_fault_of_metered k (inr f) = f.1
 
 pub no_fault : (words : List (List ℕ)) (c : Command) (k : ℕ) → IsCommand c
     → words ≡ command_words c
-    → IsFaultIn words k
+    → IsFaultOfAll words k
     → ⊥
-no_fault words c k h e f =
-    let P : List (List ℕ) → Type 0 = λ ws. IsFaultIn ws k in
-    let wrong = subst P (e ∙ command_spelled c) f in
-    no_fault_of c k h (fault_of_verb (verb_of c) (words_behind_verb c) k wrong)
-
--- ---- one command
-
-numbers_of_parts : (a b c d e f : ℕ) → a ≡ d → b ≡ e → c ≡ f
-    → ◌≡◌ {A = Numbers} (record { seed = a; servers = b; events = c })
-    (record { seed = d; servers = e; events = f })
-numbers_of_parts a b c d e f p q r = cc
-
-one_numbers : (m n : Numbers) → AreNumbers m → AreNumbers n → number_words m ≡ number_words n
-    → m ≡ n
-one_numbers m n h k e =
-    let ms = h.seed in
-    let ns = k.seed in
-    let mv = h.servers in
-    let nv = k.servers in
-    let me = h.events in
-    let ne = k.events in
-    let a : decimal m.seed ≡ decimal n.seed = cc in
-    let b : decimal m.servers ≡ decimal n.servers = cc in
-    let c : decimal m.events ≡ decimal n.events = cc in
-    numbers_of_parts m.seed m.servers m.events n.seed n.servers n.events
-    (decimal_injective m.seed n.seed ms ns a)
-    (decimal_injective m.servers n.servers (omega arith) (omega arith) b)
-    (decimal_injective m.events n.events (omega arith) (omega arith) c)
-
-node_of_parts : (a b c d e f g h : ℕ) (x y : List ℕ) → a ≡ e → b ≡ f → c ≡ g → x ≡ y → d ≡ h
-    → Node a b c x d ≡ Node e f g y h
-node_of_parts a b c d e f g h x y p q r s t = cc
-
-one_node : (a b c d e f g h : ℕ) (x y : List ℕ) → IsNode a b c x d → IsNode e f g y h
-    → node_words a b c x d ≡ node_words e f g y h
-    → Node a b c x d ≡ Node e f g y h
-one_node a b c d e f g h x y m n same =
-    let mc = m.count in
-    let nc = n.count in
-    let ma = m.among in
-    let na = n.among in
-    let mp = m.ports.most in
-    let np = n.ports.most in
-    let ea : decimal a ≡ decimal e = cc in
-    let eb : decimal b ≡ decimal f = cc in
-    let ec : decimal c ≡ decimal g = cc in
-    let ex : x ≡ y = cc in
-    let ed : decimal d ≡ decimal h = cc in
-    let mb = mc.1 in
-    let nb = nc.1 in
-    node_of_parts a b c d e f g h x y
-    (decimal_injective a e (omega arith) (omega arith) ea)
-    (decimal_injective b f (omega arith) (omega arith) eb)
-    (decimal_injective c g (omega arith) (omega arith) ec)
-    ex
-    (decimal_injective d h m.few n.few ed)
-
-one_request : (a b : Request) → IsRequest a → IsRequest b → request_words a ≡ request_words b
-    → a ≡ b
-one_request (request.Call a) (request.Call b) h k e = ap request.Call (one_call a b h.0 k.0 e)
-one_request (request.Call a) request.Tick h k e = absurd (not_tick (call_kind a) (ap (word_at 0) e))
-one_request request.Tick (request.Call b) h k e =
-    absurd (not_tick (call_kind b) (ap (word_at 0) (sym e)))
-one_request request.Tick request.Tick h k e = refl
-
-call_of_parts : (a b c d : ℕ) (x y : Request) → a ≡ c → b ≡ d → x ≡ y → Call a b x ≡ Call c d y
-call_of_parts a b c d x y p q r = cc
-
-one_calling : (a b c d : ℕ) (x y : Request) → IsCalling a b x → IsCalling c d y
-    → ◌≡◌ {A = List (List ℕ)} (decimal a ∷ decimal b ∷ request_words x)
-    (decimal c ∷ decimal d ∷ request_words y)
-    → Call a b x ≡ Call c d y
-one_calling a b c d x y m n same =
-    let mc = m.count.1 in
-    let nc = n.count.1 in
-    let mp = m.ports.most in
-    let np = n.ports.most in
-    let ea : decimal a ≡ decimal c = cc in
-    let eb : decimal b ≡ decimal d = cc in
-    let ex : request_words x ≡ request_words y = cc in
-    call_of_parts a b c d x y
-    (decimal_injective a c (omega arith) (omega arith) ea)
-    (decimal_injective b d (omega arith) (omega arith) eb)
-    (one_request x y m.fits n.fits ex)
-
--- two commands with the same words have one verb
-one_verb : (words : List (List ℕ)) (c d : Command) → words ≡ command_words c
-    → words ≡ command_words d
-    → verb_of c ≡ verb_of d
-one_verb words c d e f =
-    same_verb (verb_of c) (verb_of d)
-    (ap (word_at 0) (sym (command_spelled c) ∙ sym e ∙ f ∙ command_spelled d))
-
--- and are the same
-same_command : (c d : Command) → IsCommand c → IsCommand d → verb_of c ≡ verb_of d
-    → words_behind_verb c ≡ words_behind_verb d
-    → c ≡ d
-same_command (Replay false) (Replay false) h k v e = refl
-same_command (Replay true) (Replay true) h k v e = refl
-same_command (Replay false) (Replay true) h k v e = absurd cc
-same_command (Replay true) (Replay false) h k v e = absurd cc
-same_command (Replay m) (Make n) h k v e = absurd cc
-same_command (Replay m) (Soak n) h k v e = absurd cc
-same_command (Replay m) (Node s t p n u) h k v e = absurd cc
-same_command (Replay m) (Call s p r) h k v e = absurd cc
-same_command (Make m) (Replay n) h k v e = absurd cc
-same_command (Make m) (Make n) h k v e = ap Make (one_numbers m n h k e)
-same_command (Make m) (Soak n) h k v e = absurd cc
-same_command (Make m) (Node s t p n u) h k v e = absurd cc
-same_command (Make m) (Call s p r) h k v e = absurd cc
-same_command (Soak m) (Replay n) h k v e = absurd cc
-same_command (Soak m) (Make n) h k v e = absurd cc
-same_command (Soak m) (Soak n) h k v e = ap Soak (one_numbers m n h k e)
-same_command (Soak m) (Node s t p n u) h k v e = absurd cc
-same_command (Soak m) (Call s p r) h k v e = absurd cc
-same_command (Node s t p n u) (Replay m) h k v e = absurd cc
-same_command (Node s t p n u) (Make m) h k v e = absurd cc
-same_command (Node s t p n u) (Soak m) h k v e = absurd cc
-same_command (Node a b c x d) (Node s t p y u) h k v e = one_node a b c d s t p u x y h k e
-same_command (Node s t p n u) (Call a b r) h k v e = absurd cc
-same_command (Call s p r) (Replay m) h k v e = absurd cc
-same_command (Call s p r) (Make m) h k v e = absurd cc
-same_command (Call s p r) (Soak m) h k v e = absurd cc
-same_command (Call s p r) (Node a b c n u) h k v e = absurd cc
-same_command (Call a b x) (Call c d y) h k v e = one_calling a b c d x y h k e
-
-pub one_command : (words : List (List ℕ)) (c d : Command) → IsCommand c → IsCommand d
-    → words ≡ command_words c
-    → words ≡ command_words d
-    → c ≡ d
-one_command words c d h k e f =
-    same_command c d h k (one_verb words c d e f) (ap behind (sym e ∙ f))
+no_fault words (Replay false) k h e f =
+    fault_behind words (Replay false) verb.Replay k refl e f.1
+no_fault words (Replay true) k h e f =
+    no_fault_of_metered k (fault_behind words (Replay true) verb.Replay k refl e f.1)
+no_fault words (Make n) k h e f =
+    none_wrong 2 number_slots (number_words n) k (numbers_fit n h)
+    (fault_behind words (Make n) verb.Make k refl e f.1)
+no_fault words (Soak n) k h e f =
+    none_wrong 2 number_slots (number_words n) k (numbers_fit n h)
+    (fault_behind words (Soak n) verb.Soak k refl e f.1)
+no_fault words (Node server servers port name turns) k h e f =
+    no_fault_of_node server servers port name turns k h
+    (fault_behind words (Node server servers port name turns) verb.Node k refl e f.1)
+no_fault words (Call server port request) k h e f =
+    no_fault_of_call_words server port request k h
+    (fault_behind words (Call server port request) verb.Call k refl e f.1)
+no_fault words (Help help) k h e f = f.0 (record { help = help; spelled = e })

@@ -17,7 +17,7 @@ use Rattle.pg_sched.specs.Cause.{Unless}
 
 -- ---- words that differ
 
-abbrev verb_from : List ℕ → Verb
+abbrev pub verb_from : List ℕ → Verb
 verb_from word =
     cond (byte_at 0 word == 114) verb.Replay
     (cond (byte_at 0 word == 109) verb.Make

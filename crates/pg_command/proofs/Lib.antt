@@ -1,5 +1,7 @@
 pub mod Faults
+pub mod Helps
 pub mod Commands
+pub mod One
 pub mod Counted
 pub mod Pairs
 pub mod Targets

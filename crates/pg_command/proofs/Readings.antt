@@ -13,8 +13,9 @@ use Rattle.pg_call.specs.declared.call.CallKind.{CallKind}
 use Rattle.pg_call.specs.declared.error.WordsError.{WordsError}
 use Rattle.pg_call.specs.declared.error.WordsError.TheVariants.{Bad}
 use Rattle.pg_call.specs.declared.fault.Fault.{Fault}
-use Rattle.pg_command.proofs.Commands.{no_fault, one_command}
+use Rattle.pg_command.proofs.Commands.{no_fault}
 use Rattle.pg_command.proofs.Faults.{fault_of_verb, is_fault_of, one_fault}
+use Rattle.pg_command.proofs.One.{one_command}
 use Rattle.pg_command.specs.Slots.{AreArguments, Lacks}
 use Rattle.pg_command.specs.Slots.Slot.{Number}
 use Rattle.pg_command.specs.Verb.{IsVerb, verb_word}
@@ -56,7 +57,7 @@ fault_is words (Ok d) found told untold k fault =
 fault_is words (Err wrong.OutOfMemory) found told untold k fault =
     absurd (untold refl k fault)
 fault_is words (Err (wrong.Usage j)) found told untold k fault =
-    ap (λ n. Err (wrong.Usage n)) (one_fault (words_behind words) j k (told j refl) fault)
+    ap (λ n. Err (wrong.Usage n)) (one_fault (words_behind words) j k (told j refl).1 fault.1)
 
 pub told_of : (words : Words) (r : Result Command CommandError) → IfErr r (λ e. Told words e)
     → (k : ℕ)
@@ -121,19 +122,19 @@ no_verb word none h = none h.verb h.spelled
 
 -- ---- what stands behind a verb is what stands in all words
 
-pub lift_wrong : (words : Words) (v : Verb) (rest : List (List ℕ)) (r : Result Command CommandError)
+pub lift_wrong : (words : List (List ℕ)) (v : Verb) (rest : List (List ℕ)) (r : Result Command CommandError)
     → IfErr r (λ e. (k : ℕ) → e ≡ wrong.Usage k → IsFaultOf v rest k)
-    → words_behind words ≡ verb_word v ∷ rest
-    → IfErr r (λ e. (k : ℕ) → e ≡ wrong.Usage k → IsFault words k)
+    → words ≡ verb_word v ∷ rest
+    → IfErr r (λ e. (k : ℕ) → e ≡ wrong.Usage k → IsFaultIn words k)
 lift_wrong words v rest (Ok c) h same = tt
 lift_wrong words v rest (Err e) h same = λ k is.
     let P : List (List ℕ) → Type 0 = λ ws. IsFaultIn ws k in
     subst P (sym same) (is_fault_of v rest k (h k is))
 
-pub lift_memory : (words : Words) (v : Verb) (rest : List (List ℕ)) (r : Result Command CommandError)
+pub lift_memory : (words : List (List ℕ)) (v : Verb) (rest : List (List ℕ)) (r : Result Command CommandError)
     → IfErr r (λ e. e ≡ wrong.OutOfMemory → (k : ℕ) → IsFaultOf v rest k → ⊥)
-    → words_behind words ≡ verb_word v ∷ rest
-    → IfErr r (λ e. e ≡ wrong.OutOfMemory → (k : ℕ) → IsFault words k → ⊥)
+    → words ≡ verb_word v ∷ rest
+    → IfErr r (λ e. e ≡ wrong.OutOfMemory → (k : ℕ) → IsFaultIn words k → ⊥)
 lift_memory words v rest (Ok c) h same = tt
 lift_memory words v rest (Err e) h same = λ is k fault.
     let P : List (List ℕ) → Type 0 = λ ws. IsFaultIn ws k in

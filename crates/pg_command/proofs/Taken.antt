@@ -1,5 +1,5 @@
 -- Words that were taken off one by one are all of them.
-use Rattle.std.proofs.Common.{ℕ, ◌≡◌, ◌≤◌, ◌-◌, ◌∙◌, List, [], ◌∷◌, ap, arith, drop, get_or, length, map, refl, sym, subst, take, take_all}
+use Rattle.std.proofs.Common.{ℕ, ◌≡◌, ◌∙◌, List, [], ◌∷◌, ap, arith, get_or, length, map, refl}
 use Rattle.std.specs.Global.{Global}
 use Rattle.std.specs.Prelude.{String}
 use Rattle.std.specs.String.{string_bytes}
@@ -50,33 +50,3 @@ three_words (w ∷ v ∷ u ∷ []) x y z a b c three is also last e f g =
     (cons b (string_bytes v) (c ∷ []) (string_bytes u ∷ []) (f ∙ ap string_bytes also)
     (cons c (string_bytes u) [] [] (g ∙ ap string_bytes last) refl))
 three_words (w ∷ v ∷ u ∷ t ∷ ws) x y z a b c three is also last e f g = absurd (omega arith)
-
--- the second word, and those behind it
-behind_second : (words : List (String Global)) (word : String Global) (bytes text : List ℕ)
-    → 2 ≤ length words
-    → word ≡ get_or words 1 word
-    → bytes ≡ string_bytes word
-    → bytes ≡ text
-    → map string_bytes (drop 1 words)
-    ≡ text ∷ map string_bytes (take (length words - 2) (drop 2 words))
-behind_second [] word bytes text long is same found = absurd (omega arith)
-behind_second (x ∷ []) word bytes text long is same found = absurd (omega arith)
-behind_second (x ∷ y ∷ ys) word bytes text long is same found =
-    let rest = take (length (x ∷ y ∷ ys) - 2) ys in
-    let all : ys ≡ rest = sym (take_all (length (x ∷ y ∷ ys) - 2) ys (omega arith)) in
-    cons (string_bytes y) text (map string_bytes ys) (map string_bytes rest)
-    (sym (ap string_bytes is) ∙ sym same ∙ found)
-    (ap (map string_bytes) all)
-
-pub behind_verb : (slice words : List (String Global)) (word : String Global) (bytes text : List ℕ)
-    → slice ≡ words
-    → 2 ≤ length slice
-    → word ≡ get_or slice 1 word
-    → bytes ≡ string_bytes word
-    → bytes ≡ text
-    → map string_bytes (drop 1 words)
-    ≡ text ∷ map string_bytes (take (length slice - 2) (drop 2 slice))
-behind_verb slice words word bytes text whole long is same found =
-    let P : List (String Global) → Type 0 = λ ws.
-    map string_bytes (drop 1 ws) ≡ text ∷ map string_bytes (take (length slice - 2) (drop 2 slice)) in
-    subst P whole (behind_second slice word bytes text long is same found)

@@ -10,11 +10,11 @@ use Rattle.pg_sched.specs.Cause.{Unless}
 use Rattle.pg_sched.specs.Schedule.{IsCount}
 use Rattle.pg_command.specs.Slots.{AreShort, IsFirstWrong, IsNodeName, IsNumber, Slot}
 use Rattle.pg_command.specs.Slots.Slot.{Argued, Name, Number, Text}
-use Rattle.pg_command.specs.Verb.{IsVerb, verb_word}
+use Rattle.pg_command.specs.Verb.{IsHelp, IsVerb, help_words, verb_word}
 use Rattle.pg_command.specs.declared.asked.Asked.{Asked}
 use Rattle.pg_command.specs.declared.asked.Asked.TheVariants as asked
 use Rattle.pg_command.specs.declared.command.Command.{Command}
-use Rattle.pg_command.specs.declared.command.Command.TheVariants.{Replay, Make, Soak, Node, Call}
+use Rattle.pg_command.specs.declared.command.Command.TheVariants.{Replay, Make, Soak, Node, Call, Help}
 use Rattle.pg_command.specs.declared.command.Numbers.{Numbers}
 use Rattle.pg_command.specs.declared.verb.Verb.{Verb}
 use Rattle.pg_command.specs.declared.verb.Verb.TheVariants as verb
@@ -83,6 +83,7 @@ command_words (Node server servers port name turns) =
     codes "node" ∷ node_words server servers port name turns
 command_words (Call server port request) =
     codes "call" ∷ decimal server ∷ decimal port ∷ request_words request
+command_words (Help help) = help_words help
 
 -- its numbers are in their ranges, and its texts are such as it takes
 abbrev pub IsCommand : Command → Type 0
@@ -91,6 +92,7 @@ IsCommand (Make numbers) = AreNumbers numbers
 IsCommand (Soak numbers) = AreNumbers numbers
 IsCommand (Node server servers port name turns) = IsNode server servers port name turns
 IsCommand (Call server port request) = IsCalling server port request
+IsCommand (Help help) = Unit {0}
 
 -- the words ask for this
 pub record Asks (words : Words) (command : Command) : Type 0 where
@@ -104,6 +106,7 @@ IsReplay (Make numbers) = ⊥
 IsReplay (Soak numbers) = ⊥
 IsReplay (Node server servers port name turns) = ⊥
 IsReplay (Call server port request) = ⊥
+IsReplay (Help help) = ⊥
 
 abbrev pub AsksForReplay : Words → Type 0
 AsksForReplay words = Asks words (Replay true) ⊎ Asks words (Replay false)
@@ -115,6 +118,7 @@ IsOfNode (Make numbers) = ⊥
 IsOfNode (Soak numbers) = ⊥
 IsOfNode (Node server servers port name turns) = Unit {0}
 IsOfNode (Call server port request) = ⊥
+IsOfNode (Help help) = ⊥
 
 -- it asks a node
 abbrev pub IsOfCall : Command → Type 0
@@ -123,6 +127,7 @@ IsOfCall (Make numbers) = ⊥
 IsOfCall (Soak numbers) = ⊥
 IsOfCall (Node server servers port name turns) = ⊥
 IsOfCall (Call server port request) = Unit {0}
+IsOfCall (Help help) = ⊥
 
 abbrev pub AsksForNode : Words → Type 0
 AsksForNode words = (command : Command) × IsOfNode command × Asks words command
@@ -222,5 +227,9 @@ abbrev pub IsFaultIn : List (List ℕ) → ℕ → Type 0
 IsFaultIn [] k = k ≡ 1
 IsFaultIn (word ∷ words) k = Unless (IsVerb word) (k ≡ 1) (IsFaultBehind word words k)
 
+-- where they ask for no help
+abbrev pub IsFaultOfAll : List (List ℕ) → ℕ → Type 0
+IsFaultOfAll words k = (IsHelp words → ⊥) × IsFaultIn words k
+
 abbrev pub IsFault : Words → ℕ → Type 0
-IsFault words k = IsFaultIn (words_behind words) k
+IsFault words k = IsFaultOfAll (words_behind words) k

@@ -1,5 +1,6 @@
 //! What the program can be told to do.
 
+use crate::verb::Verb;
 use pg_base::{NodeId, SharedBytes};
 use pg_packet_write::Request;
 
@@ -9,6 +10,15 @@ pub struct Numbers {
     pub seed: u64,
     pub servers: u32,
     pub events: u64,
+}
+
+/// What help is asked for.
+#[derive(Clone, Copy, Debug, PartialEq, Eq)]
+pub struct Help {
+    /// The command of which is asked, or else all.
+    pub of: Option<Verb>,
+    /// Whether it is to be told at length.
+    pub long: bool,
 }
 
 /// What the program is to do.
@@ -37,4 +47,6 @@ pub enum Command {
         port: u16,
         request: Request,
     },
+    /// Write what the words of a command are, or which commands there are.
+    Help(Help),
 }

@@ -1,10 +1,10 @@
 //! What the words ask for.
 
-ghost use Rattle.std.specs.Prelude.{ℕ, ◌≡◌, ◌≢◌, ◌∷◌, ◌⊎◌, IfErr, IfOk, Ok, Err, codes, map};
+ghost use Rattle.std.specs.Prelude.{ℕ, ◌≡◌, ◌≢◌, ◌∷◌, ◌⊎◌, IfErr, IfNone, IfOk, IfSome, Ok, Err, codes, map};
 ghost use Rattle.std.specs.String.{string_bytes};
 ghost use Rattle.pg_command.specs.Slots.{IsFirstWrong};
-ghost use Rattle.pg_command.specs.Verb.{verb_word};
-ghost use Rattle.pg_command.specs.Words.{AreNumbers, Asks, IsCommand, IsFault, IsFaultOf, command_words, number_slots, number_words, replay_slots};
+ghost use Rattle.pg_command.specs.Verb.{LacksVerb, verb_word};
+ghost use Rattle.pg_command.specs.Words.{AreNumbers, Asks, IsCommand, IsFault, IsFaultIn, IsFaultOf, command_words, number_slots, number_words, replay_slots};
 ghost use Rattle.pg_command.specs.declared.command.Command.{Command};
 ghost use Rattle.pg_command.specs.declared.command.Command.TheVariants.{Replay};
 ghost use Rattle.pg_command.specs.declared.error.CommandError.TheVariants as wrong;
@@ -12,6 +12,7 @@ ghost use Rattle.pg_command.specs.declared.error.CommandError.TheVariants as wro
 use crate::calling::calling_of;
 use crate::command::{Command, Numbers};
 use crate::error::CommandError;
+use crate::help::help_in;
 use crate::node::node_of;
 use crate::slots::number_before;
 use crate::verb::Verb;
@@ -116,6 +117,36 @@ fn command_with(alloc: Global, verb: Verb, words: &[String]) -> Result<Command, 
     }
 }
 
+/// The command that the first word names, and the words behind it.
+fn verb_before(words: &[String]) -> Option<(Verb, &[String])>
+    ensures found { IfSome result (λ r. map (λ w. string_bytes w) words.now
+        ≡ verb_word r.0 ∷ map (λ w. string_bytes w) r.1.now) }
+    ensures none { IfNone result (LacksVerb (map (λ w. string_bytes w) words.now)) }
+{
+    let [word, rest @ ..] = words else {
+        return None;
+    };
+    match Verb::read(word.as_bytes()) {
+        Some(verb) => Some((verb, rest)),
+        None => None,
+    }
+}
+
+/// What the words behind the program's name ask for, where they ask for no help.
+fn command_by(alloc: Global, words: &[String]) -> Result<Command, CommandError>
+    ensures fits { IfOk result (λ c. IsCommand c) }
+    ensures found { IfOk result (λ c. command_words c ≡ map (λ w. string_bytes w) words.now) }
+    ensures wrong { IfErr result (λ e. (k : ℕ) → e ≡ wrong.Usage k
+        → IsFaultIn (map (λ w. string_bytes w) words.now) k) }
+    ensures memory { IfErr result (λ e. e ≡ wrong.OutOfMemory → (k : ℕ)
+        → IsFaultIn (map (λ w. string_bytes w) words.now) k → ⊥) }
+{
+    match verb_before(words) {
+        Some((verb, behind)) => command_with(alloc, verb, behind),
+        None => Err(CommandError::Usage(1)),
+    }
+}
+
 /// What the words ask for, or which of them is at fault.
 fn command_in(alloc: Global, words: &Vec<String>) -> Result<Command, CommandError>
     ensures found { IfOk result (λ command. Asks words.now command) }
@@ -123,12 +154,12 @@ fn command_in(alloc: Global, words: &Vec<String>) -> Result<Command, CommandErro
     ensures memory { IfErr result (λ e. e ≡ wrong.OutOfMemory → (k : ℕ)
         → IsFault words.now k → ⊥) }
 {
-    let [_, word, rest @ ..] = words.as_slice() else {
+    let [_, behind @ ..] = words.as_slice() else {
         return Err(CommandError::Usage(1));
     };
-    match Verb::read(word.as_bytes()) {
-        Some(verb) => command_with(alloc, verb, rest),
-        None => Err(CommandError::Usage(1)),
+    match help_in(behind) {
+        Some(help) => Ok(Command::Help(help)),
+        None => command_by(alloc, behind),
     }
 }
 

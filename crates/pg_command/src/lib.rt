@@ -2,8 +2,9 @@
 //!
 //! `command` has the commands, `verb` the words that name them, `asked` what a server may be asked
 //! for by words, and `argument` what a word of it may be; `digits` tells digits of bytes. `slots`
-//! takes one word off the others, `node` the words of a node, `calling` those of a call, and
-//! `grammar` reads them all; `laws` says that what is asked for has a packet.
+//! takes one word off the others, `node` the words of a node, `calling` those of a call, `help`
+//! those that ask for help, and `grammar` reads them all; `program` has the commands as clap knows
+//! them, and the help that it makes; `laws` says that what is asked for has a packet.
 //!
 //! It runs nothing: `pangaea` does what a command says. Words of a call are those of a schedule, so
 //! `pg_call` reads them; here is only told, and before memory is taken, which of them is the first
@@ -15,7 +16,8 @@
 //! server of a node is looked at together with the count of servers behind it.
 //!
 //! Definitions: `specs/Slots` (what one word has to be), `specs/Words` (commands, their words, and
-//! faults). A further command: a case of `Command` with its words and slots, and its reader.
+//! faults). A further command: a case of `Command` with its words and slots, its reader, and its
+//! help. What help says is tested, and no clause speaks of it.
 #![tactic(auto)]
 
 mod argument;
@@ -25,15 +27,16 @@ mod command;
 mod digits;
 mod error;
 mod grammar;
+mod help;
 mod laws;
 mod node;
+mod program;
 mod slots;
 mod verb;
 
-pub use command::{Command, Numbers};
+pub use command::{Command, Help, Numbers};
 pub use error::CommandError;
 pub use grammar::command_of;
 pub use laws::requests_have_packets;
-
-#[cfg(test)]
-mod tests;
+pub use program::help_of;
+pub use verb::Verb;

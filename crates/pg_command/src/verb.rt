@@ -6,7 +6,7 @@ ghost use Rattle.pg_command.specs.declared.verb.Verb.{Verb};
 
 /// A word that names a command.
 #[derive(Clone, Copy, Debug, PartialEq, Eq)]
-pub(crate) enum Verb {
+pub enum Verb {
     Replay,
     Make,
     Soak,

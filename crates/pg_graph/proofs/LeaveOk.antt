@@ -8,20 +8,20 @@ use Rattle.std.proofs.lemmas.Option.{none-some, same_Some}
 use Rattle.pg_base.specs.declared.id.FileId.{FileId}
 use Rattle.pg_base.specs.declared.stamp.Stamp.{Stamp}
 use Rattle.pg_base.proofs.Orders.{is_same_file-true}
-use Rattle.pg_call.specs.declared.refusal.Refusal.{Refusal}
-use Rattle.pg_call.specs.declared.refusal.Refusal.TheVariants as refusal
+use Rattle.pg_pieces.specs.pg_call.declared.refusal.Refusal.{Refusal}
+use Rattle.pg_pieces.specs.pg_call.declared.refusal.Refusal.TheVariants as refusal
 use Rattle.pg_edges.specs.declared.edge.Edge.{Edge}
-use Rattle.pg_intent.specs.declared.intent.Intent.{Intent}
-use Rattle.pg_intent.specs.declared.intent.Intent.TheVariants as intent
-use Rattle.pg_intent.specs.declared.key.IntentKey.{IntentKey}
-use Rattle.pg_intent.specs.declared.key.IntentKey.TheVariants as intent_key
-use Rattle.pg_intent.specs.Intent.{is_about}
-use Rattle.pg_intent.specs.Intents.{ended, has_key, intent_at}
-use Rattle.pg_msg.specs.declared.message.Ends.{Ends}
-use Rattle.pg_msg.specs.declared.work.Work.{Work}
-use Rattle.pg_names.specs.Same.{is_same_stamp}
-use Rattle.pg_store.specs.declared.store.Store.{Store}
-use Rattle.pg_store.specs.Store.{replica_of}
+use Rattle.pg_pieces.specs.pg_intent.declared.intent.Intent.{Intent}
+use Rattle.pg_pieces.specs.pg_intent.declared.intent.Intent.TheVariants as intent
+use Rattle.pg_pieces.specs.pg_intent.declared.key.IntentKey.{IntentKey}
+use Rattle.pg_pieces.specs.pg_intent.declared.key.IntentKey.TheVariants as intent_key
+use Rattle.pg_pieces.specs.pg_intent.Intent.{is_about}
+use Rattle.pg_pieces.specs.pg_intent.Intents.{ended, has_key, intent_at}
+use Rattle.pg_pieces.specs.pg_msg.declared.message.Ends.{Ends}
+use Rattle.pg_pieces.specs.pg_msg.declared.work.Work.{Work}
+use Rattle.pg_pieces.specs.pg_names.Same.{is_same_stamp}
+use Rattle.pg_pieces.specs.pg_store.declared.store.Store.{Store}
+use Rattle.pg_pieces.specs.pg_store.Store.{replica_of}
 use Rattle.pg_pieces.specs.declared.accepting.EdgeUse.TheVariants as manner
 use Rattle.pg_pieces.specs.Accepting.{is_accepted}
 use Rattle.pg_pieces.specs.Done.{Done, idle}

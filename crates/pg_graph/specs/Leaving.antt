@@ -2,21 +2,21 @@
 use Rattle.std.specs.Prelude.{ℕ, Bool, ◌==◌, ◌&&◌, not, false, if◌then◌else◌, List, [], ◌∷◌, Option, None, Some, is_some}
 use Rattle.pg_base.specs.declared.id.FileId.{FileId}
 use Rattle.pg_base.specs.declared.stamp.Stamp.{Stamp}
-use Rattle.pg_names.specs.Same.{is_same_stamp}
+use Rattle.pg_pieces.specs.pg_names.Same.{is_same_stamp}
 use Rattle.pg_edges.specs.declared.edge.Edge.{Edge}
-use Rattle.pg_intent.specs.declared.intent.Intent.{Intent}
-use Rattle.pg_intent.specs.declared.intent.Intent.TheVariants as intent
-use Rattle.pg_intent.specs.declared.key.IntentKey.TheVariants as intent_key
-use Rattle.pg_intent.specs.Intents.{ended, intent_at}
-use Rattle.pg_msg.specs.declared.message.Ends.{Ends}
-use Rattle.pg_msg.specs.declared.message.Message.TheVariants as message
-use Rattle.pg_msg.specs.declared.work.Work.{Work}
-use Rattle.pg_names.specs.Names.{own_or_blank}
-use Rattle.pg_store.specs.declared.store.Store.{Store}
-use Rattle.pg_store.specs.Beginning.{let_go, with_intents}
-use Rattle.pg_store.specs.Births.{birth_of}
-use Rattle.pg_store.specs.Links.{is_linked, unlink}
-use Rattle.pg_store.specs.Store.{is_full, replica_of}
+use Rattle.pg_pieces.specs.pg_intent.declared.intent.Intent.{Intent}
+use Rattle.pg_pieces.specs.pg_intent.declared.intent.Intent.TheVariants as intent
+use Rattle.pg_pieces.specs.pg_intent.declared.key.IntentKey.TheVariants as intent_key
+use Rattle.pg_pieces.specs.pg_intent.Intents.{ended, intent_at}
+use Rattle.pg_pieces.specs.pg_msg.declared.message.Ends.{Ends}
+use Rattle.pg_pieces.specs.pg_msg.declared.message.Message.TheVariants as message
+use Rattle.pg_pieces.specs.pg_msg.declared.work.Work.{Work}
+use Rattle.pg_pieces.specs.pg_names.Names.{own_or_blank}
+use Rattle.pg_pieces.specs.pg_store.declared.store.Store.{Store}
+use Rattle.pg_pieces.specs.pg_store.Beginning.{let_go, with_intents}
+use Rattle.pg_pieces.specs.pg_store.Births.{birth_of}
+use Rattle.pg_pieces.specs.pg_store.Links.{is_linked, unlink}
+use Rattle.pg_pieces.specs.pg_store.Store.{is_full, replica_of}
 use Rattle.pg_pieces.specs.declared.accepting.EdgeUse.TheVariants as manner
 use Rattle.pg_pieces.specs.Accepting.{accept, ends_to, is_accepted}
 use Rattle.pg_pieces.specs.Done.{Done, idle}

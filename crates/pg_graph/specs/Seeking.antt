@@ -1,13 +1,13 @@
 -- A replica that seeks a gold one is met.
 use Rattle.std.specs.Prelude.{ℕ, if◌then◌else◌}
 use Rattle.pg_base.specs.declared.id.FileId.{FileId}
-use Rattle.pg_msg.specs.declared.message.Ask.TheVariants as ask
-use Rattle.pg_msg.specs.declared.message.Ends.{Ends}
-use Rattle.pg_msg.specs.declared.message.Message.TheVariants as message
-use Rattle.pg_msg.specs.declared.work.Work.{Work}
-use Rattle.pg_store.specs.declared.store.Store.{Store}
-use Rattle.pg_store.specs.Links.{knows_later}
-use Rattle.pg_store.specs.Store.{is_held}
+use Rattle.pg_pieces.specs.pg_msg.declared.message.Ask.TheVariants as ask
+use Rattle.pg_pieces.specs.pg_msg.declared.message.Ends.{Ends}
+use Rattle.pg_pieces.specs.pg_msg.declared.message.Message.TheVariants as message
+use Rattle.pg_pieces.specs.pg_msg.declared.work.Work.{Work}
+use Rattle.pg_pieces.specs.pg_store.declared.store.Store.{Store}
+use Rattle.pg_pieces.specs.pg_store.Links.{knows_later}
+use Rattle.pg_pieces.specs.pg_store.Store.{is_held}
 use Rattle.pg_pieces.specs.declared.accepting.EdgeUse.TheVariants as manner
 use Rattle.pg_pieces.specs.Accepting.{accept, ends_to, link_peer}
 use Rattle.pg_pieces.specs.Done.{Done, idle}

@@ -1,22 +1,22 @@
 //! A replica asks a gold one for leave to go, and goes; and its peers hear of it.
 
 ghost use Rattle.std.specs.Prelude.{◌≡◌, IfOk, OnOk};
-ghost use Rattle.pg_intent.specs.Intents.{intent_at};
-ghost use Rattle.pg_intent.specs.declared.key.IntentKey.TheVariants as intent_key;
-ghost use Rattle.pg_names.specs.Same.{is_same_stamp};
+ghost use Rattle.pg_pieces.specs.pg_intent.Intents.{intent_at};
+ghost use Rattle.pg_pieces.specs.pg_intent.declared.key.IntentKey.TheVariants as intent_key;
+ghost use Rattle.pg_pieces.specs.pg_names.Same.{is_same_stamp};
 ghost use Rattle.pg_pieces.specs.Done.{idle};
 ghost use Rattle.pg_pieces.specs.Golds.{flags_of};
 ghost use Rattle.pg_register.specs.Flag.{is_raised};
-ghost use Rattle.pg_store.specs.Links.{is_linked};
+ghost use Rattle.pg_pieces.specs.pg_store.Links.{is_linked};
 ghost use Rattle.pg_graph.specs.Leaving.{begin_byes, bye, bye_ok, gives_leave, goes, goes_or_stays, is_leave_to, is_leave_with, leave, leave_given, leave_ok, may_leave, may_still_leave, place_stamp, without_leave};
 
 use pg_base::{FileId, NodeId, Stamp};
 use pg_edges::Edge;
-use pg_intent::{Intent, IntentKey};
-use pg_msg::{Ends, Message, Work};
-use pg_names::is_same_stamp;
+use pg_pieces::intent::{Intent, IntentKey};
+use pg_pieces::msg::{Ends, Message, Work};
+use pg_pieces::names::is_same_stamp;
+use pg_pieces::store::Store;
 use pg_pieces::{EdgeUse, accept, begin_intent, ends_to, is_accepted, is_gold, post, stays_for};
-use pg_store::Store;
 use std::alloc::AllocError;
 
 /// Whether the own place of a thing has this stamp.

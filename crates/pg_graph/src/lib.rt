@@ -32,3 +32,4 @@ pub use walks::{walk, walk_of_tick};
 
 // What the floors above name through this one.
 pub use pg_pieces as pieces;
+pub use pg_pieces::{house, intent, msg, names, store};

@@ -4,9 +4,9 @@ ghost use Rattle.std.specs.Prelude.{◌≡◌, OnOk};
 ghost use Rattle.pg_graph.specs.Seeking.{here, seek};
 
 use pg_base::FileId;
-use pg_msg::{Ask, Ends, Message, Work};
+use pg_pieces::msg::{Ask, Ends, Message, Work};
+use pg_pieces::store::Store;
 use pg_pieces::{EdgeUse, accept, ends_to, link_peer, post};
-use pg_store::Store;
 use std::alloc::AllocError;
 
 /// A replica of this birth seeks a gold one. The replica here, gold or not, full or filling, links

@@ -6,10 +6,10 @@ ghost use Rattle.pg_graph.specs.Walks.{edges_of, has_few_edges, is_onward, meet_
 
 use pg_base::{FileId, Items, NodeId};
 use pg_edges::Edge;
-use pg_house::is_root;
-use pg_msg::{Ends, Message, Work};
+use pg_pieces::house::is_root;
+use pg_pieces::msg::{Ends, Message, Work};
+use pg_pieces::store::Store;
 use pg_pieces::{EdgeUse, accept, ends_to, is_accepted, link_peer, post, send};
-use pg_store::Store;
 use std::alloc::AllocError;
 
 /// A walk has so many steps.

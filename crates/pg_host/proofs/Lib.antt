@@ -1,8 +1,15 @@
 pub mod Lists
+pub mod Leaves
 pub mod Asked
 pub mod Clocked
+pub mod Readable
 pub mod Going
 pub mod Entered
 pub mod Stepped
 pub mod Taking
+pub mod Logs
+pub mod Again
+pub mod Folds
+pub mod Starts
+pub mod Ended
 pub mod Whole

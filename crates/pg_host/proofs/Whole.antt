@@ -1,94 +1,88 @@
--- The whole of `serve`, from its turns.
-use Rattle.std.proofs.Common.{◌≡◌, ◌⊎◌, inl, inr, ℕ, ◌+◌, ◌-◌, ◌^◌, ◌≤◌, min, Bool, true, false, List, [], ◌++◌, length, take, Option, Some, refl, sym, ◌∙◌, ap, subst, arith}
+-- The whole of `serve`, from its start and its turns.
+use Rattle.std.proofs.Common.{◌≡◌, ◌⊎◌, inl, inr, ℕ, ◌+◌, ◌≤◌, true, false, List, [], ◌∷◌, ◌++◌, length, take, Option, Some, None, refl, sym, ◌∙◌, ap, subst, append_assoc, arith}
 use Rattle.std.proofs.lemmas.List.{append-nil}
-use Rattle.pg_io.specs.Causes.{Rose}
+use Rattle.pg_disk.specs.Disk.{IsSettled}
+use Rattle.pg_disk.specs.Told.{given, steps}
+use Rattle.pg_disk.specs.Told.{Told as DiskTold}
+use Rattle.pg_disk.specs.Moments.{LeavesSince}
+use Rattle.pg_disk.specs.Synced.{KeepsOthers}
+use Rattle.pg_disk.proofs.Moments.{keeps_then, leaves_started, leaves_weaker}
 use Rattle.pg_event.specs.declared.status.Status.{Status}
 use Rattle.pg_event.specs.declared.status.Status.TheVariants as status
+use Rattle.pg_log.specs.Bytes.{OpensTo}
+use Rattle.pg_log.specs.Log.{OpensWithOrWithout}
+use Rattle.pg_log.proofs.Unique.{opens_once}
 use Rattle.pg_net.specs.Net.{Datagram, IsTaken, with_bound}
 use Rattle.pg_net.specs.Net.{Told as NetTold}
 use Rattle.pg_net.specs.Clock.{Told as ClockTold}
 use Rattle.pg_net.proofs.Noted.{noted-none, taken-none}
-use Rattle.pg_store.specs.Store.{new_store}
 use Rattle.pg_store.specs.declared.store.Store.{Store}
 use Rattle.pg_host.specs.declared.asking.Asked.{Asked}
-use Rattle.pg_host.specs.Causes.{IsEnd, IsFault, IsWhole}
+use Rattle.pg_host.specs.Causes.{IsFault, IsWhole}
+use Rattle.pg_host.specs.Entries.{entries_for}
 use Rattle.pg_host.specs.Inputs.{asked}
+use Rattle.pg_host.specs.Logs.{IsOldFile, OpensToSome, begin_entry, begun, is_empty}
 use Rattle.pg_host.specs.Sends.{sends}
+use Rattle.pg_host.specs.Starts.{LeavesAtStart, Started}
 use Rattle.pg_host.specs.Host.{Scene, scene, Goes, Ends, Runs, Served}
+use Rattle.pg_host.proofs.Ended.{IsPart, fault_part, not_whole}
 use Rattle.pg_host.proofs.Going.{goes_then, goes_ends, ends_of, ends_within}
+use Rattle.pg_host.proofs.Leaves.{leaves_on, to_some}
 
--- a fault is no end by itself
-pub not_done : (m n : ℕ) (s : Status) → IsFault m n s → s ≡ status.Done → ⊥
-not_done m n s (inl is) done = let e : status.OutOfMemory ≡ status.Done = sym is ∙ done in cc
-not_done m n s (inr is) done = let e : status.NetFault ≡ status.Done = sym is.0 ∙ done in cc
-
-pub not_spent : (m n : ℕ) (s : Status) → IsFault m n s → s ≡ status.TurnsSpent → ⊥
-not_spent m n s (inl is) spent = let e : status.OutOfMemory ≡ status.TurnsSpent = sym is ∙ spent in cc
-not_spent m n s (inr is) spent = let e : status.NetFault ≡ status.TurnsSpent = sym is.0 ∙ spent in cc
-
-pub not_whole : (m n : ℕ) (s : Status) → IsFault m n s → IsWhole s → ⊥
-not_whole m n s fault (inl is) = not_done m n s fault is
-not_whole m n s fault (inr is) = not_spent m n s fault is
-
-pub net_fault : IsFault 0 1 status.NetFault
-net_fault = let rose : min (0 + 1) (2 ^ 64 - 1) ≤ 1 = omega arith in inr (refl, rose)
-
--- a fault of a part is one of the whole
-rose_before : (l m n : ℕ) → l ≤ m → Rose m n → Rose l n
-rose_before l m n later rose = let all : min (m + 1) (2 ^ 64 - 1) ≤ n = rose in omega (arith, later, all)
-
-pub later_fault : (l m n : ℕ) (s : Status) → l ≤ m → IsFault m n s → IsFault l n s
-later_fault l m n s later (inl is) = inl is
-later_fault l m n s later (inr is) = inr (is.0, rose_before l m n later is.1)
-
-pub later_end : (l m n : ℕ) (s : Status) → l ≤ m → IsEnd m n s → IsEnd l n s
-later_end l m n s later (inl whole) = inl whole
-later_end l m n s later (inr fault) = inr (later_fault l m n s later fault)
-
-pub end_rose : (m n : ℕ) (s : Status) → IsEnd m n s → s ≡ status.NetFault → Rose m n
-end_rose m n s (inl (inl is)) net = absurd (let e : status.Done ≡ status.NetFault = sym is ∙ net in cc)
-end_rose m n s (inl (inr is)) net = absurd (let e : status.TurnsSpent ≡ status.NetFault = sym is ∙ net in cc)
-end_rose m n s (inr (inl is)) net = absurd (let e : status.OutOfMemory ≡ status.NetFault = sym is ∙ net in cc)
-end_rose m n s (inr (inr is)) net = is.1
-
-module _ (nt ct : Type 0) (port turns : ℕ) (a b d : Scene) where
+module _ (nt ct dt : Type 0) (port turns : ℕ) (a b d : Scene) where
   -- `stop` came
-  pub runs_stopped : (k : ℕ) → k + 1 ≤ turns → Goes nt ct port k false a b → Goes nt ct port 1 true b d → Runs nt ct port turns status.Done a d
+  pub runs_stopped : (k : ℕ) → k + 1 ≤ turns → Goes nt ct dt port k false a b → Goes nt ct dt port 1 true b d → Runs nt ct dt port turns status.Done a d
   runs_stopped k within g h =
-      let all : Goes nt ct port (k + 1) true a d = goes_then nt ct port k 1 true a b d g h in
+      let all : Goes nt ct dt port (k + 1) true a d = goes_then nt ct dt port k 1 true a b d g h in
       record {
-        ends = ends_of nt ct port (k + 1) turns true a d within all;
+        ends = ends_of nt ct dt port (k + 1) turns true a d within all;
         whole = λ is. (all.enough, all.sent);
         stopped = λ is. all.stops;
         spent = λ is. absurd (let e : status.Done ≡ status.TurnsSpent = is in cc);
       }
 
   -- all takes were made
-  pub runs_spent : Goes nt ct port turns false a b → Runs nt ct port turns status.TurnsSpent a b
+  pub runs_spent : Goes nt ct dt port turns false a b → Runs nt ct dt port turns status.TurnsSpent a b
   runs_spent g = record {
-    ends = ends_of nt ct port turns turns false a b (omega arith) g;
+    ends = ends_of nt ct dt port turns turns false a b (omega arith) g;
     whole = λ is. (g.enough, g.sent);
     stopped = λ is. absurd (let e : status.TurnsSpent ≡ status.Done = is in cc);
     spent = λ is. (g.stops, g.number);
   }
 
   -- something failed
-  pub runs_failed : (k m n : ℕ) (s : Status) → k + 1 ≤ turns → IsFault m n s → Goes nt ct port k false a b → Ends nt ct port 1 b d → Runs nt ct port turns s a d
-  runs_failed k m n s within fault g e = record {
-    ends = ends_within nt ct port (k + 1) turns a d within (goes_ends nt ct port k 1 a b d g e);
-    whole = λ is. absurd (not_whole m n s fault is);
-    stopped = λ is. absurd (not_done m n s fault is);
-    spent = λ is. absurd (not_spent m n s fault is);
-  }
+  pub runs_failed : (k l m n o : ℕ) (s : Status) → k + 1 ≤ turns → IsFault l m n o s → Goes nt ct dt port k false a b → Ends nt ct dt port 1 b d → Runs nt ct dt port turns s a d
+  runs_failed k l m n o s within fault g e =
+      let part : IsPart s = fault_part l m n o s fault in
+      record {
+        ends = ends_within nt ct dt port (k + 1) turns a d within (goes_ends nt ct dt port k 1 a b d g e);
+        whole = λ is. absurd (not_whole s part is);
+        stopped = λ is. absurd (part.0 is);
+        spent = λ is. absurd (part.1 is);
+      }
 
-module _ (nt ct : Type 0) (server servers port turns : ℕ) (s : Status) (n0 : NetTold) (t0 : ℕ) (c0 : ClockTold) where
+-- nothing was done to the log
+pub none_at_start : (server servers : ℕ) (d0 : DiskTold) → LeavesAtStart server servers d0 d0
+none_at_start server servers d0 settled entries opens =
+    leaves_started d0.chosen 0 (OpensWithOrWithout entries (begin_entry server servers (is_empty entries))) d0.history
+    (λ image is. inl (subst (λ (f : List ℕ). OpensTo f entries) (sym (settled image is)) opens))
+
+some_at_start : (server servers : ℕ) (d0 d1 : DiskTold) → LeavesAtStart server servers d0 d1 → IsSettled (steps d0 0) → (entries : List (List ℕ)) → OpensTo (given d0 0) entries
+    → LeavesSince 0 d0 d1 (OpensToSome entries (begin_entry server servers (is_empty entries) ∷ []))
+some_at_start server servers d0 d1 since settled entries opens =
+    let first : List ℕ = begin_entry server servers (is_empty entries) in
+    leaves_weaker d0.chosen 0 (OpensWithOrWithout entries first) (OpensToSome entries (first ∷ [])) d0.history d1.history (to_some entries first) (since settled entries opens)
+
+module _ (nt ct dt : Type 0) (server servers port turns : ℕ) (s : Status) (n0 : NetTold) (t0 : ℕ) (c0 : ClockTold) (d0 : DiskTold) where
   -- it ended before any take
-  pub served_none : (m n : ℕ) (n1 : NetTold) (t1 : ℕ) → IsFault m n s → (nt → (n1 ≡ n0) ⊎ (n1 ≡ with_bound n0 (port + server))) → t1 ≡ t0
-      → Served nt ct server servers port turns s n0 n1 t0 t1 c0 c0
-  served_none m n n1 t1 fault net takes = record {
+  pub served_none : (n1 : NetTold) (t1 : ℕ) (d1 : DiskTold) → IsPart s → (nt → (n1 ≡ n0) ⊎ (n1 ≡ with_bound n0 (port + server))) → t1 ≡ t0 → (dt → KeepsOthers 0 d0 d1) → (dt → LeavesAtStart server servers d0 d1)
+      → Served nt ct dt server servers port turns s n0 n1 t0 t1 c0 c0 d0 d1
+  served_none n1 t1 d1 part net takes others since = record {
+    old = None;
     gave = [];
     moments = [];
     words = [];
+    is_old = inl refl;
     few = omega arith;
     given = λ tells. given_same (net tells) ∙ sym (append-nil n0.given);
     takes = subst (λ (t : ℕ). IsTaken 0 t0 t) (sym takes) (taken-none t0);
@@ -98,9 +92,13 @@ module _ (nt ct : Type 0) (server servers port turns : ℕ) (s : Status) (n0 : N
     stops = (false, refl);
     bound = λ tells. bound_or (net tells);
     sent = λ tells. (0, sent_same (net tells) ∙ sym (append-nil n0.sent));
-    whole = λ is. absurd (not_whole m n s fault is);
-    stopped = λ is. absurd (not_done m n s fault is);
-    spent = λ is. absurd (not_spent m n s fault is);
+    whole = λ is. absurd (not_whole s part is);
+    stopped = λ is. absurd (part.0 is);
+    spent = λ is. absurd (part.1 is);
+    read = refl;
+    leaves = λ tells settled entries opens. some_at_start server servers d0 d1 (since tells) settled entries opens;
+    kept = λ net_tells tells settled entries opens image is. inl (sent_same (net net_tells));
+    others = others;
   } where
     given_same : (n1 ≡ n0) ⊎ (n1 ≡ with_bound n0 (port + server)) → n1.given ≡ n0.given
     given_same (inl same) = ap (λ (t : NetTold). t.given) same
@@ -111,31 +109,83 @@ module _ (nt ct : Type 0) (server servers port turns : ℕ) (s : Status) (n0 : N
     sent_same (inr same) = ap (λ (t : NetTold). t.sent) same
 
     bound_or : (n1 ≡ n0) ⊎ (n1 ≡ with_bound n0 (port + server)) → ((n1 ≡ n0) × (IsWhole s → ⊥)) ⊎ (n1.bound ≡ Some (port + server))
-    bound_or (inl same) = inl (same, not_whole m n s fault)
+    bound_or (inl same) = inl (same, not_whole s part)
     bound_or (inr same) = inr (ap (λ (t : NetTold). t.bound) same)
 
   -- it made its turns
-  pub served_runs : (nm n1 : NetTold) (tm t1 : ℕ) (c1 : ClockTold) (s0 s1 : Store) → (nt → nm ≡ with_bound n0 (port + server)) → tm ≡ t0 → s0 ≡ new_store servers server
-      → Runs nt ct port turns s (scene nm tm c0 s0) (scene n1 t1 c1 s1) → Served nt ct server servers port turns s n0 n1 t0 t1 c0 c1
-  served_runs nm n1 tm t1 c1 s0 s1 bind takes new r =
-      let own : List Asked = asked r.ends.gave r.ends.moments r.ends.words in
-      record {
-        gave = r.ends.gave;
-        moments = r.ends.moments;
-        words = r.ends.words;
-        few = r.ends.few;
-        given = λ tells. r.ends.given tells ∙ ap (λ (t : NetTold). t.given ++ r.ends.gave) (bind tells);
-        takes = subst (λ (t : ℕ). IsTaken (length r.ends.gave) t t1) takes r.ends.takes;
-        noted_moments = r.ends.noted_moments;
-        noted_words = r.ends.noted_words;
-        enough = r.ends.enough;
-        stops = r.ends.stops;
-        bound = λ tells. inr (r.ends.bound tells ∙ ap (λ (t : NetTold). t.bound) (bind tells));
-        sent = λ tells.
-            let n : ℕ = (r.ends.sent tells).0 in
-            (n, (r.ends.sent tells).1 ∙ ap (λ (t : NetTold). t.sent ++ take n (sends port s0 own)) (bind tells) ∙ ap (λ (x : Store). n0.sent ++ take n (sends port x own)) new);
-        whole = λ is.
-            ((r.whole is).0, λ tells. (r.whole is).1 tells ∙ ap (λ (t : NetTold). t.sent ++ sends port s0 own) (bind tells) ∙ ap (λ (x : Store). n0.sent ++ sends port x own) new);
-        stopped = r.stopped;
-        spent = r.spent;
-      }
+  module _ (nm : NetTold) (tm : ℕ) (dm : DiskTold) (log0 : Option ℕ) (store0 : Store) (n1 : NetTold) (t1 : ℕ) (c1 : ClockTold) (d1 : DiskTold) (log1 : Option ℕ) (store1 : Store)
+      (bind : nt → nm ≡ with_bound n0 (port + server)) (takes : tm ≡ t0)
+      (st : Started dt server servers d0 dm log0 store0) (since : dt → LeavesAtStart server servers d0 dm) (others : dt → KeepsOthers 0 d0 dm) where
+    abbrev a : Scene
+    a = scene nm tm c0 dm log0 store0
+
+    abbrev b : Scene
+    b = scene n1 t1 c1 d1 log1 store1
+
+    abbrev begins : Store
+    begins = begun server servers st.folded.old
+
+    abbrev first : List (List ℕ) → List ℕ
+    first entries = begin_entry server servers (is_empty entries)
+
+    pub opened : dt → IsOldFile server servers st.folded.old (given d0 0)
+    opened tells = record { entries = st.entries; opens = st.opened tells; is = st.folded.is }
+
+    same_sends : (own : List Asked) → sends port store0 own ≡ sends port begins own
+    same_sends own = ap (λ (x : Store). sends port x own) st.folded.store_is
+
+    sent_same : nt → nm.sent ≡ n0.sent
+    sent_same tells = ap (λ (t : NetTold). t.sent) (bind tells)
+
+    kept_image : (entries : List (List ℕ)) (own : List Asked) (image : List ℕ) → nt → st.entries ≡ entries
+        → (k : ℕ) × OpensTo image ((st.entries ++ first st.entries ∷ []) ++ entries_for (take k own)) × ((n : ℕ) × (n1.sent ≡ nm.sent ++ take n (sends port store0 (take k own))))
+        → (k : ℕ) × OpensTo image (entries ++ first entries ∷ entries_for (take k own)) × ((n : ℕ) × (n1.sent ≡ n0.sent ++ take n (sends port begins (take k own))))
+    kept_image entries own image tells same there =
+        let k : ℕ = there.0 in
+        let n : ℕ = there.2.0 in (
+          k,
+          subst (λ (es : List (List ℕ)). OpensTo image (es ++ first es ∷ entries_for (take k own))) same
+              (subst (λ (es : List (List ℕ)). OpensTo image es) (append_assoc st.entries (first st.entries ∷ []) (entries_for (take k own))) there.1),
+          (n, there.2.1 ∙ ap (λ (l : List Datagram). l ++ take n (sends port store0 (take k own))) (sent_same tells) ∙ ap (λ (l : List Datagram). n0.sent ++ take n l) (same_sends (take k own))),
+        )
+
+    pub served_runs : Runs nt ct dt port turns s a b → Served nt ct dt server servers port turns s n0 n1 t0 t1 c0 c1 d0 d1
+    served_runs r =
+        let own : List Asked = asked r.ends.gave r.ends.moments r.ends.words in
+        record {
+          old = st.folded.old;
+          gave = r.ends.gave;
+          moments = r.ends.moments;
+          words = r.ends.words;
+          is_old = inr opened;
+          few = r.ends.few;
+          given = λ tells. r.ends.given tells ∙ ap (λ (t : NetTold). t.given ++ r.ends.gave) (bind tells);
+          takes = subst (λ (t : ℕ). IsTaken (length r.ends.gave) t t1) takes r.ends.takes;
+          noted_moments = r.ends.noted_moments;
+          noted_words = r.ends.noted_words;
+          enough = r.ends.enough;
+          stops = r.ends.stops;
+          bound = λ tells. inr (r.ends.bound tells ∙ ap (λ (t : NetTold). t.bound) (bind tells));
+          sent = λ tells.
+              let n : ℕ = (r.ends.sent tells).0 in
+              (n, (r.ends.sent tells).1 ∙ ap (λ (l : List Datagram). l ++ take n (sends port store0 own)) (sent_same tells) ∙ ap (λ (l : List Datagram). n0.sent ++ take n l) (same_sends own));
+          whole = λ is. (
+            opened,
+            (r.whole is).0,
+            λ tells. (r.whole is).1 tells ∙ ap (λ (l : List Datagram). l ++ sends port store0 own) (sent_same tells) ∙ ap (λ (l : List Datagram). n0.sent ++ l) (same_sends own),
+          );
+          stopped = r.stopped;
+          spent = r.spent;
+          read = r.ends.read;
+          leaves = λ tells settled entries opens.
+              let same : st.entries ≡ entries = opens_once (given d0 0) st.entries entries (st.opened tells) opens in
+              leaves_on d0 dm d1 entries (first entries ∷ []) (entries_for own) (others tells)
+              (some_at_start server servers d0 dm (since tells) settled entries opens)
+              (subst (λ (es : List (List ℕ)). LeavesSince 0 dm d1 (OpensToSome (es ++ first es ∷ []) (entries_for own))) same
+              (r.ends.leaves tells (st.entries ++ first st.entries ∷ []) (st.stands tells)));
+          kept = λ net_tells tells settled entries opens image is.
+              let same : st.entries ≡ entries = opens_once (given d0 0) st.entries entries (st.opened tells) opens in
+              inr (kept_image entries own image net_tells same
+              (r.ends.kept net_tells tells (st.entries ++ first st.entries ∷ []) (st.stands tells) image is));
+          others = λ tells. keeps_then 0 d0 dm d1 (others tells) (r.ends.others tells);
+        }

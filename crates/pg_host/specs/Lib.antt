@@ -1,6 +1,9 @@
 pub mod Inputs
 pub mod Sends
 pub mod Causes
+pub mod Entries
+pub mod Logs
 pub mod Host
+pub mod Starts
 pub mod Turn
-pub use Rattle.pg_server.specs as pg_server
+pub use Rattle.law_lengths.specs.pg_server as pg_server

@@ -1,18 +1,21 @@
 //! What a packet asks of a server.
 
-ghost use Rattle.std.specs.Prelude.{◌≡◌, IfSome};
+ghost use Rattle.std.specs.Prelude.{◌≡◌, Ok, IfSome};
 ghost use Rattle.law_lengths.specs.Packets.{IsAskedFew};
-ghost use Rattle.law_spelled.specs.Messages.{FitsInput};
+ghost use Rattle.law_lengths.specs.law_spelled.Messages.{FitsInput};
+ghost use Rattle.pg_host.specs.Entries.{IsShort, entry_for, input_of, noted_of};
 ghost use Rattle.pg_host.specs.Inputs.{is_stop, is_stop_call};
-ghost use Rattle.pg_host.specs.Turn.{Asks};
+ghost use Rattle.pg_host.specs.Turn.{Asks, HasCome};
 
 use law_lengths::call_fits;
-use law_spelled::message_fits;
+use law_lengths::server::Input;
+use law_lengths::spelled::message_fits;
 use pg_call::{Call, CallKind};
 use pg_msg::Packet;
 use pg_net::Clock;
+use pg_node_entry::{entries_are_short, entries_read_back};
+use pg_packet_read::packets_read_back;
 use pg_packet_write::{Content, Datagram, Request};
-use pg_server::Input;
 
 /// Whom a reply goes to.
 #[derive(Clone, Copy, Debug, PartialEq, Eq)]
@@ -33,10 +36,16 @@ pub struct Asked {
 /// What a packet from this port asks, with the clock's moment and word where it takes them. Nothing
 /// where it is a reply.
 pub fn ask<C: Clock>(clock: &mut C, from: u16, packet: Datagram) -> Option<Asked>
+    requires { HasCome packet }
     ensures asks { Asks C.tells from packet result (C.told clock.old) (C.told clock.new) }
     ensures fits { IfSome result (λ a. FitsInput a.input) }
     ensures few { IfSome result (λ a. IsAskedFew a.input) }
+    ensures short { IfSome result (λ a. IsShort (noted_of a.input)) }
+    ensures read { IfSome result (λ a. input_of (entry_for a.input) ≡ Ok a.input) }
 {
+    entries_are_short();
+    entries_read_back();
+    packets_read_back();
     let Datagram {
         from: sender,
         view,

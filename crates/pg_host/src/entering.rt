@@ -1,25 +1,32 @@
 //! One input.
 
-ghost use Rattle.std.specs.Prelude.{◌≡◌, ◌≤◌, ℕ, false, IfOk, IfErr, IfSome, OnOk, Contains};
+ghost use Rattle.std.specs.Prelude.{◌≡◌, ◌≤◌, ◌⊎◌, ◌∷◌, ◌++◌, [], ℕ, List, false, IfOk, IfErr, IfSome, IsSome, OnOk, IsErrOf, Contains};
 ghost use Rattle.law_lengths.specs.Packets.{IsAskedFew, IsSentWell, IsToldWell};
-ghost use Rattle.law_spelled.specs.Messages.{FitsInput};
-ghost use Rattle.law_spelled.specs.Stores.{FitsStore};
+ghost use Rattle.law_lengths.specs.law_spelled.Messages.{FitsInput};
+ghost use Rattle.law_lengths.specs.law_spelled.Stores.{FitsStore};
+ghost use Rattle.pg_disk.specs.Moments.{LeavesSince};
+ghost use Rattle.pg_disk.specs.Synced.{KeepsOthers};
+ghost use Rattle.pg_log.specs.Log.{OpensWithOrWithout, Stands};
 ghost use Rattle.pg_msg.specs.declared.message.Sent.{Sent};
-ghost use Rattle.pg_server.specs.Local.{effect_of};
+ghost use Rattle.law_lengths.specs.pg_server.Local.{effect_of};
 ghost use Rattle.pg_host.specs.Causes.{IsFault};
+ghost use Rattle.pg_host.specs.Entries.{IsShort, entry_for, noted_of};
 ghost use Rattle.pg_host.specs.Sends.{SentFirst, packets, with_all};
 
 use crate::asking::Back;
+use crate::keeping::keep;
 use crate::sending::{send_messages, send_reply};
 use law_lengths::sends_packets;
+use law_lengths::server::{Input, Out, Server};
 use pg_base::Bytes;
+use pg_disk::Disk;
 use pg_event::Status;
+use pg_log::Log;
 use pg_net::Net;
-use pg_server::{Input, Out, Server};
 use std::alloc::Global;
 
 /// Lets the server take an input. What comes of it can be sent.
-fn take(server: &mut Server, input: Input) -> Result<Out, Status>
+pub fn take(server: &mut Server, input: Input) -> Result<Out, Status>
     requires going { server.old.failed ≡ false }
     requires fits { FitsStore server.old.store }
     requires input { FitsInput input }
@@ -40,10 +47,13 @@ fn take(server: &mut Server, input: Input) -> Result<Out, Status>
     }
 }
 
-/// Lets the server take an input, and sends first the reply to the client, and then the messages.
-pub fn enter<N: Net>(
+/// Appends an input to the log, lets the server take it, and sends first the reply to the client,
+/// and then the messages.
+pub fn enter<N: Net, D: Disk>(
     alloc: Global,
     net: &mut N,
+    disk: &mut D,
+    log: &mut Log,
     server: &mut Server,
     buffer: &mut Bytes,
     port: u16,
@@ -51,14 +61,17 @@ pub fn enter<N: Net>(
     back: Back,
 ) -> Result<(), Status>
     requires port { port ≤ 65471 }
+    requires open { IsSome log.old }
     requires going { server.old.failed ≡ false }
     requires fits { FitsStore server.old.store }
     requires input { FitsInput input }
     requires few { IsAskedFew input }
+    requires short { IsShort (noted_of input) }
 
     ensures store { OnOk result (server.new.store ≡ (effect_of server.old.store input).store) }
     ensures going { OnOk result (server.new.failed ≡ false) }
     ensures fits { OnOk result (FitsStore server.new.store) }
+    ensures ready { OnOk result (IsSome log.new) }
 
     // What goes out: all, or the first of it. Nothing else happens to the net.
     ensures sent { OnOk result (N.tells → N.told net.new
@@ -67,9 +80,33 @@ pub fn enter<N: Net>(
         (packets port back (effect_of server.old.store input)) }
     ensures takes { N.takes net.new ≡ N.takes net.old }
 
-    ensures later { N.faults net.old ≤ N.faults net.new }
-    ensures err { IfErr result (λ e. IsFault (N.faults net.old) (N.faults net.new) e) }
+    // From an Ok on, and where a packet was sent, a crash leaves the input.
+    ensures kept { D.tells → (entries : List (List ℕ))
+        → Stands log.old (D.told disk.old) entries
+        → OnOk result (Stands log.new (D.told disk.new) (entries ++ entry_for input ∷ [])) }
+    ensures before { D.tells → N.tells → (entries : List (List ℕ))
+        → Stands log.old (D.told disk.old) entries
+        → (N.told net.new ≡ N.told net.old)
+        ⊎ Stands log.new (D.told disk.new) (entries ++ entry_for input ∷ []) }
+    ensures nothing { IsErrOf result Status.DiskFault → N.tells
+        → N.told net.new ≡ N.told net.old }
+
+    // At each moment since the call began a crash leaves the entries, with the input or without.
+    ensures any_moment { D.tells → (entries : List (List ℕ))
+        → Stands log.old (D.told disk.old) entries
+        → LeavesSince 0 (D.told disk.old) (D.told disk.new)
+        (OpensWithOrWithout entries (entry_for input)) }
+    ensures others { D.tells → KeepsOthers 0 (D.told disk.old) (D.told disk.new) }
+
+    ensures net_later { N.faults net.old ≤ N.faults net.new }
+    ensures disk_later { D.faults disk.old ≤ D.faults disk.new }
+    ensures err { IfErr result (λ e. IsFault (N.faults net.old) (N.faults net.new)
+        (D.faults disk.old) (D.faults disk.new) e) }
 {
+    let input = match keep(alloc, disk, log, buffer, input) {
+        Ok(input) => input,
+        Err(status) => return Err(status),
+    };
     let out = match take(server, input) {
         Ok(out) => out,
         Err(status) => return Err(status),

@@ -3,12 +3,12 @@
 ghost use Rattle.std.specs.Prelude.{◌≡◌, ◌≤◌, ◌∷◌, [], ℕ, map, OnOk, OnErr, IfErr, IfSome, Contains};
 ghost use Rattle.law_lengths.specs.Packets.{IsSentWell, IsToldWell};
 ghost use Rattle.pg_msg.specs.declared.message.Sent.{Sent};
-ghost use Rattle.pg_host.specs.Causes.{IsFault};
+ghost use Rattle.pg_host.specs.Causes.{IsNetFault};
 ghost use Rattle.pg_host.specs.Sends.{SentFirst, message_packet, packet_to, reply_packets, with_all};
 
 use crate::asking::Back;
 use law_lengths::reply_fits;
-use law_spelled::message_fits;
+use law_lengths::spelled::message_fits;
 use pg_base::{Bytes, Items};
 use pg_call::Reply;
 use pg_event::Status;
@@ -20,7 +20,7 @@ use std::alloc::Global;
 use std::mem;
 
 /// Takes all bytes off. The room for them stays.
-fn clear(alloc: Global, buffer: &mut Bytes)
+pub fn clear(alloc: Global, buffer: &mut Bytes)
     ensures { buffer.new ≡ [] }
 {
     let mut bytes = mem::replace(buffer, Bytes::new(alloc)).into_vec();
@@ -41,7 +41,7 @@ fn send_packet<N: Net>(
     ensures same { OnErr result (N.tells → N.told net.new ≡ N.told net.old) }
     ensures takes { N.takes net.new ≡ N.takes net.old }
     ensures later { N.faults net.old ≤ N.faults net.new }
-    ensures err { IfErr result (λ e. IsFault (N.faults net.old) (N.faults net.new) e) }
+    ensures err { IfErr result (λ e. IsNetFault (N.faults net.old) (N.faults net.new) e) }
 {
     clear(alloc, buffer);
     match write_packet(packet, buffer) {
@@ -69,7 +69,7 @@ pub fn send_reply<N: Net>(
     ensures same { OnErr result (N.tells → N.told net.new ≡ N.told net.old) }
     ensures takes { N.takes net.new ≡ N.takes net.old }
     ensures later { N.faults net.old ≤ N.faults net.new }
-    ensures err { IfErr result (λ e. IsFault (N.faults net.old) (N.faults net.new) e) }
+    ensures err { IfErr result (λ e. IsNetFault (N.faults net.old) (N.faults net.new) e) }
 {
     match back {
         Back::Nobody => Ok(()),
@@ -100,7 +100,7 @@ fn send_message<N: Net>(
     ensures same { OnErr result (N.tells → N.told net.new ≡ N.told net.old) }
     ensures takes { N.takes net.new ≡ N.takes net.old }
     ensures later { N.faults net.old ≤ N.faults net.new }
-    ensures err { IfErr result (λ e. IsFault (N.faults net.old) (N.faults net.new) e) }
+    ensures err { IfErr result (λ e. IsNetFault (N.faults net.old) (N.faults net.new) e) }
 {
     let Sent { to, packet } = message;
     let Packet {
@@ -130,7 +130,7 @@ pub fn send_messages<N: Net>(
         → SentFirst (N.told net.old) (N.told net.new) (map (message_packet port) messages) }
     ensures takes { N.takes net.new ≡ N.takes net.old }
     ensures later { N.faults net.old ≤ N.faults net.new }
-    ensures err { IfErr result (λ e. IsFault (N.faults net.old) (N.faults net.new) e) }
+    ensures err { IfErr result (λ e. IsNetFault (N.faults net.old) (N.faults net.new) e) }
 {
     for message in messages.into_vec() {
         send_message(alloc, net, buffer, port, message)?;

@@ -1,18 +1,20 @@
 //! A server that runs.
 
-ghost use Rattle.std.specs.Prelude.{◌≡◌, ◌≤◌, length, false, IfOk};
-ghost use Rattle.law_spelled.specs.Stores.{FitsStore};
+ghost use Rattle.std.specs.Prelude.{◌≡◌, ◌≤◌, ◌⊎◌, length, false, IfOk, IsSome};
+ghost use Rattle.law_lengths.specs.law_spelled.Stores.{FitsStore};
 ghost use Rattle.pg_io.specs.Causes.{Rose};
-ghost use Rattle.pg_store.specs.Store.{new_store};
-ghost use Rattle.pg_host.specs.Causes.{IsEnd};
-ghost use Rattle.pg_host.specs.Host.{Runs, Served, scene};
+ghost use Rattle.pg_disk.specs.Told.{given};
+ghost use Rattle.pg_host.specs.Causes.{IsEnd, IsFault, IsWhole};
+ghost use Rattle.pg_host.specs.Host.{IsAnswered, Runs, Served, scene};
 
+use crate::starting::start;
 use crate::turning::turn;
-use law_spelled::spelled;
+use law_lengths::server::Server;
 use pg_base::{Bytes, NodeId};
+use pg_disk::Disk;
 use pg_event::Status;
+use pg_log::Log;
 use pg_net::{Clock, Net};
-use pg_server::Server;
 use std::alloc::{AllocError, Global};
 
 /// Room for a packet, and for one byte more, by which a longer one is seen.
@@ -24,24 +26,13 @@ fn room(alloc: Global) -> Result<Vec<u8>, AllocError>
     Ok(room)
 }
 
-/// A server to which nothing has come.
-fn start(alloc: Global, server: NodeId, servers: u32) -> Result<Server, AllocError>
-    requires first { 1 ≤ server }
-    requires last { server ≤ servers }
-    requires most { servers ≤ 64 }
-    ensures store { IfOk result (λ s. s.store ≡ new_store servers server) }
-    ensures going { IfOk result (λ s. s.failed ≡ false) }
-    ensures fits { IfOk result (λ s. FitsStore s.store) }
-{
-    spelled();
-    Server::new(alloc, server, servers)
-}
-
 /// Makes so many takes, or fewer where `stop` comes or something fails.
-fn take_turns<N: Net, C: Clock>(
+fn take_turns<N: Net, D: Disk, C: Clock>(
     alloc: Global,
     net: &mut N,
+    disk: &mut D,
     clock: &mut C,
+    log: &mut Log,
     server: &mut Server,
     buffer: &mut Bytes,
     port: u16,
@@ -49,17 +40,22 @@ fn take_turns<N: Net, C: Clock>(
     room: &mut [u8],
 ) -> Status
     requires port { port ≤ 65471 }
+    requires open { IsSome log.old }
     requires going { server.old.failed ≡ false }
     requires fits { FitsStore server.old.store }
     requires room { 40001 ≤ length room.old }
-    ensures runs { Runs N.tells C.tells port turns result
-        (scene (N.told net.old) (N.takes net.old) (C.told clock.old) server.old.store)
-        (scene (N.told net.new) (N.takes net.new) (C.told clock.new) server.new.store) }
-    ensures end { IsEnd (N.faults net.old) (N.faults net.new) result }
-    ensures later { N.faults net.old ≤ N.faults net.new }
+    ensures runs { Runs N.tells C.tells D.tells port turns result
+        (scene (N.told net.old) (N.takes net.old) (C.told clock.old) (D.told disk.old)
+        log.old server.old.store)
+        (scene (N.told net.new) (N.takes net.new) (C.told clock.new) (D.told disk.new)
+        log.new server.new.store) }
+    ensures end { IsWhole result ⊎ IsFault (N.faults net.old) (N.faults net.new)
+        (D.faults disk.old) (D.faults disk.new) result }
+    ensures net_later { N.faults net.old ≤ N.faults net.new }
+    ensures disk_later { D.faults disk.old ≤ D.faults disk.new }
 {
     'turns: for _turn in 0..turns {
-        let stop = match turn(alloc, net, clock, server, buffer, port, room) {
+        let stop = match turn(alloc, net, disk, clock, log, server, buffer, port, room) {
             Ok(stop) => stop,
             Err(status) => return status,
         };
@@ -70,11 +66,13 @@ fn take_turns<N: Net, C: Clock>(
     Status::TurnsSpent
 }
 
-/// Serves on `port + server`, as this server of a run with so many servers, and makes at most so
-/// many takes. It is Done once it has replied to `stop`.
-pub fn serve<N: Net, C: Clock>(
+/// Serves on `port + server`, as this server of a run with so many servers, over the log in file 0
+/// of the disk's chosen name, and makes at most so many takes. Each input is in the log before
+/// anything of it is sent. It is Done once it has replied to `stop`.
+pub fn serve<N: Net, D: Disk, C: Clock>(
     alloc: Global,
     net: &mut N,
+    disk: &mut D,
     clock: &mut C,
     server: NodeId,
     servers: u32,
@@ -85,13 +83,20 @@ pub fn serve<N: Net, C: Clock>(
     requires first { 1 ≤ server }
     requires last { server ≤ servers }
     requires most { servers ≤ 64 }
-    ensures served { Served N.tells C.tells server servers port turns result
+    ensures served { Served N.tells C.tells D.tells server servers port turns result
         (N.told net.old) (N.told net.new) (N.takes net.old) (N.takes net.new)
-        (C.told clock.old) (C.told clock.new) }
-    // It ends by itself, unless memory runs out or a call on the net fails.
-    ensures end { IsEnd (N.faults net.old) (N.faults net.new) result }
+        (C.told clock.old) (C.told clock.new) (D.told disk.old) (D.told disk.new) }
+    // It ends by itself, or does not go on with the log that it found, unless memory runs out or a
+    // call on the net or on the disk fails.
+    ensures end { IsEnd (N.faults net.old) (N.faults net.new)
+        (D.faults disk.old) (D.faults disk.new) result }
     ensures net_fault { result ≡ Status.NetFault → Rose (N.faults net.old) (N.faults net.new) }
-    ensures later { N.faults net.old ≤ N.faults net.new }
+    ensures disk_fault { result ≡ Status.DiskFault
+        → Rose (D.faults disk.old) (D.faults disk.new) }
+    ensures found { D.tells → IsAnswered server servers (N.faults net.old) (N.faults net.new)
+        (D.faults disk.old) (D.faults disk.new) (given (D.told disk.old) 0) result }
+    ensures net_later { N.faults net.old ≤ N.faults net.new }
+    ensures disk_later { D.faults disk.old ≤ D.faults disk.new }
 {
     match net.bind(port + server as u16) {
         Ok(()) => {}
@@ -101,15 +106,17 @@ pub fn serve<N: Net, C: Clock>(
         Ok(space) => space,
         Err(_) => return Status::OutOfMemory,
     };
-    let mut node = match start(alloc, server, servers) {
-        Ok(node) => node,
-        Err(_) => return Status::OutOfMemory,
-    };
     let mut buffer = Bytes::new(alloc);
+    let (mut log, mut node) = match start(alloc, disk, &mut buffer, server, servers) {
+        Ok(started) => started,
+        Err(status) => return status,
+    };
     take_turns(
         alloc,
         net,
+        disk,
         clock,
+        &mut log,
         &mut node,
         &mut buffer,
         port,

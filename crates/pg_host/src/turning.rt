@@ -1,28 +1,40 @@
 //! One take.
 
-ghost use Rattle.std.specs.Prelude.{◌≡◌, ◌≤◌, length, false, Ok, IfOk, OnOk, OnErr, IfErr, IsErr, MatchOption};
-ghost use Rattle.law_spelled.specs.Stores.{FitsStore};
+ghost use Rattle.std.specs.Prelude.{◌≡◌, ◌≤◌, ◌∷◌, [], ℕ, length, false, Some, Ok, IfOk, IfSome, IsSome, OnOk, OnErr, IfErr, IsErr, MatchOption};
+ghost use Rattle.law_lengths.specs.law_spelled.Stores.{FitsStore};
 ghost use Rattle.pg_packet_read.specs.Whole.{packet_of};
 ghost use Rattle.pg_host.specs.Causes.{IsFault};
-ghost use Rattle.pg_host.specs.Host.{Ends, Goes, scene};
-ghost use Rattle.pg_host.specs.Turn.{Halts, Works};
+ghost use Rattle.pg_host.specs.Host.{AreRead, Ends, Goes, scene};
+ghost use Rattle.pg_host.specs.Inputs.{asked};
+ghost use Rattle.pg_host.specs.Turn.{Halts, HasCome, Works};
 
 use crate::asking::{Asked, ask, is_stop};
 use crate::entering::enter;
+use law_lengths::server::Server;
 use pg_base::Bytes;
+use pg_disk::Disk;
 use pg_event::Status;
+use pg_log::Log;
 use pg_net::{Clock, Net, Taken};
+use pg_node_entry::{entries_are_short, entries_read_back};
 use pg_packet_fields::PacketError;
-use pg_packet_read::read_packet;
+use pg_packet_read::{packets_read_back, read_packet};
 use pg_packet_write::Datagram;
-use pg_server::Server;
 use std::alloc::{AllocError, Global};
 
 /// The packet that the bytes are, or none where they are no packet.
 fn read(alloc: Global, bytes: &[u8]) -> Result<Option<Datagram>, AllocError>
-    ensures { IfOk result (λ found. MatchOption found (IsErr (packet_of bytes.now))
+    ensures packet { IfOk result (λ found. MatchOption found (IsErr (packet_of bytes.now))
         (λ d. packet_of bytes.now ≡ Ok d)) }
+    ensures unread { (port : ℕ) → OnErr result (AreRead (asked (Some (record {
+      port = port;
+      bytes = bytes.now;
+    }) ∷ []) [] [])) }
+    ensures come { IfOk result (λ found. IfSome found (λ d. HasCome d)) }
 {
+    entries_are_short();
+    entries_read_back();
+    packets_read_back();
     match read_packet(alloc, bytes) {
         Ok(packet) => Ok(Some(packet)),
         Err(error) => match error {
@@ -36,10 +48,12 @@ fn read(alloc: Global, bytes: &[u8]) -> Result<Option<Datagram>, AllocError>
 }
 
 /// Takes what a packet from this port asks. It answers whether that is `stop`.
-pub fn take_packet<N: Net, C: Clock>(
+pub fn take_packet<N: Net, D: Disk, C: Clock>(
     alloc: Global,
     net: &mut N,
+    disk: &mut D,
     clock: &mut C,
+    log: &mut Log,
     server: &mut Server,
     buffer: &mut Bytes,
     port: u16,
@@ -47,19 +61,28 @@ pub fn take_packet<N: Net, C: Clock>(
     packet: Datagram,
 ) -> Result<bool, Status>
     requires port { port ≤ 65471 }
+    requires open { IsSome log.old }
     requires going { server.old.failed ≡ false }
     requires fits { FitsStore server.old.store }
-    ensures works { IfOk result (λ stop. Works N.tells C.tells port from packet stop
-        (scene (N.told net.old) (N.takes net.old) (C.told clock.old) server.old.store)
-        (scene (N.told net.new) (N.takes net.new) (C.told clock.new) server.new.store)) }
+    requires come { HasCome packet }
+    ensures works { IfOk result (λ stop. Works N.tells C.tells D.tells port from packet stop
+        (scene (N.told net.old) (N.takes net.old) (C.told clock.old) (D.told disk.old)
+        log.old server.old.store)
+        (scene (N.told net.new) (N.takes net.new) (C.told clock.new) (D.told disk.new)
+        log.new server.new.store)) }
+    ensures ready { OnOk result (IsSome log.new) }
     ensures going { OnOk result (server.new.failed ≡ false) }
     ensures fits { OnOk result (FitsStore server.new.store) }
-    ensures halts { OnErr result (Halts N.tells C.tells port from packet
-        (scene (N.told net.old) (N.takes net.old) (C.told clock.old) server.old.store)
-        (scene (N.told net.new) (N.takes net.new) (C.told clock.new) server.new.store)) }
+    ensures halts { OnErr result (Halts N.tells C.tells D.tells port from packet
+        (scene (N.told net.old) (N.takes net.old) (C.told clock.old) (D.told disk.old)
+        log.old server.old.store)
+        (scene (N.told net.new) (N.takes net.new) (C.told clock.new) (D.told disk.new)
+        log.new server.new.store)) }
     ensures takes { N.takes net.new ≡ N.takes net.old }
-    ensures later { N.faults net.old ≤ N.faults net.new }
-    ensures err { IfErr result (λ e. IsFault (N.faults net.old) (N.faults net.new) e) }
+    ensures net_later { N.faults net.old ≤ N.faults net.new }
+    ensures disk_later { D.faults disk.old ≤ D.faults disk.new }
+    ensures err { IfErr result (λ e. IsFault (N.faults net.old) (N.faults net.new)
+        (D.faults disk.old) (D.faults disk.new) e) }
 {
     let found = ask(clock, from, packet);
     match found {
@@ -67,7 +90,7 @@ pub fn take_packet<N: Net, C: Clock>(
         Some(asked) => {
             let Asked { back, input } = asked;
             let stop = is_stop(&input);
-            match enter(alloc, net, server, buffer, port, input, back) {
+            match enter(alloc, net, disk, log, server, buffer, port, input, back) {
                 Ok(()) => Ok(stop),
                 Err(status) => Err(status),
             }
@@ -77,29 +100,39 @@ pub fn take_packet<N: Net, C: Clock>(
 
 /// Takes a packet, if there is one, and what it asks. It answers whether that is `stop`. Bytes that
 /// are no packet are passed over.
-pub fn turn<N: Net, C: Clock>(
+pub fn turn<N: Net, D: Disk, C: Clock>(
     alloc: Global,
     net: &mut N,
+    disk: &mut D,
     clock: &mut C,
+    log: &mut Log,
     server: &mut Server,
     buffer: &mut Bytes,
     port: u16,
     room: &mut [u8],
 ) -> Result<bool, Status>
     requires port { port ≤ 65471 }
+    requires open { IsSome log.old }
     requires going { server.old.failed ≡ false }
     requires fits { FitsStore server.old.store }
     requires room { 40001 ≤ length room.old }
-    ensures goes { IfOk result (λ stop. Goes N.tells C.tells port 1 stop
-        (scene (N.told net.old) (N.takes net.old) (C.told clock.old) server.old.store)
-        (scene (N.told net.new) (N.takes net.new) (C.told clock.new) server.new.store)) }
+    ensures goes { IfOk result (λ stop. Goes N.tells C.tells D.tells port 1 stop
+        (scene (N.told net.old) (N.takes net.old) (C.told clock.old) (D.told disk.old)
+        log.old server.old.store)
+        (scene (N.told net.new) (N.takes net.new) (C.told clock.new) (D.told disk.new)
+        log.new server.new.store)) }
+    ensures ready { OnOk result (IsSome log.new) }
     ensures going { OnOk result (server.new.failed ≡ false) }
     ensures fits { OnOk result (FitsStore server.new.store) }
-    ensures ends { OnErr result (Ends N.tells C.tells port 1
-        (scene (N.told net.old) (N.takes net.old) (C.told clock.old) server.old.store)
-        (scene (N.told net.new) (N.takes net.new) (C.told clock.new) server.new.store)) }
-    ensures later { N.faults net.old ≤ N.faults net.new }
-    ensures err { IfErr result (λ e. IsFault (N.faults net.old) (N.faults net.new) e) }
+    ensures ends { OnErr result (Ends N.tells C.tells D.tells port 1
+        (scene (N.told net.old) (N.takes net.old) (C.told clock.old) (D.told disk.old)
+        log.old server.old.store)
+        (scene (N.told net.new) (N.takes net.new) (C.told clock.new) (D.told disk.new)
+        log.new server.new.store)) }
+    ensures net_later { N.faults net.old ≤ N.faults net.new }
+    ensures disk_later { D.faults disk.old ≤ D.faults disk.new }
+    ensures err { IfErr result (λ e. IsFault (N.faults net.old) (N.faults net.new)
+        (D.faults disk.old) (D.faults disk.new) e) }
 {
     let answer = match net.take(room) {
         Ok(answer) => answer,
@@ -115,7 +148,9 @@ pub fn turn<N: Net, C: Clock>(
             match found {
                 None => Ok(false),
                 Some(packet) => {
-                    take_packet(alloc, net, clock, server, buffer, port, from, packet)
+                    take_packet(
+                        alloc, net, disk, clock, log, server, buffer, port, from, packet,
+                    )
                 }
             }
         }

@@ -36,3 +36,4 @@ pub mod Made
 pub mod Marking
 pub mod Leaving
 mod HeldBack
+pub use Rattle.pg_msg.proofs as pg_msg

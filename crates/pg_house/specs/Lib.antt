@@ -8,3 +8,4 @@ pub mod Busy
 pub mod Facts
 pub mod Calm
 pub mod Holding
+pub use Rattle.pg_msg.specs as pg_msg

@@ -1,14 +1,14 @@
 -- Those intentions end whose condition does not hold.
 use Rattle.std.proofs.Common.{◌≡◌, ◌++◌, ◌∙◌, Bool, true, false, not, cond, List, [], ◌∷◌, map, filter, refl, ap}
 use Rattle.std.specs.List.{flat_map}
-use Rattle.pg_intent.specs.declared.key.IntentKey.{IntentKey}
-use Rattle.pg_intent.specs.declared.intent.Intent.{Intent}
-use Rattle.pg_intent.specs.Intent.{key_of}
-use Rattle.pg_intent.specs.Intents.{HaveOwnKeys, ended_each}
-use Rattle.pg_intent.proofs.Ending.{ended_others}
-use Rattle.pg_replica.specs.Index.{Files}
-use Rattle.pg_store.specs.declared.store.Store.{Store}
-use Rattle.pg_store.specs.Beginning.{with_intents}
+use Rattle.pg_graph.specs.pg_intent.declared.key.IntentKey.{IntentKey}
+use Rattle.pg_graph.specs.pg_intent.declared.intent.Intent.{Intent}
+use Rattle.pg_graph.specs.pg_intent.Intent.{key_of}
+use Rattle.pg_graph.specs.pg_intent.Intents.{HaveOwnKeys, ended_each}
+use Rattle.pg_graph.proofs.pg_intent.Ending.{ended_others}
+use Rattle.pg_graph.specs.pg_replica.Index.{Files}
+use Rattle.pg_graph.specs.pg_store.declared.store.Store.{Store}
+use Rattle.pg_graph.specs.pg_store.Beginning.{with_intents}
 use Rattle.pg_intentions.specs.Beginning.{end_others, ended_key_of, still_stands}
 
 picked_by : {A B : Type 0} (test : A → Bool) (f : A → B) (x : A) (xs : List A) (t : Bool)

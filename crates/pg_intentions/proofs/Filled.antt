@@ -5,15 +5,15 @@ use Rattle.std.specs.BTreeMap.{insert_entry, is_at}
 use Rattle.std.specs.Map.{lookup}
 use Rattle.pg_base.specs.declared.id.FileId.{FileId}
 use Rattle.pg_base.specs.Id.{file_cmp}
-use Rattle.pg_intent.specs.declared.intent.Intent.{Intent}
-use Rattle.pg_intent.specs.declared.intent.Intent.TheVariants as intent
-use Rattle.pg_msg.specs.declared.work.Work.{Work}
-use Rattle.pg_names.specs.declared.attributes.Attributes.{Attributes}
-use Rattle.pg_names.specs.Names.{InodeValue, NamesValue}
-use Rattle.pg_replica.specs.Index.{Files}
-use Rattle.pg_store.specs.declared.store.Store.{Store}
-use Rattle.pg_store.specs.Births.{fill_at}
-use Rattle.pg_store.specs.Servers.{first_target}
+use Rattle.pg_graph.specs.pg_intent.declared.intent.Intent.{Intent}
+use Rattle.pg_graph.specs.pg_intent.declared.intent.Intent.TheVariants as intent
+use Rattle.pg_graph.specs.pg_msg.declared.work.Work.{Work}
+use Rattle.pg_graph.specs.pg_names.declared.attributes.Attributes.{Attributes}
+use Rattle.pg_graph.specs.pg_names.Names.{InodeValue, NamesValue}
+use Rattle.pg_graph.specs.pg_replica.Index.{Files}
+use Rattle.pg_graph.specs.pg_store.declared.store.Store.{Store}
+use Rattle.pg_graph.specs.pg_store.Births.{fill_at}
+use Rattle.pg_graph.specs.pg_store.Servers.{first_target}
 use Rattle.pg_graph.specs.pg_pieces.Done.{Done, idle}
 use Rattle.pg_intentions.specs.Beginning.{still_stands}
 use Rattle.pg_intentions.specs.Fills.{begin_fill, fill_birth, fill_of, lacks_parent, with_fill_birth, with_filling, with_parent}

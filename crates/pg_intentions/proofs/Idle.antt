@@ -6,20 +6,20 @@ use Rattle.std.proofs.lemmas.Bool.{false≢true, or_left, or_right}
 use Rattle.pg_base.specs.declared.id.FileId.{FileId}
 use Rattle.pg_base.specs.Id.{is_same_file}
 use Rattle.pg_base.proofs.Orders.{is_same_file-refl}
-use Rattle.pg_intent.specs.declared.intent.Intent.{Intent}
-use Rattle.pg_intent.specs.declared.intent.Intent.TheVariants as intent
-use Rattle.pg_intent.specs.declared.key.IntentKey.{IntentKey}
-use Rattle.pg_intent.specs.declared.key.IntentKey.TheVariants as intent_key
-use Rattle.pg_intent.specs.Intent.{key_of}
-use Rattle.pg_intent.specs.Intents.{has_key, intent_at, stands}
-use Rattle.pg_intent.proofs.Found.{stands_is}
-use Rattle.pg_intent.proofs.SameKey.{is_same_key-refl}
-use Rattle.pg_msg.specs.declared.work.Slot.{Slot}
-use Rattle.pg_msg.specs.declared.work.Work.{Work}
-use Rattle.pg_names.specs.Names.{NamesValue}
-use Rattle.pg_store.specs.declared.store.Store.{Store}
-use Rattle.pg_store.specs.Beginning.{with_intents}
-use Rattle.pg_store.specs.Births.{fill_at}
+use Rattle.pg_graph.specs.pg_intent.declared.intent.Intent.{Intent}
+use Rattle.pg_graph.specs.pg_intent.declared.intent.Intent.TheVariants as intent
+use Rattle.pg_graph.specs.pg_intent.declared.key.IntentKey.{IntentKey}
+use Rattle.pg_graph.specs.pg_intent.declared.key.IntentKey.TheVariants as intent_key
+use Rattle.pg_graph.specs.pg_intent.Intent.{key_of}
+use Rattle.pg_graph.specs.pg_intent.Intents.{has_key, intent_at, stands}
+use Rattle.pg_graph.proofs.pg_intent.Found.{stands_is}
+use Rattle.pg_graph.proofs.pg_intent.SameKey.{is_same_key-refl}
+use Rattle.pg_graph.specs.pg_msg.declared.work.Slot.{Slot}
+use Rattle.pg_graph.specs.pg_msg.declared.work.Work.{Work}
+use Rattle.pg_graph.specs.pg_names.Names.{NamesValue}
+use Rattle.pg_graph.specs.pg_store.declared.store.Store.{Store}
+use Rattle.pg_graph.specs.pg_store.Beginning.{with_intents}
+use Rattle.pg_graph.specs.pg_store.Births.{fill_at}
 use Rattle.pg_graph.specs.pg_pieces.Done.{Done, idle}
 use Rattle.pg_intentions.specs.Beginning.{begin_end, confirms_after, end_others, fills_after, seeks_after, still_stands}
 use Rattle.pg_intentions.specs.Confirms.{begin_confirm, is_doubtful}

@@ -4,10 +4,10 @@ use Rattle.std.proofs.Common.{Bool, true, false, cond, Option, None, Some, List,
 use Rattle.std.specs.Map.{keys_of}
 use Rattle.pg_base.specs.declared.id.FileId.{FileId}
 use Rattle.pg_edges.specs.declared.edge.Edge.{Edge}
-use Rattle.pg_msg.specs.declared.message.Message.TheVariants as message
-use Rattle.pg_msg.specs.declared.work.Work.{Work}
-use Rattle.pg_msg.specs.Work.{with_tail}
-use Rattle.pg_store.specs.declared.store.Store.{Store}
+use Rattle.pg_graph.specs.pg_msg.declared.message.Message.TheVariants as message
+use Rattle.pg_graph.specs.pg_msg.declared.work.Work.{Work}
+use Rattle.pg_graph.specs.pg_msg.Work.{with_tail}
+use Rattle.pg_graph.specs.pg_store.declared.store.Store.{Store}
 use Rattle.pg_graph.specs.pg_pieces.Accepting.{ends_to}
 use Rattle.pg_graph.specs.pg_pieces.Posting.{sent_to}
 use Rattle.pg_intentions.specs.Inviting.{invite_all, invite_along, invite_each, invite_of, invites, loose_edge}

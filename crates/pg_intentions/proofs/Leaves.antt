@@ -2,21 +2,21 @@
 use Rattle.std.proofs.Common.{ℕ, ◌≡◌, Bool, true, false, cond, ◌++◌, List, [], ◌∷◌, filter, Option, None, Some, is_some, refl, ap, ◌∙◌}
 use Rattle.std.specs.List.{AllByRecursion}
 use Rattle.pg_base.specs.declared.id.FileId.{FileId}
-use Rattle.pg_intent.specs.declared.intent.Intent.{Intent}
-use Rattle.pg_intent.specs.declared.intent.Intent.TheVariants as intent
-use Rattle.pg_intent.specs.declared.key.IntentKey.{IntentKey}
-use Rattle.pg_intent.specs.declared.key.IntentKey.TheVariants as intent_key
-use Rattle.pg_intent.specs.Intent.{aimed_at, key_of, rejoined}
-use Rattle.pg_intent.specs.Intents.{begun, changed, has_key, stands}
-use Rattle.pg_msg.specs.declared.work.Slot.{Slot}
-use Rattle.pg_msg.specs.declared.work.Work.{Work}
-use Rattle.pg_names.specs.Names.{NamesValue}
-use Rattle.pg_replica.specs.Index.{Files}
-use Rattle.pg_replica.specs.Replicas.{ByFile}
-use Rattle.pg_store.specs.declared.store.Store.{Store}
-use Rattle.pg_store.specs.declared.wishes.Wish.{Wish}
-use Rattle.pg_store.specs.Births.{fill_at, wish_at}
-use Rattle.pg_store.specs.Store.{is_held}
+use Rattle.pg_graph.specs.pg_intent.declared.intent.Intent.{Intent}
+use Rattle.pg_graph.specs.pg_intent.declared.intent.Intent.TheVariants as intent
+use Rattle.pg_graph.specs.pg_intent.declared.key.IntentKey.{IntentKey}
+use Rattle.pg_graph.specs.pg_intent.declared.key.IntentKey.TheVariants as intent_key
+use Rattle.pg_graph.specs.pg_intent.Intent.{aimed_at, key_of, rejoined}
+use Rattle.pg_graph.specs.pg_intent.Intents.{begun, changed, has_key, stands}
+use Rattle.pg_graph.specs.pg_msg.declared.work.Slot.{Slot}
+use Rattle.pg_graph.specs.pg_msg.declared.work.Work.{Work}
+use Rattle.pg_graph.specs.pg_names.Names.{NamesValue}
+use Rattle.pg_graph.specs.pg_replica.Index.{Files}
+use Rattle.pg_graph.specs.pg_replica.Replicas.{ByFile}
+use Rattle.pg_graph.specs.pg_store.declared.store.Store.{Store}
+use Rattle.pg_graph.specs.pg_store.declared.wishes.Wish.{Wish}
+use Rattle.pg_graph.specs.pg_store.Births.{fill_at, wish_at}
+use Rattle.pg_graph.specs.pg_store.Store.{is_held}
 use Rattle.pg_graph.specs.pg_pieces.Done.{Done, idle}
 use Rattle.pg_intentions.specs.Beginning.{begin_end, end_others, still_stands}
 use Rattle.pg_intentions.specs.Confirms.{begin_confirm, confirm_of, is_doubtful}

@@ -12,9 +12,9 @@ use Rattle.pg_base.specs.Id.{file_cmp, is_same_file}
 use Rattle.pg_base.proofs.Entries.{lookup-place}
 use Rattle.pg_base.proofs.Maps.{lookup-insert_entry}
 use Rattle.pg_base.proofs.Orders.{file_total, is_same_file-refl, is_same_file-true}
-use Rattle.pg_names.specs.Names.{InodeValue, NamesValue, is_held, known}
-use Rattle.pg_house.specs.Work.{is_root}
-use Rattle.pg_replica.specs.Index.{Files}
+use Rattle.pg_graph.specs.pg_names.Names.{InodeValue, NamesValue, is_held, known}
+use Rattle.pg_graph.specs.pg_house.Work.{is_root}
+use Rattle.pg_graph.specs.pg_replica.Index.{Files}
 use Rattle.pg_intentions.specs.Fills.{files_to_fill, is_in, lacks_parent, with_each, with_filling, with_held}
 use Rattle.pg_intentions.specs.Needed.{IsLackedParent, IsToFill, IsWhatIsToFill}
 

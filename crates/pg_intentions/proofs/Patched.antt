@@ -13,23 +13,23 @@ use Rattle.pg_base.specs.Id.{file_cmp, is_same_file}
 use Rattle.pg_base.proofs.Entries.{IsStrictlySortedBy-insert_entry}
 use Rattle.pg_base.proofs.Maps.{lookup-insert_entry}
 use Rattle.pg_base.proofs.Orders.{is_same_file-true}
-use Rattle.pg_intent.specs.declared.intent.Intent.{Intent}
-use Rattle.pg_intent.specs.declared.intent.Intent.TheVariants as intent
-use Rattle.pg_intent.specs.declared.key.IntentKey.{IntentKey}
-use Rattle.pg_intent.specs.declared.key.IntentKey.TheVariants as intent_key
-use Rattle.pg_intent.specs.Target.{next_target as next_of}
-use Rattle.pg_intent.specs.Intents.{begun_on, has_key, intent_at}
-use Rattle.pg_intent.proofs.Found.{begun_found}
-use Rattle.pg_msg.specs.declared.work.Slot.{Slot}
-use Rattle.pg_msg.specs.declared.work.Work.{Work}
-use Rattle.pg_msg.specs.Work.{slot_cmp}
-use Rattle.pg_msg.proofs.Slots.{slot_total}
-use Rattle.pg_names.specs.Names.{NamesValue, own_or_blank}
-use Rattle.pg_names.specs.Names.{is_held as held_in}
-use Rattle.pg_replica.specs.Index.{Files}
-use Rattle.pg_store.specs.declared.store.Store.{Store}
-use Rattle.pg_store.specs.Servers.{first_target}
-use Rattle.pg_store.specs.Store.{is_held}
+use Rattle.pg_graph.specs.pg_intent.declared.intent.Intent.{Intent}
+use Rattle.pg_graph.specs.pg_intent.declared.intent.Intent.TheVariants as intent
+use Rattle.pg_graph.specs.pg_intent.declared.key.IntentKey.{IntentKey}
+use Rattle.pg_graph.specs.pg_intent.declared.key.IntentKey.TheVariants as intent_key
+use Rattle.pg_graph.specs.pg_intent.Target.{next_target as next_of}
+use Rattle.pg_graph.specs.pg_intent.Intents.{begun_on, has_key, intent_at}
+use Rattle.pg_graph.proofs.pg_intent.Found.{begun_found}
+use Rattle.pg_graph.specs.pg_msg.declared.work.Slot.{Slot}
+use Rattle.pg_graph.specs.pg_msg.declared.work.Work.{Work}
+use Rattle.pg_graph.specs.pg_msg.Work.{slot_cmp}
+use Rattle.pg_graph.proofs.pg_msg.Slots.{slot_total}
+use Rattle.pg_graph.specs.pg_names.Names.{NamesValue, own_or_blank}
+use Rattle.pg_graph.specs.pg_names.Names.{is_held as held_in}
+use Rattle.pg_graph.specs.pg_replica.Index.{Files}
+use Rattle.pg_graph.specs.pg_store.declared.store.Store.{Store}
+use Rattle.pg_graph.specs.pg_store.Servers.{first_target}
+use Rattle.pg_graph.specs.pg_store.Store.{is_held}
 use Rattle.pg_graph.specs.pg_pieces.Done.{idle}
 use Rattle.pg_intentions.specs.Beginning.{begin_end, end_others, still_stands}
 use Rattle.pg_repair.specs.Confirming.{entry_for, own_entry}

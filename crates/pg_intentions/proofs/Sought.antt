@@ -7,19 +7,19 @@ use Rattle.std.proofs.lemmas.Bool.{false≢true}
 use Rattle.pg_base.specs.declared.id.FileId.{FileId}
 use Rattle.pg_base.specs.Id.{is_same_file}
 use Rattle.pg_base.proofs.Orders.{is_same_file-true}
-use Rattle.pg_intent.specs.declared.intent.Intent.{Intent}
-use Rattle.pg_intent.specs.declared.intent.Intent.TheVariants as intent
-use Rattle.pg_intent.specs.declared.key.IntentKey.{IntentKey}
-use Rattle.pg_intent.specs.declared.key.IntentKey.TheVariants as intent_key
-use Rattle.pg_intent.specs.Intent.{aimed_at}
-use Rattle.pg_intent.specs.Intents.{begun_on, has_key, intent_at}
-use Rattle.pg_intent.proofs.Found.{aimed_found, begun_found, stands_is}
-use Rattle.pg_msg.specs.declared.work.Work.{Work}
-use Rattle.pg_names.specs.Names.{NamesValue}
-use Rattle.pg_replica.specs.Index.{Files}
-use Rattle.pg_replica.specs.Replicas.{ByFile}
-use Rattle.pg_store.specs.declared.store.Store.{Store}
-use Rattle.pg_store.specs.Store.{is_held}
+use Rattle.pg_graph.specs.pg_intent.declared.intent.Intent.{Intent}
+use Rattle.pg_graph.specs.pg_intent.declared.intent.Intent.TheVariants as intent
+use Rattle.pg_graph.specs.pg_intent.declared.key.IntentKey.{IntentKey}
+use Rattle.pg_graph.specs.pg_intent.declared.key.IntentKey.TheVariants as intent_key
+use Rattle.pg_graph.specs.pg_intent.Intent.{aimed_at}
+use Rattle.pg_graph.specs.pg_intent.Intents.{begun_on, has_key, intent_at}
+use Rattle.pg_graph.proofs.pg_intent.Found.{aimed_found, begun_found, stands_is}
+use Rattle.pg_graph.specs.pg_msg.declared.work.Work.{Work}
+use Rattle.pg_graph.specs.pg_names.Names.{NamesValue}
+use Rattle.pg_graph.specs.pg_replica.Index.{Files}
+use Rattle.pg_graph.specs.pg_replica.Replicas.{ByFile}
+use Rattle.pg_graph.specs.pg_store.declared.store.Store.{Store}
+use Rattle.pg_graph.specs.pg_store.Store.{is_held}
 use Rattle.pg_graph.specs.pg_pieces.Done.{Done, idle}
 use Rattle.pg_graph.specs.pg_pieces.Golds.{is_gold}
 use Rattle.pg_intentions.specs.Beginning.{begin_end, end_others, still_stands}

@@ -8,22 +8,22 @@ use Rattle.std.proofs.lemmas.Bool.{false≢true}
 use Rattle.pg_base.specs.declared.id.FileId.{FileId}
 use Rattle.pg_base.specs.Id.{file_cmp, is_same_file}
 use Rattle.pg_base.proofs.Orders.{is_same_file-true}
-use Rattle.pg_intent.specs.declared.intent.Intent.{Intent}
-use Rattle.pg_intent.specs.declared.intent.Intent.TheVariants as intent
-use Rattle.pg_intent.specs.declared.key.IntentKey.{IntentKey}
-use Rattle.pg_intent.specs.declared.key.IntentKey.TheVariants as intent_key
-use Rattle.pg_intent.specs.Intent.{aimed_at, key_of}
-use Rattle.pg_intent.specs.Intents.{begun_on, has_key, intent_at}
-use Rattle.pg_intent.specs.Key.{is_same_key}
-use Rattle.pg_intent.proofs.Found.{aimed_found, begun_found}
-use Rattle.pg_msg.specs.declared.work.Slot.{Slot}
-use Rattle.pg_msg.specs.declared.work.Work.{Work}
-use Rattle.pg_names.specs.Names.{NamesValue}
-use Rattle.pg_replica.specs.Index.{Files}
-use Rattle.pg_store.specs.declared.store.Store.{Store}
-use Rattle.pg_store.specs.declared.wishes.Wish.{Wish}
-use Rattle.pg_store.specs.Births.{fill_at, wish_at}
-use Rattle.pg_store.specs.Store.{is_held}
+use Rattle.pg_graph.specs.pg_intent.declared.intent.Intent.{Intent}
+use Rattle.pg_graph.specs.pg_intent.declared.intent.Intent.TheVariants as intent
+use Rattle.pg_graph.specs.pg_intent.declared.key.IntentKey.{IntentKey}
+use Rattle.pg_graph.specs.pg_intent.declared.key.IntentKey.TheVariants as intent_key
+use Rattle.pg_graph.specs.pg_intent.Intent.{aimed_at, key_of}
+use Rattle.pg_graph.specs.pg_intent.Intents.{begun_on, has_key, intent_at}
+use Rattle.pg_graph.specs.pg_intent.Key.{is_same_key}
+use Rattle.pg_graph.proofs.pg_intent.Found.{aimed_found, begun_found}
+use Rattle.pg_graph.specs.pg_msg.declared.work.Slot.{Slot}
+use Rattle.pg_graph.specs.pg_msg.declared.work.Work.{Work}
+use Rattle.pg_graph.specs.pg_names.Names.{NamesValue}
+use Rattle.pg_graph.specs.pg_replica.Index.{Files}
+use Rattle.pg_graph.specs.pg_store.declared.store.Store.{Store}
+use Rattle.pg_graph.specs.pg_store.declared.wishes.Wish.{Wish}
+use Rattle.pg_graph.specs.pg_store.Births.{fill_at, wish_at}
+use Rattle.pg_graph.specs.pg_store.Store.{is_held}
 use Rattle.pg_graph.specs.pg_pieces.Done.{Done, idle}
 use Rattle.pg_intentions.specs.Beginning.{begin_end, end_others, still_stands}
 use Rattle.pg_intentions.specs.Confirms.{begin_confirm, confirm_of, is_doubtful, is_doubtful_in}

@@ -2,17 +2,17 @@
 -- and wishes end.
 use Rattle.std.proofs.Common.{◌≡◌, ◌≤◌, Bool, true, false, cond, is_some, List, [], ◌∷◌, Option, None, Some, refl, ap, ◌∙◌, arith}
 use Rattle.pg_base.specs.declared.id.FileId.{FileId}
-use Rattle.pg_intent.specs.declared.intent.Intent.{Intent}
-use Rattle.pg_intent.specs.declared.intent.Intent.TheVariants as intent
-use Rattle.pg_intent.specs.declared.key.IntentKey.{IntentKey}
-use Rattle.pg_msg.specs.declared.work.Linked.{Linked}
-use Rattle.pg_msg.specs.declared.work.Slot.{Slot}
-use Rattle.pg_msg.specs.declared.work.Work.{Work}
-use Rattle.pg_store.specs.declared.store.Store.{Store}
-use Rattle.pg_store.specs.declared.wishes.Wish.{Wish}
-use Rattle.pg_store.specs.Beginning.{with_intents}
-use Rattle.pg_store.specs.Births.{fill_at, wish_at}
-use Rattle.pg_store.specs.Store.{is_held}
+use Rattle.pg_graph.specs.pg_intent.declared.intent.Intent.{Intent}
+use Rattle.pg_graph.specs.pg_intent.declared.intent.Intent.TheVariants as intent
+use Rattle.pg_graph.specs.pg_intent.declared.key.IntentKey.{IntentKey}
+use Rattle.pg_graph.specs.pg_msg.declared.work.Linked.{Linked}
+use Rattle.pg_graph.specs.pg_msg.declared.work.Slot.{Slot}
+use Rattle.pg_graph.specs.pg_msg.declared.work.Work.{Work}
+use Rattle.pg_graph.specs.pg_store.declared.store.Store.{Store}
+use Rattle.pg_graph.specs.pg_store.declared.wishes.Wish.{Wish}
+use Rattle.pg_graph.specs.pg_store.Beginning.{with_intents}
+use Rattle.pg_graph.specs.pg_store.Births.{fill_at, wish_at}
+use Rattle.pg_graph.specs.pg_store.Store.{is_held}
 use Rattle.pg_graph.specs.pg_pieces.Done.{Done, idle}
 use Rattle.pg_intentions.specs.Beginning.{begin_end, end_others}
 use Rattle.pg_intentions.specs.Confirms.{begin_confirm, confirm_of, is_doubtful}

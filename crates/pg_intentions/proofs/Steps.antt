@@ -5,8 +5,8 @@ use Rattle.std.specs.BTreeMap.{insert_entry}
 use Rattle.std.specs.List.{flat_map, slice_get}
 use Rattle.std.proofs.lemmas.List.{at_drop_more, drop_all, drop_more}
 use Rattle.std.proofs.lemmas.Option.{slice_get_cases}
-use Rattle.pg_msg.specs.declared.work.Slot.{Slot}
-use Rattle.pg_msg.specs.Work.{slot_cmp}
+use Rattle.pg_graph.specs.pg_msg.declared.work.Slot.{Slot}
+use Rattle.pg_graph.specs.pg_msg.Work.{slot_cmp}
 use Rattle.pg_intentions.specs.Intending.{Slots, add_slots, pieces}
 
 -- ---- slots

@@ -1,14 +1,14 @@
 -- Intentions begin and end, behind the house rules of an event.
 use Rattle.std.specs.Prelude.{Bool, true, if◌then◌else◌, List, [], ◌∷◌, filter}
 use Rattle.pg_base.specs.declared.id.FileId.{FileId}
-use Rattle.pg_intent.specs.declared.intent.Intent.{Intent}
-use Rattle.pg_intent.specs.declared.intent.Intent.TheVariants as intent
-use Rattle.pg_intent.specs.declared.key.IntentKey.{IntentKey}
-use Rattle.pg_intent.specs.Intent.{key_of}
-use Rattle.pg_msg.specs.declared.work.Work.{Work}
-use Rattle.pg_replica.specs.Index.{Files}
-use Rattle.pg_store.specs.declared.store.Store.{Store}
-use Rattle.pg_store.specs.Beginning.{with_intents}
+use Rattle.pg_graph.specs.pg_intent.declared.intent.Intent.{Intent}
+use Rattle.pg_graph.specs.pg_intent.declared.intent.Intent.TheVariants as intent
+use Rattle.pg_graph.specs.pg_intent.declared.key.IntentKey.{IntentKey}
+use Rattle.pg_graph.specs.pg_intent.Intent.{key_of}
+use Rattle.pg_graph.specs.pg_msg.declared.work.Work.{Work}
+use Rattle.pg_graph.specs.pg_replica.Index.{Files}
+use Rattle.pg_graph.specs.pg_store.declared.store.Store.{Store}
+use Rattle.pg_graph.specs.pg_store.Beginning.{with_intents}
 use Rattle.pg_graph.specs.pg_pieces.Done.{Done}
 use Rattle.pg_intentions.specs.Confirms.{begin_confirms, is_doubtful}
 use Rattle.pg_intentions.specs.Fills.{begin_fills, files_to_fill, is_in, to_fill}

@@ -4,18 +4,18 @@ use Rattle.std.specs.BTreeMap.{insert_entry, is_at}
 use Rattle.std.specs.Map.{keys_of, lookup}
 use Rattle.pg_base.specs.declared.id.FileId.{FileId}
 use Rattle.pg_base.specs.Id.{file_cmp}
-use Rattle.pg_intent.specs.declared.intent.Intent.{Intent}
-use Rattle.pg_intent.specs.declared.intent.Intent.TheVariants as intent
-use Rattle.pg_msg.specs.declared.work.Work.{Work}
-use Rattle.pg_names.specs.Names.{InodeValue, NamesValue, is_held}
-use Rattle.pg_house.specs.Work.{is_root}
-use Rattle.pg_replica.specs.Index.{Files}
-use Rattle.pg_store.specs.declared.store.Store.{Store}
-use Rattle.pg_store.specs.declared.wishes.Wish.{Wish}
-use Rattle.pg_store.specs.Births.{birth_of, draw_birth, fill_at, wish_at, with_birth, with_wishes}
-use Rattle.pg_store.specs.Servers.{first_target}
-use Rattle.pg_store.specs.Store.{is_held as is_held_at}
-use Rattle.pg_store.specs.Wishes.{without_wish}
+use Rattle.pg_graph.specs.pg_intent.declared.intent.Intent.{Intent}
+use Rattle.pg_graph.specs.pg_intent.declared.intent.Intent.TheVariants as intent
+use Rattle.pg_graph.specs.pg_msg.declared.work.Work.{Work}
+use Rattle.pg_graph.specs.pg_names.Names.{InodeValue, NamesValue, is_held}
+use Rattle.pg_graph.specs.pg_house.Work.{is_root}
+use Rattle.pg_graph.specs.pg_replica.Index.{Files}
+use Rattle.pg_graph.specs.pg_store.declared.store.Store.{Store}
+use Rattle.pg_graph.specs.pg_store.declared.wishes.Wish.{Wish}
+use Rattle.pg_graph.specs.pg_store.Births.{birth_of, draw_birth, fill_at, wish_at, with_birth, with_wishes}
+use Rattle.pg_graph.specs.pg_store.Servers.{first_target}
+use Rattle.pg_graph.specs.pg_store.Store.{is_held as is_held_at}
+use Rattle.pg_graph.specs.pg_store.Wishes.{without_wish}
 use Rattle.pg_graph.specs.pg_pieces.Done.{Done, idle}
 use Rattle.pg_intentions.specs.Intending.{begin_intent, each}
 

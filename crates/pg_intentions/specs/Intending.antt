@@ -2,8 +2,8 @@
 use Rattle.std.specs.Prelude.{List, [], ◌∷◌, Option, None, Some}
 use Rattle.std.specs.BTreeMap.{insert_entry}
 use Rattle.std.specs.Map.{keys_of}
-use Rattle.pg_msg.specs.declared.work.Slot.{Slot}
-use Rattle.pg_msg.specs.Work.{slot_cmp}
+use Rattle.pg_graph.specs.pg_msg.declared.work.Slot.{Slot}
+use Rattle.pg_graph.specs.pg_msg.Work.{slot_cmp}
 pub use Rattle.pg_graph.specs.pg_pieces.Intending.{begin_intent, each, with_begun_if}
 
 -- what a function gives of something, if there is one

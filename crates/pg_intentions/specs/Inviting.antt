@@ -5,13 +5,13 @@ use Rattle.std.specs.Map.{keys_of}
 use Rattle.pg_base.specs.declared.id.FileId.{FileId}
 use Rattle.pg_edges.specs.declared.edge.Edge.{Edge}
 use Rattle.pg_register.specs.Flag.{first_gold}
-use Rattle.pg_msg.specs.declared.message.Message.TheVariants as message
-use Rattle.pg_msg.specs.declared.work.Work.{Work}
-use Rattle.pg_msg.specs.Work.{with_tail}
-use Rattle.pg_names.specs.declared.attributes.Attributes.{Attributes}
-use Rattle.pg_names.specs.Names.{own_at}
-use Rattle.pg_store.specs.declared.store.Store.{Store}
-use Rattle.pg_store.specs.Store.{is_full}
+use Rattle.pg_graph.specs.pg_msg.declared.message.Message.TheVariants as message
+use Rattle.pg_graph.specs.pg_msg.declared.work.Work.{Work}
+use Rattle.pg_graph.specs.pg_msg.Work.{with_tail}
+use Rattle.pg_graph.specs.pg_names.declared.attributes.Attributes.{Attributes}
+use Rattle.pg_graph.specs.pg_names.Names.{own_at}
+use Rattle.pg_graph.specs.pg_store.declared.store.Store.{Store}
+use Rattle.pg_graph.specs.pg_store.Store.{is_full}
 use Rattle.pg_graph.specs.pg_pieces.Accepting.{ends_to}
 use Rattle.pg_graph.specs.pg_pieces.Golds.{flags_of, is_gold}
 use Rattle.pg_graph.specs.pg_pieces.Posting.{sent_to}

@@ -4,14 +4,14 @@ use Rattle.std.specs.List.Sorted.{IsStrictlySortedBy}
 use Rattle.std.specs.Map.{keys_of}
 use Rattle.pg_base.specs.declared.id.FileId.{FileId}
 use Rattle.pg_base.specs.Id.{file_cmp}
-use Rattle.pg_intent.specs.declared.key.IntentKey.TheVariants as intent_key
-use Rattle.pg_intent.specs.Intents.{intent_at}
-use Rattle.pg_msg.specs.declared.work.Work.{Work}
-use Rattle.pg_names.specs.Names.{InodeValue, NamesValue, is_held, known}
-use Rattle.pg_house.specs.Work.{is_root}
-use Rattle.pg_store.specs.declared.store.Store.{Store}
-use Rattle.pg_store.specs.Births.{fill_at}
-use Rattle.pg_store.specs.Store.{is_held as is_held_at}
+use Rattle.pg_graph.specs.pg_intent.declared.key.IntentKey.TheVariants as intent_key
+use Rattle.pg_graph.specs.pg_intent.Intents.{intent_at}
+use Rattle.pg_graph.specs.pg_msg.declared.work.Work.{Work}
+use Rattle.pg_graph.specs.pg_names.Names.{InodeValue, NamesValue, is_held, known}
+use Rattle.pg_graph.specs.pg_house.Work.{is_root}
+use Rattle.pg_graph.specs.pg_store.declared.store.Store.{Store}
+use Rattle.pg_graph.specs.pg_store.Births.{fill_at}
+use Rattle.pg_graph.specs.pg_store.Store.{is_held as is_held_at}
 use Rattle.pg_graph.specs.pg_pieces.Done.{idle}
 use Rattle.pg_intentions.specs.Beginning.{begin_end}
 use Rattle.pg_intentions.specs.Confirms.{is_doubtful}

@@ -3,15 +3,15 @@ use Rattle.std.specs.Prelude.{Bool, ◌&&◌, if◌then◌else◌}
 use Rattle.std.specs.List.{list_any}
 use Rattle.pg_base.specs.declared.id.FileId.{FileId}
 use Rattle.pg_base.specs.Id.{is_same_file}
-use Rattle.pg_intent.specs.declared.intent.Intent.{Intent}
-use Rattle.pg_intent.specs.declared.intent.Intent.TheVariants as intent
-use Rattle.pg_intent.specs.declared.key.IntentKey.TheVariants as intent_key
-use Rattle.pg_intent.specs.Intents.{begun_on, intent_at}
-use Rattle.pg_msg.specs.declared.work.Slot.{Slot}
-use Rattle.pg_msg.specs.declared.work.Work.{Work}
-use Rattle.pg_store.specs.declared.store.Store.{Store}
-use Rattle.pg_store.specs.Servers.{first_target}
-use Rattle.pg_store.specs.Store.{is_held}
+use Rattle.pg_graph.specs.pg_intent.declared.intent.Intent.{Intent}
+use Rattle.pg_graph.specs.pg_intent.declared.intent.Intent.TheVariants as intent
+use Rattle.pg_graph.specs.pg_intent.declared.key.IntentKey.TheVariants as intent_key
+use Rattle.pg_graph.specs.pg_intent.Intents.{begun_on, intent_at}
+use Rattle.pg_graph.specs.pg_msg.declared.work.Slot.{Slot}
+use Rattle.pg_graph.specs.pg_msg.declared.work.Work.{Work}
+use Rattle.pg_graph.specs.pg_store.declared.store.Store.{Store}
+use Rattle.pg_graph.specs.pg_store.Servers.{first_target}
+use Rattle.pg_graph.specs.pg_store.Store.{is_held}
 use Rattle.pg_graph.specs.pg_pieces.Done.{Done, idle}
 use Rattle.pg_repair.specs.Confirming.{own_entry}
 use Rattle.pg_intentions.specs.Intending.{begin_intent, each, in_order}

@@ -3,19 +3,19 @@ use Rattle.std.specs.Prelude.{ℕ, ◌==◌, ◌++◌, if◌then◌else◌, List
 use Rattle.std.specs.List.{flat_map}
 use Rattle.pg_base.specs.declared.id.FileId.{FileId}
 use Rattle.pg_entries.specs.declared.entry.Entry.{Entry}
-use Rattle.pg_intent.specs.declared.intent.Intent.{Intent}
-use Rattle.pg_intent.specs.declared.intent.Intent.TheVariants as intent
-use Rattle.pg_intent.specs.declared.key.IntentKey.{IntentKey}
-use Rattle.pg_intent.specs.Intent.{target_of}
-use Rattle.pg_intent.specs.Intents.{intent_at}
-use Rattle.pg_msg.specs.declared.message.Message.{Message}
-use Rattle.pg_msg.specs.declared.message.Message.TheVariants as message
-use Rattle.pg_msg.specs.declared.message.Sent.{Sent}
-use Rattle.pg_msg.specs.declared.work.Work.{Work}
-use Rattle.pg_names.specs.declared.attributes.Attributes.{Attributes}
-use Rattle.pg_names.specs.Names.{cell_at, own_at}
-use Rattle.pg_store.specs.declared.store.Store.{Store}
-use Rattle.pg_store.specs.Births.{birth_of}
+use Rattle.pg_graph.specs.pg_intent.declared.intent.Intent.{Intent}
+use Rattle.pg_graph.specs.pg_intent.declared.intent.Intent.TheVariants as intent
+use Rattle.pg_graph.specs.pg_intent.declared.key.IntentKey.{IntentKey}
+use Rattle.pg_graph.specs.pg_intent.Intent.{target_of}
+use Rattle.pg_graph.specs.pg_intent.Intents.{intent_at}
+use Rattle.pg_graph.specs.pg_msg.declared.message.Message.{Message}
+use Rattle.pg_graph.specs.pg_msg.declared.message.Message.TheVariants as message
+use Rattle.pg_graph.specs.pg_msg.declared.message.Sent.{Sent}
+use Rattle.pg_graph.specs.pg_msg.declared.work.Work.{Work}
+use Rattle.pg_graph.specs.pg_names.declared.attributes.Attributes.{Attributes}
+use Rattle.pg_graph.specs.pg_names.Names.{cell_at, own_at}
+use Rattle.pg_graph.specs.pg_store.declared.store.Store.{Store}
+use Rattle.pg_graph.specs.pg_store.Births.{birth_of}
 use Rattle.pg_graph.specs.pg_pieces.Posting.{sent_to}
 use Rattle.pg_intentions.specs.Intending.{pieces}
 

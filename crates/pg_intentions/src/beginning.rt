@@ -2,7 +2,7 @@
 
 ghost use Rattle.std.specs.Prelude.{◌≡◌, ◌++◌, IfOk, OnOk, slice_get};
 ghost use Rattle.std.specs.List.{flat_map};
-ghost use Rattle.pg_intent.specs.Intents.{HaveOwnKeys, ended_each};
+ghost use Rattle.pg_graph.specs.pg_intent.Intents.{HaveOwnKeys, ended_each};
 ghost use Rattle.pg_intentions.specs.Beginning.{begin_end, end_others, ended_key, ended_key_of, still_stands};
 ghost use Rattle.pg_intentions.specs.Intending.{pieces};
 
@@ -11,10 +11,10 @@ use crate::fills::{Files, begin_fills, to_fill};
 use crate::patches::begin_patches;
 use crate::seeks::{begin_seeks, is_seeking, to_seek};
 use pg_base::Items;
+use pg_graph::intent::{Intent, IntentKey, Intents};
 use pg_graph::may_still_leave;
-use pg_intent::{Intent, IntentKey, Intents};
-use pg_msg::Work;
-use pg_store::Store;
+use pg_graph::msg::Work;
+use pg_graph::store::Store;
 use std::alloc::AllocError;
 
 /// Each intention ends whose condition does not hold any more, and those begin for which there is a

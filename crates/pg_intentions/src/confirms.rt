@@ -5,10 +5,10 @@ ghost use Rattle.pg_intentions.specs.Confirms.{begin_confirm, begin_confirms, ho
 
 use crate::intending::slots_of;
 use pg_base::{FileId, NodeId};
+use pg_graph::intent::Intent;
+use pg_graph::msg::{Slot, Work};
 use pg_graph::pieces::begin_intent;
-use pg_intent::Intent;
-use pg_msg::{Slot, Work};
-use pg_store::Store;
+use pg_graph::store::Store;
 use std::alloc::AllocError;
 
 /// Whether the directory lists a child that is not held.

@@ -2,16 +2,16 @@
 
 ghost use Rattle.std.specs.Prelude.{◌≡◌, IfOk, OnOk, is_some};
 ghost use Rattle.std.specs.Map.{keys_of};
-ghost use Rattle.pg_store.specs.Births.{fill_at};
+ghost use Rattle.pg_graph.specs.pg_store.Births.{fill_at};
 ghost use Rattle.pg_intentions.specs.Fills.{begin_fill, begin_fills, files_to_fill, fill_birth, lacks_parent, with_fill_birth, with_filling, with_held, with_parent};
 
 use pg_base::FileId;
+use pg_graph::house::is_root;
+use pg_graph::intent::{Intent, IntentKey};
+use pg_graph::msg::Work;
+use pg_graph::names::{Inode, Names};
 use pg_graph::pieces::begin_intent;
-use pg_house::is_root;
-use pg_intent::{Intent, IntentKey};
-use pg_msg::Work;
-use pg_names::{Inode, Names};
-use pg_store::Store;
+use pg_graph::store::Store;
 use std::alloc::AllocError;
 use std::collections::BTreeMap;
 

@@ -4,7 +4,7 @@ ghost use Rattle.std.specs.Prelude.{◌≡◌, [], IfOk};
 ghost use Rattle.pg_intentions.specs.Intending.{add_slots};
 
 use pg_base::Items;
-use pg_msg::Slot;
+use pg_graph::msg::Slot;
 use std::alloc::{AllocError, Global};
 use std::collections::BTreeMap;
 

@@ -9,11 +9,11 @@ ghost use Rattle.pg_intentions.specs.Seeks.{matches};
 use crate::seeks::matches;
 use pg_base::{FileId, Items};
 use pg_edges::Edge;
+use pg_graph::msg::{Message, Work};
 use pg_graph::pieces::{ends_to, is_gold, send};
-use pg_msg::{Message, Work};
+use pg_graph::store::Store;
 use pg_register::GoldFlags;
 use pg_repair::{FEW_GOLDS, live_golds};
-use pg_store::Store;
 use std::alloc::AllocError;
 
 /// Whether this server's is the least live gold that a thing sees.

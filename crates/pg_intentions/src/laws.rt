@@ -2,9 +2,9 @@
 //! function that does nothing.
 
 ghost use Rattle.pg_base.specs.declared.id.FileId.{FileId};
-ghost use Rattle.pg_msg.specs.declared.work.Work.{Work};
-ghost use Rattle.pg_names.specs.Names.{NamesValue};
-ghost use Rattle.pg_store.specs.declared.store.Store.{Store};
+ghost use Rattle.pg_graph.specs.pg_msg.declared.work.Work.{Work};
+ghost use Rattle.pg_graph.specs.pg_names.Names.{NamesValue};
+ghost use Rattle.pg_graph.specs.pg_store.declared.store.Store.{Store};
 ghost use Rattle.pg_intentions.specs.Needed.{HasItsFill, HasItsSeek, IsConfirmedInDoubt, IsPatched, IsWhatIsToFill, LeavesNothing};
 
 /// A thing is to be filled exactly where it is held and filling, or is not held and is the parent

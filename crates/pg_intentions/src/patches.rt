@@ -4,11 +4,11 @@ ghost use Rattle.std.specs.Prelude.{◌≡◌, OnOk};
 ghost use Rattle.pg_intentions.specs.Patches.{begin_patch, begin_patches};
 
 use crate::intending::slots_of;
+use pg_graph::intent::Intent;
+use pg_graph::msg::{Slot, Work};
 use pg_graph::pieces::begin_intent;
-use pg_intent::Intent;
-use pg_msg::{Slot, Work};
+use pg_graph::store::Store;
 use pg_repair::own_entry;
-use pg_store::Store;
 use std::alloc::AllocError;
 
 /// Of each live place that was replaced, a Patch begins where its directory is not held. One that

@@ -2,16 +2,16 @@
 
 ghost use Rattle.std.specs.Prelude.{◌≡◌, ◌++◌, IfOk, OnOk, slice_get};
 ghost use Rattle.std.specs.List.{flat_map};
-ghost use Rattle.pg_names.specs.Names.{cell_at, own_at};
+ghost use Rattle.pg_graph.specs.pg_names.Names.{cell_at, own_at};
 ghost use Rattle.pg_intentions.specs.Intending.{pieces};
 ghost use Rattle.pg_intentions.specs.Requests.{ask_all, ask_begun, asks, asks_by, bye_message, confirm_message, leave_message, request};
 
 use pg_base::{FileId, Items, Shared};
 use pg_entries::Entry;
+use pg_graph::intent::{Intent, IntentKey};
+use pg_graph::msg::{Ends, Message, Sent, Work};
 use pg_graph::pieces::send;
-use pg_intent::{Intent, IntentKey};
-use pg_msg::{Ends, Message, Sent, Work};
-use pg_store::Store;
+use pg_graph::store::Store;
 use std::alloc::AllocError;
 
 /// What the server asks for by an intention. None where what it is about is not held: then it does

@@ -8,11 +8,11 @@ ghost use Rattle.pg_intentions.specs.Seeks.{aim_seek, begin_seek, begin_seeks, h
 
 use pg_base::{FileId, Items, NodeId};
 use pg_edges::{Edge, Edges};
+use pg_graph::intent::{Intent, IntentKey};
+use pg_graph::msg::{Linked, Work};
 use pg_graph::pieces::begin_intent;
-use pg_intent::{Intent, IntentKey};
-use pg_msg::{Linked, Work};
+use pg_graph::store::Store;
 use pg_register::{Flag, GoldFlags};
-use pg_store::Store;
 use std::alloc::AllocError;
 
 /// Whether this is the raised flag of another live server.

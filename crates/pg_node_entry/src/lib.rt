@@ -24,8 +24,6 @@ mod entry;
 mod error;
 mod laws;
 mod reading;
-#[cfg(test)]
-mod tests;
 mod writing;
 
 pub use entry::NodeEntry;

@@ -2,3 +2,9 @@ pub mod News
 mod Flagged
 pub mod SeenGolds
 pub mod Each
+pub use Rattle.pg_house.proofs as pg_house
+pub use Rattle.pg_store.proofs.pg_intent as pg_intent
+pub use Rattle.pg_house.proofs.pg_msg as pg_msg
+pub use Rattle.pg_store.proofs.pg_names as pg_names
+pub use Rattle.pg_store.proofs.pg_replica as pg_replica
+pub use Rattle.pg_store.proofs as pg_store

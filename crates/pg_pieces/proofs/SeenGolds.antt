@@ -7,7 +7,7 @@ use Rattle.std.specs.BTreeMap.{is_at}
 use Rattle.std.proofs.lemmas.Bool.{or_parts}
 use Rattle.pg_base.specs.declared.id.FileId.{FileId}
 use Rattle.pg_base.specs.Id.{file_cmp}
-use Rattle.pg_names.specs.Names.{InodeValue, known}
+use Rattle.pg_store.specs.pg_names.Names.{InodeValue, known}
 use Rattle.pg_store.specs.declared.store.Store.{Store}
 use Rattle.pg_store.specs.Births.{birth_of}
 use Rattle.pg_pieces.specs.Golds.{goldless, has_goldless, is_dull, is_goldless, is_goldless_held}

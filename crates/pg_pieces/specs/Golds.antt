@@ -5,7 +5,7 @@ use Rattle.std.specs.Map.{keys_of, values_of}
 use Rattle.pg_base.specs.declared.id.FileId.{FileId}
 use Rattle.pg_register.specs.declared.flag.Flag.{Flag}
 use Rattle.pg_register.specs.Flag.{flag_of, is_live, is_raised}
-use Rattle.pg_names.specs.Names.{InodeValue, NamesValue, known, own_or_blank}
+use Rattle.pg_store.specs.pg_names.Names.{InodeValue, NamesValue, known, own_or_blank}
 use Rattle.pg_store.specs.declared.store.Store.{Store}
 use Rattle.pg_store.specs.Births.{birth_of}
 

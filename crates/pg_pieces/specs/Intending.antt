@@ -1,11 +1,11 @@
 -- One thing is done after another, and an intention begins.
 use Rattle.std.specs.Prelude.{Bool, not, if◌then◌else◌, List, [], ◌∷◌}
-use Rattle.pg_intent.specs.declared.intent.Intent.{Intent}
-use Rattle.pg_intent.specs.declared.key.IntentKey.{IntentKey}
-use Rattle.pg_intent.specs.Intent.{key_of}
-use Rattle.pg_intent.specs.Intents.{begun, stands}
-use Rattle.pg_msg.specs.declared.work.Work.{Work}
-use Rattle.pg_msg.specs.Work.{with_begun}
+use Rattle.pg_store.specs.pg_intent.declared.intent.Intent.{Intent}
+use Rattle.pg_store.specs.pg_intent.declared.key.IntentKey.{IntentKey}
+use Rattle.pg_store.specs.pg_intent.Intent.{key_of}
+use Rattle.pg_store.specs.pg_intent.Intents.{begun, stands}
+use Rattle.pg_house.specs.pg_msg.declared.work.Work.{Work}
+use Rattle.pg_house.specs.pg_msg.Work.{with_begun}
 use Rattle.pg_store.specs.declared.store.Store.{Store}
 use Rattle.pg_store.specs.Beginning.{with_intents}
 use Rattle.pg_pieces.specs.Done.{Done, idle}

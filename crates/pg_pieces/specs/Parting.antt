@@ -9,9 +9,9 @@ use Rattle.pg_edges.specs.Edges.{is_none}
 use Rattle.pg_call.specs.declared.refusal.Refusal.{Refusal}
 use Rattle.pg_call.specs.declared.refusal.Refusal.TheVariants as refusal
 use Rattle.pg_call.specs.declared.refusal.Unsettled.TheVariants as unsettled
-use Rattle.pg_intent.specs.declared.intent.Intent.{Intent}
-use Rattle.pg_intent.specs.Intent.{is_about, kind_of, target_of}
-use Rattle.pg_names.specs.Names.{InodeValue, NamesValue}
+use Rattle.pg_store.specs.pg_intent.declared.intent.Intent.{Intent}
+use Rattle.pg_store.specs.pg_intent.Intent.{is_about, kind_of, target_of}
+use Rattle.pg_store.specs.pg_names.Names.{InodeValue, NamesValue}
 use Rattle.pg_store.specs.declared.store.Store.{Store}
 use Rattle.pg_store.specs.Store.{replica_of}
 use Rattle.pg_pieces.specs.Golds.{is_gold}

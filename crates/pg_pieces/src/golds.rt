@@ -5,9 +5,9 @@ ghost use Rattle.pg_register.specs.Flag.{flag_of};
 ghost use Rattle.pg_pieces.specs.Golds.{goldless, has_goldless, is_gold, is_goldless, is_goldless_held, is_of_later, sees_gold};
 
 use pg_base::{FileId, Items, NodeId};
-use pg_names::{Inode, Names};
 use pg_register::{GoldFlags, is_removed};
 use pg_store::Store;
+use pg_store::names::{Inode, Names};
 use std::alloc::AllocError;
 
 /// Whether the server's own replica of a thing is gold: its flag is raised, with the replica's

@@ -4,14 +4,15 @@ ghost use Rattle.std.specs.Prelude.{◌≡◌, IfOk, OnOk};
 ghost use Rattle.pg_pieces.specs.Making.{lower_flag, make_flag, own_next, raise_flag};
 
 use crate::taking::take_flag;
-use pg_base::{FileId, Stamp};
-use pg_msg::{Update, Work};
+use pg_base::FileId;
+use pg_house::msg::{Update, Work};
 use pg_register::Flag;
-use pg_store::Store;
+use pg_store::{COUNTER_LIMIT, Store};
 use std::alloc::AllocError;
 
 /// The next flag of the server's replica of a thing. Where that is not held it has no flag, and its
-/// birth is 0. A number at the end of the clock has none behind it: memory ends before.
+/// birth is 0. A number that comes in a message is far below the last that is counted, and each
+/// that is made is one more: memory ends before numbers do.
 fn next_flag(store: &Store, file: FileId, raised: bool) -> Result<Flag, AllocError>
     ensures { IfOk result (λ flag. flag ≡ own_next store.now file raised) }
 {
@@ -19,7 +20,7 @@ fn next_flag(store: &Store, file: FileId, raised: bool) -> Result<Flag, AllocErr
     let birth = store.birth(&file);
     let own = store.names.own_or_blank(file)?;
     let number = own.flags.number(server);
-    if number >= Stamp::CLOCK_END {
+    if number >= COUNTER_LIMIT {
         return Err(AllocError);
     }
     Ok(own.flags.next(server, birth, raised))

@@ -11,9 +11,9 @@ use crate::golds::is_gold;
 use pg_base::FileId;
 use pg_call::{Refusal, Unsettled};
 use pg_edges::Edge;
-use pg_intent::Intent;
-use pg_names::{Inode, Names};
 use pg_store::Store;
+use pg_store::intent::Intent;
+use pg_store::names::{Inode, Names};
 
 /// Whether what is held has a live place in the directory.
 fn is_child_of(dir: &FileId, file: &FileId, held: &Inode) -> bool

@@ -4,7 +4,7 @@ ghost use Rattle.std.specs.Prelude.{◌≡◌, ◌++◌, ◌∷◌, [], OnOk};
 ghost use Rattle.pg_pieces.specs.Posting.{post, sent_to};
 
 use pg_base::{Items, NodeId};
-use pg_msg::{Message, Packet, Sent, Work};
+use pg_house::msg::{Message, Packet, Sent, Work};
 use pg_store::Store;
 use std::alloc::AllocError;
 

@@ -7,8 +7,8 @@ ghost use Rattle.pg_pieces.specs.Taking.{is_any_news, is_place_news, take_entry_
 use pg_base::{FileId, Version};
 use pg_edges::Key;
 use pg_entries::Entry;
+use pg_house::msg::{Slot, Touched, Work};
 use pg_house::note_left;
-use pg_msg::{Slot, Touched, Work};
 use pg_register::{Flag, GoldFlags, Place};
 use pg_store::{EntryNews, Store};
 use std::alloc::AllocError;

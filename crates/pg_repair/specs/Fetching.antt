@@ -3,16 +3,16 @@ use Rattle.std.specs.Prelude.{ℕ, ◌&&◌, not, if◌then◌else◌, Option, N
 use Rattle.pg_base.specs.declared.id.FileId.{FileId}
 use Rattle.pg_register.specs.declared.place.Place.{Place}
 use Rattle.pg_register.specs.Place.{blank_place}
-use Rattle.pg_msg.specs.declared.message.Ends.{Ends}
-use Rattle.pg_msg.specs.declared.message.Granted.{Granted}
-use Rattle.pg_msg.specs.declared.message.Message.TheVariants as message
-use Rattle.pg_msg.specs.declared.work.Work.{Work}
-use Rattle.pg_names.specs.declared.attributes.Attributes.{Attributes}
-use Rattle.pg_names.specs.Names.{is_dir, own_or_blank}
-use Rattle.pg_replica.specs.declared.replica.Replica.{Replica}
-use Rattle.pg_store.specs.declared.store.Store.{Store}
-use Rattle.pg_store.specs.Links.{is_clean, knows_later}
-use Rattle.pg_store.specs.Store.{is_full, replica_at}
+use Rattle.pg_pieces.specs.pg_msg.declared.message.Ends.{Ends}
+use Rattle.pg_pieces.specs.pg_msg.declared.message.Granted.{Granted}
+use Rattle.pg_pieces.specs.pg_msg.declared.message.Message.TheVariants as message
+use Rattle.pg_pieces.specs.pg_msg.declared.work.Work.{Work}
+use Rattle.pg_pieces.specs.pg_names.declared.attributes.Attributes.{Attributes}
+use Rattle.pg_pieces.specs.pg_names.Names.{is_dir, own_or_blank}
+use Rattle.pg_pieces.specs.pg_replica.declared.replica.Replica.{Replica}
+use Rattle.pg_pieces.specs.pg_store.declared.store.Store.{Store}
+use Rattle.pg_pieces.specs.pg_store.Links.{is_clean, knows_later}
+use Rattle.pg_pieces.specs.pg_store.Store.{is_full, replica_at}
 use Rattle.pg_pieces.specs.Accepting.{link_peer}
 pub use Rattle.pg_pieces.specs.Accepting.{ends_to}
 use Rattle.pg_pieces.specs.Done.{Done, idle}

@@ -1,21 +1,21 @@
 -- Answers to who asked for a replica, or spoke to one that is not there.
 use Rattle.std.specs.Prelude.{ℕ, Bool, ◌==◌, ◌&&◌, false, if◌then◌else◌, Option, None, Some}
 use Rattle.pg_base.specs.declared.id.FileId.{FileId}
-use Rattle.pg_intent.specs.declared.intent.Intent.{Intent}
-use Rattle.pg_intent.specs.declared.intent.Intent.TheVariants as intent
-use Rattle.pg_intent.specs.declared.key.IntentKey.TheVariants as intent_key
-use Rattle.pg_intent.specs.Intents.{aimed}
-use Rattle.pg_msg.specs.declared.message.Ends.{Ends}
-use Rattle.pg_msg.specs.declared.message.Granted.{Granted}
-use Rattle.pg_msg.specs.declared.work.Work.{Work}
-use Rattle.pg_names.specs.declared.attributes.Attributes.{Attributes}
-use Rattle.pg_store.specs.declared.store.Store.{Store}
-use Rattle.pg_store.specs.declared.wishes.Wish.{Wish}
-use Rattle.pg_store.specs.Beginning.{begin, with_intents}
-use Rattle.pg_store.specs.Births.{fill_at, is_pending, wish_at, with_wishes}
-use Rattle.pg_store.specs.Links.{unlink}
-use Rattle.pg_store.specs.Servers.{next_target}
-use Rattle.pg_store.specs.Wishes.{aim_wish}
+use Rattle.pg_pieces.specs.pg_intent.declared.intent.Intent.{Intent}
+use Rattle.pg_pieces.specs.pg_intent.declared.intent.Intent.TheVariants as intent
+use Rattle.pg_pieces.specs.pg_intent.declared.key.IntentKey.TheVariants as intent_key
+use Rattle.pg_pieces.specs.pg_intent.Intents.{aimed}
+use Rattle.pg_pieces.specs.pg_msg.declared.message.Ends.{Ends}
+use Rattle.pg_pieces.specs.pg_msg.declared.message.Granted.{Granted}
+use Rattle.pg_pieces.specs.pg_msg.declared.work.Work.{Work}
+use Rattle.pg_pieces.specs.pg_names.declared.attributes.Attributes.{Attributes}
+use Rattle.pg_pieces.specs.pg_store.declared.store.Store.{Store}
+use Rattle.pg_pieces.specs.pg_store.declared.wishes.Wish.{Wish}
+use Rattle.pg_pieces.specs.pg_store.Beginning.{begin, with_intents}
+use Rattle.pg_pieces.specs.pg_store.Births.{fill_at, is_pending, wish_at, with_wishes}
+use Rattle.pg_pieces.specs.pg_store.Links.{unlink}
+use Rattle.pg_pieces.specs.pg_store.Servers.{next_target}
+use Rattle.pg_pieces.specs.pg_store.Wishes.{aim_wish}
 use Rattle.pg_pieces.specs.declared.accepting.EdgeUse.TheVariants as manner
 use Rattle.pg_pieces.specs.Accepting.{accept, link_peer}
 use Rattle.pg_pieces.specs.Done.{Done, idle}

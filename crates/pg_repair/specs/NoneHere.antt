@@ -1,17 +1,17 @@
 -- A server that was asked does not hold what it was asked about.
 use Rattle.std.specs.Prelude.{ℕ, Bool, ◌==◌, false, if◌then◌else◌, Option, None, Some}
 use Rattle.pg_base.specs.declared.id.FileId.{FileId}
-use Rattle.pg_intent.specs.declared.intent.Intent.{Intent}
-use Rattle.pg_intent.specs.declared.key.IntentKey.{IntentKey}
-use Rattle.pg_intent.specs.declared.key.IntentKey.TheVariants as intent_key
-use Rattle.pg_intent.specs.Intent.{target_of}
-use Rattle.pg_intent.specs.Intents.{aimed, intent_at}
-use Rattle.pg_msg.specs.declared.message.Ask.{Ask}
-use Rattle.pg_msg.specs.declared.message.Ask.TheVariants as ask
-use Rattle.pg_msg.specs.declared.work.Work.{Work}
-use Rattle.pg_store.specs.declared.store.Store.{Store}
-use Rattle.pg_store.specs.Beginning.{with_intents}
-use Rattle.pg_store.specs.Servers.{next_target}
+use Rattle.pg_pieces.specs.pg_intent.declared.intent.Intent.{Intent}
+use Rattle.pg_pieces.specs.pg_intent.declared.key.IntentKey.{IntentKey}
+use Rattle.pg_pieces.specs.pg_intent.declared.key.IntentKey.TheVariants as intent_key
+use Rattle.pg_pieces.specs.pg_intent.Intent.{target_of}
+use Rattle.pg_pieces.specs.pg_intent.Intents.{aimed, intent_at}
+use Rattle.pg_pieces.specs.pg_msg.declared.message.Ask.{Ask}
+use Rattle.pg_pieces.specs.pg_msg.declared.message.Ask.TheVariants as ask
+use Rattle.pg_pieces.specs.pg_msg.declared.work.Work.{Work}
+use Rattle.pg_pieces.specs.pg_store.declared.store.Store.{Store}
+use Rattle.pg_pieces.specs.pg_store.Beginning.{with_intents}
+use Rattle.pg_pieces.specs.pg_store.Servers.{next_target}
 use Rattle.pg_pieces.specs.Done.{Done, idle}
 
 -- which intention asked

@@ -3,17 +3,17 @@ use Rattle.std.specs.Prelude.{ℕ, Bool, ◌==◌, ◌&&◌, false, if◌then◌
 use Rattle.pg_base.specs.declared.id.FileId.{FileId}
 use Rattle.pg_base.specs.declared.stamp.Stamp.{Stamp}
 use Rattle.pg_entries.specs.declared.entry.Entry.{Entry}
-use Rattle.pg_intent.specs.declared.intent.Intent.{Intent}
-use Rattle.pg_intent.specs.declared.intent.Intent.TheVariants as intent
-use Rattle.pg_intent.specs.declared.key.IntentKey.TheVariants as intent_key
-use Rattle.pg_intent.specs.Intents.{ended, intent_at}
-use Rattle.pg_msg.specs.declared.message.Ask.TheVariants as ask
-use Rattle.pg_msg.specs.declared.message.Message.TheVariants as message
-use Rattle.pg_msg.specs.declared.work.Work.{Work}
-use Rattle.pg_names.specs.Same.{is_same_stamp}
-use Rattle.pg_store.specs.declared.store.Store.{Store}
-use Rattle.pg_store.specs.Beginning.{with_intents}
-use Rattle.pg_store.specs.Store.{is_held}
+use Rattle.pg_pieces.specs.pg_intent.declared.intent.Intent.{Intent}
+use Rattle.pg_pieces.specs.pg_intent.declared.intent.Intent.TheVariants as intent
+use Rattle.pg_pieces.specs.pg_intent.declared.key.IntentKey.TheVariants as intent_key
+use Rattle.pg_pieces.specs.pg_intent.Intents.{ended, intent_at}
+use Rattle.pg_pieces.specs.pg_msg.declared.message.Ask.TheVariants as ask
+use Rattle.pg_pieces.specs.pg_msg.declared.message.Message.TheVariants as message
+use Rattle.pg_pieces.specs.pg_msg.declared.work.Work.{Work}
+use Rattle.pg_pieces.specs.pg_names.Same.{is_same_stamp}
+use Rattle.pg_pieces.specs.pg_store.declared.store.Store.{Store}
+use Rattle.pg_pieces.specs.pg_store.Beginning.{with_intents}
+use Rattle.pg_pieces.specs.pg_store.Store.{is_held}
 use Rattle.pg_pieces.specs.Done.{Done, idle}
 use Rattle.pg_pieces.specs.Posting.{reply}
 use Rattle.pg_pieces.specs.Taking.{take_entry_noted}

@@ -5,12 +5,12 @@ ghost use Rattle.pg_repair.specs.Confirming.{confirm, end_confirmed, is_confirme
 
 use pg_base::{FileId, Shared, Stamp};
 use pg_entries::Entry;
-use pg_house::is_root;
-use pg_intent::IntentKey;
-use pg_msg::{Ask, Message, Work};
-use pg_names::is_same_stamp;
+use pg_pieces::house::is_root;
+use pg_pieces::intent::IntentKey;
+use pg_pieces::msg::{Ask, Message, Work};
+use pg_pieces::names::is_same_stamp;
+use pg_pieces::store::Store;
 use pg_pieces::{post, take_entry, take_flags, take_place};
-use pg_store::Store;
 use std::alloc::AllocError;
 
 /// The place and flags of a child are asked for, which the sender lists as told in the entry. A

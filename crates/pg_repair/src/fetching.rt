@@ -4,12 +4,12 @@ ghost use Rattle.std.specs.Prelude.{◌≡◌, IfOk, OnOk};
 ghost use Rattle.pg_repair.specs.Fetching.{answer_fetch, fetch, give, granted_from, place_to_grant};
 
 use pg_base::{FileId, Shared};
-use pg_msg::{Ends, Granted, Message, Work};
-use pg_names::{Attributes, is_dir};
+use pg_pieces::msg::{Ends, Granted, Message, Work};
+use pg_pieces::names::{Attributes, is_dir};
+use pg_pieces::replica::Replica;
+use pg_pieces::store::Store;
 use pg_pieces::{ends_to, link_peer, post};
 use pg_register::Place;
-use pg_replica::Replica;
-use pg_store::Store;
 use std::alloc::{AllocError, Global};
 
 /// A replica of this birth is to be filled from the one here. Where there is a full one here it

@@ -4,9 +4,9 @@ ghost use Rattle.std.specs.Prelude.{◌≡◌, OnOk};
 ghost use Rattle.pg_repair.specs.Filling.{fill, full, invite, is_bronze, live_golds, raise_if_few};
 
 use pg_base::FileId;
-use pg_msg::{Ends, Work};
+use pg_pieces::msg::{Ends, Work};
+use pg_pieces::store::Store;
 use pg_pieces::{EdgeUse, accept, is_accepted, is_gold, raise_flag};
-use pg_store::Store;
 use std::alloc::AllocError;
 
 /// A replica that sees fewer live golds than this becomes one when it is full.

@@ -1,15 +1,15 @@
 //! Answers to who asked for a replica, or spoke to one that is not there.
 
 ghost use Rattle.std.specs.Prelude.{◌≡◌, IfOk, OnOk};
-ghost use Rattle.pg_store.specs.Births.{fill_at, wish_at};
+ghost use Rattle.pg_pieces.specs.pg_store.Births.{fill_at, wish_at};
 ghost use Rattle.pg_repair.specs.Granting.{aim_fill, begin_granted, begun_by, fill_asks, gone, grant, granted_own, no_grant, turn_fill, turn_wish, wish_asks};
 
 use pg_base::{FileId, NodeId};
-use pg_intent::{Intent, IntentKey};
-use pg_msg::{Ends, Granted, Work};
-use pg_names::Attributes;
+use pg_pieces::intent::{Intent, IntentKey};
+use pg_pieces::msg::{Ends, Granted, Work};
+use pg_pieces::names::Attributes;
+use pg_pieces::store::Store;
 use pg_pieces::{EdgeUse, accept, link_peer};
-use pg_store::Store;
 use std::alloc::AllocError;
 
 /// A replica begins, filling, where its birth is pending: it has the place and the flags that it

@@ -1,16 +1,16 @@
 //! Directories are told of children that moved.
 
 ghost use Rattle.std.specs.Prelude.{◌≡◌, OnOk};
-ghost use Rattle.pg_intent.specs.Intents.{intent_at};
+ghost use Rattle.pg_pieces.specs.pg_intent.Intents.{intent_at};
 ghost use Rattle.pg_repair.specs.Telling.{end_told, is_told, tell, tell_ok};
 
 use pg_base::{FileId, NodeId, Stamp};
 use pg_entries::Entry;
-use pg_intent::{Intent, IntentKey};
-use pg_msg::{Ask, Message, Work};
-use pg_names::is_same_stamp;
+use pg_pieces::intent::{Intent, IntentKey};
+use pg_pieces::msg::{Ask, Message, Work};
+use pg_pieces::names::is_same_stamp;
+use pg_pieces::store::Store;
 use pg_pieces::{post, take_entry};
-use pg_store::Store;
 use std::alloc::AllocError;
 
 /// A directory is told of a newer place and newer flags of a child. A held one takes what is newer

@@ -1,13 +1,13 @@
 //! A server that was asked does not hold what it was asked about.
 
 ghost use Rattle.std.specs.Prelude.{◌≡◌};
-ghost use Rattle.pg_intent.specs.Intents.{intent_at};
+ghost use Rattle.pg_pieces.specs.pg_intent.Intents.{intent_at};
 ghost use Rattle.pg_repair.specs.NoneHere.{asking_key, does_ask, none_here, turn};
 
 use pg_base::{FileId, NodeId};
-use pg_intent::IntentKey;
-use pg_msg::{Ask, Work};
-use pg_store::Store;
+use pg_pieces::intent::IntentKey;
+use pg_pieces::msg::{Ask, Work};
+use pg_pieces::store::Store;
 
 /// What is told by such an answer: which intention asked.
 fn asking_key(ask: Ask, file: FileId, child: FileId) -> IntentKey

@@ -7,8 +7,8 @@ use Rattle.pg_event.specs.declared.quiet.OwedIntent.{OwedIntent}
 use Rattle.pg_event.specs.declared.quiet.OwedKey.{OwedKey}
 use Rattle.pg_event.specs.declared.quiet.Owing.{Owing}
 use Rattle.pg_event.specs.declared.quiet.Owing.TheVariants as owing
-use Rattle.pg_house.specs.Holding.{held_back}
-use Rattle.pg_store.specs.declared.store.Store.{Store}
+use Rattle.pg_calls.specs.pg_house.Holding.{held_back}
+use Rattle.pg_calls.specs.pg_store.declared.store.Store.{Store}
 use Rattle.pg_server.specs.Owing.{held_at, owed, owed_intents, owed_keys, owed_places}
 
 first_mapped : {A B : Type 0} (f : A → B) (xs : List A) (a : A) → slice_get xs 0 ≡ Some a → slice_get (map f xs) 0 ≡ Some (f a)

@@ -1,14 +1,14 @@
 -- What comes of an input is what comes of its kind; and of a call what its end makes of its answer.
 use Rattle.std.proofs.Common.{ℕ, ◌≡◌, ◌∙◌, [], Bool, true, if◌then◌else◌, None, Some, refl, sym, ap}
-use Rattle.pg_call.specs.declared.call.Call.{Call}
-use Rattle.pg_call.specs.declared.refusal.Refusal.TheVariants.{ClockEnd}
-use Rattle.pg_call.specs.declared.reply.Reply.{Reply}
-use Rattle.pg_call.specs.declared.reply.Reply.TheVariants as reply
-use Rattle.pg_msg.specs.declared.message.Packet.{Packet}
-use Rattle.pg_msg.specs.declared.work.Work.{Work}
-use Rattle.pg_msg.specs.Work.{new_work}
-use Rattle.pg_store.specs.declared.store.Store.{Store}
-use Rattle.pg_store.specs.Store.{is_before_clock_end}
+use Rattle.pg_calls.specs.pg_call.declared.call.Call.{Call}
+use Rattle.pg_calls.specs.pg_call.declared.refusal.Refusal.TheVariants.{ClockEnd}
+use Rattle.pg_calls.specs.pg_call.declared.reply.Reply.{Reply}
+use Rattle.pg_calls.specs.pg_call.declared.reply.Reply.TheVariants as reply
+use Rattle.pg_calls.specs.pg_msg.declared.message.Packet.{Packet}
+use Rattle.pg_calls.specs.pg_msg.declared.work.Work.{Work}
+use Rattle.pg_calls.specs.pg_msg.Work.{new_work}
+use Rattle.pg_calls.specs.pg_store.declared.store.Store.{Store}
+use Rattle.pg_calls.specs.pg_store.Store.{is_before_clock_end}
 use Rattle.pg_calls.specs.pg_pieces.Done.{idle}
 use Rattle.pg_calls.specs.pg_cells.Ticks.{tick}
 use Rattle.pg_calls.specs.pg_graph.Walks.{walk_of_tick}

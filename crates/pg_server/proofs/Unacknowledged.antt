@@ -8,12 +8,12 @@ use Rattle.pg_base.specs.Id.{file_cmp}
 use Rattle.pg_base.proofs.Orders.{file_exact, file_total}
 use Rattle.pg_edges.specs.declared.key.Key.{Key}
 use Rattle.pg_event.specs.declared.quiet.OwedKey.{OwedKey}
-use Rattle.pg_replica.specs.declared.replica.Replica.{Replica}
+use Rattle.pg_calls.specs.pg_replica.declared.replica.Replica.{Replica}
 use Rattle.pg_edges.specs.Edges.{are_clean}
-use Rattle.pg_replica.specs.Replicas.{ByFile, replica_in}
-use Rattle.pg_replica.specs.Index.{Files, IsIndex}
-use Rattle.pg_replica.proofs.Clean.{clean_pieces}
-use Rattle.pg_replica.proofs.Merging.{by_index}
+use Rattle.pg_calls.specs.pg_replica.Replicas.{ByFile, replica_in}
+use Rattle.pg_calls.specs.pg_replica.Index.{Files, IsIndex}
+use Rattle.pg_calls.proofs.pg_replica.Clean.{clean_pieces}
+use Rattle.pg_calls.proofs.pg_replica.Merging.{by_index}
 use Rattle.pg_server.specs.Owing.{edge_owes, file_owes, replica_owes}
 
 abbrev owing : ℕ → FileId → ℕ → Key × ℕ → OwedKey

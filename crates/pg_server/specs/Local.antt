@@ -1,18 +1,18 @@
 -- What a server does with what comes to it.
 use Rattle.std.specs.Prelude.{ℕ, [], ◌&&◌, ◌==◌, ◌++◌, Bool, if◌then◌else◌, Option, None, Some}
 use Rattle.pg_announced.specs.Announced.{released}
-use Rattle.pg_call.specs.declared.refusal.Refusal.TheVariants.{ClockEnd}
-use Rattle.pg_call.specs.declared.reply.Reply.{Reply}
-use Rattle.pg_call.specs.declared.reply.Reply.TheVariants as reply
-use Rattle.pg_msg.specs.declared.message.Message.{Message}
-use Rattle.pg_msg.specs.declared.message.Message.TheVariants as message
-use Rattle.pg_msg.specs.declared.message.Packet.{Packet}
-use Rattle.pg_msg.specs.declared.work.Work.{Work}
-use Rattle.pg_msg.specs.Numbers.{is_in_range}
-use Rattle.pg_msg.specs.Work.{new_work}
-use Rattle.pg_store.specs.declared.store.Store.{Store}
-use Rattle.pg_store.specs.Servers.{is_live_other, view_of}
-use Rattle.pg_store.specs.Store.{is_before_clock_end}
+use Rattle.pg_calls.specs.pg_call.declared.refusal.Refusal.TheVariants.{ClockEnd}
+use Rattle.pg_calls.specs.pg_call.declared.reply.Reply.{Reply}
+use Rattle.pg_calls.specs.pg_call.declared.reply.Reply.TheVariants as reply
+use Rattle.pg_calls.specs.pg_msg.declared.message.Message.{Message}
+use Rattle.pg_calls.specs.pg_msg.declared.message.Message.TheVariants as message
+use Rattle.pg_calls.specs.pg_msg.declared.message.Packet.{Packet}
+use Rattle.pg_calls.specs.pg_msg.declared.work.Work.{Work}
+use Rattle.pg_calls.specs.pg_msg.Numbers.{is_in_range}
+use Rattle.pg_calls.specs.pg_msg.Work.{new_work}
+use Rattle.pg_calls.specs.pg_store.declared.store.Store.{Store}
+use Rattle.pg_calls.specs.pg_store.Servers.{is_live_other, view_of}
+use Rattle.pg_calls.specs.pg_store.Store.{is_before_clock_end}
 use Rattle.pg_calls.specs.pg_cells.Acks.{ack}
 use Rattle.pg_calls.specs.pg_cells.Cells.{cell}
 use Rattle.pg_calls.specs.pg_pieces.Done.{Done, idle}

@@ -8,11 +8,11 @@ use Rattle.pg_event.specs.declared.quiet.OwedIntent.{OwedIntent}
 use Rattle.pg_event.specs.declared.quiet.OwedKey.{OwedKey}
 use Rattle.pg_event.specs.declared.quiet.Owing.{Owing}
 use Rattle.pg_event.specs.declared.quiet.Owing.TheVariants as owing
-use Rattle.pg_house.specs.Holding.{held_back}
-use Rattle.pg_intent.specs.declared.intent.Intent.{Intent}
-use Rattle.pg_intent.specs.Intent.{child_of, file_of, kind_of, target_of}
-use Rattle.pg_replica.specs.declared.replica.Replica.{Replica}
-use Rattle.pg_store.specs.declared.store.Store.{Store}
+use Rattle.pg_calls.specs.pg_house.Holding.{held_back}
+use Rattle.pg_calls.specs.pg_intent.declared.intent.Intent.{Intent}
+use Rattle.pg_calls.specs.pg_intent.Intent.{child_of, file_of, kind_of, target_of}
+use Rattle.pg_calls.specs.pg_replica.declared.replica.Replica.{Replica}
+use Rattle.pg_calls.specs.pg_store.declared.store.Store.{Store}
 
 -- ---- intentions
 

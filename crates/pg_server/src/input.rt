@@ -1,8 +1,8 @@
 //! What comes to a server, and what comes of it.
 
 use pg_base::Items;
-use pg_call::{Call, Reply};
-use pg_msg::{Packet, Sent, Update};
+use pg_calls::call::{Call, Reply};
+use pg_calls::msg::{Packet, Sent, Update};
 
 /// What comes to a server.
 #[derive(Debug, Drop)]

@@ -1,16 +1,16 @@
 //! What a server owes.
 
 ghost use Rattle.std.specs.Prelude.{◌≡◌, ◌++◌, map, slice_get};
-ghost use Rattle.pg_store.specs.Store.{replica_at};
+ghost use Rattle.pg_calls.specs.pg_store.Store.{replica_at};
 ghost use Rattle.pg_server.specs.Owing.{edge_owes, file_owes, intent_owed, owed, owed_intents, owed_keys, owed_places, replica_owes};
 
 use pg_base::{FileId, NodeId};
+use pg_calls::house::first_held_back;
+use pg_calls::intent::Intent;
+use pg_calls::replica::Replica;
+use pg_calls::store::Store;
 use pg_edges::Edge;
 use pg_event::{OwedIntent, OwedKey, Owing};
-use pg_house::first_held_back;
-use pg_intent::Intent;
-use pg_replica::Replica;
-use pg_store::Store;
 
 /// The first unacknowledged key of an edge.
 fn first_of_edge(server: NodeId, file: FileId, edge: &Edge) -> Option<OwedKey>

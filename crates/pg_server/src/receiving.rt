@@ -6,16 +6,16 @@ ghost use Rattle.pg_server.specs.Local.{closed, effect, effect_of, finished, is_
 
 use crate::input::{Input, Out};
 use pg_base::Items;
-use pg_call::{Call, Refusal, Reply};
+use pg_calls::call::{Call, Refusal, Reply};
 use pg_calls::cells::{ack, cell, finish, settle, tick};
 use pg_calls::do_call;
 use pg_calls::graph::{bye, bye_ok, here, leave, leave_ok, seek, walk, walk_of_tick};
 use pg_calls::intentions::{ask_all, ask_begun, begin_end};
+use pg_calls::msg::{Message, Packet, Sent, Work};
 use pg_calls::repair::{
     confirm, fetch, full, gone, grant, invite, no_grant, none_here, place_is, tell, tell_ok,
 };
-use pg_msg::{Message, Packet, Sent, Work};
-use pg_store::{LATEST_TIME, Store};
+use pg_calls::store::{LATEST_TIME, Store};
 use pg_transfer::{delta, harbinger, later, piece, want};
 use std::alloc::AllocError;
 

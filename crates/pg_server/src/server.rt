@@ -1,7 +1,7 @@
 //! A server.
 
 ghost use Rattle.std.specs.Prelude.{◌≡◌, ◌↔◌, OnOk, OnErr, IfOk, IsErrOf, slice_get, false, true};
-ghost use Rattle.pg_store.specs.Store.{new_store};
+ghost use Rattle.pg_calls.specs.pg_store.Store.{new_store};
 ghost use Rattle.pg_server.specs.Local.{effect};
 ghost use Rattle.pg_server.specs.Owing.{owed};
 
@@ -10,8 +10,8 @@ use crate::input::{Input, Out};
 use crate::owing::first_owed;
 use crate::receiving::effect;
 use pg_base::NodeId;
+use pg_calls::store::Store;
 use pg_event::Owing;
-use pg_store::Store;
 use std::alloc::{AllocError, Global};
 
 /// A server: what it holds, and whether an input ran out of memory.

@@ -6,7 +6,8 @@
 //! made of it.
 //!
 //! - `refusals`: calls that are refused for what a store holds, each with its reason and with the
-//!   store as it was.
+//!   store as it was;
+//! - `numbers`: messages whose numbers are as great as a message may have, and greater.
 //!
 //! Expected values come from docs/RULES.md, "Client calls", and never from the program. Each test
 //! calls with ample memory: that a call answers something else than out of memory is shown by tests
@@ -16,5 +17,7 @@
 //! proof.
 #![tactic(auto)]
 
+#[cfg(test)]
+mod numbers;
 #[cfg(test)]
 mod refusals;

@@ -35,6 +35,9 @@ mod views;
 mod wishes;
 
 pub use laws::{births_move, views_are_entered};
+pub use pg_intent as intent;
+pub use pg_names as names;
+pub use pg_replica as replica;
 pub use store::{COUNTER_LIMIT, LATEST_TIME, Store};
 pub use taking::EntryNews;
 pub use wishes::{Wish, Wishes};

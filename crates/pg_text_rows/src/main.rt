@@ -1,7 +1,7 @@
 //! Rows: each line of the input is a text, and each line of the output is what was read of it,
 //! printed again, or why it is none.
 //!
-//! A row is a verb, as `call`, `schedule`, `journal` or `packet`, and a text: `row` says how it
+//! A row is a verb, as `call`, `journal`, `packet` or `state`, and a text: `row` says how it
 //! spells bytes that a line cannot have, and the other modules which reader and which printer each
 //! verb calls. Each row says what its text must be read and printed as: as itself (of a long text
 //! only its length is shown), or not at all, with the cause and the place that docs/FORMATS.md
@@ -21,6 +21,7 @@ mod entry;
 mod lines;
 mod packet;
 mod row;
+mod state;
 mod texts;
 mod values;
 mod words;
@@ -48,6 +49,7 @@ fn read_again(alloc: Global, verb: &[u8], text: &[u8], out: &mut Answer) -> Resu
         b"journal" => again::<Journal>(alloc, text, out),
         b"entry" => entry::entry(alloc, text, out),
         b"packet" => packet::packet(alloc, text, out),
+        b"state" => state::state(alloc, text, out),
         b"hex" => words::hex(alloc, text, out),
         b"words" => words::words(alloc, text, out),
         _ => {

@@ -6,13 +6,13 @@ use Rattle.pg_delta.specs.Chain.{are_same_stamps}
 use Rattle.pg_delta.specs.Taking.{delta_to, patched_version, stamps_of}
 use Rattle.pg_announced.specs.declared.announced.Announced.{Announced}
 use Rattle.pg_announced.specs.Announced.{change_note, emptied, is_asked_of, key_at}
-use Rattle.pg_msg.specs.declared.message.Delta.{Delta}
-use Rattle.pg_msg.specs.declared.message.Ends.{Ends}
-use Rattle.pg_msg.specs.declared.work.Work.{Work}
-use Rattle.pg_names.specs.Names.{is_dir}
-use Rattle.pg_replica.specs.declared.replica.Replica.{Replica}
-use Rattle.pg_store.specs.declared.store.Store.{Store}
-use Rattle.pg_store.specs.Store.{keep_delta, replica_at}
+use Rattle.pg_pieces.specs.pg_msg.declared.message.Delta.{Delta}
+use Rattle.pg_pieces.specs.pg_msg.declared.message.Ends.{Ends}
+use Rattle.pg_pieces.specs.pg_msg.declared.work.Work.{Work}
+use Rattle.pg_pieces.specs.pg_names.Names.{is_dir}
+use Rattle.pg_pieces.specs.pg_replica.declared.replica.Replica.{Replica}
+use Rattle.pg_pieces.specs.pg_store.declared.store.Store.{Store}
+use Rattle.pg_pieces.specs.pg_store.Store.{keep_delta, replica_at}
 use Rattle.pg_pieces.specs.declared.accepting.EdgeUse.TheVariants as manner
 use Rattle.pg_pieces.specs.Accepting.{accept, is_accepted}
 use Rattle.pg_pieces.specs.Done.{Done, idle}

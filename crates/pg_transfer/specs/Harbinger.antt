@@ -5,11 +5,11 @@ use Rattle.pg_base.specs.Version.{actor_of}
 use Rattle.pg_content.specs.Content.{is_covered}
 use Rattle.pg_announced.specs.declared.announced.Announced.{Announced}
 use Rattle.pg_announced.specs.Announced.{aimed, change_note, is_awaited, key_at, new_note, put_note}
-use Rattle.pg_msg.specs.declared.message.Ends.{Ends}
-use Rattle.pg_msg.specs.declared.work.Work.{Work}
-use Rattle.pg_names.specs.Names.{is_dir}
-use Rattle.pg_store.specs.declared.store.Store.{Store}
-use Rattle.pg_store.specs.Store.{content_of}
+use Rattle.pg_pieces.specs.pg_msg.declared.message.Ends.{Ends}
+use Rattle.pg_pieces.specs.pg_msg.declared.work.Work.{Work}
+use Rattle.pg_pieces.specs.pg_names.Names.{is_dir}
+use Rattle.pg_pieces.specs.pg_store.declared.store.Store.{Store}
+use Rattle.pg_pieces.specs.pg_store.Store.{content_of}
 use Rattle.pg_pieces.specs.declared.accepting.EdgeUse.TheVariants as manner
 use Rattle.pg_pieces.specs.Accepting.{accept, is_accepted}
 use Rattle.pg_pieces.specs.Done.{Done, idle}

@@ -5,11 +5,11 @@ use Rattle.pg_base.specs.declared.id.FileId.{FileId}
 use Rattle.pg_base.specs.Version.{VersionValue}
 use Rattle.pg_announced.specs.declared.announced.Announced.{Announced}
 use Rattle.pg_announced.specs.Announced.{change_note, key_at, longer, without_note}
-use Rattle.pg_msg.specs.declared.message.Ends.{Ends}
-use Rattle.pg_msg.specs.declared.message.Piece.{Piece}
-use Rattle.pg_msg.specs.declared.work.Work.{Work}
-use Rattle.pg_names.specs.Names.{is_dir}
-use Rattle.pg_store.specs.declared.store.Store.{Store}
+use Rattle.pg_pieces.specs.pg_msg.declared.message.Ends.{Ends}
+use Rattle.pg_pieces.specs.pg_msg.declared.message.Piece.{Piece}
+use Rattle.pg_pieces.specs.pg_msg.declared.work.Work.{Work}
+use Rattle.pg_pieces.specs.pg_names.Names.{is_dir}
+use Rattle.pg_pieces.specs.pg_store.declared.store.Store.{Store}
 use Rattle.pg_pieces.specs.declared.accepting.EdgeUse.TheVariants as manner
 use Rattle.pg_pieces.specs.Accepting.{accept, is_accepted}
 use Rattle.pg_pieces.specs.Done.{Done, idle}

@@ -1,10 +1,10 @@
 -- A version is taken whose body came.
 use Rattle.std.specs.Prelude.{ℕ}
 use Rattle.pg_base.specs.Version.{VersionValue}
-use Rattle.pg_msg.specs.declared.message.Ends.{Ends}
-use Rattle.pg_msg.specs.declared.work.Work.{Work}
-use Rattle.pg_store.specs.declared.store.Store.{Store}
-use Rattle.pg_store.specs.Store.{take_version}
+use Rattle.pg_pieces.specs.pg_msg.declared.message.Ends.{Ends}
+use Rattle.pg_pieces.specs.pg_msg.declared.work.Work.{Work}
+use Rattle.pg_pieces.specs.pg_store.declared.store.Store.{Store}
+use Rattle.pg_pieces.specs.pg_store.Store.{take_version}
 use Rattle.pg_pieces.specs.Done.{Done}
 use Rattle.pg_pieces.specs.Taking.{take_version_noted}
 use Rattle.pg_transfer.specs.Asking.{acknowledged}

@@ -7,9 +7,9 @@ ghost use Rattle.pg_transfer.specs.Asking.{acknowledged, ask, heard_by, listed, 
 
 use pg_base::{FileId, Head, Items, NodeId, Shared, Stamp, Version};
 use pg_edges::{Edge, Key};
-use pg_msg::{Ends, Message, Sent, Wanted, Work};
+use pg_pieces::msg::{Ends, Message, Sent, Wanted, Work};
+use pg_pieces::store::Store;
 use pg_pieces::{ends_to, post, send};
-use pg_store::Store;
 use std::alloc::{AllocError, Global};
 
 /// The most heads that a Want names.

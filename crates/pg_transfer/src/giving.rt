@@ -3,17 +3,17 @@
 ghost use Rattle.std.specs.Prelude.{◌≡◌, IfOk, OnOk, Some, drop, take};
 ghost use Rattle.pg_content.specs.Content.{head_at};
 ghost use Rattle.pg_delta.specs.Whole.{delta_of};
-ghost use Rattle.pg_store.specs.Store.{replica_of};
+ghost use Rattle.pg_pieces.specs.pg_store.Store.{replica_of};
 ghost use Rattle.pg_transfer.specs.Want.{answered, given, given_as, most_in_piece, want};
 
 use crate::asking::put_off;
 use pg_base::{Items, Shared, SharedBytes, Stamp, Version};
-use pg_msg::{Delta, Ends, Message, Piece, Wanted, Work};
-use pg_names::is_dir;
 use pg_patch::Ranges;
+use pg_pieces::msg::{Delta, Ends, Message, Piece, Wanted, Work};
+use pg_pieces::names::is_dir;
+use pg_pieces::replica::Replica;
+use pg_pieces::store::Store;
 use pg_pieces::{EdgeUse, accept, post};
-use pg_replica::Replica;
-use pg_store::Store;
 use std::alloc::{AllocError, Global};
 
 /// The most bytes of a piece.

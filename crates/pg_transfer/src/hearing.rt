@@ -3,7 +3,7 @@
 ghost use Rattle.std.specs.Prelude.{◌≡◌, OnOk, option_map};
 ghost use Rattle.pg_base.specs.Version.{actor_of};
 ghost use Rattle.pg_content.specs.Content.{is_covered};
-ghost use Rattle.pg_store.specs.Store.{content_of};
+ghost use Rattle.pg_pieces.specs.pg_store.Store.{content_of};
 ghost use Rattle.pg_announced.specs.Announced.{note_at};
 ghost use Rattle.pg_transfer.specs.Asking.{noted, offset_of as offset_in};
 ghost use Rattle.pg_transfer.specs.Harbinger.{asked_again, first_heard, harbinger, heard, heard_beside};
@@ -11,10 +11,10 @@ ghost use Rattle.pg_transfer.specs.Harbinger.{asked_again, first_heard, harbinge
 use crate::asking::{acknowledge, ask, listed, offset_of, put_off, tell_others};
 use pg_announced::{Announced, Announcements, NoteKey};
 use pg_base::{FileId, Head, Shared};
-use pg_msg::{Ends, Work};
-use pg_names::is_dir;
+use pg_pieces::msg::{Ends, Work};
+use pg_pieces::names::is_dir;
+use pg_pieces::store::Store;
 use pg_pieces::{EdgeUse, accept};
-use pg_store::Store;
 use std::alloc::AllocError;
 
 /// Whether the version is covered here.

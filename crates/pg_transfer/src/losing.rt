@@ -5,10 +5,10 @@ ghost use Rattle.pg_transfer.specs.Later.{later};
 
 use pg_announced::NoteKey;
 use pg_base::Stamp;
-use pg_msg::{Ends, Work};
-use pg_names::is_dir;
+use pg_pieces::msg::{Ends, Work};
+use pg_pieces::names::is_dir;
+use pg_pieces::store::Store;
 use pg_pieces::{EdgeUse, accept};
-use pg_store::Store;
 use std::alloc::AllocError;
 
 /// A Later comes along an edge that is there: its sender is not asked for the version any more.

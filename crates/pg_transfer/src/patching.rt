@@ -5,7 +5,7 @@ ghost use Rattle.pg_content.specs.Content.{next_length};
 ghost use Rattle.pg_delta.specs.Chain.{are_same_stamps};
 ghost use Rattle.pg_delta.specs.Taking.{stamps_of};
 ghost use Rattle.pg_announced.specs.Announced.{note_at};
-ghost use Rattle.pg_store.specs.Store.{replica_at};
+ghost use Rattle.pg_pieces.specs.pg_store.Store.{replica_at};
 ghost use Rattle.pg_transfer.specs.Delta.{changed, delta as delta_in, made_at, made_by, made_of, patched, refused, serves};
 
 use crate::asking::ask;
@@ -14,10 +14,10 @@ use pg_announced::{Announced, NoteKey};
 use pg_base::{FileId, Items, NodeId, Stamp, Version};
 use pg_content::Content;
 use pg_delta::{KeptDelta, has_heads, makes_length, patched};
-use pg_msg::{Delta, Ends, Work};
-use pg_names::is_dir;
+use pg_pieces::msg::{Delta, Ends, Work};
+use pg_pieces::names::is_dir;
+use pg_pieces::store::Store;
 use pg_pieces::{EdgeUse, accept};
-use pg_store::Store;
 use std::alloc::{AllocError, Global};
 
 /// Whether the heads have these stamps.

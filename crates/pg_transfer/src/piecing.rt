@@ -9,10 +9,10 @@ use crate::asking::{ask, listed};
 use crate::taking::take_for;
 use pg_announced::{Announced, Announcements, NoteKey};
 use pg_base::{NodeId, SharedBytes, Version};
-use pg_msg::{Ends, Piece, Work};
-use pg_names::is_dir;
+use pg_pieces::msg::{Ends, Piece, Work};
+use pg_pieces::names::is_dir;
+use pg_pieces::store::Store;
 use pg_pieces::{EdgeUse, accept};
-use pg_store::Store;
 use std::alloc::{AllocError, Global};
 
 /// What bytes that come are to the body of a version that is noted.

@@ -5,9 +5,9 @@ ghost use Rattle.pg_transfer.specs.Taking.{taken_for};
 
 use crate::asking::acknowledge;
 use pg_base::Version;
-use pg_msg::{Ends, Work};
+use pg_pieces::msg::{Ends, Work};
+use pg_pieces::store::Store;
 use pg_pieces::take_version;
-use pg_store::Store;
 use std::alloc::AllocError;
 
 /// A held file takes a version, and the tag under which it was announced is acknowledged. After out

@@ -13,13 +13,13 @@ use Rattle.theory_flood.proofs.Sends.{none_sent}
 use Rattle.theory_flood.proofs.Servers.{OthersStay}
 use Rattle.theory_flood.proofs.Steps.{HasSoundTags, NotesFrom, Rule, by_steps}
 use Rattle.pg_entries.specs.declared.cell.Cell.{Cell}
-use Rattle.pg_msg.specs.declared.message.Ends.{Ends}
-use Rattle.pg_msg.specs.declared.message.Message.TheVariants as message
-use Rattle.pg_replica.specs.declared.replica.Replica.{Replica}
-use Rattle.pg_replica.specs.Replica.{has_edge, with_ack}
-use Rattle.pg_replica.specs.Replicas.{ByFile, or_nothing, put_replica, replicas_acked}
-use Rattle.pg_store.specs.declared.store.Store.{Store}
-use Rattle.pg_store.specs.Store.{acknowledge, content_of, replica_at}
+use Rattle.pg_cells.specs.pg_msg.declared.message.Ends.{Ends}
+use Rattle.pg_cells.specs.pg_msg.declared.message.Message.TheVariants as message
+use Rattle.pg_cells.specs.pg_replica.declared.replica.Replica.{Replica}
+use Rattle.pg_cells.specs.pg_replica.Replica.{has_edge, with_ack}
+use Rattle.pg_cells.specs.pg_replica.Replicas.{ByFile, or_nothing, put_replica, replicas_acked}
+use Rattle.pg_cells.specs.pg_store.declared.store.Store.{Store}
+use Rattle.pg_cells.specs.pg_store.Store.{acknowledge, content_of, replica_at}
 use Rattle.pg_cells.specs.pg_pieces.Done.{link_of}
 use Rattle.theory_flood_pieces.specs.Seen.{Along, cells_in, saying, see, seen}
 use Rattle.theory_flood_pieces.proofs.Choices.{decided}

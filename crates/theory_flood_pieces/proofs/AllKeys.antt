@@ -16,16 +16,16 @@ use Rattle.pg_edges.specs.declared.key.Key.{Key}
 use Rattle.pg_edges.specs.declared.key.Key.TheVariants as key
 use Rattle.pg_entries.specs.declared.cell.Cell.{Cell}
 use Rattle.pg_entries.specs.declared.entry.Entry.{Entry}
-use Rattle.pg_names.specs.Names.{InodeValue, entry_in, is_held, known, or_blank, own_of}
+use Rattle.pg_cells.specs.pg_names.Names.{InodeValue, entry_in, is_held, known, or_blank, own_of}
 use Rattle.pg_register.specs.declared.flag.Flag.{Flag}
 use Rattle.pg_register.specs.Flag.{flag_of}
-use Rattle.pg_replica.specs.Replica.{cell_at as head_at, key_of}
-use Rattle.pg_replica.specs.Replica as replica
-use Rattle.pg_replica.proofs.Growth.{cell_head}
-use Rattle.pg_store.specs.declared.store.Store.{Store}
-use Rattle.pg_store.specs.Cells.{cell_at, entry_cell, flag_cell, is_sure, version_cell}
-use Rattle.pg_store.specs.Links.{keys, name_keys}
-use Rattle.pg_store.specs.Store.{content_of}
+use Rattle.pg_cells.specs.pg_replica.Replica.{cell_at as head_at, key_of}
+use Rattle.pg_cells.specs.pg_replica.Replica as replica
+use Rattle.pg_cells.proofs.pg_replica.Growth.{cell_head}
+use Rattle.pg_cells.specs.pg_store.declared.store.Store.{Store}
+use Rattle.pg_cells.specs.pg_store.Cells.{cell_at, entry_cell, flag_cell, is_sure, version_cell}
+use Rattle.pg_cells.specs.pg_store.Links.{keys, name_keys}
+use Rattle.pg_cells.specs.pg_store.Store.{content_of}
 use Rattle.theory_flood_pieces.proofs.Stores.{plain_at}
 use Rattle.theory_flood_pieces.specs.Seen.{plain}
 

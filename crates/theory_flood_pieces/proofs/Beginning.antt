@@ -15,21 +15,21 @@ use Rattle.theory_flood.proofs.Servers.{OthersStay}
 use Rattle.theory_flood.proofs.Steps.{Steps, Steps-refl, Steps-trans}
 use Rattle.pg_entries.specs.declared.cell.Cell.{Cell}
 use Rattle.pg_entries.specs.declared.entry.Entry.{Entry}
-use Rattle.pg_intent.specs.declared.intent.Intent.{Intent}
-use Rattle.pg_intent.specs.declared.intent.Intent.TheVariants as intent
-use Rattle.pg_intent.specs.declared.key.IntentKey.{IntentKey}
-use Rattle.pg_intent.specs.Intents.{ended, intent_at}
-use Rattle.pg_names.specs.declared.attributes.Attributes.{Attributes}
-use Rattle.pg_names.specs.Names.{InodeValue, is_entry_new, known, or_blank, own_of, raise}
-use Rattle.pg_names.specs.Names as names
-use Rattle.pg_names.proofs.Holding.{begun_cells, begun_other}
-use Rattle.pg_names.proofs.Lookups.{update_frame}
-use Rattle.pg_replica.specs.declared.replica.Replica.{Replica}
-use Rattle.pg_replica.specs.Replica.{new_replica}
-use Rattle.pg_store.specs.declared.store.Store.{Store}
-use Rattle.pg_store.specs.Beginning.{begin, patches_of, put_new, take_patch, take_patches, take_told, take_told_in, with_intents}
-use Rattle.pg_store.specs.Store.{is_held, is_newer_entry, put_entry, replica_at, take_entry}
-use Rattle.pg_store.specs.Together.{AreTogether}
+use Rattle.pg_cells.specs.pg_intent.declared.intent.Intent.{Intent}
+use Rattle.pg_cells.specs.pg_intent.declared.intent.Intent.TheVariants as intent
+use Rattle.pg_cells.specs.pg_intent.declared.key.IntentKey.{IntentKey}
+use Rattle.pg_cells.specs.pg_intent.Intents.{ended, intent_at}
+use Rattle.pg_cells.specs.pg_names.declared.attributes.Attributes.{Attributes}
+use Rattle.pg_cells.specs.pg_names.Names.{InodeValue, is_entry_new, known, or_blank, own_of, raise}
+use Rattle.pg_cells.specs.pg_names.Names as names
+use Rattle.pg_cells.proofs.pg_names.Holding.{begun_cells, begun_other}
+use Rattle.pg_cells.proofs.pg_names.Lookups.{update_frame}
+use Rattle.pg_cells.specs.pg_replica.declared.replica.Replica.{Replica}
+use Rattle.pg_cells.specs.pg_replica.Replica.{new_replica}
+use Rattle.pg_cells.specs.pg_store.declared.store.Store.{Store}
+use Rattle.pg_cells.specs.pg_store.Beginning.{begin, patches_of, put_new, take_patch, take_patches, take_told, take_told_in, with_intents}
+use Rattle.pg_cells.specs.pg_store.Store.{is_held, is_newer_entry, put_entry, replica_at, take_entry}
+use Rattle.pg_cells.specs.pg_store.Together.{AreTogether}
 use Rattle.theory_flood_pieces.specs.Seen.{see, seen, standing}
 use Rattle.theory_flood_pieces.proofs.Choices.{decided}
 use Rattle.theory_flood_pieces.proofs.Growth.{entry_grows, entry_told}

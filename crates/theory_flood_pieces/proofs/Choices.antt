@@ -8,7 +8,7 @@ use Rattle.std.proofs.lemmas.Map.Views.{Contains-from_lookup}
 use Rattle.pg_base.specs.declared.id.FileId.{FileId}
 use Rattle.pg_base.specs.Id.{file_cmp}
 use Rattle.pg_base.proofs.Orders.{is_same_file-true}
-use Rattle.pg_replica.specs.declared.replica.Replica.{Replica}
+use Rattle.pg_cells.specs.pg_replica.declared.replica.Replica.{Replica}
 
 -- a choice has what both sides have
 pub chosen : {A : Type 0} (P : A → Type 0) (t : Bool) (x y : A) → P x → P y → P (cond t x y)

@@ -11,14 +11,14 @@ use Rattle.theory_flood.specs.Protocol.{Covers, IsSound}
 use Rattle.theory_flood.specs.Server.{Replica as Seen, Slot}
 use Rattle.theory_flood.proofs.Steps.{HasSoundTags, May, Steps}
 use Rattle.pg_entries.specs.declared.cell.Cell.{Cell}
-use Rattle.pg_msg.specs.declared.message.Sent.{Sent}
-use Rattle.pg_replica.specs.declared.replica.Replica.{Replica}
-use Rattle.pg_replica.specs.Replicas.{is_of_birth}
-use Rattle.pg_store.specs.declared.store.Store.{Store}
-use Rattle.pg_store.specs.Births.{is_over}
-use Rattle.pg_store.specs.Store.{replica_at}
-use Rattle.pg_store.specs.Together.{BirthsMove}
-use Rattle.pg_store.proofs.Over.{over_stays, over_tested}
+use Rattle.pg_cells.specs.pg_msg.declared.message.Sent.{Sent}
+use Rattle.pg_cells.specs.pg_replica.declared.replica.Replica.{Replica}
+use Rattle.pg_cells.specs.pg_replica.Replicas.{is_of_birth}
+use Rattle.pg_cells.specs.pg_store.declared.store.Store.{Store}
+use Rattle.pg_cells.specs.pg_store.Births.{is_over}
+use Rattle.pg_cells.specs.pg_store.Store.{replica_at}
+use Rattle.pg_cells.specs.pg_store.Together.{BirthsMove}
+use Rattle.pg_cells.proofs.pg_store.Over.{over_stays, over_tested}
 use Rattle.theory_flood_pieces.specs.Laws.{EventsAreByTheRule, StepsOn}
 use Rattle.theory_flood_pieces.specs.Seen.{Along, answering, at_once, cells, cells_in, in_the_end, says, seen, standing}
 use Rattle.theory_flood_pieces.proofs.UpTo.{cell_further, cell_itself}

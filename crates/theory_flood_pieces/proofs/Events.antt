@@ -14,15 +14,15 @@ use Rattle.theory_flood.proofs.Sends.{answer_may, held_covers, late_answer_may, 
 use Rattle.theory_flood.proofs.Steps.{AllMay, HasSoundTags, May, Rule, Steps, Steps-refl, Steps-trans}
 use Rattle.pg_entries.specs.declared.cell.Cell.{Cell}
 use Rattle.pg_entries.specs.declared.cell.Cell.TheVariants as cell
-use Rattle.pg_msg.specs.declared.message.Ends.{Ends}
-use Rattle.pg_msg.specs.declared.message.Message.TheVariants as message
-use Rattle.pg_msg.specs.declared.message.Sent.{Sent}
-use Rattle.pg_msg.specs.Ends.{back}
-use Rattle.pg_msg.specs.Sent.{cell_key}
-use Rattle.pg_replica.specs.declared.replica.Replica.{Replica}
-use Rattle.pg_store.specs.declared.store.Store.{Store}
-use Rattle.pg_store.specs.Cells.{cell_at}
-use Rattle.pg_store.specs.Store.{replica_at}
+use Rattle.pg_cells.specs.pg_msg.declared.message.Ends.{Ends}
+use Rattle.pg_cells.specs.pg_msg.declared.message.Message.TheVariants as message
+use Rattle.pg_cells.specs.pg_msg.declared.message.Sent.{Sent}
+use Rattle.pg_cells.specs.pg_msg.Ends.{back}
+use Rattle.pg_cells.specs.pg_msg.Sent.{cell_key}
+use Rattle.pg_cells.specs.pg_replica.declared.replica.Replica.{Replica}
+use Rattle.pg_cells.specs.pg_store.declared.store.Store.{Store}
+use Rattle.pg_cells.specs.pg_store.Cells.{cell_at}
+use Rattle.pg_cells.specs.pg_store.Store.{replica_at}
 use Rattle.pg_cells.specs.pg_pieces.Posting.{sent_to}
 use Rattle.theory_flood_pieces.specs.Seen.{Along, Hearing, cells_in, head_cell, plain, says, saying, seen}
 use Rattle.theory_flood_pieces.specs.UpTo.{IsUpTo}

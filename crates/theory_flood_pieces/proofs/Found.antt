@@ -15,9 +15,9 @@ use Rattle.pg_edges.specs.Keys.{tag_in}
 use Rattle.pg_edges.specs.Edges.{edge_to, keys_if_born, tag_of, tag_at, peers, AscendFrom}
 use Rattle.pg_edges.proofs.Lists.{peer_at}
 use Rattle.pg_edges.proofs.Orders.{key_total}
-use Rattle.pg_replica.specs.declared.replica.Replica.{Replica}
-use Rattle.pg_store.specs.declared.store.Store.{Store}
-use Rattle.pg_store.specs.Store.{replica_at}
+use Rattle.pg_cells.specs.pg_replica.declared.replica.Replica.{Replica}
+use Rattle.pg_cells.specs.pg_store.declared.store.Store.{Store}
+use Rattle.pg_cells.specs.pg_store.Store.{replica_at}
 
 -- ---- edges
 

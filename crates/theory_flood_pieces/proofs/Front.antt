@@ -10,21 +10,21 @@ use Rattle.pg_register.specs.declared.flag.Flag.{Flag}
 use Rattle.pg_register.specs.declared.place.Place.{Place}
 use Rattle.pg_register.specs.Flag.{flag_of}
 use Rattle.pg_register.specs.Place.{root, tilde_name}
-use Rattle.pg_msg.specs.declared.work.Touched.{Touched}
-use Rattle.pg_msg.specs.declared.update.Update.TheVariants as update
-use Rattle.pg_msg.specs.declared.work.Work.{Work}
-use Rattle.pg_msg.specs.Work.{with_left, with_made, with_touched}
-use Rattle.pg_names.specs.declared.attributes.Attributes.{Attributes}
-use Rattle.pg_names.specs.Names.{NamesValue, directories, own_at, set_entry, set_own}
-use Rattle.pg_names.specs.Same.{is_same_own, is_same_place}
-use Rattle.pg_house.specs.Work.{State, is_root, note_left, place_touched, state_of, touched}
-use Rattle.pg_house.specs.Passing.{cell_for, flags_touched, gets, given, greatest, is_held_back, is_other_flag, offered, own_taken, own_touched, pass, pass_all, pass_own, spread, taking, took}
-use Rattle.pg_house.specs.Placing.{drawn, live_place, made_at, place_at, placed, repeated}
-use Rattle.pg_house.specs.Returning.{first_returning, return_first, returned}
-use Rattle.pg_house.specs.Cycles.{break_first, first_moving, moved}
-use Rattle.pg_house.specs.House.{house, movable}
-use Rattle.pg_house.specs.Facts.{IsTold}
-use Rattle.pg_house.proofs.Told.{told}
+use Rattle.pg_cells.specs.pg_msg.declared.work.Touched.{Touched}
+use Rattle.pg_cells.specs.pg_msg.declared.update.Update.TheVariants as update
+use Rattle.pg_cells.specs.pg_msg.declared.work.Work.{Work}
+use Rattle.pg_cells.specs.pg_msg.Work.{with_left, with_made, with_touched}
+use Rattle.pg_cells.specs.pg_names.declared.attributes.Attributes.{Attributes}
+use Rattle.pg_cells.specs.pg_names.Names.{NamesValue, directories, own_at, set_entry, set_own}
+use Rattle.pg_cells.specs.pg_names.Same.{is_same_own, is_same_place}
+use Rattle.pg_cells.specs.pg_house.Work.{State, is_root, note_left, place_touched, state_of, touched}
+use Rattle.pg_cells.specs.pg_house.Passing.{cell_for, flags_touched, gets, given, greatest, is_held_back, is_other_flag, offered, own_taken, own_touched, pass, pass_all, pass_own, spread, taking, took}
+use Rattle.pg_cells.specs.pg_house.Placing.{drawn, live_place, made_at, place_at, placed, repeated}
+use Rattle.pg_cells.specs.pg_house.Returning.{first_returning, return_first, returned}
+use Rattle.pg_cells.specs.pg_house.Cycles.{break_first, first_moving, moved}
+use Rattle.pg_cells.specs.pg_house.House.{house, movable}
+use Rattle.pg_cells.specs.pg_house.Facts.{IsTold}
+use Rattle.pg_cells.proofs.pg_house.Told.{told}
 use Rattle.theory_flood_pieces.specs.Names.{IsToldBy}
 
 -- what an event leaves of the work, but for what was made, touched and replaced

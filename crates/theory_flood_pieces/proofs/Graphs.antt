@@ -19,8 +19,8 @@ use Rattle.pg_edges.proofs.Orders.{key_total}
 use Rattle.pg_edges.proofs.Lists.{ascend-filter, ascend-same, ascend-put_edge}
 use Rattle.pg_edges.proofs.Edits.{peers-retired, peers-touched}
 use Rattle.theory_flood.specs.Laws.{IsClean}
-use Rattle.pg_replica.specs.Replica.{without_keys}
-use Rattle.pg_replica.specs.Root.{clean_edge, clean_edges}
+use Rattle.pg_cells.specs.pg_replica.Replica.{without_keys}
+use Rattle.pg_cells.specs.pg_replica.Root.{clean_edge, clean_edges}
 use Rattle.theory_flood_pieces.specs.Whole.{AreEdges, IsEdge, IsOther}
 use Rattle.theory_flood_pieces.proofs.Choices.{chosen}
 

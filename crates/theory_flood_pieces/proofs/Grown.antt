@@ -12,19 +12,19 @@ use Rattle.theory_flood.specs.Protocol.{Covers, Protocol}
 use Rattle.theory_flood.specs.Server.{Holds, Replica as Seen, Slot, slot}
 use Rattle.theory_flood.proofs.Servers.{some_same}
 use Rattle.theory_flood.proofs.Steps.{Steps}
-use Rattle.pg_msg.specs.declared.message.Sent.{Sent}
-use Rattle.pg_names.specs.declared.attributes.Attributes.{Attributes}
-use Rattle.pg_names.specs.Names.{cell_at as entry_at, own_or_blank}
+use Rattle.pg_cells.specs.pg_msg.declared.message.Sent.{Sent}
+use Rattle.pg_cells.specs.pg_names.declared.attributes.Attributes.{Attributes}
+use Rattle.pg_cells.specs.pg_names.Names.{cell_at as entry_at, own_or_blank}
 use Rattle.pg_register.specs.declared.flag.Flag.{Flag}
 use Rattle.pg_register.specs.declared.place.Place.{Place}
 use Rattle.pg_register.specs.Flag.{flag_of}
-use Rattle.pg_replica.specs.declared.replica.Replica.{Replica}
-use Rattle.pg_store.specs.declared.store.Store.{Store}
-use Rattle.pg_store.specs.Births.{is_over}
-use Rattle.pg_store.specs.Cells.{cell_at, entry_cell, flag_cell, is_sure}
-use Rattle.pg_store.specs.Store.{replica_at}
-use Rattle.pg_store.specs.Together.{birth_at}
-use Rattle.pg_store.proofs.Over.{over_tested}
+use Rattle.pg_cells.specs.pg_replica.declared.replica.Replica.{Replica}
+use Rattle.pg_cells.specs.pg_store.declared.store.Store.{Store}
+use Rattle.pg_cells.specs.pg_store.Births.{is_over}
+use Rattle.pg_cells.specs.pg_store.Cells.{cell_at, entry_cell, flag_cell, is_sure}
+use Rattle.pg_cells.specs.pg_store.Store.{replica_at}
+use Rattle.pg_cells.specs.pg_store.Together.{birth_at}
+use Rattle.pg_cells.proofs.pg_store.Over.{over_tested}
 use Rattle.theory_flood_pieces.specs.Growing.{Grows, GrowsAt, GrowsOn}
 use Rattle.theory_flood_pieces.specs.Names.{IsEntryKnownBy}
 use Rattle.theory_flood_pieces.specs.Seen.{Along, at_once, cells, cells_in, plain, seen, standing}

@@ -6,11 +6,11 @@ use Rattle.pg_base.specs.Id.{is_same_file}
 use Rattle.pg_base.proofs.Orders.{UpTo-refl, UpTo-trans, is_same_file-true}
 use Rattle.pg_edges.specs.declared.key.Key.TheVariants as key
 use Rattle.pg_entries.specs.declared.entry.Entry.{Entry}
-use Rattle.pg_house.specs.Facts.{IsIn}
-use Rattle.pg_msg.specs.declared.work.Touched.{Touched}
-use Rattle.pg_names.specs.declared.attributes.Attributes.{Attributes}
-use Rattle.pg_names.specs.Names.{NamesValue, cell_at, join_entry, join_flag, join_place, or_blank, own_at, own_or_blank}
-use Rattle.pg_names.proofs.Lookups.{flag_cell, flag_other, flag_same, joined_other_child, joined_other_dir, joined_own, joined_same, own_with_flag, own_with_place, place_cell, place_other, place_same}
+use Rattle.pg_cells.specs.pg_house.Facts.{IsIn}
+use Rattle.pg_cells.specs.pg_msg.declared.work.Touched.{Touched}
+use Rattle.pg_cells.specs.pg_names.declared.attributes.Attributes.{Attributes}
+use Rattle.pg_cells.specs.pg_names.Names.{NamesValue, cell_at, join_entry, join_flag, join_place, or_blank, own_at, own_or_blank}
+use Rattle.pg_cells.proofs.pg_names.Lookups.{flag_cell, flag_other, flag_same, joined_other_child, joined_other_dir, joined_own, joined_same, own_with_flag, own_with_place, place_cell, place_other, place_same}
 use Rattle.pg_register.specs.declared.flag.Flag.{Flag}
 use Rattle.pg_register.specs.declared.place.Place.{Place}
 use Rattle.pg_register.specs.Flag as flags

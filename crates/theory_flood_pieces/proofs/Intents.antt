@@ -1,13 +1,13 @@
 -- Changes of what a server intends leave Patches for directories.
 use Rattle.std.proofs.Common.{ℕ, not, List, [], ◌∷◌, ◌++◌, refl, All}
 use Rattle.std.proofs.lemmas.List.Elements.{All-cons, All-filter, All-head, All-push, All-tail}
-use Rattle.pg_intent.specs.declared.intent.Intent.{Intent}
-use Rattle.pg_intent.specs.declared.intent.Intent.TheVariants as intent
-use Rattle.pg_intent.specs.declared.key.IntentKey.{IntentKey}
-use Rattle.pg_intent.specs.Intent.{aimed_at, key_of, rejoined}
-use Rattle.pg_intent.specs.Intents.{aimed, begun, changed, ended, has_key, stands}
-use Rattle.pg_store.specs.declared.store.Store.{Store}
-use Rattle.pg_store.specs.Beginning.{with_intents}
+use Rattle.pg_cells.specs.pg_intent.declared.intent.Intent.{Intent}
+use Rattle.pg_cells.specs.pg_intent.declared.intent.Intent.TheVariants as intent
+use Rattle.pg_cells.specs.pg_intent.declared.key.IntentKey.{IntentKey}
+use Rattle.pg_cells.specs.pg_intent.Intent.{aimed_at, key_of, rejoined}
+use Rattle.pg_cells.specs.pg_intent.Intents.{aimed, begun, changed, ended, has_key, stands}
+use Rattle.pg_cells.specs.pg_store.declared.store.Store.{Store}
+use Rattle.pg_cells.specs.pg_store.Beginning.{with_intents}
 use Rattle.theory_flood_pieces.specs.Laws.{AreAlike}
 use Rattle.theory_flood_pieces.specs.Whole.{PatchesAreForDirs}
 use Rattle.theory_flood_pieces.proofs.Choices.{chosen}

@@ -6,10 +6,10 @@ use Rattle.pg_patch.specs.Ranges.{RangesValue}
 use Rattle.pg_content.specs.Content.{Among, ContentValue}
 use Rattle.pg_content.specs.History.{Made, version_of}
 use Rattle.pg_entries.specs.declared.cell.Cell.TheVariants as cell
-use Rattle.pg_replica.specs.declared.replica.Replica.{Replica}
-use Rattle.pg_replica.specs.Replicas.{or_nothing}
-use Rattle.pg_store.specs.declared.store.Store.{Store}
-use Rattle.pg_store.specs.Store.{content_of, replica_at, take_version, write}
+use Rattle.pg_cells.specs.pg_replica.declared.replica.Replica.{Replica}
+use Rattle.pg_cells.specs.pg_replica.Replicas.{or_nothing}
+use Rattle.pg_cells.specs.pg_store.declared.store.Store.{Store}
+use Rattle.pg_cells.specs.pg_store.Store.{content_of, replica_at, take_version, write}
 use Rattle.theory_flood_pieces.specs.Histories.{IsOfHistory}
 use Rattle.theory_flood_pieces.specs.Laws.{IsTaken, StepsOn, coming}
 use Rattle.theory_flood_pieces.proofs.Counting.{steps_on}

@@ -14,16 +14,16 @@ use Rattle.theory_flood.proofs.Dropped.{drop_steps}
 use Rattle.theory_flood.proofs.Servers.{OthersStay}
 use Rattle.theory_flood.proofs.Steps.{Steps}
 use Rattle.pg_entries.specs.declared.cell.Cell.{Cell}
-use Rattle.pg_names.specs.Names.{InodeValue, entry_in, known, or_blank, own_of}
-use Rattle.pg_names.proofs.Lookups.{apart_back}
-use Rattle.pg_replica.specs.declared.replica.Replica.{Replica}
-use Rattle.pg_replica.proofs.Going.{replica_behind}
-use Rattle.pg_replica.proofs.Merging.{sorted_filter}
-use Rattle.pg_store.specs.declared.store.Store.{Store}
-use Rattle.pg_store.specs.Beginning.{let_go}
-use Rattle.pg_store.specs.Store.{replica_at}
-use Rattle.pg_store.proofs.Going.{cell_left, go_together, own_left}
-use Rattle.pg_store.proofs.Over.{known_behind}
+use Rattle.pg_cells.specs.pg_names.Names.{InodeValue, entry_in, known, or_blank, own_of}
+use Rattle.pg_cells.proofs.pg_names.Lookups.{apart_back}
+use Rattle.pg_cells.specs.pg_replica.declared.replica.Replica.{Replica}
+use Rattle.pg_cells.proofs.pg_replica.Going.{replica_behind}
+use Rattle.pg_cells.proofs.pg_replica.Merging.{sorted_filter}
+use Rattle.pg_cells.specs.pg_store.declared.store.Store.{Store}
+use Rattle.pg_cells.specs.pg_store.Beginning.{let_go}
+use Rattle.pg_cells.specs.pg_store.Store.{replica_at}
+use Rattle.pg_cells.proofs.pg_store.Going.{cell_left, go_together, own_left}
+use Rattle.pg_cells.proofs.pg_store.Over.{known_behind}
 use Rattle.theory_flood_pieces.specs.Laws.{GoingsAreSteps}
 use Rattle.theory_flood_pieces.specs.Seen.{Along, cells_in, see, seen}
 use Rattle.theory_flood_pieces.specs.Whole.{AreEdges, AreOrderly, IsWhole}

@@ -11,14 +11,14 @@ use Rattle.theory_flood.proofs.Link.{link_draws}
 use Rattle.theory_flood.proofs.Steps.{Steps, Steps-refl}
 use Rattle.theory_flood.proofs.Unlink.{unlink_draws}
 use Rattle.pg_entries.specs.declared.cell.Cell.{Cell}
-use Rattle.pg_names.specs.Names.{NamesValue, cell_at as entry_at, fill, is_held, or_blank, own_or_blank}
-use Rattle.pg_names.proofs.Holding.{fill_cells, fill_own}
-use Rattle.pg_replica.specs.declared.replica.Replica.{Replica}
-use Rattle.pg_replica.specs.Replica.{with_link, with_unlink}
-use Rattle.pg_replica.specs.Replicas.{lists_peer, or_nothing, put_replica, replicas_linked, replicas_unlinked, takes_link}
-use Rattle.pg_store.specs.declared.store.Store.{Store}
-use Rattle.pg_store.specs.Links.{keys, link, unlink}
-use Rattle.pg_store.specs.Store.{content_of, replica_at, with_drawn, with_names}
+use Rattle.pg_cells.specs.pg_names.Names.{NamesValue, cell_at as entry_at, fill, is_held, or_blank, own_or_blank}
+use Rattle.pg_cells.proofs.pg_names.Holding.{fill_cells, fill_own}
+use Rattle.pg_cells.specs.pg_replica.declared.replica.Replica.{Replica}
+use Rattle.pg_cells.specs.pg_replica.Replica.{with_link, with_unlink}
+use Rattle.pg_cells.specs.pg_replica.Replicas.{lists_peer, or_nothing, put_replica, replicas_linked, replicas_unlinked, takes_link}
+use Rattle.pg_cells.specs.pg_store.declared.store.Store.{Store}
+use Rattle.pg_cells.specs.pg_store.Links.{keys, link, unlink}
+use Rattle.pg_cells.specs.pg_store.Store.{content_of, replica_at, with_drawn, with_names}
 use Rattle.theory_flood_pieces.specs.Laws.{AreAlike}
 use Rattle.theory_flood_pieces.specs.Seen.{seen, standing}
 use Rattle.theory_flood_pieces.proofs.AllKeys.{keys_seen}

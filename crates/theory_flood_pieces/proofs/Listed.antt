@@ -5,7 +5,7 @@ use Rattle.std.proofs.lemmas.Bool.Decides.{nat_tests}
 use Rattle.pg_edges.specs.declared.key.Key.{Key}
 use Rattle.pg_edges.specs.Edges.{is_listed, keys_at, keys_if_born, put_edge}
 use Rattle.pg_edges.proofs.Lookups.{puts}
-use Rattle.pg_replica.specs.Root.{clean_edge, clean_edges}
+use Rattle.pg_cells.specs.pg_replica.Root.{clean_edge, clean_edges}
 
 less : (m j k : ℕ) → j ≡ suc k → m ≤ j → (m == j) ≡ false → m ≤ k
 less m j k is le other = grind (arith, nat_tests)

@@ -7,11 +7,11 @@ use Rattle.pg_base.specs.Stamp.{is_before}
 use Rattle.pg_base.proofs.Orders.{is_same_file-true}
 use Rattle.pg_entries.specs.declared.entry.Entry.{Entry}
 use Rattle.pg_entries.specs.Entry.{joined_to}
-use Rattle.pg_house.specs.Facts.{IsLast}
-use Rattle.pg_names.specs.declared.attributes.Attributes.{Attributes}
-use Rattle.pg_names.specs.Names.{NamesValue, begin, cell_at, fill, filled, is_dir, known, new_held, own_of, join_entry, join_flag, join_place, own_at, raise, with_flag, with_joined, with_place}
-use Rattle.pg_names.proofs.Holding.{begun_cells, begun_known, fill_cells, fill_own}
-use Rattle.pg_names.proofs.Lookups.{flag_cell, joined_own, joined_same, own_with_flag, own_with_place, place_cell, update_frame}
+use Rattle.pg_cells.specs.pg_house.Facts.{IsLast}
+use Rattle.pg_cells.specs.pg_names.declared.attributes.Attributes.{Attributes}
+use Rattle.pg_cells.specs.pg_names.Names.{NamesValue, begin, cell_at, fill, filled, is_dir, known, new_held, own_of, join_entry, join_flag, join_place, own_at, raise, with_flag, with_joined, with_place}
+use Rattle.pg_cells.proofs.pg_names.Holding.{begun_cells, begun_known, fill_cells, fill_own}
+use Rattle.pg_cells.proofs.pg_names.Lookups.{flag_cell, joined_own, joined_same, own_with_flag, own_with_place, place_cell, update_frame}
 use Rattle.pg_register.specs.declared.flag.Flag.{Flag}
 use Rattle.pg_register.specs.declared.place.Place.{Place}
 use Rattle.pg_register.specs.Flag.{IsByServer}

@@ -11,28 +11,28 @@ use Rattle.pg_register.specs.declared.flag.Flag.{Flag}
 use Rattle.pg_register.specs.declared.place.Place.{Place}
 use Rattle.pg_register.specs.Place.{root, tilde_name}
 use Rattle.pg_entries.specs.declared.entry.Entry.{Entry}
-use Rattle.pg_names.specs.declared.attributes.Attributes.{Attributes}
-use Rattle.pg_names.specs.Names.{NamesValue, cell_at, directories, known, own_at, with_last, with_own}
-use Rattle.pg_names.proofs.Lookups.{own_cell, own_other, own_same, update_frame}
-use Rattle.pg_house.specs.Work.{State}
-use Rattle.pg_house.specs.Passing.{cell_for, greatest, is_cell, is_held_back, joined_with, own_taken, pass, pass_all, pass_own}
-use Rattle.pg_house.specs.Placing.{drawn, flags_of, live_place, made_at, own_with, place_at, placed}
-use Rattle.pg_house.specs.Returning.{first_returning, is_returning, return_first, returned}
-use Rattle.pg_house.specs.Cycles.{break_first, first_moving, moved}
-use Rattle.pg_house.specs.House.{house, movable}
-use Rattle.pg_house.specs.Facts.{AreByServer, IsHeld, IsLast, IsOfDirs, is_among}
-use Rattle.pg_house.proofs.AfterPassing.{After, AreDirs, after_all, after_child, after_frame, after_gives, after_other, after_own}
-use Rattle.pg_house.proofs.AllClimb.{IsDeep, member_deep, moving_member}
-use Rattle.pg_house.proofs.AllReturned.{returning_by}
-use Rattle.pg_house.proofs.Counting.{find_found}
-use Rattle.pg_house.proofs.Ends.{first_dirs, one_last, one_settled}
-use Rattle.pg_house.proofs.Greatest.{cell_held}
-use Rattle.pg_house.proofs.NoCycles.{inner_parts, some_dirs}
-use Rattle.pg_house.proofs.Passes.{one_pass}
-use Rattle.pg_house.proofs.Placed.{Settled, made_dirs, placed_is_last, placed_settled}
-use Rattle.pg_house.proofs.Repeating.{repeated_keeps}
-use Rattle.pg_house.proofs.Truths.{or_cases}
-use Rattle.pg_house.proofs.Lasting.{drawn_late}
+use Rattle.pg_cells.specs.pg_names.declared.attributes.Attributes.{Attributes}
+use Rattle.pg_cells.specs.pg_names.Names.{NamesValue, cell_at, directories, known, own_at, with_last, with_own}
+use Rattle.pg_cells.proofs.pg_names.Lookups.{own_cell, own_other, own_same, update_frame}
+use Rattle.pg_cells.specs.pg_house.Work.{State}
+use Rattle.pg_cells.specs.pg_house.Passing.{cell_for, greatest, is_cell, is_held_back, joined_with, own_taken, pass, pass_all, pass_own}
+use Rattle.pg_cells.specs.pg_house.Placing.{drawn, flags_of, live_place, made_at, own_with, place_at, placed}
+use Rattle.pg_cells.specs.pg_house.Returning.{first_returning, is_returning, return_first, returned}
+use Rattle.pg_cells.specs.pg_house.Cycles.{break_first, first_moving, moved}
+use Rattle.pg_cells.specs.pg_house.House.{house, movable}
+use Rattle.pg_cells.specs.pg_house.Facts.{AreByServer, IsHeld, IsLast, IsOfDirs, is_among}
+use Rattle.pg_cells.proofs.pg_house.AfterPassing.{After, AreDirs, after_all, after_child, after_frame, after_gives, after_other, after_own}
+use Rattle.pg_cells.proofs.pg_house.AllClimb.{IsDeep, member_deep, moving_member}
+use Rattle.pg_cells.proofs.pg_house.AllReturned.{returning_by}
+use Rattle.pg_cells.proofs.pg_house.Counting.{find_found}
+use Rattle.pg_cells.proofs.pg_house.Ends.{first_dirs, one_last, one_settled}
+use Rattle.pg_cells.proofs.pg_house.Greatest.{cell_held}
+use Rattle.pg_cells.proofs.pg_house.NoCycles.{inner_parts, some_dirs}
+use Rattle.pg_cells.proofs.pg_house.Passes.{one_pass}
+use Rattle.pg_cells.proofs.pg_house.Placed.{Settled, made_dirs, placed_is_last, placed_settled}
+use Rattle.pg_cells.proofs.pg_house.Repeating.{repeated_keeps}
+use Rattle.pg_cells.proofs.pg_house.Truths.{or_cases}
+use Rattle.pg_cells.proofs.pg_house.Lasting.{drawn_late}
 use Rattle.theory_flood_pieces.specs.Names.{AreNamesUpTo, IsEntryKnownBy}
 use Rattle.theory_flood_pieces.specs.UpTo.{AreFlagsUpTo, IsPlaceUpTo}
 use Rattle.theory_flood_pieces.specs.Whole.{AreByChild}

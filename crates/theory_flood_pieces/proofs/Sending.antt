@@ -19,22 +19,22 @@ use Rattle.theory_flood.proofs.Steps.{AllMay, HasSoundTags, May}
 use Rattle.pg_entries.specs.declared.cell.Cell.{Cell}
 use Rattle.pg_entries.specs.declared.cell.Cell.TheVariants as cell
 use Rattle.pg_entries.specs.declared.entry.Entry.{Entry}
-use Rattle.pg_msg.specs.declared.message.Ends.{Ends}
-use Rattle.pg_msg.specs.declared.message.Message.{Message}
-use Rattle.pg_msg.specs.declared.message.Message.TheVariants as message
-use Rattle.pg_msg.specs.declared.message.Sent.{Sent}
-use Rattle.pg_msg.specs.declared.work.Work.{Work}
-use Rattle.pg_msg.specs.Sent.{cell_key}
-use Rattle.pg_names.specs.Names.{cell_at as entry_at, own_or_blank}
+use Rattle.pg_cells.specs.pg_msg.declared.message.Ends.{Ends}
+use Rattle.pg_cells.specs.pg_msg.declared.message.Message.{Message}
+use Rattle.pg_cells.specs.pg_msg.declared.message.Message.TheVariants as message
+use Rattle.pg_cells.specs.pg_msg.declared.message.Sent.{Sent}
+use Rattle.pg_cells.specs.pg_msg.declared.work.Work.{Work}
+use Rattle.pg_cells.specs.pg_msg.Sent.{cell_key}
+use Rattle.pg_cells.specs.pg_names.Names.{cell_at as entry_at, own_or_blank}
 use Rattle.pg_register.specs.declared.flag.Flag.{Flag}
 use Rattle.pg_register.specs.Flag.{flag_of}
 use Rattle.pg_base.specs.Version.{VersionValue}
-use Rattle.pg_replica.specs.declared.replica.Replica.{Replica}
-use Rattle.pg_replica.specs.Replica.{cell_at as head_at}
-use Rattle.pg_replica.proofs.Growth.{cell_head}
-use Rattle.pg_store.specs.declared.store.Store.{Store}
-use Rattle.pg_store.specs.Cells.{cell_at, entry_cell, flag_cell, is_sure, version_cell}
-use Rattle.pg_store.specs.Store.{content_of, replica_at}
+use Rattle.pg_cells.specs.pg_replica.declared.replica.Replica.{Replica}
+use Rattle.pg_cells.specs.pg_replica.Replica.{cell_at as head_at}
+use Rattle.pg_cells.proofs.pg_replica.Growth.{cell_head}
+use Rattle.pg_cells.specs.pg_store.declared.store.Store.{Store}
+use Rattle.pg_cells.specs.pg_store.Cells.{cell_at, entry_cell, flag_cell, is_sure, version_cell}
+use Rattle.pg_cells.specs.pg_store.Store.{content_of, replica_at}
 use Rattle.pg_cells.specs.pg_pieces.Posting.{sent_to}
 use Rattle.pg_cells.specs.Finish.{finish}
 use Rattle.pg_cells.specs.Sending.{Wanted, cell_to, cell_under, cells_where, edge_cells, is_any, is_chosen, key_cell, replica_cells, told_as, waits}

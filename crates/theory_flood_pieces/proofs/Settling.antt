@@ -3,19 +3,19 @@ use Rattle.std.proofs.Common.{ℕ, ◌≡◌, true, false, List, [], ◌∷◌, 
 use Rattle.pg_base.specs.declared.id.FileId.{FileId}
 use Rattle.pg_edges.specs.declared.key.Key.TheVariants as key
 use Rattle.theory_flood.proofs.Steps.{Steps, Steps-refl, Steps-trans}
-use Rattle.pg_msg.specs.declared.update.Update.{Update}
-use Rattle.pg_msg.specs.declared.update.Update.TheVariants as update
-use Rattle.pg_msg.specs.declared.work.Touched.{Touched}
-use Rattle.pg_msg.specs.declared.work.Work.{Work}
-use Rattle.pg_names.specs.declared.attributes.Attributes.{Attributes}
-use Rattle.pg_names.specs.Names.{InodeValue, NamesValue, is_held, known, own_at, own_of}
-use Rattle.pg_house.specs.House.{house}
-use Rattle.pg_house.proofs.Ends as ends
-use Rattle.pg_house.proofs.Keys.{rules_keys}
-use Rattle.pg_house.specs.Work.{state_of}
-use Rattle.pg_store.specs.declared.store.Store.{Store}
-use Rattle.pg_store.specs.Births.{birth_of}
-use Rattle.pg_store.specs.Store.{is_newer_flag, with_names}
+use Rattle.pg_cells.specs.pg_msg.declared.update.Update.{Update}
+use Rattle.pg_cells.specs.pg_msg.declared.update.Update.TheVariants as update
+use Rattle.pg_cells.specs.pg_msg.declared.work.Touched.{Touched}
+use Rattle.pg_cells.specs.pg_msg.declared.work.Work.{Work}
+use Rattle.pg_cells.specs.pg_names.declared.attributes.Attributes.{Attributes}
+use Rattle.pg_cells.specs.pg_names.Names.{InodeValue, NamesValue, is_held, known, own_at, own_of}
+use Rattle.pg_cells.specs.pg_house.House.{house}
+use Rattle.pg_cells.proofs.pg_house.Ends as ends
+use Rattle.pg_cells.proofs.pg_house.Keys.{rules_keys}
+use Rattle.pg_cells.specs.pg_house.Work.{state_of}
+use Rattle.pg_cells.specs.pg_store.declared.store.Store.{Store}
+use Rattle.pg_cells.specs.pg_store.Births.{birth_of}
+use Rattle.pg_cells.specs.pg_store.Store.{is_newer_flag, with_names}
 use Rattle.pg_cells.specs.pg_pieces.Golds.{is_goldless, is_goldless_held}
 use Rattle.pg_cells.specs.pg_pieces.Making.{own_next, raise_flag}
 use Rattle.pg_cells.specs.Settling.{rules, settle, touch_all}

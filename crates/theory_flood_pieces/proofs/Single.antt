@@ -8,9 +8,9 @@ use Rattle.theory_flood.specs.Server.{Slot, HoldsAll, tag_on}
 use Rattle.theory_flood.proofs.Bulk.{Goes, GoesIf, bulk_steps}
 use Rattle.theory_flood.proofs.Draws.{Draws}
 use Rattle.theory_flood.proofs.Steps.{Steps, fewer_tags}
-use Rattle.pg_replica.specs.declared.replica.Replica.{Replica}
-use Rattle.pg_store.specs.declared.store.Store.{Store}
-use Rattle.pg_store.specs.Store.{replica_at}
+use Rattle.pg_cells.specs.pg_replica.declared.replica.Replica.{Replica}
+use Rattle.pg_cells.specs.pg_store.declared.store.Store.{Store}
+use Rattle.pg_cells.specs.pg_store.Store.{replica_at}
 use Rattle.theory_flood_pieces.specs.Seen.{seen, standing}
 use Rattle.theory_flood_pieces.specs.UpTo.{IsUpTo}
 use Rattle.theory_flood_pieces.proofs.Growth.{SameNames}

@@ -20,19 +20,19 @@ use Rattle.theory_flood.proofs.Steps.{HasSoundTags}
 use Rattle.theory_flood.proofs.Worlds.{clean_server, start_keeps}
 use Rattle.pg_entries.specs.declared.cell.Cell.{Cell}
 use Rattle.pg_entries.specs.declared.entry.Entry.{Entry}
-use Rattle.pg_names.specs.declared.attributes.Attributes.{Attributes}
-use Rattle.pg_names.specs.Names.{InodeValue, cell_at as entry_at, entry_in, own_at, own_of}
+use Rattle.pg_cells.specs.pg_names.declared.attributes.Attributes.{Attributes}
+use Rattle.pg_cells.specs.pg_names.Names.{InodeValue, cell_at as entry_at, entry_in, own_at, own_of}
 use Rattle.pg_register.specs.Flag.{IsByServer}
 use Rattle.pg_register.specs.Place.{root}
 use Rattle.pg_register.proofs.ByServer.{IsByServer-join_flag, IsByServer-nil}
-use Rattle.pg_replica.specs.declared.replica.Replica.{Replica}
-use Rattle.pg_replica.specs.Replica.{cell_at as head_at}
-use Rattle.pg_replica.specs.Replicas.{or_nothing}
-use Rattle.pg_replica.specs.Root.{clean_edge, clean_edges, first_root}
-use Rattle.pg_store.specs.Cells.{version_cell}
-use Rattle.pg_store.specs.Start.{first_flag, first_flags, first_names, root_own}
-use Rattle.pg_store.specs.Store.{new_store}
-use Rattle.pg_store.proofs.Pairs.{start_together}
+use Rattle.pg_cells.specs.pg_replica.declared.replica.Replica.{Replica}
+use Rattle.pg_cells.specs.pg_replica.Replica.{cell_at as head_at}
+use Rattle.pg_cells.specs.pg_replica.Replicas.{or_nothing}
+use Rattle.pg_cells.specs.pg_replica.Root.{clean_edge, clean_edges, first_root}
+use Rattle.pg_cells.specs.pg_store.Cells.{version_cell}
+use Rattle.pg_cells.specs.pg_store.Start.{first_flag, first_flags, first_names, root_own}
+use Rattle.pg_cells.specs.pg_store.Store.{new_store}
+use Rattle.pg_cells.proofs.pg_store.Pairs.{start_together}
 use Rattle.theory_flood_pieces.specs.Seen.{cells, plain, seen}
 use Rattle.theory_flood_pieces.specs.Whole.{AreOrderly, IsWhole}
 use Rattle.theory_flood_pieces.proofs.Graphs.{clean_are, new_clean}

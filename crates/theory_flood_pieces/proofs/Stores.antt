@@ -18,16 +18,16 @@ use Rattle.pg_content.specs.Content.{ContentValue}
 use Rattle.pg_entries.specs.declared.cell.Cell.{Cell}
 use Rattle.pg_entries.specs.declared.cell.Cell.TheVariants as cell
 use Rattle.pg_entries.specs.declared.entry.Entry.{Entry}
-use Rattle.pg_msg.specs.declared.message.Sent.{Sent}
-use Rattle.pg_names.specs.declared.attributes.Attributes.{Attributes}
-use Rattle.pg_names.specs.Names.{cell_at as entry_at, own_or_blank}
+use Rattle.pg_cells.specs.pg_msg.declared.message.Sent.{Sent}
+use Rattle.pg_cells.specs.pg_names.declared.attributes.Attributes.{Attributes}
+use Rattle.pg_cells.specs.pg_names.Names.{cell_at as entry_at, own_or_blank}
 use Rattle.pg_register.specs.Flag.{flag_of}
-use Rattle.pg_replica.specs.declared.replica.Replica.{Replica}
-use Rattle.pg_replica.specs.Replica.{cell_at as head_at}
-use Rattle.pg_replica.specs.Replicas.{or_nothing, put_replica}
-use Rattle.pg_store.specs.declared.store.Store.{Store}
-use Rattle.pg_store.specs.Cells.{cell_at, entry_cell, flag_cell, is_sure, version_cell}
-use Rattle.pg_store.specs.Store.{content_of, replica_at}
+use Rattle.pg_cells.specs.pg_replica.declared.replica.Replica.{Replica}
+use Rattle.pg_cells.specs.pg_replica.Replica.{cell_at as head_at}
+use Rattle.pg_cells.specs.pg_replica.Replicas.{or_nothing, put_replica}
+use Rattle.pg_cells.specs.pg_store.declared.store.Store.{Store}
+use Rattle.pg_cells.specs.pg_store.Cells.{cell_at, entry_cell, flag_cell, is_sure, version_cell}
+use Rattle.pg_cells.specs.pg_store.Store.{content_of, replica_at}
 use Rattle.theory_flood_pieces.specs.Seen.{plain, says, seen, standing}
 use Rattle.theory_flood_pieces.specs.UpTo.{IsUpTo}
 use Rattle.theory_flood_pieces.proofs.UpTo.{cell_itself, cell_further}

@@ -13,18 +13,18 @@ use Rattle.pg_entries.specs.declared.cell.Cell.{Cell}
 use Rattle.pg_entries.specs.declared.cell.Cell.TheVariants as cell
 use Rattle.pg_entries.specs.declared.entry.Entry.{Entry}
 use Rattle.pg_entries.specs.Entry.{brings, joined_to}
-use Rattle.pg_msg.specs.declared.work.Touched.{Touched}
-use Rattle.pg_names.specs.declared.attributes.Attributes.{Attributes}
-use Rattle.pg_names.specs.Names.{InodeValue, NamesValue, cell_at as entry_at, entry_in, is_entry_new, is_flag_new, is_place_new, join_entry, join_flag, join_place, known, or_blank, own_at, own_of, own_or_blank, raise}
-use Rattle.pg_names.proofs.Lookups.{flag_same, joined_same, own_with_flag, own_with_place, place_same, update_frame}
-use Rattle.pg_names.specs.Names.{with_flag, with_joined, with_place}
+use Rattle.pg_cells.specs.pg_msg.declared.work.Touched.{Touched}
+use Rattle.pg_cells.specs.pg_names.declared.attributes.Attributes.{Attributes}
+use Rattle.pg_cells.specs.pg_names.Names.{InodeValue, NamesValue, cell_at as entry_at, entry_in, is_entry_new, is_flag_new, is_place_new, join_entry, join_flag, join_place, known, or_blank, own_at, own_of, own_or_blank, raise}
+use Rattle.pg_cells.proofs.pg_names.Lookups.{flag_same, joined_same, own_with_flag, own_with_place, place_same, update_frame}
+use Rattle.pg_cells.specs.pg_names.Names.{with_flag, with_joined, with_place}
 use Rattle.pg_register.specs.declared.flag.Flag.{Flag}
 use Rattle.pg_register.specs.declared.place.Place.{Place}
 use Rattle.pg_register.specs.Flag as flags
 use Rattle.pg_register.specs.Flag.{flag_of}
-use Rattle.pg_store.specs.declared.store.Store.{Store}
-use Rattle.pg_store.specs.Cells.{cell_at, entry_cell, flag_cell, is_sure}
-use Rattle.pg_store.specs.Store.{is_newer_entry, is_newer_flag, is_newer_place, put_entry, put_flag, put_place, take_entry, take_flag, take_place, touch, with_names}
+use Rattle.pg_cells.specs.pg_store.declared.store.Store.{Store}
+use Rattle.pg_cells.specs.pg_store.Cells.{cell_at, entry_cell, flag_cell, is_sure}
+use Rattle.pg_cells.specs.pg_store.Store.{is_newer_entry, is_newer_flag, is_newer_place, put_entry, put_flag, put_place, take_entry, take_flag, take_place, touch, with_names}
 use Rattle.theory_flood_pieces.specs.Names.{AreNamesUpTo, IsEntryKnownBy, IsToldBy}
 use Rattle.theory_flood_pieces.specs.Seen.{standing}
 use Rattle.theory_flood_pieces.specs.UpTo.{IsFlagKnownBy, IsPlaceUpTo, IsUpTo}

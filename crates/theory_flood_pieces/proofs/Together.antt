@@ -2,15 +2,15 @@
 use Rattle.std.proofs.Common.{◌≡◌, Bool, true, false, Option, None, Some, is_some, refl, sym, ap, subst, ◌∙◌}
 use Rattle.std.specs.Map.{keys_of}
 use Rattle.pg_base.specs.declared.id.FileId.{FileId}
-use Rattle.pg_names.specs.declared.attributes.Attributes.{Attributes}
-use Rattle.pg_names.specs.Names.{InodeValue, NamesValue, is_held, known, own_at, own_of}
-use Rattle.pg_house.specs.Facts.{is_among}
-use Rattle.pg_house.proofs.Ends.{key_of_held}
-use Rattle.pg_house.proofs.Settling.{key_found}
-use Rattle.pg_replica.specs.declared.replica.Replica.{Replica}
-use Rattle.pg_store.specs.declared.store.Store.{Store}
-use Rattle.pg_store.specs.Store.{replica_at}
-use Rattle.pg_store.specs.Together.{AreTogether}
+use Rattle.pg_cells.specs.pg_names.declared.attributes.Attributes.{Attributes}
+use Rattle.pg_cells.specs.pg_names.Names.{InodeValue, NamesValue, is_held, known, own_at, own_of}
+use Rattle.pg_cells.specs.pg_house.Facts.{is_among}
+use Rattle.pg_cells.proofs.pg_house.Ends.{key_of_held}
+use Rattle.pg_cells.proofs.pg_house.Settling.{key_found}
+use Rattle.pg_cells.specs.pg_replica.declared.replica.Replica.{Replica}
+use Rattle.pg_cells.specs.pg_store.declared.store.Store.{Store}
+use Rattle.pg_cells.specs.pg_store.Store.{replica_at}
+use Rattle.pg_cells.specs.pg_store.Together.{AreTogether}
 
 -- ---- what is held has an own place and flags
 

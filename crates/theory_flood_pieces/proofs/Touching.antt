@@ -14,17 +14,17 @@ use Rattle.theory_flood.proofs.Touch.{touch_draws}
 use Rattle.pg_entries.specs.declared.cell.Cell.{Cell}
 use Rattle.pg_entries.specs.declared.cell.Cell.TheVariants as cell
 use Rattle.pg_entries.specs.declared.entry.Entry.{Entry}
-use Rattle.pg_house.specs.Facts.{IsIn}
-use Rattle.pg_msg.specs.declared.work.Touched.{Touched}
-use Rattle.pg_names.specs.Names.{NamesValue, cell_at as entry_at, own_or_blank}
+use Rattle.pg_cells.specs.pg_house.Facts.{IsIn}
+use Rattle.pg_cells.specs.pg_msg.declared.work.Touched.{Touched}
+use Rattle.pg_cells.specs.pg_names.Names.{NamesValue, cell_at as entry_at, own_or_blank}
 use Rattle.pg_register.specs.declared.flag.Flag.{Flag}
 use Rattle.pg_register.specs.Flag.{flag_of}
-use Rattle.pg_replica.specs.declared.replica.Replica.{Replica}
-use Rattle.pg_replica.specs.Replica.{with_touch}
-use Rattle.pg_replica.specs.Replicas.{edge_count, replicas_touched}
-use Rattle.pg_store.specs.declared.store.Store.{Store}
-use Rattle.pg_store.specs.Cells.{flag_cell}
-use Rattle.pg_store.specs.Store.{content_of, replica_at, touch, with_drawn, with_names}
+use Rattle.pg_cells.specs.pg_replica.declared.replica.Replica.{Replica}
+use Rattle.pg_cells.specs.pg_replica.Replica.{with_touch}
+use Rattle.pg_cells.specs.pg_replica.Replicas.{edge_count, replicas_touched}
+use Rattle.pg_cells.specs.pg_store.declared.store.Store.{Store}
+use Rattle.pg_cells.specs.pg_store.Cells.{flag_cell}
+use Rattle.pg_cells.specs.pg_store.Store.{content_of, replica_at, touch, with_drawn, with_names}
 use Rattle.pg_cells.specs.Settling.{touch_all}
 use Rattle.theory_flood_pieces.specs.Names.{AreNamesUpTo, IsEntryKnownBy, IsToldBy}
 use Rattle.theory_flood_pieces.specs.Seen.{plain, seen, standing}

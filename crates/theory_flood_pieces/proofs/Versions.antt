@@ -27,18 +27,18 @@ use Rattle.theory_flood.proofs.Servers.{some_same}
 use Rattle.theory_flood.proofs.Steps.{Steps, Steps-refl}
 use Rattle.pg_entries.specs.declared.cell.Cell.{Cell}
 use Rattle.pg_entries.specs.declared.cell.Cell.TheVariants as cell
-use Rattle.pg_names.specs.declared.attributes.Attributes.{Attributes}
+use Rattle.pg_cells.specs.pg_names.declared.attributes.Attributes.{Attributes}
 use Rattle.pg_register.specs.Flag.{flag_of}
-use Rattle.pg_replica.specs.declared.replica.Replica.{Replica}
-use Rattle.pg_replica.specs.Replica.{cell_at as head_at, covered_heads, covers, key_of, keys, own_actor, with_head, with_write, without_keys}
-use Rattle.pg_replica.proofs.Drawn.{seen as heads_seen, version_draws, write_draws}
-use Rattle.pg_replica.proofs.Growth.{CanTake, CoversItself, cell_head, head_at as head_found}
-use Rattle.pg_replica.proofs.Order.{version_order, write_order}
-use Rattle.pg_store.specs.declared.store.Store.{Store}
-use Rattle.pg_names.specs.Names.{raise}
-use Rattle.pg_replica.specs.Replicas.{ByFile, edge_count, or_nothing, put_replica, replicas_taking, replicas_writing, takes_version}
-use Rattle.pg_store.specs.Cells.{cell_at, flag_cell, version_cell}
-use Rattle.pg_store.specs.Store.{content_of, end_covered, replica_at, take_version, with_drawn, with_names, write}
+use Rattle.pg_cells.specs.pg_replica.declared.replica.Replica.{Replica}
+use Rattle.pg_cells.specs.pg_replica.Replica.{cell_at as head_at, covered_heads, covers, key_of, keys, own_actor, with_head, with_write, without_keys}
+use Rattle.pg_cells.proofs.pg_replica.Drawn.{seen as heads_seen, version_draws, write_draws}
+use Rattle.pg_cells.proofs.pg_replica.Growth.{CanTake, CoversItself, cell_head, head_at as head_found}
+use Rattle.pg_cells.proofs.pg_replica.Order.{version_order, write_order}
+use Rattle.pg_cells.specs.pg_store.declared.store.Store.{Store}
+use Rattle.pg_cells.specs.pg_names.Names.{raise}
+use Rattle.pg_cells.specs.pg_replica.Replicas.{ByFile, edge_count, or_nothing, put_replica, replicas_taking, replicas_writing, takes_version}
+use Rattle.pg_cells.specs.pg_store.Cells.{cell_at, flag_cell, version_cell}
+use Rattle.pg_cells.specs.pg_store.Store.{content_of, end_covered, replica_at, take_version, with_drawn, with_names, write}
 use Rattle.theory_flood_pieces.specs.Histories.{IsOfHistory}
 use Rattle.theory_flood_pieces.specs.Seen.{head_cell, plain, seen, standing}
 use Rattle.theory_flood_pieces.specs.UpTo.{IsUpTo}

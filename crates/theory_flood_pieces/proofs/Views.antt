@@ -4,16 +4,16 @@ use Rattle.std.proofs.Common.{ℕ, ◌≡◌, Bool, true, false, cond, List, [],
 use Rattle.std.specs.Map.{keys_of}
 use Rattle.pg_base.specs.declared.id.FileId.{FileId}
 use Rattle.theory_flood.proofs.Steps.{Steps, Steps-refl, Steps-trans}
-use Rattle.pg_intent.specs.declared.key.IntentKey.{IntentKey}
-use Rattle.pg_intent.specs.Intents.{aimed, ended, keys_to, turned, turned_each}
-use Rattle.pg_intent.specs.Key.{is_for_peer}
-use Rattle.pg_names.specs.Names.{remove_server}
-use Rattle.pg_store.specs.declared.store.Store.{Store}
-use Rattle.pg_store.specs.Beginning.{with_intents}
-use Rattle.pg_store.specs.Links.{unlink}
-use Rattle.pg_store.specs.Servers.{next_target}
-use Rattle.pg_store.specs.Store.{with_names}
-use Rattle.pg_store.specs.Views.{cut, cut_born, cut_each, enter, listed_birth, turn, with_removed}
+use Rattle.pg_cells.specs.pg_intent.declared.key.IntentKey.{IntentKey}
+use Rattle.pg_cells.specs.pg_intent.Intents.{aimed, ended, keys_to, turned, turned_each}
+use Rattle.pg_cells.specs.pg_intent.Key.{is_for_peer}
+use Rattle.pg_cells.specs.pg_names.Names.{remove_server}
+use Rattle.pg_cells.specs.pg_store.declared.store.Store.{Store}
+use Rattle.pg_cells.specs.pg_store.Beginning.{with_intents}
+use Rattle.pg_cells.specs.pg_store.Links.{unlink}
+use Rattle.pg_cells.specs.pg_store.Servers.{next_target}
+use Rattle.pg_cells.specs.pg_store.Store.{with_names}
+use Rattle.pg_cells.specs.pg_store.Views.{cut, cut_born, cut_each, enter, listed_birth, turn, with_removed}
 use Rattle.theory_flood_pieces.specs.Laws.{AreAlike}
 use Rattle.theory_flood_pieces.specs.Seen.{standing}
 use Rattle.theory_flood_pieces.specs.Whole.{AreOrderly, IsWhole, PatchesAreForDirs}

@@ -13,23 +13,23 @@ use Rattle.pg_patch.specs.Ranges.{RangesValue}
 use Rattle.pg_edges.specs.declared.key.Key.{Key}
 use Rattle.pg_edges.specs.declared.key.Key.TheVariants as key
 use Rattle.pg_entries.specs.declared.entry.Entry.{Entry}
-use Rattle.pg_msg.specs.declared.work.Touched.{Touched}
-use Rattle.pg_names.specs.declared.attributes.Attributes.{Attributes}
-use Rattle.pg_names.specs.Names.{InodeValue, NamesValue, is_dir, is_entry_new, is_flag_new, is_held, is_place_new, known, own_at, own_of, with_flag, with_joined, with_place}
-use Rattle.pg_names.proofs.Lookups.{update_frame}
+use Rattle.pg_cells.specs.pg_msg.declared.work.Touched.{Touched}
+use Rattle.pg_cells.specs.pg_names.declared.attributes.Attributes.{Attributes}
+use Rattle.pg_cells.specs.pg_names.Names.{InodeValue, NamesValue, is_dir, is_entry_new, is_flag_new, is_held, is_place_new, known, own_at, own_of, with_flag, with_joined, with_place}
+use Rattle.pg_cells.proofs.pg_names.Lookups.{update_frame}
 use Rattle.pg_register.specs.declared.flag.Flag.{Flag}
 use Rattle.pg_register.specs.declared.place.Place.{Place}
-use Rattle.pg_replica.specs.declared.link.Link.{Link}
-use Rattle.pg_replica.specs.declared.replica.Replica.{Replica}
+use Rattle.pg_cells.specs.pg_replica.declared.link.Link.{Link}
+use Rattle.pg_cells.specs.pg_replica.declared.replica.Replica.{Replica}
 use Rattle.pg_edges.specs.Edges.{touched}
-use Rattle.pg_replica.specs.Replica.{covered_heads, has_edge, keys, key_of, with_ack, without_keys}
-use Rattle.pg_replica.specs.Replicas.{ByFile, put_replica, replica_in, replicas_acked, replicas_linked, replicas_taking, replicas_touched, replicas_unlinked, replicas_writing}
-use Rattle.pg_store.specs.declared.store.Store.{Store}
-use Rattle.pg_store.specs.Links.{is_linked, is_new_link, link, put_link, unlink}
-use Rattle.pg_store.specs.Links as links
-use Rattle.pg_store.specs.Store.{acknowledge, is_new_version, is_newer_entry, is_newer_flag, is_newer_place, put_entry, put_flag, put_place, put_version, replica_at, take_entry, take_flag, take_place, take_version, touch, with_names, write}
-use Rattle.pg_store.specs.Together.{AreTogether}
-use Rattle.pg_store.proofs.Pairs.{acknowledge_as_before, entry_as_before, flag_as_before, link_as_before, place_as_before, together_as_before, touch_as_before, unlink_as_before, version_as_before, write_as_before}
+use Rattle.pg_cells.specs.pg_replica.Replica.{covered_heads, has_edge, keys, key_of, with_ack, without_keys}
+use Rattle.pg_cells.specs.pg_replica.Replicas.{ByFile, put_replica, replica_in, replicas_acked, replicas_linked, replicas_taking, replicas_touched, replicas_unlinked, replicas_writing}
+use Rattle.pg_cells.specs.pg_store.declared.store.Store.{Store}
+use Rattle.pg_cells.specs.pg_store.Links.{is_linked, is_new_link, link, put_link, unlink}
+use Rattle.pg_cells.specs.pg_store.Links as links
+use Rattle.pg_cells.specs.pg_store.Store.{acknowledge, is_new_version, is_newer_entry, is_newer_flag, is_newer_place, put_entry, put_flag, put_place, put_version, replica_at, take_entry, take_flag, take_place, take_version, touch, with_names, write}
+use Rattle.pg_cells.specs.pg_store.Together.{AreTogether}
+use Rattle.pg_cells.proofs.pg_store.Pairs.{acknowledge_as_before, entry_as_before, flag_as_before, link_as_before, place_as_before, together_as_before, touch_as_before, unlink_as_before, version_as_before, write_as_before}
 use Rattle.pg_cells.specs.Settling.{touch_all}
 use Rattle.theory_flood_pieces.specs.Laws.{AreAlike}
 use Rattle.theory_flood_pieces.specs.Whole.{AreEdges, AreOrderly, IsOther, IsWhole, PatchesAreForDirs}

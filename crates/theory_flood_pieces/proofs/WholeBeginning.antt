@@ -9,21 +9,21 @@ use Rattle.pg_base.specs.declared.policy.Policy.{Policy}
 use Rattle.pg_base.specs.Id.{is_same_file}
 use Rattle.pg_base.proofs.Orders.{is_same_file-true}
 use Rattle.pg_entries.specs.declared.entry.Entry.{Entry}
-use Rattle.pg_intent.specs.declared.intent.Intent.{Intent}
-use Rattle.pg_intent.specs.declared.intent.Intent.TheVariants as intent
-use Rattle.pg_intent.specs.declared.key.IntentKey.{IntentKey}
-use Rattle.pg_intent.specs.declared.key.IntentKey.TheVariants as intent_key
-use Rattle.pg_intent.specs.Intents.{ended, has_key, intent_at}
-use Rattle.pg_names.specs.declared.attributes.Attributes.{Attributes}
-use Rattle.pg_names.specs.Names.{InodeValue, fill, filled, is_dir, known, own_of}
-use Rattle.pg_names.proofs.Holding.{fill_own}
-use Rattle.pg_names.proofs.Lookups.{update_frame}
+use Rattle.pg_cells.specs.pg_intent.declared.intent.Intent.{Intent}
+use Rattle.pg_cells.specs.pg_intent.declared.intent.Intent.TheVariants as intent
+use Rattle.pg_cells.specs.pg_intent.declared.key.IntentKey.{IntentKey}
+use Rattle.pg_cells.specs.pg_intent.declared.key.IntentKey.TheVariants as intent_key
+use Rattle.pg_cells.specs.pg_intent.Intents.{ended, has_key, intent_at}
+use Rattle.pg_cells.specs.pg_names.declared.attributes.Attributes.{Attributes}
+use Rattle.pg_cells.specs.pg_names.Names.{InodeValue, fill, filled, is_dir, known, own_of}
+use Rattle.pg_cells.proofs.pg_names.Holding.{fill_own}
+use Rattle.pg_cells.proofs.pg_names.Lookups.{update_frame}
 use Rattle.pg_register.specs.Flag.{IsByServer}
-use Rattle.pg_replica.specs.Replica.{new_replica}
-use Rattle.pg_store.specs.declared.store.Store.{Store}
-use Rattle.pg_store.specs.Beginning.{begin, patch_key, patches_of, put_new, take_patch, take_patches, take_told, take_told_in, with_intents}
-use Rattle.pg_store.specs.Store.{is_held, with_names}
-use Rattle.pg_store.proofs.Pairs.{new_together}
+use Rattle.pg_cells.specs.pg_replica.Replica.{new_replica}
+use Rattle.pg_cells.specs.pg_store.declared.store.Store.{Store}
+use Rattle.pg_cells.specs.pg_store.Beginning.{begin, patch_key, patches_of, put_new, take_patch, take_patches, take_told, take_told_in, with_intents}
+use Rattle.pg_cells.specs.pg_store.Store.{is_held, with_names}
+use Rattle.pg_cells.proofs.pg_store.Pairs.{new_together}
 use Rattle.theory_flood_pieces.specs.Whole.{IsWhole, PatchesAreForDirs}
 use Rattle.theory_flood_pieces.proofs.Beginning.{none_known}
 use Rattle.theory_flood_pieces.proofs.Graphs.{no_edges}

@@ -4,10 +4,10 @@ use Rattle.pg_base.specs.declared.id.FileId.{FileId}
 use Rattle.pg_edges.specs.declared.key.Key.{Key}
 use Rattle.pg_entries.specs.declared.cell.Cell.{Cell}
 use Rattle.theory_flood.specs.Server.{Holds}
-use Rattle.pg_names.specs.Names.{cell_at as entry_at, own_or_blank}
-use Rattle.pg_store.specs.declared.store.Store.{Store}
-use Rattle.pg_store.specs.Cells.{cell_at}
-use Rattle.pg_store.specs.Together.{IsOver, birth_at}
+use Rattle.pg_cells.specs.pg_names.Names.{cell_at as entry_at, own_or_blank}
+use Rattle.pg_cells.specs.pg_store.declared.store.Store.{Store}
+use Rattle.pg_cells.specs.pg_store.Cells.{cell_at}
+use Rattle.pg_cells.specs.pg_store.Together.{IsOver, birth_at}
 use Rattle.theory_flood_pieces.specs.Names.{IsEntryKnownBy}
 use Rattle.theory_flood_pieces.specs.UpTo.{AreFlagsUpTo, IsPlaceUpTo, IsUpTo}
 

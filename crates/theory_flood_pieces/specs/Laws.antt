@@ -16,24 +16,24 @@ use Rattle.theory_flood.proofs.Steps.{AllMay, HasSoundTags, Rule, Steps}
 use Rattle.pg_entries.specs.declared.cell.Cell.{Cell}
 use Rattle.pg_entries.specs.declared.cell.Cell.TheVariants as cell
 use Rattle.pg_entries.specs.declared.entry.Entry.{Entry}
-use Rattle.pg_msg.specs.declared.message.Ends.{Ends}
-use Rattle.pg_msg.specs.declared.message.Message.TheVariants as message
-use Rattle.pg_msg.specs.declared.message.Sent.{Sent}
-use Rattle.pg_msg.specs.declared.work.Touched.{Touched}
-use Rattle.pg_msg.specs.declared.work.Work.{Work}
-use Rattle.pg_names.specs.declared.attributes.Attributes.{Attributes}
-use Rattle.pg_names.specs.Names.{NamesValue, fill, is_dir}
+use Rattle.pg_cells.specs.pg_msg.declared.message.Ends.{Ends}
+use Rattle.pg_cells.specs.pg_msg.declared.message.Message.TheVariants as message
+use Rattle.pg_cells.specs.pg_msg.declared.message.Sent.{Sent}
+use Rattle.pg_cells.specs.pg_msg.declared.work.Touched.{Touched}
+use Rattle.pg_cells.specs.pg_msg.declared.work.Work.{Work}
+use Rattle.pg_cells.specs.pg_names.declared.attributes.Attributes.{Attributes}
+use Rattle.pg_cells.specs.pg_names.Names.{NamesValue, fill, is_dir}
 use Rattle.pg_register.specs.declared.flag.Flag.{Flag}
 use Rattle.pg_register.specs.declared.place.Place.{Place}
 use Rattle.pg_register.specs.Flag.{IsByServer}
-use Rattle.pg_store.specs.declared.store.Store.{Store}
-use Rattle.pg_store.specs.Beginning.{begin, let_go}
-use Rattle.pg_store.specs.Births.{is_over}
-use Rattle.pg_store.specs.Together.{BirthsMove, birth_at}
-use Rattle.pg_store.specs.Cells.{cell_at}
-use Rattle.pg_store.specs.Links.{keys, link, unlink}
-use Rattle.pg_store.specs.Store.{acknowledge, content_of, is_held, new_store, take_entry, take_flag, take_place, take_version, with_names, write}
-use Rattle.pg_store.specs.Views.{enter}
+use Rattle.pg_cells.specs.pg_store.declared.store.Store.{Store}
+use Rattle.pg_cells.specs.pg_store.Beginning.{begin, let_go}
+use Rattle.pg_cells.specs.pg_store.Births.{is_over}
+use Rattle.pg_cells.specs.pg_store.Together.{BirthsMove, birth_at}
+use Rattle.pg_cells.specs.pg_store.Cells.{cell_at}
+use Rattle.pg_cells.specs.pg_store.Links.{keys, link, unlink}
+use Rattle.pg_cells.specs.pg_store.Store.{acknowledge, content_of, is_held, new_store, take_entry, take_flag, take_place, take_version, with_names, write}
+use Rattle.pg_cells.specs.pg_store.Views.{enter}
 use Rattle.pg_cells.specs.pg_pieces.Done.{link_of}
 use Rattle.pg_cells.specs.Finish.{finish}
 use Rattle.pg_cells.specs.Settling.{settle, touch_all}

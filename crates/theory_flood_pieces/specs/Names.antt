@@ -3,9 +3,9 @@ use Rattle.std.specs.Prelude.{ℕ, ◌≡◌, ◌⊎◌, List, Option, None, Som
 use Rattle.pg_base.specs.declared.id.FileId.{FileId}
 use Rattle.pg_edges.specs.declared.key.Key.TheVariants as key
 use Rattle.pg_entries.specs.declared.entry.Entry.{Entry}
-use Rattle.pg_house.specs.Facts.{IsIn}
-use Rattle.pg_msg.specs.declared.work.Touched.{Touched}
-use Rattle.pg_names.specs.Names.{NamesValue, cell_at, own_or_blank}
+use Rattle.pg_cells.specs.pg_house.Facts.{IsIn}
+use Rattle.pg_cells.specs.pg_msg.declared.work.Touched.{Touched}
+use Rattle.pg_cells.specs.pg_names.Names.{NamesValue, cell_at, own_or_blank}
 use Rattle.pg_register.specs.Flag.{flag_of}
 use Rattle.theory_flood_pieces.specs.UpTo.{AreFlagsUpTo, IsEntryUpTo, IsPlaceUpTo}
 

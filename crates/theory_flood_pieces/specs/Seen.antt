@@ -11,15 +11,15 @@ use Rattle.theory_flood.specs.Protocol.{Protocol}
 use Rattle.theory_flood.specs.Server.{Replica as Seen, Server, Slot, slot}
 use Rattle.pg_entries.specs.declared.cell.Cell.{Cell}
 use Rattle.pg_entries.specs.declared.cell.Cell.TheVariants as cell
-use Rattle.pg_msg.specs.declared.message.Message.{Message}
-use Rattle.pg_msg.specs.declared.message.Message.TheVariants as message
-use Rattle.pg_msg.specs.declared.message.Sent.{Sent}
-use Rattle.pg_msg.specs.Sent.{cell_key}
-use Rattle.pg_replica.specs.declared.replica.Replica.{Replica}
-use Rattle.pg_store.specs.declared.store.Store.{Store}
-use Rattle.pg_store.specs.Births.{is_over}
-use Rattle.pg_store.specs.Cells.{cell_at}
-use Rattle.pg_store.specs.Store.{replica_at}
+use Rattle.pg_cells.specs.pg_msg.declared.message.Message.{Message}
+use Rattle.pg_cells.specs.pg_msg.declared.message.Message.TheVariants as message
+use Rattle.pg_cells.specs.pg_msg.declared.message.Sent.{Sent}
+use Rattle.pg_cells.specs.pg_msg.Sent.{cell_key}
+use Rattle.pg_cells.specs.pg_replica.declared.replica.Replica.{Replica}
+use Rattle.pg_cells.specs.pg_store.declared.store.Store.{Store}
+use Rattle.pg_cells.specs.pg_store.Births.{is_over}
+use Rattle.pg_cells.specs.pg_store.Cells.{cell_at}
+use Rattle.pg_cells.specs.pg_store.Store.{replica_at}
 use Rattle.theory_flood_pieces.specs.UpTo.{IsUpTo}
 
 -- a version by its head, without its body: whether one is up to another its vectors tell

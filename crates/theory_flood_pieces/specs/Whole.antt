@@ -9,12 +9,12 @@ use Rattle.pg_edges.specs.declared.edge.Edge.{Edge}
 use Rattle.pg_edges.specs.Edges.{AscendFrom, peers}
 use Rattle.pg_edges.specs.Key.{key_cmp}
 use Rattle.pg_entries.specs.declared.entry.Entry.{Entry}
-use Rattle.pg_house.specs.Facts.{AreByServer, IsLast, IsOfDirs}
-use Rattle.pg_intent.specs.declared.intent.Intent.TheVariants as intent
-use Rattle.pg_names.specs.Names.{NamesValue, cell_at, is_dir}
-use Rattle.pg_replica.specs.declared.replica.Replica.{Replica}
-use Rattle.pg_store.specs.declared.store.Store.{Store}
-use Rattle.pg_store.specs.Together.{AreTogether}
+use Rattle.pg_cells.specs.pg_house.Facts.{AreByServer, IsLast, IsOfDirs}
+use Rattle.pg_cells.specs.pg_intent.declared.intent.Intent.TheVariants as intent
+use Rattle.pg_cells.specs.pg_names.Names.{NamesValue, cell_at, is_dir}
+use Rattle.pg_cells.specs.pg_replica.declared.replica.Replica.{Replica}
+use Rattle.pg_cells.specs.pg_store.declared.store.Store.{Store}
+use Rattle.pg_cells.specs.pg_store.Together.{AreTogether}
 
 -- another server than s of n
 pub record IsOther (n s peer : ℕ) : Type 0 where

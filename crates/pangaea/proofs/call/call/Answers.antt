@@ -1,4 +1,4 @@
-use Rattle.pangaea.proofs.Outside.{call_end}
+use Rattle.pangaea.proofs.Idle.{call_end}
 use Rattle.pangaea.proofs.call.call.Goals as goal
 
 pub returns-clause-ends : goal.returns-clause-ends

@@ -1,4 +1,110 @@
+use Rattle.std.proofs.Common.{inl, inr}
+use Rattle.pangaea.proofs.Ends.{answers, does, fronts, node_ends, safe, writes}
+use Rattle.pangaea.proofs.Heeded.{heeded, left, replays, silent}
+use Rattle.pg_command.specs.declared.command.Command.TheVariants.{Make, Soak, Help}
 use Rattle.pangaea.proofs.command.run.Goals as goal
+
+-- ---- what is done for the words
+
+pub returns-clause-done : goal.returns-clause-done
+returns-clause-done g c = λ command asks e. writes _ _ _ command _ _ _ _ (c.heed.ensures.obeys command asks).acts e
+
+pub returns-clause-prefix : goal.returns-clause-prefix
+returns-clause-prefix g c = λ command asks e. fronts _ _ _ command _ _ _ _ (c.heed.ensures.obeys command asks).acts e
+
+pub returns-clause-whole : goal.returns-clause-whole
+returns-clause-whole g c = λ asks. (replays c.heed.ensures asks).1.whole
+
+pub returns-clause-whole_first : goal.returns-clause-whole_first
+returns-clause-whole_first g c = λ asks. (replays c.heed.ensures asks).1.whole_first
+
+pub returns-clause-unread : goal.returns-clause-unread
+returns-clause-unread g c = (left c.heed.ensures).unread
+
+pub returns-clause-untouched : goal.returns-clause-untouched
+returns-clause-untouched g c = (left c.heed.ensures).untouched
+
+pub returns-clause-does : goal.returns-clause-does
+returns-clause-does g c = λ command asks. does _ _ _ command _ _ _ _ (c.heed.ensures.obeys command asks).acts
+
+pub returns-clause-silent : goal.returns-clause-silent
+returns-clause-silent g c = silent c.heed.ensures
+
+pub returns-clause-same_net : goal.returns-clause-same_net
+returns-clause-same_net g c = (left c.heed.ensures).same_net
+
+pub returns-clause-same_disk : goal.returns-clause-same_disk
+returns-clause-same_disk g c = (left c.heed.ensures).same_disk
+
+pub returns-clause-same_clock : goal.returns-clause-same_clock
+returns-clause-same_clock g c = (left c.heed.ensures).same_clock
+
+pub returns-clause-crash : goal.returns-clause-crash
+returns-clause-crash g c = λ command asks. safe _ _ _ command _ _ _ _ (c.heed.ensures.obeys command asks).acts
+
+-- ---- when it ends how
+
+pub returns-clause-usage : goal.returns-clause-usage
+returns-clause-usage g c = c.heed.ensures.usage
+
+pub returns-clause-read : goal.returns-clause-read
+returns-clause-read g c = (heeded c.heed.ensures).read
+
+pub returns-clause-write : goal.returns-clause-write
+returns-clause-write g c = (heeded c.heed.ensures).write
+
+pub returns-clause-end : goal.returns-clause-end
+returns-clause-end g c = λ asks. node_ends _ _ _ asks.0 _ _ _ _ asks.1 (c.heed.ensures.obeys asks.0 asks.2).acts
+
+pub returns-clause-net : goal.returns-clause-net
+returns-clause-net g c = (heeded c.heed.ensures).net
+
+pub returns-clause-disk : goal.returns-clause-disk
+returns-clause-disk g c = (heeded c.heed.ensures).disk
+
+pub returns-clause-log : goal.returns-clause-log
+returns-clause-log g c = λ command asks tells. answers _ _ _ command _ _ _ _ (c.heed.ensures.obeys command asks).acts tells
+
+pub returns-clause-bad_log : goal.returns-clause-bad_log
+returns-clause-bad_log g c = (heeded c.heed.ensures).bad_log
+
+pub returns-clause-other_log : goal.returns-clause-other_log
+returns-clause-other_log g c = (heeded c.heed.ensures).other_log
+
+pub returns-clause-spent : goal.returns-clause-spent
+returns-clause-spent g c = (heeded c.heed.ensures).spent
+
+pub returns-clause-refused_call : goal.returns-clause-refused_call
+returns-clause-refused_call g c = (heeded c.heed.ensures).refused
+
+pub returns-clause-long : goal.returns-clause-long
+returns-clause-long g c = (heeded c.heed.ensures).long
+
+pub returns-clause-short : goal.returns-clause-short
+returns-clause-short g c = λ input asks. (replays c.heed.ensures asks).1.short input
+
+pub returns-clause-bad : goal.returns-clause-bad
+returns-clause-bad g c = (heeded c.heed.ensures).bad
+
+pub returns-clause-whole_bad : goal.returns-clause-whole_bad
+returns-clause-whole_bad g c = (heeded c.heed.ensures).whole_bad
+
+pub returns-clause-first_bad : goal.returns-clause-first_bad
+returns-clause-first_bad g c = λ input n f asks. (replays c.heed.ensures asks).1.first_bad input n f
+
+pub returns-clause-complete : goal.returns-clause-complete
+returns-clause-complete g c = λ asks. (replays c.heed.ensures asks).1.complete
+
+pub returns-clause-complete_made : goal.returns-clause-complete_made
+returns-clause-complete_made g c = λ numbers asks. elim asks [
+  | inl x ↦ (c.heed.ensures.obeys (Make numbers) x).acts.complete
+  | inr x ↦ (c.heed.ensures.obeys (Soak numbers) x).acts.complete
+]
+
+pub returns-clause-complete_help : goal.returns-clause-complete_help
+returns-clause-complete_help g c = λ help asks. (c.heed.ensures.obeys (Help help) asks).acts.complete
+
+-- ---- what holds of all runs
 
 pub returns-clause-took : goal.returns-clause-took
 returns-clause-took g c = λ n. (c.laws_of_runs.ensures n).took

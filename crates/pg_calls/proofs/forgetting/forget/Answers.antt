@@ -1,5 +1,5 @@
 use Rattle.std.proofs.Common.{◌<◌, ◌^◌, arith}
-use Rattle.pg_store.proofs.InTime.{last_in_time}
+use Rattle.pg_cells.proofs.pg_store.InTime.{last_in_time}
 use Rattle.pg_calls.proofs.Lost.{lost_in_time}
 use Rattle.pg_calls.proofs.forgetting.forget.Goals as goal
 

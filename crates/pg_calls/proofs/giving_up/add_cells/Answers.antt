@@ -1,6 +1,6 @@
 use Rattle.std.proofs.Common.{◌++◌, ◌∙◌, Option, sym, ap}
 use Rattle.std.proofs.lemmas.List.{append-nil}
-use Rattle.pg_names.specs.Names.{InodeValue}
+use Rattle.pg_cells.specs.pg_names.Names.{InodeValue}
 use Rattle.pg_calls.specs.GivingUp.{slots_in}
 use Rattle.pg_calls.proofs.giving_up.add_cells.Goals as goal
 

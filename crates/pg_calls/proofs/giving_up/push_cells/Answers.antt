@@ -2,7 +2,7 @@ use Rattle.std.proofs.Common.{List, ◌++◌, ◌+◌, ◌∙◌, ap, sym, drop}
 use Rattle.std.specs.List.{flat_map}
 use Rattle.std.proofs.lemmas.List.{append_assoc, at_drop_more}
 use Rattle.pg_base.specs.declared.id.FileId.{FileId}
-use Rattle.pg_msg.specs.declared.work.Slot.{Slot}
+use Rattle.pg_cells.specs.pg_msg.declared.work.Slot.{Slot}
 use Rattle.pg_calls.specs.GivingUp.{cells_of}
 use Rattle.pg_calls.proofs.giving_up.push_cells.Goals as goal
 

@@ -1,4 +1,4 @@
-use Rattle.pg_store.specs.Store.{replica_of}
+use Rattle.pg_cells.specs.pg_store.Store.{replica_of}
 use Rattle.pg_calls.proofs.First.{never_refused, room_at_first}
 use Rattle.pg_calls.proofs.naming.make_first_version.Goals as goal
 

@@ -1,5 +1,5 @@
 use Rattle.std.proofs.Common.{rules, ◌≡◌, sym, subst}
-use Rattle.pg_store.specs.declared.store.Store.{Store}
+use Rattle.pg_cells.specs.pg_store.declared.store.Store.{Store}
 use Rattle.pg_calls.specs.Making.{HasNoVersion}
 use Rattle.pg_calls.specs.Naming.{with_thing}
 use Rattle.pg_calls.proofs.New.{thing_new}

@@ -1,5 +1,5 @@
 use Rattle.std.proofs.Common.{rules, ◌≡◌, ◌+◌, min, subst, Result}
-use Rattle.pg_lookup.specs.declared.paths.LookupError.{LookupError}
+use Rattle.pg_checks.specs.pg_lookup.declared.paths.LookupError.{LookupError}
 use Rattle.pg_checks.specs.declared.checks.NewName.{NewName}
 use Rattle.pg_checks.specs.Answer.{Tells}
 use Rattle.pg_calls.specs.Naming.{next_id}

@@ -5,7 +5,7 @@ use Rattle.std.specs.Map.{keys_of}
 use Rattle.pg_base.specs.declared.id.FileId.{FileId}
 use Rattle.pg_base.proofs.Orders.{file_order_is}
 use Rattle.pg_cells.specs.Counts.{key_count}
-use Rattle.pg_store.specs.Store.{replica_at}
+use Rattle.pg_pieces.specs.pg_store.Store.{replica_at}
 use Rattle.pg_cells.proofs.Counted.{all_listed, counted_all, counted_none, listed_keys}
 use Rattle.pg_cells.proofs.counting.key_count.Goals as goal
 

@@ -1,5 +1,5 @@
 use Rattle.std.proofs.Common.{◌≡◌, ◌+◌, ◌-◌, ◌^◌, ◌<◌, min}
-use Rattle.pg_store.specs.Store.{replica_at}
+use Rattle.pg_pieces.specs.pg_store.Store.{replica_at}
 use Rattle.pg_cells.specs.Counts.{key_count}
 use Rattle.pg_cells.proofs.Counted.{listed_keys}
 use Rattle.pg_cells.proofs.counting.key_count.Given as goal

@@ -1,5 +1,5 @@
 use Rattle.std.proofs.Common.{take, List}
-use Rattle.pg_msg.specs.declared.work.Touched.{Touched}
+use Rattle.pg_pieces.specs.pg_msg.declared.work.Touched.{Touched}
 use Rattle.pg_cells.specs.KeyFilter.{ListsLinked, ListsTouched}
 use Rattle.pg_cells.proofs.finishing.add_linked.Given as goal
 

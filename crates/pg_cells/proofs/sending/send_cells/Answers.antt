@@ -5,8 +5,8 @@ use Rattle.std.specs.List.Sorted.{IsStrictlySortedBy}
 use Rattle.std.specs.Map.{keys_of}
 use Rattle.pg_base.specs.declared.id.FileId.{FileId}
 use Rattle.pg_base.proofs.Orders.{file_order_is}
-use Rattle.pg_msg.specs.declared.message.Sent.{Sent}
-use Rattle.pg_store.specs.Store.{replica_at}
+use Rattle.pg_pieces.specs.pg_msg.declared.message.Sent.{Sent}
+use Rattle.pg_pieces.specs.pg_store.Store.{replica_at}
 use Rattle.pg_cells.specs.KeyFilter.{file_cells, passes}
 use Rattle.pg_cells.proofs.Listed.{all_chosen}
 use Rattle.pg_cells.proofs.sending.send_cells.Goals as goal

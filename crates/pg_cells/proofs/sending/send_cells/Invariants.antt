@@ -1,6 +1,6 @@
 use Rattle.std.proofs.Common.{◌≡◌, ◌++◌}
 use Rattle.std.specs.List.{flat_map}
-use Rattle.pg_store.specs.Store.{replica_at}
+use Rattle.pg_pieces.specs.pg_store.Store.{replica_at}
 use Rattle.pg_cells.specs.KeyFilter.{file_cells, passes}
 use Rattle.pg_cells.specs.Sending.{cells_where}
 use Rattle.pg_cells.proofs.sending.send_cells.Given as goal

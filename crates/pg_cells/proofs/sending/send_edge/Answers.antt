@@ -1,6 +1,6 @@
 use Rattle.std.proofs.Common.{◌∙◌, ◌++◌, ap, List}
 use Rattle.std.specs.List.{flat_map}
-use Rattle.pg_msg.specs.declared.message.Sent.{Sent}
+use Rattle.pg_pieces.specs.pg_msg.declared.message.Sent.{Sent}
 use Rattle.pg_cells.specs.KeyFilter.{chosen_cells}
 use Rattle.pg_cells.proofs.Listed.{chosen_edge}
 use Rattle.pg_cells.proofs.sending.send_edge.Goals as goal

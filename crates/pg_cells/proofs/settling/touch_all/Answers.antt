@@ -1,6 +1,6 @@
 use Rattle.std.proofs.Common.{ap, sym, ◌∙◌, ◌+◌, drop}
 use Rattle.std.proofs.lemmas.List.{at_drop_more}
-use Rattle.pg_store.specs.declared.store.Store.{Store}
+use Rattle.pg_pieces.specs.pg_store.declared.store.Store.{Store}
 use Rattle.pg_cells.specs.Settling.{touch_all}
 use Rattle.pg_cells.proofs.settling.touch_all.Goals as goal
 

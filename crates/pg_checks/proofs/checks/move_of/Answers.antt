@@ -1,6 +1,6 @@
 use Rattle.std.proofs.Common.{rules, ◌≡◌, Ok, Err, ap, sym, subst, ◌∙◌, not}
-use Rattle.pg_call.specs.declared.refusal.Refusal.TheVariants.{ClockEnd}
-use Rattle.pg_store.specs.Store.{is_before_clock_end}
+use Rattle.pg_pieces.specs.pg_call.declared.refusal.Refusal.TheVariants.{ClockEnd}
+use Rattle.pg_pieces.specs.pg_store.Store.{is_before_clock_end}
 use Rattle.pg_checks.specs.declared.call_error.CallError.{CallError}
 use Rattle.pg_checks.specs.declared.paths.Paths.{Paths}
 use Rattle.pg_lookup.specs.Walk.{and_then}

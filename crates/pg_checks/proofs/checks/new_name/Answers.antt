@@ -1,6 +1,6 @@
 use Rattle.std.proofs.Common.{rules, ℕ, ◌≡◌, List, Result, Ok, Err, not, subst, sym}
-use Rattle.pg_call.specs.declared.refusal.Refusal.TheVariants.{ClockEnd}
-use Rattle.pg_store.specs.Store.{is_before_clock_end}
+use Rattle.pg_pieces.specs.pg_call.declared.refusal.Refusal.TheVariants.{ClockEnd}
+use Rattle.pg_pieces.specs.pg_store.Store.{is_before_clock_end}
 use Rattle.pg_lookup.specs.declared.paths.LookupError.{LookupError}
 use Rattle.pg_lookup.specs.Walk.{and_then, reach_parent}
 use Rattle.pg_checks.specs.declared.checks.NewName.{NewName}

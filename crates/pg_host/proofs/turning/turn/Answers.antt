@@ -7,49 +7,50 @@ use Rattle.pg_host.proofs.turning.turn.Goals as goal
 
 pub returns-in-Err-clause-ends : goal.returns-in-Err-clause-ends
 returns-in-Err-clause-ends g c =
-    let a : Scene = scene (g.N.Net.told c.args.net.now) (g.N.Net.takes c.args.net.now) (g.C.Clock.told c.args.clock.now) c.args.server.now.store in
-    ends_failed g.N.Net.tells g.C.Clock.tells c.args.port a (g.N.Net.told c.take.new.self) (g.N.Net.takes c.take.new.self) c.in-Err.ensures.same c.in-Err.ensures.failed
+    let a : Scene = scene (g.N.Net.told c.args.net.now) (g.N.Net.takes c.args.net.now) (g.C.Clock.told c.args.clock.now) (g.D.Disk.told c.args.disk.now) c.args.log.now c.args.server.now.store in
+    ends_failed g.N.Net.tells g.C.Clock.tells g.D.Disk.tells c.args.port a (g.N.Net.told c.take.new.self) (g.N.Net.takes c.take.new.self) c.in-Err.ensures.same c.in-Err.ensures.failed
 
 pub returns-in-Idle-clause-goes : goal.returns-in-Idle-clause-goes
 returns-in-Idle-clause-goes g c =
-    let a : Scene = scene (g.N.Net.told c.args.net.now) (g.N.Net.takes c.args.net.now) (g.C.Clock.told c.args.clock.now) c.args.server.now.store in
-    goes_idle g.N.Net.tells g.C.Clock.tells c.args.port a (g.N.Net.told c.take.new.self) (g.N.Net.takes c.take.new.self)
+    let a : Scene = scene (g.N.Net.told c.args.net.now) (g.N.Net.takes c.args.net.now) (g.C.Clock.told c.args.clock.now) (g.D.Disk.told c.args.disk.now) c.args.log.now c.args.server.now.store in
+    goes_idle g.N.Net.tells g.C.Clock.tells g.D.Disk.tells c.args.port a (g.N.Net.told c.take.new.self) (g.N.Net.takes c.take.new.self)
     (λ tells. given_idle 40001 c.in-Ok.answer c.take.new.buf a.net (g.N.Net.told c.take.new.self) c.in-Idle.is (c.in-Ok.ensures.taken tells))
     (λ tells. (c.in-Ok.ensures.taken tells).sent) (λ tells. (c.in-Ok.ensures.taken tells).bound) c.in-Ok.ensures.takes
 
 pub returns-in-Err-read-clause-ends : goal.returns-in-Err-read-clause-ends
 returns-in-Err-read-clause-ends g c =
-    let a : Scene = scene (g.N.Net.told c.args.net.now) (g.N.Net.takes c.args.net.now) (g.C.Clock.told c.args.clock.now) c.args.server.now.store in
-    ends_unread g.N.Net.tells g.C.Clock.tells c.args.port a (g.N.Net.told c.take.new.self) (g.N.Net.takes c.take.new.self) (packet_in c.in-Packet.from c.in-Packet.length c.take.new.buf)
+    let a : Scene = scene (g.N.Net.told c.args.net.now) (g.N.Net.takes c.args.net.now) (g.C.Clock.told c.args.clock.now) (g.D.Disk.told c.args.disk.now) c.args.log.now c.args.server.now.store in
+    ends_unread g.N.Net.tells g.C.Clock.tells g.D.Disk.tells c.args.port a (g.N.Net.told c.take.new.self) (g.N.Net.takes c.take.new.self) (packet_in c.in-Packet.from c.in-Packet.length c.take.new.buf)
     (λ tells. given_packet 40001 c.in-Ok.answer c.take.new.buf a.net (g.N.Net.told c.take.new.self) c.in-Packet.from c.in-Packet.length c.in-Packet.is (c.in-Ok.ensures.taken tells))
     (λ tells. (c.in-Ok.ensures.taken tells).sent) (λ tells. (c.in-Ok.ensures.taken tells).bound) c.in-Ok.ensures.takes
+    (c.in-Err-read.ensures.unread c.in-Packet.from)
 
 pub returns-in-None-clause-goes : goal.returns-in-None-clause-goes
 returns-in-None-clause-goes g c =
-    let a : Scene = scene (g.N.Net.told c.args.net.now) (g.N.Net.takes c.args.net.now) (g.C.Clock.told c.args.clock.now) c.args.server.now.store in
-    goes_past g.N.Net.tells g.C.Clock.tells c.args.port a (g.N.Net.told c.take.new.self) (g.N.Net.takes c.take.new.self) (packet_in c.in-Packet.from c.in-Packet.length c.take.new.buf)
+    let a : Scene = scene (g.N.Net.told c.args.net.now) (g.N.Net.takes c.args.net.now) (g.C.Clock.told c.args.clock.now) (g.D.Disk.told c.args.disk.now) c.args.log.now c.args.server.now.store in
+    goes_past g.N.Net.tells g.C.Clock.tells g.D.Disk.tells c.args.port a (g.N.Net.told c.take.new.self) (g.N.Net.takes c.take.new.self) (packet_in c.in-Packet.from c.in-Packet.length c.take.new.buf)
     (λ tells. given_packet 40001 c.in-Ok.answer c.take.new.buf a.net (g.N.Net.told c.take.new.self) c.in-Packet.from c.in-Packet.length c.in-Packet.is (c.in-Ok.ensures.taken tells))
     (λ tells. (c.in-Ok.ensures.taken tells).sent) (λ tells. (c.in-Ok.ensures.taken tells).bound) c.in-Ok.ensures.takes
-    (subst (λ (found : Option DatagramValue). MatchOption found (IsErr (packet_of (packet_in c.in-Packet.from c.in-Packet.length c.take.new.buf).bytes)) (λ d. packet_of (packet_in c.in-Packet.from c.in-Packet.length c.take.new.buf).bytes ≡ Ok d)) c.in-None.is c.in-Ok-read.ensures)
+    (subst (λ (found : Option DatagramValue). MatchOption found (IsErr (packet_of (packet_in c.in-Packet.from c.in-Packet.length c.take.new.buf).bytes)) (λ d. packet_of (packet_in c.in-Packet.from c.in-Packet.length c.take.new.buf).bytes ≡ Ok d)) c.in-None.is c.in-Ok-read.ensures.packet)
 
 pub returns-in-Some-clause-goes : goal.returns-in-Some-clause-goes
 returns-in-Some-clause-goes g c =
-    let a : Scene = scene (g.N.Net.told c.args.net.now) (g.N.Net.takes c.args.net.now) (g.C.Clock.told c.args.clock.now) c.args.server.now.store in
-    let b : Scene = scene (g.N.Net.told c.take_packet.new.net) (g.N.Net.takes c.take_packet.new.net) (g.C.Clock.told c.take_packet.new.clock) c.take_packet.new.server.store in
-    ok_goes g.N.Net.tells g.C.Clock.tells c.args.port a (g.N.Net.told c.take.new.self) (g.N.Net.takes c.take.new.self) (packet_in c.in-Packet.from c.in-Packet.length c.take.new.buf)
+    let a : Scene = scene (g.N.Net.told c.args.net.now) (g.N.Net.takes c.args.net.now) (g.C.Clock.told c.args.clock.now) (g.D.Disk.told c.args.disk.now) c.args.log.now c.args.server.now.store in
+    let b : Scene = scene (g.N.Net.told c.take_packet.new.net) (g.N.Net.takes c.take_packet.new.net) (g.C.Clock.told c.take_packet.new.clock) (g.D.Disk.told c.take_packet.new.disk) c.take_packet.new.log c.take_packet.new.server.store in
+    ok_goes g.N.Net.tells g.C.Clock.tells g.D.Disk.tells c.args.port a (g.N.Net.told c.take.new.self) (g.N.Net.takes c.take.new.self) (packet_in c.in-Packet.from c.in-Packet.length c.take.new.buf)
     (λ tells. given_packet 40001 c.in-Ok.answer c.take.new.buf a.net (g.N.Net.told c.take.new.self) c.in-Packet.from c.in-Packet.length c.in-Packet.is (c.in-Ok.ensures.taken tells))
     (λ tells. (c.in-Ok.ensures.taken tells).sent) (λ tells. (c.in-Ok.ensures.taken tells).bound) c.in-Ok.ensures.takes
     c.in-Some.packet
-    (subst (λ (found : Option DatagramValue). MatchOption found (IsErr (packet_of (packet_in c.in-Packet.from c.in-Packet.length c.take.new.buf).bytes)) (λ d. packet_of (packet_in c.in-Packet.from c.in-Packet.length c.take.new.buf).bytes ≡ Ok d)) c.in-Some.is c.in-Ok-read.ensures)
+    (subst (λ (found : Option DatagramValue). MatchOption found (IsErr (packet_of (packet_in c.in-Packet.from c.in-Packet.length c.take.new.buf).bytes)) (λ d. packet_of (packet_in c.in-Packet.from c.in-Packet.length c.take.new.buf).bytes ≡ Ok d)) c.in-Some.is c.in-Ok-read.ensures.packet)
     b c.take_packet.ensures.takes c.take_packet.result c.take_packet.ensures.works
 
 pub returns-in-Some-clause-ends : goal.returns-in-Some-clause-ends
 returns-in-Some-clause-ends g c =
-    let a : Scene = scene (g.N.Net.told c.args.net.now) (g.N.Net.takes c.args.net.now) (g.C.Clock.told c.args.clock.now) c.args.server.now.store in
-    let b : Scene = scene (g.N.Net.told c.take_packet.new.net) (g.N.Net.takes c.take_packet.new.net) (g.C.Clock.told c.take_packet.new.clock) c.take_packet.new.server.store in
-    err_ends g.N.Net.tells g.C.Clock.tells c.args.port a (g.N.Net.told c.take.new.self) (g.N.Net.takes c.take.new.self) (packet_in c.in-Packet.from c.in-Packet.length c.take.new.buf)
+    let a : Scene = scene (g.N.Net.told c.args.net.now) (g.N.Net.takes c.args.net.now) (g.C.Clock.told c.args.clock.now) (g.D.Disk.told c.args.disk.now) c.args.log.now c.args.server.now.store in
+    let b : Scene = scene (g.N.Net.told c.take_packet.new.net) (g.N.Net.takes c.take_packet.new.net) (g.C.Clock.told c.take_packet.new.clock) (g.D.Disk.told c.take_packet.new.disk) c.take_packet.new.log c.take_packet.new.server.store in
+    err_ends g.N.Net.tells g.C.Clock.tells g.D.Disk.tells c.args.port a (g.N.Net.told c.take.new.self) (g.N.Net.takes c.take.new.self) (packet_in c.in-Packet.from c.in-Packet.length c.take.new.buf)
     (λ tells. given_packet 40001 c.in-Ok.answer c.take.new.buf a.net (g.N.Net.told c.take.new.self) c.in-Packet.from c.in-Packet.length c.in-Packet.is (c.in-Ok.ensures.taken tells))
     (λ tells. (c.in-Ok.ensures.taken tells).sent) (λ tells. (c.in-Ok.ensures.taken tells).bound) c.in-Ok.ensures.takes
     c.in-Some.packet
-    (subst (λ (found : Option DatagramValue). MatchOption found (IsErr (packet_of (packet_in c.in-Packet.from c.in-Packet.length c.take.new.buf).bytes)) (λ d. packet_of (packet_in c.in-Packet.from c.in-Packet.length c.take.new.buf).bytes ≡ Ok d)) c.in-Some.is c.in-Ok-read.ensures)
+    (subst (λ (found : Option DatagramValue). MatchOption found (IsErr (packet_of (packet_in c.in-Packet.from c.in-Packet.length c.take.new.buf).bytes)) (λ d. packet_of (packet_in c.in-Packet.from c.in-Packet.length c.take.new.buf).bytes ≡ Ok d)) c.in-Some.is c.in-Ok-read.ensures.packet)
     b c.take_packet.ensures.takes c.take_packet.result c.take_packet.ensures.halts

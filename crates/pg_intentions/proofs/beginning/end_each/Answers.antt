@@ -1,7 +1,7 @@
 use Rattle.std.proofs.Common.{ap, sym, ◌∙◌, ◌+◌, drop, List}
 use Rattle.std.proofs.lemmas.List.{at_drop_more}
-use Rattle.pg_intent.specs.declared.intent.Intent.{Intent}
-use Rattle.pg_intent.specs.Intents.{ended_each}
+use Rattle.pg_graph.specs.pg_intent.declared.intent.Intent.{Intent}
+use Rattle.pg_graph.specs.pg_intent.Intents.{ended_each}
 use Rattle.pg_intentions.proofs.beginning.end_each.Goals as goal
 
 pub loop-key-preserved : goal.loop-key-preserved

@@ -1,5 +1,5 @@
 use Rattle.std.proofs.Common.{◌≡◌, drop}
-use Rattle.pg_intent.specs.Intents.{ended_each}
+use Rattle.pg_graph.specs.pg_intent.Intents.{ended_each}
 use Rattle.pg_intentions.proofs.beginning.end_each.Given as goal
 
 abbrev pub invariant-loop-key : goal.invariant-loop-key

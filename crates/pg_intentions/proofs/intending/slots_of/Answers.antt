@@ -1,4 +1,4 @@
-use Rattle.pg_msg.proofs.Slots.{slot_order_is}
+use Rattle.pg_graph.proofs.pg_msg.Slots.{slot_order_is}
 use Rattle.pg_intentions.proofs.Steps.{one_slot}
 use Rattle.pg_intentions.proofs.intending.slots_of.Goals as goal
 

@@ -1,7 +1,7 @@
 use Rattle.std.proofs.Common.{ap, sym, ◌∙◌, ◌+◌, drop, List}
 use Rattle.std.proofs.lemmas.List.{at_drop_more}
 use Rattle.pg_base.specs.declared.id.FileId.{FileId}
-use Rattle.pg_msg.specs.declared.work.Work.{Work}
+use Rattle.pg_graph.specs.pg_msg.declared.work.Work.{Work}
 use Rattle.pg_intentions.specs.Inviting.{invite_each}
 use Rattle.pg_intentions.proofs.inviting.invite_each.Goals as goal
 

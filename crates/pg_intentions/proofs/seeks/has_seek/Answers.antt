@@ -1,7 +1,7 @@
 use Rattle.std.proofs.Common.{rules, ◌≡◌, ◌∙◌, sym, is_some}
-use Rattle.pg_intent.specs.declared.key.IntentKey.TheVariants as intent_key
-use Rattle.pg_intent.specs.Intents.{intent_at}
-use Rattle.pg_intent.proofs.Found.{stands_is}
+use Rattle.pg_graph.specs.pg_intent.declared.key.IntentKey.TheVariants as intent_key
+use Rattle.pg_graph.specs.pg_intent.Intents.{intent_at}
+use Rattle.pg_graph.proofs.pg_intent.Found.{stands_is}
 use Rattle.pg_intentions.proofs.seeks.has_seek.Goals as goal
 
 pub returns : goal.returns

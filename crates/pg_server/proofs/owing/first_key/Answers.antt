@@ -8,8 +8,8 @@ use Rattle.std.proofs.lemmas.Map.Iter.{rest_more}
 use Rattle.pg_base.specs.declared.id.FileId.{FileId}
 use Rattle.pg_base.proofs.Orders.{file_order_is}
 use Rattle.pg_event.specs.declared.quiet.OwedKey.{OwedKey}
-use Rattle.pg_store.specs.Store.{replica_at}
-use Rattle.pg_replica.proofs.Lists.{first_here, first_later}
+use Rattle.pg_calls.specs.pg_store.Store.{replica_at}
+use Rattle.pg_calls.proofs.pg_replica.Lists.{first_here, first_later}
 use Rattle.pg_server.specs.Owing.{file_owes}
 use Rattle.pg_server.proofs.Unacknowledged.{listed_owes}
 use Rattle.pg_server.proofs.owing.first_key.Goals as goal

@@ -1,6 +1,6 @@
 use Rattle.std.proofs.Common.{◌≡◌}
 use Rattle.std.specs.List.{flat_map, slice_get}
-use Rattle.pg_store.specs.Store.{replica_at}
+use Rattle.pg_calls.specs.pg_store.Store.{replica_at}
 use Rattle.pg_server.specs.Owing.{file_owes, owed_keys}
 use Rattle.pg_server.proofs.owing.first_key.Given as goal
 

@@ -1,6 +1,6 @@
 use Rattle.std.proofs.Common.{◌∙◌, sym}
 use Rattle.pg_server.specs.Owing.{edge_owes}
-use Rattle.pg_replica.proofs.Lists.{first_at, first_behind}
+use Rattle.pg_calls.proofs.pg_replica.Lists.{first_at, first_behind}
 use Rattle.pg_server.proofs.owing.first_of_replica.Goals as goal
 
 pub returns-in-Some : goal.returns-in-Some

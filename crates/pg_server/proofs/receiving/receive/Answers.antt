@@ -1,6 +1,6 @@
 use Rattle.std.proofs.Common.{◌≡◌, OnOk, subst, sym}
 use Rattle.pg_entries.specs.declared.entry.Entry.{Entry}
-use Rattle.pg_msg.specs.declared.message.Message.{Message}
+use Rattle.pg_calls.specs.pg_msg.declared.message.Message.{Message}
 use Rattle.pg_calls.specs.pg_repair.Confirming.{confirm}
 use Rattle.pg_server.specs.Local.{receive}
 use Rattle.pg_server.proofs.receiving.receive.Goals as goal

@@ -1,4 +1,4 @@
-use Rattle.pg_store.specs.Store.{with_names}
+use Rattle.pg_cells.specs.pg_store.Store.{with_names}
 use Rattle.pg_cells.specs.Settling.{settle, touch_all}
 use Rattle.theory_flood_pieces.proofs.Counting.{steps_on}
 use Rattle.theory_flood_pieces.proofs.LawsOf.{write_of_held}

@@ -1,8 +1,8 @@
-use Rattle.pg_names.specs.Names.{fill}
-use Rattle.pg_store.specs.Beginning.{begin}
-use Rattle.pg_store.specs.Links.{link, unlink}
-use Rattle.pg_store.specs.Store.{with_names}
-use Rattle.pg_store.specs.Views.{enter}
+use Rattle.pg_cells.specs.pg_names.Names.{fill}
+use Rattle.pg_cells.specs.pg_store.Beginning.{begin}
+use Rattle.pg_cells.specs.pg_store.Links.{link, unlink}
+use Rattle.pg_cells.specs.pg_store.Store.{with_names}
+use Rattle.pg_cells.specs.pg_store.Views.{enter}
 use Rattle.theory_flood_pieces.proofs.AllKeys.{keys_all}
 use Rattle.theory_flood_pieces.proofs.Beginning.{begin_steps}
 use Rattle.theory_flood_pieces.proofs.Counting.{steps_on}

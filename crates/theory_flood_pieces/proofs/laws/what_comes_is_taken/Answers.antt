@@ -1,4 +1,4 @@
-use Rattle.pg_store.specs.Store.{take_entry, take_flag, take_place}
+use Rattle.pg_cells.specs.pg_store.Store.{take_entry, take_flag, take_place}
 use Rattle.theory_flood_pieces.proofs.Counting.{steps_on}
 use Rattle.theory_flood_pieces.proofs.Taking.{entry_taken, flag_taken, place_taken, took_steps}
 use Rattle.theory_flood_pieces.proofs.Together.{own_of_held, replica_of_held}

@@ -1,0 +1,14 @@
+mod Pushed
+mod Leaves
+mod Expected
+mod Things
+mod Whole
+mod Ordered
+mod Fitting
+mod FittingRest
+mod FittingWhole
+mod Told
+mod Fields
+mod IntentFields
+mod PartFields
+mod Places

@@ -1,0 +1,114 @@
+-- Files that are logs of a server.
+use Rattle.std.specs.Prelude.{ℕ, ◌≡◌, ◌==◌, ◌+◌, ◌≤◌, ◌⊎◌, List, [], ◌∷◌, ◌++◌, map, length, take, Bool, true, false, Some, None, Ok, Err}
+use Rattle.std.specs.declared.option.Option.{Option}
+use Rattle.law_lengths.specs.Laws.{store_behind}
+use Rattle.pg_log.specs.Bytes.{OpensTo, IsBadAt, front}
+use Rattle.law_lengths.specs.pg_server.declared.input.Input.{Input}
+use Rattle.law_lengths.specs.pg_server.declared.input.Input.TheVariants.{Restart}
+use Rattle.law_lengths.specs.pg_server.Local.{effect_of}
+use Rattle.pg_store.specs.Store.{new_store}
+use Rattle.pg_store.specs.declared.store.Store.{Store}
+use Rattle.pg_host.specs.declared.asking.Asked.{Asked}
+use Rattle.pg_host.specs.Entries.{entry_for, input_of, start_entry, start_of}
+
+-- the entry by which a log of this server, of so many, begins
+pub record IsStart (server servers : ℕ) (entry : List ℕ) : Type 0 where
+  pub spelled : entry ≡ start_entry server servers
+  pub read : start_of entry ≡ Ok (server, servers)
+
+-- the entries of these inputs, and each is read as its input
+pub record AreInputs (entries : List (List ℕ)) (inputs : List Input) : Type 0 where
+  pub spelled : entries ≡ map entry_for inputs
+  pub read : map input_of entries ≡ map Ok inputs
+
+-- ---- the log of a server
+
+-- the entries of a log of this server, of so many, with these inputs
+pub record IsLogOf (server servers : ℕ) (inputs : List Input) (entries : List (List ℕ)) : Type 0 where
+  pub first : List ℕ
+  pub later : List (List ℕ)
+  pub whole : entries ≡ first ∷ later
+  pub start : IsStart server servers first
+  pub are : AreInputs later inputs
+
+-- THE LOG OF ANOTHER: a good log of server `a` of `b`, which is not this server, of so many
+pub record IsOtherLog (server servers a b : ℕ) (file : List ℕ) : Type 0 where
+  pub entries : List (List ℕ)
+  pub opens : OpensTo file entries
+  pub inputs : List Input
+  pub is : IsLogOf a b inputs entries
+  pub another : (a ≡ server) × (b ≡ servers) → ⊥
+
+-- ---- a bad log
+
+-- entries with which some server's log begins
+abbrev pub AreGood : List (List ℕ) → Type 0
+AreGood [] = Unit {0}
+AreGood (first ∷ later) = ((server servers : ℕ) × IsStart server servers first)
+    × ((inputs : List Input) × AreInputs later inputs)
+
+-- behind them no log goes on with this entry, from this place in it on
+abbrev pub IsBadBehind : List (List ℕ) → List ℕ → ℕ → Type 0
+IsBadBehind [] entry at = start_of entry ≡ Err at
+IsBadBehind (first ∷ later) entry at = input_of entry ≡ Err at
+
+-- The first bad entry. `place` is counted in the file, where the gate, the length and the bytes of
+-- the entry stand behind the entries before it.
+pub record IsBadEntry (entries : List (List ℕ)) (place : ℕ) : Type 0 where
+  pub before : List (List ℕ)
+  pub entry : List ℕ
+  pub behind : List (List ℕ)
+  pub whole : entries ≡ before ++ entry ∷ behind
+  pub good : AreGood before
+  pub at : ℕ
+  pub bad : IsBadBehind before entry at
+  pub place_is : place ≡ length (front before) + (5 + at)
+
+-- A BAD LOG: the file is no log of entries from this place on, or the first bad entry is bad there
+abbrev pub IsBadLog : List ℕ → ℕ → Type 0
+IsBadLog file place =
+    IsBadAt file place
+    ⊎ ((entries : List (List ℕ)) × OpensTo file entries × IsBadEntry entries place)
+
+-- ---- what a server begins with
+
+-- the inputs of an old log, or none where there is no entry
+abbrev pub Old : Type 0
+Old = Option (List Input)
+
+abbrev pub IsOldLog : (server servers : ℕ) → Old → List (List ℕ) → Type 0
+IsOldLog server servers None entries = entries ≡ []
+IsOldLog server servers (Some inputs) entries = IsLogOf server servers inputs entries
+
+-- the file opens to these
+pub record IsOldFile (server servers : ℕ) (old : Old) (file : List ℕ) : Type 0 where
+  pub entries : List (List ℕ)
+  pub opens : OpensTo file entries
+  pub is : IsOldLog server servers old entries
+
+-- A LOG TO GO ON WITH: one without entries, or one of this server, of so many
+abbrev pub IsOwnLog : (server servers : ℕ) → List ℕ → Type 0
+IsOwnLog server servers file = (old : Old) × IsOldFile server servers old file
+
+-- WHAT THE SERVER HOLDS as it begins: what went out before is not sent again
+abbrev pub begun : ℕ → ℕ → Old → Store
+begun server servers None = new_store servers server
+begun server servers (Some inputs) =
+    (effect_of (store_behind (new_store servers server) inputs) Restart).store
+
+-- the inputs of a log that a server went on with, and took these inputs
+abbrev pub goes_on : Old → List Asked → Old
+goes_on None own = Some (map (λ (a : Asked). a.input) own)
+goes_on (Some inputs) own = Some (inputs ++ Restart ∷ map (λ (a : Asked). a.input) own)
+
+abbrev pub is_empty : List (List ℕ) → Bool
+is_empty entries = length entries == 0
+
+-- the entry that a server appends as it begins, to a log without entries or to one with some
+abbrev pub begin_entry : ℕ → ℕ → Bool → List ℕ
+begin_entry server servers true = start_entry server servers
+begin_entry server servers false = entry_for Restart
+
+-- the file opens to these entries and the first of the others
+abbrev pub OpensToSome : List (List ℕ) → List (List ℕ) → List ℕ → Type 0
+OpensToSome entries more file = (k : ℕ) × (k ≤ length more) × OpensTo file (entries ++ take k more)

@@ -1,0 +1,10 @@
+pub mod Lasts
+pub mod EdgesLast
+pub mod HeadsLast
+pub mod Fresh
+pub mod Tested
+pub mod FlagFields
+pub mod EdgeFields
+pub mod ContentFields
+pub mod ReplicaFields
+pub mod IntentFields

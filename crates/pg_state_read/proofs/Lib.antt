@@ -1,0 +1,9 @@
+pub mod LaterFields
+pub mod PartFields
+pub mod Marks
+pub mod Rows
+pub mod Built
+pub mod StoreSpelled
+pub mod WholeParts
+pub mod WholeStore
+pub mod Few

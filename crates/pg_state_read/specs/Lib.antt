@@ -1,0 +1,4 @@
+pub mod Later
+pub mod Whole
+pub mod Spelling
+pub mod Built
