@@ -1,6 +1,6 @@
 -- What stands at a key, and what is noted to be confirmed: the pieces of handlers begin nothing,
 -- and note nothing.
-use Rattle.std.proofs.Common.{ℕ, ◌≡◌, ◌&&◌, Bool, true, false, cond, not, nat_lt, List, [], ◌∷◌, Option, None, refl, ap, ◌∙◌}
+use Rattle.std.proofs.Common.{ℕ, ◌≡◌, ◌&&◌, Bool, true, false, cond, not, List, [], ◌∷◌, Option, None, refl, ap, ◌∙◌}
 use Rattle.std.specs.Option.{option_map}
 use Rattle.law_order.specs.pg_base.declared.id.FileId.{FileId}
 use Rattle.law_order.specs.pg_base.declared.policy.Policy.{Policy}
@@ -25,13 +25,12 @@ use Rattle.law_order.specs.pg_pieces.declared.accepting.EdgeUse.TheVariants as m
 use Rattle.law_order.specs.pg_pieces.Accepting.{accept, link_peer, with_gone, with_link}
 use Rattle.law_order.specs.pg_pieces.Done.{Done, idle}
 use Rattle.law_order.specs.pg_pieces.Intending.{begin_intent, with_begun_if}
-use Rattle.law_order.specs.pg_pieces.Making.{make_flag, own_next, raise_flag}
+use Rattle.law_order.specs.pg_pieces.Making.{make_flag}
 use Rattle.law_order.specs.pg_pieces.Posting.{reply}
-use Rattle.law_order.specs.pg_pieces.Taking.{is_any_news, take_entry_noted, take_flag_noted, take_flags_noted, take_place_noted, with_left_if, with_news}
+use Rattle.law_order.specs.pg_pieces.Taking.{is_any_news, take_entry_noted, take_flag_noted, take_place_noted, with_left_if, with_news}
 use Rattle.law_order.specs.pg_msg.declared.message.Message.TheVariants as message
 use Rattle.law_order.specs.pg_register.declared.flag.Flag.{Flag}
 use Rattle.law_order.specs.pg_register.declared.place.Place.{Place}
-use Rattle.law_order.specs.pg_repair.Filling.{few_golds, live_golds, raise_if_few}
 use Rattle.law_order.specs.pg_store.declared.store.Store.{Store}
 use Rattle.law_order.specs.pg_store.Beginning.{begin, patches_of, put_new, take_patch, take_patches, with_intents}
 use Rattle.law_order.specs.pg_store.Births.{has_birth, is_pending}
@@ -133,10 +132,6 @@ module _ (k : IntentKey) (plain : IsPlain k) where
   pub flag_rests : (a : Store) (f : FileId) (g : Flag) (w : Work) → Rests (idle a w) → Rests (take_flag_noted a f g w)
   flag_rests a f g w h = (flag_none a f g h.0, news_doubts (is_newer_flag a f g) w f (key.Flag g.server) ∙ h.1)
 
-  pub flags_rest : (gs : List Flag) (a : Store) (f : FileId) (w : Work) → Rests (idle a w) → Rests (take_flags_noted a f gs w)
-  flags_rest [] a f w h = h
-  flags_rest (g ∷ gs) a f w h = flags_rest gs (take_flag a f g) f (take_flag_noted a f g w).work (flag_rests a f g w h)
-
   pub entry_rests : (a : Store) (d : FileId) (e : Entry) (w : Work) → Rests (idle a w) → Rests (take_entry_noted a d e w)
   entry_rests a d e w h =
       (entry_none a d e h.0, news_doubts (is_any_news (entry_news a d e)) w d (key.Entry e.child) ∙ h.1)
@@ -147,10 +142,6 @@ module _ (k : IntentKey) (plain : IsPlain k) where
 
   pub raised_rests : (a : Store) (f : FileId) (g : Flag) (w : Work) → Rests (idle a w) → Rests (make_flag a f g w)
   raised_rests a f g w h = flag_rests a f g (with_made w (update.Flag f g)) h
-
-  pub few_rests : (a : Store) (f : FileId) (w : Work) → Rests (idle a w) → Rests (raise_if_few a f w)
-  few_rests a f w h =
-      chosen Rests (nat_lt (live_golds a f) few_golds) (raise_flag a f w) (idle a w) (raised_rests a f (own_next a f true) w h) h
 
   pub begun_rests : (a : Store) (i : Intent) (w : Work) → is_same_key k (key_of i) ≡ false → Rests (idle a w) → Rests (begin_intent a i w)
   begun_rests a i w other h =
@@ -170,16 +161,3 @@ module _ (k : IntentKey) (plain : IsPlain k) where
       chosen Rests (has_birth a x.file x.receiver) (cond late (idle a w) met) (idle a (with_gone a x manner.Makes w))
       (chosen Rests late (idle a w) met h (linked_rests a x.file w.from x.sender w h))
       (gone_rests a x w (is_pending a x.file x.receiver) h)
-
-  pub accept_needs : (a : Store) (x : Ends) (w : Work) → Rests (idle a w) → Rests (accept a x manner.Needs w)
-  accept_needs a x w h =
-      let late = knows_later a x.file w.from x.sender in
-      chosen Rests (has_birth a x.file x.receiver) (cond late (idle a w) (idle a w)) (idle a (with_gone a x manner.Needs w))
-      (chosen Rests late (idle a w) (idle a w) h h)
-      (gone_rests a x w (is_pending a x.file x.receiver) h)
-
-  pub accept_answers : (a : Store) (x : Ends) (w : Work) → Rests (idle a w) → Rests (accept a x manner.Answers w)
-  accept_answers a x w h =
-      let late = knows_later a x.file w.from x.sender in
-      chosen Rests (has_birth a x.file x.receiver) (cond late (idle a w) (idle a w)) (idle a (with_gone a x manner.Answers w))
-      (chosen Rests late (idle a w) (idle a w) h h) h

@@ -13,8 +13,8 @@
 //! - `Doubted` (`proofs/Doubted`): a doubted cell notes its own slot, where the place is news.
 //! - `proofs/Ended`: the house rules note nothing, and Confirms begin of what is noted alone.
 //! - Premises: none; of other laws it cites lemmas of `law_order` and `theory_listing_house`.
-//! - A new kind of message gets its line in `received`, with a lemma where it ends or aims what is
-//!   intended; a new call one in `called`.
+//! - What each piece of a message and of a call keeps is said in `proofs/Messages` and `Calls`; the
+//!   walk over them is that of `law_frame`.
 #![tactic(auto)]
 
 mod laws;

@@ -24,12 +24,14 @@ use Rattle.law_order.proofs.pg_run.pg_names.Lookups.{apart_back}
 use Rattle.law_house.specs.Standing.{IsLeastLatest, IsWhoMoves}
 use Rattle.law_house.specs.Steps.{NoneReturns}
 use Rattle.law_house.proofs.Climbing.{round_of}
+use Rattle.law_house.proofs.Drawn.{dead_by, drawn_is}
 use Rattle.law_house.proofs.Moving.{who_moves}
 use Rattle.law_house.proofs.Placing.{none_passes, placed_reaches, placed_same}
 use Rattle.law_house.proofs.Walking.{Reaches, and_then}
 
 pub none_returns : (s : NamesValue) → NoDeadLists s → NoneReturns s
-none_returns s none d r = false≢true (sym (none d r.own r.held r.kind r.dead r.child r.cell r.has) ∙ r.lists)
+none_returns s none d r =
+    false≢true (sym (none d r.own r.held r.kind (dead_by d r.own.place r.other r.dead r.made) r.child r.cell r.has) ∙ r.lists)
 
 module _ (moment : ℕ) (ds : List FileId) where
   -- between two rules, where no directory is to come back
@@ -90,6 +92,7 @@ module _ (moment : ℕ) (ds : List FileId) where
               returned = none_returns st.names k.all.2;
               dir = d;
               applies = who;
+              stamp = drawn_is moment st.names;
               does = refl;
             }))),
         record {

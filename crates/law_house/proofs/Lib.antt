@@ -1,3 +1,4 @@
+pub mod Drawn
 pub mod Climbing
 pub mod Moving
 pub mod Deciding

@@ -28,6 +28,7 @@ use Rattle.law_order.proofs.pg_run.pg_house.Placed.{Settled, placed_is_last, pla
 use Rattle.law_order.proofs.pg_run.pg_house.Settling.{dirs_held}
 use Rattle.law_order.proofs.pg_run.pg_house.Truths.{or_cases}
 use Rattle.law_house.specs.Steps.{Returns}
+use Rattle.law_house.proofs.Drawn.{dead_by, dead_other, dead_place, drawn_is}
 use Rattle.law_house.proofs.Placing.{none_passes, placed_ordered, placed_reaches, placed_same}
 use Rattle.law_house.proofs.Walking.{Reaches, above_first, and_then, sorted_rest}
 
@@ -64,9 +65,11 @@ module _ (s : NamesValue) (d : FileId) where
       let l = listed_child d x.entries (ordered d x h) parts.1 in
       record {
         kind = kind;
+        other = dead_other d x.own.place parts.0;
         own = x.own;
         held = ap own_of h;
-        dead = parts.0;
+        dead = (dead_place d x.own.place parts.0).0;
+        made = (dead_place d x.own.place parts.0).1;
         child = l.0;
         cell = l.1;
         has = ap (entry_in l.0) h ∙ l.2;
@@ -80,7 +83,7 @@ module _ (s : NamesValue) (d : FileId) where
   test_by None h r = absurd (none-some r.own (ap own_of (sym h) ∙ r.held))
   test_by (Some x) h r =
       let own : x.own ≡ r.own = same_Some x.own r.own (ap own_of (sym h) ∙ r.held) in
-      and_from (is_dead d x.own.place) _ (ap (λ (a : Attributes). is_dead d a.place) own ∙ r.dead)
+      and_from (is_dead d x.own.place) _ (ap (λ (a : Attributes). is_dead d a.place) own ∙ dead_by d r.own.place r.other r.dead r.made)
       (listed_any (is_listed d) _ x.entries r.cell (ap (entry_in r.child) (sym h) ∙ r.has) r.lists)
 
   pub test_of : Returns s d → is_returning s d ≡ true
@@ -136,6 +139,7 @@ module _ (moment : ℕ) (ds : List FileId) (sorted : IsStrictlySortedBy file_cmp
               applies = returns_of st.names d found.0 kind k.ordered;
               least = λ g lt r. false≢true (sym (find_least (is_returning st.names) d g ds h sorted
                   (k.settled.dirs.held g r.own r.held r.kind) lt) ∙ test_of st.names g r);
+              stamp = drawn_is moment st.names;
               does = refl;
             }))),
         record {

@@ -1,9 +1,10 @@
 -- The house rules as single steps, each of the lowest rule that applies.
-use Rattle.std.specs.Prelude.{ℕ, ◌≡◌, ◌≢◌, ◌⊎◌, false, true, List, Some, suc, zero}
+use Rattle.std.specs.Prelude.{ℕ, ◌≡◌, ◌≢◌, ◌≤◌, ◌<◌, ◌⊎◌, ◌^◌, false, true, List, Some, suc, zero}
 use Rattle.std.specs.List.Sorted.{IsStrictlySortedBy}
 use Rattle.std.specs.Map.{keys_of}
 use Rattle.std.specs.Ordering.{is_lt}
 use Rattle.law_order.specs.pg_run.pg_base.declared.id.FileId.{FileId}
+use Rattle.law_order.specs.pg_run.pg_base.declared.stamp.Stamp.{Stamp}
 use Rattle.law_order.specs.pg_run.pg_base.Id.{file_cmp}
 use Rattle.law_order.specs.pg_run.pg_entries.declared.entry.Entry.{Entry}
 use Rattle.law_order.specs.pg_run.pg_entries.Entry.{is_listed}
@@ -11,11 +12,10 @@ use Rattle.law_order.specs.pg_run.pg_house.Facts.{AreByServer, AreOrdered, IsLas
 use Rattle.law_order.specs.pg_run.pg_house.House.{house}
 use Rattle.law_order.specs.pg_run.pg_house.Passing.{pass}
 use Rattle.law_order.specs.pg_run.pg_house.Placing.{drawn, live_place, made_at, place_at}
-use Rattle.law_order.specs.pg_run.pg_house.Returning.{is_dead}
 use Rattle.law_order.specs.pg_run.pg_house.Work.{State, is_root}
 use Rattle.law_order.specs.pg_run.pg_names.declared.attributes.Attributes.{Attributes}
 use Rattle.law_order.specs.pg_run.pg_names.Names.{NamesValue, cell_at, directories, is_dir, own_at}
-use Rattle.law_order.specs.pg_run.pg_register.Place.{root, tilde_name}
+use Rattle.law_order.specs.pg_run.pg_register.Place.{first_stamp, root, tilde_name}
 use Rattle.law_house.specs.Standing.{IsInCycle, IsLeastLatest}
 
 -- ---- where a rule applies
@@ -25,13 +25,15 @@ pub record Passes (st : State) (file : FileId) : Type 0 where
   pub other : is_root file ≡ false
   pub changes : pass st (directories st.names) file ≢ st
 
--- return applies to a held directory other than the root whose place is dead, and not the blank
--- one, and that lists a child
+-- return applies to a held directory other than the root whose place is dead, and made: the blank
+-- one has the first stamp; and that lists a child
 pub record Returns (names : NamesValue) (dir : FileId) : Type 0 where
   pub kind : is_dir dir ≡ true
+  pub other : dir ≢ root
   pub own : Attributes
   pub held : own_at names dir ≡ Some own
-  pub dead : is_dead dir own.place ≡ true
+  pub dead : own.place.live ≡ false
+  pub made : own.place.stamp ≢ first_stamp
   pub child : FileId
   pub cell : Entry
   pub has : cell_at names dir child ≡ Some cell
@@ -56,6 +58,16 @@ pub record IsPassing (before after : State) : Type 0 where
   pub least : (less : FileId) → is_lt (file_cmp less file) ≡ true → Passes before less → ⊥
   pub does : after ≡ pass before (directories before.names) file
 
+-- the stamp that a server draws at a moment: its own, later than all that it knows of, and, while
+-- the clock has not ended, no earlier than the moment; and no later than it has to be
+pub record IsDrawn (moment : ℕ) (names : NamesValue) (stamp : Stamp) : Type 0 where
+  pub own : stamp.server ≡ names.server
+  pub later : names.last < stamp.time
+  pub since : moment ≤ 2 ^ 62 → moment ≤ stamp.time
+  pub ended : 2 ^ 62 ≤ moment → 2 ^ 62 ≤ stamp.time
+  pub least : (time : ℕ) → names.last < time → moment ≤ time → stamp.time ≤ time
+  pub last : (time : ℕ) → names.last < time → 2 ^ 62 ≤ time → stamp.time ≤ time
+
 -- a directory gets a new live place, in this one and with this name, and nothing else changes
 abbrev pub made_live : ℕ → State → FileId → FileId → List ℕ → State
 made_live moment st dir parent name =
@@ -68,6 +80,7 @@ pub record IsReturn (moment : ℕ) (before after : State) : Type 0 where
   pub dir : FileId
   pub applies : Returns before.names dir
   pub least : (less : FileId) → is_lt (file_cmp less dir) ≡ true → Returns before.names less → ⊥
+  pub stamp : IsDrawn moment before.names (drawn moment before.names)
   pub does : let place = place_at before.names dir in
       after ≡ made_live moment before dir place.parent place.name
 
@@ -78,6 +91,7 @@ pub record IsBreaking (moment : ℕ) (before after : State) : Type 0 where
   pub returned : NoneReturns before.names
   pub dir : FileId
   pub applies : IsLeastLatest before.names dir
+  pub stamp : IsDrawn moment before.names (drawn moment before.names)
   pub does : after ≡ made_live moment before dir root (tilde_name dir)
 
 -- one step: the lowest rule that applies, to the least thing to which it does

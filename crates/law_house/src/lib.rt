@@ -13,7 +13,8 @@
 //! - `proofs/Deciding`: passing changes nothing, or something that can be told. `Walking`: things
 //!   pass by id, each in one step or in none. `Placing`: only what got a new place passes behind
 //!   it.
-//! - `proofs/Returning`, `Breaking`, `Ending`: each turn of the loop is one or two steps.
+//! - `proofs/Returning`, `Breaking`, `Ending`: each turn of the loop is one or two steps. `Drawn`:
+//!   the stamp of a new place is the next, and the test of a dead place says what `Returns` says.
 //! - `proofs/Running`: names are fit for the rules behind the first effect of an event.
 //! - Premises: of names, what the laws of `pg_house` ask for, and that things are by id (`AreFit`);
 //!   of runs, what `law_order` says of first effects.

@@ -29,8 +29,7 @@ use Rattle.law_intents.proofs.Called.{far_called}
 use Rattle.law_intents.proofs.Asked.{FlagsAreOfServers}
 use Rattle.law_intents.proofs.Ends.{IsResting, resting_end}
 use Rattle.law_intents.proofs.Far.{Aims, Far, IsFarThen, far_then}
-use Rattle.law_intents.proofs.Heard.{far_tick}
-use Rattle.law_intents.proofs.Received.{far_received}
+use Rattle.law_intents.proofs.Heard.{far_received, far_tick}
 use Rattle.law_intents.proofs.Leaving.{EdgesAreLive}
 use Rattle.law_intents.proofs.Settled.{far_settle}
 
@@ -95,7 +94,7 @@ module _ (n s : ℕ) (a : Store) (k : IsResting n s a) where
       let one = and_parts (is_before_clock_end a) _ heard in
       let two = and_parts (packet.view == view_of a) _ one.1 in
       let three = and_parts (is_live_other a packet.from) (is_in_range packet.message) two.1 in
-      far_received n s Old (idle a (new_work 0 packet.from)) packet.message
+      far_received n s Old a (new_work 0 packet.from) packet.message
       (record { births = given.births; whole = given.held; live = given.live; none = λ x h. absurd h })
       (begins 0 packet.from (λ some. heard_live n s Old a k.servers k.server refl packet.from three.0)))
       (λ no. absurd (false≢true (sym no ∙ going)))

@@ -1,6 +1,6 @@
 -- What holds in the midst of an event: who is asked is another server, and Patches and what was
 -- noted are of held things.
-use Rattle.std.proofs.Common.{ℕ, ◌≡◌, ◌≢◌, ◌⊎◌, Bool, true, false, cond, not, ◌&&◌, List, [], ◌∷◌, Option, None, Some, All, inl, inr, refl, sym, ap, subst, ◌∙◌}
+use Rattle.std.proofs.Common.{ℕ, ◌≡◌, ◌≢◌, ◌⊎◌, Bool, true, false, cond, not, ◌&&◌, List, Option, None, Some, All, inl, inr, refl, sym, ap, subst, ◌∙◌}
 use Rattle.std.specs.Option.{option_map}
 use Rattle.std.proofs.lemmas.Bool.{false≢true}
 use Rattle.std.proofs.lemmas.Option.{none-some}
@@ -39,7 +39,7 @@ use Rattle.law_order.specs.pg_pieces.Accepting.{link_peer, with_link}
 use Rattle.law_order.specs.pg_cells.Cells.{taken}
 use Rattle.law_order.specs.pg_pieces.Done.{Done, idle}
 use Rattle.law_order.specs.pg_pieces.Making.{make_flag, own_next, raise_flag}
-use Rattle.law_order.specs.pg_pieces.Taking.{is_any_news, is_place_news, take_entry_cell, take_entry_noted, take_flag_noted, take_flags_noted, take_place_noted, take_version_noted, with_doubt, with_left_if, with_news}
+use Rattle.law_order.specs.pg_pieces.Taking.{is_any_news, is_place_news, take_entry_cell, take_entry_noted, take_flag_noted, take_place_noted, take_version_noted, with_doubt, with_left_if, with_news}
 use Rattle.law_order.specs.pg_calls.Making.{make_place}
 use Rattle.law_order.specs.theory_flood_pieces.Whole.{IsOther}
 use Rattle.law_order.proofs.theory_flood_pieces.Choices.{chosen}
@@ -257,10 +257,6 @@ module _ (n s : ℕ) (r : List ℕ) where
       (far_work (idle (put_flag d.store f flag) d.work) v
       (far_on d (put_flag d.store f flag) d.work k refl refl refl (goes_update d.store.names f (with_flag flag) (λ x. refl) d.work.left)) beside)
       (far_work d v k beside)
-
-  pub far_flags : (d : Done) (f : FileId) (flags : List Flag) → Far d → Far (take_flags_noted d.store f flags d.work)
-  far_flags d f [] k = far_work d d.work k (beside_itself d.work)
-  far_flags d f (flag ∷ flags) k = far_flags (take_flag_noted d.store f flag d.work) f flags (far_flag d f flag k)
 
   -- the server makes its flag
   pub far_flagged : (d : Done) (f : FileId) (raised : Bool) → Far d → Far (make_flag d.store f (own_next d.store f raised) d.work)

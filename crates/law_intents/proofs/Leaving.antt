@@ -7,7 +7,6 @@ use Rattle.std.proofs.lemmas.List.{get_or_default}
 use Rattle.std.proofs.lemmas.List.Elements.{All-head, All-nil, All-tail}
 use Rattle.std.proofs.lemmas.Option.{none-some, same_Some}
 use Rattle.law_order.specs.pg_base.declared.id.FileId.{FileId}
-use Rattle.law_order.specs.pg_base.declared.stamp.Stamp.{Stamp}
 use Rattle.law_order.specs.pg_base.Id.{is_same_file}
 use Rattle.law_order.proofs.pg_base.Orders.{is_same_file-refl, is_same_file-true}
 use Rattle.law_order.specs.pg_edges.declared.edge.Edge.{Edge}
@@ -22,7 +21,6 @@ use Rattle.law_order.specs.pg_intent.Intent.{is_about, key_of, target_of}
 use Rattle.law_order.specs.pg_intent.Intents.{begun, begun_on, has_key, intent_at, stands}
 use Rattle.law_order.specs.pg_intent.Key.{is_same_key}
 use Rattle.law_order.proofs.pg_intent.Found.{begun_found}
-use Rattle.law_order.specs.pg_msg.declared.message.Ends.{Ends}
 use Rattle.law_order.specs.pg_msg.declared.work.Slot.{Slot}
 use Rattle.law_order.specs.pg_msg.declared.work.Work.{Work}
 use Rattle.law_order.specs.pg_msg.Work.{with_begun}
@@ -34,19 +32,17 @@ use Rattle.law_order.specs.pg_replica.Replicas.{or_nothing}
 use Rattle.law_order.specs.pg_house.Facts.{IsOneOf}
 use Rattle.law_order.specs.pg_store.declared.store.Store.{Store}
 use Rattle.law_order.specs.pg_store.Beginning.{let_go, with_intents}
-use Rattle.law_order.specs.pg_store.Births.{birth_of}
 use Rattle.law_order.specs.pg_store.Links.{is_clean}
 use Rattle.law_order.specs.pg_store.Store.{replica_at, replica_of}
 use Rattle.law_order.specs.pg_store.Together.{AreBirths}
 use Rattle.law_order.specs.pg_pieces.Done.{Done, idle}
 use Rattle.law_order.specs.pg_pieces.Intending.{begin_intent, with_begun_if}
-use Rattle.law_order.specs.pg_graph.Leaving.{bye_to, goes, leave_ok, without_leave}
-use Rattle.law_order.proofs.pg_graph.LeaveOk.{IsAnswered, MayGo, byes_by, found_keyed, leave_ok_by}
+use Rattle.law_order.proofs.pg_graph.LeaveOk.{found_keyed}
 use Rattle.law_order.specs.theory_flood_pieces.Whole.{AreEdges, IsEdge, IsOther, IsWhole}
 use Rattle.law_order.proofs.theory_flood_pieces.Choices.{found_replica}
 use Rattle.law_order.proofs.Intended.{all_begun}
 use Rattle.law_intents.proofs.Asked.{rejoined_target}
-use Rattle.law_intents.proofs.Far.{Aims, Far, IsBeside, beside_either, beside_itself, far_ended, far_work}
+use Rattle.law_intents.proofs.Far.{Aims, Far, IsBeside, beside_either, beside_itself, far_work}
 use Rattle.law_intents.proofs.Goes.{told_at, told_of}
 
 -- ---- who is listed is another server
@@ -162,7 +158,7 @@ pub record IsOpening (n s : ℕ) (r : List ℕ) (d : Done) : Type 0 where
 
 module _ (n s : ℕ) (r : List ℕ) where
   -- a replica goes
-  far_goes : (d : Done) (f : FileId) → ((x : Slot) → IsOneOf x d.work.left → ⊥) → find (is_about f) d.store.intents ≡ None → Far n s r d → Far n s r (idle (let_go d.store f) d.work)
+  pub far_goes : (d : Done) (f : FileId) → ((x : Slot) → IsOneOf x d.work.left → ⊥) → find (is_about f) d.store.intents ≡ None → Far n s r d → Far n s r (idle (let_go d.store f) d.work)
   far_goes d f none quiet k = record {
     servers = k.servers;
     server = k.server;
@@ -183,35 +179,17 @@ module _ (n s : ℕ) (r : List ℕ) where
         });
   }
 
-  module _ (d : Done) (ends : Ends) (stamp : Stamp) (first : IsOpening n s r d) (k : Far n s r d) where
-    abbrev Over : Store
-    Over = without_leave d.store ends.file
+  -- each edge is to another server, which is not removed
+  abbrev pub Live : Edge → Type 0
+  Live e = IsEdge n s e × (is_removed r e.peer ≡ false)
 
-    far_over : Far n s r (idle Over d.work)
-    far_over = far_ended n s r d (intent_key.Leave ends.file) k
-
-    abbrev Live : Edge → Type 0
-    Live e = IsEdge n s e × (is_removed r e.peer ≡ false)
-
+  module _ (d : Done) (first : IsOpening n s r d) where
     live_here : (f : FileId) (x : Replica) → replica_at d.store f ≡ Some x → All Live x.edges
     live_here f x at i e lt = (
       (found_replica (λ (z : Replica). AreEdges n s z.edges) f x d.store.replicas first.whole.replicas at).each i e lt,
       first.live f x (get_or x.edges i e) at (i, (lt, get_or_default x.edges i e (get_or x.edges i e) lt)),
     )
 
-    live_edges : (f : FileId) (o : Option Replica) → replica_at d.store f ≡ o → All Live (or_nothing o).edges
+    pub live_edges : (f : FileId) (o : Option Replica) → replica_at d.store f ≡ o → All Live (or_nothing o).edges
     live_edges f None at = All-nil Live
     live_edges f (Some x) at = live_here f x at
-
-    far_gone_all : MayGo d.store ends stamp d.work → Far n s r (goes Over ends.file d.work)
-    far_gone_all may =
-        let f = ends.file in
-        byes_by (Far n s r) Live f (birth_of Over f)
-        (λ x e edge far. far_begins n s r x (bye_to f (birth_of Over f) e) (λ some. record { other = edge.0.other; stays = edge.1 }) (λ dir child. refl) far)
-        (replica_of Over f).edges (live_edges f (replica_at d.store f) refl) (idle (let_go Over f) d.work)
-        (far_goes (idle Over d.work) f first.none may.quiet far_over)
-
-    pub far_leave_ok : Far n s r (leave_ok d.store ends stamp d.work)
-    far_leave_ok =
-        leave_ok_by (Far n s r) d.store ends stamp d.work (far_work n s r d d.work k (beside_itself d.work))
-        (λ (answered : IsAnswered d.store ends stamp d.work). far_over) far_gone_all

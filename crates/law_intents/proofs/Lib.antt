@@ -5,8 +5,6 @@ pub mod Aimed
 pub mod Asked
 pub mod Leaving
 pub mod Heard
-pub mod Received
-pub mod Lost
 pub mod Entered
 pub mod Called
 pub mod Settled

@@ -12,9 +12,9 @@
 //! - `proofs/Begun` has what ends where a replica begins, `proofs/Asked` and `Aimed` who is asked,
 //!   `proofs/Settled` what the house rules and raised flags leave of it.
 //! - Premises: `ViewsArePrefixes` alone; of other laws it cites those of `law_order`.
-//! - A new kind of message gets its line in `far_received` (`proofs/Received`), with a lemma
-//!   `far_..` for its handler. A new kind of intention gets its case where intentions begin and end
-//!   (`proofs/Asked`, `proofs/Ends`), and where a view is entered (`proofs/Entered`).
+//! - What each piece of a message and of a call keeps is said in `proofs/Heard` and `Called`; the
+//!   walk over them is that of `law_frame`. A new kind of intention gets its case where intentions
+//!   begin and end (`proofs/Asked`, `proofs/Ends`), and where a view is entered (`proofs/Entered`).
 #![tactic(auto)]
 
 mod laws;

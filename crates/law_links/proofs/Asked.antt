@@ -30,7 +30,8 @@ use Rattle.law_births.proofs.pg_run.pg_calls.Walked.{full_held}
 use Rattle.law_births.proofs.Effects.{Lists}
 use Rattle.law_births.proofs.Has.{IsAlone}
 use Rattle.law_links.proofs.Linked.{link_lists, within}
-use Rattle.law_links.specs.Links.{IsLinkedBy, IsWalkEnd, LinkTo}
+use Rattle.law_links.proofs.Words.{IsTestedBy}
+use Rattle.law_links.specs.Links.{IsWalkEnd, LinkTo}
 
 -- ---- where a walk ends it goes no further
 
@@ -157,7 +158,7 @@ module _ (a : Store) (k : IsAlone a) (from : ℕ) where
 
   -- ---- a message
 
-  pub received_lists : (m : Message) (l : LinkTo) → IsLinkedBy a from l m
+  pub received_lists : (m : Message) (l : LinkTo) → IsTestedBy a from l m
       → knows_later a l.file l.peer l.birth ≡ false → Listed (receive a m work) l
   received_lists (message.Fetch file birth) l h later = fetch_lists file birth l h.0 h.1 later
   received_lists (message.Seek file birth) l h later = seek_lists file birth l h.0 h.1 later

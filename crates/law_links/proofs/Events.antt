@@ -15,15 +15,16 @@ use Rattle.law_births.specs.pg_server.Local.{Effect, closed, effect, finished, f
 use Rattle.law_births.specs.pg_run.Intending.{IntentionsAreInOrder}
 use Rattle.law_births.specs.pg_run.Run.{Step, Taking, next, run}
 use Rattle.law_births.specs.Premises.{FillsAlwaysStand, NextIdsAreFree}
-use Rattle.law_births.proofs.pg_run.Frame.{next_is}
+use Rattle.law_births.proofs.pg_run.Frame.{acts_is, next_is}
 use Rattle.law_births.proofs.Alone.{alone_always}
 use Rattle.law_births.proofs.Effects.{Lists, intended_shapes, lists_on}
 use Rattle.law_births.proofs.Ends.{born_to, ends, listed_born}
 use Rattle.law_births.proofs.Has.{IsAlone}
 use Rattle.law_births.proofs.Pieces.{Shape, settle_stays, shape}
-use Rattle.law_order.proofs.Told.{ids_new}
+use Rattle.law_order.proofs.Told.{ids_new, servers_whole}
 use Rattle.law_links.proofs.Asked.{received_lists}
-use Rattle.law_links.specs.Links.{AsksLinkTheAsker, IsLinkedAt, IsLinkedBy, LinkTo}
+use Rattle.law_links.proofs.Words.{IsTestedBy, named_at, none_later, tested_by}
+use Rattle.law_links.specs.Links.{AsksLinkTheAsker, IsLinkedAt, LinkTo}
 
 -- ---- what is listed has an edge
 
@@ -45,7 +46,7 @@ linked_by (Some y) m fs peer birth e born = (
 )
 
 linked_at : (b : Store) (l : LinkTo) → Lists b l.file l.peer l.birth → IsLinkedAt b l
-linked_at b l h = linked_by (replica_at b l.file) h.0 h.1 l.peer l.birth h.2 h.3
+linked_at b l h = named_at b l (linked_by (replica_at b l.file) h.0 h.1 l.peer l.birth h.2 h.3)
 
 -- ---- the event
 
@@ -54,7 +55,7 @@ chosen_there P true x y is here = here
 chosen_there P false x y is here = absurd (false≢true is)
 
 module _ (a : Store) (k : IsAlone a) (packet : Packet) (l : LinkTo)
-    (heard : is_heard a packet ≡ true) (links : IsLinkedBy a packet.from l packet.message)
+    (heard : is_heard a packet ≡ true) (links : IsTestedBy a packet.from l packet.message)
     (later : knows_later a l.file l.peer l.birth ≡ false) where
   abbrev Here : Store → Type 0
   Here b = Lists b l.file l.peer l.birth
@@ -90,10 +91,13 @@ pub asks_link_the_asker : (n : ℕ) → IntentionsAreInOrder n → AsksLinkTheAs
 asks_link_the_asker n intends events event s packet l takes heard links later =
     let w = run n events in
     let t : Taking = record { server = s; asked = input.Arrival packet } in
+    let acts = acts_is n w event t takes in
+    let whole = servers_whole n events s acts.least acts.most in
+    let tested = tested_by n s (w.stores s) whole packet.from l packet.message links in
     let b = (effect (w.stores s) (input.Arrival packet)).store in
     let is : (next n w event).stores s ≡ b =
     ap (λ (z : Step). z.stores s) (next_is n w event t takes)
     ∙ ap (λ u. cond u b (w.stores s)) (eq-eqb s s refl) in
     subst (λ (z : Store). IsLinkedAt z l) (sym is)
     (linked_at b l (event_lists (w.stores s)
-    (alone_always n (fills_stand n intends) (ids_free n) events s) packet l heard links later))
+    (alone_always n (fills_stand n intends) (ids_free n) events s) packet l heard tested (none_later (w.stores s) l later)))

@@ -1,3 +1,4 @@
 pub mod Linked
+pub mod Words
 pub mod Asked
 pub mod Events

@@ -3,7 +3,8 @@
 //! A message along an edge links its sender where it is accepted (`law_births`, the clause `linked`
 //! of `run`). Three more link a peer though they come along no edge to it: a Fetch and a Seek link
 //! their sender, and a walk that ends links its origin, the clause `asked_linked`. The statement
-//! stands in `specs/Links`.
+//! stands in `specs/Links`, which says by members of lists which edges are there, and names no test
+//! of the definitions: one that is wrong is refused in `proofs/Words`.
 //!
 //! - `link_lists` (`proofs/Linked`): where the thing is held, and no later birth of the peer is
 //!   listed, a link lists this one. It is what `law_births` has of a Leave, read of the link alone.

@@ -14,7 +14,7 @@ use Rattle.pg_run.specs.Took.{Take, is_of_replica, without_gone}
 use Rattle.pg_run.proofs.theory_flood.Flood.{here}
 use Rattle.pg_run.proofs.Frame.{IsFramed, framed}
 use Rattle.law_took.specs.Takers.{Comes, FromThen, IsOfNames, IsTaker, Passes, ReplicasTookWhatCame, come}
-use Rattle.law_took.proofs.Once.{End, come_has, gone_lost, left_has, left_kept, left_was, taken_at}
+use Rattle.law_took.proofs.Once.{End, come_has, gone_lost, left_has, left_kept, left_was, of_taker, taken_at, taker_of}
 
 bool_cases : (a : Bool) → (a ≡ true) ⊎ (a ≡ false)
 bool_cases true = inl refl
@@ -58,7 +58,7 @@ module _ (n s : ℕ) (u : Take) (names : IsOfNames u) where
         let same : asked ≡ l.asked = ap (λ (t : Taking). t.asked) (same_Some _ _ (sym takes ∙ l.takes)) in
         let going : takes_effect (w.stores s) asked ≡ true = ap (takes_effect (w.stores s)) same ∙ l.going in
         let gone : gone_in (w.stores s) asked ≡ Some l.file = ap (gone_in (w.stores s)) same ∙ l.gone in
-        gone_lost l.file (w.took s) u l.of (subst (λ (o : Option FileId). Has (without_gone o (w.took s))) gone (left going))
+        gone_lost l.file (w.took s) u (of_taker l.file u l.of) (subst (λ (o : Option FileId). Has (without_gone o (w.took s))) gone (left going))
 
     taken_by : (going : Bool) → takes_effect (w.stores s) asked ≡ going
         → Has (cond going (End (w.stores s) (w.asked s) (w.took s) asked) (w.took s))
@@ -81,7 +81,7 @@ module _ (n s : ℕ) (u : Take) (names : IsOfNames u) where
       where
         others : (file : FileId) → gone_in (w.stores s) asked ≡ Some file → is_of_replica file u ≡ false
         others file gone = elim (bool_cases (is_of_replica file u)) [
-          | inl of ↦ absurd (stays (record { asked = asked; takes = takes; going = is; file = file; gone = gone; of = of }))
+          | inl of ↦ absurd (stays (record { asked = asked; takes = takes; going = is; file = file; gone = gone; of = taker_of file u of }))
           | inr apart ↦ apart
         ]
 

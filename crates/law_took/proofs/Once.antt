@@ -1,5 +1,5 @@
 -- What one input leaves of what each replica took.
-use Rattle.std.proofs.Common.{◌≡◌, ℕ, Bool, true, false, cond, not, List, [], ◌∷◌, ◌++◌, map, Option, None, Some, ◌⊎◌, inl, inr, refl, sym, ap, subst, ◌∙◌}
+use Rattle.std.proofs.Common.{◌≡◌, ◌≢◌, ℕ, Bool, true, false, cond, not, List, [], ◌∷◌, ◌++◌, map, Option, None, Some, ◌⊎◌, inl, inr, refl, sym, ap, subst, ◌∙◌}
 use Rattle.std.specs.List.{filter, flat_map}
 use Rattle.std.proofs.lemmas.Bool.{false≢true, not-true}
 use Rattle.pg_run.specs.pg_base.declared.id.FileId.{FileId}
@@ -17,10 +17,10 @@ use Rattle.pg_run.specs.Run.{brought, made_behind, removed_then}
 use Rattle.pg_run.specs.Took.{Take, Taker, held, is_of_replica, is_same_taker, take_of, without, without_gone}
 use Rattle.pg_run.specs.Took.Take.{Began, TookFlag, TookPlace, TookVersion}
 use Rattle.pg_run.specs.Took.Taker.{InDir, Itself}
-use Rattle.pg_run.proofs.pg_base.Orders.{is_same_file-true}
+use Rattle.pg_run.proofs.pg_base.Orders.{is_same_file-refl, is_same_file-true}
 use Rattle.pg_run.proofs.Knowing.{Tells, Within, made_within, passed_within, told_itself, within_back, within_parts, within_then}
 use Rattle.pg_run.proofs.Lists.{among_back, among_front, among_parts, among_pieces}
-use Rattle.law_took.specs.Takers.{AnotherHas, IsOfNames, come, come_to}
+use Rattle.law_took.specs.Takers.{AnotherHas, IsOfNames, IsTaker, come, come_to}
 
 -- ---- among those that are kept
 
@@ -75,6 +75,33 @@ same_taker Itself (InDir e) h = absurd (false≢true h)
 same_taker (InDir d) Itself h = absurd (false≢true h)
 same_taker (InDir d) (InDir e) h = ap InDir (is_same_file-true d e h)
 
+taker_itself : (a : Taker) → is_same_taker a a ≡ true
+taker_itself Itself = refl
+taker_itself (InDir d) = is_same_file-refl d
+
+other_taker : (a b : Taker) → is_same_taker a b ≡ false → a ≢ b
+other_taker a b apart same = false≢true (sym apart ∙ ap (is_same_taker a) (sym same) ∙ taker_itself a)
+
+-- whose a take is, by the test and in words
+same_file : (f g : FileId) → f ≡ g → is_same_file f g ≡ true
+same_file f g same = ap (is_same_file f) (sym same) ∙ is_same_file-refl f
+
+pub taker_of : (file : FileId) (u : Take) → is_of_replica file u ≡ true → IsTaker u file
+taker_of file (TookVersion f stamp) h = is_same_file-true f file h
+taker_of file (TookPlace Itself thing place) h = is_same_file-true thing file h
+taker_of file (TookPlace (InDir dir) thing place) h = is_same_file-true dir file h
+taker_of file (TookFlag Itself thing flag) h = is_same_file-true thing file h
+taker_of file (TookFlag (InDir dir) thing flag) h = is_same_file-true dir file h
+taker_of file (Began f) h = is_same_file-true f file h
+
+pub of_taker : (file : FileId) (u : Take) → IsTaker u file → is_of_replica file u ≡ true
+of_taker file (TookVersion f stamp) h = same_file f file h
+of_taker file (TookPlace Itself thing place) h = same_file thing file h
+of_taker file (TookPlace (InDir dir) thing place) h = same_file dir file h
+of_taker file (TookFlag Itself thing flag) h = same_file thing file h
+of_taker file (TookFlag (InDir dir) thing flag) h = same_file dir file h
+of_taker file (Began f) h = same_file f file h
+
 one_of : {A : Type 0} (t : Bool) (x y : A) → Among x (cond t (y ∷ []) []) → (t ≡ true) × (x ≡ y)
 one_of true x y k = elim k [ inl same ↦ (refl, same) | inr none ↦ absurd none ]
 one_of false x y k = absurd k
@@ -93,7 +120,7 @@ place_by by thing place takes (TookPlace other f p) k h =
     either : (same : Bool) → is_same_taker other by ≡ same → Among (TookPlace other thing place) takes
         → Among (TookPlace by thing place) takes ⊎ AnotherHas takes (TookPlace by thing place)
     either true same here = inl (subst (λ (b : Taker). Among (TookPlace b thing place) takes) (same_taker other by same) here)
-    either false apart here = inr (other, apart, here)
+    either false apart here = inr (other, other_taker other by apart, here)
 place_by by thing place takes (TookFlag b f flag) k h = absurd h
 place_by by thing place takes (Began f) k h = absurd h
 
@@ -111,7 +138,7 @@ flag_by by thing flag takes (TookFlag other f g) k h =
     either : (same : Bool) → is_same_taker other by ≡ same → Among (TookFlag other thing flag) takes
         → Among (TookFlag by thing flag) takes ⊎ AnotherHas takes (TookFlag by thing flag)
     either true same here = inl (subst (λ (b : Taker). Among (TookFlag b thing flag) takes) (same_taker other by same) here)
-    either false apart here = inr (other, apart, here)
+    either false apart here = inr (other, other_taker other by apart, here)
 flag_by by thing flag takes (Began f) k h = absurd h
 
 -- what is told is taken by this replica, or by another

@@ -1,6 +1,6 @@
 -- What each replica at a server took of names, by what came to just this replica, and by what other
 -- replicas there had.
-use Rattle.std.specs.Prelude.{ℕ, ◌⊎◌, ◌≡◌, ◌++◌, true, false, List, [], ◌∷◌, Some, map}
+use Rattle.std.specs.Prelude.{ℕ, ◌⊎◌, ◌≡◌, ◌≢◌, ◌++◌, true, List, [], ◌∷◌, Some, map}
 use Rattle.pg_run.specs.pg_base.declared.id.FileId.{FileId}
 use Rattle.pg_run.specs.pg_content.Content.{Among}
 use Rattle.pg_run.specs.pg_event.declared.event.Event.{Event}
@@ -12,8 +12,9 @@ use Rattle.pg_run.specs.Asking.{Asked}
 use Rattle.pg_run.specs.Came.{NoneLeaves}
 use Rattle.pg_run.specs.Carried.{gone_in}
 use Rattle.pg_run.specs.Run.{World, brought, made_behind, next, run, start, taking_in, world_after}
-use Rattle.pg_run.specs.Took.{Take, Taker, first_takes, is_of_replica, is_same_taker, take_of, without_gone}
-use Rattle.pg_run.specs.Took.Take.{TookFlag, TookPlace}
+use Rattle.pg_run.specs.Took.{Take, Taker, first_takes, take_of, without_gone}
+use Rattle.pg_run.specs.Took.Take.{Began, TookFlag, TookPlace, TookVersion}
+use Rattle.pg_run.specs.Took.Taker.{InDir, Itself}
 
 -- what comes to replicas at a server in an event, each take to its own: what the house rules made,
 -- and what the first effect brings, with what it made
@@ -33,9 +34,9 @@ IsOfNames _ = ⊥
 
 -- another replica took the same place or flag of the thing
 abbrev pub AnotherHas : List Take → Take → Type 0
-AnotherHas takes (TookPlace by thing place) = (other : Taker) × (is_same_taker other by ≡ false)
+AnotherHas takes (TookPlace by thing place) = (other : Taker) × (other ≢ by)
     × Among (TookPlace other thing place) takes
-AnotherHas takes (TookFlag by thing flag) = (other : Taker) × (is_same_taker other by ≡ false)
+AnotherHas takes (TookFlag by thing flag) = (other : Taker) × (other ≢ by)
     × Among (TookFlag other thing flag) takes
 AnotherHas takes _ = ⊥
 
@@ -54,9 +55,14 @@ pub record Passes (servers : ℕ) (w : World) (event : Event) (s : ℕ) (u : Tak
   pub going : takes_effect (w.stores s) asked ≡ true
   pub known : AnotherHas (come_to (w.stores s) (w.asked s) (w.took s) asked) u
 
--- the replica of this thing took it
+-- the replica of this thing took it: by itself, or as that of a directory with an entry
 abbrev pub IsTaker : Take → FileId → Type 0
-IsTaker u file = is_of_replica file u ≡ true
+IsTaker (TookVersion of stamp) file = of ≡ file
+IsTaker (TookPlace Itself thing place) file = thing ≡ file
+IsTaker (TookPlace (InDir dir) thing place) file = dir ≡ file
+IsTaker (TookFlag Itself thing flag) file = thing ≡ file
+IsTaker (TookFlag (InDir dir) thing flag) file = dir ≡ file
+IsTaker (Began of) file = of ≡ file
 
 -- of one of these events it holds, and behind that the replica that took it does not go
 abbrev pub FromThen : ℕ → World → List Event → ℕ → Take → (World → Event → Type 0) → Type 0

@@ -27,7 +27,7 @@ use Rattle.law_order.specs.pg_store.Servers.{first_target}
 use Rattle.law_order.specs.pg_store.Store.{is_held}
 use Rattle.law_order.proofs.pg_intentions.Steady.{IsSteady, stays_on}
 use Rattle.law_order.proofs.theory_flood_pieces.Choices.{chosen, decided}
-use Rattle.law_turns.specs.Turns.{IsFirstTarget}
+use Rattle.law_turns.proofs.Aims.{IsAimed}
 use Rattle.law_turns.proofs.Shapes.{Before, More, Parts, aims_keep, begun_more, in_place, no_more, rank_less}
 use Rattle.law_turns.proofs.Sorting.{Rising}
 
@@ -37,7 +37,7 @@ Bounded r new = AllByRecursion (λ i. rank (key_of i) < r) new
 
 module _ (Old : IntentKey → Type 0) (ref : Store) (begin : Work) where
   abbrev First : Intent → Type 0
-  First i = IsFirstTarget ref begin.from i
+  First i = IsAimed ref begin.from i
 
   abbrev pub Split : List Intent → Type 0
   Split is = Parts Old First is
@@ -67,7 +67,7 @@ module _ (Old : IntentKey → Type 0) (ref : Store) (begin : Work) where
       λ i. target (k.names i) (k.servers i)
 
   -- and so the first targets of all
-  pub targets_are : (s : Store) (w : Work) → Steady s w → w.from ≡ begin.from → (i : Intent) → IsFirstTarget ref begin.from i → IsFirstTarget s begin.from i
+  pub targets_are : (s : Store) (w : Work) → Steady s w → w.from ≡ begin.from → (i : Intent) → IsAimed ref begin.from i → IsAimed s begin.from i
   targets_are s w k same (intent.Bye file birth peer peer_birth) h = tt
   targets_are s w k same (intent.Patch dir entry target) h = h ∙ sym (first_is s w k) ∙ ap (first_target s) same
   targets_are s w k same (intent.Fill file birth target) h = h ∙ sym (first_is s w k) ∙ ap (first_target s) same

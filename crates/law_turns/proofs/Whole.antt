@@ -20,7 +20,7 @@ use Rattle.law_order.specs.pg_msg.Work.{slot_cmp}
 use Rattle.law_order.specs.pg_pieces.Done.{Done}
 use Rattle.law_order.specs.pg_store.declared.store.Store.{Store}
 use Rattle.law_order.proofs.pg_intentions.Steady.{IsSteady, confirm_stays, each_stays, fill_stays, patch_stays, seek_stays, stays, stays_on}
-use Rattle.law_turns.specs.Turns.{IsFirstTarget}
+use Rattle.law_turns.proofs.Aims.{IsAimed}
 use Rattle.law_turns.proofs.EachKind.{Bounded, Split, confirm_one, fill_one, kind_begins, patch_one, seek_one, targets_are}
 use Rattle.law_turns.proofs.Shapes.{all_to, none_began}
 use Rattle.law_turns.proofs.Sorting.{fills_sorted, rising, seeks_sorted, slots_sorted}
@@ -44,7 +44,7 @@ module _ (Old : IntentKey → Type 0) (a : Store) (w : Work) (older : AllByRecur
 
   begins : (q : IsSplit Ended.intents) × (q.new ≡ [])
   begins =
-      none_began Old (IsFirstTarget Ended w.from) Ended.intents
+      none_began Old (IsAimed Ended w.from) Ended.intents
       (all_filter (λ i. Old (key_of i)) (still_stands a (files_to_fill a.names)) a.intents older) (sym (append-nil Ended.intents))
 
   -- ---- Patches
@@ -106,9 +106,9 @@ module _ (Old : IntentKey → Type 0) (a : Store) (w : Work) (older : AllByRecur
       stays_on sought_steady (each_stays begin_confirm confirm_stays (in_order Sought.work.unsure) Sought.store Sought.work)
 
   -- what began, in turn, with targets as they are in the end
-  pub in_turn : (q : IsSplit End.store.intents) × AllByRecursion (IsFirstTarget End.store w.from) q.new
+  pub in_turn : (q : IsSplit End.store.intents) × AllByRecursion (IsAimed End.store w.from) q.new
   in_turn = (
     ended.0,
-    all_to (IsFirstTarget Ended w.from) (IsFirstTarget End.store w.from)
+    all_to (IsAimed Ended w.from) (IsAimed End.store w.from)
         (targets_are Old Ended w End.store End.work end_steady end_steady.from) ended.0.new ended.0.first,
   )

@@ -9,15 +9,13 @@ use Rattle.law_order.specs.pg_intent.declared.key.IntentKey.{IntentKey}
 use Rattle.law_order.specs.pg_intent.Intent.{key_of}
 use Rattle.law_order.specs.pg_intent.Intents.{stands}
 use Rattle.law_order.specs.pg_intent.Key.{is_for_peer, key_cmp}
-use Rattle.law_order.specs.pg_intentions.Confirms.{holder}
-use Rattle.law_order.specs.pg_intentions.Seeks.{seek_target}
 use Rattle.law_order.specs.pg_server.declared.input.Input.{Input}
 use Rattle.law_order.specs.pg_server.declared.input.Input.TheVariants as input
 use Rattle.law_order.specs.pg_server.Local.{takes_effect}
 use Rattle.law_order.specs.pg_store.declared.store.Store.{Store}
-use Rattle.law_order.specs.pg_store.Servers.{first_target}
 use Rattle.law_order.specs.pg_run.Laws.{TakesIn}
 use Rattle.law_order.specs.pg_run.Run.{next, run}
+use Rattle.law_turns.specs.Targets.{IsHolder, IsLeastOrNext, IsTellerOrNext, IsUnmatched}
 
 -- who sent the event's message, 0 where it brought none
 abbrev pub sender_in : Input → ℕ
@@ -25,14 +23,15 @@ sender_in (input.Arrival packet) = packet.from
 sender_in _ = 0
 
 -- A Patch and a Fill ask who sent the event's message, else the next behind this server; a Seek the
--- least other live gold to which no edge leads, and a Confirm the least one that the entry names,
--- else the next behind this server. A Bye and a Leave go to their peer
+-- least live other server whose flag is raised and matched by no edge, and a Confirm the least one
+-- whose flag is raised in the entry, else the next behind this server. A Bye and a Leave go to
+-- their peer
 abbrev pub IsFirstTarget : Store → ℕ → Intent → Type 0
 IsFirstTarget b from (intent.Bye file birth peer peer_birth) = Unit {0}
-IsFirstTarget b from (intent.Patch dir entry target) = target ≡ first_target b from
-IsFirstTarget b from (intent.Fill file birth target) = target ≡ first_target b from
-IsFirstTarget b from (intent.Seek file target) = target ≡ seek_target b file
-IsFirstTarget b from (intent.Confirm dir child target) = target ≡ holder b dir child
+IsFirstTarget b from (intent.Patch dir entry target) = IsTellerOrNext b from target
+IsFirstTarget b from (intent.Fill file birth target) = IsTellerOrNext b from target
+IsFirstTarget b from (intent.Seek file target) = IsLeastOrNext b (IsUnmatched b file) target
+IsFirstTarget b from (intent.Confirm dir child target) = IsLeastOrNext b (IsHolder b dir child) target
 IsFirstTarget b from (intent.Leave file peer peer_birth) = Unit {0}
 
 -- it stood already, or is a Bye's or a Leave's, which begin before the house rules

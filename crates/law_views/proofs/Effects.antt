@@ -293,7 +293,7 @@ module _ (n s : ℕ) (a : Store) (k : IsSeen n s a.names.removed a) (together : 
       let w = new_work 0 packet.from in
       stays asked (first_effect a asked)
       (decided (IsFine n s Now) (is_heard a packet) (receive a packet.message w) (idle a w)
-      (λ heard. receive_fine n s Now packet.message (idle a w) (heard_from packet heard) (live heard) (begins 0 packet.from))
+      (λ heard. receive_fine n s Now a w packet.message (heard_from packet heard) (live heard) (begins 0 packet.from))
       (λ no. begins 0 packet.from))
       (All-weaker (GoesLast a asked) (IsSent n s Now)
       (λ m h. passed_sent packet.from packet.message m (live h.0) h.1) (first_effect a asked).work.tail (first_tail a asked))

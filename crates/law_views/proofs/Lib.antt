@@ -2,7 +2,6 @@ pub mod Lists
 pub mod Seen
 pub mod Targets
 pub mod Fine
-pub mod Along
 pub mod Handled
 pub mod Called
 pub mod Entering

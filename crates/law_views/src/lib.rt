@@ -11,10 +11,10 @@
 //! - Premises: `StandOn` (`specs/Premises`), that servers are whole and flags in cells are of the
 //!   run's servers; `law_order` gives both, and `pangaea` joins them. No other law is cited here,
 //!   and nearly all others may cite this one.
-//! - A new kind of message gets its line in `receive_fine` (`proofs/Handled`), with a lemma
-//!   `.._fine` for its handler: edges that are made lead to servers that are not removed, and who
-//!   is named in it is live in the view. A new call does so in `proofs/Called`; who is asked next,
-//!   in `proofs/Targets`.
+//! - What each piece of a message and of a call keeps is said in `proofs/Handled` and `Called`; the
+//!   walk over them is that of `law_frame`. So a new kind of message, or a new call, costs nothing
+//!   here but where it has a piece of its own: edges that are made lead to servers that are not
+//!   removed, and who is named in it is live in the view. Who is asked next: `proofs/Targets`.
 #![tactic(auto)]
 
 mod laws;

@@ -68,15 +68,13 @@ fn of_word(verb: &[u8], place: u64) -> Option<&'static str> {
     }
 }
 
-/// What to do about this end of a command, where there is something to be said.
-pub(crate) fn advice(words: &Vec<String>, status: Status) -> Option<&'static str> {
-    let verb = match words.get(1) {
-        Some(word) => word.as_bytes(),
-        None => b"".as_slice(),
-    };
+/// What to do about the end of a node that does not go on.
+fn of_node_end(status: Status) -> Option<&'static str> {
     match status {
-        Status::Usage(place) => of_word(verb, place),
-        Status::NetFault => Some("another program may have the port: choose another PORT"),
+        Status::NetFault => Some(
+            "where another program has the port, choose another PORT; else start the node again: \
+             it takes up what its log keeps",
+        ),
         Status::DiskFault => Some(
             "see that the folder can be written and has room, and start the node again: it takes \
              up what its log keeps",
@@ -88,10 +86,67 @@ pub(crate) fn advice(words: &Vec<String>, status: Status) -> Option<&'static str
         Status::OtherLog(_, _) => {
             Some("start the server that this log names, or choose the NAME of this server's own")
         }
-        Status::TurnsSpent if verb == b"call".as_slice() => {
-            Some("no reply came: see that the node runs, and that SERVER and PORT are its own")
+        Status::TurnsSpent => Some("all its takes are made: start it again, with more TURNS"),
+        Status::OutOfMemory => {
+            Some("start it again with more memory: it takes up what its log keeps")
         }
         _ => None,
+    }
+}
+
+/// What to do about the end of a call that was not done, or may not have been.
+fn of_call_end(status: Status) -> Option<&'static str> {
+    match status {
+        Status::NetFault => {
+            Some("the system refused a packet: see whether the call was done, and call again")
+        }
+        Status::WriteFault => Some(
+            "mend what standard output goes to, and see whether the call was done before you call \
+             again",
+        ),
+        Status::TurnsSpent => {
+            Some("no reply came: see that the node runs, and that SERVER and PORT are its own")
+        }
+        Status::Refused(_) => {
+            Some("the call changed nothing, and standard output says why it was refused")
+        }
+        Status::OutOfMemory => {
+            Some("see whether the call was done, and call again with more memory")
+        }
+        _ => None,
+    }
+}
+
+/// What to do about the end of any other command.
+fn of_text_end(status: Status) -> Option<&'static str> {
+    match status {
+        Status::ReadFault => {
+            Some("mend what standard input comes from, and say it again: nothing was written")
+        }
+        Status::WriteFault => Some(
+            "mend what standard output goes to, and say it again: what was written is the \
+             beginning of it",
+        ),
+        Status::InputLong => Some("a schedule has at most 67108864 bytes: nothing was written"),
+        Status::BadLine(_, _) => Some("mend this line: nothing was written"),
+        Status::OutOfMemory => Some("say it again with more memory: nothing was written"),
+        _ => None,
+    }
+}
+
+/// What to do about this end of a command, where there is something to be said.
+pub(crate) fn advice(words: &Vec<String>, status: Status) -> Option<&'static str> {
+    let verb = match words.get(1) {
+        Some(word) => word.as_bytes(),
+        None => b"".as_slice(),
+    };
+    match status {
+        Status::Usage(place) => of_word(verb, place),
+        _ => match verb {
+            b"node" => of_node_end(status),
+            b"call" => of_call_end(status),
+            _ => of_text_end(status),
+        },
     }
 }
 

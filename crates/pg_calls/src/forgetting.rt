@@ -4,7 +4,7 @@ ghost use Rattle.std.specs.Prelude.{◌≡◌, ◌<◌, ◌^◌, IfOk, None, OnO
 ghost use Rattle.std.specs.List.{list_any};
 ghost use Rattle.pg_checks.specs.Answer.{Tells};
 ghost use Rattle.pg_checks.specs.Asking.{later, latest};
-ghost use Rattle.pg_calls.specs.Forgetting.{begin_lost, begun_at, begun_with, dead_at, dirs_of, fill_lost, forget, forget_lost, has_blank_place, has_cell_for, if_live, is_patch_to, is_wanted_by, last_listing, later_listing, lists_in, lost_at, mark, marked_each, place_in, placed_in_root, placed_lost, root_place, strike_from, strike_out, unless_full};
+ghost use Rattle.pg_calls.specs.Forgetting.{begin_lost, begun_at, begun_with, dead_at, dirs_of, fill_lost, forget, forget_lost, has_blank_place, if_live, is_patch_to, is_wanted_by, last_listing, later_listing, lists_in, lost_at, mark, marked_each, place_in, placed_in_root, placed_lost, root_place, strike_from, strike_out, unless_full};
 
 use crate::demoting::unless_root;
 use crate::making::{make_place, next_stamp};
@@ -96,13 +96,6 @@ fn fill_lost(store: &mut Store, id: FileId, work: &mut Work) -> Result<(), Alloc
     fill(store, id, work)
 }
 
-/// Whether a directory has a cell for a thing.
-fn has_cell_for(names: &Names, id: FileId, dir: &FileId) -> bool
-    ensures { result ≡ has_cell_for names.now id dir.now }
-{
-    names.entry(dir, &id).is_some()
-}
-
 /// Whether it lists the thing.
 fn lists_in(names: &Names, id: FileId, dir: &FileId) -> bool
     ensures { result ≡ lists_in names.now id dir.now }
@@ -117,13 +110,8 @@ fn lists_in(names: &Names, id: FileId, dir: &FileId) -> bool
 fn dirs_of(names: &Names, id: FileId) -> Result<Items<FileId>, AllocError>
     ensures { IfOk result (λ dirs. dirs ≡ dirs_of names.now id) }
 {
-    let held = names.as_map();
-    Ok(Items::from_vec(
-        held.keys()
-            .copied()
-            .filter(|dir| has_cell_for(names, id, dir))
-            .collect(names.allocator())?,
-    ))
+    let held = names.holders(&id).as_map();
+    Ok(Items::from_vec(held.keys().copied().collect(names.allocator())?))
 }
 
 /// Of a directory so far and this one the one whose cell for a thing has the later place.

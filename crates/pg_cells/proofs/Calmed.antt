@@ -24,7 +24,7 @@ use Rattle.pg_pieces.specs.pg_store.declared.store.Store.{Store}
 use Rattle.pg_pieces.specs.pg_store.Births.{birth_of}
 use Rattle.pg_pieces.specs.pg_store.Store.{with_names}
 use Rattle.pg_pieces.specs.Done.{Done, idle}
-use Rattle.pg_pieces.proofs.SeenGolds.{filter_none}
+use Rattle.pg_cells.proofs.Listed.{none_pass}
 use Rattle.pg_pieces.specs.Golds.{goldless, is_goldless}
 use Rattle.pg_pieces.specs.Making.{raise_flag}
 use Rattle.pg_cells.specs.Raised.{DiffersByGolds}
@@ -132,7 +132,7 @@ calm_ruled store work calm =
 pub calm_settled : (store : Store) (work : Work) → IsCalm store.names → ((q : FileId) → is_goldless store q ≡ false) → settle store work ≡ idle store work
 calm_settled store work calm none =
     ap (λ (d : Done). raise_golds (goldless d.store) d) (calm_ruled store work calm)
-    ∙ ap (λ fs. raise_golds fs (idle store work)) (filter_none (is_goldless store) (keys_of store.names.held) none)
+    ∙ ap (λ fs. raise_golds fs (idle store work)) (none_pass (is_goldless store) (keys_of store.names.held) none)
 
 pub rules_again : (store : Store) (work next : Work) → IsOfDirs store.names → AreByServer store.names → IsLast store.names → AreOrdered store.names
     → rules (settle store work).store next ≡ idle (settle store work).store next

@@ -67,7 +67,7 @@ no_pieces : {A B : Type 0} (f : A → List B) (xs : List A) → ((x : A) → f x
 no_pieces f [] none = refl
 no_pieces f (x ∷ xs) none = ap (λ l. l ++ flat_map f xs) (none x) ∙ no_pieces f xs none
 
-none_pass : {A : Type 0} (p : A → Bool) (xs : List A) → ((x : A) → p x ≡ false) → filter p xs ≡ []
+pub none_pass : {A : Type 0} (p : A → Bool) (xs : List A) → ((x : A) → p x ≡ false) → filter p xs ≡ []
 none_pass p [] none = refl
 none_pass p (x ∷ xs) none = ap (λ t. cond t (x ∷ filter p xs) (filter p xs)) (none x) ∙ none_pass p xs none
 

@@ -5,7 +5,6 @@ ghost use Rattle.pg_pieces.specs.Done.{idle};
 ghost use Rattle.pg_cells.specs.Settling.{raise_gold, raise_golds, rules, settle, touch_all};
 
 use pg_base::FileId;
-use pg_pieces::house::house;
 use pg_pieces::msg::{Touched, Work};
 use pg_pieces::store::{LATEST_TIME, Store};
 use pg_pieces::{goldless, is_goldless, raise_flag};
@@ -30,7 +29,7 @@ fn rules(store: &mut Store, work: &mut Work) -> Result<(), AllocError>
 {
     let told = work.touched.len();
     let moment = work.now;
-    house(&mut store.names, work, moment)?;
+    store.house(work, moment)?;
     if let Some(changed) = work.touched.as_slice().get(told..) {
         touch_all(store, changed)?;
     }

@@ -17,9 +17,11 @@ use pg_base::Bytes;
 use pg_disk::Disk;
 use std::alloc::Global;
 
-/// A state that was saved, and how many entries of the log are folded in it.
+/// A state that was saved, how many entries of the log are folded in it, and the number of its
+/// slot, which is 0 only where nobody saved it.
 #[derive(Debug, Drop)]
 pub struct Saved {
+    pub number: u64,
     pub folded: u64,
     pub bytes: Bytes,
 }
@@ -101,8 +103,8 @@ fn prepare<D: Disk>(
 pub fn load<D: Disk>(alloc: Global, disk: &mut D) -> Result<Option<Saved>, SnapError>
     ensures loaded { IfOk result (λ found. D.tells
         → MatchOption found (Loads (D.told disk.old) None) (λ saved.
-        (number : ℕ) × Loads (D.told disk.old) (Some (record {
-          number = number;
+        Loads (D.told disk.old) (Some (record {
+          number = saved.number;
           folded = saved.folded;
           state = saved.bytes;
         })))) }
@@ -118,6 +120,7 @@ pub fn load<D: Disk>(alloc: Global, disk: &mut D) -> Result<Option<Saved>, SnapE
         Some((file, entry)) => {
             let state = read_bytes(alloc, disk, file, HEAD as u64, entry.length as usize)?;
             Ok(Some(Saved {
+                number: entry.number,
                 folded: entry.folded,
                 bytes: Bytes::from_vec(state),
             }))

@@ -2,3 +2,4 @@ mod Components
 mod Telling
 mod Parts
 pub mod Stopping
+mod Holders

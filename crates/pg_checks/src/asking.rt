@@ -158,12 +158,12 @@ fn dir_by(names: &Names, file: FileId, way: Way) -> Option<FileId>
 }
 
 /// The directory whose entry for a thing has the latest place, of all that is held; of equal ones
-/// the least.
+/// the least. It looks at those that have an entry for it.
 fn latest_dir(names: &Names, file: FileId) -> Option<FileId>
     ensures { result ≡ dir_by names.now file Way.Id }
 {
     let mut latest = None;
-    for dir in names.as_map().keys() {
+    for dir in names.holders(&file).as_map().keys() {
         if is_later(names, file, latest, dir) {
             latest = Some(*dir);
         }

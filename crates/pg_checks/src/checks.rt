@@ -1,6 +1,7 @@
 //! What a call is about, and why it is refused before anything is done.
 
 ghost use Rattle.std.specs.Prelude.{◌≡◌, IfOk};
+ghost use Rattle.pg_lookup.specs.Walk.{reach, reach_parent};
 ghost use Rattle.pg_pieces.specs.pg_names.Names.{known};
 ghost use Rattle.pg_checks.specs.Answer.{Tells};
 ghost use Rattle.pg_checks.specs.Checks.{dir_at, empty_dir_at, file_at, first_child, first_row, id_at, in_time, move_along, move_of, move_to, new_name, new_name_in, target_at, thing_at, when_free};
@@ -8,7 +9,9 @@ ghost use Rattle.pg_checks.specs.Checks.{dir_at, empty_dir_at, file_at, first_ch
 use crate::call_error::CallError;
 use crate::paths::{Paths, last_of, new_path_of, path_of, paths_of};
 use pg_base::{FileId, SharedBytes};
-use pg_lookup::{Found, ROOT, Way, is_above, is_dir_full, reach, reach_parent, reached, shown_by};
+use pg_lookup::{
+    Found, LookupError, ROOT, Way, is_above, is_dir_full, reach, reach_parent, reached, shown_by,
+};
 use pg_path::{Path, Row};
 use pg_pieces::call::{Refusal, Target};
 use pg_pieces::house::is_root;
@@ -44,13 +47,27 @@ pub fn in_time(store: &Store) -> Result<(), CallError>
     Ok(())
 }
 
+/// What a path leads to here.
+fn reach_at(store: &Store, path: &Path, needs_dir: bool) -> Result<FileId, LookupError>
+    ensures { result ≡ reach store.now.names needs_dir path.now }
+{
+    reach(&store.names, path, needs_dir)
+}
+
+/// The directory here in which the last component of a path is to be a new name.
+fn reach_parent_at(store: &Store, path: &Path) -> Result<FileId, LookupError>
+    ensures { result ≡ reach_parent store.now.names path.now }
+{
+    reach_parent(&store.names, path)
+}
+
 /// What the text of a path leads to, held and full.
 fn thing_at(store: &Store, needs_dir: bool, text: &[u8]) -> Result<FileId, CallError>
     ensures { Tells result (thing_at store.now needs_dir text.now) }
 {
     let path = path_of(store.allocator(), text)?;
     in_time(store)?;
-    Ok(reach(&store.names, &path, needs_dir)?)
+    Ok(reach_at(store, &path, needs_dir)?)
 }
 
 /// What the text of a path leads to, held and full, which has to be a file: else `IsDir`.
@@ -101,8 +118,20 @@ pub fn new_name(store: &Store, child: FileId, text: &[u8]) -> Result<NewName, Ca
 {
     let path = new_path_of(store.allocator(), text)?;
     in_time(store)?;
-    let dir = reach_parent(&store.names, &path)?;
-    new_name_in(&store.names, child, &path, dir)
+    let dir = reach_parent_at(store, &path)?;
+    new_name_here(store, child, &path, dir)
+}
+
+/// The last component as a new name in this directory here.
+fn new_name_here(
+    store: &Store,
+    child: FileId,
+    path: &Path,
+    dir: FileId,
+) -> Result<NewName, CallError>
+    ensures { Tells result (new_name_in store.now.names child path.now dir) }
+{
+    new_name_in(&store.names, child, path, dir)
 }
 
 /// The last component as a new name in this directory. The root shows its own path.

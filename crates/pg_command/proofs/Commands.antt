@@ -1,5 +1,5 @@
 -- Words that have a command have no fault.
-use Rattle.std.proofs.Common.{ℕ, ◌≡◌, ◌≤◌, ◌^◌, ◌-◌, ◌∙◌, List, [], ◌∷◌, Option, Some, None, ap, arith, codes, decimal, inl, inr, map, refl, sym, subst, true, false}
+use Rattle.std.proofs.Common.{ℕ, Bool, ◌≡◌, ◌≤◌, ◌^◌, ◌-◌, ◌∙◌, List, [], ◌∷◌, Option, Some, ap, arith, codes, decimal, inl, inr, map, refl, sym, subst, true, false}
 use Rattle.std.proofs.lemmas.Fmt.{decimal_injective}
 use Rattle.pg_call.proofs.CallTable.{call_tabled}
 use Rattle.pg_call.specs.Call.{argument_words, call_kind}
@@ -181,6 +181,25 @@ no_fault_of_call_words server port r k h f =
 no_fault_of_metered : (k : ℕ) → IsFaultOf verb.Replay (codes "--meters" ∷ []) k → ⊥
 no_fault_of_metered k (inl f) = f.0 refl
 no_fault_of_metered k (inr f) = f.1
+
+-- what the look before clap found has no fault
+pub no_fault_of_replay : (metered : Bool) (words : List (List ℕ)) (k : ℕ)
+    → command_words (Replay metered) ≡ codes "replay" ∷ words
+    → IsFaultOf verb.Replay words k
+    → ⊥
+no_fault_of_replay false [] k e f = f
+no_fault_of_replay false (w ∷ ws) k e f = let none : [] ≡ w ∷ ws = ap behind e in absurd cc
+no_fault_of_replay true words k e f =
+    let P : List (List ℕ) → Type 0 = λ ws. IsFaultOf verb.Replay ws k in
+    no_fault_of_metered k (subst P (sym (ap behind e)) f)
+
+pub no_fault_of_numbers : (n : Numbers) (words : List (List ℕ)) (k : ℕ) → AreNumbers n
+    → number_words n ≡ words
+    → IsFirstWrong 2 number_slots words k
+    → ⊥
+no_fault_of_numbers n words k h same f =
+    let P : List (List ℕ) → Type 0 = λ ws. IsFirstWrong 2 number_slots ws k in
+    none_wrong 2 number_slots (number_words n) k (numbers_fit n h) (subst P (sym same) f)
 
 pub no_fault : (words : List (List ℕ)) (c : Command) (k : ℕ) → IsCommand c
     → words ≡ command_words c

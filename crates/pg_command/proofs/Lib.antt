@@ -8,3 +8,8 @@ pub mod Targets
 pub mod Requests
 pub mod Readings
 pub mod Taken
+pub mod Walks
+pub mod Rows
+pub mod Values
+pub mod Apps
+pub mod Metered

@@ -1,5 +1,5 @@
 -- Words have one command.
-use Rattle.std.proofs.Common.{ℕ, ◌≡◌, ◌∙◌, List, [], ◌∷◌, ap, arith, decimal, refl, sym, true, false}
+use Rattle.std.proofs.Common.{ℕ, ◌≡◌, ◌∙◌, List, ◌∷◌, ap, arith, decimal, refl, sym, true, false}
 use Rattle.std.proofs.lemmas.Fmt.{decimal_injective}
 use Rattle.pg_call.proofs.CallSpelling.{one_call}
 use Rattle.pg_call.specs.Call.{call_kind}

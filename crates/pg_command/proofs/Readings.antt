@@ -141,7 +141,7 @@ lift_memory words v rest (Err e) h same = λ is k fault.
     h is k (fault_of_verb v rest k (subst P same fault))
 
 -- no word is at fault: so it is said of any error
-pub no_memory_fault : (F : ℕ → Type 0) (r : Result Command CommandError) → ((k : ℕ) → F k → ⊥)
+pub no_memory_fault : {A : Type 0} (F : ℕ → Type 0) (r : Result A CommandError) → ((k : ℕ) → F k → ⊥)
     → IfErr r (λ e. e ≡ wrong.OutOfMemory → (k : ℕ) → F k → ⊥)
 no_memory_fault F (Ok c) h = tt
 no_memory_fault F (Err e) h = λ is. h

@@ -1,5 +1,5 @@
 -- Words that were taken off one by one are all of them.
-use Rattle.std.proofs.Common.{ℕ, ◌≡◌, ◌∙◌, List, [], ◌∷◌, ap, arith, get_or, length, map, refl}
+use Rattle.std.proofs.Common.{ℕ, ◌≡◌, ◌≤◌, ◌∙◌, List, [], ◌∷◌, ap, arith, get_or, length, map, refl, take}
 use Rattle.std.specs.Global.{Global}
 use Rattle.std.specs.Prelude.{String}
 use Rattle.std.specs.String.{string_bytes}
@@ -50,3 +50,20 @@ three_words (w ∷ v ∷ u ∷ []) x y z a b c three is also last e f g =
     (cons b (string_bytes v) (c ∷ []) (string_bytes u ∷ []) (f ∙ ap string_bytes also)
     (cons c (string_bytes u) [] [] (g ∙ ap string_bytes last) refl))
 three_words (w ∷ v ∷ u ∷ t ∷ ws) x y z a b c three is also last e f g = absurd (omega arith)
+
+-- the first three of words
+pub first_three : (words : List (String Global)) (a b c : List ℕ) (rest : List (List ℕ))
+    → map string_bytes words ≡ a ∷ b ∷ c ∷ rest
+    → (3 ≤ length words) × (map string_bytes (take 3 words) ≡ a ∷ b ∷ c ∷ [])
+first_three [] a b c rest e = absurd cc
+first_three (x ∷ []) a b c rest e = absurd cc
+first_three (x ∷ y ∷ []) a b c rest e = absurd cc
+first_three (x ∷ y ∷ z ∷ ws) a b c rest e =
+    let first : string_bytes x ≡ a = cc in
+    let second : string_bytes y ≡ b = cc in
+    let third : string_bytes z ≡ c = cc in (
+      omega arith,
+      cons (string_bytes x) a (string_bytes y ∷ string_bytes z ∷ []) (b ∷ c ∷ []) first
+          (cons (string_bytes y) b (string_bytes z ∷ []) (c ∷ []) second
+          (cons (string_bytes z) c [] [] third refl)),
+    )

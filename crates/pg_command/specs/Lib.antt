@@ -1,3 +1,4 @@
+pub mod Program
 pub mod Slots
 pub mod Verb
 pub mod Words

@@ -15,6 +15,7 @@ use crate::asked::Asked;
 use crate::command::Command;
 use crate::error::CommandError;
 use crate::node::MOST_PORT;
+use crate::reading::target_read;
 use crate::slots::{argument_before, number_before};
 use pg_base::NodeId;
 use pg_call::{Call, CallKind, WordsError, arguments_of};
@@ -205,8 +206,15 @@ fn request_of(alloc: Global, asked: Asked, words: &[String]) -> Result<Request, 
     }
 }
 
-/// What the words behind `call` ask for. Memory is taken only where none is at fault.
-pub(crate) fn calling_of(alloc: Global, words: &[String]) -> Result<Command, CommandError>
+/// What the words behind `call` ask for. `all` are these and that word. Where none is at fault clap
+/// reads those up to the port, and the call's own are read as a schedule's.
+pub(crate) fn calling_of(
+    alloc: Global,
+    all: &[String],
+    words: &[String],
+) -> Result<Command, CommandError>
+    requires { map (λ w. string_bytes w) all.now
+        ≡ codes "call" ∷ map (λ w. string_bytes w) words.now }
     ensures fits { IfOk result (λ c. IsCommand c) }
     ensures found { IfOk result (λ c. command_words c
         ≡ codes "call" ∷ map (λ w. string_bytes w) words.now) }
@@ -219,10 +227,12 @@ pub(crate) fn calling_of(alloc: Global, words: &[String]) -> Result<Command, Com
         Ok(call) => call,
         Err(place) => return Err(CommandError::Usage(place)),
     };
+    let named = &all[..3];
+    let (server, port) = target_read(alloc, named, call.server, call.port)?;
     let request = request_of(alloc, call.asked, call.arguments)?;
     Ok(Command::Call {
-        server: call.server,
-        port: call.port,
+        server,
+        port,
         request,
     })
 }

@@ -14,6 +14,7 @@ use crate::command::{Command, Numbers};
 use crate::error::CommandError;
 use crate::help::help_in;
 use crate::node::node_of;
+use crate::reading::{metered_read, numbers_read};
 use crate::slots::number_before;
 use crate::verb::Verb;
 use std::alloc::Global;
@@ -40,20 +41,27 @@ fn is_metered(words: &[String]) -> Result<bool, u64>
     Ok(true)
 }
 
-/// The replay that the words behind `replay` ask for.
-fn replay_of(words: &[String]) -> Result<Command, CommandError>
+/// The replay that the words behind `replay` ask for. `all` are these and that word, which clap
+/// reads where none is at fault.
+fn replay_of(alloc: Global, all: &[String], words: &[String]) -> Result<Command, CommandError>
+    requires { map (λ w. string_bytes w) all.now
+        ≡ codes "replay" ∷ map (λ w. string_bytes w) words.now }
     ensures fits { IfOk result (λ c. IsCommand c) }
     ensures found { IfOk result (λ c. command_words c
         ≡ codes "replay" ∷ map (λ w. string_bytes w) words.now) }
     ensures wrong { IfErr result (λ e. (k : ℕ) → e ≡ wrong.Usage k
         → let behind = map (λ w. string_bytes w) words.now in
         IsFirstWrong 2 (replay_slots behind) behind k) }
-    ensures memory { IfErr result (λ e. e ≢ wrong.OutOfMemory) }
+    ensures memory { IfErr result (λ e. e ≡ wrong.OutOfMemory → (k : ℕ)
+        → let behind = map (λ w. string_bytes w) words.now in
+        IsFirstWrong 2 (replay_slots behind) behind k → ⊥) }
 {
-    match is_metered(words) {
-        Ok(metered) => Ok(Command::Replay { metered }),
-        Err(place) => Err(CommandError::Usage(place)),
-    }
+    let checked = match is_metered(words) {
+        Ok(metered) => metered,
+        Err(place) => return Err(CommandError::Usage(place)),
+    };
+    let metered = metered_read(alloc, all, checked)?;
+    Ok(Command::Replay { metered })
 }
 
 /// The three numbers from which a schedule is made, by the words behind a command's own.
@@ -77,23 +85,38 @@ fn numbers_in(words: &[String]) -> Result<Numbers, u64>
     })
 }
 
-/// The same, or which word is at fault.
-fn numbers_of(words: &[String]) -> Result<Numbers, CommandError>
+/// The same, or which word is at fault. `all` are these words and that of the command, which clap
+/// reads where none is at fault.
+fn numbers_of(alloc: Global, all: &[String], words: &[String]) -> Result<Numbers, CommandError>
+    requires { (map (λ w. string_bytes w) all.now
+        ≡ codes "make" ∷ map (λ w. string_bytes w) words.now)
+        ⊎ (map (λ w. string_bytes w) all.now
+        ≡ codes "soak" ∷ map (λ w. string_bytes w) words.now) }
     ensures fits { IfOk result AreNumbers }
     ensures found { IfOk result (λ numbers. number_words numbers
         ≡ map (λ w. string_bytes w) words.now) }
     ensures wrong { IfErr result (λ e. (k : ℕ) → e ≡ wrong.Usage k
         → IsFirstWrong 2 number_slots (map (λ w. string_bytes w) words.now) k) }
-    ensures memory { IfErr result (λ e. e ≢ wrong.OutOfMemory) }
+    ensures memory { IfErr result (λ e. e ≡ wrong.OutOfMemory → (k : ℕ)
+        → IsFirstWrong 2 number_slots (map (λ w. string_bytes w) words.now) k → ⊥) }
 {
-    match numbers_in(words) {
-        Ok(numbers) => Ok(numbers),
-        Err(place) => Err(CommandError::Usage(place)),
-    }
+    let checked = match numbers_in(words) {
+        Ok(numbers) => numbers,
+        Err(place) => return Err(CommandError::Usage(place)),
+    };
+    let numbers = numbers_read(alloc, all, checked)?;
+    Ok(numbers)
 }
 
-/// The command of this verb, by the words behind it.
-fn command_with(alloc: Global, verb: Verb, words: &[String]) -> Result<Command, CommandError>
+/// The command of this verb, by the words behind it. `all` are these and the verb's own.
+fn command_with(
+    alloc: Global,
+    verb: Verb,
+    all: &[String],
+    words: &[String],
+) -> Result<Command, CommandError>
+    requires { map (λ w. string_bytes w) all.now
+        ≡ verb_word verb ∷ map (λ w. string_bytes w) words.now }
     ensures fits { IfOk result (λ c. IsCommand c) }
     ensures found { IfOk result (λ c. command_words c
         ≡ verb_word verb ∷ map (λ w. string_bytes w) words.now) }
@@ -103,17 +126,17 @@ fn command_with(alloc: Global, verb: Verb, words: &[String]) -> Result<Command, 
         → IsFaultOf verb (map (λ w. string_bytes w) words.now) k → ⊥) }
 {
     match verb {
-        Verb::Replay => replay_of(words),
-        Verb::Make => match numbers_of(words) {
+        Verb::Replay => replay_of(alloc, all, words),
+        Verb::Make => match numbers_of(alloc, all, words) {
             Ok(numbers) => Ok(Command::Make(numbers)),
             Err(error) => Err(error),
         },
-        Verb::Soak => match numbers_of(words) {
+        Verb::Soak => match numbers_of(alloc, all, words) {
             Ok(numbers) => Ok(Command::Soak(numbers)),
             Err(error) => Err(error),
         },
-        Verb::Node => node_of(alloc, words),
-        Verb::Call => calling_of(alloc, words),
+        Verb::Node => node_of(alloc, all, words),
+        Verb::Call => calling_of(alloc, all, words),
     }
 }
 
@@ -142,7 +165,7 @@ fn command_by(alloc: Global, words: &[String]) -> Result<Command, CommandError>
         → IsFaultIn (map (λ w. string_bytes w) words.now) k → ⊥) }
 {
     match verb_before(words) {
-        Some((verb, behind)) => command_with(alloc, verb, behind),
+        Some((verb, behind)) => command_with(alloc, verb, words, behind),
         None => Err(CommandError::Usage(1)),
     }
 }

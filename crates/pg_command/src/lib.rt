@@ -4,7 +4,8 @@
 //! for by words, and `argument` what a word of it may be; `digits` tells digits of bytes. `slots`
 //! takes one word off the others, `node` the words of a node, `calling` those of a call, `help`
 //! those that ask for help, and `grammar` reads them all; `program` has the commands as clap knows
-//! them, and the help that it makes; `laws` says that what is asked for has a packet.
+//! them, and the help that it makes, and `reading` the values that clap reads of words that were
+//! looked at, which are those that the look found; `laws` says that what is asked for has a packet.
 //!
 //! It runs nothing: `pangaea` does what a command says. Words of a call are those of a schedule, so
 //! `pg_call` reads them; here is only told, and before memory is taken, which of them is the first
@@ -16,8 +17,9 @@
 //! server of a node is looked at together with the count of servers behind it.
 //!
 //! Definitions: `specs/Slots` (what one word has to be), `specs/Words` (commands, their words, and
-//! faults). A further command: a case of `Command` with its words and slots, its reader, and its
-//! help. What help says is tested, and no clause speaks of it.
+//! faults), `specs/Program` (commands as clap has them). A further command: a case of `Command`
+//! with its words and slots, its reader, and its help. What help says is tested, and no clause
+//! speaks of it.
 #![tactic(auto)]
 
 mod argument;
@@ -31,6 +33,7 @@ mod help;
 mod laws;
 mod node;
 mod program;
+mod reading;
 mod slots;
 mod verb;
 

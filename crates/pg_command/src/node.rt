@@ -10,6 +10,7 @@ ghost use Rattle.pg_sched.specs.Schedule.{IsCount};
 
 use crate::command::Command;
 use crate::error::CommandError;
+use crate::reading::node_read;
 use crate::slots::{name_before, number_before};
 use pg_base::{NodeId, SharedBytes, number_u32};
 use std::alloc::Global;
@@ -19,12 +20,12 @@ pub(crate) const MOST_PORT: u64 = 65_471;
 
 /// What the words behind `node` say.
 #[derive(Clone, Copy, Debug)]
-struct NodeWords<'a> {
-    server: NodeId,
-    servers: u32,
-    port: u16,
-    name: &'a [u8],
-    turns: u64,
+pub(crate) struct NodeWords<'a> {
+    pub(crate) server: NodeId,
+    pub(crate) servers: u32,
+    pub(crate) port: u16,
+    pub(crate) name: &'a [u8],
+    pub(crate) turns: u64,
 }
 
 /// Whether this is a count of servers that the server is one of, or no count.
@@ -101,8 +102,15 @@ fn node_in(words: &[String]) -> Result<NodeWords<'_>, u64>
     })
 }
 
-/// The node that the words behind `node` ask for. Memory is taken only where none is at fault.
-pub(crate) fn node_of(alloc: Global, words: &[String]) -> Result<Command, CommandError>
+/// The node that the words behind `node` ask for. `all` are these and that word, which clap reads
+/// where none is at fault.
+pub(crate) fn node_of(
+    alloc: Global,
+    all: &[String],
+    words: &[String],
+) -> Result<Command, CommandError>
+    requires { map (λ w. string_bytes w) all.now
+        ≡ codes "node" ∷ map (λ w. string_bytes w) words.now }
     ensures fits { IfOk result (λ c. IsCommand c) }
     ensures found { IfOk result (λ c. command_words c
         ≡ codes "node" ∷ map (λ w. string_bytes w) words.now) }
@@ -111,10 +119,11 @@ pub(crate) fn node_of(alloc: Global, words: &[String]) -> Result<Command, Comman
     ensures memory { IfErr result (λ e. e ≡ wrong.OutOfMemory → (k : ℕ)
         → IsFaultOfNode (map (λ w. string_bytes w) words.now) k → ⊥) }
 {
-    let node = match node_in(words) {
+    let checked = match node_in(words) {
         Ok(node) => node,
         Err(place) => return Err(CommandError::Usage(place)),
     };
+    let node = node_read(alloc, all, checked)?;
     let name = SharedBytes::from_slice(alloc, node.name)?;
     Ok(Command::Node {
         server: node.server,

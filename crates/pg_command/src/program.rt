@@ -1,15 +1,25 @@
 //! The program's commands as clap has them, and the help that it makes of them.
+
+ghost use Rattle.std.specs.Prelude.{◌≡◌, IfOk, false, codes};
+ghost use Rattle.clap.specs.Words as clap_words;
+ghost use Rattle.pg_command.specs.Program as apps;
+
 use crate::command::Help;
 use crate::verb::Verb;
 use clap::{Arg, ArgAction, Command};
 use std::alloc::{AllocError, Global};
 
 /// A word that has to be there.
-fn value<'a>(alloc: Global, name: &'a str, help: &'a str) -> Arg<'a> {
+fn value<'a>(alloc: Global, name: &'a str, help: &'a str) -> Arg<'a>
+    ensures rule { clap_words.rule_of result ≡ apps.value_rule name.now }
+    ensures local { result.global ≡ false }
+{
     Arg::new(alloc, name).help(help).required(true)
 }
 
-fn replay<'a>(alloc: Global) -> Result<Command<'a>, AllocError> {
+fn replay<'a>(alloc: Global) -> Result<Command<'a>, AllocError>
+    ensures { IfOk result (λ c. clap_words.app_of c ≡ apps.replay_app) }
+{
     let meters = Arg::new(alloc, "meters")
         .long("meters")
         .help("Shows each event to the meters")
@@ -20,7 +30,9 @@ fn replay<'a>(alloc: Global) -> Result<Command<'a>, AllocError> {
 }
 
 /// A command on a schedule that is made of three numbers.
-fn numbers<'a>(alloc: Global, name: &'a str, about: &'a str) -> Result<Command<'a>, AllocError> {
+fn numbers<'a>(alloc: Global, name: &'a str, about: &'a str) -> Result<Command<'a>, AllocError>
+    ensures { IfOk result (λ c. clap_words.app_of c ≡ apps.numbers_app name.now) }
+{
     Command::new(alloc, name)
         .about(about)
         .arg(value(alloc, "SEED", "A number"))?
@@ -28,7 +40,9 @@ fn numbers<'a>(alloc: Global, name: &'a str, about: &'a str) -> Result<Command<'
         .arg(value(alloc, "EVENTS", "How many events: a number up to 1000000"))
 }
 
-fn make<'a>(alloc: Global) -> Result<Command<'a>, AllocError> {
+fn make<'a>(alloc: Global) -> Result<Command<'a>, AllocError>
+    ensures { IfOk result (λ c. clap_words.app_of c ≡ apps.numbers_app (codes "make")) }
+{
     numbers(
         alloc,
         "make",
@@ -36,7 +50,9 @@ fn make<'a>(alloc: Global) -> Result<Command<'a>, AllocError> {
     )
 }
 
-fn soak<'a>(alloc: Global) -> Result<Command<'a>, AllocError> {
+fn soak<'a>(alloc: Global) -> Result<Command<'a>, AllocError>
+    ensures { IfOk result (λ c. clap_words.app_of c ≡ apps.numbers_app (codes "soak")) }
+{
     numbers(
         alloc,
         "soak",
@@ -46,7 +62,9 @@ fn soak<'a>(alloc: Global) -> Result<Command<'a>, AllocError> {
 
 const PORT: &str = "A number from 1 to 65471: each server is at PORT and its number";
 
-fn node<'a>(alloc: Global) -> Result<Command<'a>, AllocError> {
+fn node<'a>(alloc: Global) -> Result<Command<'a>, AllocError>
+    ensures { IfOk result (λ c. clap_words.app_of c ≡ apps.node_app) }
+{
     Command::new(alloc, "node")
         .about("Runs one server, which keeps its log in the file NAME.log")
         .arg(value(alloc, "SERVER", "Which server: a number from 1 to SERVERS"))?
@@ -69,7 +87,9 @@ const ASKED: &str = "ASKED is one of mkdir, create, write, cut, read, fresh, ls,
                      words that a schedule's call has behind it: a path has at most 5000 bytes, \
                      and bytes are pairs of lower case hexadecimal digits, or - for none.";
 
-fn call<'a>(alloc: Global) -> Result<Command<'a>, AllocError> {
+fn call<'a>(alloc: Global) -> Result<Command<'a>, AllocError>
+    ensures { IfOk result (λ c. clap_words.app_of c ≡ apps.call_app) }
+{
     Command::new(alloc, "call")
         .about("Asks a server for one thing and writes what it answers")
         .override_usage("pangaea call <SERVER> <PORT> <ASKED>..")
@@ -90,9 +110,12 @@ fn command<'a>(alloc: Global, verb: Verb) -> Result<Command<'a>, AllocError> {
 }
 
 /// The program with all its commands.
-pub(crate) fn program<'a>(alloc: Global) -> Result<Command<'a>, AllocError> {
+pub(crate) fn program<'a>(alloc: Global) -> Result<Command<'a>, AllocError>
+    ensures { IfOk result (λ c. clap_words.app_of c ≡ apps.program_app) }
+{
     Command::new(alloc, "pangaea")
         .about("Pangaea, a wide-area file system: its runs, its nodes, and calls to them")
+        .no_binary_name(true)
         .disable_help_subcommand(true)
         .subcommand_required(true)
         .subcommand(replay(alloc)?)?

@@ -1,10 +1,11 @@
 //! A log on a disk in memory.
 
+use crate::stops::{images, note, tell};
 use crate::streams::{numbers, tell_done};
-use pg_base::SharedBytes;
+use pg_base::{Bytes, SharedBytes};
 use pg_disk::{MemoryDisk, write_synced};
-use pg_log::{Log, LogError};
-use pg_rows::{Answer, Stage, word};
+use pg_log::{Log, LogError, Records};
+use pg_rows::{Answer, Stage, wide, word};
 use pg_words::{HexWord, read_hex_word};
 use std::alloc::{AllocError, Global};
 
@@ -13,6 +14,28 @@ pub fn hex(alloc: Global, words: &[&[u8]], index: usize) -> Result<SharedBytes, 
     match read_hex_word(alloc, word(words, index), 1000)? {
         Some(bytes) => Ok(bytes),
         None => SharedBytes::from_slice(alloc, b""),
+    }
+}
+
+/// What opens the file, and tells its entries, or why it does not open.
+fn found(alloc: Global, file: &[u8]) -> Result<Bytes, AllocError> {
+    let mut disk = MemoryDisk::new(alloc, Vec::new(alloc));
+    let _ = write_synced(&mut disk, 0, 0, file);
+    let mut told = Answer::new(alloc);
+    tell_opened(&Log::open(alloc, &mut disk), &mut told);
+    told.end()
+}
+
+/// The entries, or why there are none.
+fn tell_opened(opened: &Result<(Log, Records), LogError>, out: &mut Answer) {
+    match opened {
+        Ok((_log, records)) => {
+            write!(out, "{} entries", records.len());
+            for entry in records.as_slice() {
+                write!(out, " {}", HexWord(entry.as_slice()));
+            }
+        }
+        Err(error) => write!(out, "{}", error),
     }
 }
 
@@ -38,16 +61,25 @@ impl Opened {
 
     /// `open`: the entries, or why it does not open.
     fn open(&mut self, out: &mut Answer) {
-        match Log::open(self.alloc, &mut self.disk) {
-            Ok((log, records)) => {
-                self.log = Some(log);
-                write!(out, "{} entries", records.len());
-                for entry in records.as_slice() {
-                    write!(out, " {}", HexWord(entry.as_slice()));
-                }
-            }
-            Err(error) => write!(out, "{}", error),
+        let opened = Log::open(self.alloc, &mut self.disk);
+        tell_opened(&opened, out);
+        if let Ok((log, _records)) = opened {
+            self.log = Some(log);
         }
+    }
+
+    /// `stop AT DIGITS`: what opens of each file that a stop within the write of these bytes may
+    /// leave.
+    fn stop(&mut self, words: &[&[u8]], out: &mut Answer) -> Result<(), AllocError> {
+        let file = self.disk.bytes(0)?;
+        let new = hex(self.alloc, words, 2)?;
+        let images = images(self.alloc, &file, wide(words, 1) as usize, new.as_slice())?;
+        let mut texts = Vec::new(self.alloc);
+        for image in &images {
+            note(&mut texts, found(self.alloc, image)?)?;
+        }
+        tell(images.len(), &texts, out);
+        Ok(())
     }
 
     /// What the log answers to this entry; nothing where none is open.
@@ -109,6 +141,7 @@ impl Stage for Opened {
             b"bytes" => write!(out, "{}", HexWord(&self.disk.bytes(0)?)),
             b"size" => write!(out, "{}", self.disk.bytes(0)?.len()),
             b"left" => self.left(out)?,
+            b"stop" => self.stop(words, out)?,
             _ => out.unread(),
         }
         Ok(())

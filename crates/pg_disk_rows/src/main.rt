@@ -7,8 +7,8 @@
 //! answers are those of docs/FORMATS.md and of what a file may hold after a crash, and never this
 //! program's own. The real things behind the same traits are tried in `pg_fault_tests`.
 //!
-//! `streams`, `disk`, `log`, `slots` and `nets` have the verbs, a module for each thing; `main`
-//! reads lines and calls them.
+//! `streams`, `disk`, `log`, `slots` and `nets` have the verbs, a module for each thing; `stops`
+//! goes over what a write that is stopped may leave of a file; `main` reads lines and calls them.
 //!
 //! A verb more: a case of `answer`, and a module that plays its pieces (`pg_rows`); its rows with
 //! what they must give join `stdin` and `stdout`. The rules: docs/RULES.md, "Sources and sinks",
@@ -19,6 +19,7 @@ mod disk;
 mod log;
 mod nets;
 mod slots;
+mod stops;
 mod streams;
 
 use pg_base::cut_at;

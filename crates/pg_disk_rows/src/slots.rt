@@ -2,12 +2,33 @@
 
 use crate::disk::file;
 use crate::log::hex;
+use crate::stops::{images, note, tell};
 use crate::streams::{numbers, tell_done};
-use pg_checkpoint::{load, save};
+use pg_base::Bytes;
+use pg_checkpoint::{Saved, SnapError, load, save};
 use pg_disk::{MemoryDisk, cut_synced, write_synced};
 use pg_rows::{Answer, Stage, wide, word};
 use pg_words::HexWord;
 use std::alloc::{AllocError, Global};
+
+/// How many entries are folded in what is loaded, and the state.
+fn tell_loaded(loaded: &Result<Option<Saved>, SnapError>, out: &mut Answer) {
+    match loaded {
+        Ok(Some(saved)) => write!(out, "{} {}", saved.folded, HexWord(saved.bytes.as_slice())),
+        Ok(None) => out.put(b"none"),
+        Err(error) => write!(out, "{}", error),
+    }
+}
+
+/// What is loaded of a slot in its file, and of the other one in the other.
+fn found(alloc: Global, slot: u8, file: &[u8], other: &[u8]) -> Result<Bytes, AllocError> {
+    let mut disk = MemoryDisk::new(alloc, Vec::new(alloc));
+    let _ = write_synced(&mut disk, slot.min(2), 0, file);
+    let _ = write_synced(&mut disk, if slot == 1 { 2 } else { 1 }, 0, other);
+    let mut told = Answer::new(alloc);
+    tell_loaded(&load(alloc, &mut disk), &mut told);
+    told.end()
+}
 
 #[derive(Drop)]
 pub struct Slots {
@@ -45,13 +66,23 @@ impl Slots {
 
     /// `load`: how many entries are folded, and the state.
     fn load(&mut self, out: &mut Answer) {
-        match load(self.alloc, &mut self.disk) {
-            Ok(Some(saved)) => {
-                write!(out, "{} {}", saved.folded, HexWord(saved.bytes.as_slice()));
-            }
-            Ok(None) => out.put(b"none"),
-            Err(error) => write!(out, "{}", error),
+        tell_loaded(&load(self.alloc, &mut self.disk), out);
+    }
+
+    /// `stop SLOT AT DIGITS`: what is loaded of each file that a stop within the write of these
+    /// bytes may leave of the slot.
+    fn stop(&mut self, words: &[&[u8]], out: &mut Answer) -> Result<(), AllocError> {
+        let slot = file(words, 1);
+        let other = self.disk.bytes(if slot == 1 { 2 } else { 1 })?;
+        let file = self.disk.bytes(slot)?;
+        let new = hex(self.alloc, words, 3)?;
+        let images = images(self.alloc, &file, wide(words, 2) as usize, new.as_slice())?;
+        let mut texts = Vec::new(self.alloc);
+        for image in &images {
+            note(&mut texts, found(self.alloc, slot, image, &other)?)?;
         }
+        tell(images.len(), &texts, out);
+        Ok(())
     }
 
     /// `again`: the slots as they are, on a disk that works.
@@ -74,6 +105,7 @@ impl Stage for Slots {
             b"second" => self.put(2, hex(self.alloc, words, 1)?.as_slice(), out),
             b"save" => self.save(words, out)?,
             b"load" => self.load(out),
+            b"stop" => self.stop(words, out)?,
             b"again" => self.again(out)?,
             b"bytes" => write!(out, "{}", HexWord(&self.disk.bytes(file(words, 1))?)),
             b"cut" => tell_done(

@@ -143,7 +143,7 @@ fn go(store: &mut Store, file: FileId, work: &mut Work) -> Result<(), AllocError
     ensures work { OnOk result (work.new ≡ (goes store.old file work.old).work) }
 {
     let birth = store.birth(&file);
-    let Some(replica) = store.let_go(&file) else {
+    let Some(replica) = store.let_go(&file)? else {
         return Ok(());
     };
     begin_byes(store, file, birth, replica.edges.as_slice(), work)

@@ -75,7 +75,7 @@ some_at_start server servers d0 d1 since settled entries opens =
 
 module _ (nt ct dt : Type 0) (server servers port turns : ℕ) (s : Status) (n0 : NetTold) (t0 : ℕ) (c0 : ClockTold) (d0 : DiskTold) where
   -- it ended before any take
-  pub served_none : (n1 : NetTold) (t1 : ℕ) (d1 : DiskTold) → IsPart s → (nt → (n1 ≡ n0) ⊎ (n1 ≡ with_bound n0 (port + server))) → t1 ≡ t0 → (dt → KeepsOthers 0 d0 d1) → (dt → LeavesAtStart server servers d0 d1)
+  pub served_none : (n1 : NetTold) (t1 : ℕ) (d1 : DiskTold) → IsPart s → (nt → ((n1 ≡ n0) × (dt → d1 ≡ d0)) ⊎ (n1 ≡ with_bound n0 (port + server))) → t1 ≡ t0 → (dt → KeepsOthers 0 d0 d1) → (dt → LeavesAtStart server servers d0 d1)
       → Served nt ct dt server servers port turns s n0 n1 t0 t1 c0 c0 d0 d1
   served_none n1 t1 d1 part net takes others since = record {
     old = None;
@@ -100,16 +100,16 @@ module _ (nt ct dt : Type 0) (server servers port turns : ℕ) (s : Status) (n0 
     kept = λ net_tells tells settled entries opens image is. inl (sent_same (net net_tells));
     others = others;
   } where
-    given_same : (n1 ≡ n0) ⊎ (n1 ≡ with_bound n0 (port + server)) → n1.given ≡ n0.given
-    given_same (inl same) = ap (λ (t : NetTold). t.given) same
+    given_same : ((n1 ≡ n0) × (dt → d1 ≡ d0)) ⊎ (n1 ≡ with_bound n0 (port + server)) → n1.given ≡ n0.given
+    given_same (inl same) = ap (λ (t : NetTold). t.given) same.0
     given_same (inr same) = ap (λ (t : NetTold). t.given) same
 
-    sent_same : (n1 ≡ n0) ⊎ (n1 ≡ with_bound n0 (port + server)) → n1.sent ≡ n0.sent
-    sent_same (inl same) = ap (λ (t : NetTold). t.sent) same
+    sent_same : ((n1 ≡ n0) × (dt → d1 ≡ d0)) ⊎ (n1 ≡ with_bound n0 (port + server)) → n1.sent ≡ n0.sent
+    sent_same (inl same) = ap (λ (t : NetTold). t.sent) same.0
     sent_same (inr same) = ap (λ (t : NetTold). t.sent) same
 
-    bound_or : (n1 ≡ n0) ⊎ (n1 ≡ with_bound n0 (port + server)) → ((n1 ≡ n0) × (IsWhole s → ⊥)) ⊎ (n1.bound ≡ Some (port + server))
-    bound_or (inl same) = inl (same, not_whole s part)
+    bound_or : ((n1 ≡ n0) × (dt → d1 ≡ d0)) ⊎ (n1 ≡ with_bound n0 (port + server)) → ((n1 ≡ n0) × (dt → d1 ≡ d0) × (IsWhole s → ⊥)) ⊎ (n1.bound ≡ Some (port + server))
+    bound_or (inl same) = inl (same.0, same.1, not_whole s part)
     bound_or (inr same) = inr (ap (λ (t : NetTold). t.bound) same)
 
   -- it made its turns

@@ -129,8 +129,9 @@ pub record Served (nt ct dt : Type 0) (server servers port turns : ℕ) (s : Sta
   -- was `stop`.
   pub enough : AreNearlyEnough gave moments words
   pub stops : (stop : Bool) × StopsAs stop (asked gave moments words)
-  -- it took packets at this port, or nothing happened to the net
-  pub bound : nt → ((n1 ≡ n0) × (IsWhole s → ⊥)) ⊎ (n1.bound ≡ Some (port + server))
+  -- It took packets at this port; or, where it could not have the port, nothing happened to the net
+  -- and to the disk.
+  pub bound : nt → ((n1 ≡ n0) × (dt → d1 ≡ d0) × (IsWhole s → ⊥)) ⊎ (n1.bound ≡ Some (port + server))
   -- what was sent is a prefix of what the server sends behind the old inputs, a restart, and these
   pub sent : nt → (n : ℕ) × (n1.sent
       ≡ n0.sent ++ take n (sends port (begun server servers old) (asked gave moments words)))

@@ -20,7 +20,7 @@ climb_add s zero k d = let e : zero + k ≡ k = omega arith in ap (λ n. climb s
 climb_add s (suc j) k d = let e : suc j + k ≡ suc (j + k) = omega arith in ap (λ n. climb s n d) e ∙ climb_add s j k (above s d)
 
 -- above what is no live directory there is none
-out_stays : (s : NamesValue) (k : ℕ) (e : FileId) → is_inner s e ≡ false → is_inner s (climb s k e) ≡ false
+pub out_stays : (s : NamesValue) (k : ℕ) (e : FileId) → is_inner s e ≡ false → is_inner s (climb s k e) ≡ false
 out_stays s zero e h = h
 out_stays s (suc k) e h = ap (λ q. is_inner s (climb s k q)) (chosen_false (is_inner s e) (place_at s e).parent root h) ∙ ap (is_inner s) (climb_root s k)
 
@@ -115,7 +115,7 @@ module _ (s : NamesValue) (n : ℕ) where
 
 -- ---- a directory in a cycle never comes out
 
-comes_back : (s : NamesValue) (k : ℕ) (d : FileId) → climb s (suc k) d ≡ d → (m : ℕ) → (r : ℕ) × (climb s (m + r) d ≡ d)
+pub comes_back : (s : NamesValue) (k : ℕ) (d : FileId) → climb s (suc k) d ≡ d → (m : ℕ) → (r : ℕ) × (climb s (m + r) d ≡ d)
 comes_back s k d h zero = (0, refl)
 comes_back s k d h (suc m) =
     let r = comes_back s k d h m in

@@ -14,7 +14,7 @@ use Rattle.pg_names.specs.Names.{directories, own_at, with_last, with_own}
 use Rattle.pg_names.proofs.Lookups.{SameFrame, SameFrame-refl, update_frame}
 use Rattle.pg_house.specs.Work.{State}
 use Rattle.pg_house.specs.Passing.{greatest, is_held_back, pass, pass_all, pass_own}
-use Rattle.pg_house.specs.Placing.{drawn, live_place, made_at, own_with, place_at, placed, repeated}
+use Rattle.pg_house.specs.Placing.{drawn, live_place, made_at, own_with, place_at, placed}
 use Rattle.pg_house.specs.Returning.{first_returning, return_first, returned}
 use Rattle.pg_house.specs.Cycles.{break_first, first_moving, moved}
 use Rattle.pg_house.specs.House.{house, movable}

@@ -1,13 +1,15 @@
 -- The house rules hold what was held.
-use Rattle.std.proofs.Common.{◌≡◌, ℕ, List, [], ◌∷◌, length, Option, None, Some, refl, ◌∙◌}
+use Rattle.std.proofs.Common.{◌≡◌, ℕ, List, [], ◌∷◌, length, Option, None, Some, refl, ap, ◌∙◌}
+use Rattle.std.specs.List.{filter}
 use Rattle.std.specs.Map.{keys_of}
 use Rattle.pg_base.specs.declared.id.FileId.{FileId}
+use Rattle.pg_register.specs.declared.place.Place.{Place}
 use Rattle.pg_names.specs.declared.attributes.Attributes.{Attributes}
-use Rattle.pg_names.specs.Names.{NamesValue, own_at, directories, with_last, with_own}
+use Rattle.pg_names.specs.Names.{NamesValue, own_at, directories, is_dir, with_last, with_own}
 use Rattle.pg_names.proofs.Lookups.{update_frame}
 use Rattle.pg_house.specs.Work.{State}
 use Rattle.pg_house.specs.Passing.{greatest, is_held_back, pass, pass_own, pass_all}
-use Rattle.pg_house.specs.Placing.{drawn, live_place, made_at, own_with, placed}
+use Rattle.pg_house.specs.Placing.{drawn, live_place, made_at, own_with, placed, repeated}
 use Rattle.pg_house.specs.Returning.{return_first, returned, first_returning}
 use Rattle.pg_house.specs.Cycles.{break_first, moved, first_moving}
 use Rattle.pg_house.specs.House.{house, movable}
@@ -25,6 +27,16 @@ pass_all_keys : (st : State) (ds fs : List FileId) → keys (pass_all st ds fs) 
 pass_all_keys st ds [] = refl
 pass_all_keys st ds (f ∷ fs) = pass_all_keys (pass st ds f) ds fs ∙ pass_own_keys st ds f (own_at st.names f)
 
+-- so the same directories are held
+pub pass_dirs : (st : State) (ds : List FileId) (f : FileId) → directories (pass st ds f).names ≡ directories st.names
+pass_dirs st ds f = ap (filter is_dir) (pass_own_keys st ds f (own_at st.names f))
+
+pub pass_all_dirs : (st : State) (ds fs : List FileId) → directories (pass_all st ds fs).names ≡ directories st.names
+pass_all_dirs st ds fs = ap (filter is_dir) (pass_all_keys st ds fs)
+
+pub made_dirs : (st : State) (f : FileId) (place : Place) → directories (made_at st f place).names ≡ directories st.names
+made_dirs st f place = ap (filter is_dir) (update_frame (with_last st.names place.stamp.time) f (with_own (own_with st.names f place))).keys
+
 pub placed_keys : (moment : ℕ) (ds : List FileId) (st : State) (f p : FileId) (name : List ℕ) → keys (placed moment ds st f p name) ≡ keys st
 placed_keys moment ds st f p name =
     let place = live_place (drawn moment st.names) p name in
@@ -38,6 +50,15 @@ returned_keys moment ds st (Some d) = placed_keys moment ds st d _ _
 moved_keys : (moment : ℕ) (ds : List FileId) (st : State) (o : Option FileId) → keys (moved moment ds st o) ≡ keys st
 moved_keys moment ds st None = refl
 moved_keys moment ds st (Some d) = placed_keys moment ds st d _ _
+
+pub return_dirs : (moment : ℕ) (ds : List FileId) (st : State) → directories (return_first moment ds st).names ≡ directories st.names
+return_dirs moment ds st = ap (filter is_dir) (returned_keys moment ds st (first_returning st.names ds))
+
+pub break_dirs : (moment : ℕ) (ds : List FileId) (st : State) → directories (break_first moment ds st).names ≡ directories st.names
+break_dirs moment ds st = ap (filter is_dir) (moved_keys moment ds st (first_moving st.names (length ds) None ds))
+
+pub returns_dirs : (moment : ℕ) (ds : List FileId) (n : ℕ) (st : State) → directories (repeated n (return_first moment ds) st).names ≡ directories st.names
+returns_dirs moment ds n st = repeated_keeps (λ (t : State). directories t.names ≡ directories st.names) (return_first moment ds) (λ t h. return_dirs moment ds t ∙ h) n st refl
 
 pub rules_keys : (moment : ℕ) (st : State) → keys_of (house moment st).names.held ≡ keys_of st.names.held
 rules_keys moment st =

@@ -33,7 +33,11 @@ pub mod Noting
 pub mod Going
 pub mod Replaced
 pub mod Made
-pub mod Marking
-pub mod Leaving
 mod HeldBack
+pub mod Dirty
+pub mod Takers
+pub mod Lost
+pub mod Among
+pub mod Nearby
+pub mod Crowded
 pub use Rattle.pg_msg.proofs as pg_msg

@@ -1,5 +1,5 @@
 -- Just the live places that the rules replace are noted.
-use Rattle.std.proofs.Common.{◌≡◌, ℕ, zero, suc, Bool, true, false, List, [], ◌∷◌, ◌++◌, length, Option, None, Some, refl, sym, ap, ◌∙◌, subst, inl, inr, ◌⊎◌}
+use Rattle.std.proofs.Common.{◌≡◌, ℕ, zero, suc, Bool, true, false, List, [], ◌∷◌, length, Option, None, Some, refl, sym, ap, ◌∙◌, subst, inl, inr, ◌⊎◌}
 use Rattle.std.proofs.lemmas.Option.{none-some, same_Some}
 use Rattle.pg_base.specs.declared.id.FileId.{FileId}
 use Rattle.pg_base.specs.Id.{is_same_file}
@@ -11,19 +11,18 @@ use Rattle.pg_edges.specs.declared.key.Key.TheVariants as key
 use Rattle.pg_msg.specs.declared.update.Update.{Update}
 use Rattle.pg_msg.specs.declared.update.Update.TheVariants as update
 use Rattle.pg_msg.specs.declared.work.Slot.{Slot}
-use Rattle.pg_msg.specs.declared.work.Touched.{Touched}
 use Rattle.pg_msg.specs.declared.work.Work.{Work}
 use Rattle.pg_msg.specs.Work.{with_made, with_touched}
 use Rattle.pg_names.specs.declared.attributes.Attributes.{Attributes}
 use Rattle.pg_names.specs.Names.{NamesValue, cell_at, directories, known, own_at, with_last}
 use Rattle.pg_names.proofs.Lookups.{apart_back, own_cell, own_other, own_same}
 use Rattle.pg_house.specs.Work.{State, is_root}
-use Rattle.pg_house.specs.Passing.{cell_for, gets, given, greatest, is_held_back, offered, own_taken, pass, pass_own, pass_all, passed, spread, taking}
+use Rattle.pg_house.specs.Passing.{gets, given, greatest, is_held_back, offered, own_taken, pass, pass_own, pass_all, passed, spread}
 use Rattle.pg_house.specs.Placing.{drawn, live_place, made_at, own_with, place_at, place_of, placed, repeated}
 use Rattle.pg_house.specs.Returning.{first_returning, is_returning, return_first, returned}
 use Rattle.pg_house.specs.Cycles.{break_first, first_moving, moved}
 use Rattle.pg_house.specs.House.{house, movable}
-use Rattle.pg_house.specs.Facts.{IsHeld, IsIn, IsKeptOrLeft, IsKnownPlace, IsLeft, IsNoted, IsOneOf, IsReplaced}
+use Rattle.pg_house.specs.Facts.{IsHeld, IsKeptOrLeft, IsKnownPlace, IsLeft, IsNoted, IsOneOf, IsReplaced}
 use Rattle.pg_house.proofs.Truths.{bool_cases, chosen}
 use Rattle.pg_house.proofs.Telling.{in_front, in_last, left_stays, spread_tells}
 use Rattle.pg_house.proofs.Spreading.{spread_cell, spread_own}

@@ -1,8 +1,7 @@
 -- Places that are held back: directories whose death is known by a cell, and that have not taken
 -- it.
-use Rattle.std.specs.Prelude.{Bool, false, ◌&&◌, ◌||◌, not, ℕ, List, [], ◌∷◌, Option, None, Some}
+use Rattle.std.specs.Prelude.{Bool, false, ◌&&◌, not, ℕ, List, [], ◌∷◌, Option, None, Some}
 use Rattle.std.specs.List.{filter}
-use Rattle.std.specs.Map.{values_of}
 use Rattle.pg_base.specs.declared.id.FileId.{FileId}
 use Rattle.pg_base.specs.Stamp.{is_before}
 use Rattle.pg_register.specs.declared.place.Place.{Place}
@@ -10,7 +9,7 @@ use Rattle.pg_register.specs.Flag.{is_removed}
 use Rattle.pg_register.specs.Place.{newer_place}
 use Rattle.pg_entries.specs.declared.entry.Entry.{Entry}
 use Rattle.pg_names.specs.declared.attributes.Attributes.{Attributes}
-use Rattle.pg_names.specs.Names.{InodeValue, NamesValue, cell_at, directories, is_dir, own_at}
+use Rattle.pg_names.specs.Names.{NamesValue, cell_at, directories, is_dir, own_at}
 use Rattle.pg_house.specs.Passing.{greatest, is_held_back}
 use Rattle.pg_house.specs.Returning.{is_root}
 
@@ -44,24 +43,3 @@ latest names file top (dir ∷ dirs) = latest names file (later top (cell_at nam
 abbrev pub waits : List ℕ → FileId → Place → Place → Bool
 waits removed file own top = is_dir file && (not top.live
     && (is_before own.stamp top.stamp && not (is_removed removed top.stamp.server)))
-
--- ---- a cell with a place that its child does not take
-
-abbrev pub is_waiting : NamesValue → FileId → Option Attributes → Entry → Bool
-is_waiting names child None cell = false
-is_waiting names child (Some own) cell = waits names.removed child own.place cell.place
-
--- one of these cells is such a one
-abbrev pub has_waiting : NamesValue → List (FileId × Entry) → Bool
-has_waiting names [] = false
-has_waiting names (e ∷ es) =
-    is_waiting names e.0 (own_at names e.0) e.1 || has_waiting names es
-
--- one of these has such a cell
-abbrev pub any_waiting : NamesValue → List InodeValue → Bool
-any_waiting names [] = false
-any_waiting names (x ∷ xs) = has_waiting names x.entries || any_waiting names xs
-
--- something that is held has one: only then a place is held back
-abbrev pub is_any_waiting : NamesValue → Bool
-is_any_waiting names = any_waiting names (values_of names.held)

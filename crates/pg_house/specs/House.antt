@@ -1,9 +1,9 @@
 -- The house rules, run until none applies.
-use Rattle.std.specs.Prelude.{ℕ, List, length, not}
+use Rattle.std.specs.Prelude.{ℕ, Bool, ◌&&◌, List, length, not}
 use Rattle.std.specs.List.{filter}
 use Rattle.std.specs.Map.{keys_of}
 use Rattle.pg_base.specs.declared.id.FileId.{FileId}
-use Rattle.pg_names.specs.Names.{NamesValue, directories}
+use Rattle.pg_names.specs.Names.{NamesValue, directories, is_held}
 use Rattle.pg_house.specs.Work.{State, is_root}
 use Rattle.pg_house.specs.Passing.{pass_all}
 use Rattle.pg_house.specs.Placing.{repeated}
@@ -13,6 +13,10 @@ use Rattle.pg_house.specs.Cycles.{break_first}
 -- all that is held but the root
 abbrev pub movable : NamesValue → List FileId
 movable names = filter (λ file. not (is_root file)) (keys_of names.held)
+
+-- a thing is held, and not the root
+abbrev pub is_movable : NamesValue → FileId → Bool
+is_movable names file = not (is_root file) && is_held names file
 
 -- these things pass, then directories come back, and then cycles break: each at most once for each
 -- directory. A new place passes at once

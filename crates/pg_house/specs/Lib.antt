@@ -4,7 +4,6 @@ pub mod Placing
 pub mod Returning
 pub mod Cycles
 pub mod House
-pub mod Busy
 pub mod Facts
 pub mod Calm
 pub mod Holding

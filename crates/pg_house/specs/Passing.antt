@@ -12,7 +12,7 @@ use Rattle.pg_entries.specs.declared.entry.Entry.{Entry}
 use Rattle.pg_msg.specs.declared.work.Work.{Work}
 use Rattle.pg_msg.specs.Work.{with_touched}
 use Rattle.pg_names.specs.declared.attributes.Attributes.{Attributes}
-use Rattle.pg_names.specs.Names.{NamesValue, cell_at, is_dir, own_at, set_entry, set_own}
+use Rattle.pg_names.specs.Names.{NamesValue, cell_at, is_dir, is_held, own_at, set_entry, set_own}
 use Rattle.pg_names.specs.Same.{is_same_entry, is_same_flag, is_same_own, is_same_place}
 use Rattle.pg_house.specs.Work.{State, place_touched, touched}
 
@@ -71,6 +71,11 @@ differs (Some held) cell = not (is_same_entry held cell)
 abbrev pub gets : NamesValue → FileId → Attributes → Attributes → Bool → FileId → Bool
 gets names file own top back dir = wants names file own top back dir
     && differs (cell_at names dir file) (cell_for file top)
+
+-- it is a held directory, and is to have a cell
+abbrev pub is_taker : NamesValue → FileId → Attributes → Attributes → Bool → FileId → Bool
+is_taker names file own top back dir =
+    is_dir dir && (is_held names dir && wants names file own top back dir)
 
 -- the directory takes the greatest, whole
 abbrev pub given : State → FileId → Attributes → FileId → State

@@ -2,15 +2,18 @@
 
 ghost use Rattle.std.specs.Prelude.{◌≡◌, ◌<◌, ◌≤◌, ◌+◌, ◌^◌, false, None, Some, OnOk, IfOk, length, max};
 ghost use Rattle.std.specs.Option.{option_copied};
-ghost use Rattle.pg_names.specs.Names.{own_at};
+ghost use Rattle.std.specs.List.{list_any};
+ghost use Rattle.pg_names.specs.Names.{directories, own_at};
 ghost use Rattle.pg_house.specs.Work.{state_of};
 ghost use Rattle.pg_house.specs.Placing.{place_at, place_of, repeated};
 ghost use Rattle.pg_house.specs.Cycles.{above, break_first, climb, first_moving, is_inner, is_live_own, is_lost, later, latest, latest_member, least, least_moving, moved};
 ghost use Rattle.pg_register.specs.Place.{root};
 
+use crate::changes::dirty_things;
 use crate::placing::place;
 use crate::returning::is_root;
 use pg_base::{FileId, Kind, Stamp};
+use pg_index::Ids;
 use pg_msg::Work;
 use pg_names::{Names, is_dir};
 use pg_register::tilde_name;
@@ -145,8 +148,8 @@ fn least_moving(names: &Names, count: usize, first: Option<FileId>, dir: &FileId
     }
 }
 
-/// The latest member of each cycle, and of more than one the least.
-fn first_moving(names: &Names, dirs: &[FileId]) -> Option<FileId>
+/// The latest member of each cycle to which these directories lead, and of more than one the least.
+fn first_of(names: &Names, dirs: &[FileId]) -> Option<FileId>
     requires { length dirs.now < 2 ^ 62 }
     ensures { result ≡ first_moving names.now (length dirs.now) None dirs.now }
 {
@@ -157,40 +160,52 @@ fn first_moving(names: &Names, dirs: &[FileId]) -> Option<FileId>
     first
 }
 
+/// Whether one of these never comes to the root, where so many directories are held.
+fn is_any_lost(names: &Names, count: usize, ids: &Ids) -> bool
+    requires { count < 2 ^ 62 }
+    ensures { result ≡ list_any (is_lost names.now count) ids.now }
+{
+    ids.as_map().keys().any(|dir| is_lost(names, count, dir))
+}
+
+/// The latest member of each cycle, and of more than one the least. Where nothing that is dirty
+/// stands in a cycle or leads to one there is none, and no other is looked at.
+fn first_moving(names: &Names) -> Result<Option<FileId>, AllocError>
+    requires { length (directories names.now) < 2 ^ 62 }
+    ensures { IfOk result (λ first. first ≡ first_moving names.now
+        (length (directories names.now)) None (directories names.now)) }
+{
+    if !is_any_lost(names, names.directory_count(), dirty_things(names)) {
+        return Ok(None);
+    }
+    let dirs = names.directories()?;
+    Ok(first_of(names, dirs.as_slice()))
+}
+
 /// The directory moves to the root.
-fn move_up(
-    names: &mut Names,
-    work: &mut Work,
-    moment: u64,
-    dirs: &[FileId],
-    dir: &FileId,
-) -> Result<(), AllocError>
+fn move_up(names: &mut Names, work: &mut Work, moment: u64, dir: &FileId) -> Result<(), AllocError>
     requires { names.old.last < 2 ^ 63 }
     ensures { OnOk result (state_of names.new work.new
-        ≡ moved moment dirs.now (state_of names.old work.old) (Some dir.now)) }
+        ≡ moved moment (directories names.old) (state_of names.old work.old) (Some dir.now)) }
 {
     let name = tilde_name(names.allocator(), *dir)?;
-    place(names, work, moment, dirs, dir, root(), name)?;
+    place(names, work, moment, dir, root(), name)?;
     Ok(())
 }
 
 /// One cycle is broken. Tells whether there was one.
-fn break_first(
-    names: &mut Names,
-    work: &mut Work,
-    moment: u64,
-    dirs: &[FileId],
-) -> Result<bool, AllocError>
-    requires few { length dirs.now < 2 ^ 62 }
+fn break_first(names: &mut Names, work: &mut Work, moment: u64) -> Result<bool, AllocError>
+    requires few { length (directories names.old) < 2 ^ 62 }
     requires last { names.old.last < 2 ^ 63 }
     ensures broken { OnOk result (state_of names.new work.new
-        ≡ break_first moment dirs.now (state_of names.old work.old)) }
+        ≡ break_first moment (directories names.old) (state_of names.old work.old)) }
     ensures none { IfOk result (λ more. more ≡ false
-        → first_moving names.new (length dirs.now) None dirs.now ≡ None) }
+        → first_moving names.new (length (directories names.new)) None
+        (directories names.new) ≡ None) }
 {
-    match first_moving(names, dirs) {
+    match first_moving(names)? {
         Some(dir) => {
-            move_up(names, work, moment, dirs, &dir)?;
+            move_up(names, work, moment, &dir)?;
             Ok(true)
         }
         None => Ok(false),
@@ -198,19 +213,16 @@ fn break_first(
 }
 
 /// All cycles are broken, one after another.
-pub(crate) fn break_all(
-    names: &mut Names,
-    work: &mut Work,
-    moment: u64,
-    dirs: &[FileId],
-) -> Result<(), AllocError>
-    requires few { length dirs.now < 2 ^ 62 }
-    requires last { max (2 ^ 62) names.old.last + length dirs.now < 2 ^ 63 }
+pub(crate) fn break_all(names: &mut Names, work: &mut Work, moment: u64) -> Result<(), AllocError>
+    requires few { length (directories names.old) < 2 ^ 62 }
+    requires last { max (2 ^ 62) names.old.last + length (directories names.old) < 2 ^ 63 }
     ensures { OnOk result (state_of names.new work.new
-        ≡ repeated (length dirs.now) (break_first moment dirs.now) (state_of names.old work.old)) }
+        ≡ repeated (length (directories names.old)) (break_first moment (directories names.old))
+        (state_of names.old work.old)) }
 {
-    for i in 0..dirs.len() {
-        if !break_first(names, work, moment, dirs)? {
+    let count = names.directory_count();
+    for i in 0..count {
+        if !break_first(names, work, moment)? {
             return Ok(());
         }
     }

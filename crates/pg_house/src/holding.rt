@@ -2,12 +2,12 @@
 
 ghost use Rattle.std.specs.Prelude.{◌≡◌, length};
 ghost use Rattle.std.specs.List.{slice_get};
-ghost use Rattle.pg_names.specs.Names.{cell_at, directories, own_at};
-ghost use Rattle.pg_house.specs.Holding.{has_waiting, held_back, is_any_waiting, is_dir_back, is_waiting, later, latest, waits};
+ghost use Rattle.pg_names.specs.Names.{cell_at, directories};
+ghost use Rattle.pg_house.specs.Holding.{held_back, is_dir_back, later, latest, waits};
 
+use crate::changes::dirty_things;
 use crate::returning::is_root;
 use pg_base::FileId;
-use pg_entries::{Entries, Entry};
 use pg_names::{Names, is_dir};
 use pg_register::Place;
 
@@ -21,12 +21,13 @@ fn later<'a>(top: &'a Place, names: &'a Names, file: &FileId, dir: &FileId) -> &
     }
 }
 
-/// The latest of the place and those for the thing in the directories that are held.
+/// The latest of the place and those for the thing in the directories that are held. It looks at
+/// those that have a cell for it.
 fn latest<'a>(names: &'a Names, file: &FileId, own: &'a Place) -> &'a Place
     ensures { result.now ≡ latest names.now file.now own.now (directories names.now) }
 {
     let mut top = own;
-    for dir in names.as_map().keys() {
+    for dir in names.holders(file).as_map().keys() {
         if is_dir(dir) {
             top = later(top, names, file, dir);
         }
@@ -54,49 +55,12 @@ fn is_dir_back(names: &Names, dir: &FileId) -> bool
     }
 }
 
-/// Whether a cell has a place that its child does not take.
-fn is_waiting(names: &Names, child: &FileId, cell: &Entry) -> bool
-    ensures { result ≡ is_waiting names.now child.now (own_at names.now child.now) cell.now }
-{
-    match names.own(child) {
-        Some(own) => waits(names, child, &own.place, &cell.place),
-        None => false,
-    }
-}
-
-/// Whether one of these cells is such a one.
-fn has_waiting(names: &Names, entries: &Entries) -> bool
-    ensures { result ≡ has_waiting names.now entries.now }
-{
-    for (child, cell) in entries.as_map() {
-        if is_waiting(names, child, cell) {
-            return true;
-        }
-    }
-    false
-}
-
-/// Whether there is such a cell anywhere. Where none is, no place is held back.
-fn is_any_waiting(names: &Names) -> bool
-    ensures { result ≡ is_any_waiting names.now }
-{
-    for held in names.as_map().values() {
-        if has_waiting(names, held.entries()) {
-            return true;
-        }
-    }
-    false
-}
-
-/// The first directory whose place is held back, by id. It takes no memory.
-#[tactic(auto, using(crate::proofs::HeldBack::none_held_back))]
+/// The first directory whose place is held back, by id. It takes no memory, and looks at what is
+/// dirty: of no other thing a place is held back.
 pub fn first_held_back(names: &Names) -> Option<FileId>
     ensures { result ≡ slice_get (held_back names.now) 0 }
 {
-    if !is_any_waiting(names) {
-        return None;
-    }
-    for file in names.as_map().keys() {
+    for file in dirty_things(names).as_map().keys() {
         if is_dir(file) && is_dir_back(names, file) {
             return Some(*file);
         }
@@ -105,14 +69,10 @@ pub fn first_held_back(names: &Names) -> Option<FileId>
 }
 
 /// How many directories there are whose places are held back. It takes no memory.
-#[tactic(auto, using(crate::proofs::HeldBack::none_held_back))]
 pub fn count_held_back(names: &Names) -> usize
     ensures { result ≡ length (held_back names.now) }
 {
-    if !is_any_waiting(names) {
-        return 0;
-    }
-    names
+    dirty_things(names)
         .as_map()
         .keys()
         .filter(|file| is_dir(file) && is_dir_back(names, file))

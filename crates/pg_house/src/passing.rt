@@ -1,16 +1,23 @@
 //! Passing: a thing and the directories that know of it come to the same place and flags.
 
-ghost use Rattle.std.specs.Prelude.{◌≡◌, not, OnOk, IfOk};
+ghost use Rattle.std.specs.Prelude.{◌≡◌, ◌||◌, not, OnOk, IfOk};
 ghost use Rattle.std.specs.Option.{option_copied};
-ghost use Rattle.pg_names.specs.Names.{cell_at, own_at};
+ghost use Rattle.std.specs.List.{filter};
+ghost use Rattle.pg_base.specs.declared.id.FileId.{FileId};
+ghost use Rattle.pg_base.specs.Id.{is_same_file};
+ghost use Rattle.pg_index.specs.Ids.{is_one_of};
+ghost use Rattle.pg_names.specs.Calm.{holders};
+ghost use Rattle.pg_names.specs.Names.{cell_at, directories, is_dir, own_at};
 ghost use Rattle.pg_names.specs.Same.{is_same_entry};
 ghost use Rattle.pg_house.specs.Work.{state_of};
-ghost use Rattle.pg_house.specs.Passing.{cell_for, differs, gets, given, greatest, is_held_back, is_in, is_update, joined, joined_with, offered, own_taken, pass, pass_all, passed_to, spread, taking, took, wants};
+ghost use Rattle.pg_house.specs.Passing.{cell_for, differs, gets, given, greatest, is_held_back, is_in, is_taker, is_update, joined, joined_with, offered, own_taken, pass, pass_all, passed_to, spread, taking, took, wants};
 
+use crate::changes::dirty_things;
 use crate::touching::{touch, touch_own};
-use pg_base::{FileId, Stamp};
+use pg_base::{FileId, Items, Stamp};
 use pg_edges::Key;
 use pg_entries::Entry;
+use pg_index::Ids;
 use pg_msg::Work;
 use pg_names::{Attributes, Names, is_dir, is_same_flags, is_same_own, is_same_place};
 use pg_register::Place;
@@ -61,8 +68,23 @@ fn raise_by(
     }
 }
 
-/// The greatest of what is known of a thing.
-pub(crate) fn greatest(
+/// The directories that have a cell for a thing, by id.
+fn cell_dirs(names: &Names, file: &FileId) -> Result<Items<FileId>, AllocError>
+    ensures { IfOk result (λ dirs. dirs ≡ filter is_dir (holders names.now file.now)) }
+{
+    Ok(Items::from_vec(
+        names
+            .holders(file)
+            .as_map()
+            .keys()
+            .copied()
+            .filter(|dir| is_dir(dir))
+            .collect(names.allocator())?,
+    ))
+}
+
+/// The greatest of what is known of a thing, by these directories.
+fn greatest(
     names: &Names,
     dirs: &[FileId],
     file: &FileId,
@@ -78,7 +100,7 @@ pub(crate) fn greatest(
 }
 
 /// Whether the thing itself does not take the greatest place.
-pub(crate) fn is_held_back(names: &Names, file: &FileId, own: &Attributes, top: &Attributes) -> bool
+fn is_held_back(names: &Names, file: &FileId, own: &Attributes, top: &Attributes) -> bool
     ensures { result ≡ is_held_back names.now.removed file.now own.now top.now }
 {
     is_dir(file)
@@ -203,11 +225,7 @@ fn spread(
 }
 
 /// What the thing itself takes.
-pub(crate) fn own_taken(
-    own: &Attributes,
-    top: &Attributes,
-    back: bool,
-) -> Result<Attributes, AllocError>
+fn own_taken(own: &Attributes, top: &Attributes, back: bool) -> Result<Attributes, AllocError>
     ensures { IfOk result (λ taken. taken ≡ own_taken own.now top.now back) }
 {
     if back {
@@ -231,7 +249,7 @@ fn take_other(
         ≡ took (state_of names.old work.old) file.now own.now taken) }
 {
     touch_own(work, *file, own, &taken)?;
-    names.set_own(file, taken);
+    names.set_own(file, taken)?;
     Ok(())
 }
 
@@ -253,54 +271,116 @@ fn take(
     Ok(())
 }
 
+/// What has a cell for a thing, as a set of its own.
+fn copied_holders(names: &Names, file: &FileId) -> Result<Ids, AllocError>
+    ensures { IfOk result (λ ids. (q : FileId)
+        → is_one_of q ids ≡ is_one_of q (holders names.now file.now)) }
+{
+    let mut ids = Ids::new(names.allocator());
+    for dir in names.holders(file).as_map().keys() {
+        ids.insert(*dir)?;
+    }
+    Ok(ids)
+}
+
+/// All ids among which are the directories that have a cell for the thing, and its parents.
+fn candidates(
+    names: &Names,
+    file: &FileId,
+    own: &Attributes,
+    top: &Attributes,
+) -> Result<Ids, AllocError>
+    ensures { IfOk result (λ ids. (q : FileId) → is_one_of q ids
+        ≡ (is_same_file q own.now.place.parent || (is_same_file q top.now.place.parent
+        || is_one_of q (holders names.now file.now)))) }
+{
+    let mut ids = copied_holders(names, file)?;
+    ids.insert(top.place.parent)?;
+    ids.insert(own.place.parent)?;
+    Ok(ids)
+}
+
+/// Whether this is a held directory that is to have a cell for the thing.
+fn is_taker(
+    names: &Names,
+    file: &FileId,
+    own: &Attributes,
+    top: &Attributes,
+    back: bool,
+    dir: &FileId,
+) -> bool
+    ensures { result ≡ is_taker names.now file.now own.now top.now back dir.now }
+{
+    is_dir(dir) && names.is_held(dir) && wants(names, file, own, top, back, dir)
+}
+
+/// The held directories that are to have a cell for the thing, by id. It looks at no others than
+/// those that have one, and at its parents.
+fn takers(
+    names: &Names,
+    file: &FileId,
+    own: &Attributes,
+    top: &Attributes,
+    back: bool,
+) -> Result<Items<FileId>, AllocError>
+    ensures { IfOk result (λ dirs. dirs
+        ≡ filter (wants names.now file.now own.now top.now back) (directories names.now)) }
+{
+    let _dirty = dirty_things(names);
+    let ids = candidates(names, file, own, top)?;
+    let held = ids.as_map();
+    Ok(Items::from_vec(
+        held.keys()
+            .copied()
+            .filter(|dir| is_taker(names, file, own, top, back, dir))
+            .collect(names.allocator())?,
+    ))
+}
+
 fn pass_to(
     names: &mut Names,
     work: &mut Work,
-    dirs: &[FileId],
     file: &FileId,
     own: &Attributes,
     top: &Attributes,
 ) -> Result<(), AllocError>
     ensures { OnOk result (state_of names.new work.new
-        ≡ passed_to (state_of names.old work.old) dirs.now file.now own.now top.now) }
+        ≡ passed_to (state_of names.old work.old) (directories names.old)
+        file.now own.now top.now) }
 {
     let back = is_held_back(names, file, own, top);
-    spread(names, work, dirs, file, own, top, back)?;
+    let dirs = takers(names, file, own, top, back)?;
+    spread(names, work, dirs.as_slice(), file, own, top, back)?;
     take(names, work, file, own, own_taken(own, top, back)?)?;
     Ok(())
 }
 
-/// Passing for one thing, where these are the held directories.
-pub(crate) fn pass(
-    names: &mut Names,
-    work: &mut Work,
-    dirs: &[FileId],
-    file: &FileId,
-) -> Result<(), AllocError>
+/// Passing for one thing. It looks at the directories that have a cell for it, and at its parents.
+pub(crate) fn pass(names: &mut Names, work: &mut Work, file: &FileId) -> Result<(), AllocError>
     ensures { OnOk result (state_of names.new work.new
-        ≡ pass (state_of names.old work.old) dirs.now file.now) }
+        ≡ pass (state_of names.old work.old) (directories names.old) file.now) }
 {
     let own = match names.own(file) {
         Some(own) => own.copy()?,
         None => return Ok(()),
     };
-    let top = greatest(names, dirs, file, &own)?;
-    pass_to(names, work, dirs, file, &own, &top)?;
+    let dirs = cell_dirs(names, file)?;
+    let top = greatest(names, dirs.as_slice(), file, &own)?;
+    pass_to(names, work, file, &own, &top)?;
     Ok(())
 }
 
-/// Passing for each of these things, where these are the held directories.
+/// Passing for each of these things.
 pub(crate) fn pass_all(
     names: &mut Names,
     work: &mut Work,
-    dirs: &[FileId],
     files: &[FileId],
 ) -> Result<(), AllocError>
     ensures { OnOk result (state_of names.new work.new
-        ≡ pass_all (state_of names.old work.old) dirs.now files.now) }
+        ≡ pass_all (state_of names.old work.old) (directories names.old) files.now) }
 {
     for file in files {
-        pass(names, work, dirs, file)?;
+        pass(names, work, file)?;
     }
     Ok(())
 }

@@ -3,7 +3,7 @@
 ghost use Rattle.std.specs.Prelude.{◌≡◌, ◌<◌, ◌^◌, OnOk, IfOk};
 ghost use Rattle.pg_msg.specs.Work.{with_made};
 ghost use Rattle.pg_msg.specs.declared.update.Update.TheVariants as update;
-ghost use Rattle.pg_names.specs.Names.{own_at, with_last};
+ghost use Rattle.pg_names.specs.Names.{directories, own_at, with_last};
 ghost use Rattle.pg_house.specs.Work.{state_of};
 ghost use Rattle.pg_house.specs.Placing.{drawn, flags_of, live_place, made_at, own_with, place_at, placed};
 
@@ -55,7 +55,7 @@ fn make(names: &mut Names, work: &mut Work, file: &FileId, place: Place) -> Resu
     touch(work, *file, Key::Place)?;
     note_left(work, *file, &place_at(names, file)?)?;
     let flags = flags_at(names, file)?;
-    names.set_own(file, Attributes { place, flags });
+    names.set_own(file, Attributes { place, flags })?;
     Ok(())
 }
 
@@ -64,14 +64,14 @@ pub(crate) fn place(
     names: &mut Names,
     work: &mut Work,
     moment: u64,
-    dirs: &[FileId],
     file: &FileId,
     parent: FileId,
     name: SharedBytes,
 ) -> Result<(), AllocError>
     requires { names.old.last < 2 ^ 63 }
     ensures { OnOk result (state_of names.new work.new
-        ≡ placed moment dirs.now (state_of names.old work.old) file.now parent name) }
+        ≡ placed moment (directories names.old) (state_of names.old work.old)
+        file.now parent name) }
 {
     let stamp = names.draw_stamp(moment);
     let place = Place {
@@ -81,6 +81,6 @@ pub(crate) fn place(
         live: true,
     };
     make(names, work, file, place)?;
-    pass(names, work, dirs, file)?;
+    pass(names, work, file)?;
     Ok(())
 }

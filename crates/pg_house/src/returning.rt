@@ -1,15 +1,16 @@
 //! Return: a dead directory that lists a child comes back.
 
 ghost use Rattle.std.specs.Prelude.{◌≡◌, ◌<◌, ◌≤◌, ◌+◌, ◌^◌, false, None, Some, OnOk, IfOk, length, max};
-ghost use Rattle.std.specs.Option.{option_copied};
+ghost use Rattle.pg_names.specs.Names.{directories};
 ghost use Rattle.pg_house.specs.Work.{state_of};
 ghost use Rattle.pg_house.specs.Placing.{place_at, repeated};
 ghost use Rattle.pg_house.specs.Returning.{first_returning, is_dead, is_returning, is_root, return_first, returned};
 
+use crate::changes::dirty_things;
 use crate::placing::{place, place_at};
 use pg_base::{FileId, Kind, Stamp};
 use pg_msg::Work;
-use pg_names::Names;
+use pg_names::{Names, is_dir};
 use pg_register::Place;
 use std::alloc::AllocError;
 
@@ -42,10 +43,16 @@ fn is_returning(names: &Names, dir: &FileId) -> bool
     }
 }
 
-fn first_returning<'a>(names: &Names, dirs: &'a [FileId]) -> Option<&'a FileId>
-    ensures { option_copied result ≡ first_returning names.now dirs.now }
+/// The first directory that is to come back, by id. Only what is dirty can be such a one.
+fn first_returning(names: &Names) -> Option<FileId>
+    ensures { result ≡ first_returning names.now (directories names.now) }
 {
-    dirs.iter().find(|dir| is_returning(names, dir))
+    for dir in dirty_things(names).as_map().keys() {
+        if is_dir(dir) && is_returning(names, dir) {
+            return Some(*dir);
+        }
+    }
+    None
 }
 
 /// The directory comes back, where it was.
@@ -53,33 +60,29 @@ fn come_back(
     names: &mut Names,
     work: &mut Work,
     moment: u64,
-    dirs: &[FileId],
     dir: &FileId,
 ) -> Result<(), AllocError>
     requires { names.old.last < 2 ^ 63 }
     ensures { OnOk result (state_of names.new work.new
-        ≡ returned moment dirs.now (state_of names.old work.old) (Some dir.now)) }
+        ≡ returned moment (directories names.old) (state_of names.old work.old)
+        (Some dir.now)) }
 {
     let old = place_at(names, dir)?;
-    place(names, work, moment, dirs, dir, old.parent, old.name)?;
+    place(names, work, moment, dir, old.parent, old.name)?;
     Ok(())
 }
 
 /// The first directory that is to come back does. Tells whether there was one.
-fn return_first(
-    names: &mut Names,
-    work: &mut Work,
-    moment: u64,
-    dirs: &[FileId],
-) -> Result<bool, AllocError>
+fn return_first(names: &mut Names, work: &mut Work, moment: u64) -> Result<bool, AllocError>
     requires { names.old.last < 2 ^ 63 }
     ensures back { OnOk result (state_of names.new work.new
-        ≡ return_first moment dirs.now (state_of names.old work.old)) }
-    ensures none { IfOk result (λ more. more ≡ false → first_returning names.new dirs.now ≡ None) }
+        ≡ return_first moment (directories names.old) (state_of names.old work.old)) }
+    ensures none { IfOk result (λ more. more ≡ false
+        → first_returning names.new (directories names.new) ≡ None) }
 {
-    match first_returning(names, dirs) {
+    match first_returning(names) {
         Some(dir) => {
-            come_back(names, work, moment, dirs, dir)?;
+            come_back(names, work, moment, &dir)?;
             Ok(true)
         }
         None => Ok(false),
@@ -87,20 +90,17 @@ fn return_first(
 }
 
 /// Each directory that is to come back does, one after another.
-pub(crate) fn return_all(
-    names: &mut Names,
-    work: &mut Work,
-    moment: u64,
-    dirs: &[FileId],
-) -> Result<(), AllocError>
-    requires { max (2 ^ 62) names.old.last + length dirs.now < 2 ^ 63 }
+pub(crate) fn return_all(names: &mut Names, work: &mut Work, moment: u64) -> Result<(), AllocError>
+    requires { max (2 ^ 62) names.old.last + length (directories names.old) < 2 ^ 63 }
     ensures back { OnOk result (state_of names.new work.new
-        ≡ repeated (length dirs.now) (return_first moment dirs.now) (state_of names.old work.old)) }
+        ≡ repeated (length (directories names.old)) (return_first moment (directories names.old))
+        (state_of names.old work.old)) }
     ensures last { OnOk result (names.new.last
-        ≤ max (2 ^ 62) names.old.last + length dirs.now) }
+        ≤ max (2 ^ 62) names.old.last + length (directories names.old)) }
 {
-    for i in 0..dirs.len() {
-        if !return_first(names, work, moment, dirs)? {
+    let count = names.directory_count();
+    for i in 0..count {
+        if !return_first(names, work, moment)? {
             return Ok(());
         }
     }

@@ -10,3 +10,5 @@ pub mod Leaves
 pub mod Idle
 pub mod Invited
 pub use Rattle.pg_graph.proofs as pg_graph
+mod DirtyFills
+mod Marked

@@ -44,6 +44,11 @@ abbrev pub with_each : NamesValue → Files → List (FileId × InodeValue) → 
 with_each names files [] = files
 with_each names files (h ∷ hs) = with_each names (with_held names files h.0 h.1) hs
 
+-- of a thing, where it is held
+abbrev pub with_known : NamesValue → Files → FileId → Option InodeValue → Files
+with_known names files file None = files
+with_known names files file (Some x) = with_held names files file x
+
 abbrev pub files_to_fill : NamesValue → Files
 files_to_fill names = with_each names [] names.held
 

@@ -5,9 +5,6 @@ use Rattle.std.specs.Map.{keys_of}
 use Rattle.pg_base.specs.declared.id.FileId.{FileId}
 use Rattle.pg_base.specs.Id.{is_same_file}
 use Rattle.pg_register.specs.declared.flag.Flag.{Flag}
-use Rattle.pg_register.specs.Flag.{is_live_other, is_raised, is_removed}
-use Rattle.pg_edges.specs.declared.edge.Edge.{Edge}
-use Rattle.pg_edges.specs.Edges.{is_listed}
 use Rattle.pg_graph.specs.pg_intent.declared.intent.Intent.{Intent}
 use Rattle.pg_graph.specs.pg_intent.declared.intent.Intent.TheVariants as intent
 use Rattle.pg_graph.specs.pg_intent.declared.key.IntentKey.TheVariants as intent_key
@@ -16,24 +13,13 @@ use Rattle.pg_graph.specs.pg_msg.declared.work.Linked.{Linked}
 use Rattle.pg_graph.specs.pg_msg.declared.work.Work.{Work}
 use Rattle.pg_graph.specs.pg_store.declared.store.Store.{Store}
 use Rattle.pg_graph.specs.pg_store.Beginning.{with_intents}
+pub use Rattle.pg_graph.specs.pg_store.Seekers.{is_apart, matches, seeks}
 use Rattle.pg_graph.specs.pg_store.Servers.{next_target}
 use Rattle.pg_graph.specs.pg_store.Store.{is_held}
 use Rattle.pg_graph.specs.pg_pieces.Done.{Done, idle}
 use Rattle.pg_graph.specs.pg_pieces.Golds.{flags_of, is_gold}
 use Rattle.pg_graph.specs.pg_pieces.Intending.{begin_intent, each}
 use Rattle.pg_graph.specs.Walks.{edges_of}
-
--- ---- golds and edges
-
--- an edge matches a raised flag of a live server: that of its peer has the birth that it names
-abbrev pub matches : List ℕ → List Flag → Edge → Bool
-matches removed flags edge =
-    is_raised flags edge.peer edge.birth && not (is_removed removed edge.peer)
-
--- the flag of another live gold replica, to which there is no edge
-abbrev pub is_apart : ℕ → List ℕ → List Edge → Flag → Bool
-is_apart server removed edges flag = is_live_other server removed flag
-    && not (is_listed edges flag.server flag.birth)
 
 -- ---- what seeks
 
@@ -45,12 +31,6 @@ has_gold_apart store file =
 abbrev pub has_gold_edge : Store → FileId → Bool
 has_gold_edge store file =
     list_any (matches store.names.removed (flags_of store file)) (edges_of store file)
-
--- so of a replica with these flags, this birth and these edges
-abbrev pub seeks : ℕ → List ℕ → List Flag → ℕ → List Edge → Bool
-seeks server removed flags birth edges = if is_raised flags server birth
-    then list_any (is_apart server removed edges) flags
-    else not (list_any (matches removed flags) edges)
 
 -- a gold replica seeks where it sees a live gold of another server to which it has no edge, a
 -- bronze one where it has no edge to a live gold that it sees

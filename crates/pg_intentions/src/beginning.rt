@@ -26,6 +26,7 @@ pub fn begin_end(store: &mut Store, work: &mut Work) -> Result<(), AllocError>
 {
     let files = to_fill(&store.names)?;
     let seekers = to_seek(store)?;
+    store.settle(seekers.as_slice());
     end_others(store, &files)?;
     begin_patches(store, work)?;
     begin_fills(store, &files, work)?;

@@ -2,11 +2,12 @@
 
 ghost use Rattle.std.specs.Prelude.{◌≡◌, IfOk, OnOk, is_some};
 ghost use Rattle.std.specs.Map.{keys_of};
+ghost use Rattle.pg_graph.specs.pg_names.Names.{known};
 ghost use Rattle.pg_graph.specs.pg_store.Births.{fill_at};
-ghost use Rattle.pg_intentions.specs.Fills.{begin_fill, begin_fills, files_to_fill, fill_birth, lacks_parent, with_fill_birth, with_filling, with_held, with_parent};
+ghost use Rattle.pg_intentions.specs.Fills.{begin_fill, begin_fills, files_to_fill, fill_birth, lacks_parent, with_fill_birth, with_filling, with_held, with_known, with_parent};
 
 use pg_base::FileId;
-use pg_graph::house::is_root;
+use pg_graph::house::{dirty_things, is_root};
 use pg_graph::intent::{Intent, IntentKey};
 use pg_graph::msg::Work;
 use pg_graph::names::{Inode, Names};
@@ -64,14 +65,26 @@ fn add_held(names: &Names, files: &mut Files, file: &FileId, held: &Inode) -> Re
     Ok(())
 }
 
+/// Of a thing itself and its parent, where it is held and they are to be filled.
+fn add_known(names: &Names, files: &mut Files, file: &FileId) -> Result<(), AllocError>
+    ensures { OnOk result (files.new.entries
+        ≡ with_known names.now files.old.entries file.now (known names.now file.now)) }
+{
+    match names.get(file) {
+        Some(held) => add_held(names, files, file, held),
+        None => Ok(()),
+    }
+}
+
 /// All that is to be filled: what is held and filling, and what is not held and is the parent in
-/// the live place of something that is.
+/// the live place of something that is. It looks at what is dirty: all else is full, and its parent
+/// is held.
 pub(crate) fn to_fill(names: &Names) -> Result<Files, AllocError>
     ensures { IfOk result (λ files. files.entries ≡ files_to_fill names.now) }
 {
     let mut files = BTreeMap::new(names.allocator());
-    for (file, held) in names.as_map() {
-        add_held(names, &mut files, file, held)?;
+    for file in dirty_things(names).as_map().keys() {
+        add_known(names, &mut files, file)?;
     }
     Ok(files)
 }

@@ -89,8 +89,25 @@ pub fn is_seeking(store: &Store, file: &FileId) -> bool
     }
 }
 
-/// All that seeks, by id.
+/// All that seeks, by id. Where it is known what may, that alone is gone through.
 pub fn to_seek(store: &Store) -> Result<Items<FileId>, AllocError>
+    ensures { IfOk result (λ files. files ≡ to_seek store.now) }
+{
+    let Some(ids) = store.seekers() else {
+        return all_seeking(store);
+    };
+    let _held = store.names.as_map();
+    Ok(Items::from_vec(
+        ids.as_map()
+            .keys()
+            .copied()
+            .filter(|file| is_seeking(store, file))
+            .collect(store.allocator())?,
+    ))
+}
+
+/// The same, found among all that is held.
+fn all_seeking(store: &Store) -> Result<Items<FileId>, AllocError>
     ensures { IfOk result (λ files. files ≡ to_seek store.now) }
 {
     Ok(Items::from_vec(

@@ -90,7 +90,7 @@ fn small_tree(alloc: Global, held: &[u8]) -> Result<Names, AllocError> {
         place: place(alloc, 1, ROOT, b"a")?,
         flags: GoldFlags::new(alloc),
     };
-    names.set_own(&A, own);
+    names.set_own(&A, own)?;
     if held != b"absent".as_slice() {
         hold(&mut names, alloc, B, false)?;
     }

@@ -1,5 +1,5 @@
 -- A thing that is held no longer: all else is held as before.
-use Rattle.std.proofs.Common.{ℕ, ◌≡◌, Bool, true, false, cond, not, filter, List, [], ◌∷◌, Option, None, Some, refl, sym, ap, subst, ◌∙◌}
+use Rattle.std.proofs.Common.{ℕ, ◌≡◌, Bool, true, false, cond, not, filter, List, [], ◌∷◌, Option, None, refl, sym, ap, subst, ◌∙◌}
 use Rattle.std.specs.declared.cmp.Ordering.{Ordering}
 use Rattle.std.specs.List.Sorted.{IsStrictlySortedBy}
 use Rattle.std.specs.Map.{keys_of, lookup}
@@ -29,13 +29,13 @@ keys_where : (p : FileId → Bool) (es : Things) → keys_of (filter (λ e. p e.
 keys_where p [] = refl
 keys_where p (e ∷ es) = keys_by p e es (filter (λ (x : FileId × InodeValue). p x.0) es) (p e.0) refl (keys_where p es)
 
-sorted_where : (p : FileId → Bool) (es : Things) → IsStrictlySortedBy file_cmp (keys_of es)
+pub sorted_where : (p : FileId → Bool) (es : Things) → IsStrictlySortedBy file_cmp (keys_of es)
     → IsStrictlySortedBy file_cmp (keys_of (filter (λ e. p e.0) es))
 sorted_where p es s = subst (IsStrictlySortedBy file_cmp) (sym (keys_where p es)) (IsStrictlySortedBy-filter file_cmp p (keys_of es) s)
 
 -- ---- what is held then
 
-abbrev without : FileId → FileId → Bool
+abbrev pub without : FileId → FileId → Bool
 without file k = not (is_at (file_cmp file) k)
 
 turned : (t : Bool) (o : Option InodeValue) → cond t None o ≡ cond (not t) o None

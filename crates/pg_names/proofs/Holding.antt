@@ -6,7 +6,7 @@ use Rattle.pg_base.specs.Id.{file_cmp, is_same_file}
 use Rattle.pg_base.proofs.Orders.{file_total, is_same_file-true, is_same_file-refl}
 use Rattle.pg_base.proofs.Maps.{lookup-insert_entry}
 use Rattle.pg_names.specs.declared.attributes.Attributes.{Attributes}
-use Rattle.pg_names.specs.Names.{InodeValue, NamesValue, begin, cell_at, changed, entry_in, fill, filled, is_full, is_full_of, known, new_held, own_at, own_of, update}
+use Rattle.pg_names.specs.Names.{InodeValue, NamesValue, begin, cell_at, changed, entry_in, fill, filled, is_full, is_full_of, known, new_held, own_at, update}
 use Rattle.pg_names.proofs.Lookups.{cells_kept, known_held, known_other, known_same, own_kept}
 
 module _ (s : NamesValue) (f : FileId) (own : Attributes) (full : Bool) where

@@ -4,6 +4,7 @@ use Rattle.std.proofs.Common.{◌≡◌, ℕ, Bool, List, Some, None, sym, ap, �
 use Rattle.std.specs.declared.cmp.Ordering.{Ordering}
 use Rattle.std.specs.Map.{lookup, set_value}
 use Rattle.std.specs.BTreeMap.{is_at, insert_entry}
+use Rattle.std.proofs.lemmas.Map.Steps.{set_value_same}
 use Rattle.pg_base.specs.declared.id.FileId.{FileId}
 use Rattle.pg_base.specs.Id.{file_cmp}
 use Rattle.pg_names.specs.declared.attributes.Attributes.{Attributes}
@@ -19,6 +20,12 @@ names_of server last removed es = record { server = server; last = last; removed
 -- what is held of a thing is written
 pub held_put : (R : Order) → R ≡ file_cmp → (server last : ℕ) (removed : List ℕ) (es fs : List (FileId × InodeValue)) (file : FileId) (x : InodeValue) → fs ≡ set_value (is_at (R file)) es x → names_of server last removed fs ≡ with_held (names_of server last removed es) file x
 held_put R same server last removed es fs file x h = ap (names_of server last removed) (subst (λ (r : Order). fs ≡ set_value (is_at (r file)) es x) same h)
+
+-- what was found is written again
+pub same_put : (R : Order) → R ≡ file_cmp → (server last : ℕ) (removed : List ℕ) (es fs : List (FileId × InodeValue)) (file : FileId) (x y : InodeValue) → lookup (is_at (R file)) es ≡ Some x → y ≡ x → fs ≡ set_value (is_at (R file)) es y
+    → names_of server last removed fs ≡ names_of server last removed es
+same_put R order server last removed es fs file x y there same set =
+    ap (names_of server last removed) (set ∙ ap (set_value (is_at (R file)) es) same ∙ set_value_same (is_at (R file)) es x there)
 
 found : (R : Order) → R ≡ file_cmp → (es : List (FileId × InodeValue)) (file : FileId) (x : InodeValue) → lookup (is_at (R file)) es ≡ Some x → lookup (is_at (file_cmp file)) es ≡ Some x
 found R same es file x h = subst (λ (r : Order). lookup (is_at (r file)) es ≡ Some x) same h

@@ -5,8 +5,8 @@ ghost use Rattle.std.specs.Option.{option_copied};
 ghost use Rattle.pg_register.specs.Flag as flags;
 ghost use Rattle.pg_register.specs.Flag.{flag_of};
 ghost use Rattle.pg_base.specs.Stamp.{is_before};
-ghost use Rattle.pg_entries.specs.Entry.{brings, entry_of, lists_any};
-ghost use Rattle.pg_names.specs.Names.{filled, new_held, with_entry, with_flag, with_joined, with_own, with_place};
+ghost use Rattle.pg_entries.specs.Entry.{brings, entry_of, joined_to};
+ghost use Rattle.pg_names.specs.Names.{filled, new_held, with_entry, with_flag, with_own, with_place};
 
 use crate::attributes::Attributes;
 use pg_entries::{Entries, Entry};
@@ -95,19 +95,29 @@ impl Inode {
     /// Takes the newer flag of its server. Tells whether it changed.
     pub(crate) fn join_flag(&mut self, flag: Flag) -> Result<bool, AllocError>
         ensures joined { OnOk result (self.new ≡ with_flag flag self.old) }
+        ensures err { OnErr result (self.new ≡ self.old) }
         ensures news { IfOk result
             (λ news. news ≡ flags.is_new (flag_of self.old.own.flags flag.server) flag) }
     {
         Ok(self.own.flags.join(flag)?)
     }
 
-    /// Takes the newer place and flags of a child. Tells whether its cell changed. After out of
-    /// memory a part may be taken.
-    pub(crate) fn join_entry(&mut self, entry: Entry) -> Result<bool, AllocError>
-        ensures joined { OnOk result (self.new ≡ with_joined entry self.old) }
+    /// The cell for a child after this one came, and whether it brings something.
+    pub(crate) fn joined(&self, entry: Entry) -> Result<(Entry, bool), AllocError>
+        ensures cell { IfOk result
+            (λ r. r.0 ≡ joined_to (entry_of self.now.entries entry.child) entry) }
+        ensures child { IfOk result (λ r. r.0.child ≡ entry.child) }
         ensures news { IfOk result
-            (λ news. news ≡ brings (entry_of self.old.entries entry.child) entry) }
+            (λ r. r.1 ≡ brings (entry_of self.now.entries entry.child) entry) }
     {
-        Ok(self.entries.join_cell(entry)?)
+        let _by_child = self.entries.as_map();
+        match self.entries.get(entry.child) {
+            Some(held) => {
+                let mut joined = held.copy()?;
+                let news = joined.join(entry)?;
+                Ok((joined, news))
+            }
+            None => Ok((entry, true)),
+        }
     }
 }

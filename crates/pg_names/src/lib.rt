@@ -1,33 +1,39 @@
 //! What a server knows of names: where files and directories stand, the flags of their gold
-//! replicas, and the entries of directories.
+//! replicas, and the entries of directories; and indexes of it, so that an event costs what it
+//! touches.
 //!
-//! `names` has `Names`: by id what is held (`Inode`: own place and flags, `Attributes`, and a
-//! directory's entries), the greatest time of a stamp, and the servers that were removed. Cells
-//! that come are joined, what the house rules give is set whole; what is not held does not change.
-//! `same` compares places, flags and cells whole.
+//! `attributes` and `inode` are what is held of one thing, `held` all of it by id. `names` holds
+//! that and the indexes: the held directories, what stands in a directory, live or dead (`spots`),
+//! what has a cell for a thing, and what may not be calm. `marks` changes the indexes with what is
+//! held, `calm` looks whether a thing is calm, `same` compares, `root` knows the root.
 //!
-//! It stands on the leaves (ids, places, flags, entries) and knows nothing of edges, births of
-//! replicas, contents or messages. Callers see it as the record `NamesValue`, whose list of entries
-//! is the map's own.
+//! It touches no content, no edge and no message: those stand beside it in the store.
 //!
-//! The invariant is the types' own: entries and flags stand in order, and each thing stands once.
+//! Kept by the type `Names` (`specs/Indexed`): each index is just what a scan of all that is held
+//! would find; what is held and not marked is calm, and going up from any directory one comes to a
+//! marked one or out of the live directories. A change marks what it may make uncalm before it
+//! changes anything; `settle` takes off what it finds calm. Out of memory leaves all as it was.
 //!
-//! The definitions: `specs/Names` (values, look-ups and changes) and `Same`. The rules:
-//! docs/RULES.md, "What a server knows of names".
-//!
-//! A question more that is asked of all that is held: its definition as a plain scan in
-//! `specs/Names`, and a method with that definition as its clause, so that an index can stand
-//! behind it.
+//! Definitions: `specs/Names`, `Same`; `Calm` for what callers read of the indexes, `Tests` for how
+//! calm is found. A further fact of calm things is a field of `IsCalm`, with its test in `calm` and
+//! its line in `proofs/Frames`, which says what a change leaves calm.
 #![tactic(auto)]
 
 mod attributes;
+mod calm;
+mod held;
 mod inode;
+mod marks;
 mod names;
+mod root;
 mod same;
+mod spots;
 
 pub use attributes::Attributes;
 pub use inode::Inode;
-pub use names::{Names, is_dir};
+pub use names::Names;
+pub use root::is_dir;
 pub use same::{
     is_same_entry, is_same_flag, is_same_flags, is_same_own, is_same_place, is_same_stamp,
 };
+pub use spots::{Spot, Spots};

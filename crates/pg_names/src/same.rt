@@ -8,7 +8,7 @@ use pg_base::Stamp;
 use pg_entries::Entry;
 use pg_register::{Flag, Place};
 
-fn is_same_truth(a: bool, b: bool) -> bool
+pub(crate) fn is_same_truth(a: bool, b: bool) -> bool
     ensures { result ≡ is_same_truth a b }
 {
     if a { b } else { !b }

@@ -1,7 +1,8 @@
 pub mod News
 mod Flagged
-pub mod SeenGolds
+mod SeenGolds
 pub mod Each
+mod FirstChild
 pub use Rattle.pg_house.proofs as pg_house
 pub use Rattle.pg_store.proofs.pg_intent as pg_intent
 pub use Rattle.pg_house.proofs.pg_msg as pg_msg

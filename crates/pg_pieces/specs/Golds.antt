@@ -1,11 +1,11 @@
 -- Gold replicas, and things that see no live one.
 use Rattle.std.specs.Prelude.{ℕ, Bool, false, ◌&&◌, not, nat_lt, List, Option, None, Some}
 use Rattle.std.specs.List.{filter, list_any}
-use Rattle.std.specs.Map.{keys_of, values_of}
+use Rattle.std.specs.Map.{keys_of}
 use Rattle.pg_base.specs.declared.id.FileId.{FileId}
 use Rattle.pg_register.specs.declared.flag.Flag.{Flag}
 use Rattle.pg_register.specs.Flag.{flag_of, is_live, is_raised}
-use Rattle.pg_store.specs.pg_names.Names.{InodeValue, NamesValue, known, own_or_blank}
+use Rattle.pg_store.specs.pg_names.Names.{InodeValue, known, own_or_blank}
 use Rattle.pg_store.specs.declared.store.Store.{Store}
 use Rattle.pg_store.specs.Births.{birth_of}
 
@@ -39,13 +39,6 @@ is_goldless_held removed server birth (Some x) = x.full
 abbrev pub is_goldless : Store → FileId → Bool
 is_goldless store file = is_goldless_held store.names.removed store.names.server
     (birth_of store file) (known store.names file)
-
--- some full thing sees no live gold
-abbrev pub is_dull : List ℕ → InodeValue → Bool
-is_dull removed x = x.full && not (sees_gold removed x.own.flags)
-
-abbrev pub has_goldless : NamesValue → Bool
-has_goldless names = list_any (is_dull names.removed) (values_of names.held)
 
 -- all such things, by id
 abbrev pub goldless : Store → List FileId

@@ -1,5 +1,5 @@
 -- What keeps a replica from going.
-use Rattle.std.specs.Prelude.{ℕ, Bool, ◌&&◌, not, if◌then◌else◌, List, Option, None, Some}
+use Rattle.std.specs.Prelude.{ℕ, Bool, false, ◌&&◌, not, if◌then◌else◌, List, Option, None, Some}
 use Rattle.std.specs.List.{find}
 use Rattle.std.specs.Option.{option_map, option_or}
 use Rattle.pg_base.specs.declared.id.FileId.{FileId}
@@ -21,6 +21,11 @@ use Rattle.pg_pieces.specs.Golds.{is_gold}
 -- what is held has a live place in the directory
 abbrev pub is_child_of : FileId → FileId × InodeValue → Bool
 is_child_of dir h = h.1.own.place.live && is_same_file h.1.own.place.parent dir
+
+-- the same of a thing that may be held
+abbrev pub is_child_at : FileId → FileId → Option InodeValue → Bool
+is_child_at dir file None = false
+is_child_at dir file (Some x) = is_child_of dir (file, x)
 
 -- the least such thing
 abbrev pub first_child : NamesValue → FileId → Option FileId

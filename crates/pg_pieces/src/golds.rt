@@ -2,9 +2,10 @@
 
 ghost use Rattle.std.specs.Prelude.{◌≡◌, IfOk, Some};
 ghost use Rattle.pg_register.specs.Flag.{flag_of};
-ghost use Rattle.pg_pieces.specs.Golds.{goldless, has_goldless, is_gold, is_goldless, is_goldless_held, is_of_later, sees_gold};
+ghost use Rattle.pg_pieces.specs.Golds.{goldless, is_gold, is_goldless, is_goldless_held, is_of_later, sees_gold};
 
 use pg_base::{FileId, Items, NodeId};
+use pg_house::dirty_things;
 use pg_register::{GoldFlags, is_removed};
 use pg_store::Store;
 use pg_store::names::{Inode, Names};
@@ -51,14 +52,6 @@ fn is_goldless_held(names: &Names, birth: u64, held: &Inode) -> bool
     full && !sees_gold(names.removed(), flags) && !is_of_later(birth, flags, names.server())
 }
 
-/// Whether some full thing sees no live gold, whatever the births.
-fn has_goldless(names: &Names) -> bool
-    ensures { result ≡ has_goldless names.now }
-{
-    names.as_map().values().any(|held| held.is_full()
-        && !sees_gold(names.removed(), &held.own().flags))
-}
-
 /// Whether a thing is full and sees no live gold, and the server has no flag of it that is of a
 /// later birth than its replica.
 pub fn is_goldless(store: &Store, file: &FileId) -> bool
@@ -70,18 +63,12 @@ pub fn is_goldless(store: &Store, file: &FileId) -> bool
     }
 }
 
-/// The full things that see no live gold, by id. Where every full thing sees one none is looked
-/// for.
-#[tactic(auto, using(crate::proofs::SeenGolds::none_is_goldless))]
+/// The full things that see no live gold, by id. It looks at what is dirty: all others see one.
 pub fn goldless(store: &Store) -> Result<Items<FileId>, AllocError>
     ensures { IfOk result (λ files. files ≡ goldless store.now) }
 {
-    if !has_goldless(&store.names) {
-        return Ok(Items::new(store.allocator()));
-    }
     Ok(Items::from_vec(
-        store
-            .names
+        dirty_things(&store.names)
             .as_map()
             .keys()
             .copied()

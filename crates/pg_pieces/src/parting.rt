@@ -4,13 +4,15 @@ ghost use Rattle.std.specs.Prelude.{◌≡◌, not};
 ghost use Rattle.std.specs.Option.{option_copied};
 ghost use Rattle.std.specs.List.{find};
 ghost use Rattle.pg_edges.specs.Edges.{is_none};
+ghost use Rattle.pg_store.specs.pg_names.Names.{known};
 ghost use Rattle.pg_store.specs.Store.{replica_of};
-ghost use Rattle.pg_pieces.specs.Parting.{by_edge, by_intent, first_child, has_child, is_child_of, is_unclean, stays_for, unsettled_by};
+ghost use Rattle.pg_pieces.specs.Parting.{by_edge, by_intent, first_child, has_child, is_child_at, is_child_of, is_unclean, stays_for, unsettled_by};
 
 use crate::golds::is_gold;
-use pg_base::FileId;
+use pg_base::{FileId, Kind};
 use pg_call::{Refusal, Unsettled};
 use pg_edges::Edge;
+use pg_house::dirty_things;
 use pg_store::Store;
 use pg_store::intent::Intent;
 use pg_store::names::{Inode, Names};
@@ -23,12 +25,31 @@ fn is_child_of(dir: &FileId, file: &FileId, held: &Inode) -> bool
     place.live && place.parent.compare(dir).is_eq()
 }
 
-/// The least such thing.
+/// Whether a thing is held, and has a live place in the directory.
+fn is_child_at(names: &Names, dir: &FileId, file: &FileId) -> bool
+    ensures { result ≡ is_child_at dir.now file.now (known names.now file.now) }
+{
+    match names.get(file) {
+        Some(held) => is_child_of(dir, file, held),
+        None => false,
+    }
+}
+
+/// The least such thing. The root is less than all others.
 fn first_child(names: &Names, dir: &FileId) -> Option<FileId>
     ensures { result ≡ first_child names.now dir.now }
 {
-    for (file, held) in names.as_map() {
-        if is_child_of(dir, file, held) {
+    let _dirty = dirty_things(names);
+    let root = FileId {
+        kind: Kind::Dir,
+        server: 0,
+        number: 0,
+    };
+    if is_child_at(names, dir, &root) {
+        return Some(root);
+    }
+    for file in names.children(dir).as_map().keys() {
+        if is_child_at(names, dir, file) {
             return Some(*file);
         }
     }

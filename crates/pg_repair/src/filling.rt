@@ -50,7 +50,7 @@ pub fn fill(store: &mut Store, file: FileId, work: &mut Work) -> Result<(), Allo
     ensures store { OnOk result (store.new ≡ (fill store.old file work.old).store) }
     ensures work { OnOk result (work.new ≡ (fill store.old file work.old).work) }
 {
-    store.names.fill(&file);
+    store.fill(&file);
     raise_if_few(store, file, work)?;
     Ok(())
 }

@@ -33,6 +33,17 @@ impl Server {
         })
     }
 
+    /// A server that holds this, as one does whose state was saved.
+    pub fn from_store(store: Store) -> Server
+        ensures store { result.store ≡ store }
+        ensures going { result.failed ≡ false }
+    {
+        Server {
+            store,
+            failed: false,
+        }
+    }
+
     /// Whether an input ran out of memory.
     pub fn has_failed(&self) -> bool
         ensures { result ≡ self.now.failed }

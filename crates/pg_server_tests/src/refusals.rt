@@ -71,7 +71,7 @@ fn a_full_directory_takes_no_other_child(rt: HostRuntime) -> Result<(), Fail> {
     hold(&mut store, dir(2), dir(1), b"b")?;
     for number in 0..4095 {
         let other = entry(rt.alloc(), dir(10 + number), ROOT, b"x")?;
-        store.names.set_entry(&dir(1), other)?;
+        store.take_entry(dir(1), other)?;
     }
     for (line, told) in [
         (b"mkdir /a/b".as_slice(), "refused 8 Exists d2.2"),

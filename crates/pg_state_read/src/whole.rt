@@ -116,15 +116,13 @@ fn store_with(alloc: Global, parts: Parts) -> Result<Store, AllocError>
     let mut names = first_names(alloc, &parts.servers, parts.counters.last)?;
     let mut replicas = Replicas::new(alloc);
     put_all_held(&mut names, &mut replicas, parts.held)?;
-    Ok(Store {
-        servers: parts.servers.servers,
-        tags: parts.counters.tags,
-        files: parts.counters.files,
-        births: parts.counters.births,
-        names,
-        replicas,
-        announced: parts.waiting.announced,
-        intents: parts.waiting.intents,
-        wishes: parts.waiting.wishes,
-    })
+    let mut store = Store::of(names, replicas);
+    store.servers = parts.servers.servers;
+    store.tags = parts.counters.tags;
+    store.files = parts.counters.files;
+    store.births = parts.counters.births;
+    store.announced = parts.waiting.announced;
+    store.intents = parts.waiting.intents;
+    store.wishes = parts.waiting.wishes;
+    Ok(store)
 }

@@ -6,8 +6,23 @@ use Rattle.pg_register.specs.declared.place.Place.{Place}
 use Rattle.pg_names.specs.Names.{NamesValue, is_flag_new, is_place_new, join_flag, join_place, own_at}
 use Rattle.pg_replica.specs.Replicas.{ByFile}
 use Rattle.pg_store.specs.declared.store.Store.{Store}
+use Rattle.pg_store.specs.declared.store.Store.TheInside.{Inside}
 use Rattle.pg_store.specs.Store.{take_flag, take_place, with_drawn, with_names}
 use Rattle.pg_store.proofs.Stays.{old_flag, old_place}
+
+-- what clauses see of the fields of a store
+abbrev pub seen : Inside → Store
+seen s = record {
+  servers = s.servers;
+  tags = s.tags;
+  files = s.files;
+  births = s.births;
+  names = s.names;
+  replicas = s.replicas;
+  announced = s.announced;
+  intents = s.intents;
+  wishes = s.wishes;
+}
 
 kept_by : (a b c : Store) (t : Bool) → t ≡ false → a ≡ c → a ≡ cond t b c
 kept_by a b c true h same = absurd (let k : true ≡ false = h in cc)

@@ -1,5 +1,7 @@
 pub mod Start
 pub mod Wishes
+pub mod Value
+pub mod Seekers
 pub mod Store
 pub mod Births
 pub mod Servers

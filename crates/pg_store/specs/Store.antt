@@ -42,6 +42,20 @@ new_store servers server = record {
   wishes = [];
 }
 
+-- a store of these names and replicas
+abbrev pub store_of : NamesValue → ByFile → Store
+store_of names replicas = record {
+  servers = 0;
+  tags = 0;
+  files = 0;
+  births = 0;
+  names = names;
+  replicas = replicas;
+  announced = [];
+  intents = [];
+  wishes = [];
+}
+
 -- ---- look-ups
 
 -- the thing is held, full or filling
@@ -78,6 +92,14 @@ has_time last tags files births = nat_lt last clock_end
 abbrev pub is_own_flag_at_end : ℕ → InodeValue → Bool
 is_own_flag_at_end server x =
     nat_le clock_end (number_or_0 (flag_of x.own.flags server))
+
+-- and so of what may be held
+abbrev pub is_end_of : ℕ → Option InodeValue → Bool
+is_end_of server None = false
+is_end_of server (Some x) = is_own_flag_at_end server x
+
+abbrev pub is_end_at : NamesValue → FileId → Bool
+is_end_at names file = is_end_of names.server (known names file)
 
 -- some own flag has
 abbrev pub have_own_flag_at_end : NamesValue → Bool

@@ -1,7 +1,8 @@
 //! Replicas that begin and go.
 
 ghost use Rattle.std.specs.Prelude.{◌≡◌, ◌++◌, IfOk, OnErr, OnOk};
-ghost use Rattle.pg_store.specs.Store.{replica_at};
+ghost use Rattle.pg_names.specs.Names.{fill};
+ghost use Rattle.pg_store.specs.Store.{replica_at, with_names};
 ghost use Rattle.pg_store.specs.Births.{draw_birth, fill_at, is_fill_at, is_fill_with, is_pending, wish_at, with_birth};
 ghost use Rattle.pg_store.specs.Wishes.{is_with_birth};
 ghost use Rattle.pg_store.specs.Beginning.{begin, let_go, patch_key, patch_key_if, patches_of, take_patch, take_patches, take_told};
@@ -70,23 +71,38 @@ impl Store {
         ensures { OnOk result (self.new ≡ begin self.old file birth policy own full) }
     {
         let time = own.place.stamp.time;
+        let replica = Replica::new(self.allocator(), birth, policy);
+        self.seekers.mark(file);
+        let all = self.seekers.all;
+        self.seekers.all = true;
         self.names.begin(file, own, full)?;
         self.names.raise(time);
-        let replica = Replica::new(self.allocator(), birth, policy);
         self.replicas.add(file, replica)?;
+        self.seekers.all = all;
         self.wishes.take(&file);
         self.take_patches(file)?;
         Ok(())
     }
 
-    /// A replica goes, with all that it has and what is noted of its file, and is handed out.
-    pub fn let_go(&mut self, file: &FileId) -> Option<Replica>
-        ensures replica { result ≡ replica_at self.old file.now }
-        ensures store { self.new ≡ let_go self.old file.now }
+    /// A held thing is full from now on.
+    pub fn fill(&mut self, file: &FileId)
+        ensures { self.new ≡ with_names self.old (fill self.old.names file.now) }
     {
-        self.names.let_go(file);
+        self.seekers.mark(*file);
+        self.names.fill(file);
+    }
+
+    /// A replica goes, with all that it has and what is noted of its file, and is handed out. After
+    /// out of memory all is as it was.
+    pub fn let_go(&mut self, file: &FileId) -> Result<Option<Replica>, AllocError>
+        ensures replica { IfOk result (λ replica. replica ≡ replica_at self.old file.now) }
+        ensures store { OnOk result (self.new ≡ let_go self.old file.now) }
+        ensures err { OnErr result (self.new ≡ self.old) }
+    {
+        self.seekers.mark(*file);
+        self.names.let_go(file)?;
         self.announced.end_file(file);
-        self.replicas.remove(file)
+        Ok(self.replicas.remove(file))
     }
 
     /// The entries of a directory's Patches are taken, and these end.

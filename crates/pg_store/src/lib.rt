@@ -5,28 +5,32 @@
 //! that the server gives out (tags, ids, births). `start` makes the first one; `taking` and
 //! `versions` take places, flags, entries and versions that come or are made; `links` makes and
 //! cuts edges; `beginning` lets replicas begin and go; `cells` reads the cell of a key; `views`
-//! enters a view; `servers` says who is live and who is asked next; `wishes` has what clients asked
-//! for.
+//! enters a view; `settling` lets the house rules run; `servers` says who is live and who is asked
+//! next; `wishes` has what clients asked for.
 //!
 //! A change here keeps names and replicas together: what is held in one is held in the other, and
-//! what is news touches its key on every edge. No message is made or sent, and no house rule runs.
+//! what is news touches its key on every edge. No message is made or sent.
+//!
+//! Kept by the type: what seeks a gold replica is marked (`seekers`), so that nobody has to look
+//! for it among all that is held. Each write of names or replicas marks its file first.
 //!
 //! The laws (`laws`): births move one way, and a server that enters a view cuts the edges to who is
-//! removed and changes nothing else. A number that has come to its end is told by
-//! `is_before_clock_end`.
+//! removed and changes nothing else. `is_before_clock_end` tells of a number at its end.
 //!
-//! The definitions: `specs/Store`, `Start`, `Beginning`, `Births`, `Cells`, `Links`, `Servers`,
-//! `Views`, `Wishes`, `Together`. The rules: docs/RULES.md, "What a server holds".
+//! The definitions: `specs/Value`, `Store`, `Start`, `Beginning`, `Births`, `Cells`, `Links`,
+//! `Seekers`, `Servers`, `Views`, `Wishes`, `Together`. The rules: docs/RULES.md.
 //!
-//! A field more: it joins `Store` and `new_store`, and each `record` that names all fields; what a
-//! restart or a view does to it is said in `pg_server/specs/Local` and `specs/Views`.
+//! A field more: it joins `Store`, its value and `new_store`; what a restart or a view does to it
+//! is said in `pg_server/specs/Local` and `specs/Views`.
 #![tactic(auto)]
 
 mod beginning;
 mod cells;
 mod laws;
 mod links;
+mod seekers;
 mod servers;
+mod settling;
 mod start;
 mod store;
 mod taking;

@@ -50,8 +50,12 @@ impl Store {
             return Err(AllocError);
         }
         let keys = self.keys(&file)?;
+        self.seekers.mark(file);
+        let all = self.seekers.all;
+        self.seekers.all = true;
         self.replicas
             .link(file, peer, birth, keys.as_slice(), &mut self.tags)?;
+        self.seekers.all = all;
         Ok(())
     }
 
@@ -59,6 +63,7 @@ impl Store {
     pub fn unlink(&mut self, file: FileId, peer: NodeId, birth: u64)
         ensures { self.new ≡ unlink self.old file peer birth }
     {
+        self.seekers.mark(file);
         self.replicas.unlink(file, peer, birth);
     }
 

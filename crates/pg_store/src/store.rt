@@ -1,22 +1,27 @@
 //! What a server holds.
 
 ghost use Rattle.std.specs.Prelude.{◌≡◌, ◌≤◌, ◌^◌, IfOk, OnOk, length};
+ghost use Rattle.std.specs.List.{list_any};
 ghost use Rattle.std.specs.Option.{option_copied};
 ghost use Rattle.pg_replica.specs.Replica.{has_edge};
 ghost use Rattle.pg_store.specs.Births.{birth_of, has_birth};
-ghost use Rattle.pg_store.specs.Store.{acknowledge, has_time, have_own_flag_at_end, is_before_clock_end, is_own_flag_at_end, new_store, replica_at, replica_of, touch};
+ghost use Rattle.pg_store.specs.Store.{acknowledge, has_time, have_own_flag_at_end, is_before_clock_end, is_end_at, is_own_flag_at_end, new_store, replica_at, replica_of, store_of, touch};
 
+use crate::seekers::Seekers;
 use crate::start::{first_names, first_replicas};
 use crate::wishes::Wishes;
 use pg_announced::Announcements;
 use pg_base::{FileId, NodeId, Stamp};
 use pg_edges::Key;
+use pg_index::Ids;
 use pg_intent::Intents;
 use pg_names::{Inode, Names};
 use pg_replica::{FIRST_BIRTH, Link, Replica, Replicas};
 use std::alloc::{AllocError, Global};
+use std::marker::Model;
 
-/// What a server holds.
+/// What a server holds. Beside it the things that may seek a gold replica are kept: what is not
+/// among them does not.
 #[derive(Debug, Drop)]
 pub struct Store {
     /// How many servers the run has.
@@ -37,6 +42,29 @@ pub struct Store {
     pub intents: Intents,
     /// What its clients asked for that it does not hold. A restart loses them.
     pub wishes: Wishes,
+    pub(crate) seekers: Seekers,
+}
+
+impl Model for Store {
+    ghost use Rattle.pg_store.specs.Value.{StoreValue};
+
+    ghost Value = { StoreValue };
+
+    ghost use Rattle.pg_store.specs.Seekers.{AreMarked};
+
+    ghost view = { λ s. record {
+      servers = s.servers;
+      tags = s.tags;
+      files = s.files;
+      births = s.births;
+      names = s.names;
+      replicas = s.replicas;
+      announced = s.announced;
+      intents = s.intents;
+      wishes = s.wishes;
+    } };
+
+    ghost invariant = { λ s. AreMarked s.names s.replicas s.seekers };
 }
 
 /// Where more tags than this were given out, no version is made and no key is touched: memory ends
@@ -63,7 +91,27 @@ impl Store {
             announced: Announcements::new(alloc),
             intents: Intents::new(alloc),
             wishes: Wishes::new(alloc),
+            seekers: Seekers::new(alloc),
         })
+    }
+
+    /// A store of these names and replicas: nothing was given out, and nothing else is held.
+    pub fn of(names: Names, replicas: Replicas) -> Store
+        ensures { result ≡ store_of names replicas }
+    {
+        let alloc = replicas.allocator();
+        Store {
+            servers: 0,
+            tags: 0,
+            files: 0,
+            births: 0,
+            names,
+            replicas,
+            announced: Announcements::new(alloc),
+            intents: Intents::new(alloc),
+            wishes: Wishes::new(alloc),
+            seekers: Seekers::new(alloc),
+        }
     }
 
     pub fn allocator(&self) -> Global {
@@ -101,11 +149,8 @@ impl Store {
     fn have_own_flag_at_end(&self) -> bool
         ensures { result ≡ have_own_flag_at_end self.now.names }
     {
-        let server = self.server();
-        self.names
-            .as_map()
-            .values()
-            .any(|held| is_own_flag_at_end(server, held))
+        let _held = self.names.as_map();
+        is_any_at_end(&self.names, self.names.dirty())
     }
 
     /// The replica of a file or directory, if it is held.
@@ -163,7 +208,11 @@ impl Store {
         if self.tags > COUNTER_LIMIT {
             return Err(AllocError);
         }
+        self.seekers.mark(file);
+        let all = self.seekers.all;
+        self.seekers.all = true;
         self.replicas.touch(file, key, &mut self.tags)?;
+        self.seekers.all = all;
         Ok(())
     }
 
@@ -171,6 +220,7 @@ impl Store {
     pub fn acknowledge(&mut self, file: FileId, link: &Link, key: Key, tag: u64)
         ensures { self.new ≡ acknowledge self.old file link.now key tag }
     {
+        self.seekers.mark(file);
         self.replicas.acknowledge(file, link, key, tag);
     }
 }
@@ -180,4 +230,21 @@ fn is_own_flag_at_end(server: NodeId, held: &Inode) -> bool
     ensures { result ≡ is_own_flag_at_end server held.now }
 {
     Stamp::CLOCK_END <= held.own().flags.number(server)
+}
+
+/// Whether it has, of a thing that is held.
+fn is_at_end(names: &Names, file: &FileId) -> bool
+    ensures { result ≡ is_end_at names.now file.now }
+{
+    match names.get(file) {
+        Some(held) => is_own_flag_at_end(names.server(), held),
+        None => false,
+    }
+}
+
+/// Whether one of these has.
+fn is_any_at_end(names: &Names, ids: &Ids) -> bool
+    ensures { result ≡ list_any (is_end_at names.now) ids.now }
+{
+    ids.as_map().keys().any(|file| is_at_end(names, file))
 }

@@ -42,7 +42,8 @@ impl Store {
         ensures news { IfOk result (λ news. news ≡ is_newer_place self.old file place) }
     {
         let time = place.stamp.time;
-        if !self.names.join_place(&file, place) {
+        self.seekers.mark(file);
+        if !self.names.join_place(&file, place)? {
             return Ok(false);
         }
         self.names.raise(time);
@@ -56,6 +57,7 @@ impl Store {
         ensures store { OnOk result (self.new ≡ take_flag self.old file flag) }
         ensures news { IfOk result (λ news. news ≡ is_newer_flag self.old file flag) }
     {
+        self.seekers.mark(file);
         if !self.names.join_flag(&file, flag)? {
             return Ok(false);
         }
@@ -83,6 +85,7 @@ impl Store {
     {
         let child = entry.child;
         let time = entry.place.stamp.time;
+        self.seekers.mark(dir);
         self.names.join_entry(&dir, entry)?;
         self.names.raise(time);
         self.touch(dir, Key::Entry(child))

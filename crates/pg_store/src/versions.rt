@@ -24,7 +24,11 @@ impl Store {
             return Err(AllocError);
         }
         let time = version.head().stamp.time;
+        self.seekers.mark(file);
+        let all = self.seekers.all;
+        self.seekers.all = true;
         let news = self.replicas.take_version(file, version, &mut self.tags)?;
+        self.seekers.all = all;
         if news {
             self.names.raise(time);
             self.end_covered(&file);
@@ -53,7 +57,11 @@ impl Store {
             → refusal_of (replica_of self.old file) stamp.server ranges.now ≡ Some e) }
         ensures same { IfErr result (λ e. e ≢ WriteError.OutOfMemory → self.new ≡ self.old) }
     {
+        self.seekers.mark(file);
+        let all = self.seekers.all;
+        self.seekers.all = true;
         let bases = self.replicas.write(file, stamp, ranges, &mut self.tags)?;
+        self.seekers.all = all;
         self.names.raise(stamp.time);
         self.end_covered(&file);
         Ok(bases)
@@ -63,7 +71,12 @@ impl Store {
     pub fn keep_delta(&mut self, file: FileId, delta: KeptDelta) -> Result<(), AllocError>
         ensures { OnOk result (self.new ≡ keep_delta self.old file delta) }
     {
-        self.replicas.keep_delta(file, delta)
+        self.seekers.mark(file);
+        let all = self.seekers.all;
+        self.seekers.all = true;
+        self.replicas.keep_delta(file, delta)?;
+        self.seekers.all = all;
+        Ok(())
     }
 
     /// What the replica of the file covers is not noted any more.

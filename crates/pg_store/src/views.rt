@@ -17,6 +17,7 @@ impl Store {
         ensures { OnOk result (self.new ≡ enter self.old server) }
     {
         let files = self.held_ids()?;
+        self.seekers.all = true;
         self.names.remove_server(server)?;
         self.announced.clear();
         self.cut_each(server, files.as_slice());

@@ -9,7 +9,7 @@ use Rattle.pg_host.proofs.serving.serve.Goals as goal
 pub returns-in-Err-clause-served : goal.returns-in-Err-clause-served
 returns-in-Err-clause-served g c =
     served_none g.N.Net.tells g.C.Clock.tells g.D.Disk.tells c.args.server c.args.servers c.args.port c.args.turns status.NetFault (g.N.Net.told c.args.net.now) (g.N.Net.takes c.args.net.now) (g.C.Clock.told c.args.clock.now) (g.D.Disk.told c.args.disk.now) (g.N.Net.told c.bind.new.self) (g.N.Net.takes c.bind.new.self) (g.D.Disk.told c.args.disk.now)
-    net_part (λ tells. inl (c.in-Err.ensures.same tells)) c.bind.ensures.takes (λ tells. keeps_none 0 (g.D.Disk.told c.args.disk.now)) (λ tells. none_at_start c.args.server c.args.servers (g.D.Disk.told c.args.disk.now))
+    net_part (λ tells. inl (c.in-Err.ensures.same tells, λ heard. refl)) c.bind.ensures.takes (λ tells. keeps_none 0 (g.D.Disk.told c.args.disk.now)) (λ tells. none_at_start c.args.server c.args.servers (g.D.Disk.told c.args.disk.now))
 
 pub returns-in-Err-room-clause-served : goal.returns-in-Err-room-clause-served
 returns-in-Err-room-clause-served g c =

@@ -8,6 +8,8 @@ use Rattle.std.proofs.lemmas.Map.Iter.{rest_more}
 use Rattle.pg_base.specs.declared.id.FileId.{FileId}
 use Rattle.pg_base.proofs.Orders.{file_order_is}
 use Rattle.pg_event.specs.declared.quiet.OwedKey.{OwedKey}
+use Rattle.pg_calls.specs.pg_replica.Index.{IsIndex}
+use Rattle.pg_calls.specs.pg_store.declared.store.Store.{Store}
 use Rattle.pg_calls.specs.pg_store.Store.{replica_at}
 use Rattle.pg_calls.proofs.pg_replica.Lists.{first_here, first_later}
 use Rattle.pg_server.specs.Owing.{file_owes}
@@ -21,7 +23,8 @@ loop-file-init c =
     let S : (FileId → FileId → Ordering) → Type 0 = (λ r. IsStrictlySortedBy r (keys_of us)) in
     ap (λ (l : List OwedKey). slice_get l 0)
     (sym (ap (flat_map (λ k. file_owes s.names.server k (replica_at s k))) (c.into_iter-file-iterator.ensures.into_iter_gives ∙ c.keys-file-items.ensures.rest)
-    ∙ listed_owes s.names.server us s.replicas (subst S file_order_is c.keys-file-items.ensures.ordered) c.unacknowledged.ensures))
+    ∙ listed_owes s.names.server us s.replicas (subst S file_order_is c.keys-file-items.ensures.ordered)
+    (subst (λ (b : Store). IsIndex us b.replicas) c.store.view_is c.unacknowledged.ensures)))
 
 pub returns-in-Some-first_of_file : goal.returns-in-Some-first_of_file
 returns-in-Some-first_of_file c =

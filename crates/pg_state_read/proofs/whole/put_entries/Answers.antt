@@ -11,6 +11,6 @@ loop-entry-init c =
 
 pub loop-entry-preserved : goal.loop-entry-preserved
 loop-entry-preserved c =
-    ap (λ (names : NamesValue). with_entries c.args.dir names (into_iter_items c.next.new.self)) c.in_ok-set_entry.ensures
+    ap (λ (names : NamesValue). with_entries c.args.dir names (into_iter_items c.next.new.self)) c.in_ok-set_entry.ensures.ok
     ∙ sym (ap (λ (rest : List Entry). with_entries c.args.dir c.loop-entry.names rest) c.in-Some.ensures.steps.0)
     ∙ c.loop-entry.invariant

@@ -1,24 +1,15 @@
-use Rattle.pg_names.specs.declared.attributes.Attributes.{Attributes}
-use Rattle.std.proofs.Common.{Option}
-use Rattle.std.proofs.Common.{sym, ap, ◌∙◌}
-use Rattle.pg_base.proofs.Orders.{file_order_is}
-use Rattle.pg_names.specs.Names.{NamesValue, is_flag_new, own_at, join_flag, with_flag}
-use Rattle.pg_names.proofs.Writes.{held_put, names_of, update_there, own_found}
+use Rattle.pg_names.proofs.Frames.{grown_insert}
+use Rattle.pg_names.proofs.Moves.{flag_step}
+use Rattle.pg_names.proofs.Steps.{along, marks_more}
 use Rattle.pg_names.proofs.names.Names.join_flag.Goals as goal
 
-pub returns-clause-joined : goal.returns-clause-joined
-returns-clause-joined c =
+pub invariant_of-self-in_err-join_flag : goal.invariant_of-self-in_err-join_flag
+invariant_of-self-in_err-join_flag c =
     let i = c.self.inside in
-    let w = c.join_flag.new.self in
-    let s = names_of i.server i.last i.removed i.held.entries in
-    update_there _ file_order_is s _ c.args.file.now (with_flag c.args.flag) c.in-Some.held.now w (sym c.in-Some.ensures.value) c.in_ok-join_flag.ensures.joined
-    (held_put _ file_order_is i.server i.last i.removed i.held.entries (c.get_mut.follows.lender w).entries c.args.file.now w (c.get_mut.follows.holds w).0)
-    ∙ ap (λ (x : NamesValue). join_flag x c.args.file.now c.args.flag) c.self.view_is
+    along i.held c.join_flag.new.self c.insert.new.self i.dirs i.spots i.holders c.in_err-join_flag.ensures.err
+    (marks_more i.held i.dirty c.insert.new.self i.dirs i.spots i.holders (grown_insert i.dirty c.insert.new.self c.args.file.now c.in_ok-insert.ensures.ok) c.self.invariant)
 
-pub returns-clause-news : goal.returns-clause-news
-returns-clause-news c =
+pub invariant_of-self-2 : goal.invariant_of-self-2
+invariant_of-self-2 c =
     let i = c.self.inside in
-    let s = names_of i.server i.last i.removed i.held.entries in
-    c.in_ok-join_flag.ensures.news
-    ∙ sym (ap (λ (o : Option Attributes). is_flag_new o c.args.flag) (own_found _ file_order_is s c.args.file.now c.in-Some.held.now (sym c.in-Some.ensures.value)))
-    ∙ ap (λ (x : NamesValue). is_flag_new (own_at x c.args.file.now) c.args.flag) c.self.view_is
+    flag_step i.held c.join_flag.new.self c.args.file.now c.args.flag c.in_ok-join_flag.ensures.joined i.dirty c.insert.new.self i.dirs i.spots i.holders c.in_ok-insert.ensures.ok c.self.invariant

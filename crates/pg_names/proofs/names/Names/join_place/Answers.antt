@@ -1,24 +1,20 @@
-use Rattle.pg_names.specs.declared.attributes.Attributes.{Attributes}
-use Rattle.std.proofs.Common.{Option}
-use Rattle.std.proofs.Common.{sym, ap, ◌∙◌}
-use Rattle.pg_base.proofs.Orders.{file_order_is}
-use Rattle.pg_names.specs.Names.{NamesValue, is_place_new, own_at, join_place, with_place}
-use Rattle.pg_names.proofs.Writes.{held_put, names_of, update_there, own_found}
+use Rattle.std.proofs.Common.{refl, sym}
+use Rattle.pg_names.specs.Names.{with_place}
+use Rattle.pg_names.proofs.Changing.{grown_indexed}
+use Rattle.pg_names.proofs.Frames.{grown_insert}
+use Rattle.pg_names.proofs.Lookups.{own_with_place, place_same}
+use Rattle.pg_names.proofs.Moves.{own_step}
 use Rattle.pg_names.proofs.names.Names.join_place.Goals as goal
 
-pub returns-clause-joined : goal.returns-clause-joined
-returns-clause-joined c =
+pub invariant_of-self-in_err-shift : goal.invariant_of-self-in_err-shift
+invariant_of-self-in_err-shift c =
     let i = c.self.inside in
-    let w = c.join_place.new.self in
-    let s = names_of i.server i.last i.removed i.held.entries in
-    update_there _ file_order_is s _ c.args.file.now (with_place c.args.place) c.in-Some.held.now w (sym c.in-Some.ensures.value) c.join_place.ensures.joined
-    (held_put _ file_order_is i.server i.last i.removed i.held.entries (c.get_mut.follows.lender w).entries c.args.file.now w (c.get_mut.follows.holds w).0)
-    ∙ ap (λ (x : NamesValue). join_place x c.args.file.now c.args.place) c.self.view_is
+    grown_indexed i.held i.dirty c.insert.new.self i.dirs i.spots c.shift.new.self i.holders i.holders c.self.invariant (grown_insert i.dirty c.insert.new.self c.args.file.now c.in_ok-insert.ensures.ok)
+    c.in_err-shift.ensures.err (λ k q. refl)
 
-pub returns-clause-news : goal.returns-clause-news
-returns-clause-news c =
+pub invariant_of-self-2 : goal.invariant_of-self-2
+invariant_of-self-2 c =
     let i = c.self.inside in
-    let s = names_of i.server i.last i.removed i.held.entries in
-    c.join_place.ensures.news
-    ∙ sym (ap (λ (o : Option Attributes). is_place_new o c.args.place) (own_found _ file_order_is s c.args.file.now c.in-Some.held.now (sym c.in-Some.ensures.value)))
-    ∙ ap (λ (x : NamesValue). is_place_new (own_at x c.args.file.now) c.args.place) c.self.view_is
+    let a = c.in-Some.before.now in
+    own_step i.held c.join_place.new.self c.args.file.now (with_place c.args.place) (λ x. refl) c.join_place.ensures.joined i.dirty c.insert.new.self i.dirs i.spots c.shift.new.self i.holders c.in_ok-insert.ensures.ok c.self.invariant
+    a (own_with_place c.args.place a) c.of-from.result c.newer_spot-to.result c.in-Some.ensures (place_same i.held c.args.file.now c.args.place a (sym c.in-Some.ensures)) c.of-from.ensures c.newer_spot-to.ensures c.in_ok-shift.ensures.ok

@@ -1,12 +1,12 @@
-use Rattle.std.proofs.Common.{ap, ◌∙◌}
-use Rattle.pg_base.proofs.Orders.{file_order_is}
-use Rattle.pg_names.specs.Names.{NamesValue, let_go}
-use Rattle.pg_names.proofs.Going.{of_parts, taken_out}
+use Rattle.pg_names.proofs.Moves.{gone_step}
+use Rattle.pg_names.proofs.Steps.{marks_more}
 use Rattle.pg_names.proofs.names.Names.let_go.Goals as goal
 
-pub returns : goal.returns
-returns c =
-    let s = c.self.inside in
-    ap (of_parts s.server s.last s.removed)
-    (taken_out _ file_order_is _ _ c.args.file.now c.len-held.ensures.ordered c.remove.ensures.ordered c.remove.ensures.updates.0)
-    ∙ ap (λ (n : NamesValue). let_go n c.args.file.now) c.self.view_is
+pub invariant_of-self : goal.invariant_of-self
+invariant_of-self c = let i = c.self.inside in marks_more i.held i.dirty c.mark_each.new.marks i.dirs i.spots i.holders c.mark_each.ensures.stays c.self.invariant
+
+pub invariant_of-self-2 : goal.invariant_of-self-2
+invariant_of-self-2 c =
+    let i = c.self.inside in
+    gone_step i.held c.let_go.new.self c.args.file.now c.let_go.ensures i.dirty c.mark_each.new.marks i.dirs c.remove.new.self c.at.result.now i.spots c.leave.new.spots i.holders c.leave.new.holders c.self.invariant
+    c.at.ensures c.mark_each.ensures.stays c.in_ok-mark_each.ensures.all c.remove.ensures c.leave.ensures.spots c.leave.ensures.holders

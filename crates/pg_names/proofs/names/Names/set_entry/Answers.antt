@@ -1,24 +1,26 @@
-use Rattle.std.specs.BTreeMap.{BTreeMap}
-use Rattle.pg_base.specs.declared.id.FileId.{FileId}
-use Rattle.std.proofs.Common.{sym, ap, ◌∙◌}
-use Rattle.pg_base.proofs.Orders.{file_order_is}
-use Rattle.pg_names.specs.Names.{InodeValue, NamesValue, set_entry, with_entry}
-use Rattle.pg_names.proofs.Writes.{held_put, names_of, update_there, update_absent}
+use Rattle.std.proofs.Common.{◌≡◌, true, not, Option, is_some, sym, ap, ◌∙◌}
+use Rattle.pg_names.specs.Names.{InodeValue, is_held}
+use Rattle.pg_names.proofs.Frames.{grown_insert, grown_same}
+use Rattle.pg_names.proofs.Marking.{lent_some}
+use Rattle.pg_names.proofs.Moves.{entry_step, not_written, two_more}
+use Rattle.pg_names.proofs.Steps.{marks_more}
 use Rattle.pg_names.proofs.names.Names.set_entry.Goals as goal
 
-pub returns : goal.returns
-returns c =
+pub invariant_of-self-in_err-insert-2 : goal.invariant_of-self-in_err-insert-2
+invariant_of-self-in_err-insert-2 c =
     let i = c.self.inside in
-    let w = c.set_entry.new.self in
-    let s = names_of i.server i.last i.removed i.held.entries in
-    update_there _ file_order_is s _ c.args.dir.now (with_entry c.args.entry) c.in-Some.held.now w (sym c.in-Some.ensures.value) c.in_ok-set_entry.ensures.ok
-    (held_put _ file_order_is i.server i.last i.removed i.held.entries (c.get_mut.follows.lender w).entries c.args.dir.now w (c.get_mut.follows.holds w).0)
-    ∙ ap (λ (x : NamesValue). set_entry x c.args.dir.now c.args.entry) c.self.view_is
+    marks_more i.held i.dirty c.insert-2.new.self i.dirs i.spots i.holders
+    (λ q h. grown_same c.insert.new.self c.insert-2.new.self c.in_err-insert-2.ensures.err q (grown_insert i.dirty c.insert.new.self c.args.dir.now c.in_ok-insert.ensures.ok q h)) c.self.invariant
 
-pub returns-in_default : goal.returns-in_default
-returns-in_default c =
+pub invariant_of-self-in_err-put_cell : goal.invariant_of-self-in_err-put_cell
+invariant_of-self-in_err-put_cell c =
     let i = c.self.inside in
-    let s = names_of i.server i.last i.removed i.held.entries in
-    ap (λ (m : BTreeMap FileId InodeValue). names_of i.server i.last i.removed m.entries) c.get_mut.follows.holds-at-none
-    ∙ update_absent _ file_order_is s c.args.dir.now (with_entry c.args.entry) (sym c.in_default.ensures.value)
-    ∙ ap (λ (x : NamesValue). set_entry x c.args.dir.now c.args.entry) c.self.view_is
+    not_written i.held c.put_cell.new.held c.args.dir.now c.args.entry.child c.in_err-put_cell.ensures.err i.dirty c.insert-2.new.self i.dirs i.spots i.holders c.put_cell.new.holders c.self.invariant
+    (two_more i.dirty c.insert.new.self c.insert-2.new.self c.args.dir.now c.args.entry.child c.in_ok-insert.ensures.ok c.in_ok-insert-2.ensures.ok) c.in_err-put_cell.ensures.holders_err
+
+pub invariant_of-self-2 : goal.invariant_of-self-2
+invariant_of-self-2 c =
+    let i = c.self.inside in
+    let held : is_held i.held c.args.dir.now ≡ true = ap (λ (o : Option InodeValue). is_some o) (sym c.get.ensures) ∙ lent_some c.get.result ∙ c.is_none.ensures ∙ ap not c.if-is_none.false in
+    entry_step i.held c.put_cell.new.held c.args.dir.now c.args.entry c.in_ok-put_cell.ensures.held i.dirty c.insert.new.self c.insert-2.new.self i.dirs i.spots i.holders c.put_cell.new.holders
+    c.in_ok-insert.ensures.ok c.in_ok-insert-2.ensures.ok c.self.invariant held c.in_ok-put_cell.ensures.holders

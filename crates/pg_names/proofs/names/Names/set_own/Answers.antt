@@ -1,14 +1,20 @@
-use Rattle.std.proofs.Common.{sym, ap, ◌∙◌}
-use Rattle.pg_base.proofs.Orders.{file_order_is}
-use Rattle.pg_names.specs.Names.{NamesValue, set_own, with_own}
-use Rattle.pg_names.proofs.Writes.{held_put, names_of, update_there}
+use Rattle.std.proofs.Common.{refl, sym}
+use Rattle.pg_names.specs.Names.{with_own}
+use Rattle.pg_names.proofs.Changing.{grown_indexed}
+use Rattle.pg_names.proofs.Frames.{grown_insert}
+use Rattle.pg_names.proofs.Lookups.{own_same}
+use Rattle.pg_names.proofs.Moves.{own_step}
 use Rattle.pg_names.proofs.names.Names.set_own.Goals as goal
 
-pub returns : goal.returns
-returns c =
+pub invariant_of-self-in_err-shift : goal.invariant_of-self-in_err-shift
+invariant_of-self-in_err-shift c =
     let i = c.self.inside in
-    let w = c.set_own.new.self in
-    let s = names_of i.server i.last i.removed i.held.entries in
-    update_there _ file_order_is s _ c.args.file.now (with_own c.args.own) c.in-Some.held.now w (sym c.in-Some.ensures.value) c.set_own.ensures
-    (held_put _ file_order_is i.server i.last i.removed i.held.entries (c.get_mut.follows.lender w).entries c.args.file.now w (c.get_mut.follows.holds w).0)
-    ∙ ap (λ (x : NamesValue). set_own x c.args.file.now c.args.own) c.self.view_is
+    grown_indexed i.held i.dirty c.insert.new.self i.dirs i.spots c.shift.new.self i.holders i.holders c.self.invariant (grown_insert i.dirty c.insert.new.self c.args.file.now c.in_ok-insert.ensures.ok)
+    c.in_err-shift.ensures.err (λ k q. refl)
+
+pub invariant_of-self-2 : goal.invariant_of-self-2
+invariant_of-self-2 c =
+    let i = c.self.inside in
+    let own = c.args.own in
+    own_step i.held c.set_own.new.self c.args.file.now (with_own own) (λ x. refl) c.set_own.ensures i.dirty c.insert.new.self i.dirs i.spots c.shift.new.self i.holders c.in_ok-insert.ensures.ok c.self.invariant
+    c.in-Some.before.now own c.of-from.result c.of-to.result c.in-Some.ensures (own_same i.held c.args.file.now c.in-Some.before.now own (sym c.in-Some.ensures)) c.of-from.ensures c.of-to.ensures c.in_ok-shift.ensures.ok

@@ -6,4 +6,4 @@ use Rattle.pg_store.proofs.store.Store.push_name_keys.Goals as goal
 
 pub returns-in_default : goal.returns-in_default
 returns-in_default c =
-    sym (append-nil c.args.keys.now) ∙ ap (λ (o : Option InodeValue). c.args.keys.now ++ name_keys o) c.in_default.ensures
+    rw (← c.self.view_is) (sym (append-nil c.args.keys.now) ∙ ap (λ (o : Option InodeValue). c.args.keys.now ++ name_keys o) c.in_default.ensures)

@@ -1,0 +1,5 @@
+use Rattle.pg_names.proofs.Marking.{Goes}
+use Rattle.pg_names.proofs.marks.mark_each.Given as goal
+
+abbrev pub invariant-loop-file : goal.invariant-loop-file
+invariant-loop-file l = Goes l.initial.marks l.marks l.files l.file-iterator

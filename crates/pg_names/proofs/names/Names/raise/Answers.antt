@@ -1,0 +1,6 @@
+use Rattle.pg_names.proofs.Standing.{last_indexed}
+use Rattle.pg_names.proofs.Steps.{along}
+use Rattle.pg_names.proofs.names.Names.raise.Goals as goal
+
+pub invariant_of-self : goal.invariant_of-self
+invariant_of-self c = let i = c.self.inside in along _ _ _ _ _ _ c.raise.ensures (last_indexed i.held _ i.dirty i.dirs i.spots i.holders c.self.invariant)
