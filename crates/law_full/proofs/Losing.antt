@@ -34,7 +34,7 @@ module _ (P : NamesValue → Type 0) (Places : FileId → Place → Type 0) (Beg
   OfDone d = P d.store.names
 
   -- it raises its flag where it sees few golds
-  pub few_kept : (a : Store) (f : FileId) (work : Work) → P a.names → OfDone (raise_if_few a f work)
+  few_kept : (a : Store) (f : FileId) (work : Work) → P a.names → OfDone (raise_if_few a f work)
   few_kept a f work h =
       chosen OfDone (nat_lt (live_golds a f) few_golds) (raise_flag a f work) (idle a work)
       (flag_kept P Places Begins Fills k a f (own_next a f true) h) h

@@ -1,27 +1,22 @@
 -- What each piece of an event keeps of names: places, flags and entries that come, replicas that
 -- begin or become full.
-use Rattle.std.proofs.Common.{ℕ, ◌≡◌, Bool, List, [], ◌∷◌, Option, None, Some, refl}
+use Rattle.std.proofs.Common.{ℕ, Bool, List, [], ◌∷◌, Option, None, Some}
 use Rattle.pg_run.specs.pg_base.declared.id.FileId.{FileId}
 use Rattle.pg_run.specs.pg_base.declared.policy.Policy.{Policy}
 use Rattle.pg_run.specs.pg_base.Version.{VersionValue}
 use Rattle.pg_run.specs.pg_register.declared.flag.Flag.{Flag}
 use Rattle.pg_run.specs.pg_register.declared.place.Place.{Place}
-use Rattle.pg_run.specs.pg_entries.declared.cell.Cell.{Cell}
-use Rattle.pg_run.specs.pg_entries.declared.cell.Cell.TheVariants as cell
 use Rattle.pg_run.specs.pg_entries.declared.entry.Entry.{Entry}
 use Rattle.pg_run.specs.pg_intent.declared.intent.Intent.{Intent}
 use Rattle.pg_run.specs.pg_intent.declared.intent.Intent.TheVariants as intent
 use Rattle.pg_run.specs.pg_intent.declared.key.IntentKey.{IntentKey}
 use Rattle.pg_run.specs.pg_intent.Intents.{ended, intent_at}
-use Rattle.pg_run.specs.pg_msg.declared.work.Work.{Work}
 use Rattle.pg_run.specs.pg_names.declared.attributes.Attributes.{Attributes}
 use Rattle.pg_run.specs.pg_names.Names.{NamesValue, begin as begin_names, fill, join_entry, join_flag, join_place, raise, remove_server}
 use Rattle.pg_run.specs.pg_store.declared.store.Store.{Store}
 use Rattle.pg_run.specs.pg_store.Beginning.{begin, patches_of, put_new, take_patch, take_patches, take_told_in, with_intents}
 use Rattle.pg_run.specs.pg_store.Links.{is_linked, is_new_link, link, put_link, unlink}
 use Rattle.pg_run.specs.pg_store.Store.{is_new_version, is_newer_entry, is_newer_flag, is_newer_place, put_entry, put_flag, put_place, put_version, take_entry, take_flag, take_place, take_version}
-use Rattle.pg_run.specs.pg_cells.Cells.{taken}
-use Rattle.pg_run.specs.pg_pieces.Taking.{take_flags_noted}
 use Rattle.pg_run.proofs.theory_flood_pieces.Choices.{chosen}
 
 -- a property of names that each piece keeps, where these places may come, such replicas begin, and
@@ -52,16 +47,6 @@ module _ (P : NamesValue → Type 0) (Places : FileId → Place → Type 0) (Beg
 
   pub version_kept : (a : Store) (f : FileId) (v : VersionValue) → Of a → Of (take_version a f v)
   version_kept a f v h = chosen Of (is_new_version a f v) (put_version a f v) a (k.raised a.names v.head.stamp.time h) h
-
-  pub flags_kept : (a : Store) (f : FileId) (flags : List Flag) (work : Work) → Of a → Of (take_flags_noted a f flags work).store
-  flags_kept a f [] work h = h
-  flags_kept a f (g ∷ gs) work h = flags_kept (take_flag a f g) f gs _ (flag_kept a f g h)
-
-  pub taken_kept : (a : Store) (f : FileId) (c : Cell) (work : Work) → ((p : Place) → c ≡ cell.Place p → Places f p) → Of a → Of (taken a f c work).store
-  taken_kept a f (cell.Place p) work may h = place_kept a f p (may p refl) h
-  taken_kept a f (cell.Flag g) work may h = flag_kept a f g h
-  taken_kept a f (cell.Entry e sure) work may h = entry_kept a f e h
-  taken_kept a f (cell.Version v) work may h = version_kept a f v h
 
   -- ---- edges
 

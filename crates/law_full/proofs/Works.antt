@@ -1,10 +1,9 @@
 -- What comes of an event, piece by piece: what each piece keeps of it, what is taken keeps.
-use Rattle.std.proofs.Common.{ℕ, ◌≡◌, ◌&&◌, not, Bool, true, false, List, [], ◌∷◌}
+use Rattle.std.proofs.Common.{ℕ, ◌≡◌, ◌&&◌, not, Bool, true, false}
 use Rattle.pg_run.specs.pg_base.declared.id.FileId.{FileId}
+use Rattle.pg_run.specs.pg_base.Version.{VersionValue}
 use Rattle.pg_run.specs.pg_edges.declared.key.Key.{Key}
 use Rattle.pg_run.specs.pg_edges.declared.key.Key.TheVariants as key
-use Rattle.pg_run.specs.pg_entries.declared.cell.Cell.{Cell}
-use Rattle.pg_run.specs.pg_entries.declared.cell.Cell.TheVariants as cell
 use Rattle.pg_run.specs.pg_entries.declared.entry.Entry.{Entry}
 use Rattle.pg_run.specs.pg_house.Work.{is_root, note_left}
 use Rattle.pg_run.specs.pg_msg.declared.message.Message.{Message}
@@ -19,12 +18,11 @@ use Rattle.pg_run.specs.pg_register.declared.flag.Flag.{Flag}
 use Rattle.pg_run.specs.pg_register.declared.place.Place.{Place}
 use Rattle.pg_run.specs.pg_names.Names.{own_or_blank}
 use Rattle.pg_run.specs.pg_store.declared.store.Store.{Store}
-use Rattle.pg_run.specs.pg_store.Store.{entry_news, is_new_version, is_newer_flag, is_newer_place, take_flag}
+use Rattle.pg_run.specs.pg_store.Store.{entry_news, is_new_version, is_newer_flag, is_newer_place}
 use Rattle.pg_run.specs.pg_pieces.Accepting.{with_link}
-use Rattle.pg_run.specs.pg_cells.Cells.{taken}
 use Rattle.pg_run.specs.pg_pieces.Making.{make_flag, own_next}
 use Rattle.pg_run.specs.pg_cells.Settling.{rules, settle}
-use Rattle.pg_run.specs.pg_pieces.Taking.{is_any_news, is_place_news, take_entry_noted, take_flag_noted, take_flags_noted, take_place_noted, with_doubt, with_left_if, with_news}
+use Rattle.pg_run.specs.pg_pieces.Taking.{is_any_news, is_place_news, take_entry_cell, take_entry_noted, take_flag_noted, take_place_noted, take_version_noted, with_doubt, with_left_if, with_news}
 use Rattle.pg_run.proofs.pg_cells.Settled.{settle_keeps}
 use Rattle.pg_run.proofs.theory_flood_pieces.Choices.{chosen}
 
@@ -85,16 +83,12 @@ module _ (Q : Work → Type 0) (k : IsClosed Q) where
   settled_sends ruled a w h =
       settle_keeps (λ (b : Store) (v : Work). Q v) ruled (λ b f v less. made_sends b f (own_next b f true) v) a w h
 
-  pub flags_send : (a : Store) (f : FileId) (gs : List Flag) (w : Work) → Q w → Q (take_flags_noted a f gs w).work
-  flags_send a f [] w h = h
-  flags_send a f (g ∷ gs) w h = flags_send (take_flag a f g) f gs (take_flag_noted a f g w).work (flag_sends a f g w h)
-
   pub entry_sends : (a : Store) (d : FileId) (e : Entry) (w : Work) → Q w → Q (take_entry_noted a d e w).work
   entry_sends a d e w h = news_sends (is_any_news (entry_news a d e)) w d (key.Entry e.child) h
 
-  pub taken_sends : (a : Store) (f : FileId) (c : Cell) (w : Work) → Q w → Q (taken a f c w).work
-  taken_sends a f (cell.Place p) w h = place_sends a f p w h
-  taken_sends a f (cell.Flag g) w h = flag_sends a f g w h
-  taken_sends a f (cell.Entry e sure) w h =
-      doubt_sends (is_place_news (entry_news a f e) && not sure) (take_entry_noted a f e w).work f e.child (entry_sends a f e w h)
-  taken_sends a f (cell.Version v) w h = news_sends (is_new_version a f v) w f (key.Version v.head.stamp) h
+  pub cell_sends : (a : Store) (d : FileId) (e : Entry) (sure : Bool) (w : Work) → Q w → Q (take_entry_cell a d e sure w).work
+  cell_sends a d e sure w h =
+      doubt_sends (is_place_news (entry_news a d e) && not sure) (take_entry_noted a d e w).work d e.child (entry_sends a d e w h)
+
+  pub version_sends : (a : Store) (f : FileId) (v : VersionValue) (w : Work) → Q w → Q (take_version_noted a f v w).work
+  version_sends a f v w h = news_sends (is_new_version a f v) w f (key.Version v.head.stamp) h

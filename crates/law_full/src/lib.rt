@@ -16,8 +16,9 @@
 //! - `proofs/Clean` reads off an edge that it was there before the event, and all was acknowledged.
 //! - Premises: peers have what they acknowledged, servers hold on, births move one way, places have
 //!   stamps of their own. It cites no other crate of laws.
-//! - A new kind of message gets its line in `receive_kept` and in `receive_sends`, and its case in
-//!   `MayCome` and `MayAnswer`, if it may bring a place, begin or fill a thing, or answer with one.
+//! - `receive_kept` and `receive_sends` go by the walk of `law_frame`; a Fetch alone, which may be
+//!   answered by a Grant or a Full, has a lemma of its own. A new kind of message gets its case in
+//!   `MayCome` or `MayAnswer` if it may bring a place, begin or fill a thing, or answer with one.
 #![tactic(auto)]
 
 mod laws;

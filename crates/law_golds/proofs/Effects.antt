@@ -6,7 +6,6 @@ use Rattle.std.proofs.lemmas.List.Elements.{All-append, All-nil}
 use Rattle.law_contents.specs.pg_base.declared.id.FileId.{FileId}
 use Rattle.law_contents.specs.pg_base.declared.id.Kind.{Kind}
 use Rattle.law_contents.specs.pg_house.Work.{state_of}
-use Rattle.law_contents.specs.pg_intent.declared.key.IntentKey.TheVariants as intent_key
 use Rattle.law_contents.specs.pg_msg.declared.message.Message.{Message}
 use Rattle.law_contents.specs.pg_msg.declared.message.Message.TheVariants as message
 use Rattle.law_contents.specs.pg_msg.declared.message.Packet.{Packet}
@@ -45,15 +44,14 @@ use Rattle.law_births.proofs.Intends.{begin_end_goes}
 use Rattle.law_births.proofs.Pieces.{rules_stay}
 use Rattle.law_births.proofs.StoreSays.{say_begin_end, say_rules}
 use Rattle.law_contents.proofs.Rules.{ArePlaces, house_makes}
-use Rattle.law_golds.proofs.Bodies.{said_delta, said_harbinger, said_later, said_piece, said_want}
 use Rattle.law_golds.proofs.Calling.{call_fine}
 use Rattle.law_golds.proofs.Filling.{MayGo, full_fine, invite_fine, still}
 use Rattle.law_golds.proofs.Fine.{IsFine, Knows, NoFlags, SameMade, fine_flag, fine_silent, no_flags, no_more, same_made}
 use Rattle.law_golds.proofs.Kept.{GoesOn, before_on, births_on, flags_at, held_of}
 use Rattle.law_golds.proofs.Known.{store_less}
 use Rattle.law_golds.proofs.Own.{Stands}
-use Rattle.law_golds.proofs.Received.{said_ack, said_bye, said_cell, said_confirm, said_ended, said_fetch, said_gone, said_grant, said_leave, said_leave_ok, said_no_grant, said_none_here, said_place_is, said_seek, said_tell, said_tell_ok, said_walk, said_walk_of_tick}
-use Rattle.law_golds.proofs.Says.{Says, SaysSent, said_accept}
+use Rattle.law_golds.proofs.Received.{said_received, said_walk_of_tick}
+use Rattle.law_golds.proofs.Says.{Says, SaysSent}
 use Rattle.law_golds.proofs.Sending.{asks_all, asks_some, cells_say}
 
 -- what is said of the flags that a packet brings
@@ -130,58 +128,13 @@ module _ (n s : ℕ) (a : Store) (asked : Input) (Q : FileId → Flag → Type 0
       })
 
   received : (from : ℕ) (m : Message) → SaysMessage Q m → May (receive a m (new_work 0 from))
-  received from (message.Cell ends tag c) says =
-      stays 0 from _ (said_cell Q s [] a ends tag c (new_work 0 from) says (start_says 0 from))
-  received from (message.Ack ends q tag) says =
-      stays 0 from _ (said_ack Q s [] a ends q tag (new_work 0 from) (start_says 0 from))
-  received from (message.Harbinger ends tag head) says =
-      stays 0 from _ (said_harbinger Q s [] a ends (new_work 0 from) (start_says 0 from) tag head)
-  received from (message.Want ends wanted) says =
-      stays 0 from _ (said_want Q s [] a ends (new_work 0 from) (start_says 0 from) wanted)
-  received from (message.Delta ends x) says =
-      stays 0 from _ (said_delta Q s [] a ends (new_work 0 from) (start_says 0 from) x)
-  received from (message.Piece ends p) says =
-      stays 0 from _ (said_piece Q s [] a ends (new_work 0 from) (start_says 0 from) p)
-  received from (message.Later ends stamp) says =
-      stays 0 from _ (said_later Q s [] a ends (new_work 0 from) (start_says 0 from) stamp)
-  received from (message.Fetch file birth) says =
-      stays 0 from _ (said_fetch Q s [] a file birth (new_work 0 from) (start_says 0 from))
-  received from (message.Grant ends granted) says =
-      stays 0 from _ (said_grant Q s [] a ends granted (new_work 0 from) says (start_says 0 from))
-  received from (message.NoGrant file birth) says =
-      stays 0 from _ (said_no_grant Q s [] a file birth (new_work 0 from) (start_says 0 from))
   received from (message.Full ends) says =
       λ on. full_fine Q s a together (new_work 0 from) (start_fine 0 from) ends
   received from (message.Invite ends) says =
       λ on. invite_fine Q s a together (new_work 0 from) (start_fine 0 from) no_flags (start_says 0 from) ends
-  received from (message.Seek file birth) says =
-      stays 0 from _ (said_seek Q s [] a file birth (new_work 0 from) (start_says 0 from))
-  received from (message.Here ends) says =
-      stays 0 from _ (said_accept Q s [] a ends (new_work 0 from) (start_says 0 from))
-  received from (message.NoneHere what file child) says =
-      stays 0 from _ (said_none_here Q s [] a what file child (new_work 0 from) (start_says 0 from))
-  received from (message.Gone file birth) says =
-      stays 0 from _ (said_gone Q s [] a file birth (new_work 0 from) (start_says 0 from))
-  received from (message.Bye ends) says =
-      stays 0 from _ (said_bye Q s [] a ends (new_work 0 from) (start_says 0 from))
-  received from (message.ByeOk file birth) says =
-      stays 0 from _ (said_ended Q s [] a (intent_key.Bye file birth from) (new_work 0 from) (start_says 0 from))
-  received from (message.Leave ends stamp) says =
-      stays 0 from _ (said_leave Q s [] a ends stamp (new_work 0 from) (start_says 0 from))
-  received from (message.LeaveOk ends stamp) says =
-      stays 0 from _ (said_leave_ok Q s [] a ends stamp (new_work 0 from) (start_says 0 from))
-  received from (message.Confirm dir e) says =
-      stays 0 from _ (said_confirm Q s [] a dir e (new_work 0 from) says (start_says 0 from))
-  received from (message.PlaceIs dir e) says =
-      stays 0 from _ (said_place_is Q s [] a dir e (new_work 0 from) says (start_says 0 from))
-  received from (message.Tell dir e) says =
-      stays 0 from _ (said_tell Q s [] a dir e (new_work 0 from) says (start_says 0 from))
-  received from (message.TellOk dir child stamp) says =
-      stays 0 from _ (said_tell_ok Q s [] a dir child stamp (new_work 0 from) (start_says 0 from))
-  received from (message.Walk ends origin birth hops word) says =
-      stays 0 from _ (said_walk Q s [] a ends origin birth hops word (new_work 0 from) (start_says 0 from))
-  received from (message.Meet ends) says =
-      stays 0 from _ (said_accept Q s [] a ends (new_work 0 from) (start_says 0 from))
+  received from m says =
+      stays 0 from (receive a m (new_work 0 from))
+      (said_received Q s [] a (new_work 0 from) m refl says (start_says 0 from))
 
   pub first_fine : Comes (SaysPacket Q) asked → May First
   first_fine came =

@@ -1,6 +1,5 @@
 pub mod Says
 pub mod Received
-pub mod Bodies
 pub mod Known
 pub mod Kept
 pub mod Own

@@ -1,7 +1,7 @@
 -- What is said of flags is said of what a server holds and sends in answer to a message that raises
 -- none.
-use Rattle.std.proofs.Common.{ℕ, ◌≡◌, ◌||◌, Bool, true, false, cond, List, [], ◌∷◌, All, sym, subst, ◌∙◌}
-use Rattle.std.proofs.lemmas.List.Elements.{All-head, All-push, All-tail}
+use Rattle.std.proofs.Common.{ℕ, ◌≡◌, ◌||◌, Bool, cond, List, All, sym, subst, ◌∙◌}
+use Rattle.std.proofs.lemmas.List.Elements.{All-push}
 use Rattle.law_contents.specs.pg_base.declared.id.FileId.{FileId}
 use Rattle.law_contents.specs.pg_base.Version.{VersionValue}
 use Rattle.law_contents.specs.pg_entries.declared.entry.Entry.{Entry}
@@ -22,7 +22,7 @@ use Rattle.law_contents.specs.pg_pieces.declared.accepting.EdgeUse.TheVariants a
 use Rattle.law_contents.specs.pg_pieces.Accepting.{accept, is_answer, link_peer, with_gone}
 use Rattle.law_contents.specs.pg_pieces.Done.{Done, idle}
 use Rattle.law_contents.specs.pg_pieces.Posting.{post, reply, sent_to}
-use Rattle.law_contents.specs.pg_pieces.Taking.{take_entry_cell, take_entry_noted, take_flag_noted, take_flags_noted, take_place_noted, take_version_noted}
+use Rattle.law_contents.specs.pg_pieces.Taking.{take_entry_cell, take_entry_noted, take_flag_noted, take_place_noted, take_version_noted}
 use Rattle.law_contents.proofs.theory_flood_pieces.Choices.{chosen}
 use Rattle.law_births.specs.Flags.{AnyBye, SaysEntry, SaysMessage, SaysStore}
 use Rattle.law_births.proofs.StoreSays.{say_entry, say_flag, say_link, say_place, say_version}
@@ -64,14 +64,6 @@ module _ (Q : FileId → Flag → Type 0) (s : ℕ) (us : List Update) where
   said_flag a f flag w one k =
       said_on (idle a w) (take_flag_noted a f flag w) k (say_flag Q AnyBye s a f flag one k.store)
       (flag_still a f flag w)
-
-  pub said_flags : (fs : List Flag) (a : Store) (f : FileId) (w : Work) → All (Q f) fs
-      → Said (idle a w) → Said (take_flags_noted a f fs w)
-  said_flags [] a f w all k = k
-  said_flags (g ∷ gs) a f w all k =
-      let d = take_flag_noted a f g w in
-      said_flags gs d.store f d.work (All-tail (Q f) g gs all)
-      (said_flag a f g w (All-head (Q f) g gs all) k)
 
   pub said_entry : (a : Store) (dir : FileId) (e : Entry) (w : Work) → SaysEntry Q e
       → Said (idle a w) → Said (take_entry_noted a dir e w)
@@ -127,18 +119,6 @@ module _ (Q : FileId → Flag → Type 0) (s : ℕ) (us : List Update) where
       chosen (λ (v : Work). Said (idle a v)) (is_answer man || is_pending a ends.file ends.receiver) w
       (reply a (message.Gone ends.file ends.receiver) w) k
       (said_post a w.from (message.Gone ends.file ends.receiver) w tt k)
-
-  pub said_accept : (a : Store) (ends : Ends) (w : Work) → Said (idle a w)
-      → Said (accept a ends manner.Makes w)
-  said_accept a ends w k =
-      by (has_birth a ends.file ends.receiver) (knows_later a ends.file w.from ends.sender)
-    where
-      by : (born later : Bool) → Said (cond born
-          (cond later (idle a w) (link_peer a ends.file w.from ends.sender w))
-          (idle a (with_gone a ends manner.Makes w)))
-      by true true = k
-      by true false = said_link a ends.file w.from ends.sender w k
-      by false later = gone_says a ends manner.Makes w k
 
   -- a message that links nobody
   pub said_asked : (a : Store) (ends : Ends) (w : Work) → Said (idle a w)

@@ -15,9 +15,9 @@
 //!   runs. `proofs/Named` reads edges and Seeks off the intentions that are in order.
 //! - Premises: that names and replicas go together (`HoldBoth` of `law_contents`), what
 //!   `specs/Premises` names, and laws on births, views and intentions.
-//! - A new kind of message gets a lemma `said_..` (`proofs/Received`, and `proofs/Bodies` for those
-//!   of bodies on demand) if it raises no flag, else one in `proofs/Filling`; and its line in
-//!   `proofs/Effects`.
+//! - What each piece of a message that raises no flag keeps is said in `proofs/Received`; the walk
+//!   over them is that of `law_frame`. One that raises a flag gets a lemma in `proofs/Filling`, and
+//!   its line in `proofs/Effects`.
 #![tactic(auto)]
 
 mod laws;

@@ -1,6 +1,6 @@
 -- What stands behind an event: the house rules, intentions, and what is sent at the end. Each place
 -- that is known then, and each that is told, may stand, where those that the rules make may.
-use Rattle.std.proofs.Common.{ℕ, ◌≡◌, ◌==◌, Bool, true, false, List, [], ◌∷◌, ◌++◌, drop, length, filter, get_or, Option, None, Some, is_some, refl, sym, ap, subst, ◌∙◌, inl, inr, All, arith}
+use Rattle.std.proofs.Common.{ℕ, ◌≡◌, ◌==◌, Bool, true, false, List, [], ◌∷◌, ◌++◌, drop, length, filter, get_or, Option, None, Some, refl, sym, ap, subst, inl, inr, All, arith}
 use Rattle.std.specs.List.{flat_map}
 use Rattle.std.proofs.lemmas.List.Elements.{All-append, All-cons, All-nil}
 use Rattle.std.proofs.lemmas.Option.{none-some, same_Some}
@@ -24,13 +24,12 @@ use Rattle.pg_run.specs.pg_intent.declared.intent.Intent.TheVariants as intent
 use Rattle.pg_run.specs.pg_intent.declared.key.IntentKey.{IntentKey}
 use Rattle.pg_run.specs.pg_intent.declared.key.IntentKey.TheVariants as intent_key
 use Rattle.pg_run.specs.pg_intent.Intent.{target_of}
-use Rattle.pg_run.specs.pg_intent.Intents.{intent_at}
+use Rattle.pg_run.specs.pg_intent.Intents.{aimed, intent_at}
 use Rattle.pg_run.specs.pg_msg.declared.message.Message.{Message}
 use Rattle.pg_run.specs.pg_msg.declared.message.Message.TheVariants as message
 use Rattle.pg_run.specs.pg_msg.declared.message.Sent.{Sent}
 use Rattle.pg_run.specs.pg_msg.declared.update.Update.{Update}
 use Rattle.pg_run.specs.pg_msg.declared.update.Update.TheVariants as update
-use Rattle.pg_run.specs.pg_msg.declared.work.Slot.{Slot}
 use Rattle.pg_run.specs.pg_msg.declared.work.Touched.{Touched}
 use Rattle.pg_run.specs.pg_msg.declared.work.Work.{Work}
 use Rattle.pg_run.specs.pg_msg.Work.{with_made}
@@ -46,9 +45,9 @@ use Rattle.pg_run.specs.pg_replica.declared.replica.Replica.{Replica}
 use Rattle.pg_run.specs.pg_replica.Replica.{cell_at as head_at}
 use Rattle.pg_run.specs.pg_store.declared.store.Store.{Store}
 use Rattle.pg_run.specs.pg_store.declared.wishes.Wish.{Wish}
-use Rattle.pg_run.specs.pg_store.Births.{fill_at, wish_at}
+use Rattle.pg_run.specs.pg_store.Births.{wish_at}
 use Rattle.pg_run.specs.pg_store.Cells.{cell_at, entry_cell, flag_cell, is_sure, version_cell}
-use Rattle.pg_run.specs.pg_store.Store.{content_of, is_held, is_newer_flag, with_names}
+use Rattle.pg_run.specs.pg_store.Store.{content_of, is_held, with_names}
 use Rattle.pg_run.specs.pg_pieces.Done.{Done, idle}
 use Rattle.pg_run.specs.pg_pieces.Making.{own_next, raise_flag}
 use Rattle.pg_run.specs.pg_pieces.Posting.{sent_to}
@@ -57,20 +56,21 @@ use Rattle.pg_run.specs.pg_cells.Settling.{ruled, rules, touch_all}
 use Rattle.pg_run.specs.pg_cells.Ticks.{tick}
 use Rattle.pg_run.proofs.pg_cells.Settled.{settle_keeps}
 use Rattle.pg_run.specs.pg_intentions.Beginning.{end_others, still_stands}
-use Rattle.pg_run.specs.pg_repair.Confirming.{own_entry}
-use Rattle.pg_run.specs.pg_intentions.Confirms.{begin_confirm, confirm_of, is_doubtful}
-use Rattle.pg_run.specs.pg_intentions.Fills.{begin_fill, begin_fills, fill_of, files_to_fill, to_fill, with_fill_birth, without_wished}
-use Rattle.pg_run.specs.pg_intentions.Intending.{begin_intent, each, in_order, pieces}
-use Rattle.pg_run.specs.pg_intentions.Patches.{begin_patch, begin_patches, patch_of}
+use Rattle.pg_run.specs.pg_intentions.Confirms.{confirm_of}
+use Rattle.pg_run.specs.pg_intentions.Fills.{fill_of, files_to_fill, with_fill_birth, without_wished}
+use Rattle.pg_run.specs.pg_intentions.Intending.{pieces}
+use Rattle.pg_run.specs.pg_intentions.Patches.{patch_of}
 use Rattle.pg_run.specs.pg_intentions.Requests.{ask_all, asked_of, asks, asks_by, confirm_message, leave_message, request}
-use Rattle.pg_run.proofs.pg_intentions.Steady.{begin_end_stays, confirm_stays, each_stays, fill_stays, patch_stays, seek_stays}
-use Rattle.pg_run.specs.pg_intentions.Seeks.{aim_seek, begin_seek, begin_seeks, has_seek, seek_again, seek_target, to_seek, was_linked}
+use Rattle.pg_run.specs.pg_intentions.Seeks.{seek_target}
 use Rattle.pg_run.specs.pg_server.Local.{intended, sent_at_end, settled}
+use Rattle.pg_run.proofs.Still.{flag_still}
+use Rattle.law_frame.proofs.Ended.{intents_keep}
 use Rattle.law_places.proofs.Origins.{IsMade}
-use Rattle.law_places.proofs.Fine.{AreKnown, IsFine, news_made, raised_flag, same_drawn}
+use Rattle.law_places.proofs.Fine.{AreKnown, IsFine, as_before, intending, raised_flag, same_drawn}
+use Rattle.law_places.proofs.Leaving.{intent_begun}
 use Rattle.law_places.proofs.Messages.{OfCell, OfMessage, OfSent, as_told}
 use Rattle.law_places.proofs.Timed.{AreTimed, UpTo, timed_later}
-use Rattle.law_places.proofs.Known.{AreNames, OfAll, OfIntent, aimed_is, begun_is, filter_is, found_is, or_is}
+use Rattle.law_places.proofs.Known.{AreNames, OfAll, OfIntent, aimed_is, filter_is, found_is, or_is}
 
 -- keys that are touched change no names and no intentions
 pub touched_names : (ts : List Touched) (a : Store) → (touch_all a ts).names ≡ a.names
@@ -154,7 +154,7 @@ module _ (P : FileId → Place → Type 0) (blanks : (f : FileId) → is_same_fi
   raised_if a f w k may =
       let g = own_next a f true in
       let u = update.Flag f g in
-      let made : (raise_flag a f w).work.made ≡ w.made ++ u ∷ [] = news_made (is_newer_flag a f g) (with_made w u) f (key.Flag g.server) in
+      let made : (raise_flag a f w).work.made ≡ w.made ++ u ∷ [] = (flag_still a f g (with_made w u)).made in
       raised_flag P s least f (idle a w)
       (k (λ q p h. may q p (subst (λ us. IsMade us q p) (sym made) (one_front (update.Place q p) w.made (u ∷ []) h))))
 
@@ -169,78 +169,36 @@ module _ (P : FileId → Place → Type 0) (blanks : (f : FileId) → is_same_fi
       (λ a q w less k.
       let g = own_next a q true in
       let u = update.Flag q g in
-      let made : (raise_flag a q w).work.made ≡ w.made ++ u ∷ [] = news_made (is_newer_flag a q g) (with_made w u) q (key.Flag g.server) in
+      let made : (raise_flag a q w).work.made ≡ w.made ++ u ∷ [] = (flag_still a q g (with_made w u)).made in
       subst (λ us. IsMade us f p) (sym made) (one_front (update.Place f p) w.made (u ∷ []) k)) d.store d.work h
 
   -- ---- intentions end and begin
 
-  abbrev Intents : Done → Type 0
-  Intents d = OfAll P d.store.intents
-
-  module _ (a : Store) (names : AreNames P a.names) where
-    begun_intents : (b : Store) (i : Intent) (work : Work) → OfAll P b.intents → OfIntent P i → Intents (begin_intent b i work)
-    begun_intents b i work h new = begun_is P b.intents i h new
-
-    patch_intents : (b : Store) (slot : Slot) (work : Work) → b.names ≡ a.names → OfAll P b.intents → Intents (begin_patch b slot work)
-    patch_intents b slot work same h =
-        let new : P slot.child (own_entry b slot.child).place = or_is P b.names (subst (AreNames P) (sym same) names) blanks slot.child in
-        chosen Intents (is_held b slot.dir) (idle b work) (begin_intent b (patch_of b slot work) work) h (begun_intents b (patch_of b slot work) work h new)
-
-    wished_intents : (b : Store) (f : FileId) (o : Option Wish) → (without_wished b f o).intents ≡ b.intents
-    wished_intents b f None = refl
-    wished_intents b f (Some wish) = refl
-
-    fill_intents : (b : Store) (f : FileId) (work : Work) → b.names ≡ a.names → OfAll P b.intents → Intents (begin_fill b f work)
-    fill_intents b f work same h =
-        let c = with_fill_birth b f in
-        let e : c.intents ≡ b.intents = chosen (λ (x : Store). x.intents ≡ b.intents) (is_held b f) b (without_wished b f (wish_at b f)) refl (wished_intents b f (wish_at b f)) in
-        chosen Intents (is_some (fill_at b f)) (idle b work) (begin_intent c (fill_of b f work) work) h
-        (begun_intents c (fill_of b f work) work (subst (OfAll P) (sym e) h) tt)
-
-    confirm_intents : (b : Store) (slot : Slot) (work : Work) → b.names ≡ a.names → OfAll P b.intents → Intents (begin_confirm b slot work)
-    confirm_intents b slot work same h =
-        chosen Intents (is_doubtful b slot.dir slot.child) (begin_intent b (confirm_of b slot) work) (idle b work) (begun_intents b (confirm_of b slot) work h tt) h
-
-    seek_intents : (b : Store) (f : FileId) (work : Work) → b.names ≡ a.names → OfAll P b.intents → Intents (begin_seek b f work)
-    seek_intents b f work same h =
-        let target = seek_target b f in
-        chosen Intents (has_seek b f) (idle (seek_again b f work) work) (begin_intent b (intent.Seek f target) work)
-        (chosen (λ (c : Store). OfAll P c.intents) (was_linked work.linked f) (aim_seek b f) b (aimed_is P b.intents (intent_key.Seek f) target h) h)
-        (begun_intents b (intent.Seek f target) work h tt)
-
-    each_intents : {A : Type 0} (step : Store → A → Work → Done)
-        → ((b : Store) (x : A) (work : Work) → b.names ≡ a.names → OfAll P b.intents → Intents (step b x work))
-        → ((b : Store) (x : A) (work : Work) → (step b x work).store.names ≡ b.names)
-        → (xs : List A) (b : Store) (work : Work) → b.names ≡ a.names → OfAll P b.intents → Intents (each step b xs work)
-    each_intents step one stays [] b work same h = h
-    each_intents step one stays (x ∷ xs) b work same h =
-        each_intents step one stays xs (step b x work).store (step b x work).work (stays b x work ∙ same) (one b x work same h)
+  wished_fine : (d : Done) (f : FileId) (o : Option Wish) → Fine d → Fine (idle (without_wished d.store f o) d.work)
+  wished_fine d f None k = as_before P s least d (idle (without_wished d.store f None) d.work) refl refl refl refl k
+  wished_fine d f (Some wish) k = as_before P s least d (idle (without_wished d.store f (Some wish)) d.work) refl refl refl refl k
 
   pub intended_fine : (d : Done) → Fine d → Fine (intended d)
-  intended_fine d k =
-      let a = d.store in
-      let names = k.known.names in
-      let stays = begin_end_stays a d.work in
-      let rest = end_others a (files_to_fill a.names) in
-      let one = begin_patches rest d.work in
-      let two = begin_fills one.store (to_fill a.names) one.work in
-      let first : OfAll P rest.intents = filter_is P (still_stands a (files_to_fill a.names)) a.intents k.known.intents in
-      let patches = each_intents a names begin_patch (patch_intents a names) (λ b x w. (patch_stays b x w).names) (in_order d.work.left) rest d.work refl first in
-      let at_one = (each_stays begin_patch patch_stays (in_order d.work.left) rest d.work).names in
-      let fills = each_intents a names begin_fill (fill_intents a names) (λ b x w. (fill_stays b x w).names) (to_fill a.names) one.store one.work at_one patches in
-      let at_two = (each_stays begin_fill fill_stays (to_fill a.names) one.store one.work).names ∙ at_one in
-      let three = begin_seeks two.store (to_seek a) two.work in
-      let seeks = each_intents a names begin_seek (seek_intents a names) (λ b x w. (seek_stays b x w).names) (to_seek a) two.store two.work at_two fills in
-      let at_three = (each_stays begin_seek seek_stays (to_seek a) two.store two.work).names ∙ at_two in
-      let confirms = each_intents a names begin_confirm (confirm_intents a names) (λ b x w. (confirm_stays b x w).names) (in_order three.work.unsure) three.store three.work at_three seeks in
-      record {
-        known = record { names = subst (AreNames P) (sym stays.names) names; intents = confirms };
-        timed = subst AreTimed (sym stays.names) k.timed;
-        sent = subst (All (OfSent P)) (sym stays.sent) k.sent;
-        drawn =
-            same_drawn P s least d (intended d) (ap (λ (n : NamesValue). n.server) stays.names)
-            (let e = ap (λ (n : NamesValue). n.last) stays.names in omega arith) stays.made k;
-      }
+  intended_fine =
+      intents_keep Fine (record {
+        ends = λ d k. (
+            let files = files_to_fill d.store.names in
+            intending P s least d (end_others d.store files).intents
+            (filter_is P (still_stands d.store files) d.store.intents k.known.intents) k);
+        patches = λ d slot away k.
+            intent_begun P s least d (patch_of d.store slot d.work) (or_is P d.store.names k.known.names blanks slot.child) k;
+        fills = λ d file none k. (
+            let a = d.store in
+            intent_begun P s least (idle (with_fill_birth a file) d.work) (fill_of a file d.work) tt
+            (chosen (λ (b : Store). Fine (idle b d.work)) (is_held a file) a (without_wished a file (wish_at a file)) k
+            (wished_fine d file (wish_at a file) k)));
+        seeks = λ d file none k. intent_begun P s least d (intent.Seek file (seek_target d.store file)) tt k;
+        aims_seek = λ d file k. (
+            let q = intent_key.Seek file in
+            let to = seek_target d.store file in
+            intending P s least d (aimed d.store.intents q to) (aimed_is P d.store.intents q to k.known.intents) k);
+        confirms = λ d slot doubted k. intent_begun P s least d (confirm_of d.store slot) tt k;
+      })
 
   -- ---- what is sent
 

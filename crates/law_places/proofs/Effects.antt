@@ -104,7 +104,7 @@ module _ (P : FileId → Place → Type 0) (blanks : (f : FileId) → is_same_fi
     first_fine (input.Arrival packet) asks may =
         let work = new_work 0 packet.from in
         chosen Fine (is_heard a packet) (receive a packet.message work) (idle a work)
-        (receive_fine P blanks s a.names.last packet.message (idle a work) stays asks (begins 0 packet.from)) (begins 0 packet.from)
+        (receive_fine P blanks s a.names.last a work packet.message stays asks (begins 0 packet.from)) (begins 0 packet.from)
     first_fine input.Restart asks may =
         as_before P s a.names.last (idle a (new_work 0 0)) (idle (without_volatile a) (new_work 0 0)) refl refl refl refl (begins 0 0)
 

@@ -1,6 +1,6 @@
 -- In the midst of an event: each place that a server knows, is to tell, or has told may stand. What
 -- the pieces of handlers do keeps it.
-use Rattle.std.proofs.Common.{ℕ, ◌≡◌, ◌≤◌, ◌<◌, max, Bool, true, false, cond, ◌&&◌, not, List, [], ◌∷◌, ◌++◌, Option, Some, refl, sym, ap, subst, ◌∙◌, inl, inr, arith, All}
+use Rattle.std.proofs.Common.{ℕ, ◌≡◌, ◌≤◌, ◌<◌, max, Bool, true, cond, List, [], ◌∷◌, ◌++◌, Option, Some, refl, sym, ap, subst, ◌∙◌, inl, inr, arith, All}
 use Rattle.std.proofs.lemmas.Bool.Decides.{nat_tests}
 use Rattle.std.proofs.lemmas.List.Elements.{All-append, All-cons, All-nil}
 use Rattle.pg_run.specs.pg_base.declared.id.FileId.{FileId}
@@ -8,20 +8,20 @@ use Rattle.pg_run.specs.pg_base.declared.stamp.Stamp.{Stamp}
 use Rattle.pg_run.specs.pg_base.Stamp.{is_before}
 use Rattle.pg_run.specs.pg_base.Version.{VersionValue}
 use Rattle.pg_run.specs.pg_edges.declared.key.Key.{Key}
-use Rattle.pg_run.specs.pg_edges.declared.key.Key.TheVariants as key
 use Rattle.pg_run.specs.pg_entries.declared.entry.Entry.{Entry}
-use Rattle.pg_run.specs.pg_house.Work.{State, is_root, state_of}
+use Rattle.pg_run.specs.pg_house.Work.{State, state_of}
 use Rattle.pg_run.proofs.pg_house.Drawn.{IsDrawn, drawn_on, drawn_place}
 use Rattle.pg_run.proofs.pg_house.Noting.{one_back}
 use Rattle.pg_run.proofs.theory_flood_pieces.Choices.{chosen}
+use Rattle.pg_run.proofs.Still.{IsStill, entry_cell_still, entry_still, flag_still, linked_still, news_still, place_still, version_still}
 use Rattle.pg_run.specs.pg_intent.declared.intent.Intent.{Intent}
 use Rattle.pg_run.specs.pg_msg.declared.message.Message.{Message}
 use Rattle.pg_run.specs.pg_msg.declared.update.Update.{Update}
 use Rattle.pg_run.specs.pg_msg.declared.update.Update.TheVariants as update
 use Rattle.pg_run.specs.pg_msg.declared.work.Work.{Work}
-use Rattle.pg_run.specs.pg_msg.Work.{with_left, with_made}
+use Rattle.pg_run.specs.pg_msg.Work.{with_made}
 use Rattle.pg_run.specs.pg_names.declared.attributes.Attributes.{Attributes}
-use Rattle.pg_run.specs.pg_names.Names.{NamesValue, is_place_new, join_entry, join_place, own_at, own_or_blank, raise}
+use Rattle.pg_run.specs.pg_names.Names.{NamesValue, is_place_new, join_entry, join_place, own_at, raise}
 use Rattle.pg_run.specs.pg_names.Names as names
 use Rattle.pg_run.proofs.pg_names.Lookups.{update_frame}
 use Rattle.pg_run.specs.pg_patch.Ranges.{RangesValue}
@@ -30,63 +30,24 @@ use Rattle.pg_run.specs.pg_register.declared.place.Place.{Place}
 use Rattle.pg_run.specs.pg_store.declared.store.Store.{Store}
 use Rattle.pg_run.specs.pg_store.Beginning.{with_intents}
 use Rattle.pg_run.specs.pg_store.Links.{is_linked, is_new_link, put_link, unlink}
-use Rattle.pg_run.specs.pg_store.Store.{entry_news, is_new_version, is_newer_entry, is_newer_flag, is_newer_place, put_entry, put_flag, put_place, put_version, take_entry, take_flag, take_place, take_version, write}
-use Rattle.pg_run.specs.pg_pieces.Accepting.{link_peer, with_link}
+use Rattle.pg_run.specs.pg_store.Store.{is_new_version, is_newer_entry, is_newer_flag, is_newer_place, put_entry, put_flag, put_place, put_version, take_entry, take_flag, take_place, take_version, write}
+use Rattle.pg_run.specs.pg_pieces.Accepting.{link_peer}
 use Rattle.pg_run.specs.pg_pieces.Done.{Done, idle}
 use Rattle.pg_run.specs.pg_pieces.Making.{make_flag, own_next, raise_flag}
 use Rattle.pg_run.specs.pg_calls.Making.{make_place}
 use Rattle.pg_run.specs.pg_pieces.Posting.{post, sent_to}
-use Rattle.pg_run.specs.pg_pieces.Taking.{is_any_news, is_place_news, take_entry_cell, take_entry_noted, take_flag_noted, take_flags_noted, take_place_noted, take_version_noted, with_doubt, with_left_if, with_news}
+use Rattle.pg_run.specs.pg_pieces.Taking.{take_entry_cell, take_entry_noted, take_flag_noted, take_place_noted, take_version_noted, with_news}
 use Rattle.law_places.proofs.Origins.{IsMade}
 use Rattle.law_places.proofs.Messages.{OfEntry, OfMessage, OfSent}
 use Rattle.law_places.proofs.Timed.{AreTimed, at_least, at_most, entry_timed, flag_timed, place_timed, raised_timed}
 use Rattle.law_places.proofs.Known.{AreNames, OfAll, entry_names, flag_names, place_names, raised_names}
 
--- ---- what a piece of work leaves as it is
-
-pub news_sent : (t : Bool) (work : Work) (f : FileId) (k : Key) → (with_news t work f k).sent ≡ work.sent
-news_sent true work f k = refl
-news_sent false work f k = refl
-
-noted_sent : (t : Bool) (work : Work) (f d : FileId) → (cond t (with_left work d f) work).sent ≡ work.sent
-noted_sent true work f d = refl
-noted_sent false work f d = refl
-
-pub left_sent : (t : Bool) (work : Work) (f : FileId) (old : Place) → (with_left_if t work f old).sent ≡ work.sent
-left_sent true work f old = noted_sent (old.live && not (is_root f)) work f old.parent
-left_sent false work f old = refl
-
-pub doubt_sent : (t : Bool) (work : Work) (d c : FileId) → (with_doubt t work d c).sent ≡ work.sent
-doubt_sent true work d c = refl
-doubt_sent false work d c = refl
-
-pub linked_sent : (t : Bool) (work : Work) (f : FileId) (peer : ℕ) → (with_link t work f peer).sent ≡ work.sent
-linked_sent true work f peer = refl
-linked_sent false work f peer = refl
-
 pub news_made : (t : Bool) (work : Work) (f : FileId) (k : Key) → (with_news t work f k).made ≡ work.made
-news_made true work f k = refl
-news_made false work f k = refl
-
-noted_made : (t : Bool) (work : Work) (f d : FileId) → (cond t (with_left work d f) work).made ≡ work.made
-noted_made true work f d = refl
-noted_made false work f d = refl
-
-pub left_made : (t : Bool) (work : Work) (f : FileId) (old : Place) → (with_left_if t work f old).made ≡ work.made
-left_made true work f old = noted_made (old.live && not (is_root f)) work f old.parent
-left_made false work f old = refl
-
-doubt_made : (t : Bool) (work : Work) (d c : FileId) → (with_doubt t work d c).made ≡ work.made
-doubt_made true work d c = refl
-doubt_made false work d c = refl
-
-linked_made : (t : Bool) (work : Work) (f : FileId) (peer : ℕ) → (with_link t work f peer).made ≡ work.made
-linked_made true work f peer = refl
-linked_made false work f peer = refl
+news_made t work f k = (news_still t work f k).made
 
 -- ---- a place with a later stamp is taken
 
-before_later : (t u : Stamp) → t.time < u.time → is_before t u ≡ true
+pub before_later : (t u : Stamp) → t.time < u.time → is_before t u ≡ true
 before_later t u lt = grind (arith, nat_tests)
 
 placed_late : (a : Store) (f : FileId) (place : Place) (own : Attributes) → own_at a.names f ≡ Some own → own.place.stamp.time < place.stamp.time
@@ -176,10 +137,11 @@ module _ (P : FileId → Place → Type 0) where
     pub linked : (d : Done) (f : FileId) (peer birth : ℕ) → Fine d → Fine (link_peer d.store f peer birth d.work)
     linked d f peer birth k =
         let same = is_new_link d.store f peer birth in
+        let still = linked_still d.store f peer birth d.work in
         as_before d (link_peer d.store f peer birth d.work)
         (chosen (λ (a : Store). a.names ≡ d.store.names) same (put_link d.store f peer birth) d.store refl refl)
         (chosen (λ (a : Store). a.intents ≡ d.store.intents) same (put_link d.store f peer birth) d.store refl refl)
-        (linked_sent same d.work f peer) (linked_made same d.work f peer) k
+        still.mail.sent still.made k
 
     pub unlinked : (d : Done) (f : FileId) (peer birth : ℕ) → Fine d → Fine (idle (unlink d.store f peer birth) d.work)
     unlinked d f peer birth k =
@@ -191,8 +153,8 @@ module _ (P : FileId → Place → Type 0) where
 
     module _ (d : Done) (k : Fine d) where
       -- the work changes where it does not count
-      worked : (a : Store) (work : Work) → work.sent ≡ d.work.sent → work.made ≡ d.work.made → Fine (idle a d.work) → Fine (idle a work)
-      worked a work sent made h = as_before (idle a d.work) (idle a work) refl refl sent made h
+      worked : (a : Store) (work : Work) → IsStill d.work work → Fine (idle a d.work) → Fine (idle a work)
+      worked a work still h = as_before (idle a d.work) (idle a work) refl refl still.mail.sent still.made h
 
       put_place_fine : (f : FileId) (place : Place) → P f place → Fine (idle (put_place d.store f place) d.work)
       put_place_fine f place new = record {
@@ -207,11 +169,9 @@ module _ (P : FileId → Place → Type 0) where
 
       pub place_fine : (f : FileId) (place : Place) → P f place → Fine (take_place_noted d.store f place d.work)
       place_fine f place new =
-          let t = is_newer_place d.store f place in
-          let old = (own_or_blank d.store.names f).place in
-          worked (take_place d.store f place) _ (news_sent t (with_left_if t d.work f old) f key.Place ∙ left_sent t d.work f old)
-          (news_made t (with_left_if t d.work f old) f key.Place ∙ left_made t d.work f old)
-          (chosen (λ (a : Store). Fine (idle a d.work)) t (put_place d.store f place) d.store (put_place_fine f place new) k)
+          worked (take_place d.store f place) _ (place_still d.store f place d.work)
+          (chosen (λ (a : Store). Fine (idle a d.work)) (is_newer_place d.store f place) (put_place d.store f place) d.store
+          (put_place_fine f place new) k)
 
       put_flag_fine : (f : FileId) (flag : Flag) → Fine (idle (put_flag d.store f flag) d.work)
       put_flag_fine f flag = record {
@@ -223,9 +183,9 @@ module _ (P : FileId → Place → Type 0) where
 
       pub flag_fine : (f : FileId) (flag : Flag) → Fine (take_flag_noted d.store f flag d.work)
       flag_fine f flag =
-          let t = is_newer_flag d.store f flag in
-          worked (take_flag d.store f flag) _ (news_sent t d.work f (key.Flag flag.server)) (news_made t d.work f (key.Flag flag.server))
-          (chosen (λ (a : Store). Fine (idle a d.work)) t (put_flag d.store f flag) d.store (put_flag_fine f flag) k)
+          worked (take_flag d.store f flag) _ (flag_still d.store f flag d.work)
+          (chosen (λ (a : Store). Fine (idle a d.work)) (is_newer_flag d.store f flag) (put_flag d.store f flag) d.store
+          (put_flag_fine f flag) k)
 
       -- ---- a cell of a directory comes
 
@@ -245,17 +205,11 @@ module _ (P : FileId → Place → Type 0) where
           chosen (λ (a : Store). Fine (idle a d.work)) (is_newer_entry d.store dir e) (put_entry d.store dir e) d.store (put_entry_fine dir e new) k
 
       pub entry_fine : (dir : FileId) (e : Entry) → OfEntry P e → Fine (take_entry_noted d.store dir e d.work)
-      entry_fine dir e new =
-          let n = is_any_news (entry_news d.store dir e) in
-          worked (take_entry d.store dir e) _ (news_sent n d.work dir (key.Entry e.child)) (news_made n d.work dir (key.Entry e.child)) (took_entry dir e new)
+      entry_fine dir e new = worked (take_entry d.store dir e) _ (entry_still d.store dir e d.work) (took_entry dir e new)
 
       pub entry_cell_fine : (dir : FileId) (e : Entry) (sure : Bool) → OfEntry P e → Fine (take_entry_cell d.store dir e sure d.work)
       entry_cell_fine dir e sure new =
-          let n = entry_news d.store dir e in
-          worked (take_entry d.store dir e) _
-          (doubt_sent (is_place_news n && not sure) (take_entry_noted d.store dir e d.work).work dir e.child ∙ news_sent (is_any_news n) d.work dir (key.Entry e.child))
-          (doubt_made (is_place_news n && not sure) (take_entry_noted d.store dir e d.work).work dir e.child ∙ news_made (is_any_news n) d.work dir (key.Entry e.child))
-          (took_entry dir e new)
+          worked (take_entry d.store dir e) _ (entry_cell_still d.store dir e sure d.work) (took_entry dir e new)
 
       -- ---- versions
 
@@ -271,17 +225,12 @@ module _ (P : FileId → Place → Type 0) where
 
       pub version_fine : (f : FileId) (v : VersionValue) → Fine (take_version_noted d.store f v d.work)
       version_fine f v =
-          let t = is_new_version d.store f v in
-          worked (take_version d.store f v) _ (news_sent t d.work f (key.Version v.head.stamp)) (news_made t d.work f (key.Version v.head.stamp))
-          (chosen (λ (a : Store). Fine (idle a d.work)) t (put_version d.store f v) d.store (raised_fine (put_version d.store f v) v.head.stamp.time refl refl) k)
+          worked (take_version d.store f v) _ (version_still d.store f v d.work)
+          (chosen (λ (a : Store). Fine (idle a d.work)) (is_new_version d.store f v) (put_version d.store f v) d.store
+          (raised_fine (put_version d.store f v) v.head.stamp.time refl refl) k)
 
       pub write_fine : (f : FileId) (stamp : Stamp) (ranges : RangesValue) → Fine (idle (write d.store f stamp ranges) d.work)
       write_fine f stamp ranges = raised_fine (write d.store f stamp ranges) stamp.time refl refl
-
-    -- all flags of a thing
-    pub flags_fine : (f : FileId) (flags : List Flag) (d : Done) → Fine d → Fine (take_flags_noted d.store f flags d.work)
-    flags_fine f [] d k = k
-    flags_fine f (flag ∷ flags) d k = flags_fine f flags (take_flag_noted d.store f flag d.work) (flag_fine d k f flag)
 
     -- a flag is made
     pub made_flag : (f : FileId) (flag : Flag) (d : Done) → Fine d → Fine (make_flag d.store f flag d.work)
@@ -299,18 +248,14 @@ module _ (P : FileId → Place → Type 0) where
         → P f place → Fine d → Fine (make_place f place d)
     made_place o d f place own held later drawn before server late new k =
         let e = make_place f place d in
-        let t = is_newer_place d.store f place in
-        let w = with_made d.work (update.Place f place) in
-        let old = (own_or_blank d.store.names f).place in
+        let still = place_still d.store f place (with_made d.work (update.Place f place)) in
         let taken = place_fine d k f place new in
-        let sent : e.work.sent ≡ d.work.sent = news_sent t (with_left_if t w f old) f key.Place ∙ left_sent t w f old in
-        let made : e.work.made ≡ w.made = news_made t (with_left_if t w f old) f key.Place ∙ left_made t w f old in
-        let other : (take_place_noted d.store f place d.work).work.sent ≡ d.work.sent = news_sent t (with_left_if t d.work f old) f key.Place ∙ left_sent t d.work f old in
+        let other = (place_still d.store f place d.work).mail.sent in
         record {
           known = taken.known;
           timed = taken.timed;
-          sent = subst (All (OfSent P)) (other ∙ sym sent) taken.sent;
+          sent = subst (All (OfSent P)) (other ∙ sym still.mail.sent) taken.sent;
           drawn =
               drawn_place s least (At o) (At e) drawn (took_server d.store f place ∙ k.drawn.server ∙ sym drawn.server) f place server late
-              (placed_late d.store f place own held later) (made ∙ ap (λ us. us ++ update.Place f place ∷ []) before);
+              (placed_late d.store f place own held later) (still.made ∙ ap (λ us. us ++ update.Place f place ∷ []) before);
         }

@@ -3,7 +3,6 @@
 use Rattle.std.proofs.Common.{ℕ, ◌≡◌, ◌≤◌, ◌<◌, ◌||◌, max, Bool, true, false, cond, List, [], ◌∷◌, Option, None, Some, is_some, refl, sym, ap, subst, ◌∙◌, inl, inr, All, arith}
 use Rattle.std.specs.Prelude.{nat_lt}
 use Rattle.std.proofs.lemmas.Bool.{false≢true}
-use Rattle.std.proofs.lemmas.Bool.Decides.{nat_tests}
 use Rattle.std.proofs.lemmas.Option.{none-some}
 use Rattle.std.specs.List.{filter}
 use Rattle.std.specs.Map.{keys_of}
@@ -11,10 +10,8 @@ use Rattle.pg_run.specs.pg_base.declared.id.FileId.{FileId}
 use Rattle.pg_run.specs.pg_base.declared.policy.Policy.TheVariants.{Last}
 use Rattle.pg_run.specs.pg_base.declared.stamp.Stamp.{Stamp}
 use Rattle.pg_run.specs.pg_base.Id.{is_same_file}
-use Rattle.pg_run.specs.pg_base.Stamp.{is_before}
 use Rattle.pg_run.specs.pg_content.Content.{Among}
 use Rattle.pg_run.proofs.pg_content.Members.{among_filter}
-use Rattle.pg_run.specs.pg_edges.declared.key.Key.TheVariants as key
 use Rattle.pg_run.specs.pg_entries.declared.entry.Entry.{Entry}
 use Rattle.pg_run.specs.pg_entries.Entry.{brings, entry_of}
 use Rattle.pg_run.proofs.pg_house.Drawn.{drawn_place}
@@ -30,25 +27,24 @@ use Rattle.pg_run.specs.pg_names.Names.{InodeValue, blank_own, cell_at, is_dir, 
 use Rattle.pg_run.proofs.pg_names.Lookups.{update_frame}
 use Rattle.pg_run.proofs.theory_flood_pieces.Choices.{chosen}
 use Rattle.pg_run.proofs.theory_flood_pieces.Together.{own_of_held}
-use Rattle.pg_run.specs.pg_register.declared.flag.Flag.{Flag}
 use Rattle.pg_run.specs.pg_register.declared.place.Place.{Place}
 use Rattle.pg_run.specs.pg_register.Flag.{brings_news}
 use Rattle.pg_run.specs.pg_register.Place.{blank_place, root}
 use Rattle.pg_run.specs.pg_store.declared.store.Store.{Store}
 use Rattle.pg_run.specs.pg_store.Births.{draw_birth, with_birth}
-use Rattle.pg_run.specs.pg_store.Store.{entry_news, is_held, is_newer_entry, put_entry, take_entry, with_names}
+use Rattle.pg_run.specs.pg_store.Store.{is_held, is_newer_entry, put_entry, take_entry, with_names}
 use Rattle.pg_run.specs.pg_pieces.Done.{Done, idle}
 use Rattle.pg_run.specs.pg_pieces.Making.{own_next, raise_flag}
-use Rattle.pg_run.specs.pg_pieces.Taking.{is_any_news}
 use Rattle.pg_run.specs.pg_repair.Filling.{few_golds, fill, live_golds}
 use Rattle.pg_run.specs.pg_names.Names as names
 use Rattle.pg_run.specs.pg_calls.Forgetting.{bare_entry, begin_lost, begun_at, begun_with, dead_at, dead_by, dirs_of, fill_lost, forget_lost, has_blank_place, has_cell_for, is_wanted, last_listing, last_place, lists_in, mark, marked_each, placed_in_root, placed_lost, root_place, strike_out, struck_out, unfilled, unwished}
 use Rattle.pg_run.specs.pg_calls.Making.{drawn}
 use Rattle.pg_run.specs.pg_calls.Naming.{raised}
 use Rattle.pg_run.proofs.pg_calls.LastPlace.{cell_there, last_is, listed_there}
+use Rattle.pg_run.proofs.Still.{entry_still}
 use Rattle.pg_run.proofs.Striking.{latest_in, marked_made}
 use Rattle.law_places.proofs.Begun.{begin_fine}
-use Rattle.law_places.proofs.Fine.{At, IsFine, as_before, intending, made_place, news_sent, raised_flag, took_entry}
+use Rattle.law_places.proofs.Fine.{At, IsFine, as_before, before_later, intending, made_place, raised_flag, took_entry}
 use Rattle.law_places.proofs.Handled.{fill_fine}
 use Rattle.law_places.proofs.Known.{filter_is, or_is}
 use Rattle.law_places.proofs.Messages.{OfSent}
@@ -57,9 +53,6 @@ use Rattle.law_places.proofs.Placing.{begun_own, flag_made, place_made}
 use Rattle.law_places.proofs.Timed.{at_least, at_most}
 
 -- ---- a later place comes to a directory
-
-before_later : (t u : Stamp) → t.time < u.time → is_before t u ≡ true
-before_later t u lt = grind (arith, nat_tests)
 
 brings_by : (o : Option InodeValue) (id : FileId) (c e : Entry) → names.entry_in id o ≡ Some c → e.child ≡ id
     → c.place.stamp.time < e.place.stamp.time → is_entry_new o e ≡ true
@@ -174,7 +167,7 @@ module _ (P : FileId → Place → Type 0) (blanks : (f : FileId) → is_same_fi
   marks_sent [] b q w = refl
   marks_sent (d ∷ dirs) b q w =
       let one = mark id q b d w in
-      marks_sent dirs one.store q one.work ∙ news_sent (is_any_news (entry_news b d (bare_entry id q))) w d (key.Entry id)
+      marks_sent dirs one.store q one.work ∙ (entry_still b d (bare_entry id q) w).mail.sent
 
   module _ (dir : FileId) (listed : lists_in a.names id dir ≡ true) where
     abbrev Dead : Place

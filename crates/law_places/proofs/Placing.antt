@@ -3,7 +3,6 @@
 use Rattle.std.proofs.Common.{ℕ, ◌≡◌, Bool, true, List, [], ◌∷◌, ◌++◌, Option, None, Some, refl, ap, ◌∙◌}
 use Rattle.pg_run.specs.pg_base.declared.id.FileId.{FileId}
 use Rattle.pg_run.specs.pg_base.declared.policy.Policy.{Policy}
-use Rattle.pg_run.specs.pg_edges.declared.key.Key.TheVariants as key
 use Rattle.pg_run.specs.pg_entries.declared.entry.Entry.{Entry}
 use Rattle.pg_run.specs.pg_intent.declared.intent.Intent.{Intent}
 use Rattle.pg_run.specs.pg_intent.declared.intent.Intent.TheVariants as intent
@@ -12,35 +11,29 @@ use Rattle.pg_run.specs.pg_intent.Intents.{ended, intent_at}
 use Rattle.pg_run.specs.pg_msg.declared.update.Update.TheVariants as update
 use Rattle.pg_run.specs.pg_msg.Work.{with_made}
 use Rattle.pg_run.specs.pg_names.declared.attributes.Attributes.{Attributes}
-use Rattle.pg_run.specs.pg_names.Names.{own_at, own_of, own_or_blank}
+use Rattle.pg_run.specs.pg_names.Names.{own_at, own_of}
 use Rattle.pg_run.proofs.pg_names.Holding.{begun_same}
 use Rattle.pg_run.proofs.pg_names.Lookups.{joined_own}
 use Rattle.pg_run.proofs.theory_flood_pieces.Choices.{chosen}
-use Rattle.pg_run.specs.pg_register.declared.flag.Flag.{Flag}
 use Rattle.pg_run.specs.pg_register.declared.place.Place.{Place}
 use Rattle.pg_run.specs.pg_store.declared.store.Store.{Store}
 use Rattle.pg_run.specs.pg_store.Beginning.{begin as begin_replica, patches_of, put_new, take_patch, take_patches, take_told, take_told_in, with_intents}
-use Rattle.pg_run.specs.pg_store.Store.{is_newer_entry, is_newer_flag, is_newer_place, put_entry, take_entry}
+use Rattle.pg_run.specs.pg_store.Store.{is_newer_entry, put_entry, take_entry}
 use Rattle.pg_run.specs.pg_pieces.Done.{Done}
 use Rattle.pg_run.specs.pg_pieces.Making.{own_next}
-use Rattle.pg_run.specs.pg_pieces.Taking.{with_left_if}
 use Rattle.pg_run.specs.pg_calls.Making.{make_place}
 use Rattle.pg_run.specs.pg_calls.Naming.{raised}
-use Rattle.law_places.proofs.Fine.{left_made, news_made}
+use Rattle.pg_run.proofs.Still.{flag_still, place_still}
 
 -- ---- what is made
 
 pub place_made : (d : Done) (f : FileId) (place : Place) → (make_place f place d).work.made ≡ d.work.made ++ update.Place f place ∷ []
-place_made d f place =
-    let t = is_newer_place d.store f place in
-    let work = with_made d.work (update.Place f place) in
-    let old = (own_or_blank d.store.names f).place in
-    news_made t (with_left_if t work f old) f key.Place ∙ left_made t work f old
+place_made d f place = (place_still d.store f place (with_made d.work (update.Place f place))).made
 
 pub flag_made : (f : FileId) (d : Done) → (raised f d).work.made ≡ d.work.made ++ update.Flag f (own_next d.store f true) ∷ []
 flag_made f d =
     let flag = own_next d.store f true in
-    news_made (is_newer_flag d.store f flag) (with_made d.work (update.Flag f flag)) f (key.Flag flag.server)
+    (flag_still d.store f flag (with_made d.work (update.Flag f flag))).made
 
 -- ---- what is held behind a beginning
 

@@ -13,10 +13,10 @@
 //! - `proofs/Timed`: no place that is known is later than the greatest time, so a new stamp is new.
 //! - `proofs/Behind` has what stands behind the first effect: house rules, intentions, what is
 //!   sent.
-//! - Premises: `IntentionsAreInOrder`. It stands on `pg_run` alone, below the laws of listings and
-//!   quiet.
-//! - A new kind of message gets its line in `receive_fine` (`proofs/Handled`), with a lemma
-//!   `.._fine`; if it tells of a place, its case in `proofs/Messages` too.
+//! - Premises: `IntentionsAreInOrder`. Of laws it stands on `law_frame` alone, below those of
+//!   listings and quiet.
+//! - What each piece of a message keeps is said in `proofs/Handled`; the walk over them is that of
+//!   `law_frame`. A message that tells of a place gets its case in `proofs/Messages`.
 #![tactic(auto)]
 
 mod laws;

@@ -1,12 +1,10 @@
 -- A server is given up: names stay as they are, and no cell is sure any more.
-use Rattle.std.proofs.Common.{ℕ, ◌≡◌, true, false, List, [], ◌∷◌, Option, None, Some, All, refl, sym, subst, inl, inr}
+use Rattle.std.proofs.Common.{ℕ, ◌≡◌, true, List, [], ◌∷◌, Option, None, Some, All, refl, sym, subst, inl, inr}
 use Rattle.std.specs.List.{flat_map}
 use Rattle.std.specs.Map.{keys_of}
-use Rattle.std.proofs.lemmas.Bool.{false≢true}
 use Rattle.std.proofs.lemmas.List.Elements.{All-append, All-cons, All-nil}
 use Rattle.pg_run.specs.pg_base.declared.id.FileId.{FileId}
-use Rattle.pg_run.specs.pg_base.declared.id.Kind.{Kind}
-use Rattle.pg_run.specs.pg_base.declared.id.Kind.TheVariants.{Dir, File}
+use Rattle.pg_run.specs.pg_base.declared.id.Kind.TheVariants.{Dir}
 use Rattle.pg_run.specs.pg_content.Content.{Among}
 use Rattle.pg_run.proofs.pg_content.Members.{among_filter}
 use Rattle.pg_run.specs.pg_edges.declared.edge.Edge.{Edge}
@@ -15,7 +13,7 @@ use Rattle.pg_run.specs.pg_intent.declared.key.IntentKey.{IntentKey}
 use Rattle.pg_run.specs.pg_intent.Intents.{aimed, ended, keys_to, turned, turned_each}
 use Rattle.pg_run.specs.pg_intent.Key.{is_for_peer}
 use Rattle.pg_run.specs.pg_msg.declared.work.Work.{Work}
-use Rattle.pg_run.specs.pg_names.Names.{InodeValue, NamesValue, directories, is_dir, is_dir_kind, known}
+use Rattle.pg_run.specs.pg_names.Names.{InodeValue, NamesValue, directories, is_dir, known}
 use Rattle.pg_run.proofs.pg_house.Truths.{chosen}
 use Rattle.pg_run.specs.pg_store.declared.store.Store.{Store}
 use Rattle.pg_run.specs.pg_store.Views.{enter}
@@ -23,6 +21,7 @@ use Rattle.pg_run.proofs.pg_store.Entered.{enter_intents, enter_names}
 use Rattle.pg_run.specs.pg_pieces.Done.{idle}
 use Rattle.pg_run.specs.pg_intentions.Inviting.{invite_along, invite_each, invite_of, invites, loose_edge}
 use Rattle.pg_run.specs.pg_calls.GivingUp.{cells_of, doubt_all, enter_view, slots_in, slots_to}
+use Rattle.law_printable.proofs.Found.{dir_kind}
 use Rattle.law_printable.proofs.House.{IsOfDir, WorkSuits}
 use Rattle.law_printable.proofs.Intents.{AllIntents, aimed_suit, ended_suit}
 use Rattle.law_printable.proofs.Messages.{Suits}
@@ -46,10 +45,6 @@ entered s server h = record {
 
 -- ---- the cells of directories
 
-dir_by : (k : Kind) → is_dir_kind k ≡ true → k ≡ Dir
-dir_by Dir h = refl
-dir_by File h = absurd (false≢true h)
-
 children_of : (dir : FileId) → dir.kind ≡ Dir → (children : List FileId) → All IsOfDir (slots_to dir children)
 children_of dir k [] = All-nil IsOfDir
 children_of dir k (c ∷ cs) = All-cons IsOfDir (record { dir = dir; child = c }) (slots_to dir cs) k (children_of dir k cs)
@@ -61,7 +56,7 @@ slots_of dir k (Some x) = children_of dir k (keys_of x.entries)
 all_cells : (s : NamesValue) (dirs : List FileId) → ((d : FileId) → Among d dirs → is_dir d ≡ true) → All IsOfDir (flat_map (cells_of s) dirs)
 all_cells s [] each = All-nil IsOfDir
 all_cells s (d ∷ ds) each =
-    All-append IsOfDir (cells_of s d) (flat_map (cells_of s) ds) (slots_of d (dir_by d.kind (each d (inl refl))) (known s d))
+    All-append IsOfDir (cells_of s d) (flat_map (cells_of s) ds) (slots_of d (dir_kind d.kind (each d (inl refl))) (known s d))
     (all_cells s ds (λ x h. each x (inr h)))
 
 -- ---- invites go last

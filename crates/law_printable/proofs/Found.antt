@@ -1,5 +1,5 @@
 -- What the checks of calls find: files, directories, and new names in directories.
-use Rattle.std.proofs.Common.{ℕ, ◌≡◌, ◌≢◌, Bool, true, false, cond, List, [], ◌∷◌, Option, None, Some, Result, Ok, Err, refl, sym, ap, subst, ◌∙◌}
+use Rattle.std.proofs.Common.{ℕ, ◌≡◌, Bool, true, false, cond, List, [], ◌∷◌, Option, None, Some, Result, Ok, Err, refl, sym, ap, subst, ◌∙◌}
 use Rattle.std.proofs.lemmas.Bool.{false≢true}
 use Rattle.pg_run.specs.pg_base.declared.id.FileId.{FileId}
 use Rattle.pg_run.specs.pg_base.declared.id.Kind.{Kind}
@@ -30,7 +30,7 @@ carried e P = subst P e
 
 -- ---- kinds
 
-dir_kind : (k : Kind) → is_dir_kind k ≡ true → k ≡ Dir
+pub dir_kind : (k : Kind) → is_dir_kind k ≡ true → k ≡ Dir
 dir_kind Dir h = refl
 dir_kind File h = absurd (false≢true h)
 

@@ -8,7 +8,6 @@ pub mod Stores
 pub mod Handlers
 pub mod Sending
 pub mod Behind
-pub mod Leaving
 pub mod Received
 pub mod Making
 pub mod Lost

@@ -28,7 +28,7 @@ use Rattle.pg_run.proofs.pg_house.Truths.{chosen}
 use Rattle.pg_run.specs.pg_pieces.Accepting.{link_peer, with_link}
 use Rattle.pg_run.specs.pg_pieces.Done.{Done, idle}
 use Rattle.pg_run.specs.pg_pieces.Posting.{post, sent_to}
-use Rattle.pg_run.specs.pg_pieces.Taking.{is_any_news, is_place_news, take_entry_cell, take_entry_noted, take_flag_noted, take_flags_noted, take_place_noted, take_version_noted, with_doubt, with_left_if, with_news}
+use Rattle.pg_run.specs.pg_pieces.Taking.{is_any_news, is_place_news, take_entry_cell, take_entry_noted, take_flag_noted, take_place_noted, take_version_noted, with_doubt, with_left_if, with_news}
 use Rattle.law_printable.proofs.House.{IsOfDir, WorkSuits, noted_suits}
 use Rattle.law_printable.proofs.Intents.{AllIntents, SuitsIntent, ended_suit, found_suits}
 use Rattle.law_printable.proofs.Messages.{Suits, SuitsPost, sent_suits}
@@ -178,10 +178,3 @@ module _ (s : Store) (work : Work) (h : DoneSuits (idle s work)) where
     store = link_suits s h.store f peer birth;
     work = linked_suits (is_new_link s f peer birth) work f peer h.work;
   }
-
-pub flags_noted : (s : Store) (f : FileId) (gs : List Flag) (work : Work) → DoneSuits (idle s work) → DoneSuits (take_flags_noted s f gs work)
-flags_noted s f [] work h = record { store = h.store; work = h.work }
-flags_noted s f (g ∷ gs) work h =
-    let one = flag_noted s work h f g in
-    let next = take_flag_noted s f g work in
-    flags_noted next.store f gs next.work (record { store = one.store; work = one.work })

@@ -10,13 +10,13 @@
 //! - `Suits` (`proofs/Messages`) is of one message: what is told of it goes by its kind, and the
 //!   places that it carries suit. `RunSuits` and `StepSuits` (`proofs/Entries`) are of worlds and
 //!   of events.
-//! - `proofs/Handlers`, `Received`, `Leaving`, `Lost` and `Calls` have what comes, `House`,
-//!   `Intents` and `Behind` what stands behind it, `Sending` what is sent; `Rows` has the names
-//!   that a directory shows.
+//! - `proofs/Received` says what each piece of a message keeps, by lemmas of `Handlers`; the walk
+//!   over them is that of `law_frame`. `Lost` and `Calls` have calls, `House`, `Intents` and
+//!   `Behind` what stands behind it, `Sending` what is sent; `Rows` the names that are shown.
 //! - It has no premises, and cites no other law: names and places suit by what the checks of calls
 //!   let in.
-//! - A new kind of message gets its line in `received_suits` (`proofs/Received`), and its case of
-//!   `SuitsMessage`, of which its sender has to show what it carries.
+//! - A new kind of message gets its case of `SuitsMessage`, of which its sender has to show what it
+//!   carries.
 #![tactic(auto)]
 
 mod laws;

@@ -15,7 +15,6 @@ use Rattle.law_full.specs.pg_call.declared.call.Call.TheVariants as call
 use Rattle.law_full.specs.pg_call.declared.call.Target.{Target}
 use Rattle.law_full.specs.pg_call.declared.refusal.Refusal.TheVariants.{Held}
 use Rattle.law_full.specs.pg_call.declared.reply.Reply.{Reply}
-use Rattle.law_full.specs.pg_intent.declared.key.IntentKey.TheVariants as intent_key
 use Rattle.law_full.specs.pg_msg.declared.message.Ends.{Ends}
 use Rattle.law_full.specs.pg_msg.declared.message.Message.{Message}
 use Rattle.law_full.specs.pg_msg.declared.message.Message.TheVariants as message
@@ -63,11 +62,10 @@ use Rattle.law_full.specs.pg_store.Links.{knows_later}
 use Rattle.law_full.specs.pg_store.Store.{is_full, is_held, is_before_clock_end, with_names}
 use Rattle.law_full.proofs.theory_flood_pieces.Choices.{chosen, decided}
 use Rattle.law_golds.specs.law_births.Flags.{AnyBye, SaysMessage, SaysStore}
-use Rattle.law_golds.proofs.Bodies.{said_delta, said_harbinger, said_later, said_piece, said_want}
 use Rattle.law_golds.proofs.Effects.{SaysPacket}
 use Rattle.law_golds.proofs.Losing.{entered_says}
-use Rattle.law_golds.proofs.Received.{said_ack, said_begun_intent, said_bye, said_cell, said_confirm, said_ended, said_fetch, said_gone, said_grant, said_leave, said_leave_ok, said_no_grant, said_none_here, said_place_is, said_seek, said_tell, said_tell_ok, said_walk, said_walk_of_tick}
-use Rattle.law_golds.proofs.Says.{Says, SaysSent, said_accept, said_asked}
+use Rattle.law_golds.proofs.Received.{said_begun_intent, said_received, said_walk_of_tick}
+use Rattle.law_golds.proofs.Says.{Says, SaysSent, said_asked}
 use Rattle.law_golds.proofs.Sending.{asks_all, cells_say}
 use Rattle.law_full.proofs.pg_run.Event.{Comes}
 use Rattle.law_full.proofs.pg_calls.Walked.{full_held}
@@ -124,32 +122,10 @@ module _ (s : ℕ) (a : Store) (file : FileId) (all : is_full a file ≡ true) (
         first
 
     received : (from : ℕ) (m : Message) → SaysMessage Q m → Of file (receive a m (new_work 0 from))
-    received from (message.Cell ends tag c) says = said _ (said_cell Q s [] a ends tag c (new_work 0 from) says (start_says 0 from))
-    received from (message.Ack ends q tag) says = said _ (said_ack Q s [] a ends q tag (new_work 0 from) (start_says 0 from))
-    received from (message.Harbinger ends tag head) says = said _ (said_harbinger Q s [] a ends (new_work 0 from) (start_says 0 from) tag head)
-    received from (message.Want ends wanted) says = said _ (said_want Q s [] a ends (new_work 0 from) (start_says 0 from) wanted)
-    received from (message.Delta ends x) says = said _ (said_delta Q s [] a ends (new_work 0 from) (start_says 0 from) x)
-    received from (message.Piece ends p) says = said _ (said_piece Q s [] a ends (new_work 0 from) (start_says 0 from) p)
-    received from (message.Later ends stamp) says = said _ (said_later Q s [] a ends (new_work 0 from) (start_says 0 from) stamp)
-    received from (message.Fetch f birth) says = said _ (said_fetch Q s [] a f birth (new_work 0 from) (start_says 0 from))
-    received from (message.Grant ends granted) says = said _ (said_grant Q s [] a ends granted (new_work 0 from) says (start_says 0 from))
-    received from (message.NoGrant f birth) says = said _ (said_no_grant Q s [] a f birth (new_work 0 from) (start_says 0 from))
     received from (message.Full ends) says = full_none ends (new_work 0 from) (none_nil file)
     received from (message.Invite ends) says = invite_none ends from
-    received from (message.Seek f birth) says = said _ (said_seek Q s [] a f birth (new_work 0 from) (start_says 0 from))
-    received from (message.Here ends) says = said _ (said_accept Q s [] a ends (new_work 0 from) (start_says 0 from))
-    received from (message.NoneHere what f child) says = said _ (said_none_here Q s [] a what f child (new_work 0 from) (start_says 0 from))
-    received from (message.Gone f birth) says = said _ (said_gone Q s [] a f birth (new_work 0 from) (start_says 0 from))
-    received from (message.Bye ends) says = said _ (said_bye Q s [] a ends (new_work 0 from) (start_says 0 from))
-    received from (message.ByeOk f birth) says = said _ (said_ended Q s [] a (intent_key.Bye f birth from) (new_work 0 from) (start_says 0 from))
-    received from (message.Leave ends stamp) says = said _ (said_leave Q s [] a ends stamp (new_work 0 from) (start_says 0 from))
-    received from (message.LeaveOk ends stamp) says = said _ (said_leave_ok Q s [] a ends stamp (new_work 0 from) (start_says 0 from))
-    received from (message.Confirm dir e) says = said _ (said_confirm Q s [] a dir e (new_work 0 from) says (start_says 0 from))
-    received from (message.PlaceIs dir e) says = said _ (said_place_is Q s [] a dir e (new_work 0 from) says (start_says 0 from))
-    received from (message.Tell dir e) says = said _ (said_tell Q s [] a dir e (new_work 0 from) says (start_says 0 from))
-    received from (message.TellOk dir child stamp) says = said _ (said_tell_ok Q s [] a dir child stamp (new_work 0 from) (start_says 0 from))
-    received from (message.Walk ends origin birth hops word) says = said _ (said_walk Q s [] a ends origin birth hops word (new_work 0 from) (start_says 0 from))
-    received from (message.Meet ends) says = said _ (said_accept Q s [] a ends (new_work 0 from) (start_says 0 from))
+    received from m says =
+        said (receive a m (new_work 0 from)) (said_received Q s [] a (new_work 0 from) m refl says (start_says 0 from))
 
     -- a tick
     released_says : SaysStore Q AnyBye s (without_sources a)

@@ -10,13 +10,12 @@
 //!   before.
 //! - `OutlivesPieces` (`proofs/Pieces`) takes any property of a store that each piece of an event
 //!   keeps, and gives it behind every message, call (`proofs/Called`) and end of an event
-//!   (`proofs/Intended`).
+//!   (`proofs/Intended`), by the walks of `law_frame`.
 //! - `proofs/FirstCause` is on worlds alone, with no run; `proofs/Ticks` joins what
 //!   `pg_run/proofs/Ticks` has of one tick with what other laws say of its server.
 //! - Premises: `TidinessIsGiven` (`specs/Given`), of the house rules, order, golds, intentions and
 //!   whole servers. No crate of laws is cited.
-//! - A new kind of message gets its line in `received` of `proofs/Pieces`. A new kind of key gets
-//!   its cell in `proofs/KeysCells`.
+//! - A new kind of key gets its cell in `proofs/KeysCells`.
 #![tactic(auto)]
 
 mod laws;

@@ -8,6 +8,7 @@ use Rattle.std.specs.Str.{IsUtf8}
 use Rattle.std.specs.declared.option.Option.{Option}
 use Rattle.pangaea.specs.Ending.{IsNodeEnd}
 use Rattle.pangaea.specs.Outside.{Survives, choosing}
+use Rattle.pg_checkpoint.specs.Saves.{AreSettled}
 use Rattle.pg_command.specs.Slots.{IsNameByte, IsNodeName}
 use Rattle.pg_disk.proofs.Moments.{leaves_started}
 use Rattle.pg_disk.specs.Disk.{IsImage, IsSettled}
@@ -20,13 +21,16 @@ use Rattle.pg_host.specs.Causes.{IsEnd, IsFault, IsWhole}
 use Rattle.pg_host.specs.Entries.{entries_for}
 use Rattle.pg_host.specs.Host.{IsAnswered, Served}
 use Rattle.pg_host.specs.Inputs.{asked}
-use Rattle.pg_host.specs.Logs.{IsOldFile, Old, OpensToSome, begin_entry, begun, is_empty}
+use Rattle.pg_host.specs.Logs.{IsFound, Old, OpensToSome, begin_entry, begun, is_empty}
 use Rattle.pg_host.specs.Sends.{sends}
+use Rattle.pg_host.specs.Slots.{Agree, AgreeSince, FilesLeave}
+use Rattle.pg_host.proofs.Files.{files_started}
 use Rattle.pg_io.specs.Causes.{Rose}
 use Rattle.pg_log.specs.Bytes.{OpensTo}
 use Rattle.pg_net.specs.Clock.{Told as ClockTold}
 use Rattle.pg_net.specs.Net.{Datagram}
 use Rattle.pg_net.specs.Net.{Told as NetTold}
+use Rattle.pg_saving.specs.declared.loading.Checkpoint.{Checkpoint}
 
 -- ---- its name
 
@@ -152,6 +156,18 @@ still_opens name history entries more settled opens image is =
     let here = subst (λ file. OpensTo file entries) (sym (settled image is)) opens in
     (0, omega arith, subst (λ all. OpensTo image all) (sym (append-nil entries)) here)
 
+-- where a crash leaves just what a read gives, what is said of that is said of what it leaves
+here_left : (name : List ℕ) (h : List Event) (P : (log first second : List ℕ) → Type 0)
+    → IsSettled (steps_of name 0 h)
+    → IsSettled (steps_of name 1 h)
+    → IsSettled (steps_of name 2 h)
+    → P (given_of name 0 h) (given_of name 1 h) (given_of name 2 h)
+    → FilesLeave name h h P
+here_left name h P log first second here = files_started name P h (λ l a b is_l is_a is_b.
+    subst (λ (x : List ℕ). P x a b) (sym (log l is_l))
+    (subst (λ (x : List ℕ). P (given_of name 0 h) x b) (sym (first a is_a))
+    (subst (λ (x : List ℕ). P (given_of name 0 h) (given_of name 1 h) x) (sym (second b is_b)) here)))
+
 pub survives_idle : (nt dt : Type 0) (server servers port : ℕ) (name : List ℕ) (n0 n1 : NetTold)
     (d0 d1 : DiskTold)
     → n1 ≡ n0
@@ -159,8 +175,10 @@ pub survives_idle : (nt dt : Type 0) (server servers port : ℕ) (name : List �
     → Survives nt dt server servers port name n0 n1 d0 d1
 survives_idle nt dt server servers port name n0 n1 d0 d1 net disk = record {
   old = None;
+  checkpoint = None;
   inputs = [];
   is_old = inl refl;
+  folds = λ tells agree. refl;
   read = refl;
   leaves = λ tells settled entries opens.
       let more = begin_entry server servers (is_empty entries) ∷ [] in
@@ -170,19 +188,26 @@ survives_idle nt dt server servers port name n0 n1 d0 d1 net disk = record {
       let Q : DiskTold → Type 0 = λ d. LeavesSince 0 (choosing name d0) d P in
       subst Q (sym (disk tells)) here;
   kept = λ listens tells settled entries opens image is. inl (ap (λ (n : NetTold). n.sent) net);
+  agree = λ tells log first second entries opens agree.
+      let here = here_left name d0.history (Agree server servers) log first second agree in
+      let Q : DiskTold → Type 0 = λ d. FilesLeave name d0.history d.history (Agree server servers) in
+      subst Q (sym (disk tells)) here;
 }
 
 -- what it went on with, if it took any, is what it found under its name
-old_named : (dt : Type 0) (server servers : ℕ) (old : Old) (name : List ℕ) (chosen d0 : DiskTold)
-    (gave : List (Option Datagram)) (moments words : List ℕ)
+old_named : (dt : Type 0) (server servers : ℕ) (checkpoint : Option Checkpoint) (old : Old)
+    (name : List ℕ) (chosen d0 : DiskTold) (gave : List (Option Datagram)) (moments words : List ℕ)
     → (dt → chosen ≡ choosing name d0)
-    → (gave ≡ []) ⊎ (dt → IsOldFile server servers old (given chosen 0))
+    → (gave ≡ []) ⊎ (dt → IsFound server servers checkpoint old (given chosen 0) (given chosen 1)
+    (given chosen 2))
     → (asked gave moments words ≡ [])
-    ⊎ (dt → IsOldFile server servers old (given_of name 0 d0.history))
-old_named dt server servers old name chosen d0 gave moments words is (inl none) =
+    ⊎ (dt → IsFound server servers checkpoint old (given_of name 0 d0.history)
+    (given_of name 1 d0.history) (given_of name 2 d0.history))
+old_named dt server servers checkpoint old name chosen d0 gave moments words is (inl none) =
     inl (ap (λ (g : List (Option Datagram)). asked g moments words) none)
-old_named dt server servers old name chosen d0 gave moments words is (inr found) = inr (λ tells.
-    subst (λ (d : DiskTold). IsOldFile server servers old (given d 0)) (is tells) (found tells))
+old_named dt server servers checkpoint old name chosen d0 gave moments words is (inr found) =
+    inr (λ tells. subst (λ (d : DiskTold).
+    IsFound server servers checkpoint old (given d 0) (given d 1) (given d 2)) (is tells) (found tells))
 
 -- what is said of the disk as it was when the name was chosen, is said of the disk before
 pub survives_named : (nt ct dt : Type 0) (server servers port turns : ℕ) (s : Status)
@@ -194,8 +219,14 @@ survives_named nt ct dt server servers port turns s n0 n1 t0 t1 c0 c1 name chose
     let inputs = asked x.gave x.moments x.words in
     record {
       old = x.old;
+      checkpoint = x.checkpoint;
       inputs = inputs;
-      is_old = old_named dt server servers x.old name chosen d0 x.gave x.moments x.words is x.is_old;
+      is_old = old_named dt server servers x.checkpoint x.old name chosen d0 x.gave x.moments x.words
+          is x.is_old;
+      folds = λ tells.
+          let Q : DiskTold → Type 0 = λ d. Agree server servers (given d 0) (given d 1) (given d 2)
+          → begun server servers x.checkpoint x.old ≡ begun server servers None x.old in
+          subst Q (is tells) (x.folds tells);
       read = x.read;
       leaves = λ tells.
           let Q : DiskTold → Type 0 = λ d. IsSettled (steps d 0) → (entries : List (List ℕ))
@@ -213,9 +244,16 @@ survives_named nt ct dt server servers port turns s n0 n1 t0 t1 c0 c1 name chose
           × OpensTo image (entries ++ begin_entry server servers (is_empty entries)
           ∷ entries_for (take k inputs))
           × ((n : ℕ) × (n1.sent ≡ n0.sent
-          ++ take n (sends port (begun server servers x.old) (take k inputs))))) in
+          ++ take n (sends port (begun server servers x.checkpoint x.old) (take k inputs))))) in
           subst (λ own. Q (choosing name d0) own) at
           (subst (λ d. Q d d1.chosen) (is tells) (x.kept listens tells));
+      agree = λ tells log first second.
+          let Q : DiskTold → Type 0 = λ d. IsSettled (steps d 0) → AreSettled d
+          → (entries : List (List ℕ)) → OpensTo (given d 0) entries
+          → Agree server servers (given d 0) (given d 1) (given d 2)
+          → AgreeSince server servers d d1 in
+          let there : Q (choosing name d0) = subst Q (is tells) (x.agree tells) in
+          there log (record { first = first; second = second });
     }
 
 -- what was found in the file is said of the file of the name

@@ -1,5 +1,5 @@
 -- What a node and a call do on a net, a disk and a clock.
-use Rattle.std.specs.Prelude.{ℕ, ◌≡◌, ◌+◌, ◌⊎◌, List, [], ◌∷◌, ◌++◌, take}
+use Rattle.std.specs.Prelude.{ℕ, ◌≡◌, ◌+◌, ◌⊎◌, List, [], ◌∷◌, ◌++◌, take, None}
 use Rattle.std.specs.declared.option.Option.{Option}
 use Rattle.pg_client.specs.Asks as client
 use Rattle.pg_command.specs.declared.command.Command.{Command}
@@ -13,11 +13,13 @@ use Rattle.pg_host.specs.Causes.{IsFault}
 use Rattle.pg_host.specs.Entries.{entries_for}
 use Rattle.pg_host.specs.Host.{AreRead, IsAnswered, Served}
 use Rattle.pg_host.specs.declared.asking.Asked.{Asked}
-use Rattle.pg_host.specs.Logs.{IsOldFile, Old, OpensToSome, begin_entry, begun, is_empty}
+use Rattle.pg_host.specs.Logs.{IsFound, Old, OpensToSome, begin_entry, begun, is_empty}
+use Rattle.pg_host.specs.Slots.{Agree, FilesLeave}
 use Rattle.pg_host.specs.Sends.{sends}
 use Rattle.pg_log.specs.Bytes.{OpensTo}
 use Rattle.pg_net.specs.Clock.{Told as ClockTold}
 use Rattle.pg_net.specs.Net.{Told as NetTold}
+use Rattle.pg_saving.specs.declared.loading.Checkpoint.{Checkpoint}
 
 -- the files of this name are spoken of from now on
 abbrev pub choosing : List ℕ → DiskTold → DiskTold
@@ -33,8 +35,8 @@ pub record IsIdle (dt : Type 0) (s : Status) (n0 n1 : NetTold) (t0 t1 : ℕ) (c0
   pub disk : dt → d1 ≡ d0
 
 -- the files of this name were chosen, and then it was served
-abbrev pub ServesNamed : (nt ct dt : Type 0) (server servers port turns : ℕ) → Status → NetTold → NetTold
-    → ℕ → ℕ → ClockTold → ClockTold → List ℕ → DiskTold → DiskTold → Type 0
+abbrev pub ServesNamed : (nt ct dt : Type 0) (server servers port turns : ℕ) → Status → NetTold
+    → NetTold → ℕ → ℕ → ClockTold → ClockTold → List ℕ → DiskTold → DiskTold → Type 0
 ServesNamed nt ct dt server servers port turns s n0 n1 t0 t1 c0 c1 name d0 d1 =
     (chosen : DiskTold) × (dt → chosen ≡ choosing name d0)
     × Served nt ct dt server servers port turns s n0 n1 t0 t1 c0 c1 chosen d1
@@ -63,11 +65,21 @@ Does nt ct dt (Help help) s n0 n1 t0 t1 c0 c1 d0 d1 k0 k1 = Unit {0}
 -- ends, with whatever status, a crash leaves the entry of each input of which a packet was sent.
 -- Where it took any, it went on with the log that it found; and the entries are read again as the
 -- inputs, so who starts on what a crash left takes up these.
+--
+-- What it began with is fixed by what it found: where the slots of the name load to a checkpoint
+-- that is usable over its log, whoever made it, it folded the entries behind that on it, and else
+-- all. Where the slots agreed with the log, this is the fold of the log; and then they agree with
+-- it at each moment since, whatever a crash leaves of the three files.
 pub record Survives (nt dt : Type 0) (server servers port : ℕ) (name : List ℕ) (n0 n1 : NetTold)
     (d0 d1 : DiskTold) : Type 0 where
   pub old : Old
+  pub checkpoint : Option Checkpoint
   pub inputs : List Asked
-  pub is_old : (inputs ≡ []) ⊎ (dt → IsOldFile server servers old (given_of name 0 d0.history))
+  pub is_old : (inputs ≡ []) ⊎ (dt → IsFound server servers checkpoint old
+      (given_of name 0 d0.history) (given_of name 1 d0.history) (given_of name 2 d0.history))
+  pub folds : dt → Agree server servers (given_of name 0 d0.history)
+      (given_of name 1 d0.history) (given_of name 2 d0.history)
+      → begun server servers checkpoint old ≡ begun server servers None old
   pub read : AreRead inputs
   pub leaves : dt → IsSettled (steps_of name 0 d0.history) → (entries : List (List ℕ))
       → OpensTo (given_of name 0 d0.history) entries
@@ -80,7 +92,13 @@ pub record Survives (nt dt : Type 0) (server servers port : ℕ) (name : List �
       × OpensTo image (entries ++ begin_entry server servers (is_empty entries)
       ∷ entries_for (take k inputs))
       × ((n : ℕ) × (n1.sent ≡ n0.sent
-      ++ take n (sends port (begun server servers old) (take k inputs)))))
+      ++ take n (sends port (begun server servers checkpoint old) (take k inputs)))))
+  pub agree : dt → IsSettled (steps_of name 0 d0.history) → IsSettled (steps_of name 1 d0.history)
+      → IsSettled (steps_of name 2 d0.history) → (entries : List (List ℕ))
+      → OpensTo (given_of name 0 d0.history) entries
+      → Agree server servers (given_of name 0 d0.history)
+      (given_of name 1 d0.history) (given_of name 2 d0.history)
+      → FilesLeave name d0.history d1.history (Agree server servers)
 
 abbrev pub IsSafe : (nt dt : Type 0) → Command → NetTold → NetTold → DiskTold → DiskTold → Type 0
 IsSafe nt dt (Replay metered) n0 n1 d0 d1 = Unit {0}

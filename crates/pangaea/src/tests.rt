@@ -31,6 +31,23 @@ const METERED: &[u8] = b"pangaea 1 2\n\
               settle 9 20\n\
               meter off 4\n";
 
+/// Plain use of one server, and a meter that is taken off.
+const PLAIN: &[u8] = b"pangaea 1 1\n\
+              call 1 10 mkdir /a\n\
+              call 1 11 create /a/x last\n\
+              call 1 12 write /a/x 0 68656c6c6f\n\
+              call 1 13 read /a/x 0 100\n\
+              call 1 14 ls /a 0\n\
+              meter off 2\n";
+
+/// What is written of it up to the meter's line.
+const PLAIN_WRITTEN: &[u8] = b"call 1 mkdir -> made d1.1\n\
+              call 1 create -> made f1.2\n\
+              call 1 write -> wrote 13@1\n\
+              call 1 read -> bytes 68656c6c6f\n\
+              call 1 ls -> names 1 x=f1.2\n\
+              meter bodies 0\n";
+
 /// A meter that counts how often it is dropped.
 struct Counted {
     drops: Rc<Cell<u64>>,
@@ -66,7 +83,7 @@ impl Meter for Counted {
 #[test]
 fn drops_each_meter_once(rt: HostRuntime) -> Result<(), Fail> {
     let alloc = rt.alloc();
-    let rows: [(&[&str], &[u8], &[u64], Status); 13] = [
+    let rows: [(&[&str], &[u8], &[u64], Status); 14] = [
         (&[], METERED, &[], Status::Usage(1)),
         (&["node", "--help"], b"", &[], Status::Done),
         (&["--help"], b"", &[3], Status::WriteFault),
@@ -74,6 +91,7 @@ fn drops_each_meter_once(rt: HostRuntime) -> Result<(), Fail> {
         (&["replay", "--meters"], METERED, &[], Status::Done),
         (&["replay", "--meters"], METERED, &[3], Status::WriteFault),
         (&["replay", "--meters"], METERED, &[18], Status::WriteFault),
+        (&["replay", "--meters"], PLAIN, &[23], Status::WriteFault),
         (
             &["replay", "--meters"],
             b"pangaea 1 1\nlose 01\n",
@@ -102,10 +120,10 @@ fn drops_each_meter_once(rt: HostRuntime) -> Result<(), Fail> {
         let mut sink = MemorySink::new(alloc, failing.to_vec(alloc)?).with_chunk(7);
         let drops = Rc::new(alloc, Cell::new(0u64))?;
         let mut meters: Vec<Box<dyn Meter>> = Vec::new(alloc);
-        for _ in 0..3u32 {
+        for kind in [MeterKind::Packets, MeterKind::Bodies, MeterKind::Repeats] {
             let meter = Counted {
                 drops: drops.clone()?,
-                counter: Counter::new(MeterKind::Packets),
+                counter: Counter::new(kind),
             };
             meters.push(Box::new(alloc, meter)?)?;
         }
@@ -124,7 +142,35 @@ fn drops_each_meter_once(rt: HostRuntime) -> Result<(), Fail> {
         );
         assert!(rt; ended == status);
         assert!(rt; drops.get() == 3);
+        // the twenty-fourth write comes behind the line of the meter that is taken off
+        assert!(rt; input != PLAIN || sink.bytes().starts_with(PLAIN_WRITTEN));
     }
+    Ok(())
+}
+
+/// A read that fails in mid-stream ends a replay, which has written nothing by then.
+#[test]
+fn a_third_read_fails(rt: HostRuntime) -> Result<(), Fail> {
+    let alloc = rt.alloc();
+    let words = command(alloc, &["replay"])?;
+    let mut source = MemorySource::new(PLAIN.to_vec(alloc)?, [2].to_vec(alloc)?).with_chunk(7);
+    let mut sink = MemorySink::new(alloc, Vec::new(alloc));
+    let mut net = MemoryNet::new(alloc, Vec::new(alloc), Vec::new(alloc));
+    let mut disk = MemoryDisk::new(alloc, Vec::new(alloc));
+    let mut clock = MemoryClock::new(Vec::new(alloc), Vec::new(alloc));
+    let ended = run(
+        alloc,
+        &words,
+        &mut source,
+        &mut sink,
+        &mut net,
+        &mut disk,
+        &mut clock,
+        Vec::new(alloc),
+    );
+    assert!(rt; ended == Status::ReadFault);
+    assert!(rt; sink.bytes().is_empty());
+    assert!(rt; source.bytes().len() + 14 == PLAIN.len());
     Ok(())
 }
 

@@ -32,7 +32,7 @@ ok_inputs : (own : List Asked) → map ok_of own ≡ map ok (inputs_of own)
 ok_inputs [] = refl
 ok_inputs (a ∷ own) = λ i. ok_of a ∷ ok_inputs own i
 
-read_take : (k : ℕ) (own : List Asked) → AreRead own → AreRead (take k own)
+pub read_take : (k : ℕ) (own : List Asked) → AreRead own → AreRead (take k own)
 read_take zero own read = refl
 read_take (suc k) [] read = refl
 read_take (suc k) (a ∷ own) read =
@@ -41,7 +41,7 @@ read_take (suc k) (a ∷ own) read =
     let more : map input_of (entries_for own) ≡ map ok_of own = cc in
     λ i. head i ∷ read_take k own more i
 
-are_inputs : (own : List Asked) → AreRead own → AreInputs (entries_for own) (inputs_of own)
+pub are_inputs : (own : List Asked) → AreRead own → AreInputs (entries_for own) (inputs_of own)
 are_inputs own read = record { spelled = spelled_inputs own; read = read ∙ ok_inputs own }
 
 module _ (written : AreWritten) (server servers : ℕ) (few : server ≤ 64) (most : servers ≤ 64) (own : List Asked) (read : AreRead own) where
@@ -77,15 +77,15 @@ goes_on_log written server servers k old entries own few most log read = log_at 
 
 -- ---- what it holds
 
-behind_all : (s : Store) (own : List Asked) → store_behind s (inputs_of own) ≡ after_all s own
+pub behind_all : (s : Store) (own : List Asked) → store_behind s (inputs_of own) ≡ after_all s own
 behind_all s [] = refl
 behind_all s (a ∷ own) = behind_all (effect_of s a.input).store own
 
-behind-append : (s : Store) (is js : List Input) → store_behind s (is ++ js) ≡ store_behind (store_behind s is) js
+pub behind-append : (s : Store) (is js : List Input) → store_behind s (is ++ js) ≡ store_behind (store_behind s is) js
 behind-append s [] js = refl
 behind-append s (i ∷ is) js = behind-append (effect_of s i).store is js
 
-pub goes_on_begun : (server servers : ℕ) (old : Old) (own : List Asked) → begun server servers (goes_on old own) ≡ (effect_of (after_all (begun server servers old) own) Restart).store
+pub goes_on_begun : (server servers : ℕ) (old : Old) (own : List Asked) → begun server servers None (goes_on old own) ≡ (effect_of (after_all (begun server servers None old) own) Restart).store
 goes_on_begun server servers None own = ap (λ (s : Store). (effect_of s Restart).store) (behind_all (new_store servers server) own)
 goes_on_begun server servers (Some inputs) own =
     ap (λ (s : Store). (effect_of s Restart).store)

@@ -7,6 +7,7 @@ use Rattle.pg_host.specs.Causes.{IsEnd, IsFault, IsRefusal, IsWhole}
 use Rattle.pg_host.specs.Host.{IsAnswered}
 use Rattle.pg_host.specs.Logs.{IsBadLog, IsOtherLog, IsOwnLog}
 use Rattle.pg_host.specs.Starts.{IsUnstarted}
+use Rattle.pg_host.proofs.Refused.{no_refusal_fault, no_refusal_whole}
 use Rattle.pg_host.proofs.Logs.{not_bad_other, not_bad_own, not_own_other, one_bad_place, one_other}
 
 -- ---- it did not end by itself
@@ -17,6 +18,12 @@ IsPart s = (s ≡ status.Done → ⊥) × (s ≡ status.TurnsSpent → ⊥)
 pub not_whole : (s : Status) → IsPart s → IsWhole s → ⊥
 not_whole s part (inl is) = part.0 is
 not_whole s part (inr is) = part.1 is
+
+pub done_not_spent : status.Done ≡ status.TurnsSpent → ⊥
+done_not_spent is = cc
+
+pub spent_not_done : status.TurnsSpent ≡ status.Done → ⊥
+spent_not_done is = cc
 
 part_memory : (s : Status) → s ≡ status.OutOfMemory → IsPart s
 part_memory s is = (λ done. (let e : status.OutOfMemory ≡ status.Done = sym is ∙ done in cc), λ spent. (let e : status.OutOfMemory ≡ status.TurnsSpent = sym is ∙ spent in cc))
@@ -68,6 +75,11 @@ module _ (l m n o h i j k : ℕ) (net_before : l ≤ m) (net_behind : n ≤ o) (
   pub later_or : IsWhole s ⊎ IsFault m n i j s → IsWhole s ⊎ IsFault l o h k s
   later_or (inl whole) = inl whole
   later_or (inr fault) = inr (later_fault fault)
+
+-- it went on with its log
+pub runs_no_refusal : (m n k l : ℕ) (s : Status) → IsWhole s ⊎ IsFault m n k l s → IsRefusal s → ⊥
+runs_no_refusal m n k l s (inl whole) = no_refusal_whole s whole
+runs_no_refusal m n k l s (inr fault) = no_refusal_fault m n k l s fault
 
 pub run_end : (m n k l : ℕ) (s : Status) → IsWhole s ⊎ IsFault m n k l s → IsEnd m n k l s
 run_end m n k l s (inl whole) = inl whole

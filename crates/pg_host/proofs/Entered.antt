@@ -1,5 +1,5 @@
 -- The input of a packet that was taken, whole or not.
-use Rattle.std.proofs.Common.{◌≡◌, ◌⊎◌, inl, inr, ℕ, Bool, true, false, ◌||◌, List, [], ◌∷◌, ◌++◌, take, Option, Some, None, Ok, refl, sym, ◌∙◌, ap, subst, arith}
+use Rattle.std.proofs.Common.{◌≡◌, ◌⊎◌, inl, inr, ℕ, Bool, true, false, ◌||◌, List, [], ◌∷◌, ◌++◌, length, take, Option, Some, None, Ok, refl, sym, ◌∙◌, ap, subst, arith}
 use Rattle.std.proofs.lemmas.List.{append-nil}
 use Rattle.std.proofs.Math.Bool.{or-false}
 use Rattle.pg_disk.proofs.Tries.{keeps_none}
@@ -62,13 +62,14 @@ module _ (port : ℕ) (x : Asked) (a b : Scene) (entries : List (List ℕ)) wher
 
 module _ (nt ct dt : Type 0) (port from : ℕ) (d : DatagramValue) (a b : Scene) where
   -- a reply, which asks nothing
-  pub works_none : Asks ct from d None a.clock b.clock → b.net ≡ a.net → b.store ≡ a.store → b.disk ≡ a.disk → b.log ≡ a.log → Works nt ct dt port from d false a b
+  pub works_none : Asks ct from d None a.clock b.clock → b.net ≡ a.net → b.store ≡ a.store → b.disk ≡ a.disk → b.log ≡ a.log → Works nt ct dt port from d None a b
   works_none k same stays disk_stays log_stays = record {
     moments = k.moments;
     words = k.words;
     moment = k.moment;
     word = k.word;
     stops = subst (λ (l : List Asked). StopsAs false l) (sym k.is) refl;
+    number = ap length k.is;
     read = subst (λ (l : List Asked). AreRead l) (sym k.is) refl;
     noted_moments = k.noted_moments;
     noted_words = k.noted_words;
@@ -91,13 +92,14 @@ module _ (nt ct dt : Type 0) (port from : ℕ) (d : DatagramValue) (a b : Scene)
     leaves_one tells entries stands = some_leave a.disk b.disk entries x (any_moment tells entries stands)
 
     pub works_one : (nt → b.net ≡ with_all a.net out) → b.store ≡ (effect_of a.store x.input).store
-        → (dt → (entries : List (List ℕ)) → Stands a.log a.disk entries → Stands b.log b.disk (entries ++ entry_for x.input ∷ [])) → Works nt ct dt port from d stop a b
+        → (dt → (entries : List (List ℕ)) → Stands a.log a.disk entries → Stands b.log b.disk (entries ++ entry_for x.input ∷ [])) → Works nt ct dt port from d (Some stop) a b
     works_one sent store kept = record {
       moments = k.moments;
       words = k.words;
       moment = k.moment;
       word = k.word;
       stops = subst (λ (l : List Asked). StopsAs stop l) (sym k.is) (one_stops stop x is);
+      number = ap length k.is;
       read = subst (λ (l : List Asked). AreRead l) (sym k.is) (one_read x read);
       noted_moments = k.noted_moments;
       noted_words = k.noted_words;

@@ -1,7 +1,7 @@
 -- How the entries of a log are read, one behind another.
 use Rattle.std.proofs.Common.{◌≡◌, ◌⊎◌, inl, inr, ℕ, suc, ◌+◌, ◌≤◌, ◌<◌, ◌^◌, List, [], ◌∷◌, ◌++◌, length, take, drop, map, get_or, Result, Ok, Err, refl, sym, ◌∙◌, ap, subst, arith, length-append, w32}
 use Rattle.std.specs.Int.{to_be_bytes}
-use Rattle.std.proofs.lemmas.List.{take_more, take_all, map-append}
+use Rattle.std.proofs.lemmas.List.{drop_all, drop-append-le, length-map, length-take, take_more, take_all, map-append}
 use Rattle.std.proofs.Math.Seq.{split_at}
 use Rattle.law_lengths.specs.Laws.{store_behind}
 use Rattle.pg_event.specs.declared.status.Status.{Status}
@@ -12,7 +12,7 @@ use Rattle.law_lengths.specs.pg_server.declared.input.Input.{Input}
 use Rattle.pg_store.specs.declared.store.Store.{Store}
 use Rattle.pg_host.specs.Entries.{entry_for, input_of, start_of}
 use Rattle.pg_host.specs.Logs.{AreInputs, IsBadEntry, IsStart}
-use Rattle.pg_host.specs.Starts.{IsBadIn, IsFold, IsFoldedTo, IsNoFold, IsReadTo, IsUnfolded, IsUnread}
+use Rattle.pg_host.specs.Starts.{IsBadIn, IsFold, IsFoldedTo, IsNoFold, IsTakenBehind, IsReadTo, IsUnfolded, IsUnread}
 
 abbrev ok : Input → Result Input ℕ
 ok i = Ok i
@@ -36,13 +36,13 @@ blocks_length (e ∷ a) b =
     let first : length (blocks (e ∷ a)) ≡ length (block_of e) + length (blocks a) = length-append (block_of e) (blocks a) in
     omega (arith, more, whole, first)
 
-first_length : (e : List ℕ) (a : List (List ℕ)) → length (blocks (e ∷ a)) ≡ 5 + length e + length (blocks a)
+pub first_length : (e : List ℕ) (a : List (List ℕ)) → length (blocks (e ∷ a)) ≡ 5 + length e + length (blocks a)
 first_length e a =
     let one = block_length e in
     let whole : length (blocks (e ∷ a)) ≡ length (block_of e) + length (blocks a) = length-append (block_of e) (blocks a) in
     omega (arith, one, whole)
 
-front_length : (a : List (List ℕ)) → length (front a) ≡ 16 + length (blocks a)
+pub front_length : (a : List (List ℕ)) → length (front a) ≡ 16 + length (blocks a)
 front_length a =
     let sixteen : length start ≡ 16 = refl in
     omega (arith, sixteen, length-append start (blocks a))
@@ -89,13 +89,30 @@ module _ (entries : List (List ℕ)) (k : ℕ) (entry : List ℕ) (within : k < 
   behind_push s [] input = refl
   behind_push s (i ∷ done) input = behind_push (effect_of s i).store done input
 
-  pub fold_more : (from gate next : ℕ) (input : Input) (s0 s1 s2 : Store) → IsFoldedTo entries k from gate s0 s1 → input_of entry ≡ Ok input → entry ≡ entry_for input → next ≡ gate + 5 + length entry
-      → s2 ≡ (effect_of s1 input).store → IsFoldedTo entries (k + 1) from next s0 s2
-  fold_more from gate next input s0 s1 s2 so_far found spelled next_is stepped = record {
+  module _ (skip : ℕ) (s0 s1 s2 : Store) (done : List Input) (input : Input) (read : AreInputs (take k entries) done) (so_far : s1 ≡ store_behind s0 (drop skip done)) where
+    many : length done ≡ k
+    many =
+        let whole : length (take k entries) ≡ length done = ap length read.spelled ∙ length-map done entry_for in
+        omega (arith, whole, within, length-take k entries)
+
+    -- the server took it, or only read it
+    taken_behind : IsTakenBehind k skip s1 input s2 → s2 ≡ store_behind s0 (drop skip (done ++ input ∷ []))
+    taken_behind (inl before) =
+        let one : length (done ++ input ∷ []) ≡ length done + 1 = length-append done (input ∷ []) in
+        let few : length done ≤ skip = omega (arith, many, before.0) in
+        let more : length (done ++ input ∷ []) ≤ skip = omega (arith, many, before.0, one) in
+        before.1 ∙ so_far ∙ ap (store_behind s0) (drop_all skip done few ∙ sym (drop_all skip (done ++ input ∷ []) more))
+    taken_behind (inr behind) =
+        let reached : skip ≤ length done = omega (arith, many, behind.0) in
+        behind.1 ∙ ap (λ (s : Store). (effect_of s input).store) so_far ∙ sym (behind_push s0 (drop skip done) input) ∙ ap (store_behind s0) (sym (drop-append-le skip done (input ∷ []) reached))
+
+  pub fold_more : (from gate next skip : ℕ) (input : Input) (s0 s1 s2 : Store) → IsFoldedTo entries skip k from gate s0 s1 → input_of entry ≡ Ok input → entry ≡ entry_for input → next ≡ gate + 5 + length entry
+      → IsTakenBehind k skip s1 input s2 → IsFoldedTo entries skip (k + 1) from next s0 s2
+  fold_more from gate next skip input s0 s1 s2 so_far found spelled next_is stepped = record {
     done = so_far.done ++ input ∷ [];
     read = inputs_on so_far.done input so_far.read found spelled;
     gate_is = gate_on from gate next so_far.gate_is next_is;
-    store = stepped ∙ ap (λ (s : Store). (effect_of s input).store) so_far.store ∙ sym (behind_push s0 so_far.done input);
+    store = taken_behind skip s0 s1 s2 so_far.done input so_far.read so_far.store stepped;
   }
 
   -- it is none
@@ -119,8 +136,13 @@ none_read = record { spelled = refl; read = refl }
 pub read_none : (entries : List (List ℕ)) (from : ℕ) → IsReadTo entries 0 from from
 read_none entries from = record { done = []; read = none_read; gate_is = let none : length (blocks []) ≡ 0 = refl in omega (arith, none) }
 
-pub fold_none : (entries : List (List ℕ)) (from : ℕ) (s : Store) → IsFoldedTo entries 0 from from s s
-fold_none entries from s = record { done = []; read = none_read; gate_is = (let none : length (blocks []) ≡ 0 = refl in omega (arith, none)); store = refl }
+pub fold_none : (entries : List (List ℕ)) (skip from : ℕ) (s : Store) → IsFoldedTo entries skip 0 from from s s
+fold_none entries skip from s = record {
+  done = [];
+  read = none_read;
+  gate_is = (let none : length (blocks []) ≡ 0 = refl in omega (arith, none));
+  store = ap (store_behind s) (sym (drop_all skip [] (omega arith)));
+}
 
 -- ---- all entries
 
@@ -130,8 +152,8 @@ all_read entries k done all read = subst (λ (es : List (List ℕ)). AreInputs e
 pub read_all : (entries : List (List ℕ)) (k from gate : ℕ) → length entries ≤ k → IsReadTo entries k from gate → (inputs : List Input) × AreInputs entries inputs
 read_all entries k from gate all so_far = (so_far.done, all_read entries k so_far.done all so_far.read)
 
-pub fold_all : (entries : List (List ℕ)) (k from gate : ℕ) (s0 s1 : Store) → length entries ≤ k → IsFoldedTo entries k from gate s0 s1 → IsFold entries s0 s1
-fold_all entries k from gate s0 s1 all so_far = record { inputs = so_far.done; read = all_read entries k so_far.done all so_far.read; store = so_far.store }
+pub fold_all : (entries : List (List ℕ)) (skip k from gate : ℕ) (s0 s1 : Store) → length entries ≤ k → IsFoldedTo entries skip k from gate s0 s1 → IsFold entries skip s0 s1
+fold_all entries skip k from gate s0 s1 all so_far = record { inputs = so_far.done; read = all_read entries k so_far.done all so_far.read; store = so_far.store }
 
 -- ---- behind the first entry
 

@@ -2,9 +2,9 @@
 use Rattle.std.proofs.Common.{◌≡◌, inl, ℕ, ◌+◌, ◌≤◌, Bool, false, List, [], ◌++◌, length, take, Option, refl, sym, ◌∙◌, ap, subst, append_assoc, length-append, arith}
 use Rattle.std.proofs.lemmas.List.{append-nil, take_all}
 use Rattle.std.proofs.Math.Seq.{take-append-add}
-use Rattle.pg_disk.proofs.Tries.{keeps_none}
+use Rattle.pg_checkpoint.specs.Saves.{KeepsRest}
 use Rattle.pg_disk.specs.Moments.{LeavesSince}
-use Rattle.pg_disk.proofs.Moments.{keeps_then}
+use Rattle.pg_disk.specs.Told.{Told as DiskTold}
 use Rattle.pg_log.specs.Bytes.{OpensTo}
 use Rattle.pg_log.specs.Log.{Stands}
 use Rattle.pg_log.proofs.Standing.{stands_opens}
@@ -16,8 +16,10 @@ use Rattle.pg_host.specs.Entries.{entries_for}
 use Rattle.pg_host.specs.Inputs.{StopsAs, asked}
 use Rattle.pg_host.specs.Logs.{OpensToSome}
 use Rattle.pg_host.specs.Sends.{after_all, sends}
-use Rattle.pg_host.specs.Host.{AreRead, IsKept, Scene, Goes, Ends}
+use Rattle.pg_host.specs.Host.{AreRead, IsKept, LeavesSome, Scene, scene, Goes, Ends}
+use Rattle.pg_host.specs.Slots.{KeepsFiles}
 use Rattle.pg_host.proofs.Asked.{asked-append, after_all-append, enough-append, nearly-append, sends-append, sent_on, stops-append}
+use Rattle.pg_host.proofs.Files.{files_none, files_of_slots, files_then, log_leaves, log_stands}
 use Rattle.pg_host.proofs.Leaves.{entries-append, leaves_on, none_leaves, read-append, regroup}
 
 -- what is kept behind other inputs
@@ -38,7 +40,7 @@ kept_on port entries own more a b d sent store kept = λ image is.
     )
 
 module _ (nt ct dt : Type 0) (port : ℕ) where
-  pub goes_none : (a : Scene) → Goes nt ct dt port 0 false a a
+  abbrev pub goes_none : (a : Scene) → Goes nt ct dt port 0 false a a
   goes_none a = record {
     gave = [];
     moments = [];
@@ -54,12 +56,12 @@ module _ (nt ct dt : Type 0) (port : ℕ) where
     sent = λ tells. sym (append-nil a.net.sent);
     store = refl;
     takes = taken-none a.takes;
-    others = λ tells. keeps_none 0 a.disk;
+    others = λ tells. files_none a.disk;
     stands = λ tells entries stands. subst (λ (es : List (List ℕ)). Stands a.log a.disk es) (sym (append-nil entries)) stands;
     leaves = λ tells entries stands. none_leaves a.log a.disk entries [] stands;
   }
 
-  pub goes_then : (m n : ℕ) (stop : Bool) (a b d : Scene) → Goes nt ct dt port m false a b → Goes nt ct dt port n stop b d → Goes nt ct dt port (m + n) stop a d
+  abbrev pub goes_then : (m n : ℕ) (stop : Bool) (a b d : Scene) → Goes nt ct dt port m false a b → Goes nt ct dt port n stop b d → Goes nt ct dt port (m + n) stop a d
   goes_then m n stop a b d g h =
       let own : List Asked = asked g.gave g.moments g.words in
       let more : List Asked = asked h.gave h.moments h.words in
@@ -83,11 +85,11 @@ module _ (nt ct dt : Type 0) (port : ℕ) where
             ∙ ap (λ (l : List Asked). a.net.sent ++ sends port a.store l) (sym all);
         store = h.store ∙ ap (λ (s : Store). after_all s more) g.store ∙ sym (after_all-append a.store own more) ∙ ap (after_all a.store) (sym all);
         takes = taken-add m n a.takes b.takes d.takes g.takes h.takes;
-        others = λ tells. keeps_then 0 a.disk b.disk d.disk (g.others tells) (h.others tells);
+        others = λ tells. files_then a.disk b.disk d.disk (g.others tells) (h.others tells);
         stands = λ tells entries stands. subst (λ (l : List Asked). Stands d.log d.disk (entries ++ entries_for l)) (sym all)
             (subst (λ (es : List (List ℕ)). Stands d.log d.disk es) (regroup entries own more) (h.stands tells (entries ++ entries_for own) (g.stands tells entries stands)));
         leaves = λ tells entries stands. subst (λ (l : List (List ℕ)). LeavesSince 0 a.disk d.disk (OpensToSome entries l)) (sym (entries-append own more) ∙ ap entries_for (sym all))
-            (leaves_on a.disk b.disk d.disk entries (entries_for own) (entries_for more) (g.others tells) (g.leaves tells entries stands)
+            (leaves_on a.disk b.disk d.disk entries (entries_for own) (entries_for more) (g.others tells).chosen (g.leaves tells entries stands)
             (h.leaves tells (entries ++ entries_for own) (g.stands tells entries stands)));
       }
 
@@ -115,13 +117,49 @@ module _ (nt ct dt : Type 0) (port : ℕ) where
                   ∙ ap (λ (l : List Asked). a.net.sent ++ take (length (sends port a.store own) + k) (sends port a.store l)) (sym all),
             );
         takes = subst (λ (k : ℕ). IsTaken k a.takes d.takes) (omega (arith, length-append g.gave h.gave, g.number)) (taken-add m (length h.gave) a.takes b.takes d.takes g.takes h.takes);
-        others = λ tells. keeps_then 0 a.disk b.disk d.disk (g.others tells) (h.others tells);
+        others = λ tells. files_then a.disk b.disk d.disk (g.others tells) (h.others tells);
         leaves = λ tells entries stands. subst (λ (l : List (List ℕ)). LeavesSince 0 a.disk d.disk (OpensToSome entries l)) (sym (entries-append own more) ∙ ap entries_for (sym all))
-            (leaves_on a.disk b.disk d.disk entries (entries_for own) (entries_for more) (g.others tells) (g.leaves tells entries stands)
+            (leaves_on a.disk b.disk d.disk entries (entries_for own) (entries_for more) (g.others tells).chosen (g.leaves tells entries stands)
             (h.leaves tells (entries ++ entries_for own) (g.stands tells entries stands)));
         kept = λ net_tells tells entries stands. subst (λ (l : List Asked). IsKept port entries l a d) (sym all)
             (kept_on port entries own more a b d (g.sent net_tells) g.store (h.kept net_tells tells (entries ++ entries_for own) (g.stands tells entries stands)));
       }
+
+  -- what was saved behind it
+  module _ (count : ℕ) (a b : Scene) (disk : DiskTold) (rest : dt → KeepsRest b.disk disk) where
+    abbrev pub with_disk : Scene
+    with_disk = scene b.net b.takes b.clock disk b.log b.store
+
+    still : dt → (entries : List (List ℕ)) → Stands b.log b.disk entries → LeavesSince 0 b.disk disk (OpensToSome entries [])
+    still tells entries stands =
+        log_leaves b.disk disk (rest tells) (OpensToSome entries [])
+        (λ image is. (0, omega arith, subst (λ (es : List (List ℕ)). OpensTo image es) (sym (append-nil entries)) (stands_opens b.log b.disk entries stands image is)))
+
+    pub leaves_still : dt → (entries : List (List ℕ)) (own : List Asked) → KeepsFiles a.disk b.disk → LeavesSome entries own a.disk b.disk → Stands b.log b.disk (entries ++ entries_for own) → LeavesSome entries own a.disk disk
+    leaves_still tells entries own keeps leaves stands =
+        subst (λ (l : List (List ℕ)). LeavesSince 0 a.disk disk (OpensToSome entries l)) (append-nil (entries_for own))
+        (leaves_on a.disk b.disk disk entries (entries_for own) [] keeps.chosen leaves (still tells (entries ++ entries_for own) stands))
+
+    abbrev pub goes_saved : (stop : Bool) → Goes nt ct dt port count stop a b → Goes nt ct dt port count stop a with_disk
+    goes_saved stop g = record {
+      gave = g.gave;
+      moments = g.moments;
+      words = g.words;
+      number = g.number;
+      enough = g.enough;
+      stops = g.stops;
+      read = g.read;
+      given = g.given;
+      bound = g.bound;
+      noted_moments = g.noted_moments;
+      noted_words = g.noted_words;
+      sent = g.sent;
+      store = g.store;
+      takes = g.takes;
+      others = λ tells. files_then a.disk b.disk disk (g.others tells) (files_of_slots b.disk disk (rest tells));
+      stands = λ tells entries stands. log_stands b.disk disk (rest tells) b.log (entries ++ entries_for (asked g.gave g.moments g.words)) (g.stands tells entries stands);
+      leaves = λ tells entries stands. leaves_still tells entries (asked g.gave g.moments g.words) (g.others tells) (g.leaves tells entries stands) (g.stands tells entries stands);
+    }
 
   abbrev pub ends_of : (m n : ℕ) (stop : Bool) (a b : Scene) → m ≤ n → Goes nt ct dt port m stop a b → Ends nt ct dt port n a b
   ends_of m n stop a b within g =

@@ -4,9 +4,8 @@ use Rattle.std.proofs.lemmas.List.{append-nil, map-append, take-append-le}
 use Rattle.std.proofs.Math.Seq.{take-append-add}
 use Rattle.pg_disk.specs.Disk.{IsImage}
 use Rattle.pg_disk.specs.Told.{Told, steps}
-use Rattle.pg_disk.specs.Moments.{LeavesSince}
-use Rattle.pg_disk.specs.Synced.{KeepsOthers}
-use Rattle.pg_disk.proofs.Moments.{leaves_since_then, leaves_started, leaves_weaker}
+use Rattle.pg_disk.specs.Moments.{LeavesOnly, LeavesSince}
+use Rattle.pg_disk.proofs.Moments.{leaves_started, leaves_then, leaves_weaker}
 use Rattle.pg_log.specs.Bytes.{OpensTo}
 use Rattle.pg_log.specs.Log.{Stands, OpensWithOrWithout}
 use Rattle.pg_log.proofs.Standing.{stands_opens}
@@ -43,12 +42,13 @@ some_behind entries xs ys file opens =
       subst (λ (l : List (List ℕ)). OpensTo file l) (append_assoc entries xs (take k ys) ∙ ap (λ (l : List (List ℕ)). entries ++ l) (sym (take-append-add xs ys k))) opens.2,
     )
 
-pub leaves_on : (a b d : Told) (entries xs ys : List (List ℕ)) → KeepsOthers 0 a b → LeavesSince 0 a b (OpensToSome entries xs) → LeavesSince 0 b d (OpensToSome (entries ++ xs) ys)
+pub leaves_on : (a b d : Told) (entries xs ys : List (List ℕ)) → b.chosen ≡ a.chosen → LeavesSince 0 a b (OpensToSome entries xs) → LeavesSince 0 b d (OpensToSome (entries ++ xs) ys)
     → LeavesSince 0 a d (OpensToSome entries (xs ++ ys))
-leaves_on a b d entries xs ys keeps first second =
-    leaves_since_then 0 0 (OpensToSome entries (xs ++ ys)) a b d keeps
+leaves_on a b d entries xs ys chosen first second =
+    leaves_then a.chosen 0 (OpensToSome entries (xs ++ ys)) a.history b.history d.history
     (leaves_weaker a.chosen 0 (OpensToSome entries xs) (OpensToSome entries (xs ++ ys)) a.history b.history (some_more entries xs ys) first)
-    (leaves_weaker b.chosen 0 (OpensToSome (entries ++ xs) ys) (OpensToSome entries (xs ++ ys)) b.history d.history (some_behind entries xs ys) second)
+    (subst (λ (name : List ℕ). LeavesOnly name 0 b.history d.history (OpensToSome entries (xs ++ ys))) chosen
+    (leaves_weaker b.chosen 0 (OpensToSome (entries ++ xs) ys) (OpensToSome entries (xs ++ ys)) b.history d.history (some_behind entries xs ys) second))
 
 -- ---- inputs as entries
 

@@ -3,6 +3,9 @@ pub mod Leaves
 pub mod Asked
 pub mod Clocked
 pub mod Readable
+pub mod Files
+pub mod Agreeing
+pub mod Behind
 pub mod Going
 pub mod Entered
 pub mod Stepped
@@ -11,5 +14,9 @@ pub mod Logs
 pub mod Again
 pub mod Folds
 pub mod Starts
+pub mod Refused
 pub mod Ended
 pub mod Whole
+pub mod Turns
+pub mod Due
+pub mod Fitting

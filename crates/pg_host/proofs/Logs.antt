@@ -101,7 +101,7 @@ log_bad : (server servers place : ℕ) (inputs : List Input) (entries : List (Li
 log_bad server servers place inputs entries log b =
     log_bad_at log.first log.later b.before b.entry b.behind server servers b.at inputs log.start.read log.are.read b.bad (sym log.whole ∙ b.whole)
 
-none_bad_at : (before : List (List ℕ)) (entry : List ℕ) (behind : List (List ℕ)) → [] ≡ before ++ entry ∷ behind → ⊥
+pub none_bad_at : (before : List (List ℕ)) (entry : List ℕ) (behind : List (List ℕ)) → [] ≡ before ++ entry ∷ behind → ⊥
 none_bad_at [] entry behind whole = omega (arith, ap length whole)
 none_bad_at (z ∷ before) entry behind whole = omega (arith, ap length whole)
 
@@ -116,7 +116,7 @@ one_name a b c d is js entries log also =
     let pair : (a, b) ≡ (c, d) = sym (ap named_in log.start.read) ∙ ap (λ (l : List ℕ). named_in (start_of l)) head ∙ ap named_in also.start.read in
     (ap (λ (p : ℕ × ℕ). p.0) pair, ap (λ (p : ℕ × ℕ). p.1) pair)
 
-none_log : (server servers : ℕ) (inputs : List Input) (entries : List (List ℕ)) → entries ≡ [] → IsLogOf server servers inputs entries → ⊥
+pub none_log : (server servers : ℕ) (inputs : List Input) (entries : List (List ℕ)) → entries ≡ [] → IsLogOf server servers inputs entries → ⊥
 none_log server servers inputs entries none log = omega (arith, ap length (sym none ∙ log.whole))
 
 old_other : (server servers a b : ℕ) (old : Old) (inputs : List Input) (entries : List (List ℕ)) → IsOldLog server servers old entries → IsLogOf a b inputs entries → ((a ≡ server) × (b ≡ servers) → ⊥) → ⊥

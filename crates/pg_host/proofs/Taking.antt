@@ -22,8 +22,9 @@ use Rattle.pg_packet_write.specs.declared.datagram.Request.TheVariants as reques
 use Rattle.pg_host.specs.Entries.{entries_for}
 use Rattle.pg_host.specs.Inputs.{AreEnough, AreNearlyEnough, StopsAs, asked, asked_at, asked_by, has_stop, moments_at, words_at}
 use Rattle.pg_host.specs.Sends.{SentFirst, after_all, sends, with_all}
-use Rattle.pg_host.specs.Host.{AreRead, IsKept, LeavesSome, Scene, Goes, Ends, scene}
+use Rattle.pg_host.specs.Host.{AreRead, IsKept, LeavesSome, Scene, Goes, Ends, Turns, scene, stops}
 use Rattle.pg_host.specs.Turn.{Halts, Works, one_asked}
+use Rattle.pg_host.proofs.Files.{files_none, files_of_log}
 use Rattle.pg_host.proofs.Leaves.{none_leaves}
 use Rattle.pg_host.proofs.Lists.{with_all-none}
 
@@ -87,14 +88,14 @@ module _ (nt ct dt : Type 0) (port : ℕ) (a : Scene) (n1 : NetTold) (t1 : ℕ) 
     noted_words = λ tells. noted-none a.clock.words;
     sent = λ tells. (0, ap (λ (t : NetTold). t.sent) (same tells) ∙ sym (append-nil a.net.sent));
     takes = subst (λ (t : ℕ). IsTaken 0 a.takes t) (sym takes) (taken-none a.takes);
-    others = λ tells. keeps_none 0 a.disk;
+    others = λ tells. files_none a.disk;
     leaves = λ tells entries stands. none_leaves a.log a.disk entries [] stands;
     kept = λ net_tells tells entries stands. kept_nothing entries [] stands (ap (λ (t : NetTold). t.sent) (same net_tells));
   }
 
   module _ (g : Option Datagram) (given : nt → n1.given ≡ a.net.given ++ g ∷ []) (same : nt → n1.sent ≡ a.net.sent) (stays : nt → n1.bound ≡ a.net.bound) (one : IsTaken 1 a.takes t1) where
     -- its input was taken, from behind the take on
-    goes_one : (stop : Bool) (b : Scene) (moments words : List ℕ) (own : List Asked) → asked (g ∷ []) moments words ≡ own → AreEnough (g ∷ []) moments words → StopsAs stop own → AreRead own → b.takes ≡ t1
+    abbrev goes_one : (stop : Bool) (b : Scene) (moments words : List ℕ) (own : List Asked) → asked (g ∷ []) moments words ≡ own → AreEnough (g ∷ []) moments words → StopsAs stop own → AreRead own → b.takes ≡ t1
         → (ct → AreNoted a.clock.moments b.clock.moments moments) → (ct → AreNoted a.clock.words b.clock.words words)
         → (nt → b.net ≡ with_all n1 (sends port a.store own)) → b.store ≡ after_all a.store own → (dt → KeepsOthers 0 a.disk b.disk)
         → (dt → (entries : List (List ℕ)) → Stands a.log a.disk entries → Stands b.log b.disk (entries ++ entries_for own))
@@ -115,7 +116,7 @@ module _ (nt ct dt : Type 0) (port : ℕ) (a : Scene) (n1 : NetTold) (t1 : ℕ) 
           ∙ ap (λ (l : List Asked). a.net.sent ++ sends port a.store l) (sym is);
       store = store ∙ ap (after_all a.store) (sym is);
       takes = subst (λ (t : ℕ). IsTaken 1 a.takes t) (sym takes) one;
-      others = others;
+      others = λ tells. files_of_log a.disk b.disk (others tells);
       stands = λ tells entries standing. subst (λ (l : List Asked). Stands b.log b.disk (entries ++ entries_for l)) (sym is) (stands tells entries standing);
       leaves = λ tells entries standing. subst (λ (l : List Asked). LeavesSome entries l a.disk b.disk) (sym is) (leaves tells entries standing);
     }
@@ -143,7 +144,7 @@ module _ (nt ct dt : Type 0) (port : ℕ) (a : Scene) (n1 : NetTold) (t1 : ℕ) 
             ∙ ap (λ (l : List Asked). a.net.sent ++ take (sent tells).0 (sends port a.store l)) (sym is),
       );
       takes = subst (λ (t : ℕ). IsTaken 1 a.takes t) (sym takes) one;
-      others = others;
+      others = λ tells. files_of_log a.disk b.disk (others tells);
       leaves = λ tells entries standing. subst (λ (l : List Asked). LeavesSome entries l a.disk b.disk) (sym is) (leaves tells entries standing);
       kept = λ net_tells tells entries standing. subst (λ (l : List Asked). IsKept port entries l a b) (sym is) (λ image image_is.
           let there = kept net_tells tells entries standing image image_is in
@@ -151,7 +152,7 @@ module _ (nt ct dt : Type 0) (port : ℕ) (a : Scene) (n1 : NetTold) (t1 : ℕ) 
     }
 
     -- it asked nothing
-    goes_nothing : asked (g ∷ []) [] [] ≡ [] → AreEnough (g ∷ []) [] [] → Goes nt ct dt port 1 false a taken
+    abbrev goes_nothing : asked (g ∷ []) [] [] ≡ [] → AreEnough (g ∷ []) [] [] → Goes nt ct dt port 1 false a taken
     goes_nothing is enough =
         goes_one false taken [] [] [] is enough refl refl refl
         (λ tells. noted-none a.clock.moments) (λ tells. noted-none a.clock.words) (λ tells. with_all-none n1) refl
@@ -159,16 +160,19 @@ module _ (nt ct dt : Type 0) (port : ℕ) (a : Scene) (n1 : NetTold) (t1 : ℕ) 
         (λ tells entries standing. subst (λ (es : List (List ℕ)). Stands a.log a.disk es) (sym (append-nil entries)) standing)
         (λ tells entries standing. none_leaves a.log a.disk entries [] standing)
 
-  pub goes_idle : (nt → n1.given ≡ a.net.given ++ None ∷ []) → (nt → n1.sent ≡ a.net.sent) → (nt → n1.bound ≡ a.net.bound) → IsTaken 1 a.takes t1 → Goes nt ct dt port 1 false a taken
-  goes_idle given same stays one = goes_nothing None given same stays one refl (record { each_moment = refl; each_word = refl })
+    turns_nothing : asked (g ∷ []) [] [] ≡ [] → AreEnough (g ∷ []) [] [] → Turns nt ct dt port None a taken
+    turns_nothing is enough = (goes_nothing is enough, ap length is)
+
+  pub goes_idle : (nt → n1.given ≡ a.net.given ++ None ∷ []) → (nt → n1.sent ≡ a.net.sent) → (nt → n1.bound ≡ a.net.bound) → IsTaken 1 a.takes t1 → Turns nt ct dt port None a taken
+  goes_idle given same stays one = turns_nothing None given same stays one refl (record { each_moment = refl; each_word = refl })
 
   module _ (p : Datagram) (given : nt → n1.given ≡ a.net.given ++ Some p ∷ []) (same : nt → n1.sent ≡ a.net.sent) (stays : nt → n1.bound ≡ a.net.bound) (one : IsTaken 1 a.takes t1) where
     -- a packet that is passed over
-    pub goes_past : IsErr (packet_of p.bytes) → Goes nt ct dt port 1 false a taken
+    pub goes_past : IsErr (packet_of p.bytes) → Turns nt ct dt port None a taken
     goes_past is =
         let no_moments : moments_at (packet_of p.bytes) ≡ 0 = past_moments (packet_of p.bytes) is in
         let no_words : words_at (packet_of p.bytes) ≡ 0 = past_words (packet_of p.bytes) is in
-        goes_nothing (Some p) given same stays one (past_asked p.port (packet_of p.bytes) is)
+        turns_nothing (Some p) given same stays one (past_asked p.port (packet_of p.bytes) is)
         (record { each_moment = omega (arith, no_moments); each_word = omega (arith, no_words) })
 
     -- a packet that memory did not suffice for
@@ -192,20 +196,22 @@ module _ (nt ct dt : Type 0) (port : ℕ) (a : Scene) (n1 : NetTold) (t1 : ℕ) 
           let words_are : words_at (packet_of p.bytes) ≡ words_at (Ok d) = ap words_at is in
           record { each_moment = omega (arith, moments_are, moment); each_word = omega (arith, words_are, word) }
 
-      pub goes_packet : (stop : Bool) → Works nt ct dt port p.port d stop taken b → Goes nt ct dt port 1 stop a b
-      goes_packet stop w =
-          goes_one (Some p) given same stays one stop b w.moments w.words (one_asked p.port d w.moments w.words) (own_is w.moments w.words) (enough_is w.moments w.words w.moment w.word) w.stops w.read takes
-          w.noted_moments w.noted_words w.sent w.store w.others w.stands w.leaves
+      pub goes_packet : (came : Option Bool) → Works nt ct dt port p.port d came taken b → Turns nt ct dt port came a b
+      goes_packet came w = (
+        goes_one (Some p) given same stays one (stops came) b w.moments w.words (one_asked p.port d w.moments w.words) (own_is w.moments w.words) (enough_is w.moments w.words w.moment w.word) w.stops w.read takes
+            w.noted_moments w.noted_words w.sent w.store w.others w.stands w.leaves,
+        ap length (own_is w.moments w.words) ∙ w.number,
+      )
 
       pub ends_packet : Halts nt ct dt port p.port d taken b → Ends nt ct dt port 1 a b
       ends_packet h =
           ends_one (Some p) given same stays one b h.moments h.words (one_asked p.port d h.moments h.words) (own_is h.moments h.words) (inl (enough_is h.moments h.words h.moment h.word)) h.stops h.read takes
           h.noted_moments h.noted_words h.sent h.others h.leaves h.kept
 
-      pub ok_goes : {E : Type 0} → (result : Result Bool E) → IfOk result (λ stop. Works nt ct dt port p.port d stop taken b) → IfOk result (λ stop. Goes nt ct dt port 1 stop a b)
-      ok_goes (Ok stop) w = goes_packet stop w
+      pub ok_goes : {E : Type 0} → (result : Result (Option Bool) E) → IfOk result (λ came. Works nt ct dt port p.port d came taken b) → IfOk result (λ came. Turns nt ct dt port came a b)
+      ok_goes (Ok came) w = goes_packet came w
       ok_goes (Err e) w = tt
 
-      pub err_ends : {E : Type 0} → (result : Result Bool E) → OnErr result (Halts nt ct dt port p.port d taken b) → OnErr result (Ends nt ct dt port 1 a b)
+      pub err_ends : {E : Type 0} → (result : Result (Option Bool) E) → OnErr result (Halts nt ct dt port p.port d taken b) → OnErr result (Ends nt ct dt port 1 a b)
       err_ends (Ok stop) h = tt
       err_ends (Err e) h = ends_packet h

@@ -3,7 +3,9 @@ pub mod Sends
 pub mod Causes
 pub mod Entries
 pub mod Logs
+pub mod Slots
 pub mod Host
 pub mod Starts
 pub mod Turn
+pub mod Savings
 pub use Rattle.law_lengths.specs.pg_server as pg_server

@@ -1,8 +1,16 @@
 -- Files that are logs of a server.
-use Rattle.std.specs.Prelude.{ℕ, ◌≡◌, ◌==◌, ◌+◌, ◌≤◌, ◌⊎◌, List, [], ◌∷◌, ◌++◌, map, length, take, Bool, true, false, Some, None, Ok, Err}
+use Rattle.std.specs.Prelude.{ℕ, ◌≡◌, ◌==◌, ◌+◌, ◌-◌, ◌≤◌, ◌⊎◌, List, [], ◌∷◌, ◌++◌, map, length, take, drop, Bool, true, false, Some, None, Ok, Err}
 use Rattle.std.specs.declared.option.Option.{Option}
 use Rattle.law_lengths.specs.Laws.{store_behind}
+use Rattle.pg_checkpoint.specs.Loads.{LoadsTo}
+use Rattle.pg_checkpoint.specs.Slots.{Slot}
+use Rattle.pg_disk.specs.Disk.{IsSettled}
+use Rattle.pg_disk.specs.Told.{Told, given, steps}
+use Rattle.pg_disk.specs.Moments.{LeavesSince}
+use Rattle.pg_disk.specs.Synced.{KeepsOthers}
 use Rattle.pg_log.specs.Bytes.{OpensTo, IsBadAt, front}
+use Rattle.pg_saving.specs.Usable.{usable}
+use Rattle.pg_saving.specs.declared.loading.Checkpoint.{Checkpoint}
 use Rattle.law_lengths.specs.pg_server.declared.input.Input.{Input}
 use Rattle.law_lengths.specs.pg_server.declared.input.Input.TheVariants.{Restart}
 use Rattle.law_lengths.specs.pg_server.Local.{effect_of}
@@ -90,11 +98,33 @@ pub record IsOldFile (server servers : ℕ) (old : Old) (file : List ℕ) : Type
 abbrev pub IsOwnLog : (server servers : ℕ) → List ℕ → Type 0
 IsOwnLog server servers file = (old : Old) × IsOldFile server servers old file
 
+-- how many entries a log with these inputs has
+abbrev pub count_of : Old → ℕ
+count_of None = 0
+count_of (Some inputs) = length inputs + 1
+
+-- What a server holds behind the inputs of its log that goes on from a checkpoint, or from nothing.
+-- It takes those whose entries are not folded in the checkpoint; the log's first entry is no input's.
+abbrev pub folded_on : (server servers : ℕ) → Option Checkpoint → List Input → Store
+folded_on server servers None inputs = store_behind (new_store servers server) inputs
+folded_on server servers (Some c) inputs = store_behind c.store (drop (c.folded - 1) inputs)
+
 -- WHAT THE SERVER HOLDS as it begins: what went out before is not sent again
-abbrev pub begun : ℕ → ℕ → Old → Store
-begun server servers None = new_store servers server
-begun server servers (Some inputs) =
-    (effect_of (store_behind (new_store servers server) inputs) Restart).store
+abbrev pub begun : ℕ → ℕ → Option Checkpoint → Old → Store
+begun server servers checkpoint None = new_store servers server
+begun server servers checkpoint (Some inputs) =
+    (effect_of (folded_on server servers checkpoint inputs) Restart).store
+
+-- What it finds: the log has these inputs, and it goes on from this checkpoint, which the slots that
+-- are loaded give over a log of so many entries, or from none.
+pub record IsFound (server servers : ℕ) (checkpoint : Option Checkpoint) (old : Old)
+    (log first second : List ℕ) : Type 0 where
+  pub entries : List (List ℕ)
+  pub opens : OpensTo log entries
+  pub is : IsOldLog server servers old entries
+  pub slot : Option Slot
+  pub loads : LoadsTo first second slot
+  pub checkpoint_is : checkpoint ≡ usable server servers (length entries) slot
 
 -- the inputs of a log that a server went on with, and took these inputs
 abbrev pub goes_on : Old → List Asked → Old
@@ -112,3 +142,18 @@ begin_entry server servers false = entry_for Restart
 -- the file opens to these entries and the first of the others
 abbrev pub OpensToSome : List (List ℕ) → List (List ℕ) → List ℕ → Type 0
 OpensToSome entries more file = (k : ℕ) × (k ≤ length more) × OpensTo file (entries ++ take k more)
+
+-- ---- a log that a server does not go on with
+
+-- What stood behind the closed gate of the log with these entries, which nothing reads, was cut off,
+-- and a crash leaves just the rest now. At each moment between it leaves a log with these entries.
+pub record IsCutBehind (entries : List (List ℕ)) (old new : Told) : Type 0 where
+  pub opens : OpensTo (given old 0) entries
+  pub cut : given new 0 ≡ take (length (front entries) + 1) (given old 0)
+  pub settled : IsSettled (steps new 0)
+  pub moments : IsSettled (steps old 0) → LeavesSince 0 old new (λ file. OpensTo file entries)
+  pub others : KeepsOthers 0 old new
+
+-- THE LOG IS LEFT AS IT WAS: nothing was done on the disk, or nothing but that was cut off
+abbrev pub LeavesLog : Told → Told → Type 0
+LeavesLog old new = (new ≡ old) ⊎ ((entries : List (List ℕ)) × IsCutBehind entries old new)

@@ -1,7 +1,9 @@
 -- How a server begins over its log.
-use Rattle.std.specs.Prelude.{ℕ, ◌≡◌, ◌+◌, ◌⊎◌, List, [], ◌∷◌, ◌++◌, length, take, Result, Ok, Err}
+use Rattle.std.specs.Prelude.{ℕ, ◌≡◌, ◌+◌, ◌-◌, ◌<◌, ◌≤◌, ◌⊎◌, List, [], ◌∷◌, ◌++◌, length, take, drop, Result, Ok, Err, None, Some}
 use Rattle.std.specs.declared.option.Option.{Option}
 use Rattle.law_lengths.specs.Laws.{store_behind}
+use Rattle.pg_checkpoint.specs.Saves.{Loads}
+use Rattle.pg_checkpoint.specs.Slots.{Slot}
 use Rattle.pg_disk.specs.Disk.{IsSettled}
 use Rattle.pg_disk.specs.Told.{Told, given, steps}
 use Rattle.pg_disk.specs.Moments.{LeavesSince}
@@ -10,10 +12,15 @@ use Rattle.pg_event.specs.declared.status.Status.TheVariants as status
 use Rattle.pg_io.specs.Causes.{Rose}
 use Rattle.pg_log.specs.Bytes.{OpensTo, blocks}
 use Rattle.pg_log.specs.Log.{OpensWithOrWithout, Stands}
+use Rattle.law_lengths.specs.pg_server.Local.{effect_of}
 use Rattle.law_lengths.specs.pg_server.declared.input.Input.{Input}
+use Rattle.law_lengths.specs.pg_server.declared.input.Input.TheVariants.{Restart}
+use Rattle.pg_saving.specs.Usable.{usable}
+use Rattle.pg_saving.specs.declared.loading.Checkpoint.{Checkpoint}
+use Rattle.pg_store.specs.Store.{new_store}
 use Rattle.pg_store.specs.declared.store.Store.{Store}
 use Rattle.pg_host.specs.Entries.{entry_for, input_of}
-use Rattle.pg_host.specs.Logs.{AreInputs, IsBadEntry, IsBadLog, IsLogOf, IsOldLog, IsOtherLog, Old, begin_entry, begun, is_empty}
+use Rattle.pg_host.specs.Logs.{AreInputs, IsBadEntry, IsBadLog, IsLogOf, IsOldLog, IsOtherLog, IsStart, Old, begin_entry, begun, is_empty}
 
 -- memory ran out, or what was to be found in an entry was not: the gate before it stands there
 abbrev pub IsUnread : {X : Type 0} → ℕ → Result X ℕ → Status → Type 0
@@ -33,18 +40,18 @@ pub record IsReadTo (entries : List (List ℕ)) (k from gate : ℕ) : Type 0 whe
   pub read : AreInputs (take k entries) done
   pub gate_is : gate ≡ from + length (blocks (take k entries))
 
--- a server took them
-pub record IsFoldedTo (entries : List (List ℕ)) (k from gate : ℕ) (s0 s1 : Store) : Type 0 where
+-- a server took them, but for the first, so many, which it only read
+pub record IsFoldedTo (entries : List (List ℕ)) (skip k from gate : ℕ) (s0 s1 : Store) : Type 0 where
   pub done : List Input
   pub read : AreInputs (take k entries) done
   pub gate_is : gate ≡ from + length (blocks (take k entries))
-  pub store : s1 ≡ store_behind s0 done
+  pub store : s1 ≡ store_behind s0 (drop skip done)
 
--- a server took all of them
-pub record IsFold (entries : List (List ℕ)) (s0 s1 : Store) : Type 0 where
+-- a server took all of them but these
+pub record IsFold (entries : List (List ℕ)) (skip : ℕ) (s0 s1 : Store) : Type 0 where
   pub inputs : List Input
   pub read : AreInputs entries inputs
-  pub store : s1 ≡ store_behind s0 inputs
+  pub store : s1 ≡ store_behind s0 (drop skip inputs)
 
 -- memory ran out, or one of these entries is no input's: the gate before the first stands there
 pub record IsBadIn (from : ℕ) (entries : List (List ℕ)) (e : Status) : Type 0 where
@@ -61,11 +68,31 @@ pub record IsBadIn (from : ℕ) (entries : List (List ℕ)) (e : Status) : Type 
 abbrev pub IsUnfolded : ℕ → List (List ℕ) → Status → Type 0
 IsUnfolded from entries e = (e ≡ status.OutOfMemory) ⊎ IsBadIn from entries e
 
--- the server with which a log is gone on
-pub record IsFolded (server servers : ℕ) (entries : List (List ℕ)) (store : Store) : Type 0 where
+-- the k-th input was taken, but for the first, so many
+abbrev pub IsTakenBehind : (k skip : ℕ) → Store → Input → Store → Type 0
+IsTakenBehind k skip s0 input s1 = ((k < skip) × (s1 ≡ s0))
+    ⊎ ((skip ≤ k) × (s1 ≡ (effect_of s0 input).store))
+
+-- a server that goes on from a checkpoint skips the inputs that are folded in it; a new one takes all
+abbrev pub IsOn : (server servers : ℕ) → Option Checkpoint → Store → (skip : ℕ) → Type 0
+IsOn server servers None s skip = (s ≡ new_store servers server) × (skip ≡ 0)
+IsOn server servers (Some c) s skip = (s ≡ c.store) × (skip ≡ c.folded - 1)
+
+-- a server took the inputs of its log, with this first entry and these later ones, but for the first,
+-- so many, and then a restart
+pub record IsLogFold (server servers : ℕ) (first : List ℕ) (later : List (List ℕ)) (skip : ℕ)
+    (s0 s1 : Store) : Type 0 where
+  pub start : IsStart server servers first
+  pub behind : Store
+  pub fold : IsFold later skip s0 behind
+  pub restarted : s1 ≡ (effect_of behind Restart).store
+
+-- the server with which a log is gone on, from a checkpoint or from none
+pub record IsFolded (server servers : ℕ) (checkpoint : Option Checkpoint) (entries : List (List ℕ))
+    (store : Store) : Type 0 where
   pub old : Old
   pub is : IsOldLog server servers old entries
-  pub store_is : store ≡ begun server servers old
+  pub store_is : store ≡ begun server servers checkpoint old
 
 -- entries are the log of another
 pub record AreOther (server servers a b : ℕ) (entries : List (List ℕ)) : Type 0 where
@@ -79,12 +106,17 @@ IsNoFold server servers entries e = (e ≡ status.OutOfMemory)
     ⊎ (((place : ℕ) × (e ≡ status.BadLog place) × IsBadEntry entries place)
     ⊎ ((a b : ℕ) × (e ≡ status.OtherLog a b) × AreOther server servers a b entries))
 
--- A start is done: the log that was found has the entry more that a start appends.
-pub record Started (dt : Type 0) (server servers : ℕ) (d0 d1 : Told) (log : Option ℕ) (store : Store) : Type 0 where
+-- A start is done: the log that was found has the entry more that a start appends, so many in all.
+pub record Started (dt : Type 0) (server servers : ℕ) (d0 d1 : Told) (log : Option ℕ) (store : Store)
+    (count : ℕ) : Type 0 where
   pub entries : List (List ℕ)
   pub opened : dt → OpensTo (given d0 0) entries
-  pub folded : IsFolded server servers entries store
+  pub checkpoint : Option Checkpoint
+  pub loaded : dt → (slot : Option Slot) × Loads d0 slot
+      × (checkpoint ≡ usable server servers (length entries) slot)
+  pub folded : IsFolded server servers checkpoint entries store
   pub stands : dt → Stands log d1 (entries ++ begin_entry server servers (is_empty entries) ∷ [])
+  pub counted : count ≡ length entries + 1
 
 -- why a start was not done
 abbrev pub IsUnstarted : Type 0 → (server servers : ℕ) → List ℕ → (before now : ℕ) → Status → Type 0

@@ -12,7 +12,7 @@ use Rattle.pg_host.specs.declared.asking.Asked.{Asked}
 use Rattle.pg_host.specs.Entries.{entries_for}
 use Rattle.pg_host.specs.Inputs.{StopsAs, asked_by, moments_by, words_by}
 use Rattle.pg_host.specs.Sends.{SentFirst, after_all, sends, with_all}
-use Rattle.pg_host.specs.Host.{AreRead, IsKept, LeavesSome, Scene}
+use Rattle.pg_host.specs.Host.{AreRead, IsKept, LeavesSome, Scene, inputs_in, stops}
 
 -- bytes came that are this packet
 abbrev pub HasCome : DatagramValue → Type 0
@@ -28,7 +28,8 @@ asked_list None = []
 asked_list (Some asked) = asked ∷ []
 
 -- the moments and words of the packet's input, as the clock gave them, and no more
-pub record Asks (ct : Type 0) (from : ℕ) (d : DatagramValue) (found : Option Asked) (c0 c1 : ClockTold) : Type 0 where
+pub record Asks (ct : Type 0) (from : ℕ) (d : DatagramValue) (found : Option Asked)
+    (c0 c1 : ClockTold) : Type 0 where
   pub moments : List ℕ
   pub words : List ℕ
   pub moment : length moments ≡ moments_by d.content
@@ -38,12 +39,14 @@ pub record Asks (ct : Type 0) (from : ℕ) (d : DatagramValue) (found : Option A
   pub is : one_asked from d moments words ≡ asked_list found
 
 -- the packet's input was taken whole
-pub record Works (nt ct dt : Type 0) (port from : ℕ) (d : DatagramValue) (stop : Bool) (a b : Scene) : Type 0 where
+pub record Works (nt ct dt : Type 0) (port from : ℕ) (d : DatagramValue) (came : Option Bool)
+    (a b : Scene) : Type 0 where
   pub moments : List ℕ
   pub words : List ℕ
   pub moment : length moments ≡ moments_by d.content
   pub word : length words ≡ words_by d.content
-  pub stops : StopsAs stop (one_asked from d moments words)
+  pub stops : StopsAs (stops came) (one_asked from d moments words)
+  pub number : length (one_asked from d moments words) ≡ inputs_in came
   pub read : AreRead (one_asked from d moments words)
   pub noted_moments : ct → AreNoted a.clock.moments b.clock.moments moments
   pub noted_words : ct → AreNoted a.clock.words b.clock.words words
@@ -56,7 +59,8 @@ pub record Works (nt ct dt : Type 0) (port from : ℕ) (d : DatagramValue) (stop
       → LeavesSome entries (one_asked from d moments words) a.disk b.disk
 
 -- it was taken, and of what goes out behind it the first was sent
-pub record Halts (nt ct dt : Type 0) (port from : ℕ) (d : DatagramValue) (a b : Scene) : Type 0 where
+pub record Halts (nt ct dt : Type 0) (port from : ℕ) (d : DatagramValue) (a b : Scene)
+    : Type 0 where
   pub moments : List ℕ
   pub words : List ℕ
   pub moment : length moments ≡ moments_by d.content

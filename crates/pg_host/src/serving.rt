@@ -5,16 +5,18 @@ ghost use Rattle.law_lengths.specs.law_spelled.Stores.{FitsStore};
 ghost use Rattle.pg_io.specs.Causes.{Rose};
 ghost use Rattle.pg_disk.specs.Told.{given};
 ghost use Rattle.pg_host.specs.Causes.{IsEnd, IsFault, IsWhole};
-ghost use Rattle.pg_host.specs.Host.{IsAnswered, Runs, Served, scene};
+ghost use Rattle.pg_host.specs.Host.{IsAnswered, Served, scene};
+ghost use Rattle.pg_host.specs.Savings.{RunsOn};
 
+use crate::saving::{Count, turn_on};
 use crate::starting::start;
-use crate::turning::turn;
 use law_lengths::server::Server;
 use pg_base::{Bytes, NodeId};
 use pg_disk::Disk;
 use pg_event::Status;
 use pg_log::Log;
 use pg_net::{Clock, Net};
+use pg_node_entry::entries_read_back;
 use std::alloc::{AllocError, Global};
 
 /// Room for a packet, and for one byte more, by which a longer one is seen.
@@ -26,36 +28,44 @@ fn room(alloc: Global) -> Result<Vec<u8>, AllocError>
     Ok(room)
 }
 
-/// Makes so many takes, or fewer where `stop` comes or something fails.
+/// Makes so many takes, or fewer where `stop` comes or something fails. The log has so many
+/// entries, of which the last was appended as the server began.
 fn take_turns<N: Net, D: Disk, C: Clock>(
     alloc: Global,
     net: &mut N,
     disk: &mut D,
     clock: &mut C,
     log: &mut Log,
-    server: &mut Server,
+    node: &mut Server,
     buffer: &mut Bytes,
+    server: NodeId,
+    servers: u32,
+    entries: u64,
     port: u16,
     turns: u64,
     room: &mut [u8],
 ) -> Status
     requires port { port ≤ 65471 }
     requires open { IsSome log.old }
-    requires going { server.old.failed ≡ false }
-    requires fits { FitsStore server.old.store }
+    requires going { node.old.failed ≡ false }
+    requires fits { FitsStore node.old.store }
     requires room { 40001 ≤ length room.old }
-    ensures runs { Runs N.tells C.tells D.tells port turns result
+    ensures runs { RunsOn N.tells C.tells D.tells server servers port 1 entries turns result
         (scene (N.told net.old) (N.takes net.old) (C.told clock.old) (D.told disk.old)
-        log.old server.old.store)
+        log.old node.old.store)
         (scene (N.told net.new) (N.takes net.new) (C.told clock.new) (D.told disk.new)
-        log.new server.new.store) }
+        log.new node.new.store) }
     ensures end { IsWhole result ⊎ IsFault (N.faults net.old) (N.faults net.new)
         (D.faults disk.old) (D.faults disk.new) result }
     ensures net_later { N.faults net.old ≤ N.faults net.new }
     ensures disk_later { D.faults disk.old ≤ D.faults disk.new }
 {
+    log.place_fits();
+    let mut count = Count { entries, since: 1 };
     'turns: for _turn in 0..turns {
-        let stop = match turn(alloc, net, disk, clock, log, server, buffer, port, room) {
+        let stop = match turn_on(
+            alloc, net, disk, clock, log, node, buffer, server, servers, &mut count, port, room,
+        ) {
             Ok(stop) => stop,
             Err(status) => return status,
         };
@@ -68,7 +78,9 @@ fn take_turns<N: Net, D: Disk, C: Clock>(
 
 /// Serves on `port + server`, as this server of a run with so many servers, over the log in file 0
 /// of the disk's chosen name, and makes at most so many takes. Each input is in the log before
-/// anything of it is sent. It is Done once it has replied to `stop`.
+/// anything of it is sent. Behind each 1,024th entry that it appended it saves what it holds in the
+/// slots of the name, from which it goes on where it is started again. It is Done once it has
+/// replied to `stop`.
 pub fn serve<N: Net, D: Disk, C: Clock>(
     alloc: Global,
     net: &mut N,
@@ -98,6 +110,7 @@ pub fn serve<N: Net, D: Disk, C: Clock>(
     ensures net_later { N.faults net.old ≤ N.faults net.new }
     ensures disk_later { D.faults disk.old ≤ D.faults disk.new }
 {
+    entries_read_back();
     match net.bind(port + server as u16) {
         Ok(()) => {}
         Err(_) => return Status::NetFault,
@@ -107,7 +120,7 @@ pub fn serve<N: Net, D: Disk, C: Clock>(
         Err(_) => return Status::OutOfMemory,
     };
     let mut buffer = Bytes::new(alloc);
-    let (mut log, mut node) = match start(alloc, disk, &mut buffer, server, servers) {
+    let (mut log, mut node, entries) = match start(alloc, disk, &mut buffer, server, servers) {
         Ok(started) => started,
         Err(status) => return status,
     };
@@ -119,6 +132,9 @@ pub fn serve<N: Net, D: Disk, C: Clock>(
         &mut log,
         &mut node,
         &mut buffer,
+        server,
+        servers,
+        entries,
         port,
         turns,
         &mut space,

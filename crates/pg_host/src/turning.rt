@@ -2,9 +2,10 @@
 
 ghost use Rattle.std.specs.Prelude.{◌≡◌, ◌≤◌, ◌∷◌, [], ℕ, length, false, Some, Ok, IfOk, IfSome, IsSome, OnOk, OnErr, IfErr, IsErr, MatchOption};
 ghost use Rattle.law_lengths.specs.law_spelled.Stores.{FitsStore};
+ghost use Rattle.pg_disk.specs.Synced.{KeepsOthers};
 ghost use Rattle.pg_packet_read.specs.Whole.{packet_of};
 ghost use Rattle.pg_host.specs.Causes.{IsFault};
-ghost use Rattle.pg_host.specs.Host.{AreRead, Ends, Goes, scene};
+ghost use Rattle.pg_host.specs.Host.{AreRead, Ends, Turns, scene};
 ghost use Rattle.pg_host.specs.Inputs.{asked};
 ghost use Rattle.pg_host.specs.Turn.{Halts, HasCome, Works};
 
@@ -47,7 +48,8 @@ fn read(alloc: Global, bytes: &[u8]) -> Result<Option<Datagram>, AllocError>
     }
 }
 
-/// Takes what a packet from this port asks. It answers whether that is `stop`.
+/// Takes what a packet from this port asks. It answers whether that is an input, and if, whether it
+/// is `stop`.
 pub fn take_packet<N: Net, D: Disk, C: Clock>(
     alloc: Global,
     net: &mut N,
@@ -59,13 +61,13 @@ pub fn take_packet<N: Net, D: Disk, C: Clock>(
     port: u16,
     from: u16,
     packet: Datagram,
-) -> Result<bool, Status>
+) -> Result<Option<bool>, Status>
     requires port { port ≤ 65471 }
     requires open { IsSome log.old }
     requires going { server.old.failed ≡ false }
     requires fits { FitsStore server.old.store }
     requires come { HasCome packet }
-    ensures works { IfOk result (λ stop. Works N.tells C.tells D.tells port from packet stop
+    ensures works { IfOk result (λ came. Works N.tells C.tells D.tells port from packet came
         (scene (N.told net.old) (N.takes net.old) (C.told clock.old) (D.told disk.old)
         log.old server.old.store)
         (scene (N.told net.new) (N.takes net.new) (C.told clock.new) (D.told disk.new)
@@ -78,6 +80,7 @@ pub fn take_packet<N: Net, D: Disk, C: Clock>(
         log.old server.old.store)
         (scene (N.told net.new) (N.takes net.new) (C.told clock.new) (D.told disk.new)
         log.new server.new.store)) }
+    ensures others { D.tells → KeepsOthers 0 (D.told disk.old) (D.told disk.new) }
     ensures takes { N.takes net.new ≡ N.takes net.old }
     ensures net_later { N.faults net.old ≤ N.faults net.new }
     ensures disk_later { D.faults disk.old ≤ D.faults disk.new }
@@ -86,20 +89,20 @@ pub fn take_packet<N: Net, D: Disk, C: Clock>(
 {
     let found = ask(clock, from, packet);
     match found {
-        None => Ok(false),
+        None => Ok(None),
         Some(asked) => {
             let Asked { back, input } = asked;
             let stop = is_stop(&input);
             match enter(alloc, net, disk, log, server, buffer, port, input, back) {
-                Ok(()) => Ok(stop),
+                Ok(()) => Ok(Some(stop)),
                 Err(status) => Err(status),
             }
         }
     }
 }
 
-/// Takes a packet, if there is one, and what it asks. It answers whether that is `stop`. Bytes that
-/// are no packet are passed over.
+/// Takes a packet, if there is one, and what it asks. It answers whether that is an input, and if,
+/// whether it is `stop`. Bytes that are no packet are passed over.
 pub fn turn<N: Net, D: Disk, C: Clock>(
     alloc: Global,
     net: &mut N,
@@ -110,13 +113,13 @@ pub fn turn<N: Net, D: Disk, C: Clock>(
     buffer: &mut Bytes,
     port: u16,
     room: &mut [u8],
-) -> Result<bool, Status>
+) -> Result<Option<bool>, Status>
     requires port { port ≤ 65471 }
     requires open { IsSome log.old }
     requires going { server.old.failed ≡ false }
     requires fits { FitsStore server.old.store }
     requires room { 40001 ≤ length room.old }
-    ensures goes { IfOk result (λ stop. Goes N.tells C.tells D.tells port 1 stop
+    ensures turns { IfOk result (λ came. Turns N.tells C.tells D.tells port came
         (scene (N.told net.old) (N.takes net.old) (C.told clock.old) (D.told disk.old)
         log.old server.old.store)
         (scene (N.told net.new) (N.takes net.new) (C.told clock.new) (D.told disk.new)
@@ -129,6 +132,7 @@ pub fn turn<N: Net, D: Disk, C: Clock>(
         log.old server.old.store)
         (scene (N.told net.new) (N.takes net.new) (C.told clock.new) (D.told disk.new)
         log.new server.new.store)) }
+    ensures others { D.tells → KeepsOthers 0 (D.told disk.old) (D.told disk.new) }
     ensures net_later { N.faults net.old ≤ N.faults net.new }
     ensures disk_later { D.faults disk.old ≤ D.faults disk.new }
     ensures err { IfErr result (λ e. IsFault (N.faults net.old) (N.faults net.new)
@@ -139,14 +143,14 @@ pub fn turn<N: Net, D: Disk, C: Clock>(
         Err(_) => return Err(Status::NetFault),
     };
     match answer {
-        Taken::Idle => Ok(false),
+        Taken::Idle => Ok(None),
         Taken::Packet { port: from, length } => {
             let found = match read(alloc, &room[..length]) {
                 Ok(found) => found,
                 Err(_) => return Err(Status::OutOfMemory),
             };
             match found {
-                None => Ok(false),
+                None => Ok(None),
                 Some(packet) => {
                     take_packet(
                         alloc, net, disk, clock, log, server, buffer, port, from, packet,

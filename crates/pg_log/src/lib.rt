@@ -9,9 +9,10 @@
 //!
 //! `append` has no condition on the disk. What it promises is promised for each list of entries
 //! with which the log stands; where someone else wrote the file there is none. A log's place never
-//! runs over, since no file is longer than a number of bytes can say. `BadLog` is defined by what
-//! continues: the file's bytes up to the place begin some log, and with the byte there they begin
-//! none. The reader finds it by the least length that the first bytes of a length can have.
+//! runs over (`place_fits`), since no file is longer than a number of bytes can say. `BadLog` is
+//! defined by what continues: the file's bytes up to the place begin some log, and with the byte
+//! there they begin none. The reader finds it by the least length that the first bytes of a length
+//! can have.
 //!
 //! Definitions: `specs/Bytes` (what the bytes of a log stand for), `Log` (how one stands on a
 //! disk). docs/RULES.md: "Logs"; docs/FORMATS.md, section 7. Another kind of entry is for who

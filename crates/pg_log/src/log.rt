@@ -1,6 +1,7 @@
 //! The log.
 
-ghost use Rattle.std.specs.Prelude.{◌≡◌, ◌≤◌, ◌<◌, ◌+◌, ◌-◌, ◌^◌, ◌↔◌, ◌⊎◌, [], ◌∷◌, ◌++◌, List, ℕ, length, None, Some, IsSome, IfOk, IfErr, OnOk, OnErr, IsErrOf, IsErrAnd, MatchResult};
+ghost use Rattle.std.specs.Prelude.{◌≡◌, ◌≤◌, ◌<◌, ◌+◌, ◌-◌, ◌^◌, ◌↔◌, ◌⊎◌, [], ◌∷◌, ◌++◌, List, ℕ, length, take, None, Some, IsSome, IfOk, IfErr, OnOk, OnErr, IsErrOf, IsErrAnd, MatchResult};
+ghost use Rattle.std.specs.Option.{ForSome};
 ghost use Rattle.pg_io.specs.Causes.{Rose};
 ghost use Rattle.pg_disk.specs.Disk.{IsSettled};
 ghost use Rattle.pg_disk.specs.Told.{given, steps};
@@ -60,6 +61,12 @@ impl Log {
             → (entries : List (List ℕ)) → OpensTo (given (D.told disk.old) 0) entries
             → LeavesSince 0 (D.told disk.old) (D.told disk.new)
             (λ file. OpensTo file entries) }
+
+        // Of a file of more than 17 bytes what stands behind the closed gate is cut off, and nothing
+        // else.
+        ensures cut { IfOk result (λ log. D.tells → 17 < length (given (D.told disk.old) 0)
+            → given (D.told disk.new) 0
+            ≡ take (length (front log.1) + 1) (given (D.told disk.old) 0)) }
 
         ensures bad { (place : ℕ) → IsErrOf result (LogError.BadLog place) → D.tells
             → IsBadAt (given (D.told disk.old) 0) place × (D.told disk.new ≡ D.told disk.old) }
@@ -131,5 +138,12 @@ impl Log {
         write_synced(disk, 0, gate, &[1])?;
         self.gate = Some(gate + block.len() as u64);
         Ok(())
+    }
+
+    /// The place of a log's gate, if the log knows it, is far from the end of its number's type.
+    pub fn place_fits(&self)
+        ensures { ForSome self.now (λ gate. gate + 1 < 2 ^ 64) }
+    {
+        let _gate = self.gate;
     }
 }

@@ -1,45 +1,21 @@
 ghost use Rattle.std.specs.Prelude.{◌≤◌};
 
+use crate::nodes::{CLIENT, LS, MKDIR, STOP, TICK, call, ended_by, is_answered, packet};
 use pg_disk::MemoryDisk;
 use pg_event::Status;
-use pg_host::serve;
 use pg_log::Log;
-use pg_net::{Datagram, MemoryClock, MemoryNet};
+use pg_net::{Datagram, MemoryNet};
 use std::alloc::{AllocError, Global};
 use std::test::Fail;
 
-/// Where the client's packets come from.
-const CLIENT: u16 = 7;
-
-/// The words of `mkdir /a`, of `ls / 0`, of `tick` and of `stop` in a packet.
-const MKDIR: &[u8] = b"\x01\0\x02/a";
-
-const LS: &[u8] = b"\x07\0\x01/\0\0\0\0";
-
-const TICK: &[u8] = b"\x10";
-
-const STOP: &[u8] = b"\x12";
-
-/// The words of the replies `made d1.1`, `names 1` with `a d1.1`, and `done`.
+/// The words of the replies `made d1.1`, `names 1` with `a d1.1`, `names 0`, and `done`.
 const MADE: &[u8] = b"\x02d\0\0\0\x01\0\0\0\0\0\0\0\x01";
 
 const NAMES: &[u8] = b"\x05\0\0\0\x01\x01\0\x01ad\0\0\0\x01\0\0\0\0\0\0\0\x01";
 
+const NO_NAMES: &[u8] = b"\x05\0\0\0\0\0";
+
 const DONE: &[u8] = b"\x01";
-
-/// A packet of this kind from a server in view 0, under number 1.
-fn packet(alloc: Global, kind: u8, from: u8, words: &[u8]) -> Result<Vec<u8>, AllocError> {
-    let mut bytes = b"PG\x01".to_vec(alloc)?;
-    bytes.push(kind)?;
-    bytes.extend_from_slice(&[0, 0, 0, from])?;
-    bytes.extend_from_slice(b"\0\0\0\0\0\0\0\0\0\0\0\0\0\0\0\x01")?;
-    bytes.extend_from_slice(words)?;
-    Ok(bytes)
-}
-
-fn call(alloc: Global, words: &[u8]) -> Result<Datagram, AllocError> {
-    Ok(Datagram::new(CLIENT, packet(alloc, 27, 0, words)?))
-}
 
 /// A net with these packets, and these calls that fail.
 fn net(alloc: Global, packets: Vec<Datagram>, fails: &[u64]) -> Result<MemoryNet, AllocError> {
@@ -70,8 +46,7 @@ fn ended_on(
     requires some { 1 ≤ servers }
     requires most { servers ≤ 64 }
 {
-    let mut clock = MemoryClock::new([5, 6].to_vec(alloc)?, [3].to_vec(alloc)?);
-    Ok(serve(alloc, own, disk, &mut clock, 1, servers, 9000, 5))
+    ended_by(alloc, own, disk, 1, servers, 5)
 }
 
 /// The same over a disk on which nothing was done.
@@ -97,15 +72,6 @@ fn kinds(alloc: Global, disk: &mut MemoryDisk) -> Result<Vec<u8>, AllocError> {
     Ok(kinds)
 }
 
-/// Whether the first packet that was sent is server 1's reply with these words to the client.
-fn is_answered(alloc: Global, own: &MemoryNet, words: &[u8]) -> Result<bool, AllocError> {
-    let reply = packet(alloc, 28, 1, words)?;
-    Ok(match own.sent().first() {
-        Some(sent) => sent.port() == CLIENT && sent.bytes() == reply.as_slice(),
-        None => false,
-    })
-}
-
 /// Whether some were sent behind the first, all to this port.
 fn others_go_to(own: &MemoryNet, port: u16) -> bool {
     match own.sent().split_first() {
@@ -125,7 +91,7 @@ fn a_call_is_answered(rt: HostRuntime) -> Result<(), Fail> {
     assert!(rt; own.bound() == Some(9001));
     assert!(rt; own.takes() == 5);
     assert!(rt; own.sent().len() == 1);
-    assert!(rt; is_answered(alloc, &own, MADE)?);
+    assert!(rt; is_answered(alloc, own.sent(), MADE)?);
     Ok(())
 }
 
@@ -137,7 +103,7 @@ fn messages_go_behind_the_reply(rt: HostRuntime) -> Result<(), Fail> {
     let mut own = net(alloc, packets, &[])?;
     let status = ended(alloc, &mut own, 2)?;
     assert!(rt; status == Status::TurnsSpent);
-    assert!(rt; is_answered(alloc, &own, MADE)?);
+    assert!(rt; is_answered(alloc, own.sent(), MADE)?);
     assert!(rt; others_go_to(&own, 9002));
     Ok(())
 }
@@ -146,17 +112,46 @@ fn messages_go_behind_the_reply(rt: HostRuntime) -> Result<(), Fail> {
 fn what_asks_nothing_is_passed_over(rt: HostRuntime) -> Result<(), Fail> {
     let alloc: Global = rt.alloc();
     let mut packets = Vec::new(alloc);
-    // bytes that are no packet, a call that a byte follows, and a reply
+    // bytes that are no packet, as many of 255 as a packet may have, a call that a byte follows,
+    // and a reply
     packets.push(Datagram::new(CLIENT, b"PG\x01".to_vec(alloc)?))?;
+    let mut longest = Vec::new(alloc);
+    longest.resize(40_000, 255u8)?;
+    packets.push(Datagram::new(CLIENT, longest))?;
     packets.push(call(alloc, b"\x12\0")?)?;
     packets.push(Datagram::new(CLIENT, packet(alloc, 28, 2, DONE)?))?;
     packets.push(call(alloc, STOP)?)?;
     let mut own = net(alloc, packets, &[])?;
     let status = ended(alloc, &mut own, 1)?;
     assert!(rt; status == Status::Done);
-    assert!(rt; own.takes() == 4);
+    assert!(rt; own.takes() == 5);
     assert!(rt; own.sent().len() == 1);
-    assert!(rt; is_answered(alloc, &own, DONE)?);
+    assert!(rt; is_answered(alloc, own.sent(), DONE)?);
+    Ok(())
+}
+
+/// Whether a fetch of the root by server 2, of this view, is answered, and whether it is kept in
+/// the log.
+fn fetched(alloc: Global, view: u8) -> Result<(bool, bool), AllocError> {
+    let mut fetch = b"PG\x01\x08\0\0\0\x02\0\0\0\0\0\0\0".to_vec(alloc)?;
+    fetch.push(view)?;
+    fetch.extend_from_slice(b"d\0\0\0\0\0\0\0\0\0\0\0\0")?;
+    fetch.extend_from_slice(b"\0\0\0\0\0\0\0\x03")?;
+    let mut packets = Vec::new(alloc);
+    packets.push(Datagram::new(9002, fetch))?;
+    let mut own = net(alloc, packets, &[])?;
+    let mut new = disk(alloc, &[])?;
+    let _ = ended_on(alloc, &mut own, &mut new, 2)?;
+    let is_kept = kinds(alloc, &mut new)?.as_slice() == b"\x05\x03".as_slice();
+    Ok((!own.sent().is_empty(), is_kept))
+}
+
+/// A message of another view is an input like any other, behind which nothing is sent.
+#[test]
+fn a_message_of_another_view_is_not_answered(rt: HostRuntime) -> Result<(), Fail> {
+    let alloc: Global = rt.alloc();
+    assert!(rt; fetched(alloc, 0)? == (true, true));
+    assert!(rt; fetched(alloc, 7)? == (false, true));
     Ok(())
 }
 
@@ -176,6 +171,33 @@ fn each_call_on_the_net_fails_in_turn(rt: HostRuntime) -> Result<(), Fail> {
     Ok(())
 }
 
+/// Where the first take fails, nothing is in the log but its begin; where the first send fails, the
+/// call is, and who goes on with the log has what it made.
+#[test]
+fn a_call_is_kept_though_its_reply_is_not_sent(rt: HostRuntime) -> Result<(), Fail> {
+    let alloc: Global = rt.alloc();
+    for fails in 1..3u64 {
+        let is_taken = fails == 2;
+        let mut own = disk(alloc, &[])?;
+        let mut packets = Vec::new(alloc);
+        packets.push(call(alloc, MKDIR)?)?;
+        let mut first = net(alloc, packets, &[fails])?;
+        assert!(rt; ended_on(alloc, &mut first, &mut own, 1)? == Status::NetFault);
+        assert!(rt; first.sent().is_empty());
+        let kept = if is_taken {
+            b"\x05\x01".as_slice()
+        } else {
+            b"\x05".as_slice()
+        };
+        assert!(rt; kinds(alloc, &mut own)?.as_slice() == kept);
+        let mut again = asks(alloc, &[LS, STOP])?;
+        assert!(rt; ended_on(alloc, &mut again, &mut own, 1)? == Status::Done);
+        let names = if is_taken { NAMES } else { NO_NAMES };
+        assert!(rt; is_answered(alloc, again.sent(), names)?);
+    }
+    Ok(())
+}
+
 #[test]
 fn a_log_is_gone_on_with(rt: HostRuntime) -> Result<(), Fail> {
     let alloc: Global = rt.alloc();
@@ -183,12 +205,12 @@ fn a_log_is_gone_on_with(rt: HostRuntime) -> Result<(), Fail> {
     let mut first = asks(alloc, &[MKDIR, STOP])?;
     assert!(rt; ended_on(alloc, &mut first, &mut own, 1)? == Status::Done);
     assert!(rt; first.sent().len() == 2);
-    assert!(rt; is_answered(alloc, &first, MADE)?);
+    assert!(rt; is_answered(alloc, first.sent(), MADE)?);
     assert!(rt; kinds(alloc, &mut own)?.as_slice() == b"\x05\x01\x01".as_slice());
     let mut again = asks(alloc, &[LS, STOP])?;
     assert!(rt; ended_on(alloc, &mut again, &mut own, 1)? == Status::Done);
     assert!(rt; again.sent().len() == 2);
-    assert!(rt; is_answered(alloc, &again, NAMES)?);
+    assert!(rt; is_answered(alloc, again.sent(), NAMES)?);
     let six = b"\x05\x01\x01\x04\x01\x01".as_slice();
     assert!(rt; kinds(alloc, &mut own)?.as_slice() == six);
     Ok(())
@@ -216,10 +238,12 @@ fn another_log_is_not_gone_on_with(rt: HostRuntime) -> Result<(), Fail> {
     let one_of_two = b"\x05\0\0\0\x01\0\0\0\x02".as_slice();
     let restart = b"\x04".as_slice();
     let none = b"\x01\x02".as_slice();
+    let unknown = b"\x09".as_slice();
     let entries = [one_of_two, restart];
     assert!(rt; found(alloc, &entries, 2)? == Status::TurnsSpent);
     assert!(rt; found(alloc, &entries, 3)? == Status::OtherLog(1, 2));
     assert!(rt; found(alloc, &[restart], 2)? == Status::BadLog(21));
+    assert!(rt; found(alloc, &[unknown], 2)? == Status::BadLog(21));
     // the second entry breaks off at its end
     assert!(rt; found(alloc, &[one_of_two, none], 2)? == Status::BadLog(37));
     // and it is bad whoever finds it
@@ -231,12 +255,12 @@ fn another_log_is_not_gone_on_with(rt: HostRuntime) -> Result<(), Fail> {
 #[test]
 fn each_call_on_the_disk_fails_in_turn(rt: HostRuntime) -> Result<(), Fail> {
     let alloc: Global = rt.alloc();
-    for fails in 0..12u64 {
+    for fails in 0..16u64 {
         let mut own = disk(alloc, &[fails])?;
         let mut calls = asks(alloc, &[MKDIR])?;
         let status = ended_on(alloc, &mut calls, &mut own, 1)?;
-        // the log is opened, begun, and has the call
-        let is_kept = fails == 11;
+        // the log is opened, both slots are looked at, and the log is begun, and has the call
+        let is_kept = fails == 15;
         assert!(rt;
             status
                 == if is_kept {
@@ -246,6 +270,44 @@ fn each_call_on_the_disk_fails_in_turn(rt: HostRuntime) -> Result<(), Fail> {
                 }
         );
         assert!(rt; calls.sent().len() == if is_kept { 1 } else { 0 });
+    }
+    Ok(())
+}
+
+/// Whether server 1 answered this one call over the disk. Where a call on the disk failed it did
+/// not, and it ended by that; else it did, and made all its takes.
+fn is_answered_on(
+    alloc: Global,
+    disk: &mut MemoryDisk,
+    words: &[u8],
+    reply: &[u8],
+) -> Result<bool, Fail> {
+    let before = disk.faults();
+    let mut own = asks(alloc, &[words])?;
+    let status = ended_on(alloc, &mut own, disk, 1)?;
+    if disk.faults() == before && status == Status::TurnsSpent {
+        return Ok(own.sent().len() == 1 && is_answered(alloc, own.sent(), reply)?);
+    }
+    if status == Status::DiskFault && own.sent().is_empty() {
+        return Ok(false);
+    }
+    Err(Fail::from("another end"))
+}
+
+/// Each call on the disk fails in turn, while a node begins a log, and while it goes on with one:
+/// what was answered is there in the end.
+#[test]
+fn what_was_answered_is_there_whatever_fails(rt: HostRuntime) -> Result<(), Fail> {
+    let alloc: Global = rt.alloc();
+    for fails in 0..48u64 {
+        let mut own = disk(alloc, &[fails])?;
+        let is_made = is_answered_on(alloc, &mut own, MKDIR, MADE)?;
+        assert!(rt; is_made == (own.faults() == 0));
+        if is_made {
+            let is_listed = is_answered_on(alloc, &mut own, LS, NAMES)?;
+            assert!(rt; is_listed == (own.faults() == 0));
+            assert!(rt; is_listed || is_answered_on(alloc, &mut own, LS, NAMES)?);
+        }
     }
     Ok(())
 }

@@ -1,4 +1,5 @@
 use Rattle.std.proofs.Common.{Option, refl, subst}
+use Rattle.pg_disk.proofs.Tries.{keeps_none}
 use Rattle.pg_host.specs.declared.asking.Asked.{Asked}
 use Rattle.pg_host.specs.Host.{Scene, scene}
 use Rattle.pg_host.specs.Turn.{Asks}
@@ -12,6 +13,9 @@ returns-in-None-clause-works g c =
     let b : Scene = scene (g.N.Net.told c.args.net.now) (g.N.Net.takes c.args.net.now) (g.C.Clock.told c.ask-found.new.clock) (g.D.Disk.told c.args.disk.now) c.args.log.now c.args.server.now.store in
     works_none g.N.Net.tells g.C.Clock.tells g.D.Disk.tells c.args.port c.args.from c.args.packet a b
     (subst (λ (x : Option Asked). Asks g.C.Clock.tells c.args.from c.args.packet x a.clock b.clock) c.in-None.is c.ask-found.ensures.asks) refl refl refl refl
+
+pub returns-in-None-clause-others : goal.returns-in-None-clause-others
+returns-in-None-clause-others g c = λ tells. keeps_none 0 (g.D.Disk.told c.args.disk.now)
 
 pub returns-in-Ok-clause-works : goal.returns-in-Ok-clause-works
 returns-in-Ok-clause-works g c =

@@ -70,6 +70,19 @@ returns-clause-stands g c = λ tells.
     stands_cut old new c.in_ok-records.records c.in_ok-records.gate read.1 read.0 read.2.0 (sym (c.in_ok-file.ensures.bytes tells) ∙ sym c.deref.ensures.value ∙ read.2.1) read.2.2
     (synced.contents ∙ ap (λ (t : Told). take (c.in_ok-records.gate + 1) (given t 0)) (c.read_file.ensures.same tells)) synced.settled
 
+pub returns-then-len-le17-clause-cut : goal.returns-then-len-le17-clause-cut
+returns-then-len-le17-clause-cut g c = λ tells long.
+    let old : Told = g.D.Disk.told c.args.disk.now in
+    let short : length (given old 0) ≤ 17 = (let size = ap length (c.in_ok-file.ensures.bytes tells) in omega (arith, size)) in
+    absurd (omega (arith, short, long))
+
+pub returns-clause-cut : goal.returns-clause-cut
+returns-clause-cut g c = λ tells long.
+    let old : Told = g.D.Disk.told c.args.disk.now in
+    let read = c.in_ok-records.ensures.ok in
+    let synced = c.in_ok-cut_synced.ensures.synced tells in
+    synced.contents ∙ ap (λ (t : Told). take (c.in_ok-records.gate + 1) (given t 0)) (c.read_file.ensures.same tells) ∙ ap (λ (n : ℕ). take (n + 1) (given old 0)) read.1
+
 pub returns-in_err-records-clause-whole : goal.returns-in_err-records-clause-whole
 returns-in_err-records-clause-whole g c = λ tells entries opens.
     let result = err_from_is_err_and c.from_residual-in_err-records.result c.from_residual-in_err-records.ensures.1 in
