@@ -39,7 +39,8 @@ abbrev pub SavesLastWhole : Type 0
 SavesLastWhole = (server servers k : ℕ) (checkpoint : Option Checkpoint) (old : Old)
     → GoesOn server servers checkpoint old → (own : List Asked) (was now : Option Slot)
     → 1 ≤ k → between * k ≤ length own + 1 → length own + 1 < between * k + between
-    → SlotsBehind server servers 1 (count_of old + 1) (begun server servers checkpoint old) was own now
+    → SlotsBehind server servers 1 (count_of old + 1)
+    (begun server servers checkpoint old) was own now
     → FitsState (behind server servers checkpoint old own k)
     → length (state_bytes (behind server servers checkpoint old own k)) < 2 ^ 32
     → number_of was + k < 2 ^ 64
