@@ -34,10 +34,9 @@ use Rattle.law_order.specs.pg_server.declared.input.Input.{Input}
 use Rattle.law_order.specs.pg_server.declared.input.Input.TheVariants as input
 use Rattle.law_order.specs.pg_server.Local.{Effect, closed, effect, finished, first_effect, is_heard, receive, reply_to, settled, takes_effect, ticked}
 use Rattle.law_order.proofs.theory_flood_pieces.Choices.{chosen, decided}
-use Rattle.law_births.proofs.ByeBodies.{delta_same, harbinger_same, later_same, piece_same, want_same}
 use Rattle.law_births.proofs.ByeCalls.{call_same}
 use Rattle.law_births.proofs.ByeLosses.{enter_bye}
-use Rattle.law_births.proofs.ByeKeys.{ByeKey, Same, accept_same, bye_in, cell_same, confirm_same, end_same, ended_same, fetch_same, full_same, grant_same, invite_same, leave_same, no_grant_same, none_here_same, place_is_same, seek_same, settle_same, tell_ok_same, tell_same, unlink_same, walk_same}
+use Rattle.law_births.proofs.ByeKeys.{ByeKey, Same, bye_in, end_same, ended_same, received_same, settle_same}
 use Rattle.law_births.proofs.Ends.{listed_if}
 use Rattle.law_births.proofs.Leaves.{now_goes}
 
@@ -56,32 +55,9 @@ module _ (file : FileId) (birth peer : ℕ) (P : Option Intent → Type 0) where
 
   -- ANY MESSAGE
   pub received_bye : (a : Store) (m : Message) (w : Work) → Changes a m w → P (At a) → P (At (receive a m w).store)
-  received_bye a (message.Cell x tag c) w changes k = on (cell_same file birth peer a w x tag c) k
-  received_bye a (message.Harbinger x tag head) w changes k = on (harbinger_same file birth peer a w x tag head) k
-  received_bye a (message.Want x wanted) w changes k = on (want_same file birth peer a w x wanted) k
-  received_bye a (message.Delta x d) w changes k = on (delta_same file birth peer a w x d) k
-  received_bye a (message.Piece x p) w changes k = on (piece_same file birth peer a w x p) k
-  received_bye a (message.Later x stamp) w changes k = on (later_same file birth peer a w x stamp) k
-  received_bye a (message.Fetch f n) w changes k = on (fetch_same file birth peer a w f n) k
-  received_bye a (message.Grant x g) w changes k = on (grant_same file birth peer a w x g) k
-  received_bye a (message.NoGrant f n) w changes k = on (no_grant_same file birth peer a w f n) k
-  received_bye a (message.Full x) w changes k = on (full_same file birth peer a w x) k
-  received_bye a (message.Seek f n) w changes k = on (seek_same file birth peer a w f n) k
-  received_bye a (message.Here x) w changes k = on (accept_same file birth peer a w x) k
-  received_bye a (message.NoneHere what f child) w changes k = on (none_here_same file birth peer a w what f child) k
-  received_bye a (message.Gone f n) w changes k = on (unlink_same file birth peer a f w.from n) k
-  received_bye a (message.Bye x) w changes k = on (unlink_same file birth peer a x.file w.from x.sender) k
   received_bye a (message.ByeOk f n) w changes k = changes.answered f n refl
-  received_bye a (message.Confirm dir e) w changes k = on (confirm_same file birth peer a w dir e) k
-  received_bye a (message.PlaceIs dir e) w changes k = on (place_is_same file birth peer a w dir e) k
-  received_bye a (message.Tell dir e) w changes k = on (tell_same file birth peer a w dir e) k
-  received_bye a (message.TellOk dir child stamp) w changes k = on (tell_ok_same file birth peer a w dir child stamp) k
-  received_bye a (message.Invite x) w changes k = on (invite_same file birth peer a w x) k
-  received_bye a (message.Leave x stamp) w changes k = on (leave_same file birth peer a w x stamp) k
   received_bye a (message.LeaveOk x stamp) w changes k = changes.left x stamp refl
-  received_bye a (message.Walk x origin n hops word) w changes k = on (walk_same file birth peer a w x origin n hops word) k
-  received_bye a (message.Meet x) w changes k = on (accept_same file birth peer a w x) k
-  received_bye a m w changes k = k
+  received_bye a m w changes k = on (received_same file birth peer a w m refl) k
 
   -- what a message that is heard changes, and a removal of the peer
   pub record ChangesIn (a : Store) (asked : Input) : Type 0 where

@@ -1,15 +1,13 @@
 -- What stands at the key of a Bye: most of what an event does leaves it as it was.
-use Rattle.std.proofs.Common.{ℕ, ◌≡◌, ◌&&◌, ◌++◌, ◌==◌, Bool, true, false, cond, not, nat_lt, List, [], ◌∷◌, Option, None, refl, ap, ◌∙◌}
+use Rattle.std.proofs.Common.{Some, sym, subst, ℕ, ◌≡◌, ◌++◌, Bool, true, false, cond, List, [], ◌∷◌, Option, None, refl, ap, ◌∙◌}
 use Rattle.std.specs.List.{AllByRecursion}
 use Rattle.std.specs.Option.{option_map}
 use Rattle.std.proofs.lemmas.Bool.{false≢true}
+use Rattle.std.proofs.lemmas.Option.{none-some, same_Some}
 use Rattle.law_order.specs.pg_base.declared.id.FileId.{FileId}
 use Rattle.law_order.specs.pg_base.declared.policy.Policy.{Policy}
 use Rattle.law_order.specs.pg_base.declared.stamp.Stamp.{Stamp}
 use Rattle.law_order.specs.pg_base.Id.{is_same_file}
-use Rattle.law_order.specs.pg_edges.declared.edge.Edge.{Edge}
-use Rattle.law_order.specs.pg_entries.declared.cell.Cell.{Cell}
-use Rattle.law_order.specs.pg_entries.declared.cell.Cell.TheVariants as cells
 use Rattle.law_order.specs.pg_entries.declared.entry.Entry.{Entry}
 use Rattle.law_order.specs.pg_intent.declared.intent.Intent.{Intent}
 use Rattle.law_order.specs.pg_intent.declared.intent.Intent.TheVariants as intent
@@ -19,50 +17,34 @@ use Rattle.law_order.specs.pg_intent.Intent.{aimed_at}
 use Rattle.law_order.specs.pg_intent.Intents.{aimed, ended, has_key, intent_at}
 use Rattle.law_order.specs.pg_intent.Key.{is_same_key}
 use Rattle.law_order.proofs.pg_intent.Found.{aimed_found, ended_found}
-use Rattle.law_order.specs.pg_msg.declared.message.Ask.{Ask}
-use Rattle.law_order.specs.pg_msg.declared.message.Ask.TheVariants as ask
 use Rattle.law_order.specs.pg_msg.declared.message.Ends.{Ends}
-use Rattle.law_order.specs.pg_msg.declared.message.Granted.{Granted}
+use Rattle.law_order.specs.pg_msg.declared.message.Message.{Message}
 use Rattle.law_order.specs.pg_msg.declared.message.Message.TheVariants as message
 use Rattle.law_order.specs.pg_msg.declared.work.Work.{Work}
 use Rattle.law_order.specs.pg_names.declared.attributes.Attributes.{Attributes}
-use Rattle.law_order.specs.pg_names.Names.{fill as fill_names}
 use Rattle.law_order.specs.pg_register.declared.flag.Flag.{Flag}
 use Rattle.law_order.specs.pg_register.declared.place.Place.{Place}
 use Rattle.law_order.specs.pg_base.Version.{VersionValue}
-use Rattle.law_order.specs.pg_house.Work.{is_root}
 use Rattle.law_order.specs.pg_replica.Index.{Files}
 use Rattle.law_order.specs.pg_store.declared.store.Store.{Store}
 use Rattle.law_order.specs.pg_store.Beginning.{begin, patch_key, patches_of, put_new, take_patch, take_patches, with_intents}
-use Rattle.law_order.specs.pg_store.Births.{fill_at, has_birth, is_pending, wish_at, with_wishes}
-use Rattle.law_order.specs.pg_store.Links.{is_linked, is_new_link, knows_later, link, put_link, unlink}
-use Rattle.law_order.specs.pg_store.Servers.{next_target}
-use Rattle.law_order.specs.pg_store.Store.{is_full, is_held, is_new_version, is_newer_entry, is_newer_flag, is_newer_place, put_entry, put_flag, put_place, put_version, take_entry, take_flag, take_place, take_version, with_names}
-use Rattle.law_order.specs.pg_store.Wishes.{aim_wish}
-use Rattle.law_order.specs.pg_pieces.declared.accepting.EdgeUse.TheVariants as manner
-use Rattle.law_order.specs.pg_pieces.Accepting.{accept, is_accepted, link_peer, with_gone}
-use Rattle.law_order.specs.pg_cells.Cells.{cell, fits, taken, taken_along}
-use Rattle.law_order.specs.pg_pieces.Done.{Done, idle}
-use Rattle.law_order.specs.pg_pieces.Making.{own_next, raise_flag}
-use Rattle.law_order.specs.pg_pieces.Posting.{reply}
+use Rattle.law_order.specs.pg_store.Links.{is_linked, is_new_link, link, put_link, unlink}
+use Rattle.law_order.specs.pg_store.Store.{is_new_version, is_newer_entry, is_newer_flag, is_newer_place, put_entry, put_flag, put_place, put_version, take_entry, take_flag, take_place, take_version}
+use Rattle.law_order.specs.pg_pieces.Done.{Done}
+use Rattle.law_order.specs.pg_pieces.Making.{own_next}
 use Rattle.law_order.specs.pg_cells.Settling.{settle}
-use Rattle.law_order.specs.pg_pieces.Taking.{take_entry_noted, take_flag_noted, take_flags_noted, take_place_noted}
 use Rattle.law_order.proofs.pg_cells.Settled.{settle_keeps}
-use Rattle.law_order.specs.pg_graph.Leaving.{leave, leave_given}
-use Rattle.law_order.specs.pg_graph.Seeking.{answered_seek, seek}
+use Rattle.law_order.proofs.pg_graph.LeaveOk.{found_keyed}
+use Rattle.law_order.proofs.law_frame.Keeps.{Keeps, ending}
+use Rattle.law_order.proofs.law_frame.Received.{receive_keeps}
+use Rattle.law_order.specs.pg_server.Local.{receive}
 use Rattle.law_order.specs.pg_intentions.Seeks.{begin_seek, to_seek, begin_seeks}
-use Rattle.law_order.specs.pg_graph.Walks.{goes_on, meet_origin, onward, walk, walk_on, walked}
 use Rattle.law_order.specs.pg_intentions.Beginning.{begin_end, end_others, still_stands}
-use Rattle.law_order.specs.pg_repair.Confirming.{confirm, confirmed, is_confirmed, place_is, place_told, take_told_flags, take_told_place}
 use Rattle.law_order.specs.pg_intentions.Confirms.{begin_confirm}
-use Rattle.law_order.specs.pg_repair.Fetching.{answered_fetch, fetch}
-use Rattle.law_order.specs.pg_repair.Filling.{few_golds, fill, full, invite, invited, is_bronze, live_golds, raise_if_few}
 use Rattle.law_order.specs.pg_intentions.Fills.{begin_fill, begin_fills, files_to_fill, to_fill}
-use Rattle.law_order.specs.pg_repair.Granting.{aim_fill, begin_granted, begun_by, fill_asks, grant, granted_own, no_grant, turn_wish, wish_asks}
+use Rattle.law_order.specs.pg_repair.Granting.{granted_own}
 use Rattle.law_order.specs.pg_intentions.Intending.{in_order}
-use Rattle.law_order.specs.pg_repair.NoneHere.{asking_key, does_ask, none_here}
 use Rattle.law_order.specs.pg_intentions.Patches.{begin_patch, begin_patches}
-use Rattle.law_order.specs.pg_repair.Telling.{is_told, tell, tell_ok, told}
 use Rattle.law_order.proofs.pg_intentions.Standing.{confirm_at, each_at, fill_other, filtered, patch_at, seek_other}
 use Rattle.law_order.proofs.Sounding.{patch_intents, rules_intents}
 use Rattle.law_order.proofs.theory_flood_pieces.Choices.{chosen}
@@ -99,6 +81,20 @@ module _ (file : FileId) (birth peer : ℕ) where
   others_all dir [] = tt
   others_all dir (i ∷ is) = others_both (patch_key dir i) (patches_of dir is) (others_one dir i) (others_all dir is)
 
+  -- ---- a Bye asks nobody else
+
+  bye_aimed : (to : ℕ) (i : Intent) → has_key ByeKey i ≡ true → aimed_at to i ≡ i
+  bye_aimed to (intent.Bye f n p m) has = refl
+  bye_aimed to (intent.Leave f p n) has = refl
+  bye_aimed to (intent.Seek f t) has = absurd (false≢true has)
+  bye_aimed to (intent.Fill f n t) has = absurd (false≢true has)
+  bye_aimed to (intent.Patch d e t) has = absurd (false≢true has)
+  bye_aimed to (intent.Confirm d c t) has = absurd (false≢true has)
+
+  found_aimed : (to : ℕ) (o : Option Intent) → ((i : Intent) → o ≡ Some i → has_key ByeKey i ≡ true) → option_map (aimed_at to) o ≡ o
+  found_aimed to None has = refl
+  found_aimed to (Some i) has = ap (λ (x : Intent). Some x) (bye_aimed to i (has i refl))
+
   -- ---- pieces
 
   module _ (a : Store) where
@@ -129,18 +125,14 @@ module _ (file : FileId) (birth peer : ℕ) where
     pub version_same : (f : FileId) (v : VersionValue) → Same (take_version a f v)
     version_same f v = either_same (is_new_version a f v) (put_version a f v) refl
 
-    pub aimed_same : (q : IntentKey) (to : ℕ) → is_same_key ByeKey q ≡ false → Same (with_intents a (aimed a.intents q to))
-    aimed_same q to other =
-        aimed_found a.intents q to ByeKey ∙ ap (λ t. cond t (option_map (aimed_at to) (bye_in a)) (bye_in a)) other
+    pub aimed_same : (q : IntentKey) (to : ℕ) → Same (with_intents a (aimed a.intents q to))
+    aimed_same q to =
+        aimed_found a.intents q to ByeKey
+        ∙ chosen (λ (o : Option Intent). o ≡ bye_in a) (is_same_key ByeKey q) (option_map (aimed_at to) (bye_in a)) (bye_in a)
+        (found_aimed to (bye_in a) (λ i is. found_keyed ByeKey i a.intents is)) refl
 
     pub ended_same : (q : IntentKey) → is_same_key ByeKey q ≡ false → Same (with_intents a (ended a.intents q))
     ended_same q other = ended_found a.intents q ByeKey ∙ ap (λ t. cond t None (bye_in a)) other
-
-    pub taken_same : (f : FileId) (c : Cell) (w : Work) → To (taken a f c w)
-    taken_same f (cells.Place place) w = place_same f place
-    taken_same f (cells.Flag flag) w = flag_same f flag
-    taken_same f (cells.Entry e sure) w = entry_same f e
-    taken_same f (cells.Version v) w = version_same f v
 
   patches_same : (dir : FileId) (ks : List IntentKey) (a : Store) → Others ks → Same a (take_patches a dir ks)
   patches_same dir [] a h = refl
@@ -151,15 +143,6 @@ module _ (file : FileId) (birth peer : ℕ) where
   pub begin_same : (a : Store) (f : FileId) (n : ℕ) (policy : Policy) (own : Attributes) (full : Bool) → Same a (begin a f n policy own full)
   begin_same a f n policy own full =
       patches_same f (patches_of f a.intents) (put_new a f n policy own full) (others_all f a.intents)
-
-  pub flags_same : (fs : List Flag) (a : Store) (f : FileId) (w : Work) → To a (take_flags_noted a f fs w)
-  flags_same [] a f w = refl
-  flags_same (flag ∷ fs) a f w =
-      flags_same fs (take_flag a f flag) f (take_flag_noted a f flag w).work ∙ flag_same a f flag
-
-  pub few_same : (a : Store) (f : FileId) (w : Work) → To a (raise_if_few a f w)
-  few_same a f w =
-      chosen (To a) (nat_lt (live_golds a f) few_golds) (raise_flag a f w) (idle a w) (flag_same a f (own_next a f true)) refl
 
   -- ---- the end of an event
 
@@ -194,128 +177,55 @@ module _ (file : FileId) (birth peer : ℕ) where
 
   -- ---- messages
 
-  module _ (a : Store) (w : Work) where
-    abbrev Rests : Done → Type 0
-    Rests d = To a d
+  -- by these it may change
+  abbrev pub may_change : Message → Bool
+  may_change (message.ByeOk f n) = true
+  may_change (message.LeaveOk x stamp) = true
+  may_change _ = false
 
-    pub accept_same : (x : Ends) → Rests (accept a x manner.Makes w)
-    accept_same x =
-        let later = knows_later a x.file w.from x.sender in
-        let linked = link_peer a x.file w.from x.sender w in
-        chosen Rests (has_birth a x.file x.receiver) (cond later (idle a w) linked) (idle a (with_gone a x manner.Makes w))
-        (chosen Rests later (idle a w) linked refl (link_same a x.file w.from x.sender)) refl
+  ending_other : (asker : ℕ) (m : Message) (q : IntentKey) → may_change m ≡ false → ending asker m ≡ Some q → is_same_key ByeKey q ≡ false
+  ending_other asker (message.ByeOk f n) q none is = absurd (false≢true (sym none))
+  ending_other asker (message.LeaveOk x stamp) q none is = absurd (false≢true (sym none))
+  ending_other asker (message.PlaceIs dir e) q none is =
+      subst (λ (k : IntentKey). is_same_key ByeKey k ≡ false) (same_Some (intent_key.Confirm dir e.child) q is) refl
+  ending_other asker (message.TellOk dir child stamp) q none is =
+      subst (λ (k : IntentKey). is_same_key ByeKey k ≡ false) (same_Some (intent_key.Patch dir child) q is) refl
+  ending_other asker m q none is = absurd (none-some q is)
 
-    pub asked_same : (x : Ends) → Rests (accept a x manner.Needs w)
-    asked_same x =
-        let later = knows_later a x.file w.from x.sender in
-        chosen Rests (has_birth a x.file x.receiver) (cond later (idle a w) (idle a w)) (idle a (with_gone a x manner.Needs w))
-        (chosen Rests later (idle a w) (idle a w) refl refl) refl
+  module _ (a : Store) (w : Work) (m : Message) (none : may_change m ≡ false) where
+    leaves_not : (x : Ends) (stamp : Stamp) → m ≡ message.LeaveOk x stamp → ⊥
+    leaves_not x stamp is = false≢true (sym (subst (λ (y : Message). may_change y ≡ false) is none))
 
-    pub cell_same : (x : Ends) (tag : ℕ) (c : Cell) → Rests (cell a x tag c w)
-    cell_same x tag c =
-        let met = accept a x manner.Makes w in
-        let t = is_accepted a w.from manner.Makes x in
-        chosen Rests (fits x.file c) (cond t (taken_along x tag c met) met) (idle a w)
-        (chosen Rests t (taken_along x tag c met) met (taken_same met.store x.file c met.work ∙ accept_same x) (accept_same x)) refl
+    keeps_same : Keeps a w m (To a)
+    keeps_same = record {
+      cell_place = λ d ends tag place is here k. place_same d.store ends.file place ∙ k;
+      cell_flag = λ d ends tag flag is here k. flag_same d.store ends.file flag ∙ k;
+      cell_entry = λ d ends tag e sure is dir here k. entry_same d.store ends.file e ∙ k;
+      version = λ d f v is k. version_same d.store f v ∙ k;
+      told_place = λ d dir e is held apart k. place_same d.store e.child e.place ∙ k;
+      told_flag = λ d dir e flag is held among k. flag_same d.store e.child flag ∙ k;
+      place_is = λ d dir e is held k. entry_same d.store dir e ∙ k;
+      tell = λ d dir e is held k. entry_same d.store dir e ∙ k;
+      links = λ d f n is same k. link_same d.store f d.work.from n ∙ k;
+      meets = λ d ends origin n hops word is here k. link_same d.store ends.file origin n ∙ k;
+      unlinks = λ d f n is same k. unlink_same d.store f d.work.from n ∙ k;
+      acknowledges = λ d ends q tag is same k. k;
+      begins = λ ends g is pending k. begin_same a ends.file ends.receiver g.policy (granted_own g) false ∙ k;
+      fills = λ ends is here filling k. k;
+      raises = λ d ends is here few k. flag_same d.store ends.file (own_next d.store ends.file true) ∙ k;
+      goes = λ ends stamp is may k. absurd (leaves_not ends stamp is);
+      says_bye = λ d ends stamp e is may among k. absurd (leaves_not ends stamp is);
+      ends_intent = λ d q is k. ended_same d.store q (ending_other w.from m q none is) ∙ k;
+      turns_intent = λ d q to is k. aimed_same d.store q to ∙ k;
+      asks_granter = λ d ends g is same k. aimed_same d.store (intent_key.Fill ends.file) d.work.from ∙ k;
+      turns_wish = λ d f to is k. k;
+      answers = λ d r of same k. k;
+      tells_origin = λ d ends origin n hops word is here k. k;
+      passes_on = λ ends origin n hops word left rest i e is here at k. k;
+      notes = λ d ns k. k;
+      keeps = λ d f delta k. k;
+      tells = λ d ends head e of there k. k;
+    }
 
-    pub seek_same : (f : FileId) (n : ℕ) → Rests (seek a f n w)
-    seek_same f n =
-        let later = knows_later a f w.from n in
-        let linked = answered_seek f n (link_peer a f w.from n w) in
-        chosen Rests (is_held a f) (cond later (idle a w) linked) (idle a (reply a (message.NoneHere ask.Seek f f) w))
-        (chosen Rests later (idle a w) linked refl (link_same a f w.from n)) refl
-
-    walked_same : (x : Ends) (origin n hops word : ℕ) (es : List Edge) → Rests (walked a x origin n hops word es w)
-    walked_same x origin n hops word es =
-        chosen Rests (goes_on hops es) (idle a (walk_on a x.file origin n hops word es w)) (meet_origin a x.file origin n w)
-        refl (link_same a x.file origin n)
-
-    pub walk_same : (x : Ends) (origin n hops word : ℕ) → Rests (walk a x origin n hops word w)
-    walk_same x origin n hops word =
-        let es = onward a x.file w.from origin in
-        let on = walked a x origin n hops word es w in
-        chosen Rests (is_accepted a w.from manner.Needs x) (cond (origin == a.names.server) (idle a w) on) (accept a x manner.Needs w)
-        (chosen Rests (origin == a.names.server) (idle a w) on refl (walked_same x origin n hops word es)) (asked_same x)
-
-    pub fetch_same : (f : FileId) (n : ℕ) → Rests (fetch a f n w)
-    fetch_same f n =
-        let later = knows_later a f w.from n in
-        let linked = answered_fetch f n (link_peer a f w.from n w) in
-        chosen Rests (is_full a f) (cond later (idle a w) linked) (idle a (reply a (message.NoGrant f n) w))
-        (chosen Rests later (idle a w) linked refl (link_same a f w.from n)) refl
-
-    pub grant_same : (x : Ends) (g : Granted) → Rests (grant a x g w)
-    grant_same x g =
-        let b = begun_by a x g in
-        let c = link b x.file w.from x.sender in
-        chosen Rests (is_pending a x.file x.receiver) (begin_granted a x g w) (accept a x manner.Makes w)
-        (aimed_same c (intent_key.Fill x.file) (link_peer b x.file w.from x.sender w).work.from refl
-        ∙ link_same b x.file w.from x.sender ∙ begin_same a x.file x.receiver g.policy (granted_own g) false)
-        (accept_same x)
-
-    pub no_grant_same : (f : FileId) (n : ℕ) → Rests (no_grant a f n w)
-    no_grant_same f n =
-        let next = next_target a w.from in
-        let b = turn_wish a f n w.from next in
-        chosen (Same b) (fill_asks (fill_at b f) n w.from) (aim_fill b f next) b (aimed_same b (intent_key.Fill f) next refl) refl
-        ∙ chosen (Same a) (wish_asks (wish_at a f) n w.from) (with_wishes a (aim_wish a.wishes f next)) a refl refl
-
-    asking_other : (what : Ask) (f child : FileId) → is_same_key ByeKey (asking_key what f child) ≡ false
-    asking_other ask.Seek f child = refl
-    asking_other ask.Confirm f child = refl
-    asking_other ask.Patch f child = refl
-
-    pub none_here_same : (what : Ask) (f child : FileId) → Rests (none_here a what f child w)
-    none_here_same what f child =
-        let k = asking_key what f child in
-        let next = next_target a w.from in
-        chosen (Same a) (does_ask (intent_at a.intents k) w.from) (with_intents a (aimed a.intents k next)) a
-        (aimed_same a k next (asking_other what f child)) refl
-
-    pub full_same : (x : Ends) → Rests (full a x w)
-    full_same x =
-        let b = with_names a (fill_names a.names x.file) in
-        chosen Rests (is_accepted a w.from manner.Answers x && not (is_full a x.file)) (fill a x.file w) (idle a w)
-        (few_same b x.file w) refl
-
-    pub invite_same : (x : Ends) → Rests (invite a x w)
-    invite_same x =
-        let met = accept a x manner.Needs w in
-        chosen Rests (is_accepted a w.from manner.Needs x) (invited x met) met
-        (chosen Rests (is_bronze met.store x.file) (raise_if_few met.store x.file met.work) met
-        (few_same met.store x.file met.work ∙ asked_same x) (asked_same x)) (asked_same x)
-
-    told_place_same : (e : Entry) → Rests (take_told_place a e w)
-    told_place_same e =
-        chosen Rests (is_root e.child) (idle a w) (take_place_noted a e.child e.place w) refl (place_same a e.child e.place)
-
-    pub confirm_same : (dir : FileId) (e : Entry) → Rests (confirm a dir e w)
-    confirm_same dir e =
-        let d = take_told_place a e w in
-        chosen Rests (is_held a e.child) (place_told dir e.child (take_told_flags e d))
-        (idle a (reply a (message.NoneHere ask.Confirm dir e.child) w))
-        (flags_same e.flags d.store e.child d.work ∙ told_place_same e) refl
-
-    pub place_is_same : (dir : FileId) (e : Entry) → Rests (place_is a dir e w)
-    place_is_same dir e =
-        let d = take_entry_noted a dir e w in
-        let q = intent_key.Confirm dir e.child in
-        chosen Rests (is_held a dir) (confirmed dir e d) (idle a w)
-        (chosen (Same d.store) (is_confirmed d.store dir e.child e.place.stamp) (with_intents d.store (ended d.store.intents q)) d.store
-        (ended_same d.store q refl) refl ∙ entry_same a dir e)
-        refl
-
-    pub tell_same : (dir : FileId) (e : Entry) → Rests (tell a dir e w)
-    tell_same dir e =
-        chosen Rests (is_held a dir) (told dir e (take_entry_noted a dir e w)) (idle a (reply a (message.NoneHere ask.Patch dir e.child) w))
-        (entry_same a dir e) refl
-
-    pub tell_ok_same : (dir child : FileId) (stamp : Stamp) → Rests (tell_ok a dir child stamp w)
-    tell_ok_same dir child stamp =
-        let q = intent_key.Patch dir child in
-        chosen (Same a) (is_told (intent_at a.intents q) stamp w.from) (with_intents a (ended a.intents q)) a (ended_same a q refl) refl
-
-    pub leave_same : (x : Ends) (stamp : Stamp) → Rests (leave a x stamp w)
-    leave_same x stamp =
-        let met = accept a x manner.Makes w in
-        chosen Rests (is_accepted a w.from manner.Makes x) (leave_given x stamp met) met (accept_same x) (accept_same x)
+    pub received_same : Same a (receive a m w).store
+    received_same = receive_keeps a w (To a) m keeps_same refl

@@ -1,9 +1,8 @@
--- What stands at the key of a Bye where what was lost is given up, and where a server is removed.
+-- What stands at the key of a Bye where a server is removed: only a Bye to it ends.
 use Rattle.std.proofs.Common.{ℕ, ◌≡◌, ◌==◌, ◌++◌, ◌||◌, ◌⊎◌, Bool, true, false, cond, List, [], ◌∷◌, Option, None, Some, inl, inr, refl, sym, ap, ◌∙◌}
 use Rattle.std.specs.Map.{keys_of}
 use Rattle.std.proofs.lemmas.Bool.{eqb-true, false≢true}
 use Rattle.law_order.specs.pg_base.declared.id.FileId.{FileId}
-use Rattle.law_order.specs.pg_base.declared.policy.Policy.TheVariants.{Last}
 use Rattle.law_order.specs.pg_intent.declared.intent.Intent.{Intent}
 use Rattle.law_order.specs.pg_intent.declared.intent.Intent.TheVariants as intent
 use Rattle.law_order.specs.pg_intent.declared.key.IntentKey.{IntentKey}
@@ -13,72 +12,10 @@ use Rattle.law_order.specs.pg_intent.Intents.{intent_at, keys_to, turned_each}
 use Rattle.law_order.specs.pg_intent.Key.{is_same_key}
 use Rattle.law_order.proofs.pg_intent.SameKey.{is_same_key-true}
 use Rattle.law_order.proofs.pg_intent.Turned.{each_found, is_one_of}
-use Rattle.law_order.specs.pg_msg.declared.update.Update.TheVariants as update
-use Rattle.law_order.specs.pg_msg.declared.work.Work.{Work}
-use Rattle.law_order.specs.pg_msg.Work.{with_made}
-use Rattle.law_order.specs.pg_names.declared.attributes.Attributes.{Attributes}
-use Rattle.law_order.specs.pg_register.declared.place.Place.{Place}
 use Rattle.law_order.specs.pg_store.Servers.{next_target}
-use Rattle.law_order.specs.pg_store.Store.{is_held, with_names}
 use Rattle.law_order.specs.pg_store.Views.{cut, cut_born, cut_each, enter, listed_birth, with_removed}
-use Rattle.law_order.specs.pg_repair.Filling.{fill}
-use Rattle.law_order.specs.pg_calls.Forgetting.{bare_entry, begin_lost, begun_at, begun_with, dead_at, dirs_of, fill_lost, forget_lost, has_blank_place, is_wanted, last_listing, last_place, mark, marked_each, placed_in_root, placed_lost, root_place, strike_out, struck_out, unfilled, unwished}
-use Rattle.law_order.specs.pg_names.Names.{blank_own, fill as fill_names, is_dir}
 use Rattle.law_order.specs.pg_store.declared.store.Store.{Store}
-use Rattle.law_order.specs.pg_store.Births.{draw_birth, with_birth}
-use Rattle.law_order.specs.pg_pieces.Done.{Done, idle}
-use Rattle.law_order.specs.pg_pieces.Making.{own_next}
-use Rattle.law_order.specs.pg_calls.Naming.{raised}
-use Rattle.law_order.proofs.theory_flood_pieces.Choices.{chosen}
-use Rattle.law_births.proofs.ByeKeys.{ByeKey, Same, begin_same, bye_in, ended_same, entry_same, few_same, flag_same, place_same, unlink_same}
-
--- ---- what was lost is given up
-
-module _ (file : FileId) (birth peer : ℕ) (id : FileId) (work : Work) where
-  abbrev SameIn : Store → Store → Type 0
-  SameIn a b = Same file birth peer a b
-
-  root_same : (a : Store) → SameIn a (placed_in_root id a work).store
-  root_same a = place_same file birth peer a id (root_place a work.now id)
-
-  filled_same : (a : Store) (w : Work) → SameIn a (fill a id w).store
-  filled_same a w =
-      few_same file birth peer (with_names a (fill_names a.names id)) id w
-
-  marks_same : (dirs : List FileId) (a : Store) (place : Place) (w : Work) → SameIn a (marked_each a id place dirs w).store
-  marks_same [] a place w = refl
-  marks_same (dir ∷ dirs) a place w =
-      let one = mark id place a dir w in
-      marks_same dirs one.store place one.work ∙ entry_same file birth peer a dir (bare_entry id place)
-
-  struck_same : (a : Store) (o : Option FileId) → SameIn a (struck_out a id work o).store
-  struck_same a None = refl
-  struck_same a (Some dir) =
-      let dead = dead_at a work.now id dir in
-      marks_same (dirs_of a.names id) (unwished a id) dead (with_made work (update.Place id dead))
-
-  with_same : (a : Store) (own : Attributes) → SameIn a (begun_with a id own)
-  with_same a own =
-      begin_same file birth peer (unfilled (with_birth a) id) id (draw_birth a) Last own true
-      ∙ ended_same file birth peer (with_birth a) (intent_key.Fill id) refl
-
-  at_same : (a : Store) (o : Option Place) → SameIn a (begun_at a id work o).store
-  at_same a (Some p) = with_same a (record { place = p; flags = [] })
-  at_same a None = root_same (begun_with a id (blank_own id)) ∙ with_same a (blank_own id)
-
-  pub lost_same : (a : Store) → SameIn a (forget_lost a id work).store
-  lost_same a =
-      let d = placed_lost a id work in
-      let e = begun_at a id work (last_place a.names id) in
-      chosen (λ (x : Done). SameIn a x.store) (is_held a id) (fill_lost a id work) (cond (is_dir id) (begin_lost a id work) (strike_out a id work))
-      (filled_same d.store d.work
-      ∙ chosen (λ (x : Done). SameIn a x.store) (has_blank_place a id) (placed_in_root id a work) (idle a work) (root_same a) refl)
-      (chosen (λ (x : Done). SameIn a x.store) (is_dir id) (begin_lost a id work) (strike_out a id work)
-      (chosen (λ (x : Done). SameIn a x.store) (is_wanted a id) (raised id e) (idle a work)
-      (flag_same file birth peer e.store id (own_next e.store id true) ∙ at_same a (last_place a.names id)) refl)
-      (struck_same a (last_listing a.names id (dirs_of a.names id))))
-
--- ---- a server is removed: only a Bye to it ends
+use Rattle.law_births.proofs.ByeKeys.{ByeKey, Same, bye_in, unlink_same}
 
 either_is : (b c : Bool) → (b || c) ≡ true → (b ≡ true) ⊎ (c ≡ true)
 either_is true c h = inl refl

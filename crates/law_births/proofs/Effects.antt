@@ -159,7 +159,7 @@ module _ (a : Store) (ends : Ends) (work : Work) (current : is_current a work.fr
       fitting (fits ends.file c) (cond (is_accepted a work.from manner.Makes ends) (taken_along ends tag c met) met) (idle a work) fit
       (chosen (λ (d : Done). Named d.store) (is_accepted a work.from manner.Makes ends) (taken_along ends tag c met) met
       (lists_on met.store (taken_along ends tag c met).store ends.file work.from ends.sender
-      ((taken_stays AnyWhy a met.store ends.file c met.work).shapes ends.file) accept_listed)
+      ((taken_stays met.store ends.file c met.work).shapes ends.file) accept_listed)
       accept_listed)
 
   granting : (t : Bool) (d e : Done) → t ≡ false → Named e.store → Named (cond t d e).store

@@ -62,7 +62,7 @@ use Rattle.law_births.proofs.Mails.{OfBirths, Owed, SaysSent}
 use Rattle.law_births.proofs.Parting.{said_begun}
 use Rattle.law_births.proofs.Saying.{IsSaid, said_on, said_place}
 use Rattle.law_births.proofs.StoreSays.{own_says, say_begin, say_write}
-use Rattle.law_births.proofs.Received.{fine_flag, fine_raise}
+use Rattle.law_births.proofs.Raising.{fine_flag, fine_raise}
 use Rattle.law_births.proofs.FineLosses.{entered_fine, forgotten_fine}
 
 module _ (P : FileId → ℕ → ℕ → Type 0) (G : FileId → ℕ → Type 0) (s from : ℕ) where

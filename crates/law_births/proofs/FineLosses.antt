@@ -40,7 +40,7 @@ use Rattle.law_births.proofs.Losing.{filled_stays, placed_lost_stays}
 use Rattle.law_births.proofs.Mails.{OfBirths, Owed}
 use Rattle.law_order.proofs.pg_run.Still.{same_mail}
 use Rattle.law_births.proofs.Pieces.{flag_stays, place_stays}
-use Rattle.law_births.proofs.Received.{fine_fill, fine_raise}
+use Rattle.law_births.proofs.Raising.{fine_fill, fine_raise}
 use Rattle.law_births.proofs.Saying.{IsSaid, own_named, said_entry, said_last, said_on, said_place}
 use Rattle.law_births.proofs.StoreSays.{say_begin, say_ended}
 use Rattle.law_births.proofs.Walking.{edges_named}

@@ -41,7 +41,7 @@ use Rattle.law_births.proofs.Effects.{end_moves}
 use Rattle.law_births.proofs.Has.{Goes, IsAlone, from_has, over_goes, over_has, over_of, tests_so, to_has}
 use Rattle.law_births.proofs.Here.{of_birth}
 use Rattle.law_births.proofs.Leaves.{byes_stay}
-use Rattle.law_births.proofs.Mails.{OfBirths, SaysAll, named_by}
+use Rattle.law_births.proofs.Mails.{OfBirths, SaysAll, along_named}
 use Rattle.law_births.proofs.Moving.{AnyWhy, stays_goes}
 use Rattle.law_births.proofs.Named.{AreGone, births_are_known, bye_said, gone_said}
 use Rattle.law_births.proofs.Pieces.{ended_stays}
@@ -121,7 +121,7 @@ module _ (n : ℕ) (intends : IntentionsAreInOrder n) (whole : StoresAreWhole n)
           let m : Sent = record { to = s; packet = packet } in
           let named : AllNamed (WasGivenOut n before) packet.from s packet.message =
           (births_are_known n intends whole makers before).messages m came in
-          let given = named_by (WasGivenOut n before) packet.message packet.from s named ends links in
+          let given = (along_named (WasGivenOut n before) packet.from s packet.message named ends links).1 in
           record {
             before = before;
             behind = e ∷ behind;

@@ -24,7 +24,8 @@ mod Mails
 mod Saying
 mod Walking
 mod Parting
-mod Bodies
+mod Raising
+mod Behind
 mod Received
 mod FineLosses
 mod FineCalls
@@ -36,7 +37,6 @@ pub mod Alone
 mod Given
 mod Gone
 mod ByeKeys
-mod ByeBodies
 mod ByeLosses
 mod ByeCalls
 pub mod ByeEvents

@@ -1,9 +1,8 @@
--- Births and edges where what was lost is given up, and what is made then.
-use Rattle.std.proofs.Common.{ℕ, ◌≡◌, true, false, cond, List, [], ◌∷◌, Option, None, Some, refl, ap, ◌∙◌}
+-- Births and edges where what was lost is given up.
+use Rattle.std.proofs.Common.{◌≡◌, true, false, cond, List, [], ◌∷◌, Option, None, Some, refl, ap, ◌∙◌}
 use Rattle.std.specs.Prelude.{nat_lt}
 use Rattle.law_order.specs.pg_base.declared.id.FileId.{FileId}
 use Rattle.law_order.specs.pg_base.declared.policy.Policy.TheVariants.{Last}
-use Rattle.law_order.specs.pg_edges.declared.edge.Edge.{Edge}
 use Rattle.law_order.specs.pg_intent.declared.key.IntentKey.TheVariants as intent_key
 use Rattle.law_order.specs.pg_intent.Intents.{intent_at}
 use Rattle.law_order.proofs.pg_intent.Found.{ended_found}
@@ -17,25 +16,20 @@ use Rattle.law_order.specs.pg_register.declared.place.Place.{Place}
 use Rattle.law_order.specs.pg_store.declared.store.Store.{Store}
 use Rattle.law_order.specs.pg_store.Births.{draw_birth, fill_at, with_birth}
 use Rattle.law_order.specs.pg_store.Store.{is_held, with_names}
-use Rattle.law_order.specs.pg_store.Views.{enter}
-use Rattle.std.specs.Map.{keys_of}
 use Rattle.law_order.proofs.pg_store.Aiming.{gone_as_before}
 use Rattle.law_order.specs.pg_pieces.Done.{Done, idle}
 use Rattle.law_order.specs.pg_pieces.Making.{own_next, raise_flag}
 use Rattle.law_order.specs.pg_repair.Filling.{few_golds, fill, live_golds, raise_if_few}
-use Rattle.law_order.specs.pg_intentions.Inviting.{invite_along, invite_each, invite_of, invites, loose_edge}
 use Rattle.law_order.specs.pg_calls.Forgetting.{bare_entry, begin_lost, begun_at, begun_with, dead_at, dirs_of, fill_lost, forget_lost, has_blank_place, is_wanted, last_listing, last_place, mark, marked_each, placed_in_root, placed_lost, root_place, strike_out, struck_out, unfilled, unwished}
-use Rattle.law_order.specs.pg_calls.GivingUp.{doubt_all, enter_view}
 use Rattle.law_order.specs.pg_calls.Naming.{raised}
 use Rattle.law_order.proofs.theory_flood_pieces.Choices.{chosen, decided}
 use Rattle.law_births.proofs.Begins.{made_goes}
 use Rattle.law_births.proofs.Moving.{Moves, Why, begin_edges, moves_itself, moves_stay, stay_moves, stays_moves, unheld}
 use Rattle.law_births.proofs.Pieces.{Stays, ended_stays, entry_stays, fill_stays, flag_stays, place_stays, stays_itself, stays_then}
-use Rattle.law_births.proofs.Unmade.{MakesNone, entry_none, filled_none, name_after, placed_none, raised_none}
 
 -- ---- a flag is raised where few golds are seen
 
-pub few_stays : (b : Store) (file : FileId) (work : Work) → Stays b (raise_if_few b file work).store
+few_stays : (b : Store) (file : FileId) (work : Work) → Stays b (raise_if_few b file work).store
 few_stays b file work =
     chosen (λ (d : Done). Stays b d.store) (nat_lt (live_golds b file) few_golds) (raise_flag b file work) (idle b work)
     (flag_stays b file (own_next b file true)) (stays_itself b)
@@ -114,59 +108,3 @@ module _ (V : Why) (a : Store) (id : FileId) (work : Work) where
       (cond (is_dir id) (begin_lost a id work) (strike_out a id work)) (λ held. stays_moves (fill_lost_stays a id work))
       (λ away. chosen (λ (e : Done). Moves V a e.store) (is_dir id) (begin_lost a id work) (strike_out a id work)
       (begin_lost_moves away) (stays_moves (strike_stays a id work)))
-
--- ---- no version is made
-
-module _ (id : FileId) where
-  marks_none : (dirs : List FileId) (b : Store) (place : Place) (w : Work) → MakesNone w (marked_each b id place dirs w).work
-  marks_none [] b place w = refl
-  marks_none (dir ∷ dirs) b place w =
-      let one = mark id place b dir w in
-      marks_none dirs one.store place one.work ∙ entry_none b dir (bare_entry id place) w
-
-  struck_none : (a : Store) (w : Work) (o : Option FileId) → MakesNone w (struck_out a id w o).work
-  struck_none a w None = refl
-  struck_none a w (Some dir) =
-      let dead = dead_at a w.now id dir in
-      marks_none (dirs_of a.names id) (unwished a id) dead (with_made w (update.Place id dead))
-      ∙ name_after w.made (update.Place id dead) refl
-
-  root_none : (b : Store) (w : Work) → MakesNone w (placed_in_root id b w).work
-  root_none b w = placed_none b id (root_place b w.now id) w
-
-  at_none : (a : Store) (w : Work) (o : Option Place) → MakesNone w (begun_at a id w o).work
-  at_none a w (Some p) = refl
-  at_none a w None = root_none (begun_with a id (blank_own id)) w
-
-  begin_lost_none : (a : Store) (w : Work) → MakesNone w (begin_lost a id w).work
-  begin_lost_none a w =
-      let d = begun_at a id w (last_place a.names id) in
-      chosen (λ (e : Done). MakesNone w e.work) (is_wanted a id) (raised id d) (idle a w)
-      (raised_none d.store id d.work ∙ at_none a w (last_place a.names id)) refl
-
-  fill_lost_none : (a : Store) (w : Work) → MakesNone w (fill_lost a id w).work
-  fill_lost_none a w =
-      let d = placed_lost a id w in
-      filled_none d.store id d.work
-      ∙ chosen (λ (e : Done). MakesNone w e.work) (has_blank_place a id) (placed_in_root id a w) (idle a w) (root_none a w) refl
-
-  pub lost_none : (a : Store) (w : Work) → MakesNone w (forget_lost a id w).work
-  lost_none a w =
-      chosen (λ (e : Done). MakesNone w e.work) (is_held a id) (fill_lost a id w)
-      (cond (is_dir id) (begin_lost a id w) (strike_out a id w)) (fill_lost_none a w)
-      (chosen (λ (e : Done). MakesNone w e.work) (is_dir id) (begin_lost a id w) (strike_out a id w) (begin_lost_none a w)
-      (struck_none a w (last_listing a.names id (dirs_of a.names id))))
-
--- nor where a server is removed
-along_none : (b : Store) (f : FileId) (o : Option Edge) (w : Work) → MakesNone w (invite_along b f o w)
-along_none b f None w = refl
-along_none b f (Some e) w = refl
-
-invites_none : (files : List FileId) (b : Store) (w : Work) → MakesNone w (invite_each b files w)
-invites_none [] b w = refl
-invites_none (f ∷ files) b w =
-    invites_none files b (invite_of b f w)
-    ∙ chosen (MakesNone w) (invites b f) (invite_along b f (loose_edge b f) w) w (along_none b f (loose_edge b f) w) refl
-
-pub enter_none : (a : Store) (server : ℕ) (w : Work) → MakesNone w (enter_view a server w).work
-enter_none a server w = let b = enter a server in invites_none (keys_of b.names.held) b (doubt_all b w)

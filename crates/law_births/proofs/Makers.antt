@@ -3,9 +3,8 @@
 use Rattle.std.proofs.Common.{ℕ, ◌≡◌, ◌==◌, true, false, List, [], ◌∷◌, ◌++◌, Option, None, Some, Result, Ok, Err, is_some, option_map, refl, sym, ap, subst, ◌∙◌, All}
 use Rattle.std.proofs.lemmas.List.Elements.{All-cons, All-nil, All-weaker}
 use Rattle.law_order.specs.pg_base.declared.id.FileId.{FileId}
-use Rattle.law_order.specs.pg_base.declared.id.Kind.TheVariants.{Dir, File}
+use Rattle.law_order.specs.pg_base.declared.id.Kind.TheVariants.{File}
 use Rattle.law_order.specs.pg_base.declared.policy.Policy.{Policy}
-use Rattle.law_order.specs.pg_base.declared.policy.Policy.TheVariants.{Last}
 use Rattle.law_order.specs.pg_base.declared.stamp.Stamp.{Stamp}
 use Rattle.law_order.specs.pg_patch.Ranges.{RangesValue, cut_to, written}
 use Rattle.law_order.specs.pg_entries.declared.entry.Entry.{Entry}
@@ -20,7 +19,6 @@ use Rattle.law_order.specs.pg_msg.declared.work.Work.{Work}
 use Rattle.law_order.specs.pg_msg.Work.{new_work}
 use Rattle.law_order.specs.pg_call.declared.call.Call.{Call}
 use Rattle.law_order.specs.pg_call.declared.call.Call.TheVariants as call
-use Rattle.law_order.specs.pg_call.declared.reply.Reply.{Reply}
 use Rattle.law_order.specs.pg_register.declared.flag.Flag.{Flag}
 use Rattle.law_order.specs.pg_register.declared.place.Place.{Place}
 use Rattle.law_order.specs.pg_names.Names.{blank_own, with_flag, with_joined, with_place}
@@ -44,18 +42,13 @@ use Rattle.law_order.specs.pg_lookup.declared.paths.Found.{Found}
 use Rattle.law_order.specs.pg_lookup.declared.paths.LookupError.{LookupError}
 use Rattle.law_order.specs.pg_lookup.declared.paths.LookupError.TheVariants as stop
 use Rattle.law_order.specs.pg_checks.declared.checks.NewName.{NewName}
-use Rattle.law_order.specs.pg_checks.Answer.{Answer, answered, deny, replied}
+use Rattle.law_order.specs.pg_checks.Answer.{Answer, answered, deny}
 use Rattle.law_order.specs.pg_checks.Asking.{ask_by, fetch, fresh_wish, holder, standing}
 use Rattle.law_order.specs.pg_calls.Bodies.{change, change_file, when_fit}
 use Rattle.law_order.specs.pg_calls.Calls.{do_call}
-use Rattle.law_order.specs.pg_checks.Checks.{dir_at, empty_dir_at, file_at, in_time, move_of, new_name, target_at}
-use Rattle.law_order.specs.pg_calls.Demoting.{demoted_at, lowered}
-use Rattle.law_order.specs.pg_calls.Dropping.{clean_gold, dropped_at, leave_of, leaving}
-use Rattle.law_order.specs.pg_calls.Forgetting.{forget_lost, lost_at}
-use Rattle.law_order.specs.pg_calls.GivingUp.{enter_view, removal_at}
-use Rattle.law_order.specs.pg_pieces.Intending.{begin_intent}
+use Rattle.law_order.specs.pg_checks.Checks.{file_at, new_name}
 use Rattle.law_order.specs.pg_calls.Making.{drawn, first_ranges, make_place, make_version, version_of}
-use Rattle.law_order.specs.pg_calls.Naming.{begun, dead_place, next_id, place_in, with_first_version, with_id, with_thing}
+use Rattle.law_order.specs.pg_calls.Naming.{begun, next_id, place_in, with_first_version, with_id, with_thing}
 use Rattle.law_order.proofs.pg_calls.Checked.{fit_found}
 use Rattle.law_order.proofs.pg_calls.New.{thing_new}
 use Rattle.law_order.proofs.pg_calls.Walked.{file_found, full_held}
@@ -71,8 +64,7 @@ use Rattle.law_order.proofs.pg_run.Frame.{acts_is}
 use Rattle.law_births.specs.Premises.{IsMadeHere, MakersHold, StoresAreWhole}
 use Rattle.law_births.proofs.Pieces.{settle_stays}
 use Rattle.law_births.proofs.HouseUnmade.{settle_none}
-use Rattle.law_births.proofs.Losing.{enter_none, lost_none}
-use Rattle.law_births.proofs.Unmade.{MakesNone, begun_none, lowered_none, placed_none, raised_none, received_none, versions_after, walk_of_none}
+use Rattle.law_births.proofs.Unmade.{MakesNone, call_none, placed_none, raised_none, received_none, versions_after, walk_of_none}
 
 -- ---- a server is itself whatever it takes
 
@@ -170,10 +162,6 @@ module _ (s : ℕ) (a : Store) (server : a.names.server ≡ s) (both : AreTogeth
   answered_by (Err why) next h = denied_by why
   answered_by (Ok x) next h = h x refl
 
-  replied_by : {A : Type 0} (r : Result A LookupError) (tell : A → Reply) → IsAnswer (replied a W r tell)
-  replied_by (Err why) tell = denied_by why
-  replied_by (Ok x) tell = idle_made a W refl
-
   -- ---- new things
 
   module _ (id : FileId) (policy : Policy) (new : NewName) where
@@ -196,9 +184,6 @@ module _ (s : ℕ) (a : Store) (server : a.names.server ≡ s) (both : AreTogeth
         ∙ patches_server (patches_of id a.intents) (put_new (with_birth (with_id a)) id (draw_birth (with_id a)) policy (blank_own id) true) id
         ∙ server
 
-    thing_made : IsMade s Thing
-    thing_made = none_made s Thing thing_none
-
     first_made : IsMade s (with_first_version id Thing)
     first_made =
         let none = thing_new (with_id a) W id policy new in
@@ -219,37 +204,13 @@ module _ (s : ℕ) (a : Store) (server : a.names.server ≡ s) (both : AreTogeth
       answered_by (file_at a text) (change_file a ranges W)
       (λ f found. changed_by ranges f (full_held a.names f (file_found a text f found).0))
 
-  moved_by : (f : FileId) (place : Place) → IsMade s (make_place f place (idle a W))
-  moved_by f place = none_made s (make_place f place (idle a W)) (placed_none a f place W)
-
-  left_made : (f : FileId) (o : Option Flag) → IsAnswer (leaving a f W o)
-  left_made f None = idle_made a W refl
-  left_made f (Some flag) = none_made s (begin_intent a (leave_of f flag) W) (begun_none a (leave_of f flag) W)
-
   -- EVERY CALL
   call_made : (c : Call) → IsAnswer (do_call a c W)
-  call_made (call.Mkdir path) =
-      answered_by (new_name a (next_id a Dir) path) _ (λ new found. thing_made (next_id a Dir) Last new)
   call_made (call.Create path policy) =
       answered_by (new_name a (next_id a File) path) _ (λ new found. first_made (next_id a File) policy new)
   call_made (call.Write path offset bytes) = change_by path (written offset bytes)
   call_made (call.Cut path length) = change_by path (cut_to length)
-  call_made (call.Read path offset count) = replied_by (file_at a path) _
-  call_made (call.Fresh path) = replied_by (file_at a path) _
-  call_made (call.Ls path from) = replied_by (dir_at a path) _
-  call_made (call.Stat target) = replied_by (target_at a target) _
-  call_made (call.Rename from to) =
-      answered_by (move_of a from to) _ (λ move found. moved_by move.thing (place_in a moment move.to))
-  call_made (call.Unlink path) = answered_by (file_at a path) _ (λ f found. moved_by f (dead_place a moment f))
-  call_made (call.Rmdir path) = answered_by (empty_dir_at a path) _ (λ f found. moved_by f (dead_place a moment f))
-  call_made (call.Forget id) = answered_by (lost_at a id) _ (λ f found. none_made s (forget_lost a f W) (lost_none f a W))
-  call_made (call.Demote target) =
-      answered_by (demoted_at a target) _ (λ f found. none_made s (lowered a f W) (lowered_none a f W))
-  call_made (call.Drop target) = answered_by (dropped_at a target) _ (λ f found. left_made f (clean_gold a f))
-  call_made (call.Giveup view peer) =
-      answered_by (removal_at a view peer) _ (λ f found. none_made s (enter_view a peer W) (enter_none a peer W))
-  call_made call.Status = replied_by (in_time a (tt {0})) _
-  call_made call.Stop = replied_by (in_time a (tt {0})) _
+  call_made c = none_made s (done_of (do_call a c W)) (call_none a W c (λ file ranges none. none))
 
 -- ---- an event
 

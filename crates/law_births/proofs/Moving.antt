@@ -17,7 +17,7 @@ use Rattle.law_order.specs.pg_store.Beginning.{begin, patches_of, put_new}
 use Rattle.law_order.specs.pg_store.Links.{is_linked, is_new_link, keys, knows_later, link, put_link, unlink}
 use Rattle.law_order.specs.pg_store.Store.{is_held, replica_at, with_drawn}
 use Rattle.law_order.specs.pg_store.Together.{AreTogether, IsOver}
-use Rattle.law_order.proofs.pg_store.Pairs.{link_as_before, unlink_as_before}
+use Rattle.law_order.proofs.pg_store.Pairs.{unlink_as_before}
 use Rattle.law_births.proofs.Ends.{AreUp, NoneFalls, UpBut, born_to, ends, link_lists, link_up, none_falls, unlink_falls_not, unlink_up, up_but, up_falls_not, up_itself}
 use Rattle.law_births.proofs.Has.{Goes, IsAlone, before_goes, goes_itself, goes_then, over_goes}
 use Rattle.law_births.proofs.Pieces.{Shape, Stays, patches_stay, shape, shape_at}
@@ -152,12 +152,6 @@ module _ (a : Store) (file : FileId) (p b : ℕ) where
       → (fs : List (ℕ × ℕ)) × (shape_at (link a file p b) q ≡ Some (n, fs)) × AreUp es fs
   link_ups q n es was = linked_by (is_new_link a file p b) q n es was
 
-  pub link_moves : {V : Why} → Moves V a (link a file p b)
-  link_moves {V} = record {
-    goes = before_goes a (link a file p b) (link_as_before a file p b);
-    edges = λ k q n es there. inl (keeps_up V (link a file p b) q n es (link_ups q n es there));
-  }
-
   -- where the thing is held, and no later birth of the peer is listed, this one is from then on
   put_here : (rs : ByFile) (y : Replica) → replica_in (put_replica rs file y) file ≡ Some y
   put_here rs y =
@@ -257,9 +251,3 @@ module _ (a : Store) (file : FileId) (birth : ℕ) (policy : Policy) (own : Attr
 
   pub begin_edges : (V : Why) → EdgesMove V a (begin a file birth policy own full)
   begin_edges V q n es there = inl (keeps_same V (begin a file birth policy own full) q n es (begin_shapes q n es there))
-
--- a link behind what leaves edges as they are
-pub edges_then : (V : Why) (a b c : Store)
-    → ((q : FileId) (n : ℕ) (es : List (ℕ × ℕ)) → shape_at b q ≡ Some (n, es) → (fs : List (ℕ × ℕ)) × (shape_at c q ≡ Some (n, fs)) × AreUp es fs)
-    → ((q : FileId) (n : ℕ) (es : List (ℕ × ℕ)) → shape_at a q ≡ Some (n, es) → shape_at b q ≡ Some (n, es)) → EdgesMove V a c
-edges_then V a b c two same q n es there = inl (keeps_up V c q n es (two q n es (same q n es there)))

@@ -1,6 +1,5 @@
--- What is said of births and flags is said where a replica asks for leave, goes, and its peers hear
--- of it.
-use Rattle.std.proofs.Common.{ℕ, ◌≡◌, true, cond, not, Some, is_some, refl, sym, subst, ◌∙◌}
+-- What is said of births and flags is said where a replica goes, and its peers are to hear of it.
+use Rattle.std.proofs.Common.{ℕ, ◌≡◌, true, not, is_some, refl, sym, subst}
 use Rattle.std.proofs.lemmas.Bool.{and_parts}
 use Rattle.law_order.specs.pg_base.declared.id.FileId.{FileId}
 use Rattle.law_order.specs.pg_base.declared.stamp.Stamp.{Stamp}
@@ -11,45 +10,37 @@ use Rattle.law_order.specs.pg_intent.declared.key.IntentKey.TheVariants as inten
 use Rattle.law_order.specs.pg_intent.Intent.{key_of}
 use Rattle.law_order.specs.pg_intent.Intents.{ended, stands}
 use Rattle.law_order.specs.pg_msg.declared.message.Ends.{Ends}
-use Rattle.law_order.specs.pg_msg.declared.message.Message.TheVariants as message
 use Rattle.law_order.specs.pg_msg.declared.work.Work.{Work}
 use Rattle.law_order.specs.pg_register.declared.flag.Flag.{Flag}
 use Rattle.law_order.specs.pg_store.declared.store.Store.{Store}
 use Rattle.law_order.specs.pg_store.Beginning.{let_go, with_intents}
 use Rattle.law_order.specs.pg_store.Births.{birth_of, has_birth}
-use Rattle.law_order.specs.pg_store.Links.{knows_later}
 use Rattle.law_order.specs.pg_store.Store.{replica_at, replica_of}
-use Rattle.law_order.specs.pg_store.Together.{birth_at}
-use Rattle.law_order.proofs.pg_store.Pairs.{link_as_before}
 use Rattle.law_order.specs.pg_pieces.declared.accepting.EdgeUse.TheVariants as manner
-use Rattle.law_order.specs.pg_pieces.Accepting.{accept, ends_to, is_accepted, is_current, link_peer, with_gone}
+use Rattle.law_order.specs.pg_pieces.Accepting.{is_accepted, is_current}
 use Rattle.law_order.specs.pg_pieces.Done.{Done, idle}
 use Rattle.law_order.specs.pg_pieces.Intending.{begin_intent}
 use Rattle.law_order.specs.pg_pieces.Parting.{stays_for}
-use Rattle.law_order.specs.pg_pieces.Posting.{reply}
-use Rattle.law_order.specs.pg_graph.Leaving.{bye, bye_to, gives_leave, goes, goes_now, goes_or_stays, leave, leave_given, leave_ok, may_leave, without_leave}
+use Rattle.law_order.specs.pg_graph.Leaving.{bye_to, goes, goes_now, goes_or_stays, leave_ok, may_leave, without_leave}
 use Rattle.law_order.proofs.pg_graph.LeaveOk.{byes_by}
-use Rattle.law_order.proofs.theory_flood_pieces.Choices.{chosen, decided}
+use Rattle.law_order.proofs.theory_flood_pieces.Choices.{decided}
 use Rattle.law_births.specs.Flags.{SaysIntent}
-use Rattle.law_births.proofs.EndsSay.{ends_let_go, ends_unlink}
+use Rattle.law_births.proofs.EndsSay.{ends_let_go}
 use Rattle.law_births.proofs.Here.{birth_is, of_birth}
 use Rattle.law_births.proofs.Leaves.{now_goes}
 use Rattle.law_births.proofs.Mails.{Owed}
 use Rattle.law_order.proofs.pg_run.Still.{begun_still, same_mail}
-use Rattle.law_births.proofs.Saying.{Fresh, IsSaid, said_accept, said_on, said_reply}
-use Rattle.law_births.proofs.StoreSays.{intends_says, say_ended, say_let_go, say_unlink}
+use Rattle.law_births.proofs.Saying.{IsSaid, said_on}
+use Rattle.law_births.proofs.StoreSays.{intends_says, say_ended, say_let_go}
 use Rattle.law_births.proofs.Walking.{edges_named}
 
 module _ (P : FileId → ℕ → ℕ → Type 0) (Q : FileId → Flag → Type 0) (G : FileId → ℕ → Type 0) (s from : ℕ) where
   abbrev Said : Done → Type 0
   Said d = IsSaid P Q G s from d
 
-  abbrev Heard : Ends → Type 0
-  Heard ends = P ends.file from ends.sender × P ends.file s ends.receiver
-
   -- ---- an intention ends, or begins
 
-  pub said_ended : (a : Store) (q : IntentKey) (w : Work) → Said (idle a w) → Said (idle (with_intents a (ended a.intents q)) w)
+  said_ended : (a : Store) (q : IntentKey) (w : Work) → Said (idle a w) → Said (idle (with_intents a (ended a.intents q)) w)
   said_ended a q w k =
       said_on P Q G s from (idle a w) (idle (with_intents a (ended a.intents q)) w) k (say_ended Q (Owed P G s) s a q k.store) k.edges (same_mail w)
 
@@ -57,40 +48,6 @@ module _ (P : FileId → ℕ → ℕ → Type 0) (Q : FileId → Flag → Type 0
   said_begun d i one k =
       said_on P Q G s from d (begin_intent d.store i d.work) k (intends_says Q (Owed P G s) s d.store i d.work one k.store) k.edges
       (begun_still (not (stands d.store.intents (key_of i))) d.work (key_of i)).mail
-
-  -- ---- a replica of a peer has gone
-
-  pub said_bye : (a : Store) (x : Ends) (w : Work) → P x.file from x.sender → Said (idle a w) → Said (bye a x w)
-  said_bye a x w one k =
-      let m = message.ByeOk x.file x.sender in
-      let v = reply a m w in
-      said_on P Q G s from (idle a v) (bye a x w) (said_reply P Q G s from a m w one tt k)
-      (say_unlink Q (Owed P G s) s a x.file w.from x.sender k.store) (ends_unlink P a x.file w.from x.sender k.edges) (same_mail v)
-
-  -- ---- leave is asked for
-
-  met_births : (a : Store) (x : Ends) (w : Work) → birth_at (accept a x manner.Makes w).store x.file ≡ birth_at a x.file
-  met_births a x w =
-      let later = knows_later a x.file w.from x.sender in
-      let linked = link_peer a x.file w.from x.sender w in
-      let Same : Done → Type 0 = λ d. birth_at d.store x.file ≡ birth_at a x.file in
-      chosen Same (has_birth a x.file x.receiver) (cond later (idle a w) linked) (idle a (with_gone a x manner.Makes w))
-      (chosen Same later (idle a w) linked refl ((link_as_before a x.file w.from x.sender).births x.file)) refl
-
-  pub said_leave : (a : Store) (x : Ends) (stamp : Stamp) (w : Work) → Heard x → Fresh P Q G s from a x → Said (idle a w) → Said (leave a x stamp w)
-  said_leave a x stamp w heard fresh k =
-      let met = accept a x manner.Makes w in
-      let m = message.LeaveOk (ends_to met.store x.file x.sender) stamp in
-      let to = said_accept P Q G s from a x w heard fresh k in
-      decided Said (is_accepted a w.from manner.Makes x) (leave_given x stamp met) met
-      (λ t.
-      let here : birth_at a x.file ≡ Some x.receiver = of_birth (replica_at a x.file) x.receiver
-      (and_parts (has_birth a x.file x.receiver) _ (and_parts (is_current a w.from x) _ t).0).0 in
-      let own : P x.file s (birth_of met.store x.file) =
-      subst (P x.file s) (sym (birth_is met.store x.file x.receiver (met_births a x w ∙ here))) heard.1 in
-      chosen (λ (v : Work). Said (idle met.store v)) (gives_leave met.store x.file stamp) (reply met.store m met.work) met.work
-      (said_reply P Q G s from met.store m met.work (own, heard.0) tt to) to)
-      (λ no. to)
 
   -- ---- leave is given
 

@@ -33,10 +33,9 @@ use Rattle.law_order.specs.pg_replica.Replica.{covered_heads, key_of, keys, own_
 use Rattle.law_order.specs.pg_replica.Replicas.{ByFile, replicas_keeping, replicas_taking, replicas_touched, replicas_writing}
 use Rattle.law_order.specs.pg_store.declared.store.Store.{Store}
 use Rattle.law_order.specs.pg_store.Beginning.{take_patch, take_patches, take_told, take_told_in, with_intents}
-use Rattle.law_order.specs.pg_store.Births.{with_birth}
 use Rattle.law_order.specs.pg_store.Store.{acknowledge, is_new_version, is_newer_entry, is_newer_flag, is_newer_place, keep_delta, put_entry, put_flag, put_place, put_version, replica_at, take_entry, take_flag, take_place, take_version, touch, with_names, write}
 use Rattle.law_order.specs.pg_store.Together.{HoldsAsBefore}
-use Rattle.law_order.proofs.pg_store.Pairs.{acked_seen, acknowledge_as_before, as_before, birth_as_before, ended_as_before, entry_as_before, flag_as_before, made_seen, names_as_before, place_as_before, replicas_only, then_as_before, touch_as_before, update_held, version_as_before, write_as_before}
+use Rattle.law_order.proofs.pg_store.Pairs.{acked_seen, acknowledge_as_before, as_before, ended_as_before, entry_as_before, flag_as_before, made_seen, names_as_before, place_as_before, replicas_only, then_as_before, touch_as_before, update_held, version_as_before, write_as_before}
 use Rattle.law_order.specs.pg_pieces.Done.{Done}
 use Rattle.law_order.specs.pg_pieces.Making.{own_next}
 use Rattle.law_order.specs.pg_cells.Settling.{rules, settle, touch_all}
@@ -85,7 +84,7 @@ touch_stays a file k = record {
 pub names_stay : (a : Store) (names : NamesValue) → ((q : FileId) → is_held names q ≡ is_held a.names q) → Stays a (with_names a names)
 names_stay a names held = record { before = names_as_before a names held; shapes = λ q. refl }
 
-pub shapes_by : (a b : Store) (t : Bool) (q : FileId) → shape_at b q ≡ shape_at a q → shape_at (cond t b a) q ≡ shape_at a q
+shapes_by : (a b : Store) (t : Bool) (q : FileId) → shape_at b q ≡ shape_at a q → shape_at (cond t b a) q ≡ shape_at a q
 shapes_by a b true q same = same
 shapes_by a b false q same = refl
 
@@ -150,9 +149,6 @@ fill_stays a file = names_stay a (fill a.names file) (update_held a.names file f
 
 pub ended_stays : (a : Store) (k : IntentKey) → Stays a (with_intents a (ended a.intents k))
 ended_stays a k = record { before = ended_as_before a k; shapes = λ q. refl }
-
-pub birth_stays : (a : Store) → Stays a (with_birth a)
-birth_stays a = record { before = birth_as_before a; shapes = λ q. refl }
 
 pub id_stays : (a : Store) → Stays a (with_id a)
 id_stays a = record {

@@ -1,43 +1,73 @@
--- What is said of births and flags is said behind each message and each call.
-use Rattle.std.proofs.Common.{ℕ, ◌≡◌, ◌&&◌, Bool, true, cond, not, Some, refl, sym, subst, ◌∙◌}
-use Rattle.std.specs.Prelude.{nat_lt}
-use Rattle.std.proofs.lemmas.Bool.{and_parts}
+-- What is said of births and flags is said behind each message.
+use Rattle.std.proofs.Common.{ℕ, ◌≡◌, ◌&&◌, Bool, true, false, cond, All, Option, None, Some, refl, sym, ap, subst, ◌∙◌}
+use Rattle.std.proofs.lemmas.Bool.{and_parts, false≢true}
+use Rattle.std.proofs.lemmas.List.Elements.{All-contains, All-filter}
+use Rattle.std.proofs.lemmas.Option.{none-some, same_Some}
 use Rattle.law_order.specs.pg_base.declared.id.FileId.{FileId}
 use Rattle.law_order.specs.pg_base.declared.stamp.Stamp.{Stamp}
+use Rattle.law_order.specs.pg_edges.declared.edge.Edge.{Edge}
+use Rattle.law_order.specs.pg_intent.declared.key.IntentKey.TheVariants as intent_key
+use Rattle.law_order.specs.pg_intent.Intents.{ended}
+use Rattle.law_order.specs.pg_msg.declared.message.Ask.TheVariants as ask
 use Rattle.law_order.specs.pg_msg.declared.message.Ends.{Ends}
+use Rattle.law_order.specs.pg_msg.declared.message.Granted.{Granted}
 use Rattle.law_order.specs.pg_msg.declared.message.Message.{Message}
 use Rattle.law_order.specs.pg_msg.declared.message.Message.TheVariants as message
-use Rattle.law_order.specs.pg_msg.declared.update.Update.TheVariants as update
 use Rattle.law_order.specs.pg_msg.declared.work.Work.{Work}
-use Rattle.law_order.specs.pg_msg.Work.{with_made}
+use Rattle.law_order.specs.pg_msg.Ends.{back}
 use Rattle.law_order.specs.pg_names.Names.{fill as fill_names}
 use Rattle.law_order.specs.pg_register.declared.flag.Flag.{Flag}
 use Rattle.law_order.specs.pg_store.declared.store.Store.{Store}
-use Rattle.law_order.specs.pg_store.Births.{birth_of, has_birth}
-use Rattle.law_order.specs.pg_store.Store.{is_full, replica_at, with_names}
+use Rattle.law_order.specs.pg_store.Beginning.{with_intents}
+use Rattle.law_order.specs.pg_store.Births.{birth_of, has_birth, is_pending, with_wishes}
+use Rattle.law_order.specs.pg_store.Links.{knows_later, unlink}
+use Rattle.law_order.specs.pg_store.Store.{acknowledge, is_full, is_held, keep_delta, replica_at, replica_of, with_names}
 use Rattle.law_order.specs.pg_store.Together.{AreTogether, birth_at}
-use Rattle.law_order.specs.pg_pieces.declared.accepting.EdgeUse.TheVariants as manner
-use Rattle.law_order.specs.pg_pieces.Accepting.{accept, is_accepted, is_current, with_gone}
-use Rattle.law_order.specs.pg_store.Links.{knows_later}
-use Rattle.law_order.specs.pg_pieces.Done.{Done, idle}
-use Rattle.law_order.specs.pg_pieces.Making.{make_flag, own_next, raise_flag}
-use Rattle.law_order.specs.pg_repair.Filling.{few_golds, fill, full, invite, invited, is_bronze, live_golds, raise_if_few}
+use Rattle.law_order.specs.pg_store.Wishes.{aim_wish}
+use Rattle.law_order.proofs.pg_store.Pairs.{unlink_as_before}
+use Rattle.law_order.proofs.pg_calls.Walked.{full_held}
+use Rattle.law_order.specs.pg_pieces.Accepting.{ends_to, is_current, link_peer}
+use Rattle.law_order.specs.pg_pieces.Done.{Done, idle, link_of}
+use Rattle.law_order.specs.pg_pieces.Making.{own_next, raise_flag}
+use Rattle.law_order.specs.pg_pieces.Posting.{reply}
+use Rattle.law_order.specs.pg_repair.Fetching.{answered_fetch, fetch}
+use Rattle.law_order.specs.pg_repair.Granting.{begun_by, granted_own}
 use Rattle.law_order.specs.pg_graph.Leaving.{goes_now}
-use Rattle.law_order.specs.pg_intent.declared.key.IntentKey.TheVariants as intent_key
+use Rattle.law_order.specs.pg_graph.Seeking.{answered_seek, seek}
+use Rattle.law_order.specs.pg_graph.Walks.{edges_of, is_onward, onward}
 use Rattle.law_order.specs.pg_server.Local.{receive}
-use Rattle.law_order.proofs.theory_flood_pieces.Choices.{chosen, decided}
-use Rattle.law_order.specs.pg_run.Births.{AllNamed}
-use Rattle.law_births.specs.Flags.{SaysMessage}
-use Rattle.law_births.proofs.Bodies.{fine_delta, fine_harbinger, fine_later, fine_piece, fine_want}
-use Rattle.law_births.proofs.EndsSay.{ends_stay}
-use Rattle.law_births.proofs.Here.{birth_is, of_birth}
-use Rattle.law_births.proofs.Pieces.{fill_stays}
-use Rattle.law_births.proofs.Mails.{linking_to, OfBirths, Owed}
+use Rattle.law_order.specs.pg_server.pg_transfer.Asking.{with_notes}
+use Rattle.law_order.specs.pg_run.Births.{AllNamed, ends_named}
 use Rattle.law_order.proofs.pg_run.Still.{same_mail}
-use Rattle.law_births.proofs.Parting.{said_bye, said_ended, said_leave, said_leave_ok}
-use Rattle.law_births.proofs.Saying.{Born, Fresh, IsSaid, asked_by, said_accept, said_ack, said_cell, said_confirm, said_fetch, said_flag, said_gone, said_grant, said_no_grant, said_none_here, said_on, said_place_is, said_tell, said_tell_ok}
-use Rattle.law_births.proofs.StoreSays.{say_fill}
-use Rattle.law_births.proofs.Walking.{said_seek, said_walk}
+use Rattle.law_order.proofs.law_frame.Keeps.{Answers, Keeps, along, raising}
+use Rattle.law_order.proofs.law_frame.Received.{receive_keeps}
+use Rattle.law_births.specs.Flags.{SaysEntry, SaysMessage, SaysStore}
+use Rattle.law_births.proofs.Behind.{IsBehind, begins_replica, behind_same, behind_aim, behind_cell, behind_edges, behind_entry, behind_flag, behind_last, behind_link, behind_place, behind_post, behind_store, behind_version}
+use Rattle.law_births.proofs.EndsSay.{ends_begin, ends_unlink}
+use Rattle.law_births.proofs.Here.{birth_of_held, of_birth}
+use Rattle.law_births.proofs.Mails.{OfBirths, Owed, SaysAll, along_named, linking_named}
+use Rattle.law_births.proofs.Parting.{said_leave_ok}
+use Rattle.law_births.proofs.Pieces.{acknowledge_stays, ended_stays, fill_stays, flag_stays, keep_stays, notes_stay}
+use Rattle.law_births.proofs.Raising.{fine_flag}
+use Rattle.law_births.proofs.Saying.{Born, Fresh, IsSaid, born_begun, own_named, said_on, said_reply}
+use Rattle.law_births.proofs.StoreSays.{entry_says, own_says, say_acknowledge, say_begin, say_ended, say_fill, say_unlink}
+use Rattle.law_births.proofs.Walking.{edges_named, got, own_given}
+
+-- ---- kinds of messages
+
+abbrev gives_leave_to : Message → Bool
+gives_leave_to (message.LeaveOk ends stamp) = true
+gives_leave_to _ = false
+
+-- the thing of which a replica is asked for
+abbrev asking : Message → Option FileId
+asking (message.Fetch file birth) = Some file
+asking (message.Seek file birth) = Some file
+asking _ = None
+
+raises_only : (m : Message) (ends : Ends) → raising m ≡ Some ends → begins_replica m ≡ false
+raises_only (message.Grant x granted) ends is = absurd (none-some ends is)
+raises_only m ends is = refl
 
 module _ (P : FileId → ℕ → ℕ → Type 0) (G : FileId → ℕ → Type 0) (s from : ℕ) where
   -- flags are of births that were given out
@@ -47,97 +77,217 @@ module _ (P : FileId → ℕ → ℕ → Type 0) (G : FileId → ℕ → Type 0)
   abbrev pub Fine : Done → Type 0
   Fine d = IsSaid P (OfBirths P) G s from d
 
-  -- a server's own flag is one, where its birth was given out
-  own_fine : (b : Store) (f : FileId) (raised : Bool) → b.names.server ≡ s → P f s (birth_of b f) → Q f (own_next b f raised)
-  own_fine b f raised server one = let R : ℕ → Type 0 = λ z. P f z (birth_of b f) in subst R (sym server) one
+  abbrev IsBorn : Store → Type 0
+  IsBorn b = Born P Q G s from b
 
-  pub fine_flag : (b : Store) (f : FileId) (raised : Bool) (w : Work) → Fine (idle b w) → P f s (birth_of b f)
-      → Fine (make_flag b f (own_next b f raised) w)
-  fine_flag b f raised w k one =
-      let flag = own_next b f raised in
-      let v = with_made w (update.Flag f flag) in
-      said_flag P Q G s from b f flag v (own_fine b f raised k.store.names.server one)
-      (said_on P Q G s from (idle b w) (idle b v) k k.store k.edges (record { sent = refl; tail = refl; from = refl }))
+  -- ---- a message
 
-  pub fine_raise : (b : Store) (f : FileId) (n : ℕ) (w : Work) → Fine (idle b w) → birth_at b f ≡ Some n → P f s n → Fine (raise_flag b f w)
-  fine_raise b f n w k there one = fine_flag b f true w k (subst (P f s) (sym (birth_is b f n there)) one)
+  module _ (a : Store) (m : Message) (w : Work) (named : AllNamed P from s m) (says : SaysMessage Q m)
+      (fresh : (ends : Ends) → along m ≡ Some ends → Fresh P Q G s from a ends) (both : AreTogether a)
+      (held : (f : FileId) → asking m ≡ Some f → is_held a f ≡ true) (stays : gives_leave_to m ≡ false) where
+    abbrev Behind : Done → Type 0
+    Behind d = IsBehind P G s from a m d
 
-  -- ---- what is full, and what is asked to be gold
+    -- ---- births here
 
-  pub fine_few : (b : Store) (f : FileId) (n : ℕ) (w : Work) → Fine (idle b w) → birth_at b f ≡ Some n → P f s n → Fine (raise_if_few b f w)
-  fine_few b f n w k there one = chosen Fine (nat_lt (live_golds b f) few_golds) (raise_flag b f w) (idle b w) (fine_raise b f n w k there one) k
+    own_at : (d : Done) (f : FileId) (n : ℕ) → Behind d → begins_replica m ≡ false → birth_at a f ≡ Some n → P f s (birth_of d.store f)
+    own_at d f n k none there = own_named P Q G s from d.store f k.born (n, k.births none f ∙ there)
 
-  pub fine_fill : (a : Store) (f : FileId) (n : ℕ) (w : Work) → Fine (idle a w) → birth_at a f ≡ Some n → P f s n → Fine (fill a f w)
-  fine_fill a f n w k there one =
-      let b = with_names a (fill_names a.names f) in
-      fine_few b f n w
-      (said_on P Q G s from (idle a w) (idle b w) k (say_fill Q (Owed P G s) s a f k.store) (ends_stay P (fill_stays a f) k.edges) (same_mail w)) there one
+    own_held : (d : Done) (f : FileId) → Behind d → begins_replica m ≡ false → is_held a f ≡ true → P f s (birth_of d.store f)
+    own_held d f k none here = let b = birth_of_held a both f here in own_at d f b.0 k none b.1
 
-  fine_full : (a : Store) (ends : Ends) (w : Work) → P ends.file s ends.receiver → Fine (idle a w) → Fine (full a ends w)
-  fine_full a ends w one k =
-      let accepted = is_accepted a w.from manner.Answers ends in
-      decided Fine (accepted && not (is_full a ends.file)) (fill a ends.file w) (idle a w)
-      (λ t. fine_fill a ends.file ends.receiver w k
-      (of_birth (replica_at a ends.file) ends.receiver
-      (and_parts (has_birth a ends.file ends.receiver) _ (and_parts (is_current a w.from ends) _ (and_parts accepted _ t).0).0).0) one)
-      (λ f. k)
+    here : (ends : Ends) (t : Bool) → (is_current a w.from ends && t) ≡ true → birth_at a ends.file ≡ Some ends.receiver
+    here ends t is =
+        of_birth (replica_at a ends.file) ends.receiver (and_parts (has_birth a ends.file ends.receiver) _ (and_parts (is_current a w.from ends) t is).0).0
 
-  -- a message that links nobody leaves births
-  asked_births : (a : Store) (ends : Ends) (w : Work) → birth_at (accept a ends manner.Needs w).store ends.file ≡ birth_at a ends.file
-  asked_births a ends w =
-      let later = knows_later a ends.file w.from ends.sender in
-      let Same : Done → Type 0 = λ d. birth_at d.store ends.file ≡ birth_at a ends.file in
-      chosen Same (has_birth a ends.file ends.receiver) (cond later (idle a w) (idle a w)) (idle a (with_gone a ends manner.Needs w))
-      (chosen Same later (idle a w) (idle a w) refl refl) refl
+    -- ---- what is answered
 
-  fine_invite : (a : Store) (ends : Ends) (w : Work) → P ends.file s ends.receiver → Fresh P (OfBirths P) G s from a ends → Fine (idle a w)
-      → Fine (invite a ends w)
-  fine_invite a ends w one fresh k =
-      let met = accept a ends manner.Needs w in
-      let to = asked_by P Q G s from a ends w (has_birth a ends.file ends.receiver) (knows_later a ends.file w.from ends.sender) refl one fresh k in
-      decided Fine (is_accepted a w.from manner.Needs ends) (invited ends met) met
-      (λ t.
-      let here = of_birth (replica_at a ends.file) ends.receiver
-      (and_parts (has_birth a ends.file ends.receiver) _ (and_parts (is_current a w.from ends) _ t).0).0 in
-      chosen Fine (is_bronze met.store ends.file) (raise_if_few met.store ends.file met.work) met
-      (fine_few met.store ends.file ends.receiver met.work to (asked_births a ends w ∙ here) one) to)
-      (λ f. to)
+    heard : (ends : Ends) → along m ≡ Some ends → ends_named P from s ends
+    heard ends of = along_named P from s m named ends of
+
+    back_named : (ends x : Ends) → along m ≡ Some x → ends ≡ back x → ends_named P s from ends
+    back_named ends x of is = subst (ends_named P s from) (sym is) ((heard x of).1, (heard x of).0)
+
+    to_named : (d : Done) (ends x : Ends) → P x.file s (birth_of d.store x.file) → P x.file from x.receiver
+        → ends ≡ ends_to d.store x.file x.receiver → ends_named P s from ends
+    to_named d ends x own peer is = subst (ends_named P s from) (sym is) (own, peer)
+
+    gone_named : (file : FileId) (birth : ℕ) (x : Ends) → (file ≡ x.file) × (birth ≡ x.receiver) → P x.file s x.receiver × G x.file x.receiver
+        → P file s birth × G file birth
+    gone_named file birth x is one =
+        let R : FileId → ℕ → Type 0 = λ f n. P f s n × G f n in
+        subst (λ (f : FileId). R f birth) (sym is.0) (subst (R x.file) (sym is.1) one)
+
+    -- who is not here under the names of the answer is not under those of the message
+    away : (T : FileId → ℕ → Bool) (file : FileId) (birth : ℕ) (x : Ends) → (file ≡ x.file) × (birth ≡ x.receiver)
+        → T file birth ≡ false → T x.file x.receiver ≡ false
+    away T file birth x is h =
+        subst (λ (f : FileId). T f x.receiver ≡ false) is.0 (subst (λ (n : ℕ). T file n ≡ false) is.1 h)
+
+    answer_named : (d : Done) (r : Message) → Answers a m d.store r → Behind d → AllNamed P s from r × SaysAll Q G r
+    answer_named d (message.Gone file birth) of k =
+        gone_named file birth of.ends of.is (
+          (heard of.ends of.of).1,
+          fresh of.ends of.of
+              (away (λ (f : FileId) (n : ℕ). has_birth a f n) file birth of.ends of.is of.away)
+              (away (λ (f : FileId) (n : ℕ). is_pending a f n) file birth of.ends of.is of.over),
+        )
+    answer_named d (message.Ack ends q tag) of k = (back_named ends of.0 of.1 of.2, tt)
+    answer_named d (message.Want ends wanted) of k = (back_named ends of.0 of.1 of.2, tt)
+    answer_named d (message.Delta ends x) of k = (back_named ends of.0 of.1 of.2, tt)
+    answer_named d (message.Piece ends p) of k = (back_named ends of.0 of.1 of.2, tt)
+    answer_named d (message.Later ends stamp) of k = (back_named ends of.0 of.1 of.2, tt)
+    answer_named d (message.Full ends) of k =
+        (to_named d ends ends (own_held d ends.file k (ap begins_replica of.0) (held ends.file (ap asking of.0))) (subst (AllNamed P from s) of.0 named) of.1, tt)
+    answer_named d (message.Grant ends g) of k = (
+      to_named d ends ends (own_held d ends.file k (ap begins_replica of.asked) (held ends.file (ap asking of.asked))) (subst (AllNamed P from s) of.asked named) of.is,
+      subst (λ (x : Granted). All (Q ends.file) x.flags) (sym of.what) (own_says Q (Owed P G s) s d.store ends.file k.fine.store),
+    )
+    answer_named d (message.NoGrant file birth) of k = (subst (AllNamed P from s) of named, tt)
+    answer_named d (message.Here ends) of k =
+        (to_named d ends ends (own_held d ends.file k (ap begins_replica of.0) (held ends.file (ap asking of.0))) (subst (AllNamed P from s) of.0 named) of.1, tt)
+    answer_named d (message.NoneHere what file child) of k = (tt, tt)
+    answer_named d (message.ByeOk file birth) of k =
+        let one : ends_named P from s of.0 = subst (AllNamed P from s) of.1 named in
+        (subst (λ (f : FileId). P f from birth) (sym of.2) (subst (P of.0.file from) (sym of.3) one.0), tt)
+    answer_named d (message.PlaceIs dir e) of k =
+        (tt, subst (SaysEntry Q) (sym of.2) (entry_says Q (Owed P G s) s d.store of.0.child k.fine.store))
+    answer_named d (message.TellOk dir child stamp) of k = (tt, tt)
+    answer_named d (message.LeaveOk ends stamp) of k =
+        let x = of.0 in
+        let none = ap begins_replica of.1 in
+        let full = (and_parts (is_full d.store x.file) _ of.3).0 in
+        let own = own_held d x.file k none (sym (k.holds none x.file) ∙ full_held d.store.names x.file full) in
+        let one : ends_named P from s x = subst (AllNamed P from s) of.1 named in
+        (subst (ends_named P s from) (sym of.2) (own, one.0), tt)
+    answer_named d r of k = absurd of
+
+    leaves_not : (ends : Ends) (stamp : Stamp) → m ≡ message.LeaveOk ends stamp → ⊥
+    leaves_not ends stamp is = false≢true (sym (subst (λ (x : Message). gives_leave_to x ≡ false) is stays))
+
+    begins_not : (ends : Ends) (g : Granted) → m ≡ message.Grant ends g → begins_replica m ≡ false → ⊥
+    begins_not ends g is none = false≢true (sym none ∙ ap begins_replica is)
+
+    keeps_fine : Keeps a w m Behind
+    keeps_fine = record {
+      cell_place = λ d ends tag place is accepted k. behind_place P G s from a m d ends.file place k;
+      cell_flag = λ d ends tag flag is accepted k. behind_flag P G s from a m d ends.file flag (subst (SaysMessage Q) is says) k;
+      cell_entry = λ d ends tag e sure is dir accepted k. behind_cell P G s from a m d ends.file e sure (subst (SaysMessage Q) is says) k;
+      version = λ d file v is k. behind_version P G s from a m d file v k;
+      told_place = λ d dir e is there apart k. behind_place P G s from a m d e.child e.place k;
+      told_flag = λ d dir e flag is there among k. (
+          let all : SaysEntry Q e = subst (SaysMessage Q) is says in
+          behind_flag P G s from a m d e.child flag (All-contains (Q e.child) e.flags flag all among) k);
+      place_is = λ d dir e is there k. behind_entry P G s from a m d dir e (subst (SaysMessage Q) is says) k;
+      tell = λ d dir e is there k. behind_entry P G s from a m d dir e (subst (SaysMessage Q) is says) k;
+      links = λ d file birth is same k.
+          behind_link P G s from a m d file d.work.from birth
+          (subst (λ (z : ℕ). P file z birth) (sym k.fine.asker) (linking_named P from s m named (file, birth) is)) k;
+      meets = λ d ends origin birth hops word is accepted k. (
+          let both_named : ends_named P from s ends × P ends.file origin birth = subst (AllNamed P from s) is named in
+          behind_link P G s from a m d ends.file origin birth both_named.1 k);
+      unlinks = λ d file birth is same k. (
+          let b = unlink d.store file d.work.from birth in
+          behind_edges P G s from a m d (idle b d.work) k (say_unlink Q (Owed P G s) s d.store file d.work.from birth k.fine.store)
+          (ends_unlink P d.store file d.work.from birth k.fine.edges) (same_mail d.work)
+          (unlink_as_before d.store file d.work.from birth));
+      acknowledges = λ d ends q tag is same k. (
+          let link = link_of d.work.from ends in
+          behind_store P G s from a m d (acknowledge d.store ends.file link q tag) k (say_acknowledge Q (Owed P G s) s d.store ends.file link q tag k.fine.store)
+          (acknowledge_stays d.store ends.file link q tag));
+      begins = λ ends g is pending k. (
+          let b = begun_by a ends g in
+          let own = granted_own g in
+          let one : ends_named P from s ends = subst (AllNamed P from s) is named in
+          record {
+            fine = said_on P Q G s from (idle a w) (idle b w) k.fine
+                (say_begin Q (Owed P G s) s a ends.file ends.receiver g.policy own false (subst (SaysMessage Q) is says) k.fine.store)
+                (ends_begin P a ends.file ends.receiver g.policy own false k.fine.edges) (same_mail w);
+            born = born_begun P Q G s from a ends g one.1 k.born;
+            births = λ none f. absurd (begins_not ends g is none);
+            holds = λ none f. absurd (begins_not ends g is none);
+          });
+      fills = λ ends is accepted filling k.
+          behind_store P G s from a m (idle a w) (with_names a (fill_names a.names ends.file)) k (say_fill Q (Owed P G s) s a ends.file k.fine.store)
+          (fill_stays a ends.file);
+      raises = λ d ends is there few k. (
+          let f = ends.file in
+          let own = own_at d f ends.receiver k (raises_only m ends is) (of_birth (replica_at a f) ends.receiver there) in
+          let same = (flag_stays d.store f (own_next d.store f true)).before in
+          behind_same P G s from a m d (raise_flag d.store f d.work) k (fine_flag P G s from d.store f true d.work k.fine own) same.births same.held);
+      goes = λ ends stamp is may k. absurd (leaves_not ends stamp is);
+      says_bye = λ d ends stamp e is may among k. absurd (leaves_not ends stamp is);
+      ends_intent = λ d q is k.
+          behind_store P G s from a m d (with_intents d.store (ended d.store.intents q)) k (say_ended Q (Owed P G s) s d.store q k.fine.store) (ended_stays d.store q);
+      turns_intent = λ d q peer is k. behind_aim P G s from a m d q peer k;
+      asks_granter = λ d ends g is same k. behind_aim P G s from a m d (intent_key.Fill ends.file) d.work.from k;
+      turns_wish = λ d file peer is k. (
+          let b = with_wishes d.store (aim_wish d.store.wishes file peer) in
+          let store : SaysStore Q (Owed P G s) s b = record { names = k.fine.store.names; intents = k.fine.store.intents } in
+          behind_same P G s from a m d (idle b d.work) k (said_on P Q G s from d (idle b d.work) k.fine store k.fine.edges (same_mail d.work)) (λ f. refl) (λ f. refl));
+      answers = λ d r of same k. (
+          let n = answer_named d r of k in
+          behind_same P G s from a m d (idle d.store (reply d.store r d.work)) k (said_reply P Q G s from d.store r d.work n.0 n.1 k.fine) (λ f. refl) (λ f. refl));
+      tells_origin = λ d ends origin birth hops word is accepted k. (
+          let both_named : ends_named P from s ends × P ends.file origin birth = subst (AllNamed P from s) is named in
+          let own = own_at d ends.file ends.receiver k (ap begins_replica is) (here ends _ accepted) in
+          behind_post P G s from a m d origin (message.Meet (ends_to d.store ends.file birth)) (own, both_named.1) tt k);
+      passes_on = λ ends origin birth hops word left rest i e is accepted at k. (
+          let f = ends.file in
+          let both_named : ends_named P from s ends × P f origin birth = subst (AllNamed P from s) is named in
+          let own = own_at (idle a w) f ends.receiver k (ap begins_replica is) (here ends _ accepted) in
+          let Has : Edge → Type 0 = λ x. P f x.peer x.birth in
+          let on_edges = All-filter (is_onward w.from origin) Has (edges_of a f) (edges_named P Q G s from a f (replica_at a f) refl k.fine.edges) in
+          let edge = got P Q G s from Has (onward a f w.from origin) i e on_edges at in
+          behind_last P G s from a m (idle a w) e.peer (message.Walk (ends_to a f e.birth) origin birth left rest) ((own, edge), both_named.1) tt k);
+      notes = λ d ns k.
+          behind_store P G s from a m d (with_notes d.store ns) k (record { names = k.fine.store.names; intents = k.fine.store.intents }) (notes_stay d.store ns);
+      keeps = λ d file x k.
+          behind_store P G s from a m d (keep_delta d.store file x) k (record { names = k.fine.store.names; intents = k.fine.store.intents }) (keep_stays d.store file x);
+      tells = λ d ends head e of among k. (
+          let f = ends.file in
+          let b = d.store in
+          let own = own_given P Q G s from b f e (replica_at b f) refl among k.born in
+          let Has : Edge → Type 0 = λ x. P f x.peer x.birth in
+          let edge = All-contains Has (replica_of b f).edges e (edges_named P Q G s from b f (replica_at b f) refl k.fine.edges) among in
+          behind_post P G s from a m d e.peer (message.Harbinger (ends_to b f e.birth) 0 head) (own, edge) tt k);
+    }
+
+    kept : IsBorn a → Fine (idle a w) → Fine (receive a m w)
+    kept born first =
+        (receive_keeps a w Behind m keeps_fine (record { fine = first; born = born; births = λ none f. refl; holds = λ none f. refl })).fine
+
+  -- what is asked for is held, or it is told that it is not
+  fetch_fine : (a : Store) (file : FileId) (birth : ℕ) (w : Work) → P file from birth → AreTogether a → IsBorn a → Fine (idle a w) → (t : Bool) → is_full a file ≡ t
+      → Fine (fetch a file birth w)
+  fetch_fine a file birth w named both born k true full =
+      let here = full_held a.names file full in
+      kept a (message.Fetch file birth) w named tt (λ ends of. absurd (none-some ends of)) both
+      (λ f is. subst (λ (q : FileId). is_held a q ≡ true) (same_Some file f is) here) refl born k
+  fetch_fine a file birth w named both born k false none =
+      let r = message.NoGrant file birth in
+      let far = cond (knows_later a file w.from birth) (idle a w) (answered_fetch file birth (link_peer a file w.from birth w)) in
+      subst (λ (t : Bool). Fine (cond t far (idle a (reply a r w)))) (sym none) (said_reply P Q G s from a r w named tt k)
+
+  seek_fine : (a : Store) (file : FileId) (birth : ℕ) (w : Work) → P file from birth → AreTogether a → IsBorn a → Fine (idle a w) → (t : Bool) → is_held a file ≡ t
+      → Fine (seek a file birth w)
+  seek_fine a file birth w named both born k true here =
+      kept a (message.Seek file birth) w named tt (λ ends of. absurd (none-some ends of)) both
+      (λ f is. subst (λ (q : FileId). is_held a q ≡ true) (same_Some file f is) here) refl born k
+  seek_fine a file birth w named both born k false none =
+      let r = message.NoneHere ask.Seek file file in
+      let far = cond (knows_later a file w.from birth) (idle a w) (answered_seek file birth (link_peer a file w.from birth w)) in
+      subst (λ (t : Bool). Fine (cond t far (idle a (reply a r w)))) (sym none) (said_reply P Q G s from a r w tt tt k)
 
   -- ANY MESSAGE
   pub fine_received : (a : Store) (m : Message) (w : Work) → AllNamed P from s m → SaysMessage (OfBirths P) m
-      → ((ends : Ends) → linking_to m ≡ Some ends → Fresh P (OfBirths P) G s from a ends)
+      → ((ends : Ends) → along m ≡ Some ends → Fresh P (OfBirths P) G s from a ends)
       → ((x : Ends) (stamp : Stamp) → m ≡ message.LeaveOk x stamp → goes_now a x stamp w ≡ true → G x.file x.receiver) → Born P (OfBirths P) G s from a → AreTogether a
       → Fine (idle a w)
       → Fine (receive a m w)
-  fine_received a (message.Cell ends tag c) w named says fresh going born both k = said_cell P Q G s from a ends tag c w named says (fresh ends refl) k
-  fine_received a (message.Ack ends q tag) w named says fresh going born both k = said_ack P Q G s from a ends q tag w k
-  fine_received a (message.Harbinger ends tag head) w named says fresh going born both k =
-      fine_harbinger P G s from ends named.0 named.1 a w k born (fresh ends refl) tag head
-  fine_received a (message.Want ends wanted) w named says fresh going born both k =
-      fine_want P G s from ends named.0 named.1 a w k born (fresh ends refl) wanted
-  fine_received a (message.Delta ends d) w named says fresh going born both k = fine_delta P G s from ends named.0 named.1 a w k born d
-  fine_received a (message.Piece ends p) w named says fresh going born both k = fine_piece P G s from ends named.0 named.1 a w k born p
-  fine_received a (message.Later ends stamp) w named says fresh going born both k = fine_later P G s from ends named.0 named.1 a w k born stamp
-  fine_received a (message.Fetch file birth) w named says fresh going born both k = said_fetch P Q G s from a file birth w named born k
-  fine_received a (message.Grant ends g) w named says fresh going born both k = said_grant P Q G s from a ends g w named says (fresh ends refl) k
-  fine_received a (message.NoGrant file birth) w named says fresh going born both k = said_no_grant P Q G s from a file birth w k
-  fine_received a (message.Full ends) w named says fresh going born both k = fine_full a ends w named.1 k
-  fine_received a (message.Seek file birth) w named says fresh going born both k = said_seek P Q G s from a file birth w both named born k
-  fine_received a (message.Here ends) w named says fresh going born both k = said_accept P Q G s from a ends w named (fresh ends refl) k
-  fine_received a (message.NoneHere what file child) w named says fresh going born both k = said_none_here P Q G s from a what file child w k
-  fine_received a (message.Gone file birth) w named says fresh going born both k = said_gone P Q G s from a file birth w k
-  fine_received a (message.Bye ends) w named says fresh going born both k = said_bye P Q G s from a ends w named.0 k
-  fine_received a (message.ByeOk file birth) w named says fresh going born both k =
-      said_ended P Q G s from a (intent_key.Bye file birth w.from) w k
-  fine_received a (message.Confirm dir e) w named says fresh going born both k = said_confirm P Q G s from a dir e w says k
-  fine_received a (message.PlaceIs dir e) w named says fresh going born both k = said_place_is P Q G s from a dir e w says k
-  fine_received a (message.Tell dir e) w named says fresh going born both k = said_tell P Q G s from a dir e w says k
-  fine_received a (message.TellOk dir child stamp) w named says fresh going born both k = said_tell_ok P Q G s from a dir child stamp w k
-  fine_received a (message.Leave ends stamp) w named says fresh going born both k =
-      said_leave P Q G s from a ends stamp w named (fresh ends refl) k
+  fine_received a (message.Fetch file birth) w named says fresh going born both k = fetch_fine a file birth w named both born k (is_full a file) refl
+  fine_received a (message.Seek file birth) w named says fresh going born both k = seek_fine a file birth w named both born k (is_held a file) refl
   fine_received a (message.LeaveOk ends stamp) w named says fresh going born both k =
       said_leave_ok P Q G s from a ends stamp w named.1 (going ends stamp refl) k
-  fine_received a (message.Invite ends) w named says fresh going born both k = fine_invite a ends w named.1 (fresh ends refl) k
-  fine_received a (message.Walk ends origin birth hops word) w named says fresh going born both k =
-      said_walk P Q G s from a ends origin birth hops word w named.0 named.1 (fresh ends refl) born k
-  fine_received a (message.Meet ends) w named says fresh going born both k = said_accept P Q G s from a ends w named (fresh ends refl) k
+  fine_received a m w named says fresh going born both k =
+      kept a m w named says fresh both (λ f is. absurd (none-some f is)) refl born k

@@ -39,6 +39,7 @@ use Rattle.law_order.specs.pg_intent.declared.key.IntentKey.{IntentKey}
 use Rattle.law_order.proofs.theory_flood_pieces.Choices.{chosen, decided}
 use Rattle.law_order.specs.pg_run.Births.{AllNamed}
 use Rattle.law_order.proofs.pg_run.Event.{all_sent, end_of, store_is}
+use Rattle.law_order.proofs.law_frame.Keeps.{along}
 use Rattle.law_births.specs.Flags.{SaysMessage, SaysStore}
 use Rattle.law_births.proofs.Calls.{fill_only}
 use Rattle.law_births.proofs.EndsSay.{SaysEnds, ends_same}
@@ -49,7 +50,7 @@ use Rattle.law_births.proofs.Here.{birth_is, birth_of_held}
 use Rattle.law_births.proofs.Pieces.{Shape, Stays, flag_stays, rules_stay, settle_stays, shape, shape_at, stays_itself, stays_then}
 use Rattle.law_births.proofs.FineCalls.{fine_call}
 use Rattle.law_births.proofs.Received.{fine_received}
-use Rattle.law_births.proofs.Mails.{OfBirths, Owed, SaysSent, linking_to}
+use Rattle.law_births.proofs.Mails.{OfBirths, Owed, SaysSent}
 use Rattle.law_births.proofs.Saying.{IsSaid}
 use Rattle.law_births.proofs.Sends.{Sorted, asks_all, asks_some, cells_say}
 use Rattle.law_births.proofs.StoreSays.{say_begin_end, say_flag, say_rules}
@@ -67,7 +68,7 @@ Known P s input.Restart = Unit {0}
 abbrev pub Freshly : (FileId → ℕ → Type 0) → Store → Input → Type 0
 Freshly G a (input.Call moment call) = Unit {0}
 Freshly G a (input.Tick moment word) = Unit {0}
-Freshly G a (input.Arrival packet) = ((ends : Ends) → linking_to packet.message ≡ Some ends
+Freshly G a (input.Arrival packet) = ((ends : Ends) → along packet.message ≡ Some ends
     → has_birth a ends.file ends.receiver ≡ false → is_pending a ends.file ends.receiver ≡ false → G ends.file ends.receiver)
     × (is_heard a packet ≡ true → (x : Ends) (stamp : Stamp) → packet.message ≡ message.LeaveOk x stamp
     → goes_now a x stamp (new_work 0 packet.from) ≡ true → G x.file x.receiver)

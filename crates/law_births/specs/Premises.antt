@@ -34,7 +34,8 @@ NextIdsAreFree servers = (events : List Event) → AtEach servers (λ s. (kind :
 
 -- each server is whole behind each event
 abbrev pub StoresAreWhole : ℕ → Type 0
-StoresAreWhole servers = (events : List Event) → AtEach servers (λ s. IsWhole servers s (store_after servers events s))
+StoresAreWhole servers = (events : List Event)
+    → AtEach servers (λ s. IsWhole servers s (store_after servers events s))
 
 -- a version that is made is of the server that makes it, which has a replica of the thing
 abbrev pub IsMadeHere : ℕ → Store → MadeVersion → Type 0

@@ -16,10 +16,9 @@
 //! - `proofs/ByeKeys`, `ByeEvents` and `Owing` look at the key of one Bye: what an event leaves
 //!   there.
 //! - Premises: `IntentionsAreInOrder`; what `law_order` gives is cited in `proofs/Given`.
-//! - A new kind of message gets four lines: `received_moves` (`proofs/Handlers`), `fine_received`
-//!   (`proofs/Received`), `received_none` (`proofs/Unmade`) and `received_bye`
-//!   (`proofs/ByeEvents`). Those of bodies on demand get them step by step: `proofs/Bodies` and
-//!   `ByeBodies`.
+//! - Messages go by the walk of `law_frame`: `proofs/Handlers`, `Received`, `Unmade` and `ByeKeys`
+//!   say what each piece keeps. A new kind of message that goes along an edge gets its line in
+//!   `along_named` (`proofs/Mails`), and one that links its sender another in `linking_named`.
 #![tactic(auto)]
 
 mod laws;

@@ -2,9 +2,9 @@
 //!
 //! A Confirm stands only of a child that a directory lists and that is not held (`law_intents`, the
 //! clause `intends` of `run`). Here is what makes one stand: a place that came in the event, and of
-//! which its sender was not sure, or a further view; and one that stood ends only where the place is
-//! told for sure, is listed no longer, or the child is held: the clause `confirms`. The statement
-//! stands in `specs/Confirms`.
+//! which its sender was not sure, or a further view; and one that stood ends only where the place
+//! is told for sure, is listed no longer, or the child is held: the clause `confirms`. The
+//! statement stands in `specs/Confirms`.
 //!
 //! - It is the rule of one step of `theory_listing` (`listed_new`, `confirm_ends`, `enters` of
 //!   `MayStep`), which each event of a run keeps (`by_rule` of `law_listings`), read without its

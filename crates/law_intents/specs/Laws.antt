@@ -33,4 +33,5 @@ HasRequest a i = (m : Message) × (request a i ≡ Some m)
 
 abbrev pub IntentionsHaveRequests : ℕ → Type 0
 IntentionsHaveRequests servers = (events : List Event)
-    → AtEach servers (λ s. All (HasRequest (store_after servers events s)) (store_after servers events s).intents)
+    → AtEach servers (λ s. All (HasRequest (store_after servers events s))
+    (store_after servers events s).intents)

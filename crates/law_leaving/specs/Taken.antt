@@ -27,7 +27,8 @@ abbrev pub IsTaken : List Take → FileId → Cell → Type 0
 IsTaken takes file (cell.Place place) = IsPlaceTaken Itself file takes place
 IsTaken takes file (cell.Flag flag) = Contains (flags_taken Itself file takes) flag
 IsTaken takes file (cell.Entry e sure) = IsPlaceTaken (InDir file) e.child takes e.place
-    × ((flag : Flag) → Contains e.flags flag → Contains (flags_taken (InDir file) e.child takes) flag)
+    × ((flag : Flag) → Contains e.flags flag
+    → Contains (flags_taken (InDir file) e.child takes) flag)
 IsTaken takes file (cell.Version v) = Unit {0}
 
 -- what a server holds, and what its replicas took

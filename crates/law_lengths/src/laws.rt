@@ -13,9 +13,9 @@ pub fn messages_are_short()
     ensures { (m : Message) → FitsMessage m → IsShort (content.Message m) }
 {}
 
-/// Whatever comes to a server of 1 to 64, be it from strangers: each message and reply that it sends
-/// has a spelling, and a packet of at most 40,000 bytes. `step` says it of one input, and of what the
-/// server holds then; `run` of any inputs from the server's beginning on.
+/// Whatever comes to a server of 1 to 64, be it from strangers: each message and reply that it
+/// sends has a spelling, and a packet of at most 40,000 bytes. `step` says it of one input, and of
+/// what the server holds then; `run` of any inputs from the server's beginning on.
 pub fn sends_packets()
     ensures step { StepSendsPackets }
     ensures run { RunSendsPackets }

@@ -72,10 +72,9 @@ use Rattle.law_order.proofs.Ended.{IsAtRest}
 use Rattle.law_order.proofs.Entering.{so_entered}
 use Rattle.law_order.proofs.Files.{thing_files}
 use Rattle.law_order.proofs.Found.{IsFree, IsToGo, dropped_found, empty_found, lost_found, move_found, name_found}
-use Rattle.law_order.proofs.Leaving.{so_begins}
 use Rattle.law_order.proofs.Losing.{so_lost}
 use Rattle.law_order.proofs.Sounding.{Sound, sound_alike, sound_begun, sound_write}
-use Rattle.law_order.proofs.Taking.{IsMember, SoFar, so_flagged, so_made, so_raised, so_sent, so_with}
+use Rattle.law_order.proofs.Taking.{IsMember, SoFar, so_begins, so_flagged, so_made, so_raised, so_sent, so_with}
 
 -- an id that nobody knows yet
 pub record IsNewId (p : Saying) (a : Store) (id : FileId) : Type 0 where

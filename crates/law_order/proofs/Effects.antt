@@ -1,8 +1,12 @@
 -- An event at a server leaves it sound, and what is sent in it is said.
-use Rattle.std.proofs.Common.{ℕ, ◌≡◌, ◌≤◌, ◌==◌, Bool, true, false, not, cond, nat_le, Some, refl, sym, subst, ◌∙◌}
+use Rattle.std.proofs.Common.{ℕ, ◌≡◌, ◌≤◌, ◌%◌, ◌/◌, ◌==◌, Bool, true, false, not, cond, length, nat_le, Option, None, Some, refl, sym, subst, ◌∙◌}
+use Rattle.std.specs.List.{slice_get}
 use Rattle.std.proofs.lemmas.Bool.{and_parts, leb-true}
 use Rattle.std.proofs.lemmas.List.Elements.{All-nil}
+use Rattle.pg_run.specs.pg_base.declared.id.FileId.{FileId}
+use Rattle.pg_run.specs.pg_edges.declared.edge.Edge.{Edge}
 use Rattle.pg_run.proofs.pg_intent.Above.{not_equal}
+use Rattle.pg_run.specs.pg_msg.declared.message.Message.TheVariants as message
 use Rattle.pg_run.specs.pg_msg.declared.message.Sent.{Sent}
 use Rattle.pg_run.specs.pg_msg.declared.work.Slot.{Slot}
 use Rattle.pg_run.specs.pg_msg.declared.work.Work.{Work}
@@ -11,11 +15,14 @@ use Rattle.pg_run.specs.pg_msg.Work.{new_work}
 use Rattle.pg_run.specs.pg_announced.Announced.{released}
 use Rattle.pg_run.specs.pg_call.declared.reply.Reply.{Reply}
 use Rattle.pg_run.specs.pg_store.declared.store.Store.{Store}
+use Rattle.pg_run.specs.pg_store.Births.{birth_of}
 use Rattle.pg_run.specs.pg_store.Servers.{is_live_other, view_of}
 use Rattle.pg_run.specs.pg_store.Store.{is_before_clock_end}
 use Rattle.pg_run.proofs.pg_store.Aiming.{unwished_as_before}
 use Rattle.pg_run.proofs.pg_store.Given.{births_as_before}
+use Rattle.pg_run.specs.pg_pieces.Accepting.{ends_to}
 use Rattle.pg_run.specs.pg_pieces.Done.{Done, idle}
+use Rattle.pg_run.specs.pg_graph.Walks.{edges_of, most_hops, walk_along, walk_from, walk_of, walk_of_tick, with_few_edges}
 use Rattle.pg_run.specs.pg_cells.Ticks.{tick}
 use Rattle.pg_run.specs.pg_intentions.Requests.{ask_all}
 use Rattle.pg_run.specs.pg_calls.Calls.{do_call}
@@ -26,14 +33,13 @@ use Rattle.pg_run.specs.pg_server.Local.{Effect, closed, done_of, effect, finish
 use Rattle.pg_run.specs.theory_flood_pieces.Whole.{IsOther}
 use Rattle.pg_run.proofs.theory_flood_pieces.Choices.{chosen, decided}
 use Rattle.law_order.specs.Saying.{IsClosed, IsSaidLeft, IsSaidOfMessage, Saying}
-use Rattle.law_order.proofs.Accepting.{so_tick}
 use Rattle.law_order.proofs.Bodies.{sound_noted}
 use Rattle.law_order.proofs.Called.{GivesNewIds, so_called}
 use Rattle.law_order.proofs.Ended.{IsAtRest, IsDone, closed_sound, finished_sound}
 use Rattle.law_order.proofs.Received.{so_received}
 use Rattle.law_order.proofs.Sent.{AreSaidOf, again_said}
 use Rattle.law_order.proofs.Sounding.{Sound, sound_alike}
-use Rattle.law_order.proofs.Taking.{IsMember, SoFar}
+use Rattle.law_order.proofs.Taking.{IsMember, SoFar, so_tail}
 
 -- what is asked of an input
 abbrev pub IsAskable : Saying → Store → Input → Type 0
@@ -72,12 +78,33 @@ module _ (p : Saying) (c : IsClosed p) (n s : ℕ) (mine : IsMember p n s) (a : 
       sound_alike p n s a k.sound (without_volatile a) (record { servers = refl; tags = refl; names = refl; replicas = refl })
       (births_as_before a (without_volatile a) (unwished_as_before a) k.sound.births) k.sound.keys k.sound.named.intents
 
+  -- a walk begins
+  walk_goes : (d : Done) (f : FileId) (rest : ℕ) (o : Option Edge) → Far d
+      → Far (idle d.store (walk_along d.store f d.store.names.server (birth_of d.store f) most_hops rest d.work o))
+  walk_goes d f rest None h = h
+  walk_goes d f rest (Some e) h =
+      let b = d.store in
+      so_tail p c n s d e.peer (message.Walk (ends_to b f e.birth) b.names.server (birth_of b f) most_hops rest) h
+      (subst p.IsServer (sym h.store.whole.server) mine.named)
+
+  walk_begins : (d : Done) (word : ℕ) (o : Option FileId) → Far d → Far (idle d.store (walk_from d.store word d.work o))
+  walk_begins d word None h = h
+  walk_begins d word (Some f) h =
+      let edges = edges_of d.store f in
+      walk_goes d f (word / length edges) (slice_get edges (word % length edges)) h
+
+  so_tick : (d : Done) (word : ℕ) → Far d → Far (idle d.store (walk_of_tick d.store word d.work))
+  so_tick d word h =
+      let files = with_few_edges d.store in
+      chosen (λ (v : Work). Far (idle d.store v)) (word == 0) d.work (walk_of d.store word files d.work) h
+      (walk_begins d (word / length files) (slice_get files (word % length files)) h)
+
   tick_far : (moment word : ℕ) → Far (ticked a word (new_work moment 0))
   tick_far moment word =
       let w = new_work moment 0 in
       let b = without_sources a in
       let sound = sound_noted p n s a k.sound (released a.announced) in
-      so_tick p c n s (idle b (ask_all b (tick b w))) word mine (record {
+      so_tick (idle b (ask_all b (tick b w))) word (record {
         store = sound;
         left = (begins moment 0).left;
         sent = again_said p n s b sound w (none_sent moment 0);
@@ -101,7 +128,7 @@ module _ (p : Saying) (c : IsClosed p) (n s : ℕ) (mine : IsMember p n s) (a : 
       let two = and_parts (packet.view == view_of a) _ one.1 in
       let three = and_parts (is_live_other a packet.from) (is_in_range packet.message) two.1 in
       let other = heard_other n s packet.from a k.sound.whole.servers k.sound.whole.server three.0 in
-      so_received p c n s mine (idle a (new_work 0 packet.from)) packet.message other said (begins 0 packet.from))
+      so_received p c n s mine a (new_work 0 packet.from) packet.message other said (begins 0 packet.from))
       (λ no. begins 0 packet.from)
   first_sound input.Restart asks going = record { store = sound_wishless; left = (begins 0 0).left; sent = none_sent 0 0; tail = none_sent 0 0 }
 

@@ -7,7 +7,7 @@ use Rattle.pg_run.specs.pg_msg.declared.message.Sent.{Sent}
 use Rattle.pg_run.specs.pg_msg.declared.work.Work.{Work}
 use Rattle.std.specs.Prelude.{Option}
 use Rattle.pg_run.specs.pg_store.declared.store.Store.{Store}
-use Rattle.pg_run.specs.pg_pieces.Done.{Done}
+use Rattle.pg_run.specs.pg_pieces.Done.{Done, idle}
 use Rattle.pg_run.specs.pg_cells.Finish.{finish}
 use Rattle.pg_run.specs.pg_cells.Settling.{settle}
 use Rattle.pg_run.proofs.pg_cells.Settled.{settle_gives}
@@ -18,7 +18,7 @@ use Rattle.pg_run.proofs.pg_intentions.Steady.{begin_end_stays}
 use Rattle.pg_run.specs.pg_server.Local.{Effect, closed, finished}
 use Rattle.law_order.specs.Saying.{IsClosed, IsSaidOfMessage, Saying}
 use Rattle.law_order.specs.Sound.{IsSettled}
-use Rattle.law_order.proofs.BirthsStay.{births_end, keys_end}
+use Rattle.law_order.proofs.BirthsStay.{given_end}
 use Rattle.law_order.proofs.HouseSays.{AreLeft}
 use Rattle.law_order.proofs.Intended.{keeps_end}
 use Rattle.law_order.proofs.Sent.{AreSaidOf, end_said}
@@ -43,9 +43,10 @@ module _ (p : Saying) (c : IsClosed p) (n s : ℕ) where
   pub sound_end : (a : Store) (w : Work) → Sound p n s a → AreLeft p c w.left → Sound p n s (begin_end a w).store
   sound_end a w k left =
       let stays = begin_end_stays a w in
+      let given = given_end (idle a w) (k.whole.together, k.births, k.keys) in
       sound_alike p n s a k (begin_end a w).store
       (record { servers = stays.servers; tags = stays.tags; names = stays.names; replicas = stays.replicas })
-      (births_end a w k.whole.together k.births) (keys_end a w k.keys)
+      given.1 given.2
       (keeps_end p c a w (k.named.said, k.named.intents) left).1
 
   -- THE HOUSE RULES RUN, and golds are raised

@@ -1,75 +1,41 @@
 -- How many ids a server gave out: a call that makes a thing gives out one, and nothing else does.
-use Rattle.std.proofs.Common.{ℕ, ◌≤◌, ◌+◌, ◌==◌, arith, Result, Ok, Err, ◌≡◌, ◌&&◌, not, cond, List, [], ◌∷◌, drop, length, Option, None, Some, nat_lt, true, false, refl, ◌∙◌}
+use Rattle.std.proofs.Common.{ℕ, ◌≤◌, ◌+◌, arith, ◌≡◌, List, [], ◌∷◌, drop, length, Option, true, false, refl, ◌∙◌}
 use Rattle.pg_run.specs.pg_base.declared.id.FileId.{FileId}
 use Rattle.pg_run.specs.pg_base.declared.policy.Policy.{Policy}
-use Rattle.pg_run.specs.pg_edges.declared.edge.Edge.{Edge}
-use Rattle.pg_run.specs.pg_entries.declared.cell.Cell.{Cell}
-use Rattle.pg_run.specs.pg_entries.declared.cell.Cell.TheVariants as cells
-use Rattle.pg_run.specs.pg_intent.declared.key.IntentKey.TheVariants as intent_key
-use Rattle.pg_run.specs.pg_intent.Intents.{intent_at}
-use Rattle.pg_run.specs.pg_msg.declared.message.Ends.{Ends}
 use Rattle.pg_run.specs.pg_msg.declared.message.Message.{Message}
-use Rattle.pg_run.specs.pg_msg.declared.message.Message.TheVariants as message
 use Rattle.pg_run.specs.pg_msg.declared.work.Touched.{Touched}
 use Rattle.pg_run.specs.pg_msg.declared.work.Work.{Work}
-use Rattle.pg_run.specs.pg_names.Names.{fill as fill_names}
-use Rattle.pg_run.specs.pg_register.declared.flag.Flag.{Flag}
+use Rattle.pg_run.specs.pg_names.Names.{blank_own}
 use Rattle.pg_run.specs.pg_house.House.{house}
-use Rattle.pg_run.specs.pg_house.Work.{is_root, state_of}
+use Rattle.pg_run.specs.pg_house.Work.{state_of}
 use Rattle.pg_run.specs.pg_store.declared.store.Store.{Store}
-use Rattle.pg_run.specs.pg_store.Beginning.{let_go}
-use Rattle.pg_run.specs.pg_store.Births.{birth_of, fill_at, has_birth, is_pending, wish_at, with_birth}
-use Rattle.pg_run.specs.pg_store.Links.{knows_later}
-use Rattle.pg_run.specs.pg_store.Servers.{next_target}
-use Rattle.pg_run.specs.pg_store.Store.{is_before_clock_end, is_full, is_held, replica_of, take_entry, touch, with_names}
-use Rattle.pg_run.specs.pg_pieces.declared.accepting.EdgeUse.{EdgeUse}
-use Rattle.pg_run.specs.pg_pieces.declared.accepting.EdgeUse.TheVariants as manner
-use Rattle.pg_run.specs.pg_pieces.Accepting.{accept, is_accepted, met}
-use Rattle.pg_run.specs.pg_cells.Cells.{fits, taken}
+use Rattle.pg_run.specs.pg_store.Births.{draw_birth, with_birth}
+use Rattle.pg_run.specs.pg_store.Store.{is_before_clock_end, touch, with_names}
 use Rattle.pg_run.specs.pg_pieces.Done.{Done, idle}
-use Rattle.pg_run.specs.pg_pieces.Golds.{is_gold}
-use Rattle.pg_run.specs.pg_pieces.Making.{lower_flag, own_next}
+use Rattle.pg_run.specs.pg_pieces.Making.{own_next}
 use Rattle.pg_run.specs.pg_cells.Settling.{rules, settle, touch_all}
-use Rattle.pg_run.specs.pg_repair.Confirming.{is_confirmed, take_told_place}
-use Rattle.pg_run.specs.pg_repair.Filling.{few_golds, invited, is_bronze, live_golds, raise_if_few}
-use Rattle.pg_run.specs.pg_repair.Granting.{begun_by, fill_asks, turn_wish, wish_asks}
-use Rattle.pg_run.specs.pg_repair.NoneHere.{asking_key, does_ask}
-use Rattle.pg_run.specs.pg_repair.Telling.{is_told}
-use Rattle.pg_run.specs.pg_graph.Leaving.{without_leave}
-use Rattle.pg_run.specs.pg_graph.Walks.{goes_on, onward, walked}
-use Rattle.pg_run.proofs.pg_graph.LeaveOk.{byes_by, leave_ok_by}
+use Rattle.pg_run.specs.pg_repair.Granting.{granted_own}
 use Rattle.pg_run.proofs.pg_intentions.Steady.{begin_end_stays}
 use Rattle.pg_run.specs.pg_checks.declared.checks.NewName.{NewName}
-use Rattle.pg_run.specs.pg_calls.Demoting.{demoted_at}
-use Rattle.pg_run.specs.pg_calls.Dropping.{clean_gold, dropped_at, leaving}
 use Rattle.pg_run.specs.pg_calls.Making.{make_place}
-use Rattle.pg_run.specs.pg_calls.Naming.{begun, dead_place, next_id, place_in, with_id, with_thing}
+use Rattle.pg_run.specs.pg_calls.Naming.{begun, next_id, place_in, with_id, with_thing}
 use Rattle.pg_run.specs.pg_server.Local.{closed, receive}
 use Rattle.pg_run.specs.pg_call.declared.reply.Reply.{Reply}
 use Rattle.pg_run.proofs.theory_flood_pieces.Choices.{chosen}
 use Rattle.pg_run.proofs.pg_cells.Settled.{settle_gives}
-use Rattle.pg_run.specs.pg_base.declared.id.Kind.TheVariants.{Dir, File}
 use Rattle.pg_run.specs.pg_base.declared.policy.Policy.TheVariants.{Last}
-use Rattle.pg_run.specs.pg_patch.Ranges.{RangesValue, cut_to, written}
 use Rattle.pg_run.specs.pg_call.declared.call.Call.{Call}
-use Rattle.pg_run.specs.pg_call.declared.call.Call.TheVariants as call
 use Rattle.pg_run.specs.pg_msg.Work.{new_work}
-use Rattle.pg_run.specs.pg_calls.Forgetting.{lost_at}
-use Rattle.pg_run.specs.pg_calls.GivingUp.{removal_at}
-use Rattle.pg_run.specs.pg_lookup.declared.paths.Found.{Found}
-use Rattle.pg_run.specs.pg_lookup.declared.paths.LookupError.{LookupError}
-use Rattle.pg_run.specs.pg_lookup.declared.paths.LookupError.TheVariants as stop
-use Rattle.pg_run.specs.pg_store.declared.wishes.Wish.{Wish}
-use Rattle.pg_run.specs.pg_checks.Answer.{Answer, answered, replied}
-use Rattle.pg_run.specs.pg_checks.Asking.{ask_by, ask_first, holder, standing}
-use Rattle.pg_run.specs.pg_calls.Bodies.{change, change_file, when_fit}
+use Rattle.pg_run.specs.pg_calls.Forgetting.{bare_entry, dead_at, unfilled}
 use Rattle.pg_run.specs.pg_calls.Calls.{do_call}
-use Rattle.pg_run.specs.pg_checks.Checks.{dir_at, empty_dir_at, file_at, in_time, move_of, new_name, target_at}
 use Rattle.pg_run.specs.pg_server.declared.input.Input.{Input}
 use Rattle.pg_run.specs.pg_server.declared.input.Input.TheVariants as input
 use Rattle.pg_run.specs.pg_server.Local.{Effect, effect, finished, first_effect, is_heard, reply_to, takes_effect, ticked}
-use Rattle.pg_run.proofs.Transfers.{KeepsTransfers, delta_keeps, harbinger_keeps, later_keeps, piece_keeps, want_keeps}
-use Rattle.law_order.proofs.NoIds.{begin_files, either_done, either_files, enter_files, entry_files, few_files, flag_files, flags_files, link_files, lost_files, place_files, unlink_files, version_files}
+use Rattle.law_frame.proofs.Called.{call_keeps}
+use Rattle.law_frame.proofs.Keeps.{Keeps}
+use Rattle.law_frame.proofs.KeepsCalls.{KeepsCalls}
+use Rattle.law_frame.proofs.Received.{receive_keeps}
+use Rattle.law_order.proofs.NoIds.{begin_files, either_done, enter_files, entry_files, flag_files, link_files, place_files, unlink_files, version_files}
 
 -- ---- a thing begins
 
@@ -82,108 +48,43 @@ thing_files a w id policy new =
 
 -- ---- messages
 
-met_files : (a : Store) (ends : Ends) (m : EdgeUse) (w : Work) → (met a ends m w).store.files ≡ a.files
-met_files a ends manner.Makes w = link_files a ends.file w.from ends.sender
-met_files a ends manner.Needs w = refl
-met_files a ends manner.Answers w = refl
-
-accept_files : (a : Store) (ends : Ends) (m : EdgeUse) (w : Work) → (accept a ends m w).store.files ≡ a.files
-accept_files a ends m w =
-    either_done a (has_birth a ends.file ends.receiver) (cond (knows_later a ends.file w.from ends.sender) (idle a w) (met a ends m w)) _
-    (either_done a (knows_later a ends.file w.from ends.sender) (idle a w) (met a ends m w) refl (met_files a ends m w)) refl
-
-taken_files : (a : Store) (f : FileId) (x : Cell) (w : Work) → (taken a f x w).store.files ≡ a.files
-taken_files a f (cells.Place place) w = place_files a f place
-taken_files a f (cells.Flag flag) w = flag_files a f flag
-taken_files a f (cells.Entry e sure) w = entry_files a f e
-taken_files a f (cells.Version v) w = version_files a f v
-
--- bodies on demand give out none
 abbrev HasFiles : ℕ → Done → Type 0
 HasFiles files d = d.store.files ≡ files
 
-files_steps : (ends : Ends) (files : ℕ) → KeepsTransfers ends (HasFiles files)
-files_steps ends files = record {
+files_kept : (a : Store) (w : Work) (m : Message) (files : ℕ) → Keeps a w m (HasFiles files)
+files_kept a w m files = record {
+  cell_place = λ d ends tag place is here h. place_files d.store ends.file place ∙ h;
+  cell_flag = λ d ends tag flag is here h. flag_files d.store ends.file flag ∙ h;
+  cell_entry = λ d ends tag e sure is dir here h. entry_files d.store ends.file e ∙ h;
+  version = λ d file v is h. version_files d.store file v ∙ h;
+  told_place = λ d dir e is held apart h. place_files d.store e.child e.place ∙ h;
+  told_flag = λ d dir e flag is held among h. flag_files d.store e.child flag ∙ h;
+  place_is = λ d dir e is held h. entry_files d.store dir e ∙ h;
+  tell = λ d dir e is held h. entry_files d.store dir e ∙ h;
+  links = λ d file birth is same h. link_files d.store file d.work.from birth ∙ h;
+  meets = λ d ends origin birth hops word is here h. link_files d.store ends.file origin birth ∙ h;
+  unlinks = λ d file birth is same h. unlink_files d.store file d.work.from birth ∙ h;
+  acknowledges = λ d ends q tag is same h. h;
+  begins = λ ends g is pending h. begin_files a ends.file ends.receiver g.policy (granted_own g) false ∙ h;
+  fills = λ ends is here filling h. h;
+  raises = λ d ends is here few h. flag_files d.store ends.file (own_next d.store ends.file true) ∙ h;
+  goes = λ ends stamp is may h. h;
+  says_bye = λ d ends stamp e is may among h. h;
+  ends_intent = λ d q is h. h;
+  turns_intent = λ d q to is h. h;
+  asks_granter = λ d ends g is same h. h;
+  turns_wish = λ d file to is h. h;
+  answers = λ d r of same h. h;
+  tells_origin = λ d ends origin birth hops word is here h. h;
+  passes_on = λ ends origin birth hops word left rest i e is here at h. h;
   notes = λ d ns h. h;
-  keeps = λ d delta h. h;
-  takes = λ d v h. version_files d.store ends.file v ∙ h;
-  answers = λ d m of h. h;
-  tells = λ d head e there h. h;
+  keeps = λ d file delta h. h;
+  tells = λ d ends head e of there h. h;
 }
 
 -- A MESSAGE gives out no id
 pub receive_files : (a : Store) (m : Message) (w : Work) → (receive a m w).store.files ≡ a.files
-receive_files a (message.Cell ends tag x) w =
-    let e = accept a ends manner.Makes w in
-    either_done a (fits ends.file x) (cond (is_accepted a w.from manner.Makes ends) _ e) (idle a w)
-    (either_done a (is_accepted a w.from manner.Makes ends) _ e (taken_files e.store ends.file x e.work ∙ accept_files a ends manner.Makes w) (accept_files a ends manner.Makes w)) refl
-receive_files a (message.Ack ends q tag) w = refl
-receive_files a (message.Harbinger ends tag head) w =
-    harbinger_keeps ends (HasFiles a.files) (files_steps ends a.files) a w refl tag head (accept_files a ends manner.Makes w)
-receive_files a (message.Want ends wanted) w =
-    want_keeps ends (HasFiles a.files) (files_steps ends a.files) a w refl wanted (accept_files a ends manner.Needs w)
-receive_files a (message.Delta ends delta) w =
-    delta_keeps ends (HasFiles a.files) (files_steps ends a.files) a w refl delta (accept_files a ends manner.Answers w)
-receive_files a (message.Piece ends piece) w =
-    piece_keeps ends (HasFiles a.files) (files_steps ends a.files) a w refl piece (accept_files a ends manner.Answers w)
-receive_files a (message.Later ends stamp) w =
-    later_keeps ends (HasFiles a.files) (files_steps ends a.files) a w refl stamp (accept_files a ends manner.Answers w)
-receive_files a (message.Fetch file birth) w =
-    either_done a (is_full a file) (cond (knows_later a file w.from birth) (idle a w) _) _
-    (either_done a (knows_later a file w.from birth) (idle a w) _ refl (link_files a file w.from birth)) refl
-receive_files a (message.Grant ends granted) w =
-    either_done a (is_pending a ends.file ends.receiver) _ (accept a ends manner.Makes w)
-    (link_files (begun_by a ends granted) ends.file w.from ends.sender ∙ begin_files a ends.file ends.receiver granted.policy _ false)
-    (accept_files a ends manner.Makes w)
-receive_files a (message.NoGrant file birth) w =
-    let b = turn_wish a file birth w.from (next_target a w.from) in
-    either_files b (fill_asks (fill_at b file) birth w.from) _ b refl refl ∙ either_files a (wish_asks (wish_at a file) birth w.from) _ a refl refl
-receive_files a (message.Full ends) w =
-    let b = with_names a (fill_names a.names ends.file) in
-    either_done a (is_accepted a w.from manner.Answers ends && not (is_full a ends.file)) _ (idle a w)
-    (either_done a (nat_lt (live_golds b ends.file) few_golds) _ (idle b w) (flag_files b ends.file _) refl) refl
-receive_files a (message.Seek file birth) w =
-    either_done a (is_held a file) (cond (knows_later a file w.from birth) (idle a w) _) _
-    (either_done a (knows_later a file w.from birth) (idle a w) _ refl (link_files a file w.from birth)) refl
-receive_files a (message.Here ends) w = accept_files a ends manner.Makes w
-receive_files a (message.NoneHere what file child) w =
-    either_files a (does_ask (intent_at a.intents (asking_key what file child)) w.from) _ a refl refl
-receive_files a (message.Gone file birth) w = unlink_files a file w.from birth
-receive_files a (message.Confirm dir e) w =
-    let placed = take_told_place a e w in
-    either_done a (is_held a e.child) _ _
-    (flags_files placed.store e.child e.flags placed.work ∙ either_done a (is_root e.child) (idle a w) _ refl (place_files a e.child e.place)) refl
-receive_files a (message.PlaceIs dir e) w =
-    let t = take_entry a dir e in
-    either_done a (is_held a dir) _ (idle a w)
-    (either_files t (is_confirmed t dir e.child e.place.stamp) _ t refl refl ∙ entry_files a dir e) refl
-receive_files a (message.Tell dir e) w = either_done a (is_held a dir) _ _ (entry_files a dir e) refl
-receive_files a (message.TellOk dir child stamp) w =
-    either_files a (is_told (intent_at a.intents (intent_key.Patch dir child)) stamp w.from) _ a refl refl
-receive_files a (message.Walk ends origin birth hops word) w =
-    let edges = onward a ends.file w.from origin in
-    either_done a (is_accepted a w.from manner.Needs ends) (cond (origin == a.names.server) (idle a w) (walked a ends origin birth hops word edges w)) _
-    (either_done a (origin == a.names.server) (idle a w) (walked a ends origin birth hops word edges w) refl
-    (either_done a (goes_on hops edges) _ _ refl (link_files a ends.file origin birth)))
-    (accept_files a ends manner.Needs w)
-receive_files a (message.Meet ends) w = accept_files a ends manner.Makes w
-receive_files a (message.Bye ends) w = unlink_files a ends.file w.from ends.sender
-receive_files a (message.Leave ends stamp) w =
-    either_done a (is_accepted a w.from manner.Makes ends) _ (accept a ends manner.Makes w)
-    (accept_files a ends manner.Makes w) (accept_files a ends manner.Makes w)
-receive_files a (message.LeaveOk ends stamp) w =
-    let b = without_leave a ends.file in
-    let edges = (replica_of b ends.file).edges in
-    leave_ok_by (λ (d : Done). d.store.files ≡ a.files) a ends stamp w refl (λ answered. refl)
-    (λ may. byes_by (λ (d : Done). d.store.files ≡ a.files) (λ (e : Edge). Unit {0}) ends.file (birth_of b ends.file) (λ d e any h. h) edges
-    (λ i d lt. tt) (idle (let_go b ends.file) w) refl)
-receive_files a (message.Invite ends) w =
-    let e = accept a ends manner.Needs w in
-    let accepted = accept_files a ends manner.Needs w in
-    either_done a (is_accepted a w.from manner.Needs ends) (invited ends e) e
-    (either_done a (is_bronze e.store ends.file) (raise_if_few e.store ends.file e.work) e (few_files e.store ends.file e.work ∙ accepted) accepted)
-    accepted
-receive_files a m w = refl
+receive_files a m w = receive_keeps a w (HasFiles a.files) m (files_kept a w m a.files) refl
 
 -- ---- the end of an event
 
@@ -212,60 +113,40 @@ up_same m n e = omega arith
 up_one : (m n : ℕ) → n ≡ m + 1 → m ≤ n
 up_one m n e = omega arith
 
+up_to : (m n k : ℕ) → m ≤ n → k ≡ n → m ≤ k
+up_to m n k h e = omega arith
+
 module _ (a : Store) (w : Work) where
-  abbrev GoesUp : Answer → Type 0
-  GoesUp b = a.files ≤ b.store.files
+  abbrev GoesUp : Done → Type 0
+  GoesUp d = a.files ≤ d.store.files
 
-  up_first : (f : FileId) (target : ℕ) → (ask_first a f target w).store.files ≡ a.files
-  up_first f target = either_done a (target == 0) (idle a w) _ refl refl
-
-  up_asked : (found : Found) (o : Option Wish) → (ask_by a found o w).store.files ≡ a.files
-  up_asked found None = up_first found.file (holder a found)
-  up_asked found (Some wish) = refl
-
-  up_answered : {A : Type 0} (check : Result A LookupError) (next : A → Answer) → ((x : A) → GoesUp (next x)) → GoesUp (answered a w check next)
-  up_answered (Err (stop.Refused why)) next each = up_same a.files a.files refl
-  up_answered (Err (stop.NotYet found)) next each = up_same a.files _ (up_asked found (standing a found.file))
-  up_answered (Ok x) next each = each x
-
-  up_looked : {A : Type 0} (check : Result A LookupError) (tell : A → Reply) → GoesUp (replied a w check tell)
-  up_looked check tell = up_answered check _ (λ x. up_same a.files a.files refl)
-
-  up_changed : (text : List ℕ) (ranges : RangesValue) → GoesUp (change a text ranges w)
-  up_changed text ranges =
-      up_answered (file_at a text) (change_file a ranges w)
-      (λ f. up_answered (when_fit a ranges f) _ (λ fit. up_same a.files a.files refl))
-
-  left_files : (f : FileId) (o : Option Flag) → (leaving a f w o).store.files ≡ a.files
-  left_files f None = refl
-  left_files f (Some flag) = refl
+  goes_up : (c : Call) → KeepsCalls a w c GoesUp GoesUp
+  goes_up c = record {
+    wishes = λ found some h. h;
+    asks = λ file wish is some h. h;
+    makes_new = λ kind policy path new is h. (
+        let b = with_birth (with_id a) in
+        let id = next_id a kind in
+        up_one a.files _ (begin_files b id (draw_birth (with_id a)) policy (blank_own id) true));
+    makes_place = λ d file place is h. up_to a.files d.store.files _ h (place_files d.store file place);
+    makes_flag = λ d file raised is h. up_to a.files d.store.files _ h (flag_files d.store file (own_next d.store file raised));
+    makes_version = λ d file ranges is h. h;
+    begins_leave = λ file flag is h. h;
+    fills = λ d id is h. h;
+    strikes = λ id dir is h. h;
+    marks = λ d id dir to is h. (
+        let e = bare_entry id (dead_at a w.now id dir) in
+        up_to a.files d.store.files _ h (entry_files d.store to e));
+    begins_lost = λ id own is away h. (
+        let b = unfilled (with_birth a) id in
+        up_to a.files a.files _ h (begin_files b id (draw_birth a) Last own true));
+    enters = λ view server is found h. up_to a.files a.files _ h (enter_files a server);
+    leaves = λ d h. h;
+  }
 
   -- A CALL never takes an id back
-  pub call_files : (x : Call) → GoesUp (do_call a x w)
-  call_files (call.Mkdir path) =
-      up_answered (new_name a (next_id a Dir) path) _ (λ new. up_one a.files _ (thing_files (with_id a) w (next_id a Dir) Last new))
-  call_files (call.Create path policy) =
-      up_answered (new_name a (next_id a File) path) _ (λ new. up_one a.files _ (thing_files (with_id a) w (next_id a File) policy new))
-  call_files (call.Write path offset bytes) = up_changed path (written offset bytes)
-  call_files (call.Cut path length) = up_changed path (cut_to length)
-  call_files (call.Read path offset count) = up_looked (file_at a path) _
-  call_files (call.Fresh path) = up_looked (file_at a path) _
-  call_files (call.Ls path from) = up_looked (dir_at a path) _
-  call_files (call.Stat target) = up_looked (target_at a target) _
-  call_files (call.Rename from to) =
-      up_answered (move_of a from to) _ (λ move. up_same a.files _ (place_files a move.thing (place_in a w.now move.to)))
-  call_files (call.Unlink path) = up_answered (file_at a path) _ (λ f. up_same a.files _ (place_files a f (dead_place a w.now f)))
-  call_files (call.Rmdir path) = up_answered (empty_dir_at a path) _ (λ d. up_same a.files _ (place_files a d (dead_place a w.now d)))
-  call_files (call.Forget id) = up_answered (lost_at a id) _ (λ f. up_same a.files _ (lost_files f a w))
-  call_files (call.Demote target) =
-      up_answered (demoted_at a target) _
-      (λ f. up_same a.files _ (either_done a (is_gold a f) (lower_flag a f w) (idle a w) (flag_files a f (own_next a f false)) refl))
-  call_files (call.Drop target) =
-      up_answered (dropped_at a target) _ (λ f. up_same a.files _ (left_files f (clean_gold a f)))
-  call_files (call.Giveup view server) =
-      up_answered (removal_at a view server) _ (λ found. up_same a.files _ (enter_files a server))
-  call_files call.Status = up_looked (in_time a (tt {0})) _
-  call_files call.Stop = up_looked (in_time a (tt {0})) _
+  pub call_files : (c : Call) → a.files ≤ (do_call a c w).store.files
+  call_files c = call_keeps a w GoesUp GoesUp c (goes_up c) (up_same a.files a.files refl)
 
 -- ---- any event
 
@@ -285,9 +166,6 @@ effect_same a asked =
     let d = first_effect a asked in
     let r = reply_to a asked in
     chosen (λ (e : Effect). e.store.files ≡ d.store.files) (takes_effect a asked) (closed r d) (finished r d) (closed_files r d) refl
-
-up_to : (m n k : ℕ) → m ≤ n → k ≡ n → m ≤ k
-up_to m n k h e = omega arith
 
 pub effect_files : (a : Store) (asked : Input) → a.files ≤ (effect a asked).store.files
 effect_files a asked = up_to a.files (first_effect a asked).store.files _ (first_files a asked) (effect_same a asked)

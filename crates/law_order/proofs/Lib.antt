@@ -14,8 +14,6 @@ pub mod Gone
 pub mod Sent
 pub mod Taking
 pub mod Ended
-pub mod Accepting
-pub mod Leaving
 pub mod Received
 pub mod Found
 pub mod NoIds
@@ -50,4 +48,5 @@ pub use Rattle.pg_run.proofs.pg_intentions as pg_intentions
 pub use Rattle.pg_run.proofs.theory_flood_pieces as theory_flood_pieces
 pub use Rattle.pg_run.proofs.pg_checks as pg_checks
 pub use Rattle.pg_run.proofs.pg_calls as pg_calls
+pub use Rattle.law_frame.proofs as law_frame
 pub use Rattle.pg_run.proofs as pg_run

@@ -1,5 +1,5 @@
--- What gives out no id: the pieces of an event, a view that is entered, and what was lost.
-use Rattle.std.proofs.Common.{ℕ, ◌≡◌, Bool, cond, List, [], ◌∷◌, Option, None, Some, nat_lt, true, refl, ◌∙◌}
+-- What gives out no id: the pieces of an event, and a view that is entered.
+use Rattle.std.proofs.Common.{ℕ, ◌≡◌, Bool, cond, List, [], ◌∷◌, Option, None, Some, refl, ◌∙◌}
 use Rattle.pg_run.specs.pg_base.declared.id.FileId.{FileId}
 use Rattle.pg_run.specs.pg_base.declared.policy.Policy.{Policy}
 use Rattle.pg_run.specs.pg_base.Version.{VersionValue}
@@ -8,29 +8,17 @@ use Rattle.pg_run.specs.pg_intent.declared.intent.Intent.{Intent}
 use Rattle.pg_run.specs.pg_intent.declared.intent.Intent.TheVariants as intent
 use Rattle.pg_run.specs.pg_intent.declared.key.IntentKey.{IntentKey}
 use Rattle.pg_run.specs.pg_intent.Intents.{ended, intent_at}
-use Rattle.pg_run.specs.pg_msg.declared.work.Work.{Work}
 use Rattle.pg_run.specs.pg_names.declared.attributes.Attributes.{Attributes}
-use Rattle.pg_run.specs.pg_names.Names.{blank_own, is_dir}
-use Rattle.pg_run.specs.pg_names.Names.{fill as fill_names}
 use Rattle.pg_run.specs.pg_register.declared.flag.Flag.{Flag}
 use Rattle.pg_run.specs.pg_register.declared.place.Place.{Place}
 use Rattle.pg_run.specs.pg_store.declared.store.Store.{Store}
 use Rattle.pg_run.specs.pg_store.Beginning.{begin, patches_of, put_new, take_patch, take_patches, take_told, take_told_in, with_intents}
-use Rattle.pg_run.specs.pg_store.Births.{draw_birth, with_birth}
 use Rattle.pg_run.specs.pg_store.Links.{is_linked, is_new_link, link, put_link, unlink}
-use Rattle.pg_run.specs.pg_store.Store.{is_held, is_new_version, is_newer_entry, is_newer_flag, is_newer_place, put_entry, put_flag, put_place, put_version, take_entry, take_flag, take_place, take_version, with_names}
-use Rattle.pg_run.specs.pg_pieces.Done.{Done, idle}
-use Rattle.pg_run.specs.pg_pieces.Making.{own_next}
-use Rattle.pg_run.specs.pg_pieces.Taking.{take_flag_noted, take_flags_noted}
-use Rattle.pg_run.specs.pg_repair.Filling.{few_golds, live_golds, raise_if_few}
-use Rattle.pg_run.specs.pg_calls.Naming.{raised}
+use Rattle.pg_run.specs.pg_store.Store.{is_new_version, is_newer_entry, is_newer_flag, is_newer_place, put_entry, put_flag, put_place, put_version, take_entry, take_flag, take_place, take_version}
+use Rattle.pg_run.specs.pg_pieces.Done.{Done}
 use Rattle.pg_run.proofs.theory_flood_pieces.Choices.{chosen}
-use Rattle.pg_run.specs.pg_base.declared.policy.Policy.TheVariants.{Last}
-use Rattle.pg_run.specs.pg_msg.Work.{with_made}
-use Rattle.pg_run.specs.pg_msg.declared.update.Update.TheVariants as update
 use Rattle.std.specs.Map.{keys_of}
 use Rattle.pg_run.specs.pg_store.Views.{cut, cut_born, cut_each, enter, listed_birth, with_removed}
-use Rattle.pg_run.specs.pg_calls.Forgetting.{bare_entry, begin_lost, begun_at, begun_with, dead_at, dirs_of, fill_lost, forget_lost, has_blank_place, is_wanted, last_listing, last_place, mark, marked_each, placed_in_root, placed_lost, root_place, strike_out, struck_out, unfilled, unwished}
 
 -- ---- the pieces
 
@@ -58,12 +46,6 @@ link_files a f peer birth = either_files a (is_new_link a f peer birth) (put_lin
 
 pub unlink_files : (a : Store) (f : FileId) (peer birth : ℕ) → (unlink a f peer birth).files ≡ a.files
 unlink_files a f peer birth = either_files a (is_linked a f peer birth) _ a refl refl
-
-pub flags_files : (a : Store) (f : FileId) (flags : List Flag) (w : Work) → (take_flags_noted a f flags w).store.files ≡ a.files
-flags_files a f [] w = refl
-flags_files a f (flag ∷ flags) w =
-    let d = take_flag_noted a f flag w in
-    flags_files d.store f flags d.work ∙ flag_files a f flag
 
 -- ---- a replica begins
 
@@ -99,47 +81,3 @@ cuts_files server (f ∷ fs) a = cuts_files server fs (cut server a f) ∙ cut_f
 
 pub enter_files : (a : Store) (server : ℕ) → (enter a server).files ≡ a.files
 enter_files a server = cuts_files server (keys_of a.names.held) (with_removed a server)
-
--- ---- a thing is full
-
-pub few_files : (a : Store) (f : FileId) (w : Work) → (raise_if_few a f w).store.files ≡ a.files
-few_files a f w = either_done a (nat_lt (live_golds a f) few_golds) _ (idle a w) (flag_files a f _) refl
-
--- ---- what was lost
-
-module _ (id : FileId) where
-  marked_files : (place : Place) (dirs : List FileId) (a : Store) (w : Work) → (marked_each a id place dirs w).store.files ≡ a.files
-  marked_files place [] a w = refl
-  marked_files place (dir ∷ dirs) a w =
-      let d = mark id place a dir w in
-      marked_files place dirs d.store d.work ∙ entry_files a dir (bare_entry id place)
-
-  struck_files : (a : Store) (w : Work) (o : Option FileId) → (struck_out a id w o).store.files ≡ a.files
-  struck_files a w None = refl
-  struck_files a w (Some dir) =
-      let place = dead_at a w.now id dir in
-      marked_files place (dirs_of a.names id) (unwished a id) (with_made w (update.Place id place))
-
-  begun_files : (a : Store) (w : Work) (o : Option Place) → (begun_at a id w o).store.files ≡ a.files
-  begun_files a w (Some place) = begin_files (unfilled (with_birth a) id) id (draw_birth a) Last _ true
-  begun_files a w None =
-      let b = begun_with a id (blank_own id) in
-      place_files b id (root_place b w.now id) ∙ begin_files (unfilled (with_birth a) id) id (draw_birth a) Last (blank_own id) true
-
-  anew_files : (a : Store) (w : Work) → (begin_lost a id w).store.files ≡ a.files
-  anew_files a w =
-      let d = begun_at a id w (last_place a.names id) in
-      either_done a (is_wanted a id) (raised id d) (idle a w)
-      (flag_files d.store id (own_next d.store id true) ∙ begun_files a w (last_place a.names id)) refl
-
-  filled_files : (a : Store) (w : Work) → (fill_lost a id w).store.files ≡ a.files
-  filled_files a w =
-      let d = placed_lost a id w in
-      few_files (with_names d.store (fill_names d.store.names id)) id d.work
-      ∙ either_done a (has_blank_place a id) (placed_in_root id a w) (idle a w) (place_files a id (root_place a w.now id)) refl
-
-  pub lost_files : (a : Store) (w : Work) → (forget_lost a id w).store.files ≡ a.files
-  lost_files a w =
-      either_done a (is_held a id) (fill_lost a id w) (cond (is_dir id) (begin_lost a id w) (strike_out a id w)) (filled_files a w)
-      (either_done a (is_dir id) (begin_lost a id w) (strike_out a id w) (anew_files a w)
-      (struck_files a w (last_listing a.names id (dirs_of a.names id))))

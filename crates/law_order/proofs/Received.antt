@@ -1,107 +1,96 @@
--- A message leaves a server sound, and what is answered is said.
-use Rattle.std.proofs.Common.{ℕ, ◌≡◌, ◌&&◌, Bool, true, false, not, cond, nat_lt, Option, None, Some, refl, sym, ap, subst, ◌∙◌}
+-- What comes of each message: the server stays sound, and what is answered is said.
+use Rattle.std.proofs.Common.{ℕ, ◌≡◌, ◌==◌, ◌&&◌, ◌||◌, Bool, true, false, not, cond, nat_lt, eq-eqb, Some, refl, sym, ap, subst, ◌∙◌}
 use Rattle.std.proofs.lemmas.Bool.{and_parts, false≢true}
+use Rattle.std.proofs.lemmas.List.Elements.{All-contains}
 use Rattle.pg_run.specs.pg_base.declared.id.FileId.{FileId}
 use Rattle.pg_run.specs.pg_base.declared.stamp.Stamp.{Stamp}
-use Rattle.pg_run.specs.pg_edges.declared.key.Key.{Key}
 use Rattle.pg_run.specs.pg_base.Id.{is_same_file}
 use Rattle.pg_run.proofs.pg_base.Orders.{is_same_file-true}
-use Rattle.pg_run.specs.pg_entries.declared.cell.Cell.{Cell}
-use Rattle.pg_run.specs.pg_entries.declared.entry.Entry.{Entry}
+use Rattle.pg_run.specs.pg_intent.declared.intent.Intent.TheVariants as intent
 use Rattle.pg_run.specs.pg_intent.declared.key.IntentKey.{IntentKey}
 use Rattle.pg_run.specs.pg_intent.declared.key.IntentKey.TheVariants as intent_key
-use Rattle.pg_run.specs.pg_intent.Intents.{aimed, ended, intent_at}
+use Rattle.pg_run.specs.pg_intent.Intents.{aimed, ended}
 use Rattle.pg_run.proofs.pg_intent.Kept.{own-aimed}
-use Rattle.pg_run.specs.pg_msg.declared.message.Ask.{Ask}
-use Rattle.pg_run.specs.pg_msg.declared.message.Ask.TheVariants as ask
 use Rattle.pg_run.specs.pg_msg.declared.message.Ends.{Ends}
-use Rattle.pg_run.specs.pg_msg.declared.message.Granted.{Granted}
 use Rattle.pg_run.specs.pg_msg.declared.message.Message.{Message}
 use Rattle.pg_run.specs.pg_msg.declared.message.Message.TheVariants as message
 use Rattle.pg_run.specs.pg_msg.declared.work.Slot.{Slot}
 use Rattle.pg_run.specs.pg_msg.declared.work.Work.{Work}
-use Rattle.pg_run.specs.pg_msg.Ends.{back}
-use Rattle.pg_run.specs.pg_msg.Sent.{cell_key}
 use Rattle.pg_run.specs.pg_names.declared.attributes.Attributes.{Attributes}
 use Rattle.pg_run.specs.pg_names.Names.{fill as fill_names, is_dir, or_blank, own_or_blank}
 use Rattle.pg_run.specs.pg_register.declared.place.Place.{Place}
 use Rattle.pg_run.specs.pg_register.Flag.{IsByServer}
 use Rattle.pg_run.specs.pg_register.Place.{blank_place, root}
 use Rattle.pg_run.specs.pg_replica.declared.replica.Replica.{Replica}
-use Rattle.pg_run.specs.pg_house.Work.{is_root}
 use Rattle.pg_run.specs.pg_store.declared.store.Store.{Store}
-use Rattle.pg_run.specs.pg_store.Beginning.{with_intents}
-use Rattle.pg_run.specs.pg_store.Births.{fill_at, is_pending, wish_at, with_wishes}
-use Rattle.pg_run.specs.pg_store.Links.{is_clean, knows_later}
-use Rattle.pg_run.specs.pg_store.Servers.{next_target}
-use Rattle.pg_run.specs.pg_store.Store.{acknowledge, is_full, is_held, keep_delta, replica_at, with_names}
+use Rattle.pg_run.specs.pg_store.Beginning.{let_go, with_intents}
+use Rattle.pg_run.specs.pg_store.Births.{birth_of, has_birth, is_pending, with_wishes}
+use Rattle.pg_run.specs.pg_store.Links.{knows_later, unlink}
+use Rattle.pg_run.specs.pg_store.Store.{acknowledge, keep_delta, replica_at, with_names}
 use Rattle.pg_run.specs.pg_store.Wishes.{aim_wish}
 use Rattle.pg_run.proofs.pg_store.Aiming.{aim_births, aimed_births}
 use Rattle.pg_run.proofs.pg_store.Given.{pending_may}
 use Rattle.pg_run.specs.pg_pieces.declared.accepting.EdgeUse.TheVariants as manner
-use Rattle.pg_run.specs.pg_pieces.Accepting.{accept, ends_to as to_peer, is_accepted, link_peer}
-use Rattle.pg_run.specs.pg_cells.Acks.{ack}
-use Rattle.pg_run.specs.pg_cells.Cells.{cell, fits, taken, taken_along}
+use Rattle.pg_run.specs.pg_pieces.Accepting.{accept, ends_to, is_accepted, is_answer, with_gone}
 use Rattle.pg_run.specs.pg_pieces.Done.{Done, idle, link_of}
 use Rattle.pg_run.specs.pg_pieces.Making.{raise_flag}
 use Rattle.pg_run.specs.pg_pieces.Posting.{reply}
-use Rattle.pg_run.specs.pg_pieces.Taking.{take_entry_noted, take_place_noted}
-use Rattle.pg_run.specs.pg_repair.Confirming.{confirm, confirmed, end_confirmed, is_confirmed, own_entry, place_is, place_told, take_told_flags, take_told_place}
-use Rattle.pg_run.specs.pg_repair.Fetching.{answered_fetch, ends_to, fetch, give, given, granted_from, place_to_grant}
-use Rattle.pg_run.specs.pg_repair.Filling.{few_golds, fill, full, invite, invited, is_bronze, live_golds, raise_if_few}
-use Rattle.pg_run.specs.pg_repair.Granting.{aim_fill, begin_granted, begun_by, fill_asks, gone, grant, granted_own, no_grant, turn_fill, turn_wish, wish_asks}
-use Rattle.pg_run.specs.pg_repair.NoneHere.{asking_key, does_ask, none_here, turn}
-use Rattle.pg_run.specs.pg_repair.Telling.{end_told, is_told, tell, tell_ok, told}
+use Rattle.pg_run.specs.pg_graph.Leaving.{bye_to, without_leave}
+use Rattle.pg_run.proofs.pg_graph.LeaveOk.{MayGo}
+use Rattle.pg_run.specs.pg_graph.Walks.{onward, walked}
+use Rattle.pg_run.specs.pg_repair.Fetching.{granted_from, place_to_grant}
+use Rattle.pg_run.specs.pg_repair.Filling.{few_golds, fill, live_golds}
+use Rattle.pg_run.specs.pg_repair.Granting.{begun_by, granted_own}
 use Rattle.pg_run.specs.pg_server.Local.{receive}
+use Rattle.pg_run.specs.pg_server.pg_transfer.Asking.{with_notes}
 use Rattle.pg_run.specs.theory_flood_pieces.Whole.{IsOther}
 use Rattle.pg_run.proofs.theory_flood_pieces.Choices.{chosen, decided}
 use Rattle.pg_run.proofs.theory_flood_pieces.Together.{held_of_replica, own_of_held}
-use Rattle.pg_run.proofs.Transfers.{IsAnswer, KeepsTransfers, delta_keeps, harbinger_keeps, later_keeps, piece_keeps, want_keeps}
-use Rattle.pg_run.specs.pg_server.pg_transfer.Asking.{with_notes}
-use Rattle.law_order.specs.Saying.{IsClosed, IsSaidCell, IsSaidGranted, IsSaidLeft, IsSaidOfCell, IsSaidOfMessage, IsSaidOwn, IsSaidTold, Saying}
-use Rattle.law_order.proofs.Accepting.{so_accept, so_reply, so_seek, so_store, so_walk}
+use Rattle.law_frame.proofs.Keeps.{Answers, Keeps}
+use Rattle.law_frame.proofs.Received.{receive_keeps}
+use Rattle.law_order.specs.Saying.{IsClosed, IsIntended, IsSaidGranted, IsSaidLeft, IsSaidOfMessage, IsSaidOwn, IsSaidTold, Saying}
 use Rattle.law_order.proofs.Bodies.{sound_kept, sound_noted}
+use Rattle.law_order.proofs.Gone.{sound_gone}
 use Rattle.law_order.proofs.Intended.{all_aimed, own_said as own_told}
-use Rattle.law_order.proofs.Leaving.{so_bye, so_bye_ok, so_leave, so_leave_ok}
+use Rattle.law_order.proofs.Pieces.{found_has}
 use Rattle.law_order.proofs.Sent.{own_said}
 use Rattle.law_order.proofs.Sounding.{Sound, sound_acknowledge, sound_alike, sound_begun, sound_ended, sound_filled, sound_unlink}
-use Rattle.law_order.proofs.Taking.{IsMember, SoFar, so_entry, so_flags, so_link, so_place, so_raised, so_sent, so_taken, so_version}
+use Rattle.law_order.proofs.Taking.{IsMember, SoFar, so_begins, so_entry, so_entry_cell, so_flag, so_link, so_place, so_raised, so_reply, so_sent, so_store, so_tail, so_version}
+
+-- a walk that is back where it began
+abbrev comes_back : Store → Message → Bool
+comes_back a (message.Walk ends origin birth hops word) = origin == a.names.server
+comes_back a _ = false
 
 module _ (p : Saying) (c : IsClosed p) (n s : ℕ) (mine : IsMember p n s) where
   abbrev Far : Done → Type 0
   Far d = SoFar p c n s d
 
-  -- ---- intentions ask another server
+  -- ---- others are asked, and replicas filled
 
   sound_aimed : (a : Store) (q : IntentKey) (to : ℕ) → Sound p n s a → Sound p n s (with_intents a (aimed a.intents q to))
   sound_aimed a q to k =
       sound_alike p n s a k (with_intents a (aimed a.intents q to)) (record { servers = refl; tags = refl; names = refl; replicas = refl })
       (aimed_births a q to k.births) (own-aimed a.intents q to k.keys) (all_aimed p a.intents q to k.named.intents)
 
+  so_aimed : (d : Done) (q : IntentKey) (to : ℕ) → Far d → Far (idle (with_intents d.store (aimed d.store.intents q to)) d.work)
+  so_aimed d q to k = so_store p c n s d (with_intents d.store (aimed d.store.intents q to)) k (sound_aimed d.store q to k.store)
+
   sound_wish : (a : Store) (f : FileId) (to : ℕ) → Sound p n s a → Sound p n s (with_wishes a (aim_wish a.wishes f to))
   sound_wish a f to k =
       sound_alike p n s a k (with_wishes a (aim_wish a.wishes f to)) (record { servers = refl; tags = refl; names = refl; replicas = refl })
       (aim_births a f to k.births) k.keys k.named.intents
 
-  -- ---- cells
+  so_filled : (d : Done) (f : FileId) → Far d → Far (idle (with_names d.store (fill_names d.store.names f)) d.work)
+  so_filled d f k = so_store p c n s d (with_names d.store (fill_names d.store.names f)) k (sound_filled p n s d.store k.store f)
 
-  so_cell : (d : Done) (ends : Ends) (tag : ℕ) (x : Cell) → IsOther n s d.work.from → IsSaidOfCell p ends.file x → Far d → Far (cell d.store ends tag x d.work)
-  so_cell d ends tag x other said k =
-      let a = d.store in
-      let w = d.work in
-      let e = accept a ends manner.Makes w in
-      let linked = so_accept p c n s d ends manner.Makes other k in
-      let t = taken e.store ends.file x e.work in
-      chosen Far (fits ends.file x) (cond (is_accepted a w.from manner.Makes ends) (taken_along ends tag x e) e) (idle a w)
-      (chosen Far (is_accepted a w.from manner.Makes ends) (taken_along ends tag x e) e
-      (so_reply p c n s t (message.Ack (back ends) (cell_key x) tag) (so_taken p c n s e ends.file x said linked) tt) linked)
-      k
+  pub so_fill : (d : Done) (f : FileId) → Far d → Far (fill d.store f d.work)
+  so_fill d f k =
+      let b = with_names d.store (fill_names d.store.names f) in
+      let here = so_filled d f k in
+      chosen Far (nat_lt (live_golds b f) few_golds) (raise_flag b f d.work) (idle b d.work) (so_raised p c n s (idle b d.work) f mine here) here
 
-  so_ack : (d : Done) (ends : Ends) (q : Key) (tag : ℕ) → Far d → Far (ack d.store ends q tag d.work)
-  so_ack d ends q tag k =
-      so_store p c n s d (acknowledge d.store ends.file (link_of d.work.from ends) q tag) k (sound_acknowledge p n s d.store k.store ends.file (link_of d.work.from ends) q tag)
-
-  -- ---- a replica is to be filled
+  -- ---- what is answered
 
   -- the root is no dead directory
   dead_apart : (f : FileId) (place : Place) (t : Bool) → is_same_file f root ≡ t → p.IsPlace f place → place.live ≡ false → t ≡ false
@@ -122,192 +111,115 @@ module _ (p : Saying) (c : IsClosed p) (n s : ℕ) (mine : IsMember p n s) where
       c.blank f (dead_apart f own.place (is_same_file f root) refl here.place gone) here.thing)
       (λ live. here.place)
 
-  so_given : (d : Done) (ends : Ends) (o : Option Replica) → replica_at d.store ends.file ≡ o → Far d → Far (idle d.store (given d.store ends o d.work))
-  so_given d ends None at k = k
-  so_given d ends (Some x) at k =
-      let own = own_or_blank d.store.names ends.file in
-      let here = own_said p n s d.store k.store ends.file x at in
-      let held = own_of_held d.store.names ends.file (held_of_replica d.store k.store.whole.together ends.file x at) in
-      so_reply p c n s d (message.Grant ends (granted_from ends.file own x)) k (record {
+  grant_said : (a : Store) → Sound p n s a → (f : FileId) (x : Replica) → replica_at a f ≡ Some x → IsSaidGranted p f (granted_from f (own_or_blank a.names f) x)
+  grant_said a k f x at =
+      let own = own_or_blank a.names f in
+      let here = own_said p n s a k f x at in
+      let held = own_of_held a.names f (held_of_replica a k.whole.together f x at) in
+      record {
         thing = here.thing;
-        place = place_granted ends.file own here;
+        place = place_granted f own here;
         flags = here.flags;
-        order = subst (λ (o : Attributes). IsByServer o.flags) (sym (ap (or_blank ends.file) held.1)) (k.store.whole.names.sorted ends.file held.0 held.1);
-      })
+        order = subst (λ (o : Attributes). IsByServer o.flags) (sym (ap (or_blank f) held.1)) (k.whole.names.sorted f held.0 held.1);
+      }
 
-  so_answer : (d : Done) (f : FileId) (birth : ℕ) → Far d → Far (answered_fetch f birth d)
-  so_answer d f birth k =
-      let ends = ends_to d.store f birth in
-      chosen (λ (w : Work). Far (idle d.store w)) (is_clean d.store f d.work.from birth) (reply d.store (message.Full ends) d.work) (give d.store ends d.work)
-      (so_reply p c n s d (message.Full ends) k tt) (so_given d ends (replica_at d.store f) refl k)
+  answer_said : (a : Store) (m : Message) (d : Done) (r : Message) → IsSaidOfMessage p m → Answers a m d.store r → Far d → IsSaidOfMessage p r
+  answer_said a m d (message.Grant ends granted) said of k =
+      subst (IsSaidGranted p ends.file) (sym of.what) (grant_said d.store k.store ends.file of.here of.at)
+  answer_said a m d (message.PlaceIs dir e) said of k =
+      let told : IsSaidTold p dir of.0 = subst (IsSaidOfMessage p) of.1 said in
+      let slot : Slot = record { dir = dir; child = of.0.child } in
+      let left : IsSaidLeft p slot = record { dir = told.dir; of = told.of; thing = told.cell.thing; child = told.cell.child } in
+      subst (IsSaidTold p dir) (sym of.2) (own_told p c d.store slot (k.store.named.said, k.store.named.intents) left)
+  answer_said a m d (message.Cell ends tag x) said of k = absurd of
+  answer_said a m d (message.Confirm dir e) said of k = absurd of
+  answer_said a m d (message.Tell dir e) said of k = absurd of
+  answer_said a m d (message.Walk ends origin birth hops word) said of k = absurd of
+  answer_said a m d r said of k = tt
 
-  so_fetch : (d : Done) (f : FileId) (birth : ℕ) → IsOther n s d.work.from → Far d → Far (fetch d.store f birth d.work)
-  so_fetch d f birth other k =
-      let a = d.store in
-      let w = d.work in
-      let linked = link_peer a f w.from birth w in
-      chosen Far (is_full a f) (cond (knows_later a f w.from birth) (idle a w) (answered_fetch f birth linked)) (idle a (reply a (message.NoGrant f birth) w))
-      (chosen Far (knows_later a f w.from birth) (idle a w) (answered_fetch f birth linked) k
-      (so_answer linked f birth (so_link p c n s d f w.from birth other k)))
-      (so_reply p c n s d (message.NoGrant f birth) k tt)
+  -- ---- a message
 
-  -- ---- a replica is granted, or not
+  module _ (a : Store) (w : Work) (m : Message) (other : IsOther n s w.from) (said : IsSaidOfMessage p m) (first : Far (idle a w)) where
+    leaves_said : (ends : Ends) (stamp : Stamp) → MayGo a ends stamp w → IsIntended p (intent.Leave ends.file w.from ends.sender)
+    leaves_said ends stamp may =
+        found_has (IsIntended p) (intent_key.Leave ends.file) (intent.Leave ends.file w.from ends.sender) a.intents first.store.named.intents may.answered.stood
 
-  so_granted : (d : Done) (ends : Ends) (g : Granted) → IsOther n s d.work.from → is_pending d.store ends.file ends.receiver ≡ true → IsSaidGranted p ends.file g → Far d
-      → Far (begin_granted d.store ends g d.work)
-  so_granted d ends g other pending said k =
-      let a = d.store in
-      let b = begun_by a ends g in
-      let begun = so_store p c n s d b k
-      (sound_begun p n s a k.store ends.file ends.receiver g.policy (granted_own g) false (pending_may a ends.file ends.receiver k.store.births pending) said.order
-      (record { thing = said.thing; place = said.place; flags = said.flags; order = said.order })) in
-      let linked = link_peer b ends.file d.work.from ends.sender d.work in
-      let there = so_link p c n s (idle b d.work) ends.file d.work.from ends.sender other begun in
-      so_store p c n s linked (aim_fill linked.store ends.file linked.work.from) there (sound_aimed linked.store (intent_key.Fill ends.file) linked.work.from there.store)
+    met : comes_back a m ≡ false → (ends : Ends) (origin birth hops word : ℕ) → m ≡ message.Walk ends origin birth hops word → IsOther n s origin
+    met away ends origin birth hops word is =
+        let apart : (origin == a.names.server) ≡ false = subst (λ (x : Message). comes_back a x ≡ false) is away in
+        mine.others origin (subst (IsSaidOfMessage p) is said)
+        (λ same. false≢true (sym apart ∙ eq-eqb origin a.names.server (same ∙ sym first.store.whole.server)))
 
-  so_grant : (d : Done) (ends : Ends) (g : Granted) → IsOther n s d.work.from → IsSaidGranted p ends.file g → Far d → Far (grant d.store ends g d.work)
-  so_grant d ends g other said k =
-      decided Far (is_pending d.store ends.file ends.receiver) (begin_granted d.store ends g d.work) (accept d.store ends manner.Makes d.work)
-      (λ pending. so_granted d ends g other pending said k) (λ no. so_accept p c n s d ends manner.Makes other k)
+    keeps_far : comes_back a m ≡ false → Keeps a w m Far
+    keeps_far away = record {
+      cell_place = λ d ends tag x is here k. so_place p c n s d ends.file x (subst (IsSaidOfMessage p) is said) k;
+      cell_flag = λ d ends tag g is here k. so_flag p c n s d ends.file g (subst (IsSaidOfMessage p) is said) k;
+      cell_entry = λ d ends tag e sure is dir here k. so_entry_cell p c n s d ends.file e sure (subst (IsSaidOfMessage p) is said) k;
+      version = λ d file v is k. so_version p c n s d file v k;
+      told_place = λ d dir e is held apart k. (
+          let told : IsSaidTold p dir e = subst (IsSaidOfMessage p) is said in
+          so_place p c n s d e.child e.place told.cell.place k);
+      told_flag = λ d dir e g is held among k. (
+          let told : IsSaidTold p dir e = subst (IsSaidOfMessage p) is said in
+          so_flag p c n s d e.child g (All-contains p.IsFlag e.flags g told.cell.flags among) k);
+      place_is = λ d dir e is held k. so_entry p c n s d dir e (subst (IsSaidOfMessage p) is said) k;
+      tell = λ d dir e is held k. so_entry p c n s d dir e (subst (IsSaidOfMessage p) is said) k;
+      links = λ d file birth is same k. so_link p c n s d file d.work.from birth (subst (IsOther n s) (sym same) other) k;
+      meets = λ d ends origin birth hops word is here k. so_link p c n s d ends.file origin birth (met away ends origin birth hops word is) k;
+      unlinks = λ d file birth is same k.
+          so_store p c n s d (unlink d.store file d.work.from birth) k (sound_unlink p n s d.store k.store file d.work.from birth);
+      acknowledges = λ d ends q tag is same k. (
+          let link = link_of d.work.from ends in
+          so_store p c n s d (acknowledge d.store ends.file link q tag) k (sound_acknowledge p n s d.store k.store ends.file link q tag));
+      begins = λ ends g is pending k. (
+          let of : IsSaidGranted p ends.file g = subst (IsSaidOfMessage p) is said in
+          so_store p c n s (idle a w) (begun_by a ends g) k
+          (sound_begun p n s a k.store ends.file ends.receiver g.policy (granted_own g) false
+          (pending_may a ends.file ends.receiver k.store.births pending) of.order
+          (record { thing = of.thing; place = of.place; flags = of.flags; order = of.order })));
+      fills = λ ends is here filling k. so_filled (idle a w) ends.file k;
+      raises = λ d ends is here few k. so_raised p c n s d ends.file mine k;
+      goes = λ ends stamp is may k. (
+          let b = without_leave a ends.file in
+          so_store p c n s (idle b w) (let_go b ends.file) k
+          (sound_gone p n s b ends.file (c.other ends.file (leaves_said ends stamp may).1) k.store));
+      says_bye = λ d ends stamp e is may among k.
+          so_begins p c n s d (bye_to ends.file (birth_of a ends.file) e) (λ q. refl) (leaves_said ends stamp may).0 k;
+      ends_intent = λ d q is k. so_store p c n s d (with_intents d.store (ended d.store.intents q)) k (sound_ended p n s d.store k.store q);
+      turns_intent = λ d q to is k. so_aimed d q to k;
+      asks_granter = λ d ends g is same k. so_aimed d (intent_key.Fill ends.file) d.work.from k;
+      turns_wish = λ d file to is k.
+          so_store p c n s d (with_wishes d.store (aim_wish d.store.wishes file to)) k (sound_wish d.store file to k.store);
+      answers = λ d r of same k. so_reply p c n s d r k (answer_said a m d r said of k);
+      tells_origin = λ d ends origin birth hops word is here k.
+          so_sent p c n s d origin (message.Meet (ends_to d.store ends.file birth)) k tt;
+      passes_on = λ ends origin birth hops word left rest i e is here at k.
+          so_tail p c n s (idle a w) e.peer (message.Walk (ends_to a ends.file e.birth) origin birth left rest) k
+          (subst (IsSaidOfMessage p) is said);
+      notes = λ d ns k. so_store p c n s d (with_notes d.store ns) k (sound_noted p n s d.store k.store ns);
+      keeps = λ d file delta k. so_store p c n s d (keep_delta d.store file delta) k (sound_kept p n s d.store k.store file delta);
+      tells = λ d ends head e of there k.
+          so_sent p c n s d e.peer (message.Harbinger (ends_to d.store ends.file e.birth) 0 head) k tt;
+    }
 
-  so_no_grant : (d : Done) (f : FileId) (birth : ℕ) → Far d → Far (no_grant d.store f birth d.work)
-  so_no_grant d f birth k =
-      let a = d.store in
-      let from = d.work.from in
-      let next = next_target a from in
-      let b = turn_wish a f birth from next in
-      let one : Sound p n s b = chosen (Sound p n s) (wish_asks (wish_at a f) birth from) (with_wishes a (aim_wish a.wishes f next)) a (sound_wish a f next k.store) k.store in
-      let two : Sound p n s (turn_fill b f birth from next) =
-      chosen (Sound p n s) (fill_asks (fill_at b f) birth from) (aim_fill b f next) b (sound_aimed b (intent_key.Fill f) next one) one in
-      so_store p c n s d (turn_fill b f birth from next) k two
-
-  so_gone : (d : Done) (f : FileId) (birth : ℕ) → Far d → Far (gone d.store f birth d.work)
-  so_gone d f birth k = so_store p c n s d _ k (sound_unlink p n s d.store k.store f d.work.from birth)
-
-  -- ---- a replica is full
-
-  pub so_fill : (d : Done) (f : FileId) → Far d → Far (fill d.store f d.work)
-  so_fill d f k =
-      let b = with_names d.store (fill_names d.store.names f) in
-      let here = so_store p c n s d b k (sound_filled p n s d.store k.store f) in
-      chosen Far (nat_lt (live_golds b f) few_golds) (raise_flag b f d.work) (idle b d.work) (so_raised p c n s (idle b d.work) f mine here) here
-
-  so_full : (d : Done) (ends : Ends) → Far d → Far (full d.store ends d.work)
-  so_full d ends k =
-      chosen Far (is_accepted d.store d.work.from manner.Answers ends && not (is_full d.store ends.file)) (fill d.store ends.file d.work) (idle d.store d.work)
-      (so_fill d ends.file k) k
-
-  -- few golds are seen
-  so_few : (d : Done) (f : FileId) → Far d → Far (raise_if_few d.store f d.work)
-  so_few d f k =
-      chosen Far (nat_lt (live_golds d.store f) few_golds) (raise_flag d.store f d.work) (idle d.store d.work) (so_raised p c n s d f mine k) k
-
-  so_invite : (d : Done) (ends : Ends) → IsOther n s d.work.from → Far d → Far (invite d.store ends d.work)
-  so_invite d ends other k =
-      let e = accept d.store ends manner.Needs d.work in
-      let far = so_accept p c n s d ends manner.Needs other k in
-      chosen Far (is_accepted d.store d.work.from manner.Needs ends) (invited ends e) e
-      (chosen Far (is_bronze e.store ends.file) (raise_if_few e.store ends.file e.work) e (so_few e ends.file far) far)
-      far
-
-  -- ---- children of directories
-
-  so_told_place : (d : Done) (e : Entry) → IsSaidCell p e.child e → Far d → Far (take_told_place d.store e d.work)
-  so_told_place d e here k =
-      chosen Far (is_root e.child) (idle d.store d.work) (take_place_noted d.store e.child e.place d.work) k (so_place p c n s d e.child e.place here.place k)
-
-  so_confirm : (d : Done) (dir : FileId) (e : Entry) → IsSaidTold p dir e → Far d → Far (confirm d.store dir e d.work)
-  so_confirm d dir e said k =
-      let placed = take_told_place d.store e d.work in
-      let t = take_told_flags e placed in
-      let there = so_flags p c n s placed e.child e.flags said.cell.flags (so_told_place d e said.cell k) in
-      let slot : Slot = record { dir = dir; child = e.child } in
-      let left : IsSaidLeft p slot = record { dir = said.dir; of = said.of; thing = said.cell.thing; child = said.cell.child } in
-      chosen Far (is_held d.store e.child) (place_told dir e.child t) (idle d.store (reply d.store (message.NoneHere ask.Confirm dir e.child) d.work))
-      (so_reply p c n s t (message.PlaceIs dir (own_entry t.store e.child)) there (own_told p c t.store slot (there.store.named.said, there.store.named.intents) left))
-      (so_reply p c n s d (message.NoneHere ask.Confirm dir e.child) k tt)
-
-  so_place_is : (d : Done) (dir : FileId) (e : Entry) → IsSaidTold p dir e → Far d → Far (place_is d.store dir e d.work)
-  so_place_is d dir e said k =
-      let t = take_entry_noted d.store dir e d.work in
-      let there = so_entry p c n s d dir e said k in
-      chosen Far (is_held d.store dir) (confirmed dir e t) (idle d.store d.work)
-      (so_store p c n s t (end_confirmed t.store dir e) there
-      (chosen (Sound p n s) (is_confirmed t.store dir e.child e.place.stamp) (with_intents t.store (ended t.store.intents (intent_key.Confirm dir e.child))) t.store
-      (sound_ended p n s t.store there.store (intent_key.Confirm dir e.child)) there.store))
-      k
-
-  so_tell : (d : Done) (dir : FileId) (e : Entry) → IsSaidTold p dir e → Far d → Far (tell d.store dir e d.work)
-  so_tell d dir e said k =
-      let t = take_entry_noted d.store dir e d.work in
-      chosen Far (is_held d.store dir) (told dir e t) (idle d.store (reply d.store (message.NoneHere ask.Patch dir e.child) d.work))
-      (so_reply p c n s t (message.TellOk dir e.child e.place.stamp) (so_entry p c n s d dir e said k) tt)
-      (so_reply p c n s d (message.NoneHere ask.Patch dir e.child) k tt)
-
-  so_tell_ok : (d : Done) (dir child : FileId) (stamp : Stamp) → Far d → Far (tell_ok d.store dir child stamp d.work)
-  so_tell_ok d dir child stamp k =
-      let q = intent_key.Patch dir child in
-      so_store p c n s d (end_told d.store dir child stamp d.work.from) k
-      (chosen (Sound p n s) (is_told (intent_at d.store.intents q) stamp d.work.from) (with_intents d.store (ended d.store.intents q)) d.store
-      (sound_ended p n s d.store k.store q) k.store)
-
-  so_none_here : (d : Done) (what : Ask) (f child : FileId) → Far d → Far (none_here d.store what f child d.work)
-  so_none_here d what f child k =
-      let q = asking_key what f child in
-      let next = next_target d.store d.work.from in
-      so_store p c n s d (turn d.store q d.work.from) k
-      (chosen (Sound p n s) (does_ask (intent_at d.store.intents q) d.work.from) (with_intents d.store (aimed d.store.intents q next)) d.store
-      (sound_aimed d.store q next k.store) k.store)
-
-  -- ---- bodies on demand
-
-  answer_said : (ends : Ends) (m : Message) → IsAnswer ends m → IsSaidOfMessage p m
-  answer_said ends (message.Want e wanted) of = tt
-  answer_said ends (message.Delta e delta) of = tt
-  answer_said ends (message.Piece e piece) of = tt
-  answer_said ends (message.Later e stamp) of = tt
-  answer_said ends (message.Ack e q tag) of = tt
-  answer_said ends m of = absurd of
-
-  so_steps : (ends : Ends) → KeepsTransfers ends Far
-  so_steps ends = record {
-    notes = λ d ns k. so_store p c n s d (with_notes d.store ns) k (sound_noted p n s d.store k.store ns);
-    keeps = λ d delta k. so_store p c n s d (keep_delta d.store ends.file delta) k (sound_kept p n s d.store k.store ends.file delta);
-    takes = λ d v k. so_version p c n s d ends.file v k;
-    answers = λ d m of k. so_reply p c n s d m k (answer_said ends m of);
-    tells = λ d head e there k. so_sent p c n s d e.peer (message.Harbinger (to_peer d.store ends.file e.birth) 0 head) k tt;
-  }
+  -- a walk that is back ends here
+  so_back : (a : Store) (w : Work) (m : Message) → comes_back a m ≡ true → Far (idle a w) → Far (receive a m w)
+  so_back a w (message.Walk ends origin birth hops word) back k =
+      let on = walked a ends origin birth hops word (onward a ends.file w.from origin) w in
+      let late = knows_later a ends.file w.from ends.sender in
+      let gone = message.Gone ends.file ends.receiver in
+      chosen Far (is_accepted a w.from manner.Needs ends) (cond (origin == a.names.server) (idle a w) on) (accept a ends manner.Needs w)
+      (subst (λ (t : Bool). Far (cond t (idle a w) on)) (sym back) k)
+      (chosen Far (has_birth a ends.file ends.receiver) (cond late (idle a w) (idle a w)) (idle a (with_gone a ends manner.Needs w))
+      (chosen Far late (idle a w) (idle a w) k k)
+      (chosen (λ (v : Work). Far (idle a v)) (is_answer manner.Needs || is_pending a ends.file ends.receiver) w (reply a gone w) k
+      (so_reply p c n s (idle a w) gone k tt)))
+  so_back a w m none k = absurd (false≢true none)
 
   -- A MESSAGE
-  pub so_received : (d : Done) (m : Message) → IsOther n s d.work.from → IsSaidOfMessage p m → Far d → Far (receive d.store m d.work)
-  so_received d (message.Cell ends tag x) other said k = so_cell d ends tag x other said k
-  so_received d (message.Ack ends q tag) other said k = so_ack d ends q tag k
-  so_received d (message.Harbinger ends tag head) other said k =
-      harbinger_keeps ends Far (so_steps ends) d.store d.work k tag head (so_accept p c n s d ends manner.Makes other k)
-  so_received d (message.Want ends wanted) other said k =
-      want_keeps ends Far (so_steps ends) d.store d.work k wanted (so_accept p c n s d ends manner.Needs other k)
-  so_received d (message.Delta ends delta) other said k =
-      delta_keeps ends Far (so_steps ends) d.store d.work k delta (so_accept p c n s d ends manner.Answers other k)
-  so_received d (message.Piece ends piece) other said k =
-      piece_keeps ends Far (so_steps ends) d.store d.work k piece (so_accept p c n s d ends manner.Answers other k)
-  so_received d (message.Later ends stamp) other said k =
-      later_keeps ends Far (so_steps ends) d.store d.work k stamp (so_accept p c n s d ends manner.Answers other k)
-  so_received d (message.Fetch file birth) other said k = so_fetch d file birth other k
-  so_received d (message.Grant ends granted) other said k = so_grant d ends granted other said k
-  so_received d (message.NoGrant file birth) other said k = so_no_grant d file birth k
-  so_received d (message.Full ends) other said k = so_full d ends k
-  so_received d (message.Seek file birth) other said k = so_seek p c n s d file birth other k
-  so_received d (message.Here ends) other said k = so_accept p c n s d ends manner.Makes other k
-  so_received d (message.NoneHere what file child) other said k = so_none_here d what file child k
-  so_received d (message.Gone file birth) other said k = so_gone d file birth k
-  so_received d (message.Confirm dir entry) other said k = so_confirm d dir entry said k
-  so_received d (message.PlaceIs dir entry) other said k = so_place_is d dir entry said k
-  so_received d (message.Tell dir entry) other said k = so_tell d dir entry said k
-  so_received d (message.TellOk dir child stamp) other said k = so_tell_ok d dir child stamp k
-  so_received d (message.Walk ends origin birth hops word) other said k = so_walk p c n s d ends origin birth hops word other mine said k
-  so_received d (message.Meet ends) other said k = so_accept p c n s d ends manner.Makes other k
-  so_received d (message.Bye ends) other said k = so_bye p c n s d ends k
-  so_received d (message.ByeOk file birth) other said k = so_bye_ok p c n s d file birth k
-  so_received d (message.Leave ends stamp) other said k = so_leave p c n s d ends stamp other k
-  so_received d (message.LeaveOk ends stamp) other said k = so_leave_ok p c n s d ends stamp k
-  so_received d (message.Invite ends) other said k = so_invite d ends other k
+  pub so_received : (a : Store) (w : Work) (m : Message) → IsOther n s w.from → IsSaidOfMessage p m → Far (idle a w) → Far (receive a m w)
+  so_received a w m other said k = by (comes_back a m) refl
+    where
+      by : (t : Bool) → comes_back a m ≡ t → Far (receive a m w)
+      by true back = so_back a w m back k
+      by false away = receive_keeps a w Far m (keeps_far a w m other said k away) k

@@ -1,41 +1,49 @@
 -- What a held thing takes, and what is answered, in the midst of an event.
-use Rattle.std.proofs.Common.{ℕ, ◌≡◌, ◌&&◌, Bool, true, false, not, cond, List, [], ◌∷◌, Option, None, Some, All, refl, sym, ap, subst, ◌∙◌}
-use Rattle.std.proofs.lemmas.List.Elements.{All-append, All-cons, All-head, All-nil, All-tail}
+use Rattle.std.proofs.Common.{ℕ, ◌≡◌, ◌&&◌, Bool, true, false, not, cond, [], ◌∷◌, Option, None, Some, refl, sym, ap, subst, ◌∙◌}
+use Rattle.std.proofs.lemmas.List.Elements.{All-append, All-cons, All-nil}
 use Rattle.pg_run.specs.pg_base.declared.id.FileId.{FileId}
 use Rattle.pg_run.specs.pg_base.Version.{VersionValue}
 use Rattle.pg_run.specs.pg_edges.declared.key.Key.{Key}
 use Rattle.pg_run.specs.pg_edges.declared.key.Key.TheVariants as key
-use Rattle.pg_run.specs.pg_entries.declared.cell.Cell.{Cell}
-use Rattle.pg_run.specs.pg_entries.declared.cell.Cell.TheVariants as cells
 use Rattle.pg_run.specs.pg_entries.declared.entry.Entry.{Entry}
+use Rattle.pg_run.specs.pg_intent.declared.intent.Intent.{Intent}
+use Rattle.pg_run.specs.pg_intent.declared.key.IntentKey.{IntentKey}
+use Rattle.pg_run.specs.pg_intent.declared.key.IntentKey.TheVariants as intent_key
+use Rattle.pg_run.specs.pg_intent.Intent.{key_of}
+use Rattle.pg_run.specs.pg_intent.Intents.{begun, stands}
+use Rattle.pg_run.specs.pg_intent.Key.{is_same_key}
+use Rattle.pg_run.proofs.pg_intent.Kept.{own-begun}
 use Rattle.pg_run.specs.pg_msg.declared.message.Message.{Message}
 use Rattle.pg_run.specs.pg_msg.declared.message.Sent.{Sent}
 use Rattle.pg_run.specs.pg_msg.declared.update.Update.TheVariants as update
 use Rattle.pg_run.specs.pg_msg.declared.work.Work.{Work}
-use Rattle.pg_run.specs.pg_msg.Work.{with_linked, with_made, with_tail, with_touched, with_unsure}
+use Rattle.pg_run.specs.pg_msg.Work.{with_begun, with_linked, with_made, with_tail, with_touched, with_unsure}
 use Rattle.pg_run.specs.pg_names.declared.attributes.Attributes.{Attributes}
 use Rattle.pg_run.specs.pg_names.Names.{is_place_new, or_blank, own_at, own_or_blank}
 use Rattle.pg_run.specs.pg_register.declared.flag.Flag.{Flag}
 use Rattle.pg_run.specs.pg_register.declared.place.Place.{Place}
 use Rattle.pg_run.specs.pg_house.Work.{note_left, state_of}
 use Rattle.pg_run.specs.pg_store.declared.store.Store.{Store}
+use Rattle.pg_run.specs.pg_store.Beginning.{with_intents}
 use Rattle.pg_run.specs.pg_store.Links.{is_new_link}
 use Rattle.pg_run.specs.pg_store.Store.{entry_news, is_new_version, is_newer_flag, is_newer_place}
 use Rattle.pg_run.specs.pg_pieces.Accepting.{link_peer, with_link}
-use Rattle.pg_run.specs.pg_cells.Cells.{taken}
 use Rattle.pg_run.specs.pg_pieces.Done.{Done, idle}
+use Rattle.pg_run.specs.pg_pieces.Intending.{begin_intent, with_begun_if}
 use Rattle.pg_run.specs.pg_pieces.Making.{make_flag, own_next, raise_flag}
-use Rattle.pg_run.specs.pg_pieces.Posting.{post, sent_to}
+use Rattle.pg_run.specs.pg_pieces.Posting.{post, reply, sent_to}
 use Rattle.pg_run.specs.pg_cells.Settling.{ruled}
-use Rattle.pg_run.specs.pg_pieces.Taking.{is_any_news, is_place_news, take_entry_cell, take_entry_noted, take_flag_noted, take_flags_noted, take_place_noted, take_version_noted, with_doubt, with_left_if, with_news}
+use Rattle.pg_run.specs.pg_pieces.Taking.{is_any_news, is_place_news, take_entry_cell, take_entry_noted, take_flag_noted, take_place_noted, take_version_noted, with_doubt, with_left_if, with_news}
 use Rattle.pg_run.specs.pg_calls.Making.{make_place}
 use Rattle.pg_run.specs.theory_flood_pieces.Whole.{IsOther}
 use Rattle.pg_run.proofs.theory_flood_pieces.Choices.{chosen, decided}
-use Rattle.law_order.specs.Saying.{IsClosed, IsSaidOfCell, IsSaidOfMessage, IsSaidTold, Saying}
+use Rattle.law_order.specs.Saying.{IsClosed, IsIntended, IsSaidOfMessage, IsSaidTold, Saying}
+use Rattle.law_order.proofs.BirthsStay.{other_births}
 use Rattle.law_order.proofs.HouseFrame.{SendsSame, house_frame, left_sends, sends_either, sends_same}
 use Rattle.law_order.proofs.HouseSays.{AreLeft, left_said}
+use Rattle.law_order.proofs.Intended.{begun_said}
 use Rattle.law_order.proofs.Sent.{AreSaidOf, IsSoundSoFar}
-use Rattle.law_order.proofs.Sounding.{Sound, sound_entry, sound_flag, sound_link, sound_place, sound_rules, sound_version}
+use Rattle.law_order.proofs.Sounding.{Sound, sound_alike, sound_entry, sound_flag, sound_link, sound_place, sound_rules, sound_version}
 
 -- the same was replaced and sent
 pub record IsBeside (w v : Work) : Type 0 where
@@ -58,6 +66,9 @@ beside_link t w f peer = beside_either w t (with_linked w f peer) w (record { le
 beside_doubt : (t : Bool) (w : Work) (d f : FileId) → IsBeside w (with_doubt t w d f)
 beside_doubt t w d f = beside_either w t (with_unsure w d f) w (record { left = refl; sent = refl; tail = refl }) (beside_itself w)
 
+beside_begun : (t : Bool) (w : Work) (k : IntentKey) → IsBeside w (with_begun_if t w k)
+beside_begun t w k = beside_either w t (with_begun w k) w (record { left = refl; sent = refl; tail = refl }) (beside_itself w)
+
 -- server s of n: its own flags may be said, and it is named, as others are
 pub record IsMember (p : Saying) (n s : ℕ) : Type 0 where
   pub flags : (flag : Flag) → flag.server ≡ s → p.IsFlag flag
@@ -77,6 +88,10 @@ module _ (p : Saying) (c : IsClosed p) (n s : ℕ) where
     tail = subst (AreSaidOf p) (sym same.tail) k.tail;
   }
 
+  -- with another store and the same work
+  pub so_store : (d : Done) (a : Store) → SoFar d → Sound p n s a → SoFar (idle a d.work)
+  so_store d a k sound = so_with d a d.work k sound (beside_itself d.work)
+
   -- a message is sent
   pub so_sent : (d : Done) (to : ℕ) (m : Message) → SoFar d → IsSaidOfMessage p m → SoFar (idle d.store (post d.store to m d.work))
   so_sent d to m k said =
@@ -88,6 +103,9 @@ module _ (p : Saying) (c : IsClosed p) (n s : ℕ) where
         sent = All-append P d.work.sent (one ∷ []) k.sent (All-cons P one [] said (All-nil P));
         tail = k.tail;
       }
+
+  pub so_reply : (d : Done) (m : Message) → SoFar d → IsSaidOfMessage p m → SoFar (idle d.store (reply d.store m d.work))
+  so_reply d m k said = so_sent d d.work.from m k said
 
   -- or goes last
   pub so_tail : (d : Done) (to : ℕ) (m : Message) → SoFar d → IsSaidOfMessage p m → SoFar (idle d.store (with_tail d.work (sent_to d.store to m)))
@@ -153,11 +171,6 @@ module _ (p : Saying) (c : IsClosed p) (n s : ℕ) where
       let after = take_flag_noted d.store f flag d.work in
       so_with d after.store after.work k (sound_flag p n s d.store k.store f flag here) (beside_news (is_newer_flag d.store f flag) d.work f (key.Flag flag.server))
 
-  pub so_flags : (d : Done) (f : FileId) (flags : List Flag) → All p.IsFlag flags → SoFar d → SoFar (take_flags_noted d.store f flags d.work)
-  so_flags d f [] all k = k
-  so_flags d f (flag ∷ flags) all k =
-      so_flags (take_flag_noted d.store f flag d.work) f flags (All-tail p.IsFlag flag flags all) (so_flag d f flag (All-head p.IsFlag flag flags all) k)
-
   -- the server makes its flag
   pub so_flagged : (d : Done) (f : FileId) (raised : Bool) → IsMember p n s → SoFar d → SoFar (make_flag d.store f (own_next d.store f raised) d.work)
   so_flagged d f raised mine k =
@@ -189,7 +202,7 @@ module _ (p : Saying) (c : IsClosed p) (n s : ℕ) where
       let after = take_entry_noted d.store dir e d.work in
       so_with d after.store after.work k (sound_entry p n s d.store k.store dir e here) (beside_news (is_any_news (entry_news d.store dir e)) d.work dir (key.Entry e.child))
 
-  so_entry_cell : (d : Done) (dir : FileId) (e : Entry) (sure : Bool) → IsSaidTold p dir e → SoFar d → SoFar (take_entry_cell d.store dir e sure d.work)
+  pub so_entry_cell : (d : Done) (dir : FileId) (e : Entry) (sure : Bool) → IsSaidTold p dir e → SoFar d → SoFar (take_entry_cell d.store dir e sure d.work)
   so_entry_cell d dir e sure here k =
       let noted = take_entry_noted d.store dir e d.work in
       let after = take_entry_cell d.store dir e sure d.work in
@@ -201,9 +214,16 @@ module _ (p : Saying) (c : IsClosed p) (n s : ℕ) where
       let after = take_version_noted d.store f v d.work in
       so_with d after.store after.work k (sound_version p n s d.store k.store f v) (beside_news (is_new_version d.store f v) d.work f (key.Version v.head.stamp))
 
-  -- A CELL IS TAKEN
-  pub so_taken : (d : Done) (f : FileId) (x : Cell) → IsSaidOfCell p f x → SoFar d → SoFar (taken d.store f x d.work)
-  so_taken d f (cells.Place place) said k = so_place d f place said k
-  so_taken d f (cells.Flag flag) said k = so_flag d f flag said k
-  so_taken d f (cells.Entry e sure) said k = so_entry_cell d f e sure said k
-  so_taken d f (cells.Version v) said k = so_version d f v k
+  -- ---- an intention begins that is no Fill
+
+  sound_begins : (a : Store) (i : Intent) (w : Work) → ((q : FileId) → is_same_key (intent_key.Fill q) (key_of i) ≡ false) → IsIntended p i → Sound p n s a
+      → Sound p n s (begin_intent a i w).store
+  sound_begins a i w other here k =
+      sound_alike p n s a k (with_intents a (begun a.intents i)) (record { servers = refl; tags = refl; names = refl; replicas = refl })
+      (other_births a i w other k.births) (own-begun a.intents i k.keys) (begun_said p a.intents i k.named.intents here)
+
+  pub so_begins : (d : Done) (i : Intent) → ((q : FileId) → is_same_key (intent_key.Fill q) (key_of i) ≡ false) → IsIntended p i → SoFar d → SoFar (begin_intent d.store i d.work)
+  so_begins d i other here k =
+      let after = begin_intent d.store i d.work in
+      so_with d after.store after.work k (sound_begins d.store i d.work other here k.store)
+      (beside_begun (not (stands d.store.intents (key_of i))) d.work (key_of i))

@@ -14,9 +14,9 @@
 //!   (`proofs/Sent`) in the midst of an event, `AreSound` (`proofs/Runs`) of a world. `IsSettled`
 //!   is what the house rules leave.
 //! - `proofs/Pieces`, `Sounding` and `Taking` have a lemma for each piece of an event; `Received`
-//!   and `Called` for what comes, `Ended` and `Intended` for what stands behind the first effect.
-//! - A new kind of message gets its line in `so_received` (`proofs/Received`), its case in what is
-//!   said of a message (`IsSaidOfMessage`), and in `proofs/Files`, that it gives out no id.
+//!   takes them along the walk of `law_frame` over messages, `Called` over what a call does;
+//!   `Ended` and `Intended` have what stands behind the first effect.
+//! - A new kind of message gets its case in what is said of a message (`IsSaidOfMessage`).
 #![tactic(auto)]
 
 mod laws;

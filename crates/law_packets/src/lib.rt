@@ -11,9 +11,9 @@
 //! they are in order, so the fault is at the item, and the bytes before it begin a packet but for
 //! the count (`BeginsButCount`).
 //!
-//! The definitions stand in `specs/Lists` and `specs/Faults`. The proofs go by what each reader does
-//! where it fails (`IsTold` in `proofs/Telling`), one lemma for each way to join readers, and one
-//! line for each field: a new field or kind gets its line beside its neighbours'.
+//! The definitions stand in `specs/Lists` and `specs/Faults`. The proofs go by what each reader
+//! does where it fails (`IsTold` in `proofs/Telling`), one lemma for each way to join readers, and
+//! one line for each field: a new field or kind gets its line beside its neighbours'.
 #![tactic(auto)]
 
 mod laws;

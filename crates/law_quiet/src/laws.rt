@@ -29,5 +29,6 @@ pub fn quiet_names_form_a_tree()
     ensures tree { (servers : ℕ) → TreeIsGiven servers → QuietNamesFormATree servers }
     ensures listed { (servers : ℕ) → TreeIsGiven servers
         → QuietThingsAreListedOnlyWhereTheyStand servers }
-    ensures returned { (servers : ℕ) → TreeIsGiven servers → QuietDirectoriesAreBroughtBack servers }
+    ensures returned { (servers : ℕ) → TreeIsGiven servers
+        → QuietDirectoriesAreBroughtBack servers }
 {}

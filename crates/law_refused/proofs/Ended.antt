@@ -29,7 +29,9 @@ use Rattle.law_ticks.proofs.pg_run.pg_checks.Stopping.{is_not_yet}
 use Rattle.law_ticks.proofs.pg_run.pg_intentions.Idle.{ConfirmsFit, FillsFit, SeeksFit, confirms_fit, fills_fit, leaves_pass, nothing_to_do, seeks_fit}
 use Rattle.law_ticks.proofs.pg_run.pg_intentions.Leaves.{AllPass, all_moved}
 use Rattle.law_ticks.proofs.pg_run.Ticks.{IsTidy, StaysIntended, closed_is, nothing_more}
+use Rattle.law_turns.proofs.Told.{ByServer}
 use Rattle.law_refused.specs.Refusals.{AsksAgain, AsksFirst, AsksFor}
+use Rattle.law_refused.proofs.Asked.{first_asked, nothing_stands, wish_stands}
 use Rattle.law_refused.proofs.Left.{Leaves}
 
 -- what the end of an event asks of a server, so that it finds nothing to do
@@ -81,7 +83,7 @@ is_some_one t e none = false≢true (sym e ∙ (Decides-eqb t 0).1 none)
 same_file : (f g : FileId) → NotYet f ≡ NotYet g → f ≡ g
 same_file f g h = cc
 
-module _ (n s : ℕ) (a : Store) (k : IsTidy n s a) where
+module _ (n s : ℕ) (a : Store) (k : IsTidy n s a) (flags : ByServer a) where
   -- ---- a server is at rest, and so it is beside a new wish
 
   rests : IsAtRest a
@@ -136,7 +138,7 @@ module _ (n s : ℕ) (a : Store) (k : IsTidy n s a) where
       is = refl;
       asks = inl (record {
         wish = wish;
-        stands = stands;
+        stands = wish_stands found.file a wish stands;
         same = refl;
         nobody = λ none. refl;
         fetch = λ some. absurd (some (is_none wish.target e));
@@ -149,7 +151,7 @@ module _ (n s : ℕ) (a : Store) (k : IsTidy n s a) where
       is = refl;
       asks = inl (record {
         wish = wish;
-        stands = stands;
+        stands = wish_stands found.file a wish stands;
         same = refl;
         nobody = λ none. absurd (is_some_one wish.target e none);
         fetch = λ some. refl;
@@ -173,8 +175,8 @@ module _ (n s : ℕ) (a : Store) (k : IsTidy n s a) where
       asks = inr (record {
         way = found.way;
         target = To;
-        asked = refl;
-        new = new;
+        asked = first_asked a k.by_id flags found.file found.way;
+        new = nothing_stands found.file a new;
         nobody = λ none. (refl, refl);
         fetch = λ some. absurd (some (is_none To e));
       });
@@ -187,8 +189,8 @@ module _ (n s : ℕ) (a : Store) (k : IsTidy n s a) where
       asks = inr (record {
         way = found.way;
         target = To;
-        asked = refl;
-        new = new;
+        asked = first_asked a k.by_id flags found.file found.way;
+        new = nothing_stands found.file a new;
         nobody = λ none. absurd (is_some_one To e none);
         fetch = λ some. (refl, refl);
       });

@@ -1,3 +1,6 @@
 pub mod Left
+mod Orders
+mod Latest
+mod Asked
 pub mod Ended
 pub mod Runs

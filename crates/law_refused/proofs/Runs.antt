@@ -23,6 +23,7 @@ use Rattle.law_ticks.proofs.pg_run.Frame.{IsLive, live_is, other_after}
 use Rattle.law_ticks.proofs.pg_run.Ticks.{IsTidy}
 use Rattle.law_ticks.specs.Given.{TidinessIsGiven}
 use Rattle.law_ticks.proofs.Ticks.{tidy}
+use Rattle.law_turns.proofs.Told.{ByServer, flags_by_server}
 use Rattle.law_refused.specs.Refusals.{AsksFor, RefusalLeaves, RefusalsChangeNothing}
 use Rattle.law_refused.proofs.Ended.{End, RefusalEnds, refusal_ends}
 use Rattle.law_refused.proofs.Left.{refusal_left}
@@ -47,17 +48,17 @@ module _ (n : ℕ) (w : World) (s moment : ℕ) (c : Call) (why : Refusal) where
   told true d r = refl
   told false d r = refl
 
-  ends : IsTidy n s A → Behind.out.reply ≡ Some (Refused why) → RefusalEnds A why Behind
-  ends k is =
+  ends : IsTidy n s A → ByServer A → Behind.out.reply ≡ Some (Refused why) → RefusalEnds A why Behind
+  ends k flags is =
       let t = is_before_clock_end A in
       let r = Answered.reply in
       let refused : r ≡ Refused why = same_Some r (Refused why) (sym (told t (done_of Answered) r) ∙ is) in
-      refusal_ends n s A k moment why r t Answered (refusal_left A (new_work moment 0) why c refused)
+      refusal_ends n s A k flags moment why r t Answered (refusal_left A (new_work moment 0) why c refused)
 
-  taken : IsTidy n s A → Behind.out.reply ≡ Some (Refused why)
+  taken : IsTidy n s A → ByServer A → Behind.out.reply ≡ Some (Refused why)
       → RefusalLeaves w s why (effect_step w E s Asked)
-  taken k is =
-      let e = ends k is in
+  taken k flags is =
+      let e = ends k flags is in
       let here = after_itself w.stores s Behind.store in
       record {
         void = refl;
@@ -71,9 +72,9 @@ module _ (n : ℕ) (w : World) (s moment : ℕ) (c : Call) (why : Refusal) where
   abbrev Stepping : Bool → Bool → Step
   Stepping t u = cond t (given_step w E s Asked u) (idle_step w E (Some (why_void n s)))
 
-  leaves_by : (IsLive n w s → IsTidy n s A) → (t u : Bool) → is_live n w s ≡ t
+  leaves_by : (IsLive n w s → IsTidy n s A × ByServer A) → (t u : Bool) → is_live n w s ≡ t
       → (Stepping t u).entry.reply ≡ Some (Refused why) → RefusalLeaves w s why (Stepping t u)
-  leaves_by k true true live is = taken (k (live_is n w s live)) is
+  leaves_by k true true live is = let here = k (live_is n w s live) in taken here.0 here.1 is
   leaves_by k true false live is = absurd (none-some (Refused why) is)
   leaves_by k false u live is = absurd (none-some (Refused why) is)
 
@@ -81,5 +82,6 @@ module _ (n : ℕ) (w : World) (s moment : ℕ) (c : Call) (why : Refusal) where
 pub refusals_change_nothing : (n : ℕ) → TidinessIsGiven n → RefusalsChangeNothing n
 refusals_change_nothing n given events s moment c why is =
     let w = run n events in
-    leaves_by n w s moment c why (λ live. tidy n given events s live.least live.most)
+    leaves_by n w s moment c why
+    (λ live. (tidy n given events s live.least live.most, flags_by_server n events s live.least live.most))
     (is_live n w s) (is_due (removals w.journal) c) refl is

@@ -15,8 +15,8 @@ use Rattle.law_ticks.specs.pg_run.pg_store.declared.wishes.Wish.{Wish}
 use Rattle.law_ticks.specs.pg_run.pg_store.Births.{draw_birth, with_birth, with_wish}
 use Rattle.law_ticks.specs.pg_run.pg_store.Store.{is_full}
 use Rattle.law_ticks.specs.pg_run.pg_pieces.Posting.{sent_to}
-use Rattle.law_ticks.specs.pg_run.pg_checks.Asking.{fresh_wish, holder, standing}
 use Rattle.law_ticks.specs.pg_run.Run.{Step, World, next, run}
+use Rattle.law_refused.specs.Asked.{IsAskedFirst, IsStanding, NothingStands}
 
 -- ---- what is asked, of a server that held one store and holds another now
 
@@ -24,7 +24,7 @@ use Rattle.law_ticks.specs.pg_run.Run.{Step, World, next, run}
 -- the Fetch of that is sent, if it has a target. `sent_to` is a message in the server's view
 pub record AsksAgain (a b : Store) (file : FileId) (sent : List Sent) : Type 0 where
   pub wish : Wish
-  pub stands : standing a file ≡ Some wish
+  pub stands : IsStanding a file wish
   pub same : b ≡ a
   pub nobody : wish.target ≡ 0 → sent ≡ []
   pub fetch : wish.target ≢ 0 → sent ≡ sent_to a wish.target (Fetch file wish.birth) ∷ []
@@ -35,10 +35,11 @@ pub record AsksAgain (a b : Store) (file : FileId) (sent : List Sent) : Type 0 w
 pub record AsksFirst (a b : Store) (file : FileId) (sent : List Sent) : Type 0 where
   pub way : Way
   pub target : ℕ
-  pub asked : holder a (record { file = file; way = way }) ≡ target
-  pub new : standing a file ≡ None
+  pub asked : IsAskedFirst a file way target
+  pub new : NothingStands a file
   pub nobody : target ≡ 0 → (b ≡ a) × (sent ≡ [])
-  pub fetch : target ≢ 0 → (b ≡ with_wish (with_birth a) file (fresh_wish a target))
+  pub fetch : target ≢ 0
+      → (b ≡ with_wish (with_birth a) file (record { birth = draw_birth a; target = target }))
       × (sent ≡ sent_to a target (Fetch file (draw_birth a)) ∷ [])
 
 -- it is not held and full, and is asked for in one of these ways

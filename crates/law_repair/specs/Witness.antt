@@ -38,8 +38,8 @@ abbrev pub made : List Event
 made = Call 1 10 (Create (47 ∷ 121 ∷ []) Last) ∷ Call 1 12 (Mkdir (47 ∷ 100 ∷ [])) ∷ []
 
 abbrev pub heard : List Event
-heard = Deliver 1 ∷ Deliver 1 ∷ Deliver 1 ∷ Deliver 1 ∷ Deliver 1 ∷ Deliver 1 ∷ Deliver 1 ∷ Deliver 1
-    ∷ []
+heard = Deliver 1 ∷ Deliver 1 ∷ Deliver 1 ∷ Deliver 1 ∷ Deliver 1 ∷ Deliver 1 ∷ Deliver 1
+    ∷ Deliver 1 ∷ []
 
 -- their server goes, the other gives it up and asks in vain, until it is told to forget them
 abbrev pub forgotten : List Event

@@ -86,7 +86,8 @@ pub record Removes (servers : ℕ) (before : List Event) (removing : Event) (dir
     (removal : Place) : Type 0 where
   pub directory : is_dir dir ≡ true
   pub dead : removal.live ≡ false
-  pub made : Contains (next servers (run servers before) removing).entry.made (update.Place dir removal)
+  pub made : Contains (next servers (run servers before) removing).entry.made
+      (update.Place dir removal)
 
 -- the place is of a server that is not removed among these
 abbrev pub IsStillThere : List ℕ → Place → Type 0

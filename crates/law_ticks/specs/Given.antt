@@ -24,7 +24,8 @@ NamesAreOrdered servers = (events : List Event)
 -- things are by id
 abbrev pub ThingsAreOrdered : ℕ → Type 0
 ThingsAreOrdered servers = (events : List Event)
-    → AtEach servers (λ s. IsStrictlySortedBy file_cmp (keys_of (names_after servers events s).held))
+    → AtEach servers (λ s. IsStrictlySortedBy file_cmp
+    (keys_of (names_after servers events s).held))
 
 -- no intention ends or begins, where no place was replaced, no doubtful cell came and no edge was
 -- made

@@ -4,5 +4,5 @@ mod Sorting
 mod EachKind
 mod Whole
 mod Firsts
-mod Targets
-mod Told
+pub mod Targets
+pub mod Told

@@ -101,7 +101,7 @@ module _ (b : Store) where
   live_is : (s : ℕ) → target.IsLiveOther b.servers Mine Removed s → IsLiveOther b s
   live_is s live = record { least = live.from; most = live.upto; other = live.differs; stays = stays_in s live.stays }
 
-  next_behind : IsNextBehind b (next_target b Mine)
+  pub next_behind : IsNextBehind b (next_target b Mine)
   next_behind =
       let next = next_target b Mine in
       let is = is_next_as b.servers Mine Removed Mine next refl in record {
@@ -118,7 +118,7 @@ module _ (b : Store) where
 
   -- ---- golds
 
-  gold_of : (flag : Flag) → is_live_other Mine Removed flag ≡ true → IsOtherGold b flag
+  pub gold_of : (flag : Flag) → is_live_other Mine Removed flag ≡ true → IsOtherGold b flag
   gold_of flag is =
       let parts = and_parts (is_live Removed flag) (not (flag.server == Mine)) is in
       let live = and_parts flag.raised (not (is_removed Removed flag.server)) parts.0 in record {
@@ -127,7 +127,7 @@ module _ (b : Store) where
         stays = stays_in flag.server (not-true (is_removed Removed flag.server) live.1);
       }
 
-  gold_passes : (flag : Flag) → IsOtherGold b flag → is_live_other Mine Removed flag ≡ true
+  pub gold_passes : (flag : Flag) → IsOtherGold b flag → is_live_other Mine Removed flag ≡ true
   gold_passes flag gold =
       and_from (is_live Removed flag) (not (flag.server == Mine))
       (and_from flag.raised (not (is_removed Removed flag.server)) gold.raised
@@ -138,7 +138,7 @@ module _ (b : Store) where
 
   module _ (test : Flag → Bool) (flags : List Flag) where
     -- the server has such a flag
-    abbrev Passes : ℕ → Type 0
+    abbrev pub Passes : ℕ → Type 0
     Passes server = (flag : Flag) × Among flag flags × (test flag ≡ true) × (flag.server ≡ server)
 
     module _ (sorted : IsByServer flags) where
@@ -147,7 +147,7 @@ module _ (b : Store) where
           subst (λ (o : Option Flag). IfSome (option_map (λ (g : Flag). g.server) o) (λ q. All (λ (g : Flag). test g ≡ true → q ≤ g.server) flags))
           is (first-least test flags sorted)
 
-      first_is : (Suits : ℕ → Type 0) → ((u : ℕ) → Passes u → Suits u) → ((u : ℕ) → Suits u → Passes u)
+      pub first_is : (Suits : ℕ → Type 0) → ((u : ℕ) → Passes u → Suits u) → ((u : ℕ) → Suits u → Passes u)
           → (o : Option Flag) → find test flags ≡ o → IsLeastOrNext b Suits (target_or_next b o)
       first_is Suits into from None is = record {
         least = λ u suits. (let g = from u suits in absurd (true≢false (sym g.2 ∙ found_none test flags g.0 is g.1)));

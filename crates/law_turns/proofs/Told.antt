@@ -6,6 +6,7 @@ use Rattle.std.specs.Map.{keys_of}
 use Rattle.law_order.specs.pg_base.declared.id.FileId.{FileId}
 use Rattle.law_order.specs.pg_base.Id.{file_cmp}
 use Rattle.law_order.specs.pg_entries.declared.entry.Entry.{Entry}
+use Rattle.law_order.specs.pg_event.declared.event.Event.{Event}
 use Rattle.law_order.specs.pg_intent.declared.intent.Intent.{Intent}
 use Rattle.law_order.specs.pg_intentions.Beginning.{begin_end}
 use Rattle.law_order.specs.pg_names.Names.{cell_at}
@@ -14,6 +15,7 @@ use Rattle.law_order.specs.pg_pieces.Done.{Done}
 use Rattle.law_order.specs.pg_server.declared.input.Input.{Input}
 use Rattle.law_order.specs.pg_server.Local.{closed, effect, finished, first_effect, reply_to, settled, takes_effect}
 use Rattle.law_order.specs.pg_store.declared.store.Store.{Store}
+use Rattle.law_order.specs.pg_run.Laws.{AtEach}
 use Rattle.law_order.specs.pg_run.Run.{Step, Taking, World, next, run, start}
 use Rattle.law_order.specs.theory_flood_pieces.Whole.{IsWhole}
 use Rattle.law_order.specs.Laws.{NamesAreById}
@@ -63,8 +65,12 @@ module _ (a : Store) (asked : Input) (going : takes_effect a asked ≡ true) whe
       })
 
 -- the flags of each entry are by server
-abbrev ByServer : Store → Type 0
+abbrev pub ByServer : Store → Type 0
 ByServer b = (dir child : FileId) (e : Entry) → cell_at b.names dir child ≡ Some e → IsByServer e.flags
+
+pub flags_by_server : (n : ℕ) (events : List Event) → AtEach n (λ s. ByServer ((run n events).stores s))
+flags_by_server n events s least most dir child e at =
+    (((all_named n events).names s least most).cells dir child e at).order
 
 pub intentions_begin_in_turn : (n : ℕ) → NamesAreById n → IntentionsBeginInTurn n
 intentions_begin_in_turn n by_id events event s asked takes going =
@@ -82,6 +88,6 @@ intentions_begin_in_turn n by_id events event s asked takes going =
     let sorted = subst (λ (b : Store). IsStrictlySortedBy file_cmp (keys_of b.names.held)) later
     (by_id after s acts.least acts.most).things in
     let there = subst (IsWhole n s) later (servers_whole n after s acts.least acts.most) in
-    let cells = subst ByServer later (λ dir child e at. (((all_named n after).names s acts.least acts.most).cells dir child e at).order) in
+    let cells = subst ByServer later (flags_by_server n after s acts.least acts.most) in
     subst (λ (b : Store). BeginsInTurn A b (sender_in asked)) (sym is)
     (begins A asked going sorted (targets_told B n s there cells (sender_in asked)))

@@ -31,7 +31,8 @@ IsFirstTarget b from (intent.Bye file birth peer peer_birth) = Unit {0}
 IsFirstTarget b from (intent.Patch dir entry target) = IsTellerOrNext b from target
 IsFirstTarget b from (intent.Fill file birth target) = IsTellerOrNext b from target
 IsFirstTarget b from (intent.Seek file target) = IsLeastOrNext b (IsUnmatched b file) target
-IsFirstTarget b from (intent.Confirm dir child target) = IsLeastOrNext b (IsHolder b dir child) target
+IsFirstTarget b from (intent.Confirm dir child target) =
+    IsLeastOrNext b (IsHolder b dir child) target
 IsFirstTarget b from (intent.Leave file peer peer_birth) = Unit {0}
 
 -- it stood already, or is a Bye's or a Leave's, which begin before the house rules

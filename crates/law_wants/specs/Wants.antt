@@ -11,6 +11,7 @@ use Rattle.law_contents.specs.theory_bodies.Asked.{Asking}
 -- of two messages of one entry that are Wants for one version, both are to one server
 abbrev pub AnEventAsksOne : ℕ → Type 0
 AnEventAsksOne servers = (events : List Event) (event : Event) (m k : Sent) (file : FileId)
-    (stamp : Stamp) (t u : Asking) → let sent = (next servers (run servers events) event).entry.sent in
+    (stamp : Stamp) (t u : Asking)
+    → let sent = (next servers (run servers events) event).entry.sent in
     Contains sent m → Contains sent k → wanted_by file stamp m ≡ Some t
     → wanted_by file stamp k ≡ Some u → t.target ≡ u.target

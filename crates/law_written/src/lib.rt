@@ -7,12 +7,13 @@
 //! knows that who gets its bytes reads this packet and no other: `packets_are_read` and
 //! `packets_are_apart` of `laws`.
 //!
-//! `fields`, `messages`, `calls` and `replies` have one function for each type: it does nothing, and
-//! its clause says that the value is one that can be read. What a type keeps is known from the
+//! `fields`, `messages`, `calls` and `replies` have one function for each type: it does nothing,
+//! and its clause says that the value is one that can be read. What a type keeps is known from the
 //! clauses of its methods, which is why they are called.
 //!
 //! It reads and writes nothing, and knows no lengths: that a packet has at most 40,000 bytes is the
-//! premise of what is said of reading. A new kind of packet gets an arm in the function of its type.
+//! premise of what is said of reading. A new kind of packet gets an arm in the function of its
+//! type.
 #![tactic(auto)]
 
 mod calls;

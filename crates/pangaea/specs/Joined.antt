@@ -166,7 +166,8 @@ pub record NamesAreCited (servers : ℕ) : Type 0 where
   pub determined : NamesStandOn servers → NamesAreDetermined servers
   pub justified : NamesStandOn servers → EdgesAreKept servers → ReturnsAreJustified servers
   pub returns_list : NamesStandOn servers → FirstEffectsAreOrdered servers → ReturnsList servers
-  pub removals_stay : HouseIsInOrder servers → ServersAreWhole servers → FirstEffectsAreWhole servers
+  pub removals_stay : HouseIsInOrder servers → ServersAreWhole servers
+      → FirstEffectsAreWhole servers
       → FirstEffectsAreOrdered servers → RemovalsStay servers
   pub forgets_stay : ForgetsStay servers
   pub owed : TidinessIsGiven servers → TicksSendWhatIsOwed servers

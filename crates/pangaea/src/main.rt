@@ -3,7 +3,7 @@
 //! `command` has `run`, with all that is promised; `replay`, `make`, `soak`, `node`, `call` and
 //! `help` are the commands, one module each, and `laws` ties the lines of a schedule to the events
 //! of its run. `citing` joins the laws of all runs: what each stands on the others say. What words
-//! ask for, and which is at fault, `pg_command` says; `advice` says what to do about it.
+//! ask for, and which is at fault, `pg_command` says; `pg_advice` says what to do about it.
 //!
 //! `main` alone touches the system: it gathers the words, hands in the streams, the net of this
 //! machine, its files, its clock and one meter of each kind, and ends with the status. A node's
@@ -15,7 +15,6 @@
 //! slots in `pg_command`, an arm of `Acts` and of `Keeps`, and a module of its own.
 #![tactic(auto)]
 
-mod advice;
 mod call;
 mod citing;
 mod command;
@@ -26,12 +25,12 @@ mod node;
 mod replay;
 mod soak;
 
-use advice::{advice, name, port};
 pub use call::call;
 pub use command::run;
 pub use help::help;
 pub use make::make;
 pub use node::node;
+use pg_advice::{advice, name, port};
 use pg_disk::FileDisk;
 use pg_event::{MeterKind, Status};
 use pg_io::{Reading, Writing};

@@ -12,7 +12,6 @@ pub mod Refused
 pub mod Late
 pub mod Filled
 pub mod LastPlace
-mod Holders
 pub use Rattle.pg_cells.proofs.pg_house as pg_house
 pub use Rattle.pg_cells.proofs.pg_intent as pg_intent
 pub use Rattle.pg_cells.proofs.pg_msg as pg_msg

@@ -1,29 +1,15 @@
--- What is lost: the directory by whose cell a file is struck out, and the clock; and the view that
--- comes next.
-use Rattle.std.proofs.Common.{ℕ, zero, suc, ◌≡◌, ◌==◌, ◌+◌, ◌-◌, Bool, true, false, cond, List, ◌∷◌, Option, Ok, filter, refl, sym, arith}
+-- What is lost, and the clock; and the view that comes next.
+use Rattle.std.proofs.Common.{ℕ, zero, suc, ◌≡◌, ◌==◌, ◌+◌, ◌-◌, Bool, true, false, Ok, refl, sym, arith}
 use Rattle.std.proofs.lemmas.Bool.{eq-eqb, eqb-false, eqb-true, ne_eqb}
 use Rattle.pg_base.specs.declared.id.FileId.{FileId}
-use Rattle.pg_cells.specs.pg_names.Names.{NamesValue}
 use Rattle.pg_cells.specs.pg_store.declared.store.Store.{Store}
 use Rattle.pg_cells.specs.pg_store.Store.{is_before_clock_end}
 use Rattle.pg_checks.specs.pg_lookup.Walk.{and_then}
-use Rattle.pg_checks.specs.Asking.{later, latest}
 use Rattle.pg_checks.specs.Checks.{in_time}
 use Rattle.pg_calls.specs.Demoting.{unless_root}
-use Rattle.pg_calls.specs.Forgetting.{later_listing, lists_in, lost_at, unless_full}
+use Rattle.pg_calls.specs.Forgetting.{lost_at, unless_full}
 use Rattle.pg_calls.proofs.Checked.{behind}
 use Rattle.pg_calls.proofs.InTime.{time_by}
-
--- one directory more
-pub one_listing : (names : NamesValue) (id : FileId) (first : Option FileId) (dir : FileId) (rest : List FileId)
-    → latest names id (later_listing names id first dir) (filter (lists_in names id) rest)
-    ≡ latest names id first (filter (lists_in names id) (dir ∷ rest))
-one_listing names id first dir rest = by (lists_in names id dir)
-  where
-    by : (t : Bool) → latest names id (cond t (later names id first dir) first) (filter (lists_in names id) rest)
-        ≡ latest names id first (cond t (dir ∷ filter (lists_in names id) rest) (filter (lists_in names id) rest))
-    by true = refl
-    by false = refl
 
 pub lost_in_time : (store : Store) (id found : FileId) → lost_at store id ≡ Ok found → is_before_clock_end store ≡ true
 lost_in_time store id found h =

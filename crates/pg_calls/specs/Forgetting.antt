@@ -1,14 +1,12 @@
 -- What was lost is given up.
 use Rattle.std.specs.Prelude.{ℕ, Bool, ◌==◌, ◌||◌, true, false, not, if◌then◌else◌, List, [], length, Option, None, Some, is_some, Result}
-use Rattle.std.specs.List.{filter, list_any}
-use Rattle.std.specs.Map.{keys_of}
+use Rattle.std.specs.List.{list_any}
 use Rattle.pg_base.specs.declared.id.FileId.{FileId}
 use Rattle.pg_base.specs.declared.policy.Policy.TheVariants.{Last}
 use Rattle.pg_base.specs.Id.{is_same_file}
 use Rattle.pg_cells.specs.pg_call.declared.refusal.Refusal.TheVariants.{Held}
 use Rattle.pg_cells.specs.pg_call.declared.reply.Reply.TheVariants as reply
 use Rattle.pg_entries.specs.declared.entry.Entry.{Entry}
-use Rattle.pg_entries.specs.Entry.{is_listed}
 use Rattle.pg_cells.specs.pg_intent.declared.intent.Intent.{Intent}
 use Rattle.pg_cells.specs.pg_intent.declared.intent.Intent.TheVariants as intent
 use Rattle.pg_cells.specs.pg_intent.declared.key.IntentKey.TheVariants as intent_key
@@ -33,8 +31,9 @@ use Rattle.pg_cells.specs.pg_pieces.Intending.{each}
 use Rattle.pg_cells.specs.pg_pieces.Taking.{take_entry_noted}
 use Rattle.pg_intentions.specs.pg_repair.Filling.{fill}
 use Rattle.pg_checks.specs.Answer.{Answer, answer, answered, unless}
-use Rattle.pg_checks.specs.Asking.{later, latest}
+use Rattle.pg_checks.specs.Asking.{latest}
 use Rattle.pg_checks.specs.Checks.{in_time}
+pub use Rattle.pg_checks.specs.Listing.{dirs_of, has_cell_for, last_listing, later_listing, lists_by, lists_in}
 use Rattle.pg_calls.specs.Demoting.{unless_root}
 use Rattle.pg_calls.specs.Making.{drawn, make_place}
 use Rattle.pg_calls.specs.Naming.{raised}
@@ -74,22 +73,6 @@ filled id done = fill done.store id done.work
 abbrev pub fill_lost : Store → FileId → Work → Done
 fill_lost store id work = filled id (placed_lost store id work)
 
--- ---- where a thing is listed
-
-abbrev pub has_cell_for : NamesValue → FileId → FileId → Bool
-has_cell_for names id dir = is_some (cell_at names dir id)
-
-abbrev pub lists_by : FileId → Option Entry → Bool
-lists_by dir None = false
-lists_by dir (Some entry) = is_listed dir entry
-
-abbrev pub lists_in : NamesValue → FileId → FileId → Bool
-lists_in names id dir = lists_by dir (cell_at names dir id)
-
--- the held directories that have a cell for it, by id
-abbrev pub dirs_of : NamesValue → FileId → List FileId
-dirs_of names id = filter (has_cell_for names id) (keys_of names.held)
-
 -- ---- a file that is not held
 
 abbrev pub bare_entry : FileId → Place → Entry
@@ -128,15 +111,6 @@ strike_from store id dir dirs work =
 abbrev pub struck_out : Store → FileId → Work → Option FileId → Done
 struck_out store id work None = idle store work
 struck_out store id work (Some dir) = strike_from store id dir (dirs_of store.names id) work
-
--- of a directory so far and this one, if it lists the thing, the one whose cell has the later place
-abbrev pub later_listing : NamesValue → FileId → Option FileId → FileId → Option FileId
-later_listing names id first dir =
-    if lists_in names id dir then later names id first dir else first
-
--- of these directories the one whose cell has the latest place, of those that list the thing
-abbrev pub last_listing : NamesValue → FileId → List FileId → Option FileId
-last_listing names id dirs = latest names id None (filter (lists_in names id) dirs)
 
 -- where a held directory lists it, it has a dead place from then on, wherever it is known
 abbrev pub strike_out : Store → FileId → Work → Done

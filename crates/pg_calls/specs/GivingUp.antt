@@ -29,7 +29,8 @@ may_give_up store view server = is_next_view store view && is_live_other store s
 
 abbrev pub removal_at : Store → ℕ → ℕ → Result (Unit {0}) LookupError
 removal_at store view server = and_then (in_time store (tt {0}))
-    (λ found. unless (not (may_give_up store view server)) (refusal.WrongView (view_of store)) (tt {0}))
+    (λ found. unless (not (may_give_up store view server)) (refusal.WrongView (view_of store))
+    (tt {0}))
 
 -- ---- the view is entered
 

@@ -3,12 +3,11 @@
 ghost use Rattle.std.specs.Prelude.{◌≡◌, ◌<◌, ◌^◌, IfOk, None, OnOk};
 ghost use Rattle.std.specs.List.{list_any};
 ghost use Rattle.pg_checks.specs.Answer.{Tells};
-ghost use Rattle.pg_checks.specs.Asking.{later, latest};
-ghost use Rattle.pg_calls.specs.Forgetting.{begin_lost, begun_at, begun_with, dead_at, dirs_of, fill_lost, forget, forget_lost, has_blank_place, if_live, is_patch_to, is_wanted_by, last_listing, later_listing, lists_in, lost_at, mark, marked_each, place_in, placed_in_root, placed_lost, root_place, strike_from, strike_out, unless_full};
+ghost use Rattle.pg_calls.specs.Forgetting.{begin_lost, begun_at, begun_with, dead_at, fill_lost, forget, forget_lost, has_blank_place, if_live, is_patch_to, is_wanted_by, lost_at, mark, marked_each, place_in, placed_in_root, placed_lost, root_place, strike_from, strike_out, unless_full};
 
 use crate::demoting::unless_root;
 use crate::making::{make_place, next_stamp};
-use pg_base::{FileId, Items, Policy, Stamp};
+use pg_base::{FileId, Policy, Stamp};
 use pg_cells::call::{Refusal, Reply};
 use pg_cells::intent::{Intent, IntentKey, Intents};
 use pg_cells::msg::{Update, Work};
@@ -16,7 +15,7 @@ use pg_cells::names::{Attributes, Names, is_dir, is_same_stamp};
 use pg_cells::pieces::{raise_flag, take_entry};
 use pg_cells::store::{COUNTER_LIMIT, Store};
 use pg_checks::lookup::ROOT;
-use pg_checks::{CallError, deny, in_time, is_later};
+use pg_checks::{CallError, deny, dirs_of, in_time, last_cell, last_listing};
 use pg_entries::Entry;
 use pg_intentions::repair::fill;
 use pg_register::{GoldFlags, Place, tilde_name};
@@ -94,67 +93,6 @@ fn fill_lost(store: &mut Store, id: FileId, work: &mut Work) -> Result<(), Alloc
 {
     place_lost(store, id, work)?;
     fill(store, id, work)
-}
-
-/// Whether it lists the thing.
-fn lists_in(names: &Names, id: FileId, dir: &FileId) -> bool
-    ensures { result ≡ lists_in names.now id dir.now }
-{
-    match names.entry(dir, &id) {
-        Some(entry) => entry.is_listed(*dir),
-        None => false,
-    }
-}
-
-/// The held directories that have a cell for a thing, by id.
-fn dirs_of(names: &Names, id: FileId) -> Result<Items<FileId>, AllocError>
-    ensures { IfOk result (λ dirs. dirs ≡ dirs_of names.now id) }
-{
-    let held = names.holders(&id).as_map();
-    Ok(Items::from_vec(held.keys().copied().collect(names.allocator())?))
-}
-
-/// Of a directory so far and this one the one whose cell for a thing has the later place.
-fn later(names: &Names, id: FileId, first: Option<FileId>, dir: &FileId) -> Option<FileId>
-    ensures { result ≡ later names.now id first dir.now }
-{
-    if is_later(names, id, first, dir) {
-        return Some(*dir);
-    }
-    first
-}
-
-/// Picks of a directory so far and this one the one whose cell for a thing has the later place,
-/// where this one lists the thing.
-fn later_listing(names: &Names, id: FileId, first: Option<FileId>, dir: &FileId) -> Option<FileId>
-    ensures { result ≡ later_listing names.now id first dir.now }
-{
-    if lists_in(names, id, dir) {
-        return later(names, id, first, dir);
-    }
-    first
-}
-
-/// The directory among these whose cell for the thing has the latest place, of those that list it.
-fn last_listing(names: &Names, id: FileId, dirs: &[FileId]) -> Option<FileId>
-    ensures { result ≡ last_listing names.now id dirs.now }
-{
-    let mut latest = None;
-    for dir in dirs {
-        latest = later_listing(names, id, latest, dir);
-    }
-    latest
-}
-
-/// The directory among these whose cell for the thing has the latest place.
-fn last_cell(names: &Names, id: FileId, dirs: &[FileId]) -> Option<FileId>
-    ensures { result ≡ latest names.now id None dirs.now }
-{
-    let mut latest = None;
-    for dir in dirs {
-        latest = later(names, id, latest, dir);
-    }
-    latest
 }
 
 /// A directory's cell for a thing that is not held takes a place.

@@ -58,7 +58,8 @@ closing (Some gate) = if gate == 1 then Write 0 (0 ∷ []) else Sync
 
 -- The slot is in the file once this is done, and a crash leaves just that. At each moment before a
 -- crash leaves the file as it was, no slot, or the new slot.
-pub record IsReplaced {E : Type 0} (result : Result Unit E) (file : ℕ) (slot : Slot) (old new : Told) : Type 0 where
+pub record IsReplaced {E : Type 0} (result : Result Unit E) (file : ℕ) (slot : Slot)
+    (old new : Told) : Type 0 where
   pub holds : OnOk result (IsSlot (given new file) slot)
   pub settled : OnOk result (IsSettled (steps new file))
   pub moments : IsSettled (steps old file) → LeavesSince file old new

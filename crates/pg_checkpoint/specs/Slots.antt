@@ -16,7 +16,8 @@ pub record Fits (slot : Slot) : Type 0 where
 
 -- the number, the count of entries and the length of the state, each with its highest byte first
 abbrev pub numbers : ℕ → ℕ → ℕ → List ℕ
-numbers number folded length = to_be_bytes w64 number ++ (to_be_bytes w64 folded ++ to_be_bytes w32 length)
+numbers number folded length =
+    to_be_bytes w64 number ++ (to_be_bytes w64 folded ++ to_be_bytes w32 length)
 
 -- what stands behind the gate
 abbrev pub behind_gate : Slot → List ℕ

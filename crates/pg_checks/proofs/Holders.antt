@@ -1,5 +1,5 @@
--- What has no cell for a thing is not the one whose cell has the latest place.
-use Rattle.std.proofs.Common.{◌≡◌, Bool, true, false, cond, List, [], ◌∷◌, Option, None, Some, refl, sym, ap, ◌∙◌}
+-- What has a cell for a thing; what has none is not the one whose cell has the latest place.
+use Rattle.std.proofs.Common.{◌≡◌, Bool, true, false, cond, List, [], ◌∷◌, Option, None, Some, is_some, refl, sym, ap, ◌∙◌}
 use Rattle.std.specs.List.{filter}
 use Rattle.std.specs.Map.{keys_of}
 use Rattle.std.proofs.lemmas.Bool.{false≢true}
@@ -8,6 +8,7 @@ use Rattle.pg_entries.specs.declared.entry.Entry.{Entry}
 use Rattle.pg_pieces.specs.pg_names.Names.{NamesValue, cell_at}
 use Rattle.pg_pieces.specs.pg_names.Calm.{holders, is_cell, is_holder}
 use Rattle.pg_checks.specs.Asking.{cell_in, is_later, later, latest}
+use Rattle.pg_checks.specs.Listing.{dirs_of, has_cell_for, later_listing, lists_in}
 
 not_later : (first second : Option Entry) → is_cell second ≡ false → is_later first second ≡ false
 not_later first None h = refl
@@ -28,3 +29,30 @@ module _ (s : NamesValue) (f : FileId) where
 
   pub latest_holder : latest s f None (holders s f) ≡ latest s f None (keys_of s.held)
   latest_holder = latest_where None (keys_of s.held)
+
+-- ---- the directories that have a cell for it
+
+is_there : (o : Option Entry) → is_cell o ≡ is_some o
+is_there None = refl
+is_there (Some e) = refl
+
+alike : (p q : FileId → Bool) → ((d : FileId) → p d ≡ q d) → (ds : List FileId) → filter p ds ≡ filter q ds
+alike p q same [] = refl
+alike p q same (d ∷ ds) =
+    ap (λ t. cond t (d ∷ filter p ds) (filter p ds)) (same d) ∙ ap (λ xs. cond (q d) (d ∷ xs) xs) (alike p q same ds)
+
+pub holders_are : (s : NamesValue) (id : FileId) (dirs : List FileId) → dirs ≡ holders s id → dirs ≡ dirs_of s id
+holders_are s id dirs are = are ∙ alike (is_holder s id) (has_cell_for s id) (λ d. is_there (cell_at s d id)) (keys_of s.held)
+
+-- ---- those that list it
+
+-- one directory more
+pub one_listing : (names : NamesValue) (id : FileId) (first : Option FileId) (dir : FileId) (rest : List FileId)
+    → latest names id (later_listing names id first dir) (filter (lists_in names id) rest)
+    ≡ latest names id first (filter (lists_in names id) (dir ∷ rest))
+one_listing names id first dir rest = by (lists_in names id dir)
+  where
+    by : (t : Bool) → latest names id (cond t (later names id first dir) first) (filter (lists_in names id) rest)
+        ≡ latest names id first (cond t (dir ∷ filter (lists_in names id) rest) (filter (lists_in names id) rest))
+    by true = refl
+    by false = refl

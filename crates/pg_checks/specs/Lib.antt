@@ -1,4 +1,5 @@
 pub mod Asking
+pub mod Listing
 pub mod Answer
 pub mod Paths
 pub mod Checks

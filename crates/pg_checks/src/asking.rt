@@ -8,6 +8,7 @@ ghost use Rattle.pg_pieces.specs.pg_store.Births.{fill_at};
 ghost use Rattle.pg_checks.specs.Asking.{ask_first, ask_for, cell_in, dir_by, fetch, gold_of, holder, is_later, latest, standing, wish_by};
 
 use crate::call_error::CallError;
+use crate::listing::last_cell;
 use pg_base::{FileId, NodeId};
 use pg_entries::Entry;
 use pg_lookup::{Found, LookupError, Way};
@@ -162,18 +163,12 @@ fn dir_by(names: &Names, file: FileId, way: Way) -> Option<FileId>
 fn latest_dir(names: &Names, file: FileId) -> Option<FileId>
     ensures { result ≡ dir_by names.now file Way.Id }
 {
-    let mut latest = None;
-    for dir in names.holders(&file).as_map().keys() {
-        if is_later(names, file, latest, dir) {
-            latest = Some(*dir);
-        }
-    }
-    latest
+    last_cell(names, file, names.holders(&file).as_slice())
 }
 
 /// Whether a directory has an entry for a thing, and a later place in it than the first directory's
 /// entry for it has, or that has none.
-pub fn is_later(names: &Names, file: FileId, first: Option<FileId>, dir: &FileId) -> bool
+pub(crate) fn is_later(names: &Names, file: FileId, first: Option<FileId>, dir: &FileId) -> bool
     ensures { result
         ≡ is_later (cell_in names.now file first) (cell_at names.now dir.now file) }
 {

@@ -60,7 +60,8 @@ fn reply_text(alloc: Global, reply: &Reply) -> Result<Bytes, AllocError>
 
 /// Writes the text of a reply, and a line feed.
 pub fn tell<K: Sink>(alloc: Global, sink: &mut K, reply: &Reply) -> Status
-    ensures wrote { Wrote (K.contents sink.old) (K.contents sink.new) (reply_text reply.now) result }
+    ensures wrote { Wrote (K.contents sink.old) (K.contents sink.new) (reply_text reply.now)
+        result }
     ensures status { ((result ≡ Status.WriteFault) ⊎ (result ≡ Status.OutOfMemory))
         ⊎ (result ≡ status_of reply.now) }
     ensures fault { result ≡ Status.WriteFault → Rose (K.faults sink.old) (K.faults sink.new) }

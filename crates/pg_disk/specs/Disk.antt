@@ -16,7 +16,8 @@ pub data Step : Type 0 where
 abbrev pub written : ℕ → List ℕ → List ℕ → List ℕ
 written at [] file = file
 written at (byte ∷ bytes) file =
-    take at file ++ replicate (at - length file) 0 ++ (byte ∷ bytes) ++ drop (at + length (byte ∷ bytes)) file
+    take at file ++ replicate (at - length file) 0 ++ (byte ∷ bytes) ++ drop
+    (at + length (byte ∷ bytes)) file
 
 -- the file behind a change
 abbrev pub changed : Change → List ℕ → List ℕ
@@ -56,9 +57,12 @@ MayMake Sync old new = new ≡ old
 abbrev pub IsImage : List Step → List ℕ → Type 0
 IsImage [] image = image ≡ []
 IsImage (Done Sync ∷ earlier) image = image ≡ contents earlier
-IsImage (Done (Write at bytes) ∷ earlier) image = (was : List ℕ) × IsImage earlier was × IsTorn at bytes was image
-IsImage (Done (Cut longest) ∷ earlier) image = (was : List ℕ) × IsImage earlier was × IsCutShort longest was image
-IsImage (Failing change left ∷ earlier) image = (was : List ℕ) × IsImage earlier was × MayMake change was image
+IsImage (Done (Write at bytes) ∷ earlier) image = (was : List ℕ) × IsImage earlier was
+    × IsTorn at bytes was image
+IsImage (Done (Cut longest) ∷ earlier) image = (was : List ℕ) × IsImage earlier was
+    × IsCutShort longest was image
+IsImage (Failing change left ∷ earlier) image = (was : List ℕ) × IsImage earlier was
+    × MayMake change was image
 
 -- a crash leaves just what a read gives
 abbrev pub IsSettled : List Step → Type 0

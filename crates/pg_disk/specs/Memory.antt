@@ -30,7 +30,8 @@ abbrev pub event_of : Call → List Event → Event
 event_of call history = record {
   name = string_bytes call.name;
   file = call.file;
-  step = step_of call.is_done (change_of call.edit) (contents (steps_of (string_bytes call.name) call.file history));
+  step = step_of call.is_done (change_of call.edit)
+      (contents (steps_of (string_bytes call.name) call.file history));
 }
 
 -- the history with these calls, of which the first stands first

@@ -19,8 +19,10 @@ pub record KeepsOthers (file : ℕ) (old new : Told) : Type 0 where
 -- Once it is done a read gives the changed file, and so does each crash. Where a crash left just
 -- what a read gives, at each moment since it leaves that file, the changed one, or what a crash
 -- during the change may make of it.
-pub record IsSynced {E : Type 0} (result : Result Unit E) (file : ℕ) (change : Change) (old new : Told) : Type 0 where
+pub record IsSynced {E : Type 0} (result : Result Unit E) (file : ℕ) (change : Change)
+    (old new : Told) : Type 0 where
   pub keeps : KeepsOthers file old new
   pub contents : OnOk result (given new file ≡ changed change (given old file))
   pub settled : OnOk result (IsSettled (steps new file))
-  pub moments : IsSettled (steps old file) → LeavesSince file old new (MayMake change (given old file))
+  pub moments : IsSettled (steps old file)
+      → LeavesSince file old new (MayMake change (given old file))

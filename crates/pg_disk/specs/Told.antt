@@ -29,7 +29,8 @@ given_of name file history = contents (steps_of name file history)
 
 -- of each file of each name a read gives one of the things that a crash may leave
 abbrev pub ReadsImages : List Event → Type 0
-ReadsImages history = (name : List ℕ) (file : ℕ) → IsImage (steps_of name file history) (given_of name file history)
+ReadsImages history = (name : List ℕ) (file : ℕ)
+    → IsImage (steps_of name file history) (given_of name file history)
 
 -- the steps of a file of the chosen name
 abbrev pub steps : Told → ℕ → List Step
@@ -41,7 +42,8 @@ given told file = contents (steps told file)
 
 -- what a crash now may leave of all files: an image of each, whatever it leaves of the others
 abbrev pub IsLeft : List Event → (List ℕ → ℕ → List ℕ) → Type 0
-IsLeft history left = (name : List ℕ) (file : ℕ) → IsImage (steps_of name file history) (left name file)
+IsLeft history left = (name : List ℕ) (file : ℕ)
+    → IsImage (steps_of name file history) (left name file)
 
 -- one step more of a file of the chosen name; no other file or name has a step more
 abbrev pub with_step : Told → ℕ → Step → Told
@@ -57,8 +59,8 @@ IsTried result file change old new = MatchResult result
     (λ _. new ≡ with_step old file (Done change))
     (λ _. (new ≡ old) ⊎ ((left : List ℕ) × (new ≡ with_step old file (Failing change left))))
 
--- a read of n bytes into a buffer: bytes of the file from an offset on; into a buffer with room none
--- comes only at or behind the end
+-- a read of n bytes into a buffer: bytes of the file from an offset on; into a buffer with room
+-- none comes only at or behind the end
 pub record IsRead (file : List ℕ) (at n : ℕ) (buf : List ℕ) : Type 0 where
   pub bytes : take n buf ≡ take n (drop at file)
   pub within : n ≤ length (drop at file)

@@ -34,10 +34,10 @@ abbrev pub ticked : ℕ → ℕ → ℕ → ℕ → Asked
 ticked port number moment word =
     record { back = Client port number; input = input.Tick moment word }
 
--- What the content of a packet asks, before what the later packets ask of the moments and words that
--- are left. A call takes one moment, and a tick one moment and one word; where none is left there is
--- no input more. A message takes none. A reply asks nothing of a server: it is passed over. Sender and
--- view are looked at in a message alone, and there by the server.
+-- What the content of a packet asks, before what the later packets ask of the moments and words
+-- that are left. A call takes one moment, and a tick one moment and one word; where none is left
+-- there is no input more. A message takes none. A reply asks nothing of a server: it is passed
+-- over. Sender and view are looked at in a message alone, and there by the server.
 abbrev pub asked_by : ℕ → DatagramValue → Content → (List ℕ → List ℕ → List Asked) → List ℕ → List ℕ
     → List Asked
 asked_by port d (content.Message message) more moments words =

@@ -17,12 +17,8 @@ use Rattle.law_lengths.specs.pg_server.Local.{effect_of}
 use Rattle.pg_store.specs.Store.{new_store}
 use Rattle.pg_store.specs.declared.store.Store.{Store}
 use Rattle.pg_host.specs.declared.asking.Asked.{Asked}
+pub use Rattle.pg_node_input.specs.Noted.{IsStart}
 use Rattle.pg_host.specs.Entries.{entry_for, input_of, start_entry, start_of}
-
--- the entry by which a log of this server, of so many, begins
-pub record IsStart (server servers : ℕ) (entry : List ℕ) : Type 0 where
-  pub spelled : entry ≡ start_entry server servers
-  pub read : start_of entry ≡ Ok (server, servers)
 
 -- the entries of these inputs, and each is read as its input
 pub record AreInputs (entries : List (List ℕ)) (inputs : List Input) : Type 0 where
@@ -32,7 +28,8 @@ pub record AreInputs (entries : List (List ℕ)) (inputs : List Input) : Type 0 
 -- ---- the log of a server
 
 -- the entries of a log of this server, of so many, with these inputs
-pub record IsLogOf (server servers : ℕ) (inputs : List Input) (entries : List (List ℕ)) : Type 0 where
+pub record IsLogOf (server servers : ℕ) (inputs : List Input)
+    (entries : List (List ℕ)) : Type 0 where
   pub first : List ℕ
   pub later : List (List ℕ)
   pub whole : entries ≡ first ∷ later
@@ -104,7 +101,8 @@ count_of None = 0
 count_of (Some inputs) = length inputs + 1
 
 -- What a server holds behind the inputs of its log that goes on from a checkpoint, or from nothing.
--- It takes those whose entries are not folded in the checkpoint; the log's first entry is no input's.
+-- It takes those whose entries are not folded in the checkpoint; the log's first entry is no
+-- input's.
 abbrev pub folded_on : (server servers : ℕ) → Option Checkpoint → List Input → Store
 folded_on server servers None inputs = store_behind (new_store servers server) inputs
 folded_on server servers (Some c) inputs = store_behind c.store (drop (c.folded - 1) inputs)
@@ -115,8 +113,8 @@ begun server servers checkpoint None = new_store servers server
 begun server servers checkpoint (Some inputs) =
     (effect_of (folded_on server servers checkpoint inputs) Restart).store
 
--- What it finds: the log has these inputs, and it goes on from this checkpoint, which the slots that
--- are loaded give over a log of so many entries, or from none.
+-- What it finds: the log has these inputs, and it goes on from this checkpoint, which the slots
+-- that are loaded give over a log of so many entries, or from none.
 pub record IsFound (server servers : ℕ) (checkpoint : Option Checkpoint) (old : Old)
     (log first second : List ℕ) : Type 0 where
   pub entries : List (List ℕ)
@@ -145,8 +143,9 @@ OpensToSome entries more file = (k : ℕ) × (k ≤ length more) × OpensTo file
 
 -- ---- a log that a server does not go on with
 
--- What stood behind the closed gate of the log with these entries, which nothing reads, was cut off,
--- and a crash leaves just the rest now. At each moment between it leaves a log with these entries.
+-- What stood behind the closed gate of the log with these entries, which nothing reads, was cut
+-- off, and a crash leaves just the rest now. At each moment between it leaves a log with these
+-- entries.
 pub record IsCutBehind (entries : List (List ℕ)) (old new : Told) : Type 0 where
   pub opens : OpensTo (given old 0) entries
   pub cut : given new 0 ≡ take (length (front entries) + 1) (given old 0)

@@ -19,13 +19,9 @@ use Rattle.pg_saving.specs.Usable.{usable}
 use Rattle.pg_saving.specs.declared.loading.Checkpoint.{Checkpoint}
 use Rattle.pg_store.specs.Store.{new_store}
 use Rattle.pg_store.specs.declared.store.Store.{Store}
+pub use Rattle.pg_node_input.specs.Noted.{IsUnread}
 use Rattle.pg_host.specs.Entries.{entry_for, input_of}
 use Rattle.pg_host.specs.Logs.{AreInputs, IsBadEntry, IsBadLog, IsLogOf, IsOldLog, IsOtherLog, IsStart, Old, begin_entry, begun, is_empty}
-
--- memory ran out, or what was to be found in an entry was not: the gate before it stands there
-abbrev pub IsUnread : {X : Type 0} → ℕ → Result X ℕ → Status → Type 0
-IsUnread gate found e = (e ≡ status.OutOfMemory)
-    ⊎ ((at : ℕ) × (found ≡ Err at) × (e ≡ status.BadLog (gate + (5 + at))))
 
 -- an entry is that of an input, and is read as it
 pub record IsInput (entry : List ℕ) : Type 0 where
@@ -41,7 +37,8 @@ pub record IsReadTo (entries : List (List ℕ)) (k from gate : ℕ) : Type 0 whe
   pub gate_is : gate ≡ from + length (blocks (take k entries))
 
 -- a server took them, but for the first, so many, which it only read
-pub record IsFoldedTo (entries : List (List ℕ)) (skip k from gate : ℕ) (s0 s1 : Store) : Type 0 where
+pub record IsFoldedTo (entries : List (List ℕ)) (skip k from gate : ℕ)
+    (s0 s1 : Store) : Type 0 where
   pub done : List Input
   pub read : AreInputs (take k entries) done
   pub gate_is : gate ≡ from + length (blocks (take k entries))
@@ -73,13 +70,14 @@ abbrev pub IsTakenBehind : (k skip : ℕ) → Store → Input → Store → Type
 IsTakenBehind k skip s0 input s1 = ((k < skip) × (s1 ≡ s0))
     ⊎ ((skip ≤ k) × (s1 ≡ (effect_of s0 input).store))
 
--- a server that goes on from a checkpoint skips the inputs that are folded in it; a new one takes all
+-- a server that goes on from a checkpoint skips the inputs that are folded in it; a new one takes
+-- all
 abbrev pub IsOn : (server servers : ℕ) → Option Checkpoint → Store → (skip : ℕ) → Type 0
 IsOn server servers None s skip = (s ≡ new_store servers server) × (skip ≡ 0)
 IsOn server servers (Some c) s skip = (s ≡ c.store) × (skip ≡ c.folded - 1)
 
--- a server took the inputs of its log, with this first entry and these later ones, but for the first,
--- so many, and then a restart
+-- a server took the inputs of its log, with this first entry and these later ones, but for the
+-- first, so many, and then a restart
 pub record IsLogFold (server servers : ℕ) (first : List ℕ) (later : List (List ℕ)) (skip : ℕ)
     (s0 s1 : Store) : Type 0 where
   pub start : IsStart server servers first
@@ -107,7 +105,8 @@ IsNoFold server servers entries e = (e ≡ status.OutOfMemory)
     ⊎ ((a b : ℕ) × (e ≡ status.OtherLog a b) × AreOther server servers a b entries))
 
 -- A start is done: the log that was found has the entry more that a start appends, so many in all.
-pub record Started (dt : Type 0) (server servers : ℕ) (d0 d1 : Told) (log : Option ℕ) (store : Store)
+pub record Started (dt : Type 0) (server servers : ℕ) (d0 d1 : Told) (log : Option ℕ)
+    (store : Store)
     (count : ℕ) : Type 0 where
   pub entries : List (List ℕ)
   pub opened : dt → OpensTo (given d0 0) entries

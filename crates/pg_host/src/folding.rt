@@ -15,11 +15,11 @@ ghost use Rattle.pg_host.specs.Logs.{AreInputs};
 ghost use Rattle.pg_host.specs.Starts.{IsFold, IsFolded, IsInput, IsLogFold, IsNoFold, IsOn, IsTakenBehind, IsUnfolded, IsUnread};
 
 use crate::entering::take;
-use crate::noting::{read_input, read_start};
 use law_lengths::server::{Input, Server};
 use law_lengths::spelled::spelled;
 use pg_base::{Bytes, NodeId};
 use pg_event::Status;
+use pg_node_input::{read_input, read_start};
 use pg_saving::Checkpoint;
 use std::alloc::{AllocError, Global};
 
@@ -115,8 +115,8 @@ fn check(alloc: Global, entries: &[Bytes], from: u64) -> Result<(), Status>
     Ok(())
 }
 
-/// Reads the inputs of the entries behind the gate, and lets the server take them but for the first,
-/// so many. What comes of them is sent to nobody.
+/// Reads the inputs of the entries behind the gate, and lets the server take them but for the
+/// first, so many. What comes of them is sent to nobody.
 fn fold(
     alloc: Global,
     server: &mut Server,

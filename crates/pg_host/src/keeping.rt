@@ -10,7 +10,6 @@ ghost use Rattle.pg_node_entry.specs.Entries.{entry_bytes};
 ghost use Rattle.pg_host.specs.Causes.{IsDiskFault};
 ghost use Rattle.pg_host.specs.Entries.{IsShort, entry_for, noted_of};
 
-use crate::noting::{input as input_of, noted};
 use crate::sending::clear;
 use law_lengths::server::Input;
 use pg_base::Bytes;
@@ -18,6 +17,7 @@ use pg_disk::Disk;
 use pg_event::Status;
 use pg_log::{Log, LogError};
 use pg_node_entry::{NodeEntry, write_entry};
+use pg_node_input::{input as input_of, noted};
 use std::alloc::Global;
 
 /// Appends an entry to the log, and gives it back. Its bytes stand in the buffer.

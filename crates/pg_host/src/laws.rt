@@ -54,8 +54,8 @@ pub fn logs_go_on()
 /// What was saved last. Where at least 1,024 entries were appended since a server began, `k` times
 /// 1,024 and less than 1,024 more, the slots load to what it held behind the first of its inputs,
 /// with the entries folded that the log then had: those that it found, and `k` times 1,024. This
-/// was to be saved: it has a spelling of fewer than 2^32 bytes, and slots' numbers were left. `count`
-/// is how many entries the log had once the entry of the begin was appended.
+/// was to be saved: it has a spelling of fewer than 2^32 bytes, and slots' numbers were left.
+/// `count` is how many entries the log had once the entry of the begin was appended.
 pub fn states_are_saved()
     ensures { (server servers k count : ℕ) (s : Store) (was now : Option Slot)
         (own : List Asked) → 1 ≤ k → between * k ≤ length own + 1

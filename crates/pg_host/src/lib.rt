@@ -2,11 +2,11 @@
 //! what comes of them, and saves what it holds now and then.
 //!
 //! `serving` binds the port and makes the turns. `starting` opens the log, and `folding` lets a
-//! server take its inputs again, from a checkpoint on or all, of which nothing is sent; `noting`
-//! ties entries to inputs. `turning` is one take, `asking` makes the input of a packet, `entering`
-//! enters it: `keeping` appends it, the server takes it, and `sending` sends the reply to the port
-//! that asked, and then each message to the port of its addressee. `saving` is a take and what is
-//! saved behind it.
+//! server take its inputs again, from a checkpoint on or all, of which nothing is sent;
+//! `pg_node_input` ties entries to inputs. `turning` is one take, `asking` makes the input of a
+//! packet, `entering` enters it: `keeping` appends it, the server takes it, and `sending` sends the
+//! reply to the port that asked, and then each message to the port of its addressee. `saving` is a
+//! take and what is saved behind it.
 //!
 //! A packet is an input exactly where `read_packet` reads it as a call, a tick or a message; a
 //! reply and other bytes are passed over. A call has the clock's moment, and a tick its moment and
@@ -30,7 +30,6 @@ mod entering;
 mod folding;
 mod keeping;
 mod laws;
-mod noting;
 mod saving;
 mod sending;
 mod serving;

@@ -53,11 +53,14 @@ alone true = refl
 alone false = refl
 
 -- one more goes from what is to come to what was put in
-pub turned : (a b r n : Bool) → n ≡ (a || b) → (n || r) ≡ (b || (a || r))
+turned : (a b r n : Bool) → n ≡ (a || b) → (n || r) ≡ (b || (a || r))
 turned true true r n h = ap (λ t. t || r) h
 turned true false r n h = ap (λ t. t || r) h
 turned false true r n h = ap (λ t. t || r) h
 turned false false r n h = ap (λ t. t || r) h
+
+pub one_more : (k q : FileId) (ids new : List FileId) (r : Bool) → is_one_of q new ≡ (is_same_file k q || is_one_of q ids) → (is_one_of q new || r) ≡ (is_one_of q ids || (is_same_file q k || r))
+one_more k q ids new r put = turned (is_same_file q k) (is_one_of q ids) r (is_one_of q new) (put ∙ ap (λ t. t || is_one_of q ids) (same_back k q))
 
 -- two more are put in
 pub two_first : (a d b e n m i h : Bool) → n ≡ (a || m) → a ≡ d → m ≡ (b || i) → b ≡ e → i ≡ h → n ≡ (d || (e || h))

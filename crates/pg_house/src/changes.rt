@@ -18,6 +18,6 @@ pub fn dirty_things(names: &Names) -> &Ids
 {
     let _held = names.as_map();
     let dirty = names.dirty();
-    let _ids = dirty.as_map();
+    let _ids = dirty.as_slice();
     dirty
 }

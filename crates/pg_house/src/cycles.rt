@@ -165,7 +165,7 @@ fn is_any_lost(names: &Names, count: usize, ids: &Ids) -> bool
     requires { count < 2 ^ 62 }
     ensures { result ≡ list_any (is_lost names.now count) ids.now }
 {
-    ids.as_map().keys().any(|dir| is_lost(names, count, dir))
+    ids.as_slice().iter().any(|dir| is_lost(names, count, dir))
 }
 
 /// The latest member of each cycle, and of more than one the least. Where nothing that is dirty

@@ -27,7 +27,7 @@ fn latest<'a>(names: &'a Names, file: &FileId, own: &'a Place) -> &'a Place
     ensures { result.now ≡ latest names.now file.now own.now (directories names.now) }
 {
     let mut top = own;
-    for dir in names.holders(file).as_map().keys() {
+    for dir in names.holders(file).as_slice() {
         if is_dir(dir) {
             top = later(top, names, file, dir);
         }
@@ -60,7 +60,7 @@ fn is_dir_back(names: &Names, dir: &FileId) -> bool
 pub fn first_held_back(names: &Names) -> Option<FileId>
     ensures { result ≡ slice_get (held_back names.now) 0 }
 {
-    for file in dirty_things(names).as_map().keys() {
+    for file in dirty_things(names).as_slice() {
         if is_dir(file) && is_dir_back(names, file) {
             return Some(*file);
         }
@@ -73,8 +73,8 @@ pub fn count_held_back(names: &Names) -> usize
     ensures { result ≡ length (held_back names.now) }
 {
     dirty_things(names)
-        .as_map()
-        .keys()
+        .as_slice()
+        .iter()
         .filter(|file| is_dir(file) && is_dir_back(names, file))
         .count()
 }

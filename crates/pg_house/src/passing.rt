@@ -75,8 +75,8 @@ fn cell_dirs(names: &Names, file: &FileId) -> Result<Items<FileId>, AllocError>
     Ok(Items::from_vec(
         names
             .holders(file)
-            .as_map()
-            .keys()
+            .as_slice()
+            .iter()
             .copied()
             .filter(|dir| is_dir(dir))
             .collect(names.allocator())?,
@@ -277,7 +277,7 @@ fn copied_holders(names: &Names, file: &FileId) -> Result<Ids, AllocError>
         → is_one_of q ids ≡ is_one_of q (holders names.now file.now)) }
 {
     let mut ids = Ids::new(names.allocator());
-    for dir in names.holders(file).as_map().keys() {
+    for dir in names.holders(file).as_slice() {
         ids.insert(*dir)?;
     }
     Ok(ids)
@@ -328,9 +328,9 @@ fn takers(
 {
     let _dirty = dirty_things(names);
     let ids = candidates(names, file, own, top)?;
-    let held = ids.as_map();
+    let held = ids.as_slice();
     Ok(Items::from_vec(
-        held.keys()
+        held.iter()
             .copied()
             .filter(|dir| is_taker(names, file, own, top, back, dir))
             .collect(names.allocator())?,

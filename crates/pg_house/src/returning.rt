@@ -47,7 +47,7 @@ fn is_returning(names: &Names, dir: &FileId) -> bool
 fn first_returning(names: &Names) -> Option<FileId>
     ensures { result ≡ first_returning names.now (directories names.now) }
 {
-    for dir in dirty_things(names).as_map().keys() {
+    for dir in dirty_things(names).as_slice() {
         if is_dir(dir) && is_returning(names, dir) {
             return Some(*dir);
         }

@@ -33,8 +33,8 @@ fn to_pass(names: &Names) -> Result<Items<FileId>, AllocError>
 {
     Ok(Items::from_vec(
         dirty_things(names)
-            .as_map()
-            .keys()
+            .as_slice()
+            .iter()
             .copied()
             .filter(|file| is_movable(names, file))
             .collect(names.allocator())?,

@@ -1,15 +1,13 @@
 -- Which ids are in a set, and in the sets by id, after a change. R is the derived order of ids,
 -- which is that of the definitions.
-use Rattle.std.proofs.Common.{◌≡◌, Bool, true, false, ◌||◌, ◌&&◌, not, cond, is_some, List, [], ◌∷◌, Option, None, Some, refl, sym, ap, subst, ◌∙◌}
+use Rattle.std.proofs.Common.{◌≡◌, Bool, true, false, ◌||◌, ◌&&◌, not, cond, is_some, List, [], ◌∷◌, Option, Some, refl, sym, ap, ◌∙◌}
 use Rattle.std.specs.declared.cmp.Ordering.{Ordering}
 use Rattle.std.specs.declared.cmp.Ordering.TheVariants.{Less, Equal, Greater}
 use Rattle.std.specs.Ordering.{is_eq, ordering_reverse}
-use Rattle.std.specs.List.Sorted.{IsStrictlySortedBy}
 use Rattle.std.specs.Map.{keys_of, lookup}
-use Rattle.std.specs.BTreeMap.{is_at, insert_entry}
+use Rattle.std.specs.BTreeMap.{is_at}
 use Rattle.pg_base.specs.declared.id.FileId.{FileId}
 use Rattle.pg_base.specs.Id.{file_cmp, is_same_file}
-use Rattle.pg_base.proofs.Maps.{lookup-insert_entry}
 use Rattle.pg_base.proofs.Orders.{file_total, is_same_file-true}
 use Rattle.pg_index.specs.Ids.{ListsValue, has, ids_at, is_one_of, or_none}
 
@@ -35,42 +33,6 @@ some_or false v o r h = h
 pub found : {X : Type 0} (q : FileId) (es : List (FileId × X)) → is_one_of q (keys_of es) ≡ is_some (lookup (is_at (file_cmp q)) es)
 found q [] = refl
 found q (e ∷ es) = some_or (is_at (file_cmp q) e.0) e.1 (lookup (is_at (file_cmp q)) es) (is_one_of q (keys_of es)) (found q es)
-
-abbrev pub Marks : Type 0
-Marks = List (FileId × Unit {0})
-
-or_step : (b : Bool) (o : Option (Unit {0})) (r : Bool) → is_some o ≡ r → is_some (cond b (Some tt) o) ≡ (b || r)
-or_step true o r h = refl
-or_step false o r h = h
-
-pub inserted : (R : Order) → R ≡ file_cmp → (es fs : Marks) (file : FileId) (old : List FileId) → fs ≡ insert_entry R es file tt → keys_of es ≡ old
-    → (q : FileId) → is_one_of q (keys_of fs) ≡ (is_same_file file q || is_one_of q old)
-inserted R o es fs file old is view q =
-    let made : fs ≡ insert_entry file_cmp es file tt = subst (λ (r : Order). fs ≡ insert_entry r es file tt) o is in
-    found q fs ∙ ap (λ xs. is_some (lookup (is_at (file_cmp q)) xs)) made
-    ∙ ap (λ x. is_some x) (lookup-insert_entry file_cmp file_total q file tt es)
-    ∙ or_step (is_same_file q file) (lookup (is_at (file_cmp q)) es) (is_one_of q old) (sym (found q es) ∙ ap (is_one_of q) view)
-    ∙ ap (λ b. b || is_one_of q old) (same_sym q file)
-
-and_step : (b : Bool) (o : Option (Unit {0})) (r : Bool) → is_some o ≡ r → is_some (cond b None o) ≡ (not b && r)
-and_step true o r h = refl
-and_step false o r h = h
-
-pub removed : (R : Order) → R ≡ file_cmp → (es fs : Marks) (file : FileId) (old : List FileId)
-    → ((q : FileId) → lookup (is_at (R q)) fs ≡ cond (is_at (R file) q) None (lookup (is_at (R q)) es)) → keys_of es ≡ old
-    → (q : FileId) → is_one_of q (keys_of fs) ≡ (not (is_same_file file q) && is_one_of q old)
-removed R o es fs file old less view q =
-    let gone : lookup (is_at (file_cmp q)) fs ≡ cond (is_same_file file q) None (lookup (is_at (file_cmp q)) es) =
-    (subst (λ (r : Order). (p : FileId) → lookup (is_at (r p)) fs ≡ cond (is_at (r file) p) None (lookup (is_at (r p)) es)) o less) q in
-    found q fs ∙ ap (λ x. is_some x) gone
-    ∙ and_step (is_same_file file q) (lookup (is_at (file_cmp q)) es) (is_one_of q old) (sym (found q es) ∙ ap (is_one_of q) view)
-
-pub sorted_none : {X : Type 0} (es : List (FileId × X)) → es ≡ [] → IsStrictlySortedBy file_cmp (keys_of es)
-unfolding IsStrictlySortedBy
-sorted_none es none = subst (λ xs. IsStrictlySortedBy file_cmp (keys_of xs)) (sym none) tt
-
-pub sorted_by : {X : Type 0} (R : Order) → R ≡ file_cmp → (es : List (FileId × X)) → IsStrictlySortedBy R (keys_of es) → IsStrictlySortedBy file_cmp (keys_of es)
-sorted_by R o es sorted = subst (λ (r : Order). IsStrictlySortedBy r (keys_of es)) o sorted
 
 -- ---- sets by id
 
@@ -106,7 +68,3 @@ module _ (old new : ListsValue) (key : FileId) (w ids : List FileId) (put : IsPu
 
   pub kept_at : w ≡ ids → (k q : FileId) → has new k q ≡ has old k q
   kept_at same k q = ap (λ o. is_one_of q (or_none o)) (put k) ∙ kept_by same k q (is_same_file key k) refl
-
-pub contained : (R : Order) → R ≡ file_cmp → (es : Marks) (file : FileId) (b : Bool) (ids : List FileId) → b ≡ is_some (lookup (is_at (R file)) es) → keys_of es ≡ ids → b ≡ is_one_of file ids
-contained R o es file b ids is view =
-    subst (λ (r : Order). b ≡ is_some (lookup (is_at (r file)) es)) o is ∙ sym (found file es) ∙ ap (is_one_of file) view

@@ -1,21 +1,19 @@
 //! Sets of ids.
 
-ghost use Rattle.std.specs.Prelude.{◌≡◌, ◌==◌, ◌||◌, ◌&&◌, not, [], IfOk, OnErr, OnOk, length};
-ghost use Rattle.std.specs.Map.{keys_of};
+ghost use Rattle.std.specs.Prelude.{◌≡◌, ◌==◌, ◌||◌, ◌&&◌, true, not, [], IfOk, IfErr, OnErr, OnOk, length};
 ghost use Rattle.std.specs.List.Sorted.{IsStrictlySortedBy};
 ghost use Rattle.pg_base.specs.declared.id.FileId.{FileId};
 ghost use Rattle.pg_base.specs.Id.{file_cmp, is_same_file};
-ghost use Rattle.pg_index.specs.Ids.{is_one_of};
+ghost use Rattle.pg_index.specs.Ids.{is_one_of, IsAt, IsGap};
 
 use pg_base::{FileId, Items};
 use std::alloc::{AllocError, Global};
-use std::collections::BTreeMap;
 use std::marker::Model;
 
 /// Some ids, each once, in their order.
 #[derive(Debug, Drop)]
 pub struct Ids {
-    ids: BTreeMap<FileId, ()>,
+    ids: Vec<FileId>,
 }
 
 impl Model for Ids {
@@ -25,12 +23,11 @@ impl Model for Ids {
     ghost Value = { List FileId };
 
     ghost use Rattle.std.specs.List.Sorted.{IsStrictlySortedBy};
-    ghost use Rattle.std.specs.Map.{keys_of};
     ghost use Rattle.pg_base.specs.Id.{file_cmp};
 
-    ghost view = { λ s. keys_of s.ids.entries };
+    ghost view = { λ s. s.ids.items };
 
-    ghost invariant = { λ s. IsStrictlySortedBy file_cmp (keys_of s.ids.entries) };
+    ghost invariant = { λ s. IsStrictlySortedBy file_cmp s.ids.items };
 }
 
 impl Ids {
@@ -39,7 +36,7 @@ impl Ids {
         ensures { result ≡ [] }
     {
         Ids {
-            ids: BTreeMap::new(alloc),
+            ids: Vec::new(alloc),
         }
     }
 
@@ -59,32 +56,38 @@ impl Ids {
     pub fn contains(&self, file: &FileId) -> bool
         ensures { result ≡ is_one_of file.now self.now }
     {
-        self.ids.contains_key(file)
+        self.search(file).is_ok()
     }
 
-    /// The ids, to go through them in order.
-    pub fn as_map(&self) -> &BTreeMap<FileId, ()>
-        ensures ids { keys_of result.now.entries ≡ self.now }
+    /// The ids, in order.
+    pub fn as_slice(&self) -> &[FileId]
+        ensures ids { result.now ≡ self.now }
         ensures sorted { IsStrictlySortedBy file_cmp self.now }
     {
-        &self.ids
+        self.ids.as_slice()
     }
 
     /// The ids as a list of its own.
     pub fn copy(&self, alloc: Global) -> Result<Items<FileId>, AllocError>
         ensures { IfOk result (λ ids. ids ≡ self.now) }
     {
-        Ok(Items::from_vec(self.ids.keys().copied().collect(alloc)?))
+        Ok(Items::from_vec(self.ids.iter().copied().collect(alloc)?))
     }
 
-    /// The id is among them from now on. After a refusal the ids are as before.
+    /// The id is among them from now on. After a refusal the ids are as before. One that goes
+    /// behind all others moves none of them.
     pub fn insert(&mut self, file: FileId) -> Result<(), AllocError>
         ensures ok { OnOk result ((q : FileId)
             → is_one_of q self.new ≡ (is_same_file file q || is_one_of q self.old)) }
         ensures err { OnErr result (self.new ≡ self.old) }
     {
-        self.ids.insert(file, ())?;
-        Ok(())
+        match self.search(&file) {
+            Ok(_) => Ok(()),
+            Err(at) => {
+                self.ids.insert(at, file)?;
+                Ok(())
+            }
+        }
     }
 
     /// The id is not among them from now on.
@@ -92,6 +95,35 @@ impl Ids {
         ensures { (q : FileId)
             → is_one_of q self.new ≡ (not (is_same_file file.now q) && is_one_of q self.old) }
     {
-        self.ids.remove(file);
+        match self.search(file) {
+            Ok(at) => {
+                self.ids.remove(at);
+            }
+            Err(_) => {}
+        }
     }
+
+    /// Where the id stands, or where it would go.
+    fn search(&self, file: &FileId) -> Result<usize, usize>
+        ensures found { IfOk result (IsAt self.now file.now) }
+        ensures missing { IfErr result (IsGap self.now file.now) }
+    {
+        let ids = self.as_slice();
+        if is_past(ids, file) {
+            return Err(ids.len());
+        }
+        ids.binary_search(file)
+    }
+}
+
+/// Whether the id would go behind all these: so ids are put that come in their order.
+fn is_past(ids: &[FileId], file: &FileId) -> bool
+    requires { IsStrictlySortedBy file_cmp ids.now }
+    ensures { result ≡ true → IsGap ids.now file.now (length ids.now) }
+{
+    let count = ids.len();
+    if count == 0 {
+        return true;
+    }
+    ids[count - 1].compare(file).is_lt()
 }

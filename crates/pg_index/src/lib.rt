@@ -7,12 +7,13 @@
 //! Both know nothing of what stands behind the ids, and touch nothing else: whoever holds an index
 //! says in the invariant of its own type what the index has to agree with.
 //!
-//! Kept by the types: the ids of a set rise. Where an insertion runs out of memory all is as it
-//! was; to take out takes no memory, and a set from which the last id goes takes none from then on.
+//! Kept by the types: the ids of a set rise. They stand in one list, searched by halves and lent as
+//! a slice. Where an insertion runs out of memory all is as it was; to take out takes no memory, and
+//! a set of `Lists` from which the last id goes takes none from then on.
 //!
 //! Definitions: `specs/Ids`. A set is seen as the list of its ids, and a change of it by which ids
-//! are in it behind the change: so the proof that an index agrees with what it is made of goes id by
-//! id. A further index is one more `Ids` or `Lists` beside the data, with its fact in the
+//! are in it behind the change: so the proof that an index agrees with what it is made of goes id
+//! by id. A further index is one more `Ids` or `Lists` beside the data, with its fact in the
 //! invariant of the type that holds both.
 #![tactic(auto)]
 

@@ -83,7 +83,7 @@ pub(crate) fn to_fill(names: &Names) -> Result<Files, AllocError>
     ensures { IfOk result (λ files. files.entries ≡ files_to_fill names.now) }
 {
     let mut files = BTreeMap::new(names.allocator());
-    for file in dirty_things(names).as_map().keys() {
+    for file in dirty_things(names).as_slice() {
         add_known(names, &mut files, file)?;
     }
     Ok(files)

@@ -98,8 +98,8 @@ pub fn to_seek(store: &Store) -> Result<Items<FileId>, AllocError>
     };
     let _held = store.names.as_map();
     Ok(Items::from_vec(
-        ids.as_map()
-            .keys()
+        ids.as_slice()
+            .iter()
             .copied()
             .filter(|file| is_seeking(store, file))
             .collect(store.allocator())?,

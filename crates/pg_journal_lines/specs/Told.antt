@@ -59,7 +59,8 @@ abbrev pub AreStat : List (List ℕ) → Type 0
 AreStat words = (stat : Stat) × IsStat stat × (codes "stat" ∷ words ≡ stat_words stat)
 
 abbrev pub AreCounts : List (List ℕ) → Type 0
-AreCounts words = (counts : Counts) × IsCounts counts × (codes "status" ∷ words ≡ counts_words counts)
+AreCounts words = (counts : Counts) × IsCounts counts
+    × (codes "status" ∷ words ≡ counts_words counts)
 
 -- what stands behind the first word of a reply of the kind
 abbrev pub IsTold : ReplyKind → List (List ℕ) → Type 0

@@ -36,7 +36,8 @@ pub record IsLog (bytes : List ℕ) (entries : List (List ℕ)) : Type 0 where
 
 -- What a file opens to. One of at most 17 bytes is an empty log.
 abbrev pub OpensTo : List ℕ → List (List ℕ) → Type 0
-OpensTo file entries = ((length file ≤ 17) × (entries ≡ [])) ⊎ ((17 < length file) × IsLog file entries)
+OpensTo file entries =
+    ((length file ≤ 17) × (entries ≡ [])) ⊎ ((17 < length file) × IsLog file entries)
 
 -- some log of more than 17 bytes, or of a start and a closed gate, begins so
 abbrev pub IsLogStart : List ℕ → Type 0
@@ -65,7 +66,8 @@ pub record IsBadTail (bytes : List ℕ) (place : ℕ) : Type 0 where
 -- an entry behind an open gate
 pub record BeginsWith (bytes entry : List ℕ) : Type 0 where
   pub fits : length entry ≤ 65536
-  pub spelled : bytes ≡ (1 ∷ to_be_bytes w32 (length entry)) ++ entry ++ drop (5 + length entry) bytes
+  pub spelled : bytes
+      ≡ (1 ∷ to_be_bytes w32 (length entry)) ++ entry ++ drop (5 + length entry) bytes
 
 -- a closed gate
 abbrev pub IsAtEnd : List ℕ → Type 0

@@ -16,8 +16,8 @@ pub fn files_open_once()
         → OpensTo file entries → IsBadAt file place → ⊥ }
 {}
 
-/// A log that stands opens to its entries, whatever a crash leaves of its file. It stands as long as
-/// no step more is done to the file of that name.
+/// A log that stands opens to its entries, whatever a crash leaves of its file. It stands as long
+/// as no step more is done to the file of that name.
 pub fn standing_logs_open()
     ensures opens { (log : Option ℕ) (told : Told) (entries : List (List ℕ))
         → Stands log told entries → (image : List ℕ) → IsImage (steps told 0) image

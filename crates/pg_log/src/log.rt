@@ -62,8 +62,8 @@ impl Log {
             → LeavesSince 0 (D.told disk.old) (D.told disk.new)
             (λ file. OpensTo file entries) }
 
-        // Of a file of more than 17 bytes what stands behind the closed gate is cut off, and nothing
-        // else.
+        // Of a file of more than 17 bytes what stands behind the closed gate is cut off, and
+        // nothing else.
         ensures cut { IfOk result (λ log. D.tells → 17 < length (given (D.told disk.old) 0)
             → given (D.told disk.new) 0
             ≡ take (length (front log.1) + 1) (given (D.told disk.old) 0)) }

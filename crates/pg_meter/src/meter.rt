@@ -18,7 +18,8 @@ pub trait Meter: Drop {
 
     /// Adds what an event had of the thing. It takes no memory.
     fn see(&mut self, note: &Note)
-        ensures value { counted self.new ≡ added (counted self.old) (field_of (counts self.old) note.now) }
+        ensures value { counted self.new
+            ≡ added (counted self.old) (field_of (counts self.old) note.now) }
         ensures kind { counts self.new ≡ counts self.old };
 
     fn kind(&self) -> MeterKind

@@ -330,11 +330,7 @@ impl Message {
                 tag: *tag,
                 cell: cell.copy()?,
             },
-            Message::Ack { ends, key, tag } => Message::Ack {
-                ends: *ends,
-                key: *key,
-                tag: *tag,
-            },
+            &Message::Ack { ends, key, tag } => Message::Ack { ends, key, tag },
             Message::Harbinger { ends, tag, head } => Message::Harbinger {
                 ends: *ends,
                 tag: *tag,
@@ -352,42 +348,20 @@ impl Message {
                 ends: *ends,
                 piece: piece.copy()?,
             },
-            Message::Later { ends, stamp } => Message::Later {
-                ends: *ends,
-                stamp: *stamp,
-            },
-            Message::Fetch { file, birth } => Message::Fetch {
-                file: *file,
-                birth: *birth,
-            },
+            &Message::Later { ends, stamp } => Message::Later { ends, stamp },
+            &Message::Fetch { file, birth } => Message::Fetch { file, birth },
             Message::Grant { ends, granted } => Message::Grant {
                 ends: *ends,
                 granted: granted.copy()?,
             },
-            Message::NoGrant { file, birth } => Message::NoGrant {
-                file: *file,
-                birth: *birth,
-            },
-            Message::Full { ends } => Message::Full { ends: *ends },
-            Message::Seek { file, birth } => Message::Seek {
-                file: *file,
-                birth: *birth,
-            },
-            Message::Here { ends } => Message::Here { ends: *ends },
-            Message::NoneHere { ask, file, child } => Message::NoneHere {
-                ask: *ask,
-                file: *file,
-                child: *child,
-            },
-            Message::Gone { file, birth } => Message::Gone {
-                file: *file,
-                birth: *birth,
-            },
-            Message::Bye { ends } => Message::Bye { ends: *ends },
-            Message::ByeOk { file, birth } => Message::ByeOk {
-                file: *file,
-                birth: *birth,
-            },
+            &Message::NoGrant { file, birth } => Message::NoGrant { file, birth },
+            &Message::Full { ends } => Message::Full { ends },
+            &Message::Seek { file, birth } => Message::Seek { file, birth },
+            &Message::Here { ends } => Message::Here { ends },
+            &Message::NoneHere { ask, file, child } => Message::NoneHere { ask, file, child },
+            &Message::Gone { file, birth } => Message::Gone { file, birth },
+            &Message::Bye { ends } => Message::Bye { ends },
+            &Message::ByeOk { file, birth } => Message::ByeOk { file, birth },
             Message::Confirm { dir, entry } => Message::Confirm {
                 dir: *dir,
                 entry: entry.copy()?,
@@ -400,20 +374,10 @@ impl Message {
                 dir: *dir,
                 entry: entry.copy()?,
             },
-            Message::TellOk { dir, child, stamp } => Message::TellOk {
-                dir: *dir,
-                child: *child,
-                stamp: *stamp,
-            },
-            Message::Leave { ends, stamp } => Message::Leave {
-                ends: *ends,
-                stamp: *stamp,
-            },
-            Message::LeaveOk { ends, stamp } => Message::LeaveOk {
-                ends: *ends,
-                stamp: *stamp,
-            },
-            Message::Invite { ends } => Message::Invite { ends: *ends },
+            &Message::TellOk { dir, child, stamp } => Message::TellOk { dir, child, stamp },
+            &Message::Leave { ends, stamp } => Message::Leave { ends, stamp },
+            &Message::LeaveOk { ends, stamp } => Message::LeaveOk { ends, stamp },
+            &Message::Invite { ends } => Message::Invite { ends },
             Message::Walk {
                 ends,
                 origin,
@@ -427,7 +391,7 @@ impl Message {
                 hops: *hops,
                 word: *word,
             },
-            Message::Meet { ends } => Message::Meet { ends: *ends },
+            &Message::Meet { ends } => Message::Meet { ends },
         })
     }
 

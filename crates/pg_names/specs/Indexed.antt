@@ -25,5 +25,6 @@ pub record IsIndexed (names : NamesValue) (dirty dirs : List FileId) (spots : Sp
   pub calm : AreCalm names dirty
   pub come : AllCome names dirty
   pub dirs_are : (q : FileId) → is_one_of q dirs ≡ (is_dir q && is_held names q)
-  pub spots_are : (live : Bool) (dir q : FileId) → has_spot spots live dir q ≡ is_placed names live dir q
+  pub spots_are : (live : Bool) (dir q : FileId)
+      → has_spot spots live dir q ≡ is_placed names live dir q
   pub holders_are : (child dir : FileId) → has holders child dir ≡ is_holder names child dir

@@ -94,8 +94,8 @@ fn is_apart_at(held: &Held, file: &FileId, own: &Attributes, dir: &FileId) -> bo
 fn is_apart(held: &Held, file: &FileId, own: &Attributes, dirs: &Ids) -> bool
     ensures { result ≡ list_any (is_apart_at held.now file.now own.now) dirs.now }
 {
-    dirs.as_map()
-        .keys()
+    dirs.as_slice()
+        .iter()
         .any(|dir| is_apart_at(held, file, own, dir))
 }
 

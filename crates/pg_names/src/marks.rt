@@ -36,7 +36,7 @@ pub(crate) fn mark_each(marks: &mut Ids, files: &Ids) -> Result<(), AllocError>
     ensures all { OnOk result ((q : FileId)
         → is_one_of q files.now ≡ true → is_one_of q marks.new ≡ true) }
 {
-    for file in files.as_map().keys() {
+    for file in files.as_slice() {
         marks.insert(*file)?;
     }
     Ok(())

@@ -123,7 +123,7 @@ impl Names {
         ensures { result.now ≡ directories self.now }
     {
         let _held = self.held.as_map();
-        let _dirs = self.dirs.as_map();
+        let _dirs = self.dirs.as_slice();
         &self.dirs
     }
 
@@ -140,7 +140,7 @@ impl Names {
     {
         let _held = self.held.as_map();
         let found = self.spots.at(true, dir);
-        let _found = found.as_map();
+        let _found = found.as_slice();
         found
     }
 
@@ -150,7 +150,7 @@ impl Names {
     {
         let _held = self.held.as_map();
         let found = self.holders.get(child);
-        let _found = found.as_map();
+        let _found = found.as_slice();
         found
     }
 
@@ -168,7 +168,8 @@ impl Names {
         ensures { self.new ≡ self.old }
     {
         let files = self.dirty.copy(self.held.allocator())?;
-        for file in files.as_slice() {
+        // From the last on: one that goes moves only those that stay behind it.
+        for file in files.as_slice().iter().rev() {
             self.settle_one(file);
         }
         Ok(())

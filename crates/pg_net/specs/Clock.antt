@@ -6,8 +6,8 @@ pub record Told : Type 0 where
   pub moments : List ℕ
   pub words : List ℕ
 
--- These numbers more were given, in this order. The list takes them up to 2^64 - 1 numbers in all, and
--- then stays as it is: so all of them, where the list has room for them.
+-- These numbers more were given, in this order. The list takes them up to 2^64 - 1 numbers in all,
+-- and then stays as it is: so all of them, where the list has room for them.
 abbrev pub AreNoted : List ℕ → List ℕ → List ℕ → Type 0
 AreNoted old new numbers = new ≡ old ++ take (2 ^ 64 - 1 - length old) numbers
 

@@ -12,7 +12,8 @@ pub record Queue : Type 0 where
 
 -- what the takes gave: the first packets, and then Idle
 abbrev pub given_first : ℕ → List Datagram → ℕ → ℕ → List (Option Datagram)
-given_first most packets at idles = map (λ (p : Datagram). Some (cut most p)) (take at packets) ++ replicate idles None
+given_first most packets at idles =
+    map (λ (p : Datagram). Some (cut most p)) (take at packets) ++ replicate idles None
 
 -- a take gave the next packet, or Idle where none was left
 pub record IsNext (most : ℕ) (answer : Taken) (buf : List ℕ) (old new : Queue) : Type 0 where

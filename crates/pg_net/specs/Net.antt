@@ -9,8 +9,8 @@ pub record Datagram : Type 0 where
   pub port : ℕ
   pub bytes : List ℕ
 
--- the port that was bound last; the packets that are left to take; what each take gave, the first of
--- them first, where None is Idle; and the packets that were sent, the first of them first
+-- the port that was bound last; the packets that are left to take; what each take gave, the first
+-- of them first, where None is Idle; and the packets that were sent, the first of them first
 pub record Told : Type 0 where
   pub bound : Option ℕ
   pub left : List Datagram
@@ -55,7 +55,8 @@ abbrev pub IsTaken : ℕ → ℕ → ℕ → Type 0
 IsTaken count old new = new ≡ old + min count (2 ^ 64 - 1 - old)
 
 abbrev pub with_bound : Told → ℕ → Told
-with_bound told port = record { bound = Some port; left = told.left; given = told.given; sent = told.sent }
+with_bound told port =
+    record { bound = Some port; left = told.left; given = told.given; sent = told.sent }
 
 -- one packet more was sent
 abbrev pub with_sent : Told → ℕ → List ℕ → Told

@@ -13,7 +13,8 @@ pub trait Clock {
 
     /// This moment. A clock may go back.
     fn now(&mut self) -> u64
-        ensures given { tells → AreNoted (told self.old).moments (told self.new).moments (result ∷ []) }
+        ensures given { tells
+            → AreNoted (told self.old).moments (told self.new).moments (result ∷ []) }
         ensures words { tells → (told self.new).words ≡ (told self.old).words };
 
     /// A word, of which nothing is promised.

@@ -36,9 +36,9 @@ impl Model for MemorySpawner {
 }
 
 impl MemorySpawner {
-    /// The children end with these statuses, the first child with the first of them, and with 0 where
-    /// there is none for one. The calls whose numbers are in `fails` fail; the first call has number
-    /// 0. A call that finds no memory fails too.
+    /// The children end with these statuses, the first child with the first of them, and with 0
+    /// where there is none for one. The calls whose numbers are in `fails` fail; the first call has
+    /// number 0. A call that finds no memory fails too.
     pub fn new(alloc: Global, statuses: Vec<i32>, fails: Vec<u64>) -> Self
         ensures { result ≡ fresh statuses.items fails.items }
     {

@@ -177,8 +177,9 @@ fn pass(
     Ok(count)
 }
 
-/// What server 2 of 2 takes until it has what server 1 has of a file. A client of server 1 makes the
-/// file, one of server 2 asks for it, a tick there fills it, and then the first writes it twice.
+/// What server 2 of 2 takes until it has what server 1 has of a file. A client of server 1 makes
+/// the file, one of server 2 asks for it, a tick there fills it, and then the first writes it
+/// twice.
 fn taken_by_two(alloc: Global) -> Result<Vec<Datagram>, AllocError> {
     let mut one = Vec::new(alloc);
     let mut two = Vec::new(alloc);

@@ -76,7 +76,8 @@ counts_at from = seen_as (λ x. record {
 })
     (followed_by (of_packet (number_at 8)) (λ view. followed_by (of_packet (number_at 8))
     (λ last. followed_by (of_packet (number_at 8))
-    (λ replicas. followed_by (of_packet (number_at 8)) (λ intents. followed_by (of_packet (number_at 8))
+    (λ replicas. followed_by (of_packet (number_at 8))
+    (λ intents. followed_by (of_packet (number_at 8))
     (λ cells. of_packet (number_at 8))))))) from
 
 -- the fields of the reply in their order

@@ -61,7 +61,8 @@ datagram_with x = record { from = x.0; view = x.1.0; content = x.1.1 }
 -- the mark, the kind, and what stands behind the kind
 unfoldable pub datagram_at : Field PacketError DatagramValue
 datagram_at from = seen_as (λ x. datagram_with x.1.1)
-    (followed_by mark_at (λ mark. followed_by (item_at packet_kinds) (λ kind. behind_kind_at kind))) from
+    (followed_by mark_at
+    (λ mark. followed_by (item_at packet_kinds) (λ kind. behind_kind_at kind))) from
 
 -- nothing stands behind it
 abbrev pub ended : DatagramValue × Unread → Result DatagramValue PacketError

@@ -121,7 +121,8 @@ pub fn are_in_order(parts: &[Part], least: u32) -> bool
 /// A write of the bytes at the offset.
 pub fn make(alloc: Global, offset: u32, bytes: &[u8]) -> Result<Ranges, RangeError>
     ensures made { IfOk result (λ r. r ≡ written offset bytes.now) }
-    ensures too_long { IsErrOf result RangeError.TooLong ↔ (body_limit < write_end offset bytes.now) }
+    ensures too_long { IsErrOf result RangeError.TooLong
+        ↔ (body_limit < write_end offset bytes.now) }
 {
     if bytes.is_empty() {
         return Ok(Ranges::new(ALL, 0, Vec::new(alloc)));

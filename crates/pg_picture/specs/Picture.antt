@@ -18,12 +18,23 @@ start = record { line = 2; settles = false; before = part.Outside; left = 2000 }
 
 -- nothing is drawn
 abbrev pub empty : Sketch
-empty = record { servers = 1; row = 0; height = 0; bag = []; removed = []; marks = []; legs = []; notes = [] }
+empty = record {
+  servers = 1;
+  row = 0;
+  height = 0;
+  bag = [];
+  removed = [];
+  marks = [];
+  legs = [];
+  notes = [];
+}
 
 -- the ways of what is still under way
 abbrev pub hung : Sketch → Sketch
-hung s = record s
-    { height = s.height + 1 + length s.bag; legs = s.legs ++ hanging ending.UnderWay (s.height + 1) s.bag }
+hung s = record s {
+  height = s.height + 1 + length s.bag;
+  legs = s.legs ++ hanging ending.UnderWay (s.height + 1) s.bag;
+}
 
 -- what comes of a journal: its picture, or the number of the first line that lacks something, and
 -- what

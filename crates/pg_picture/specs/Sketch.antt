@@ -115,7 +115,8 @@ sent_now s summary = record { summary = summary; since = s.row; split = false }
 abbrev pub sent_legs : Sketch → Summary → List Leg
 sent_legs s summary =
     if is_gone s.removed summary.to
-    then s.legs ++ record { message = sent_now s summary; until = s.height + 1; end = ending.Fallen } ∷ []
+    then s.legs ++ record
+    { message = sent_now s summary; until = s.height + 1; end = ending.Fallen } ∷ []
     else s.legs
 
 -- a void event moves nothing

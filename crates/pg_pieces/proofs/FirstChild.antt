@@ -122,3 +122,7 @@ module _ (s : NamesValue) (dir : FileId) where
 
     pub first_other : Is root ≡ false → find Is (children s dir) ≡ first_child s dir
     first_other out = find_where Is (is_placed s true dir) (placed out) (keys_of s.held) ∙ sym first_is
+
+-- who is none is passed over
+pub passed : (P : FileId → Bool) (q : FileId) (qs : List FileId) → P q ≡ false → find P qs ≡ find P (q ∷ qs)
+passed P q qs h = sym (ap (λ t. cond t (Some q) (find P qs)) h)

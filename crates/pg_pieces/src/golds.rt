@@ -69,8 +69,8 @@ pub fn goldless(store: &Store) -> Result<Items<FileId>, AllocError>
 {
     Ok(Items::from_vec(
         dirty_things(&store.names)
-            .as_map()
-            .keys()
+            .as_slice()
+            .iter()
             .copied()
             .filter(|file| is_goldless(store, file))
             .collect(store.allocator())?,

@@ -48,7 +48,7 @@ fn first_child(names: &Names, dir: &FileId) -> Option<FileId>
     if is_child_at(names, dir, &root) {
         return Some(root);
     }
-    for file in names.children(dir).as_map().keys() {
+    for file in names.children(dir).as_slice() {
         if is_child_at(names, dir, file) {
             return Some(*file);
         }

@@ -78,7 +78,8 @@ output_lines servers number form w off (line.Happens event) =
     event_lines servers number form w event
 output_lines servers number form w off (line.Settle rounds moment) =
     inner_lines servers number form w (settling servers most_deliveries moment w rounds)
-    ++ printed.Asked word.Settle (quiet_of servers (after_line servers w (line.Settle rounds moment)))
+    ++ printed.Asked word.Settle
+    (quiet_of servers (after_line servers w (line.Settle rounds moment)))
     ∷ []
 output_lines servers number form w off (line.Show id) = shown_lines w id servers
 output_lines servers number form w off line.Quiet =

@@ -114,7 +114,8 @@ impl Replay {
     fn tick_at(&mut self, server: NodeId, moment: u64) -> Result<(), AllocError>
         requires going { self.old.world.failed ≡ false }
         requires server { 1 ≤ server }
-        ensures { let events = tick_of self.old.world.servers moment (final self.old.world) server in
+        ensures { let events
+            = tick_of self.old.world.servers moment (final self.old.world) server in
             OnOk result (GoesOn self.old self.new events) }
     {
         if self.world.is_live(server) {
@@ -131,7 +132,8 @@ impl Replay {
     fn tick_all(&mut self, moment: u64) -> Result<(), AllocError>
         requires { self.old.world.failed ≡ false }
         ensures { let servers = self.old.world.servers in
-            OnOk result (GoesOn self.old self.new (ticks servers moment (final self.old.world) servers)) }
+            OnOk result
+            (GoesOn self.old self.new (ticks servers moment (final self.old.world) servers)) }
     {
         for k in 0..self.world.servers() {
             self.tick_at(k + 1, moment)?;
@@ -195,9 +197,11 @@ impl Replay {
     fn show_at(&mut self, server: NodeId, id: &FileId) -> Result<bool, AllocError>
         requires going { self.old.world.failed ≡ false }
         requires server { (1 ≤ server) × (server ≤ self.old.world.servers) }
-        ensures lines { let lines = shown_at self.old.world.servers (final self.old.world) id.now server in
+        ensures lines { let lines
+            = shown_at self.old.world.servers (final self.old.world) id.now server in
             OnOk result (Reaches self.old self.new [] lines) }
-        ensures any { let lines = shown_at self.old.world.servers (final self.old.world) id.now server in
+        ensures any { let lines
+            = shown_at self.old.world.servers (final self.old.world) id.now server in
             IfOk result (λ any. any ≡ has_some lines) }
     {
         if self.world.is_live(server) {
@@ -358,7 +362,8 @@ fn take_off_by(meters: &mut Meters, line: &Line) -> Option<Reading>
     ensures reading { result ≡ off_by
         (map (λ o. option_map (λ m. reading (counts m) (counted m)) o) meters.old.items) line.now }
     ensures rest { map (λ o. option_map (λ m. reading (counts m) (counted m)) o) meters.new.items
-        ≡ others_than (map (λ o. option_map (λ m. reading (counts m) (counted m)) o) meters.old.items)
+        ≡ others_than
+        (map (λ o. option_map (λ m. reading (counts m) (counted m)) o) meters.old.items)
         line.now }
 {
     match line {

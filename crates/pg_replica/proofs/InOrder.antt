@@ -30,7 +30,7 @@ eq_by a b Less h = ne_eqb a b (λ e. grind (arith, nat_tests))
 eq_by a b Equal h = eq-eqb a b (grind (arith, nat_tests))
 eq_by a b Greater h = ne_eqb a b (λ e. grind (arith, nat_tests))
 
-both_eq : (o p : Ordering) → (is_eq o && is_eq p) ≡ is_eq (ordering_then o p)
+pub both_eq : (o p : Ordering) → (is_eq o && is_eq p) ≡ is_eq (ordering_then o p)
 both_eq Less p = refl
 both_eq Equal p = refl
 both_eq Greater p = refl

@@ -13,5 +13,10 @@ pub mod Ends
 mod Takings
 mod Refusals
 mod InOrder
+mod EdgeKeys
+mod Dues
+mod Redues
+mod Comings
+mod AllDue
 mod Counting
 pub mod Going

@@ -1,12 +1,11 @@
 -- What lists keep where a replica is put, whatever it has.
-use Rattle.std.proofs.Common.{◌≡◌, Bool, true, false, cond, Option, None, Some, List, [], ◌∷◌, All, refl, sym, ap, subst, ◌∙◌}
+use Rattle.std.proofs.Common.{◌≡◌, true, false, cond, Option, None, Some, List, [], ◌∷◌, All, refl, sym, ap, subst, ◌∙◌, Result, Ok, Err, OnOk, OnErr}
 use Rattle.std.proofs.lemmas.Bool.{or_parts}
 use Rattle.std.proofs.lemmas.List.Elements.{All-nil, All-cons}
 use Rattle.std.specs.List.{list_any}
 use Rattle.std.specs.Map.{lookup}
 use Rattle.std.specs.Ordering.{eq_by_cmp}
 use Rattle.std.specs.BTreeMap.{is_at, insert_entry}
-use Rattle.std.specs.declared.cmp.Ordering.{Ordering}
 use Rattle.pg_base.specs.declared.id.FileId.{FileId}
 use Rattle.pg_base.specs.Id.{file_cmp}
 use Rattle.pg_base.specs.Version.{VersionValue}
@@ -14,9 +13,12 @@ use Rattle.pg_base.proofs.Entries.{IsStrictlySortedBy-insert_entry}
 use Rattle.pg_base.proofs.Maps.{lookup-insert_entry}
 use Rattle.pg_base.proofs.Orders.{file_total, is_same_file-refl, is_same_file-true}
 use Rattle.pg_replica.specs.declared.replica.Replica.{Replica}
-use Rattle.pg_replica.specs.Index.{Files, IsIndexBy, KnowsNoEnd, ListsNoFewer, ListsUnless, knows_end}
+use Rattle.pg_replica.specs.Index.{Files, IsIndexBy, KnowsNoEnd, ListsNoFewer, ListsUnless, Relists, knows_end}
 use Rattle.pg_replica.specs.Replica.{has_end}
-use Rattle.pg_replica.specs.Replicas.{ByFile, replica_in}
+use Rattle.pg_replica.specs.Replicas.{ByFile, put_replica, replica_in}
+use Rattle.pg_unacked.specs.Due.{UnackedValue}
+use Rattle.pg_replica.specs.Unacked.{AreDue, Redues, edges_of}
+use Rattle.pg_replica.proofs.Redues.{due_put, due_same}
 use Rattle.pg_replica.proofs.Relisting.{Order, more_by, own_by, same_value}
 
 -- ---- a file more
@@ -61,6 +63,35 @@ index_put {P} us vs es ds file w R o more has index put =
             | false ↦ λ h got. index.lists q y got (more q none)
           ] refl (sym (lookup-insert_entry file_cmp file_total q file w es) ∙ there);
     })
+
+-- ---- a replica comes where there is none, or in the place of another one
+
+pub err_then : {T E : Type 0} (r : Result T E) (A B : Type 0) → OnErr r A → (A → B) → OnErr r B
+err_then (Ok x) A B a f = tt
+err_then (Err e) A B a f = f a
+
+module _ {T E : Type 0} where
+  pub come_index : {P : Replica → Type 0} (us vs : Files) (es fs ds : ByFile) (file : FileId) (w : Replica) (r : Result T E) → fs ≡ es
+      → OnOk r (ds ≡ put_replica fs file w) → OnErr r (ds ≡ fs) → ListsNoFewer us vs → ListsUnless (P w) vs file → IsIndexBy P us es → IsIndexBy P vs ds
+  come_index us vs es fs ds file w (Ok x) same put stay more has index =
+      index_put us vs es ds file w file_cmp refl more has index (put ∙ ap (λ (rs : ByFile). put_replica rs file w) same)
+  come_index {P} us vs es fs ds file w (Err e) same put stay more has index =
+      subst (IsIndexBy P vs) (sym (stay ∙ same)) (index_of_more us vs es more index)
+
+  pub come_due : {u v : UnackedValue} (es fs ds : ByFile) (file : FileId) (w : Replica) (r : Result T E) → fs ≡ es
+      → OnOk r (ds ≡ put_replica fs file w) → OnErr r (ds ≡ fs) → ◌≡◌ {A = Option Replica} (replica_in es file) None
+      → OnOk r (Redues u v file [] w.edges) → OnErr r (Redues u v file [] []) → AreDue u es → AreDue v ds
+  come_due es fs ds file w (Ok x) same put stay gap moves none was =
+      due_put es was [] (ap edges_of gap) w moves file_cmp refl ds (put ∙ ap (λ (rs : ByFile). put_replica rs file w) same)
+  come_due {u} {v} es fs ds file w (Err e) same put stay gap moves none was =
+      subst (AreDue v) (sym (stay ∙ same)) (due_same es was [] (ap edges_of gap) none)
+
+  pub relists_replaced : {P : Replica → Type 0} (us vs : Files) (file : FileId) (x w y : Replica) (r : Result T E) → OnOk r (w ≡ y) → OnErr r (w ≡ x)
+      → ListsNoFewer us vs → ListsUnless (P y) vs file → Relists P us vs file x w
+  relists_replaced {P} us vs file x w y (Ok t) is same more has =
+      record { others = λ q other none. more q none; own = λ none was. subst P (sym is) (has none) }
+  relists_replaced {P} us vs file x w y (Err e) is same more has =
+      record { others = λ q other none. more q none; own = λ none was. subst P (sym same) (was (more file none)) }
 
 -- ---- numbers at their end
 

@@ -43,7 +43,7 @@ less_by : (t : Bool) (u : Option (Unit {0})) → t ≡ false → cond t None u �
 less_by true u other h = cc
 less_by false u other h = h
 
-other_way : (file q : FileId) → eq_by_cmp file_cmp q file ≡ false → is_at (file_cmp file) q ≡ false
+pub other_way : (file q : FileId) → eq_by_cmp file_cmp q file ≡ false → is_at (file_cmp file) q ≡ false
 other_way file q other =
     elim (is_at (file_cmp file) q) as (λ b. is_at (file_cmp file) q ≡ b → b ≡ false) [
       | true ↦ λ h. (

@@ -4,4 +4,6 @@ pub mod Root
 pub mod Replicas
 pub mod InOrder
 pub mod Index
+pub mod Owes
+pub mod Unacked
 pub mod IndexInside

@@ -7,24 +7,34 @@
 //! and `numbers` keep, for each change, two lists beside it: the files with unacknowledged keys,
 //! and those that know a number at its end.
 //!
+//! Beside them stands an exact index of what peers have not acknowledged: the keys that are due to
+//! each peer, by file and then by key. `changes` has each change of a replica with the dues that it
+//! makes and takes, `owing` their pieces, and `replacing` a replica that comes with all its keys.
+//!
 //! It stands on contents, deltas and edges. Places, flags and entries stand beside it (`pg_names`),
 //! and who is told what stands above.
 //!
 //! What holds (the invariant of `Replicas`): every replica with an unacknowledged key, or with a
-//! number at its end, is listed, also after memory ran out. The laws (`laws`): of versions no key
-//! stands on an edge but a head's.
+//! number at its end, is listed, also after memory ran out; and just the keys on the edges of the
+//! replicas are due, each to the peer of its edge. Where memory runs out in the middle of a change
+//! the replica loses its edges, and so its dues. The laws (`laws`): of versions no key stands on an
+//! edge but a head's.
 //!
-//! The definitions: `specs/Replica`, `Replicas`, `Root`, `Index` (what lists promise), `InOrder` (a
-//! hash map seen in order), `Laws`. The rules: docs/RULES.md, "Replicas, edges, keys and tags".
+//! The definitions: `specs/Replica`, `Replicas`, `Root`, `Index` (what lists promise), `Owes` and
+//! `Unacked` (what is due to peers), `InOrder` (a hash map seen in order), `Laws`. The rules:
+//! docs/RULES.md, "Replicas, edges, keys and tags".
 //!
-//! A change more: on `Replica`, then as a function of `listing` that says how both lists went, then
-//! on `Replicas`.
+//! A change more: on `Replica`, then as a function of `changes` that says which keys are due then,
+//! and of `listing` that says how both lists went, then on `Replicas`.
 #![tactic(auto)]
 
+mod changes;
 mod laws;
 mod link;
 mod listing;
 mod numbers;
+mod owing;
+mod replacing;
 mod replica;
 mod replicas;
 mod retiring;

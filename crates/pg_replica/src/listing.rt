@@ -5,7 +5,11 @@ ghost use Rattle.pg_base.specs.Version.{stamp_of};
 ghost use Rattle.pg_edges.specs.Edges.{drawn, makes_edge};
 ghost use Rattle.pg_replica.specs.Replica.{covers, has_room, own_actor, refusal_of, tags_after, with_ack_along, with_link, with_touch, with_unlink, with_version, with_write};
 ghost use Rattle.pg_replica.specs.Index.{IsAllClean, KnowsNoEnd, ListsNoFewer, ListsUnless, Relists, with_end, with_keys};
+ghost use Rattle.pg_replica.specs.Unacked.{Redues};
 
+use crate::changes::{
+    acknowledge_due, link_due, put_alone_due, put_head_due, touch_due, unlink_due,
+};
 use crate::link::Link;
 use crate::numbers::{has_end, knows_end};
 use crate::replica::Replica;
@@ -14,6 +18,7 @@ use pg_content::WriteError;
 use pg_delta::KeptDelta;
 use pg_edges::Key;
 use pg_patch::Ranges;
+use pg_unacked::Unacked;
 use std::alloc::{AllocError, Global};
 use std::collections::BTreeMap;
 
@@ -26,6 +31,9 @@ pub(crate) struct Lists {
     pub unacknowledged: Files,
     /// The files with a head that knows a number of 2^62 or more, of whichever actor.
     pub ended: Files,
+    /// For each peer the keys that it has not acknowledged.
+    pub unacked: Unacked,
+    alloc: Global,
 }
 
 impl Lists {
@@ -33,10 +41,13 @@ impl Lists {
     pub fn new(alloc: Global) -> Lists
         ensures unacknowledged { result.unacknowledged.entries ≡ [] }
         ensures ended { result.ended.entries ≡ [] }
+        ensures unacked { result.unacked ≡ [] }
     {
         Lists {
             unacknowledged: BTreeMap::new(alloc),
             ended: BTreeMap::new(alloc),
+            unacked: Unacked::new(alloc),
+            alloc,
         }
     }
 }
@@ -106,6 +117,7 @@ pub(crate) fn list_replica(
         (ListsUnless (KnowsNoEnd replica.now) lists.new.ended.entries file) }
     ensures more { ListsNoFewer lists.old.unacknowledged.entries lists.new.unacknowledged.entries }
     ensures more_ended { ListsNoFewer lists.old.ended.entries lists.new.ended.entries }
+    ensures unacked { lists.new.unacked ≡ lists.old.unacked }
 {
     list_unclean(&mut lists.unacknowledged, file, replica)?;
     list_ended(&mut lists.ended, file, replica)?;
@@ -129,6 +141,8 @@ pub(crate) fn take_listed(
         lists.new.unacknowledged.entries file replica.old replica.new }
     ensures ended { Relists KnowsNoEnd lists.old.ended.entries lists.new.ended.entries file
         replica.old replica.new }
+    ensures due { Redues lists.old.unacked lists.new.unacked file replica.old.edges
+        replica.new.edges }
 {
     if replica.covers(&version) {
         return Ok(false);
@@ -137,7 +151,14 @@ pub(crate) fn take_listed(
     let _count = replica.edges.as_slice().len();
     list_keys(&mut lists.unacknowledged, file, replica)?;
     list_end(&mut lists.ended, file, &version)?;
-    replica.put_head(version, tags)?;
+    put_head_due(
+        replica,
+        &mut lists.unacked,
+        lists.alloc,
+        file,
+        version,
+        tags,
+    )?;
     Ok(true)
 }
 
@@ -168,6 +189,8 @@ pub(crate) fn write_listed(
         lists.new.unacknowledged.entries file replica.old replica.new }
     ensures ended { Relists KnowsNoEnd lists.old.ended.entries lists.new.ended.entries file
         replica.old replica.new }
+    ensures due { Redues lists.old.unacked lists.new.unacked file replica.old.edges
+        replica.new.edges }
 {
     let version = replica.next_version(stamp, ranges)?;
     let bases = replica.bases(alloc)?;
@@ -176,7 +199,15 @@ pub(crate) fn write_listed(
     let _count = replica.edges.as_slice().len();
     list_keys(&mut lists.unacknowledged, file, replica)?;
     list_end(&mut lists.ended, file, &version)?;
-    replica.put_alone(version, delta, tags)?;
+    put_alone_due(
+        replica,
+        &mut lists.unacked,
+        lists.alloc,
+        file,
+        version,
+        delta,
+        tags,
+    )?;
     Ok(bases)
 }
 
@@ -195,11 +226,13 @@ pub(crate) fn touch_listed(
         lists.new.unacknowledged.entries file replica.old replica.new }
     ensures ended { Relists KnowsNoEnd lists.old.ended.entries lists.new.ended.entries file
         replica.old replica.new }
+    ensures due { Redues lists.old.unacked lists.new.unacked file replica.old.edges
+        replica.new.edges }
 {
     // These are fewer than 2^63, so the tags stay in range.
     let _count = replica.edges.as_slice().len();
     list_keys(&mut lists.unacknowledged, file, replica)?;
-    replica.touch(key, tags)?;
+    touch_due(replica, &mut lists.unacked, lists.alloc, file, key, tags)?;
     Ok(())
 }
 
@@ -223,12 +256,22 @@ pub(crate) fn link_listed(
         lists.new.unacknowledged.entries file replica.old replica.new }
     ensures ended { Relists KnowsNoEnd lists.old.ended.entries lists.new.ended.entries file
         replica.old replica.new }
+    ensures due { Redues lists.old.unacked lists.new.unacked file replica.old.edges
+        replica.new.edges }
 {
     if !replica.edges.makes_edge(peer, birth) {
         return Ok(false);
     }
     lists.unacknowledged.insert(file, ())?;
-    replica.link(peer, birth, keys, tags)
+    link_due(
+        replica,
+        &mut lists.unacked,
+        lists.alloc,
+        file,
+        (peer, birth),
+        keys,
+        tags,
+    )
 }
 
 /// The edge to a peer goes, where it is listed with this birth.
@@ -244,8 +287,10 @@ pub(crate) fn unlink_listed(
         lists.new.unacknowledged.entries file replica.old replica.new }
     ensures ended { Relists KnowsNoEnd lists.old.ended.entries lists.new.ended.entries file
         replica.old replica.new }
+    ensures due { Redues lists.old.unacked lists.new.unacked file replica.old.edges
+        replica.new.edges }
 {
-    replica.edges.unlink(peer, birth);
+    unlink_due(replica, &mut lists.unacked, file, peer, birth);
     if replica.is_clean() {
         lists.unacknowledged.remove(&file);
     }
@@ -265,8 +310,10 @@ pub(crate) fn acknowledge_listed(
         lists.new.unacknowledged.entries file replica.old replica.new }
     ensures ended { Relists KnowsNoEnd lists.old.ended.entries lists.new.ended.entries file
         replica.old replica.new }
+    ensures due { Redues lists.old.unacked lists.new.unacked file replica.old.edges
+        replica.new.edges }
 {
-    if !replica.acknowledge(link, key, tag) {
+    if !acknowledge_due(replica, &mut lists.unacked, file, link, key, tag) {
         return;
     }
     if replica.is_clean() {

@@ -5,7 +5,7 @@ ghost use Rattle.pg_base.specs.Vector.{number_at};
 ghost use Rattle.pg_base.specs.Version.{stamp_of};
 ghost use Rattle.pg_patch.specs.Ranges.{applied};
 ghost use Rattle.pg_content.specs.Content.{actor_limit, body_limit, next_vector, next_version, shown_bytes};
-ghost use Rattle.pg_edges.specs.Edges.{are_clean, drawn, makes_edge, touched};
+ghost use Rattle.pg_edges.specs.Edges.{are_clean, drawn, makes_edge, taken_off, touched};
 ghost use Rattle.pg_replica.specs.Replica.{cell_at, covers, has_edge, has_room, is_clean_to, is_too_long, keys, knows_later, new_replica, own_actor, refusal_of, with_ack_along, with_head, with_kept, with_link, with_only, with_touch};
 
 use crate::link::Link;
@@ -219,6 +219,8 @@ impl Replica {
     pub(crate) fn acknowledge(&mut self, link: &Link, key: Key, tag: u64) -> bool
         ensures replica { self.new ≡ with_ack_along self.old link.now key tag }
         ensures same { result ≡ false → self.new ≡ self.old }
+        ensures taken { result ≡ true
+            → self.new.edges ≡ taken_off self.old.edges link.now.peer key }
     {
         link.own == self.birth && self.edges.ack(link.peer, link.birth, key, tag)
     }

@@ -9,6 +9,8 @@ ghost use Rattle.pg_edges.specs.Edges.{are_clean};
 ghost use Rattle.pg_replica.specs.Replica.{has_room, refusal_of};
 ghost use Rattle.pg_replica.specs.Replicas.{edge_count, have_own_end, is_own_end_in, lists_peer, or_nothing, put_replica, replica_in, replicas_acked, replicas_keeping, replicas_linked, replicas_taking, replicas_touched, replicas_unlinked, replicas_writing, takes_link, takes_version, without_replica};
 ghost use Rattle.pg_replica.specs.Index.{IsIndex};
+ghost use Rattle.pg_replica.specs.Unacked.{Redues, unacked};
+ghost use Rattle.pg_replica.specs.InOrder.{in_order};
 
 use crate::link::Link;
 use crate::listing::{
@@ -16,18 +18,20 @@ use crate::listing::{
     write_listed,
 };
 use crate::numbers::knows_own_end;
+use crate::replacing::{enter_due, replace_due};
 use crate::replica::Replica;
 use pg_base::{FileId, Items, NodeId, Stamp, Version};
 use pg_content::WriteError;
 use pg_delta::KeptDelta;
 use pg_edges::Key;
 use pg_patch::Ranges;
+use pg_unacked::{Due, Unacked};
 use std::alloc::{AllocError, Global};
 use std::collections::{BTreeMap, HashMap};
 use std::marker::Model;
 
 /// Replicas by file. The lists have every file that they are to have, and no other but where memory
-/// ran out or where a number at its end went.
+/// ran out or where a number at its end went. What is due to peers is just what the edges have.
 #[derive(Debug, Drop)]
 pub struct Replicas {
     alloc: Global,
@@ -47,6 +51,28 @@ impl Model for Replicas {
     ghost use Rattle.pg_replica.specs.IndexInside.{AreIndexed};
 
     ghost invariant = { AreIndexed };
+}
+
+/// The replica of a file that has none is this one from now on. After out of memory all is as
+/// before.
+fn put_first(
+    by_file: &mut HashMap<FileId, Replica>,
+    unacked: &mut Unacked,
+    file: FileId,
+    replica: Replica,
+) -> Result<(), AllocError>
+    ensures ok { OnOk result (in_order by_file.new.entries
+        ≡ put_replica (in_order by_file.old.entries) file replica) }
+    ensures err { OnErr result (in_order by_file.new.entries ≡ in_order by_file.old.entries) }
+    ensures due { OnOk result (Redues unacked.old unacked.new file [] replica.edges) }
+    ensures none { OnErr result (Redues unacked.old unacked.new file [] []) }
+{
+    enter_due(unacked, file, &replica.edges)?;
+    if let Err(e) = by_file.insert(file, replica) {
+        unacked.forget(&file);
+        return Err(e.into());
+    }
+    Ok(())
 }
 
 impl Replicas {
@@ -89,6 +115,14 @@ impl Replicas {
         &self.lists.unacknowledged
     }
 
+    /// The keys that a peer has not acknowledged, on the edges of all replicas to it, by file and
+    /// then by key. It takes no memory.
+    pub fn unacked(&self, peer: NodeId) -> &[Due]
+        ensures { result.now ≡ unacked self.now peer }
+    {
+        self.lists.unacked.get(peer)
+    }
+
     /// Whether some replica knows a number of 2^62 or more of one of the server's actors. The files
     /// that may are listed, so that nothing is gone over where there is no such number.
     pub fn have_own_end(&self, server: NodeId) -> bool
@@ -120,6 +154,7 @@ impl Replicas {
         ensures err { OnErr result (self.new ≡ self.old) }
     {
         self.by_file.insert(file, replica)?;
+        self.lists.unacked.forget(&file);
         Ok(())
     }
 
@@ -130,8 +165,10 @@ impl Replicas {
         ensures err { OnErr result (self.new ≡ self.old) }
     {
         list_replica(&mut self.lists, file, &replica)?;
-        self.by_file.insert(file, replica)?;
-        Ok(())
+        let Some(held) = self.by_file.get_mut(&file) else {
+            return put_first(&mut self.by_file, &mut self.lists.unacked, file, replica);
+        };
+        replace_due(held, &mut self.lists.unacked, file, replica)
     }
 
     /// The replica of a file goes, if there is one, and is handed out.
@@ -141,12 +178,13 @@ impl Replicas {
     {
         self.lists.unacknowledged.remove(file);
         self.lists.ended.remove(file);
+        self.lists.unacked.forget(file);
         self.by_file.remove(file)
     }
 
     /// Links a birth of a peer to the replica of a file, and tells whether that made an edge, on
     /// which each of these keys has a fresh tag. `tags` is the next tag to give. After out of
-    /// memory a part may be done.
+    /// memory a part may be done, or the replica may have lost its edges.
     pub fn link(
         &mut self,
         file: FileId,
@@ -186,7 +224,7 @@ impl Replicas {
     }
 
     /// Touches a key of the replica of a file on every edge. `tags` is the next tag to give. After
-    /// out of memory a part may be done.
+    /// out of memory a part may be done, or the replica may have lost its edges.
     pub fn touch(&mut self, file: FileId, key: Key, tags: &mut u64) -> Result<(), AllocError>
         requires { tags.old ≤ 2 ^ 63 }
         ensures replicas { OnOk result (self.new
@@ -202,7 +240,7 @@ impl Replicas {
 
     /// Takes a version, and tells whether it is a head from then on: where there is a replica of
     /// the file, and the version is not covered. `tags` is the next tag to give. After out of
-    /// memory a part may be done.
+    /// memory a part may be done, or the replica may have lost its edges.
     pub fn take_version(
         &mut self,
         file: FileId,
@@ -229,8 +267,8 @@ impl Replicas {
 
     /// Makes a version of what the ranges make of what is shown of a file that has a replica, and
     /// answers the stamps of the heads that it is based on. It is the only head then. Where that is
-    /// refused nothing changes. Where memory ran out a part may be done. `tags` is the next tag to
-    /// give.
+    /// refused nothing changes. Where memory ran out a part may be done, or the replica may have
+    /// lost its edges. `tags` is the next tag to give.
     pub fn write(
         &mut self,
         file: FileId,

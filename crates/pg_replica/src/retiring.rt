@@ -62,7 +62,7 @@ fn retire_if_covered(edges: &mut Edges, head: &Version, vector: &Vector)
 }
 
 /// Whether the vector has the version's number at its actor.
-fn has_number(vector: &Vector, version: &Version) -> bool
+pub(crate) fn has_number(vector: &Vector, version: &Version) -> bool
     ensures { result ≡ covers_version vector.now version.now }
 {
     let head = version.head();

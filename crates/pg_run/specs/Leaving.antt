@@ -61,7 +61,8 @@ pub record OwesBye (w : World) (s : ℕ) (file : FileId) (x : Replica) (e : Edge
 abbrev pub HeardEdgesAreKnown : ℕ → Type 0
 HeardEdgesAreKnown servers = (events : List Event) → AtEach servers (λ s.
     (file : FileId) (x : Replica) (e : Edge)
-    → IsEdgeOf (store_after servers events s) file x e → IsHeard (store_after servers events s) file e
+    → IsEdgeOf (store_after servers events s) file x e
+    → IsHeard (store_after servers events s) file e
     → is_removed (store_after servers events e.peer).names.removed s ≡ false
     → HasEdge (run servers events) file s e.peer ⊎ OwesBye (run servers events) s file x e)
 
@@ -74,7 +75,8 @@ ByesAreOfOver servers = (events : List Event) → AtEach servers (λ s.
 
 -- whoever sent a Bye, or was told in a ByeOk that it was heard, has its birth behind it
 abbrev pub ByesAreOver : ℕ → Type 0
-ByesAreOver servers = (events : List Event) (m : Sent) → Contains (mail (run servers events).journal) m
+ByesAreOver servers = (events : List Event) (m : Sent)
+    → Contains (mail (run servers events).journal) m
     → ((ends : Ends) → m.packet.message ≡ message.Bye ends
     → IsOver (store_after servers events m.packet.from) ends.file ends.sender)
     × ((file : FileId) (birth : ℕ) → m.packet.message ≡ message.ByeOk file birth

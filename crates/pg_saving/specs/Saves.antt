@@ -14,7 +14,8 @@ pub record IsSavable (server servers : ℕ) (store : Store) : Type 0 where
   pub all : store.servers ≡ servers
   pub fits : FitsState store
 
--- It can be saved over what is loaded: its spelling is short enough for a slot, and a number is left.
+-- It can be saved over what is loaded: its spelling is short enough for a slot, and a number is
+-- left.
 pub record CanSave (server servers : ℕ) (store : Store) (was : Option Slot) : Type 0 where
   pub is : IsSavable server servers store
   pub short : length (state_bytes store) < 2 ^ 32

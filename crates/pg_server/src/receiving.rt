@@ -82,7 +82,8 @@ fn closed(reply: Option<Reply>, store: &mut Store, mut work: Work) -> Result<Out
 
 /// A client calls the server. At the end of the clock no house rule runs.
 fn call_effect(store: &mut Store, moment: u64, call: &Call) -> Result<Out, AllocError>
-    ensures store { OnOk result (store.new ≡ (effect store.old (Input.Call moment call.now)).store) }
+    ensures store { OnOk result
+        (store.new ≡ (effect store.old (Input.Call moment call.now)).store) }
     ensures out { IfOk result (λ out. out ≡ (effect store.old (Input.Call moment call.now)).out) }
 {
     let mut work = Work::new(store.allocator(), moment, 0);

@@ -7,6 +7,7 @@
 //!
 //! - `refusals`: calls that are refused for what a store holds, each with its reason and with the
 //!   store as it was;
+//! - `lists`: what a store lends without memory: what stands where, what lists what, what is owed;
 //! - `numbers`: messages whose numbers are as great as a message may have, and greater.
 //!
 //! Expected values come from docs/RULES.md, "Client calls", and never from the program. Each test
@@ -17,6 +18,8 @@
 //! proof.
 #![tactic(auto)]
 
+#[cfg(test)]
+mod lists;
 #[cfg(test)]
 mod numbers;
 #[cfg(test)]

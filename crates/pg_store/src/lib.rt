@@ -4,9 +4,10 @@
 //! `store` has `Store`: names, replicas, notes of versions, intentions, wishes, and the numbers
 //! that the server gives out (tags, ids, births). `start` makes the first one; `taking` and
 //! `versions` take places, flags, entries and versions that come or are made; `links` makes and
-//! cuts edges; `beginning` lets replicas begin and go; `cells` reads the cell of a key; `views`
-//! enters a view; `settling` lets the house rules run; `servers` says who is live and who is asked
-//! next; `wishes` has what clients asked for.
+//! cuts edges; `beginning` lets replicas begin and go; `cells` reads the cell of a key; `lists`
+//! lends what stands in a directory, what lists a thing and what a peer has not acknowledged;
+//! `views` enters a view; `settling` lets the house rules run; `servers` says who is live and who is
+//! asked next; `wishes` has what clients asked for.
 //!
 //! A change here keeps names and replicas together: what is held in one is held in the other, and
 //! what is news touches its key on every edge. No message is made or sent.
@@ -28,6 +29,7 @@ mod beginning;
 mod cells;
 mod laws;
 mod links;
+mod lists;
 mod seekers;
 mod servers;
 mod settling;

@@ -246,5 +246,5 @@ fn is_at_end(names: &Names, file: &FileId) -> bool
 fn is_any_at_end(names: &Names, ids: &Ids) -> bool
     ensures { result ≡ list_any (is_end_at names.now) ids.now }
 {
-    ids.as_map().keys().any(|file| is_at_end(names, file))
+    ids.as_slice().iter().any(|file| is_at_end(names, file))
 }

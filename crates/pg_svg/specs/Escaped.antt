@@ -28,7 +28,8 @@ pub record IsPlainByte (b : ℕ) : Type 0 where
 -- what XML reads as one sign: a byte that stands for itself, or one of four that are told by name
 abbrev pub IsSign : List ℕ → Type 0
 IsSign sign = ((b : ℕ) × IsPlainByte b × (sign ≡ b ∷ []))
-    ⊎ (sign ≡ codes "&lt;") ⊎ (sign ≡ codes "&gt;") ⊎ (sign ≡ codes "&amp;") ⊎ (sign ≡ codes "&quot;")
+    ⊎ (sign ≡ codes "&lt;") ⊎ (sign ≡ codes "&gt;") ⊎ (sign ≡ codes "&amp;") ⊎
+    (sign ≡ codes "&quot;")
 
 -- the text is a row of such signs, so it opens and ends no tag and begins no other name
 abbrev pub IsXmlText : List ℕ → Type 0

@@ -8,7 +8,8 @@ use Rattle.pg_picture.specs.declared.mark.Note.{Note}
 
 -- a message's kind, its file and the detail
 abbrev pub label_text : Summary → List ℕ
-label_text s = kind_text s.kind ++ (codes " " ++ (spelling s.file ++ (codes " " ++ detail_text s.detail)))
+label_text s = kind_text s.kind ++
+    (codes " " ++ (spelling s.file ++ (codes " " ++ detail_text s.detail)))
 
 -- how many signs of it are counted
 abbrev pub label_len : Summary → ℕ

@@ -49,7 +49,8 @@ unfoldable pub left_back : ℕ → ℕ → ℕ → List ℕ
 left_back x y width =
     codes "<path class=\"back\" d=\"M" ++ (decimal x
     ++ (codes " " ++ (decimal y
-    ++ (codes "m-6-2h-" ++ (decimal width ++ (codes "v-11h" ++ (decimal width ++ codes "z\"/>")))))))
+    ++ (codes "m-6-2h-" ++
+    (decimal width ++ (codes "v-11h" ++ (decimal width ++ codes "z\"/>")))))))
 
 unfoldable pub left_front : ℕ → ℕ → List ℕ
 left_front x y =

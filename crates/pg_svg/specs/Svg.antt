@@ -65,7 +65,8 @@ lines_text scale s =
 
 unfoldable pub signs_text : Scale → Sketch → List ℕ
 signs_text scale s =
-    labels_text scale.half s.legs ++ (marks_text scale.half s.marks ++ notes_text scale.notes s.notes)
+    labels_text scale.half s.legs ++
+    (marks_text scale.half s.marks ++ notes_text scale.notes s.notes)
 
 abbrev pub svg_of : Scale → Sketch → List ℕ
 svg_of scale s = head_text scale ++ (lines_text scale s ++ (signs_text scale s ++ close_text))

@@ -73,7 +73,8 @@ unless_to server m = if m.to == server then [] else m ∷ []
 -- behind it the machine stands for the world behind it
 abbrev pub StandsBehind : Machine → Machine → Event → Type 0
 StandsBehind old new event =
-    (w : World) → Stands old w → Stands new (world_after w (next (length old.servers.items) w event))
+    (w : World) → Stands old w
+    → Stands new (world_after w (next (length old.servers.items) w event))
 
 -- its entry is what the world's journal says of it
 abbrev pub IsEntryOf : Machine → Event → Entry → Type 0

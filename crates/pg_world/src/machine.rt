@@ -177,7 +177,8 @@ impl Machine {
         ensures bag { OnOk result (BagBehind self.old self.new server input) }
         ensures removed { OnOk result (self.new.removed ≡ self.old.removed) }
         ensures entry { IfOk result (IsEntryBy self.old event server input) }
-        ensures count { OnOk result (length self.new.servers.items ≡ length self.old.servers.items) }
+        ensures count { OnOk result
+            (length self.new.servers.items ≡ length self.old.servers.items) }
     {
         // A server that has failed belongs to a run that has failed, and that takes no event.
         let Ok(Out { reply, made, sent }) = self.servers[server as usize - 1].step(input) else {
@@ -204,7 +205,8 @@ impl Machine {
         requires { void ≡ None → is_server (length self.old.servers.items) server ≡ true }
         ensures state { OnOk result (StepsBehind self.old self.new void event server input) }
         ensures entry { IfOk result (IsStepEntry self.old void event server input) }
-        ensures count { OnOk result (length self.new.servers.items ≡ length self.old.servers.items) }
+        ensures count { OnOk result
+            (length self.new.servers.items ≡ length self.old.servers.items) }
     {
         match void {
             Some(cause) => Ok(self.idle_entry(event, Some(cause))),
@@ -249,7 +251,8 @@ impl Machine {
         ensures state { OnOk result
             (StandsBehind self.old self.new (Event.Call server moment call)) }
         ensures entry { IfOk result (IsEntryOf self.old (Event.Call server moment call)) }
-        ensures count { OnOk result (length self.new.servers.items ≡ length self.old.servers.items) }
+        ensures count { OnOk result
+            (length self.new.servers.items ≡ length self.old.servers.items) }
     {
         let event = Event::Call {
             server,
@@ -265,7 +268,8 @@ impl Machine {
         ensures state { OnOk result
             (StandsBehind self.old self.new (Event.Tick server moment word)) }
         ensures entry { IfOk result (IsEntryOf self.old (Event.Tick server moment word)) }
-        ensures count { OnOk result (length self.new.servers.items ≡ length self.old.servers.items) }
+        ensures count { OnOk result
+            (length self.new.servers.items ≡ length self.old.servers.items) }
     {
         let event = Event::Tick {
             server,
@@ -280,7 +284,8 @@ impl Machine {
     fn deliver(&mut self, number: u64) -> Result<Entry, AllocError>
         ensures state { OnOk result (StandsBehind self.old self.new (Event.Deliver number)) }
         ensures entry { IfOk result (IsEntryOf self.old (Event.Deliver number)) }
-        ensures count { OnOk result (length self.new.servers.items ≡ length self.old.servers.items) }
+        ensures count { OnOk result
+            (length self.new.servers.items ≡ length self.old.servers.items) }
     {
         let event = Event::Deliver(number);
         let Some(message) = self.take_message(number) else {
@@ -321,7 +326,8 @@ impl Machine {
     fn repeat(&mut self, number: u64) -> Result<Entry, AllocError>
         ensures state { OnOk result (StandsBehind self.old self.new (Event.Repeat number)) }
         ensures entry { IfOk result (IsEntryOf self.old (Event.Repeat number)) }
-        ensures count { OnOk result (length self.new.servers.items ≡ length self.old.servers.items) }
+        ensures count { OnOk result
+            (length self.new.servers.items ≡ length self.old.servers.items) }
     {
         let Some(again) = self.copy_message(number)? else {
             return Ok(self.idle_entry(Event::Repeat(number), Some(VoidCause::NoMessage)));
@@ -334,7 +340,8 @@ impl Machine {
     fn restart(&mut self, server: NodeId) -> Result<Entry, AllocError>
         ensures state { OnOk result (StandsBehind self.old self.new (Event.Restart server)) }
         ensures entry { IfOk result (IsEntryOf self.old (Event.Restart server)) }
-        ensures count { OnOk result (length self.new.servers.items ≡ length self.old.servers.items) }
+        ensures count { OnOk result
+            (length self.new.servers.items ≡ length self.old.servers.items) }
     {
         let void = self.void_at(server);
         self.serve(Event::Restart(server), server, Input::Restart, void)
@@ -377,7 +384,8 @@ impl Machine {
         ensures servers { OnOk result (self.new.servers ≡ self.old.servers) }
         ensures removed { OnOk result (self.new.removed ≡ self.old.removed ++ server ∷ []) }
         ensures entry { IfOk result (λ entry. entry ≡ idle_entry (Event.Remove server) None) }
-        ensures count { OnOk result (length self.new.servers.items ≡ length self.old.servers.items) }
+        ensures count { OnOk result
+            (length self.new.servers.items ≡ length self.old.servers.items) }
     {
         self.removed.push(server)?;
         self.drop_messages_to(server)?;
@@ -389,7 +397,8 @@ impl Machine {
     fn remove(&mut self, server: NodeId) -> Result<Entry, AllocError>
         ensures state { OnOk result (StandsBehind self.old self.new (Event.Remove server)) }
         ensures entry { IfOk result (IsEntryOf self.old (Event.Remove server)) }
-        ensures count { OnOk result (length self.new.servers.items ≡ length self.old.servers.items) }
+        ensures count { OnOk result
+            (length self.new.servers.items ≡ length self.old.servers.items) }
     {
         match self.void_removal(server) {
             Some(cause) => Ok(self.idle_entry(Event::Remove(server), Some(cause))),
@@ -401,7 +410,8 @@ impl Machine {
     pub fn step(&mut self, event: Event) -> Result<Entry, AllocError>
         ensures state { OnOk result (StandsBehind self.old self.new event) }
         ensures entry { IfOk result (IsEntryOf self.old event) }
-        ensures count { OnOk result (length self.new.servers.items ≡ length self.old.servers.items) }
+        ensures count { OnOk result
+            (length self.new.servers.items ≡ length self.old.servers.items) }
     {
         match event {
             Event::Call {

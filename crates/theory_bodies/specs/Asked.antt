@@ -32,7 +32,8 @@ pub record IsReleased (now : Option Asking) (behind : Option Note) : Type 0 wher
   pub lost : (n : Note) → behind ≡ Some n → n.source ≡ 0
 
 -- or the version is covered from then on, and not noted
-pub record IsCovered (Covered : Type 0) (was now : Option Asking) (behind : Option Note) : Type 0 where
+pub record IsCovered (Covered : Type 0) (was now : Option Asking)
+    (behind : Option Note) : Type 0 where
   pub asked : now ≡ was
   pub covered : Covered
   pub ended : behind ≡ None

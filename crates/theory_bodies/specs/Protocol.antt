@@ -59,7 +59,8 @@ abbrev pub IsAsked : (Telling → Type 0) → ℕ → FileId → Note → Type 0
 IsAsked Was s file n = (n.source ≡ 0) ⊎ Was (Announces n.source s file n.tag n.head)
 
 -- what holds of one server
-pub record IsSound {N M : Type 0} (p : Protocol N M) (b : Book) (Was : Telling → Type 0) (s : ℕ) (a : N)
+pub record IsSound {N M : Type 0} (p : Protocol N M) (b : Book) (Was : Telling → Type 0) (s : ℕ)
+    (a : N)
     : Type 0 where
   pub notes : (file : FileId) (stamp : Stamp) (n : Note) → p.notes a file stamp ≡ Some n
       → IsNoteIn b file stamp n
@@ -68,7 +69,8 @@ pub record IsSound {N M : Type 0} (p : Protocol N M) (b : Book) (Was : Telling �
   pub holds : (file : FileId) (x : Holding) → p.holds a file ≡ Some x → IsHoldingIn b file x
 
 -- THE INVARIANT of all servers, and of all messages that were ever sent
-pub record Keeps {N M : Type 0} (p : Protocol N M) (b : Book) (nodes : ℕ → N) (mail : List M) : Type 0
+pub record Keeps {N M : Type 0} (p : Protocol N M) (b : Book) (nodes : ℕ → N)
+    (mail : List M) : Type 0
   where
     pub book : IsBook b
     pub told : (m : M) → Among m mail → IsTrue b (p.tells m)

@@ -24,7 +24,8 @@ IsNoted s heard file stamp n =
     (heard ≡ Announces n.source s file n.tag n.head) × (n.head.stamp ≡ stamp) × (n.bytes ≡ [])
 
 -- the sender of a further harbinger of it is asked from now on, and its tag counts
-pub record IsAimed (s : ℕ) (t : Telling) (file : FileId) (stamp : Stamp) (o : Option Note) (n : Note)
+pub record IsAimed (s : ℕ) (t : Telling) (file : FileId) (stamp : Stamp) (o : Option Note)
+    (n : Note)
     : Type 0 where
   pub was : Note
   pub old : o ≡ Some was
@@ -104,7 +105,8 @@ pub record HasJoined (c : Book) (heard : Telling) (noted : Stamp → Option Note
   pub kept : x.kept ≡ was.kept
 
 -- a version came as a change of just what is held, and the delta is kept
-pub record HasPatched (t : Telling) (file : FileId) (o : Option Holding) (x : Holding) : Type 0 where
+pub record HasPatched (t : Telling) (file : FileId) (o : Option Holding)
+    (x : Holding) : Type 0 where
   pub was : Holding
   pub old : o ≡ Some was
   pub source : ℕ
@@ -115,7 +117,8 @@ pub record HasPatched (t : Telling) (file : FileId) (o : Option Holding) (x : Ho
   pub kept : x.kept ≡ with_delta was.kept (delta_to (stamps_of was.content) head.stamp ranges)
 
 -- a version is made on all heads, and its delta is kept
-pub record HasWritten (b c : Book) (file : FileId) (old : Option Holding) (x : Holding) : Type 0 where
+pub record HasWritten (b c : Book) (file : FileId) (old : Option Holding)
+    (x : Holding) : Type 0 where
   pub was : Holding
   pub from : IsFrom c file old was
   pub made : Made
@@ -133,20 +136,23 @@ HoldingComes b c heard noted file old x =
 -- ---- what is sent
 
 -- it holds this version as a head
-pub record HasHead {N M : Type 0} (p : Protocol N M) (a : N) (file : FileId) (v : VersionValue) : Type 0
+pub record HasHead {N M : Type 0} (p : Protocol N M) (a : N) (file : FileId)
+    (v : VersionValue) : Type 0
   where
     pub holding : Holding
     pub held : p.holds a file ≡ Some holding
     pub among : Among v holding.content.heads
 
 -- it announces a version that it holds as a head, or has noted
-pub record MayAnnounce {N M : Type 0} (p : Protocol N M) (a : N) (file : FileId) (head : Head) : Type 0
+pub record MayAnnounce {N M : Type 0} (p : Protocol N M) (a : N) (file : FileId)
+    (head : Head) : Type 0
   where
     pub knows : ((v : VersionValue) × HasHead p a file v × (v.head ≡ head))
         ⊎ ((stamp : Stamp) × (n : Note) × (p.notes a file stamp ≡ Some n) × (n.head ≡ head))
 
 -- it gives bytes of the body of a version that it holds
-pub record MayGive {N M : Type 0} (p : Protocol N M) (a : N) (file : FileId) (head : Head) (offset : ℕ)
+pub record MayGive {N M : Type 0} (p : Protocol N M) (a : N) (file : FileId) (head : Head)
+    (offset : ℕ)
     (bytes : List ℕ) : Type 0 where
   pub version : VersionValue
   pub has : HasHead p a file version

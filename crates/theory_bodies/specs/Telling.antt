@@ -18,7 +18,8 @@ pub data Telling : Type 0 where
   Announces : (from to : ℕ) (file : FileId) (tag : ℕ) (head : Head) → Telling
   Brings : (file : FileId) (version : VersionValue) → Telling
   Gives : (from : ℕ) (file : FileId) (head : Head) (offset : ℕ) (bytes : List ℕ) → Telling
-  Changes : (from : ℕ) (file : FileId) (head : Head) (bases : List Stamp) (ranges : RangesValue) → Telling
+  Changes : (from : ℕ) (file : FileId) (head : Head) (bases : List Stamp) (ranges : RangesValue)
+      → Telling
   Silent : Telling
 
 -- these bytes stand at the offset

@@ -55,7 +55,8 @@ StepsOn a b = (along : Along) → Steps (cells_in along) a b
 -- at the end of an event those count as over that are over then, if births moved one way; and this
 -- may be answered late
 abbrev pub EventsAreByTheRule : Type 0
-EventsAreByTheRule = (s : ℕ) (a b : Store) (late : List (Saying Slot Cell)) (heard : Saying Slot Cell)
+EventsAreByTheRule =
+    (s : ℕ) (a b : Store) (late : List (Saying Slot Cell)) (heard : Saying Slot Cell)
     (sent : List Sent) → BirthsMove a b → Rule (cells_in (in_the_end b late)) s a b heard sent
     → Rule (answering late) s a b heard sent
 
@@ -172,8 +173,10 @@ AnswersAreTaken = (along : Along) (s : ℕ) (a : Store) (from : ℕ) (ends : End
 
 -- where what was sent before may be sent, so may what comes behind it
 abbrev pub MaySendMore : (Store → Work → Work) → Type 0
-MaySendMore sending = (along : Along) (n s : ℕ) (a b : Store) (heard : Saying Slot Cell) (work : Work)
-    → IsWhole n s b → HasSoundTags (cells_in along) b → AllMay (cells_in along) s a b heard work.sent
+MaySendMore sending =
+    (along : Along) (n s : ℕ) (a b : Store) (heard : Saying Slot Cell) (work : Work)
+    → IsWhole n s b → HasSoundTags (cells_in along) b
+    → AllMay (cells_in along) s a b heard work.sent
     → AllMay (cells_in along) s a b heard (sending b work).sent
 
 abbrev pub TicksMaySend : Type 0

@@ -110,7 +110,8 @@ module _ {W N M C : Type 0} (p : Protocol W N M C) where
       pub promises : flooding.KeepsEdges p.edges (p.nodes w) (p.mail w)
       pub births :
           (s t birth later : ℕ) (x y : Replica C) → p.IsServer s → p.IsServer t
-          → Has p (p.nodes w s) x → is_listed x.edges t later ≡ true → Holds p (p.nodes w t) birth y → later ≤ birth
+          → Has p (p.nodes w s) x → is_listed x.edges t later ≡ true
+          → Holds p (p.nodes w t) birth y → later ≤ birth
       pub gone :
           (t birth : ℕ) (x : Replica C) → IsSaid (p.mail w) (Word.Gone t birth)
           → Holds p (p.nodes w t) birth x → ⊥
@@ -118,7 +119,8 @@ module _ {W N M C : Type 0} (p : Protocol W N M C) where
           (t birth : ℕ) (x y : Replica C) → p.Went w t birth y → Holds p (p.nodes w t) birth x → ⊥
       pub flags :
           (s t birth : ℕ) (x y : Replica C) (f : Flag) → p.IsServer s → Has p (p.nodes w s) x
-          → p.Went w t birth y → p.flag x.cells t ≡ Some f → f.birth ≡ birth → IsUpToLast y.cells t f
+          → p.Went w t birth y → p.flag x.cells t ≡ Some f → f.birth ≡ birth
+          → IsUpToLast y.cells t f
       pub apart :
           (s birth : ℕ) (x : Replica C) → Has p (p.nodes w s) x → is_listed x.edges s birth ≡ true
           → ⊥

@@ -11,5 +11,5 @@ loop-file-init c =
     let s = c.args.names.now in
     let d = c.dirty_things.ensures in
     ap (λ (xs : List FileId). slice_get (filter (is_dir_back s) (filter is_dir xs)) 0)
-    (c.into_iter-file-iterator.ensures.into_iter_gives ∙ c.keys-file-items.ensures.rest ∙ c.as_map.ensures.ids)
+    c.as_slice-file-items.ensures.ids
     ∙ ap (λ (xs : List FileId). slice_get xs 0) (dirty_back s c.dirty_things.result.now d.sorted d.ordered d.calm)

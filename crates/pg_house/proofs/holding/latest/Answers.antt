@@ -11,5 +11,4 @@ loop-dir-init c =
     let s = c.args.names.now in
     let f = c.args.file.now in
     let own = c.args.own.now in
-    ap (λ (xs : List FileId). latest s f own (filter is_dir xs)) (c.into_iter-dir-iterator.ensures.into_iter_gives ∙ c.keys-dir-items.ensures.rest ∙ c.as_map.ensures.ids ∙ c.holders.ensures)
-    ∙ near_latest s f own
+    ap (λ (xs : List FileId). latest s f own (filter is_dir xs)) (c.as_slice-dir-items.ensures.ids ∙ c.holders.ensures) ∙ near_latest s f own

@@ -13,6 +13,6 @@ returns c =
     let own = c.args.own.now in
     let top = c.args.top.now in
     let ids = c.in_ok-ids.ids in
-    let ordered : IsStrictlySortedBy file_cmp ids = c.as_map-held.ensures.sorted in
+    let ordered : IsStrictlySortedBy file_cmp ids = c.as_slice-held.ensures.sorted in
     let are : c.from_vec.result ≡ filter (is_taker s f own top c.args.back) ids = search rules in
     takers_are s f own top c.args.back ids c.in_ok-ids.ensures c.dirty_things-dirty.ensures.sorted ordered c.from_vec.result are

@@ -10,5 +10,5 @@ pub loop-dir-init : goal.loop-dir-init
 loop-dir-init c =
     let s = c.args.names.now in
     let d = c.dirty_things.ensures in
-    ap (λ (xs : List FileId). find (is_returning s) (filter is_dir xs)) (c.into_iter-dir-iterator.ensures.into_iter_gives ∙ c.keys-dir-items.ensures.rest ∙ c.as_map.ensures.ids)
+    ap (λ (xs : List FileId). find (is_returning s) (filter is_dir xs)) c.as_slice-dir-items.ensures.ids
     ∙ dirty_returns s c.dirty_things.result.now d.sorted d.ordered d.calm

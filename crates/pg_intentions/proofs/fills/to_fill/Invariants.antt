@@ -1,7 +1,7 @@
-use Rattle.std.proofs.Common.{◌≡◌}
+use Rattle.std.proofs.Common.{◌≡◌, drop}
 use Rattle.pg_intentions.specs.Fills.{files_to_fill}
 use Rattle.pg_intentions.proofs.DirtyFills.{with_all}
 use Rattle.pg_intentions.proofs.fills.to_fill.Given as goal
 
 abbrev pub invariant-loop-file : goal.invariant-loop-file
-invariant-loop-file l = with_all l.names l.files.entries l.file-iterator ≡ files_to_fill l.names
+invariant-loop-file l = with_all l.names l.files.entries (drop l.file-index l.file-items) ≡ files_to_fill l.names

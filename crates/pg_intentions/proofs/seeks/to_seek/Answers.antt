@@ -13,6 +13,6 @@ returns c =
     let s = c.args.store.now in
     let ids = c.in-Some.ids.now in
     let are : c.from_vec.result ≡ filter (is_seeking s) ids = search rules in
-    marked_seek s ids c.as_map.ensures.sorted
+    marked_seek s ids c.as_slice.ensures.sorted
     (subst (λ (b : Store). IsStrictlySortedBy file_cmp (keys_of b.names.held)) c.store.view_is c.as_map-held.ensures.sorted)
     c.in-Some.ensures c.from_vec.result are

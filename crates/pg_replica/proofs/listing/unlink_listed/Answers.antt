@@ -13,4 +13,4 @@ returns-then-is_clean-clause-listed c =
 pub returns-else-is_clean-clause-listed : goal.returns-else-is_clean-clause-listed
 returns-else-is_clean-clause-listed c =
     relists_same _ _ c.args.file _ _ refl (λ clean.
-    ap are_clean c.unlink.ensures ∙ clean_unlinked c.args.replica.now.edges c.args.peer c.args.birth clean)
+    ap (λ (y : Replica). are_clean y.edges) c.unlink_due.ensures.replica ∙ clean_unlinked c.args.replica.now.edges c.args.peer c.args.birth clean)

@@ -8,5 +8,5 @@ use Rattle.pg_names.proofs.names.Names.holders.Goals as goal
 pub returns : goal.returns
 returns c =
     let i = c.self.inside in
-    listed_holders i.held c.as_map-held.ensures.sorted c.args.child.now c.get-found.result.now c.as_map-found.ensures.sorted (λ q. ap (is_one_of q) c.get-found.ensures ∙ c.self.invariant.holders_are c.args.child.now q)
+    listed_holders i.held c.as_map-held.ensures.sorted c.args.child.now c.get-found.result.now c.as_slice-found.ensures.sorted (λ q. ap (is_one_of q) c.get-found.ensures ∙ c.self.invariant.holders_are c.args.child.now q)
     ∙ ap (λ (s : NamesValue). holders s c.args.child.now) c.self.view_is

@@ -2,12 +2,13 @@ use Rattle.std.proofs.Common.{refl, ◌≡◌, ◌∙◌, All, ap, false, sym, s
 use Rattle.pg_base.specs.Id.{file_cmp}
 use Rattle.pg_edges.specs.Edges.{are_clean}
 use Rattle.pg_replica.specs.InOrder.{in_order}
-use Rattle.pg_replica.specs.Index.{IsAllClean, KnowsNoEnd}
+use Rattle.pg_replica.specs.Index.{IsAllClean, IsIndex, IsIndexBy, KnowsNoEnd}
+use Rattle.pg_replica.specs.Unacked.{AreDue}
 use Rattle.pg_replica.proofs.InOrder.{lookup-in_order, in_order-same, in_order-set}
-use Rattle.pg_replica.specs.declared.replica.Replica.{Replica}
 use Rattle.pg_replica.specs.Replica.{has_end, with_kept}
 use Rattle.pg_content.specs.Content.{ContentValue}
 use Rattle.pg_replica.specs.Replicas.{ByFile, replica_in, replicas_keeping}
+use Rattle.pg_replica.proofs.Redues.{due_there, redues_same}
 use Rattle.pg_replica.proofs.Relisting.{index_there, relists_same}
 use Rattle.pg_replica.proofs.Takings.{made_nowhere, made_there, ok_more}
 use Rattle.pg_replica.proofs.replicas.Replicas.keep_delta.Goals as goal
@@ -26,6 +27,8 @@ invariant_of-self-2 c =
           (relists_same {P = IsAllClean} keys keys c.args.file x w refl (λ clean. ap are_clean c.keep.ensures.edges ∙ clean)) file_cmp refl _ found set;
       ended = index_there (in_order c.self.inside.by_file.entries) c.self.invariant.ended
           (relists_same {P = KnowsNoEnd} ends ends c.args.file x w refl (λ none. subst heads (sym c.keep.ensures.content) none)) file_cmp refl _ found set;
+      due = due_there (in_order c.self.inside.by_file.entries) c.self.invariant.due x w c.self.invariant.unacknowledged.by_file
+          (redues_same c.args.file (λ p d. refl) c.keep.ensures.edges) _ found set;
     }
 
 pub returns : goal.returns
@@ -49,3 +52,14 @@ returns-in_default c =
     let same = in_order-same _ _ c.get_mut.follows.holds-at-none in
     let P : ByFile → Type 0 = λ rs. ds ≡ replicas_keeping rs c.args.file c.args.delta (replica_in rs c.args.file) in
     subst P c.self.view_is (made_nowhere es ds c.args.file gap same (λ o. replicas_keeping es c.args.file c.args.delta o) refl)
+
+pub invariant_of-self : goal.invariant_of-self
+invariant_of-self c =
+    let same = in_order-same _ _ c.get_mut.follows.holds-at-none in
+    let lists = c.self.inside.lists in
+    let Q : ByFile → Type 0 = λ rs. IsIndexBy KnowsNoEnd lists.ended.entries rs in
+    record {
+      unacknowledged = subst (IsIndex lists.unacknowledged.entries) (sym same) c.self.invariant.unacknowledged;
+      ended = subst Q (sym same) c.self.invariant.ended;
+      due = subst (AreDue lists.unacked) (sym same) c.self.invariant.due;
+    }

@@ -6,6 +6,7 @@ use Rattle.pg_replica.proofs.InOrder.{lookup-in_order, in_order-same, in_order-s
 use Rattle.pg_replica.specs.declared.replica.Replica.{Replica}
 use Rattle.pg_replica.specs.Replica.{with_link}
 use Rattle.pg_replica.specs.Replicas.{ByFile, replica_in, replicas_linked, takes_link}
+use Rattle.pg_replica.proofs.Redues.{due_there}
 use Rattle.pg_replica.proofs.Relisting.{index_there}
 use Rattle.pg_replica.proofs.Takings.{chosen_nowhere, chosen_there, found_in, none_in, ok_more, old_link, plus_if}
 use Rattle.pg_replica.proofs.replicas.Replicas.link.Goals as goal
@@ -18,6 +19,7 @@ invariant_of-self-2 c =
     record {
       unacknowledged = index_there (in_order c.self.inside.by_file.entries) c.self.invariant.unacknowledged c.link_listed.ensures.listed file_cmp refl _ found set;
       ended = index_there (in_order c.self.inside.by_file.entries) c.self.invariant.ended c.link_listed.ensures.ended file_cmp refl _ found set;
+      due = due_there (in_order c.self.inside.by_file.entries) c.self.invariant.due _ w c.self.invariant.unacknowledged.by_file c.link_listed.ensures.due _ found set;
     }
 
 pub returns-clause-made : goal.returns-clause-made

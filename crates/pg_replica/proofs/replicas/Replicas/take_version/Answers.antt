@@ -5,6 +5,7 @@ use Rattle.pg_replica.proofs.InOrder.{lookup-in_order, in_order-same, in_order-s
 use Rattle.pg_replica.specs.declared.replica.Replica.{Replica}
 use Rattle.pg_replica.specs.Replica.{covers, with_head}
 use Rattle.pg_replica.specs.Replicas.{ByFile, replica_in, edge_count, replicas_taking, takes_version}
+use Rattle.pg_replica.proofs.Redues.{due_there}
 use Rattle.pg_replica.proofs.Relisting.{index_there}
 use Rattle.pg_replica.proofs.Takings.{chosen_nowhere, chosen_there, found_in, if_false, if_not, if_true, none_in, ok_more}
 use Rattle.pg_replica.proofs.replicas.Replicas.take_version.Goals as goal
@@ -17,6 +18,7 @@ invariant_of-self-2 c =
     record {
       unacknowledged = index_there (in_order c.self.inside.by_file.entries) c.self.invariant.unacknowledged c.take_listed.ensures.listed file_cmp refl _ found set;
       ended = index_there (in_order c.self.inside.by_file.entries) c.self.invariant.ended c.take_listed.ensures.ended file_cmp refl _ found set;
+      due = due_there (in_order c.self.inside.by_file.entries) c.self.invariant.due _ w c.self.invariant.unacknowledged.by_file c.take_listed.ensures.due _ found set;
     }
 
 pub returns-clause-news : goal.returns-clause-news

@@ -5,6 +5,7 @@ use Rattle.pg_replica.proofs.InOrder.{lookup-in_order, in_order-same, in_order-s
 use Rattle.pg_replica.specs.declared.replica.Replica.{Replica}
 use Rattle.pg_replica.specs.Replica.{with_touch}
 use Rattle.pg_replica.specs.Replicas.{ByFile, replica_in, edge_count, replicas_touched}
+use Rattle.pg_replica.proofs.Redues.{due_there}
 use Rattle.pg_replica.proofs.Relisting.{index_there}
 use Rattle.pg_replica.proofs.Takings.{found_in, made_nowhere, made_there, none_in, ok_more}
 use Rattle.pg_replica.proofs.replicas.Replicas.touch.Goals as goal
@@ -17,6 +18,7 @@ invariant_of-self-2 c =
     record {
       unacknowledged = index_there (in_order c.self.inside.by_file.entries) c.self.invariant.unacknowledged c.touch_listed.ensures.listed file_cmp refl _ found set;
       ended = index_there (in_order c.self.inside.by_file.entries) c.self.invariant.ended c.touch_listed.ensures.ended file_cmp refl _ found set;
+      due = due_there (in_order c.self.inside.by_file.entries) c.self.invariant.due _ w c.self.invariant.unacknowledged.by_file c.touch_listed.ensures.due _ found set;
     }
 
 pub returns-clause-tags : goal.returns-clause-tags

@@ -4,10 +4,11 @@ use Rattle.pg_base.specs.Version.{stamp_of}
 use Rattle.pg_content.specs.declared.error.WriteError.{WriteError}
 use Rattle.pg_content.specs.declared.error.WriteError.TheVariants.{OutOfMemory}
 use Rattle.pg_replica.specs.InOrder.{in_order}
-use Rattle.pg_replica.proofs.InOrder.{lookup-in_order, in_order-same, in_order-set}
+use Rattle.pg_replica.proofs.InOrder.{lookup-in_order, in_order-set}
 use Rattle.pg_replica.specs.declared.replica.Replica.{Replica}
 use Rattle.pg_replica.specs.Replica.{has_room, own_actor, refusal_of, with_write}
 use Rattle.pg_replica.specs.Replicas.{ByFile, replica_in, edge_count, or_nothing, replicas_writing}
+use Rattle.pg_replica.proofs.Redues.{due_there}
 use Rattle.pg_replica.proofs.Relisting.{index_there}
 use Rattle.pg_replica.proofs.Takings.{err_more, found_in, made_there, none_in, ok_more, same_there}
 use Rattle.pg_replica.proofs.replicas.Replicas.write.Goals as goal
@@ -31,6 +32,7 @@ invariant_of-self c =
     record {
       unacknowledged = index_there (in_order c.self.inside.by_file.entries) c.self.invariant.unacknowledged c.write_listed.ensures.listed file_cmp refl _ found set;
       ended = index_there (in_order c.self.inside.by_file.entries) c.self.invariant.ended c.write_listed.ensures.ended file_cmp refl _ found set;
+      due = due_there (in_order c.self.inside.by_file.entries) c.self.invariant.due _ w c.self.invariant.unacknowledged.by_file c.write_listed.ensures.due _ found set;
     }
 
 pub returns-clause-bases : goal.returns-clause-bases

@@ -1,0 +1,13 @@
+use Rattle.std.proofs.Common.{ℕ, ◌≡◌, ◌&&◌, drop, not}
+use Rattle.pg_edges.specs.declared.key.Key.{Key}
+use Rattle.pg_unacked.specs.Due.{has_due}
+use Rattle.pg_replica.specs.Owes.{is_key_of, is_to}
+use Rattle.pg_replica.specs.Replica.{keys}
+use Rattle.pg_replica.specs.Unacked.{OthersStay, due_at}
+use Rattle.pg_replica.proofs.owing.drop_all.Given as goal
+
+abbrev pub invariant-loop-head : goal.invariant-loop-head
+invariant-loop-head l = record {
+  others : OthersStay l.initial.unacked l.unacked l.file;
+  own : (p : ℕ) (k : Key) → (not (is_to l.edges p && is_key_of k (keys (drop l.head-index l.heads))) && has_due l.unacked p (due_at l.file k)) ≡ (not (is_to l.edges p && is_key_of k (keys l.heads)) && has_due l.initial.unacked p (due_at l.file k));
+}

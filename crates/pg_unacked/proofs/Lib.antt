@@ -1,0 +1,5 @@
+pub mod Orders
+mod Cuts
+mod Places
+mod Peers
+pub mod Dues

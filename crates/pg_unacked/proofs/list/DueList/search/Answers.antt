@@ -1,0 +1,12 @@
+use Rattle.pg_unacked.proofs.Places.{searched}
+use Rattle.pg_unacked.proofs.list.DueList.search.Goals as goal
+
+pub returns-clause-found : goal.returns-clause-found
+returns-clause-found c =
+    let facts = c.binary_search.ensures in
+    rw (← c.self.view_is, ← c.deref.ensures.value) (searched _ c.args.due.now _ (rw c.deref.ensures.value c.self.invariant) facts.bound facts.position).0
+
+pub returns-clause-missing : goal.returns-clause-missing
+returns-clause-missing c =
+    let facts = c.binary_search.ensures in
+    rw (← c.self.view_is, ← c.deref.ensures.value) (searched _ c.args.due.now _ (rw c.deref.ensures.value c.self.invariant) facts.bound facts.position).1
